@@ -1,0 +1,61 @@
+-- A file that is read block by block.
+use Rattle.std.proofs.Common.{◌≡◌, ℕ, zero, suc, ◌+◌, ◌-◌, ◌<◌, ◌≤◌, min, List, [], ◌∷◌, ◌++◌, length, take, drop, Option, Some, None, refl, sym, ap, subst, ◌∙◌, arith, length-append, length-take, length-drop}
+use Rattle.std.proofs.Math.Seq.{take-add}
+use Rattle.std.proofs.lemmas.List.{take_all}
+use Rattle.std.proofs.lemmas.Option.{same_Some, none-some}
+use Rattle.std.specs.Option.{option_map, unwrap_or}
+use Rattle.quota_blocks.specs.World.{bytes_from}
+
+-- the file has this size, and begins with the bytes that were read
+pub record IsBegun (file : Option (List ℕ)) (size : ℕ) (bytes : List ℕ) : Type 0 where
+  pub whole : List ℕ
+  pub there : file ≡ Some whole
+  pub long : length whole ≡ size
+  pub front : take (length bytes) whole ≡ bytes
+
+-- nothing was read yet
+pub begun_none : (file : Option (List ℕ)) (size : ℕ) → Some size ≡ option_map length file → IsBegun file size []
+begun_none None size e = absurd (none-some size (sym e))
+begun_none (Some whole) size e = record { whole = whole; there = refl; long = same_Some _ _ (sym e); front = refl }
+
+take_length_take : (n : ℕ) (xs : List ℕ) → take (length (take n xs)) xs ≡ take n xs
+take_length_take zero xs = refl
+take_length_take (suc n) [] = refl
+take_length_take (suc n) (x ∷ xs) = ap (λ (ys : List ℕ). x ∷ ys) (take_length_take n xs)
+
+more_of : (whole bytes : List ℕ) (wanted : ℕ) → take (length bytes) whole ≡ bytes → take (length (bytes ++ take wanted (drop (length bytes) whole))) whole ≡ bytes ++ take wanted (drop (length bytes) whole)
+more_of whole bytes wanted front =
+    let rest = drop (length bytes) whole in
+    ap (λ (n : ℕ). take n whole) (length-append bytes (take wanted rest))
+    ∙ take-add (length bytes) (length (take wanted rest)) whole
+    ∙ ap (λ (f : List ℕ). f ++ take (length (take wanted rest)) rest) front
+    ∙ ap (λ (t : List ℕ). bytes ++ t) (take_length_take wanted rest)
+
+-- one more read
+pub begun_more : (file : Option (List ℕ)) (size : ℕ) (bytes : List ℕ) (wanted : ℕ) (got : List ℕ) → IsBegun file size bytes → got ≡ bytes_from file (length bytes) wanted → IsBegun file size (bytes ++ got)
+begun_more file size bytes wanted got b e =
+    let is : got ≡ take wanted (drop (length bytes) b.whole) = e ∙ ap (λ (f : Option (List ℕ)). take wanted (drop (length bytes) (unwrap_or f []))) b.there in
+    record {
+      whole = b.whole;
+      there = b.there;
+      long = b.long;
+      front = subst (λ (t : List ℕ). take (length (bytes ++ t)) b.whole ≡ bytes ++ t) (sym is) (more_of b.whole bytes wanted b.front);
+    }
+
+-- all was read
+pub begun_all : (file : Option (List ℕ)) (size : ℕ) (bytes : List ℕ) → IsBegun file size bytes → size ≤ length bytes → file ≡ Some bytes
+begun_all file size bytes b le =
+    let all : take (length bytes) b.whole ≡ b.whole = take_all (length bytes) b.whole (omega (arith, b.long)) in
+    b.there ∙ ap (λ (w : List ℕ). Some w) (sym all ∙ b.front)
+
+-- a read that answers nothing though it wants something comes at the end
+pub begun_end : (file : Option (List ℕ)) (size : ℕ) (bytes : List ℕ) (wanted : ℕ) → IsBegun file size bytes → 0 ≡ length (bytes_from file (length bytes) wanted) → 0 < wanted → size ≤ length bytes
+begun_end file size bytes wanted b n some =
+    let none : 0 ≡ length (take wanted (drop (length bytes) b.whole)) = n ∙ ap (λ (f : Option (List ℕ)). length (take wanted (drop (length bytes) (unwrap_or f [])))) b.there in
+    omega (arith, none ∙ length-take wanted (drop (length bytes) b.whole), length-drop (length bytes) b.whole, b.long)
+
+-- one more read of a store whose files stay
+pub begun_step : (file now : Option (List ℕ)) (size : ℕ) (bytes more : List ℕ) (at wanted : ℕ) → IsBegun file size bytes → now ≡ file → at ≡ length bytes → more ≡ bytes ++ bytes_from now at wanted → IsBegun file size more
+begun_step file now size bytes more at wanted b same place e =
+    let is : more ≡ bytes ++ bytes_from file (length bytes) wanted = e ∙ ap (λ (f : Option (List ℕ)). bytes ++ bytes_from f at wanted) same ∙ ap (λ (n : ℕ). bytes ++ bytes_from file n wanted) place in
+    subst (λ (t : List ℕ). IsBegun file size t) (sym is) (begun_more file size bytes wanted (bytes_from file (length bytes) wanted) b refl)

@@ -1,0 +1,85 @@
+ghost use Rattle.std.specs.Prelude.{◌≡◌, ◌+◌, ◌≤◌, ◌++◌, ℕ, List, [], length, IsTrue, OnOk, OnErr};
+ghost use Rattle.quota_blocks.specs.Count.{Rose};
+ghost use Rattle.quota_blocks.specs.Text.{AppendsPrefix, IsGathered};
+
+use crate::{Sink, SinkFault};
+use arrayvec::ArrayVec;
+use std::marker::Model;
+
+/// How many bytes are gathered at most.
+const CAPACITY: usize = 4096;
+
+/// Text that is gathered before it is written, so that many short pieces make few calls of the sink. It takes no
+/// memory of the heap. After a fault it is not used again.
+#[derive(Debug, Drop)]
+pub struct TextBuffer {
+    bytes: ArrayVec<u8, CAPACITY>,
+}
+
+impl Model for TextBuffer {
+    ghost use Rattle.std.specs.Prelude.{ℕ, List};
+
+    ghost Value = { List ℕ };
+
+    ghost view = { λ b. b.bytes.items };
+}
+
+impl TextBuffer {
+    /// Nothing is gathered.
+    pub fn new() -> Self
+        ensures { result ≡ [] }
+    {
+        TextBuffer {
+            bytes: ArrayVec::new(),
+        }
+    }
+
+    #[tactic(auto, using(crate::proofs::TextLemmas::appends_at_flush, crate::proofs::TextLemmas::appends_at_write))]
+    /// Gathers more text. The sink gets what was gathered before where the buffer has no room for it.
+    pub fn put<O: Sink>(&mut self, sink: &mut O, text: &[u8]) -> Result<(), SinkFault>
+        ensures ok { OnOk result (IsTrue (O.tells sink.old) → (start before : List ℕ)
+            → IsGathered start before (O.written sink.old) self.old
+            → IsGathered start (before ++ text.now) (O.written sink.new) self.new) }
+        ensures fault { OnErr result (IsTrue (O.tells sink.old) → (start before : List ℕ)
+            → IsGathered start before (O.written sink.old) self.old
+            → AppendsPrefix start (O.written sink.new) (before ++ text.now)) }
+        ensures cause { OnErr result (Rose (O.faults sink.old) (O.faults sink.new)) }
+        ensures later { O.faults sink.old ≤ O.faults sink.new }
+        ensures same_telling { O.tells sink.new ≡ O.tells sink.old }
+    {
+        if text.len() <= self.bytes.remaining_capacity() {
+            self.push(text);
+            return Ok(());
+        }
+        self.flush(sink)?;
+        if text.len() <= CAPACITY {
+            self.push(text);
+            return Ok(());
+        }
+        sink.write(text)
+    }
+
+    fn push(&mut self, text: &[u8])
+        requires { length self.old + length text.now ≤ CAPACITY }
+        ensures { self.new ≡ self.old ++ text.now }
+    {
+        self.bytes.try_extend_from_slice(text).unwrap();
+    }
+
+    /// Writes what is gathered.
+    pub fn flush<O: Sink>(&mut self, sink: &mut O) -> Result<(), SinkFault>
+        ensures ok { OnOk result (IsTrue (O.tells sink.old) → O.written sink.new ≡ O.written sink.old ++ self.old) }
+        ensures fault { OnErr result (IsTrue (O.tells sink.old)
+            → AppendsPrefix (O.written sink.old) (O.written sink.new) self.old) }
+        ensures empty { OnOk result (self.new ≡ []) }
+        ensures cause { OnErr result (Rose (O.faults sink.old) (O.faults sink.new)) }
+        ensures later { O.faults sink.old ≤ O.faults sink.new }
+        ensures same_telling { O.tells sink.new ≡ O.tells sink.old }
+    {
+        if !self.bytes.is_empty() {
+            sink.write(self.bytes.as_slice())?;
+            self.bytes.clear();
+        }
+        Ok(())
+    }
+}

@@ -1,0 +1,45 @@
+/// What is wrong with a damaged quota file.
+#[derive(Clone, Copy, Debug, PartialEq, Eq)]
+pub enum DamageKind {
+    /// The file is shorter than its number of blocks.
+    Short,
+    /// A tree block has a reference past the last block.
+    RefOut,
+    /// A block has two roles, or one role twice.
+    TwoRoles,
+    /// A block has no role.
+    NoRole,
+    /// A tree block below the root has no reference.
+    EmptyTree,
+    /// A head or a link of a list leads past the last block.
+    ChainOut,
+    /// A list comes to one of its blocks again.
+    ChainLoop,
+    /// The entry list has a block that has no place there.
+    ForeignInChain,
+    /// A data block with an unused entry is not in the entry list.
+    MissingInChain,
+    /// A data block's previous field is not the block before it in the entry list.
+    BadPrev,
+    /// A data block's stored number is not the number of its used entries.
+    BadCount,
+    /// An identifier's data block has no entry of it.
+    MissingEntry,
+    /// A data block has an entry whose identifier does not lead to it.
+    StrayEntry,
+    /// A data block has two entries of one identifier.
+    DoubleEntry,
+    /// A flat file ends inside a record.
+    PartialRecord,
+}
+
+/// One thing that is wrong with a quota file, and where.
+#[derive(Clone, Copy, Debug, PartialEq, Eq)]
+pub struct Damage {
+    /// What is wrong.
+    pub kind: DamageKind,
+    /// The block, or the record where the kind is `PartialRecord`.
+    pub block: u32,
+    /// The identifier; 0 for the kinds that name none.
+    pub id: u32,
+}
