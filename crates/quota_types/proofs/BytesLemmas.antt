@@ -1,0 +1,26 @@
+-- Numbers in parts of a file.
+use Rattle.std.proofs.Common.{◌≡◌, ℕ, zero, suc, ◌+◌, ◌*◌, ◌<◌, ◌≤◌, List, get_or, take, drop, refl, sym, ap, ◌∙◌, arith}
+use Rattle.std.proofs.lemmas.List.{get_or-drop, get_or-take}
+use Rattle.quota_types.specs.Bytes.{number_at}
+
+-- a number in two equal parts
+number_by : (byte byte' rest rest' : ℕ) → byte ≡ byte' → rest ≡ rest' → byte + 256 * rest ≡ byte' + 256 * rest'
+number_by byte byte' rest rest' e f = ap (λ (b : ℕ). b + 256 * rest) e ∙ ap (λ (r : ℕ). byte' + 256 * r) f
+
+add_suc : (a b : ℕ) → a + suc b ≡ suc (a + b)
+add_suc a b = omega arith
+
+-- a number behind what was dropped
+pub number_at-drop : (width : ℕ) (skip : ℕ) (file : List ℕ) (at : ℕ) → number_at width (drop skip file) at ≡ number_at width file (skip + at)
+unfolding number_at
+number_at-drop zero skip file at = refl
+number_at-drop (suc width) skip file at =
+    number_by _ _ _ _ (get_or-drop skip file at 0)
+      (number_at-drop width skip file (suc at) ∙ ap (λ (n : ℕ). number_at width file n) (add_suc skip at))
+
+-- a number within what was taken
+pub number_at-take : (width : ℕ) (most : ℕ) (file : List ℕ) (at : ℕ) → at + width ≤ most → number_at width (take most file) at ≡ number_at width file at
+unfolding number_at
+number_at-take zero most file at h = refl
+number_at-take (suc width) most file at h =
+    number_by _ _ _ _ (get_or-take most file at 0 (omega arith)) (number_at-take width most file (suc at) (omega arith))
