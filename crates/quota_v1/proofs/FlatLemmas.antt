@@ -1,0 +1,89 @@
+-- The records of a flat file and of the value that it stands for.
+use Rattle.std.proofs.Common.{◌≡◌, ℕ, zero, suc, ◌+◌, ◌*◌, ◌/◌, ◌%◌, ◌<◌, ◌≤◌, Bool, true, false, cond, List, length, Option, Some, None, nat_le, refl, sym, ap, subst, ◌∙◌, ◌⊎◌, inl, inr, arith}
+use Rattle.std.proofs.lemmas.Bool.{cases_lt, lt-leb}
+use Rattle.std.specs.Ordering.{nat_cmp, eq_by_cmp, is_eq}
+use Rattle.std.specs.declared.cmp.Ordering.TheVariants.{Less, Equal, Greater}
+use Rattle.std.specs.Cmp.{nat_cmp_total, nat_cmp_is}
+use Rattle.std.specs.FinMap.{get, insert, empty, get-empty, get-insert}
+use Rattle.quota_types.specs.declared.file_kind.Kind.{Kind}
+use Rattle.quota_types.specs.declared.file_kind.Format.TheVariants.{V1}
+use Rattle.quota_types.specs.declared.record.Rec.{Rec}
+use Rattle.quota_types.specs.declared.record.Entry.{Entry}
+use Rattle.quota_blocks.specs.QuotaValue.{QuotaValue, Records, IsAfter, IsNextAfter}
+use Rattle.quota_v1.specs.FlatFile.{flat_record, flat_grace, FlatStandsFor, IsNextRecord, timed_record, unless_zeros}
+
+-- the next record of the file is the next one of the value
+pub next_of_value : (file : List ℕ) (after : Option ℕ) (found : Option Entry) (value : QuotaValue) → FlatStandsFor file value → IsNextRecord file after found → IsNextAfter after value.records found
+next_of_value file after None value s n = λ id h. s.records id ∙ n id h
+next_of_value file after (Some entry) value s n = (n.0, s.records entry.id ∙ n.1, λ id a b. s.records id ∙ n.2 id a b)
+
+-- a record put in where there is one
+with_record : Option Rec → ℕ → Records → Records
+with_record None id records = records
+with_record (Some rec) id records = insert records id rec
+
+same_key : (id : ℕ) → eq_by_cmp nat_cmp id id ≡ true
+same_key id = ap is_eq (sym (nat_cmp_is id id Equal refl))
+
+lower_key : (q id : ℕ) → q < id → eq_by_cmp nat_cmp q id ≡ false
+lower_key q id h = ap is_eq (sym (nat_cmp_is q id Less h))
+
+higher_key : (q id : ℕ) → id < q → eq_by_cmp nat_cmp q id ≡ false
+higher_key q id h = ap is_eq (sym (nat_cmp_is q id Greater h))
+
+get-with_record-same : (found : Option Rec) (id : ℕ) (records : Records) → get records id ≡ None → get (with_record found id records) id ≡ found
+unfolding with_record
+get-with_record-same None id records none = none
+get-with_record-same (Some rec) id records none =
+    get-insert nat_cmp_total records id rec id ∙ ap (λ (b : Bool). cond b (Some rec) (get records id)) (same_key id)
+
+get-with_record-other : (found : Option Rec) (id : ℕ) (records : Records) (q : ℕ) → eq_by_cmp nat_cmp q id ≡ false → get (with_record found id records) q ≡ get records q
+unfolding with_record
+get-with_record-other None id records q other = refl
+get-with_record-other (Some rec) id records q other =
+    get-insert nat_cmp_total records id rec q ∙ ap (λ (b : Bool). cond b (Some rec) (get records q)) other
+
+-- the records of the first identifiers
+records_below : List ℕ → ℕ → Records
+records_below file zero = empty
+records_below file (suc n) = with_record (flat_record file n) n (records_below file n)
+
+get-records_below-past : (file : List ℕ) (n q : ℕ) → n ≤ q → get (records_below file n) q ≡ None
+unfolding records_below
+get-records_below-past file zero q h = get-empty nat_cmp q
+get-records_below-past file (suc n) q h =
+    get-with_record-other (flat_record file n) n (records_below file n) q (higher_key q n (omega arith))
+    ∙ get-records_below-past file n q (omega arith)
+
+below_cases : (n q : ℕ) → q < suc n → (q < n) ⊎ (q ≡ n)
+below_cases n q h = elim (cases_lt q n) [ inl low ↦ inl low | inr high ↦ inr (omega arith) ]
+
+get-records_below : (file : List ℕ) (n q : ℕ) → q < n → get (records_below file n) q ≡ flat_record file q
+unfolding records_below
+get-records_below file zero q h = absurd (omega arith)
+get-records_below file (suc n) q h = elim (below_cases n q h) [
+    | inl low ↦ get-with_record-other (flat_record file n) n (records_below file n) q (lower_key q n low) ∙ get-records_below file n q low
+    | inr same ↦ subst (λ (k : ℕ). get (with_record (flat_record file n) n (records_below file n)) k ≡ flat_record file k) (sym same)
+        (get-with_record-same (flat_record file n) n (records_below file n) (get-records_below-past file n n (omega arith)))
+  ]
+
+-- the value of a file of one kind
+pub flat_value : Kind → List ℕ → QuotaValue
+flat_value kind file = record { kind = kind; format = V1; grace = flat_grace file; flags = 0; records = records_below file (length file / 40) }
+
+pub flat_value-kind : (kind : Kind) (file : List ℕ) → (flat_value kind file).kind ≡ kind
+unfolding flat_value
+flat_value-kind kind file = refl
+
+flat_record-past : (file : List ℕ) (id : ℕ) → length file / 40 ≤ id → flat_record file id ≡ None
+flat_record-past file id h =
+    let long : nat_le (40 * id + 40) (length file) ≡ false = lt-leb (40 * id + 40) (length file) (omega arith) in
+    ap (λ (b : Bool). cond b (unless_zeros (timed_record file id)) None) long
+
+-- a file of whole records stands for its value
+pub stands_for_value : (kind : Kind) (file : List ℕ) → length file % 40 ≡ 0 → FlatStandsFor file (flat_value kind file)
+unfolding flat_value
+stands_for_value kind file whole = record { whole = whole; format = refl; flags = refl; grace = refl; records = λ id. elim (cases_lt id (length file / 40)) [
+    | inl low ↦ get-records_below file (length file / 40) id low
+    | inr high ↦ get-records_below-past file (length file / 40) id high ∙ sym (flat_record-past file id high)
+  ] }

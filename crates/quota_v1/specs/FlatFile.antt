@@ -1,0 +1,70 @@
+-- What a flat quota file stands for. Source: the table of vfsold, `struct v1_disk_dqblk` of the quota tools, as they
+-- write it on 64-bit x86.
+use Rattle.std.specs.Prelude.{◌≡◌, ℕ, ◌+◌, ◌*◌, ◌/◌, ◌%◌, ◌<◌, ◌≤◌, Bool, ◌&&◌, ◌==◌, nat_le, if◌then◌else◌, List, length, Option, Some, None, Result, Ok, Err, IsSomeAnd}
+use Rattle.std.specs.FinMap.{get}
+use Rattle.quota_types.specs.declared.file_kind.Kind.{Kind}
+use Rattle.quota_types.specs.declared.file_kind.Format.TheVariants.{V1}
+use Rattle.quota_types.specs.declared.record.Rec.{Rec}
+use Rattle.quota_types.specs.declared.record.Grace.{Grace}
+use Rattle.quota_types.specs.declared.record.Entry.{Entry}
+use Rattle.quota_types.specs.declared.damage.Damage.{Damage}
+use Rattle.quota_types.specs.declared.damage.DamageKind.TheVariants.{PartialRecord}
+use Rattle.quota_types.specs.Bytes.{number_at}
+use Rattle.quota_blocks.specs.QuotaValue.{QuotaValue, IsAfter}
+use Rattle.quota_blocks.specs.declared.quota_file.OpenFault.{OpenFault}
+use Rattle.quota_blocks.specs.declared.quota_file.OpenFault.TheVariants.{Store, NoFile, TooLarge, Memory, NotQuota, WrongKind, UnknownVersion, BadBlockCount, FormatMismatch, Damage as Damaged}
+
+-- the 40 bytes of an identifier, as a record; the space is in KiB on disk
+abbrev pub stored_record : List ℕ → ℕ → Rec
+stored_record file id = record {
+  bhard = number_at 4 file (40 * id);
+  bsoft = number_at 4 file (40 * id + 4);
+  space = 1024 * number_at 4 file (40 * id + 8);
+  ihard = number_at 4 file (40 * id + 12);
+  isoft = number_at 4 file (40 * id + 16);
+  inodes = number_at 4 file (40 * id + 20);
+  btime = number_at 8 file (40 * id + 24);
+  itime = number_at 8 file (40 * id + 32);
+}
+
+-- the same, but identifier 0 has no timers, since the times of record 0 are the grace periods
+abbrev pub timed_record : List ℕ → ℕ → Rec
+timed_record file id = if id == 0 then record (stored_record file 0) { btime = 0; itime = 0 } else stored_record file id
+
+-- all eight values are 0
+abbrev pub is_zeros : Rec → Bool
+is_zeros rec = rec.ihard == 0 && rec.isoft == 0 && rec.inodes == 0 && rec.bhard == 0 && rec.bsoft == 0 && rec.space == 0
+    && rec.btime == 0 && rec.itime == 0
+
+-- none where all is zero
+abbrev pub unless_zeros : Rec → Option Rec
+unless_zeros rec = if is_zeros rec then None else Some rec
+
+-- the record of an identifier, where the file has all its 40 bytes and the record is not all zero
+abbrev pub flat_record : List ℕ → ℕ → Option Rec
+flat_record file id = if nat_le (40 * id + 40) (length file) then unless_zeros (timed_record file id) else None
+
+-- a grace period as it is stored, where 0 stands for 7 days
+abbrev pub or_week : ℕ → ℕ
+or_week seconds = if seconds == 0 then 604800 else seconds
+
+-- the grace periods are the times of record 0; where there is none they are 0
+abbrev pub flat_grace : List ℕ → Grace
+flat_grace file = record { block = or_week (number_at 8 file 24); inode = or_week (number_at 8 file 32) }
+
+-- The file is whole records, and the value has the records and the grace periods of the file. It may be one of users
+-- or of groups.
+pub record FlatStandsFor (file : List ℕ) (value : QuotaValue) : Type 0 where
+  pub whole : length file % 40 ≡ 0
+  pub format : value.format ≡ V1
+  pub flags : value.flags ≡ 0
+  pub grace : value.grace ≡ flat_grace file
+  pub records : (id : ℕ) → get value.records id ≡ flat_record file id
+
+-- the least identifier after another one that has a record, with it, or none where there is none
+abbrev pub IsNextRecord : List ℕ → Option ℕ → Option Entry → Type 0
+IsNextRecord file after None = (id : ℕ) → IsAfter after id → flat_record file id ≡ None
+IsNextRecord file after (Some entry) =
+    IsAfter after entry.id
+    × (flat_record file entry.id ≡ Some entry.rec)
+    × ((id : ℕ) → IsAfter after id → id < entry.id → flat_record file id ≡ None)

@@ -1,0 +1,38 @@
+-- What is seen of a flat file by whoever opens it: the value that it stands for, or the first refusal that holds.
+use Rattle.std.specs.Prelude.{◌≡◌, ◌≢◌, ℕ, ◌/◌, ◌%◌, ◌<◌, ◌≤◌, Bool, IsTrue, List, length, Option, None, Result, Ok, Err, IsSomeAnd, ⊤}
+use Rattle.quota_types.specs.declared.file_kind.Kind.{Kind}
+use Rattle.quota_types.specs.declared.damage.Damage.{Damage}
+use Rattle.quota_types.specs.declared.damage.DamageKind.TheVariants.{PartialRecord}
+use Rattle.quota_blocks.specs.Count.{Rose}
+use Rattle.quota_blocks.specs.QuotaValue.{QuotaValue}
+use Rattle.quota_blocks.specs.declared.quota_file.OpenFault.{OpenFault}
+use Rattle.quota_blocks.specs.declared.quota_file.OpenFault.TheVariants.{Store, NoFile, TooLarge, Memory, NotQuota, WrongKind, UnknownVersion, BadBlockCount, FormatMismatch, Damage as Damaged}
+use Rattle.quota_v1.specs.FlatFile.{FlatStandsFor}
+
+-- how many bytes a flat file may have: 40 for each identifier below 1,048,576
+abbrev pub flat_limit : ℕ
+flat_limit = 41943040
+
+-- what is wrong with the bytes of a flat file: the last record is cut off
+pub record IsFlatDefect (file : List ℕ) (damage : Damage) : Type 0 where
+  pub cut : length file % 40 ≢ 0
+  pub kind : damage.kind ≡ PartialRecord
+  pub block : damage.block ≡ length file / 40
+  pub id : damage.id ≡ 0
+
+-- The file stands for a value of the kind, or is refused: there is none, it is too large, or it is damaged, in this
+-- order.
+abbrev pub IsFlatView : Option (List ℕ) → Kind → Result QuotaValue OpenFault → Type 0
+IsFlatView named kind (Ok value) = IsSomeAnd named (λ file. (length file ≤ flat_limit) × FlatStandsFor file value) × (value.kind ≡ kind)
+IsFlatView named kind (Err NoFile) = named ≡ None
+IsFlatView named kind (Err (TooLarge number limit)) =
+    IsSomeAnd named (λ file. (flat_limit < length file) × (number ≡ length file)) × (limit ≡ flat_limit)
+IsFlatView named kind (Err (Damaged damage)) = IsSomeAnd named (λ file. (length file ≤ flat_limit) × IsFlatDefect file damage)
+IsFlatView named kind (Err _) = ⊥
+
+-- Opening is refused where the store's count of faults rose, where memory is wanting, or where the file, if the store
+-- tells it, is seen so, whatever kind is asked for.
+abbrev pub IsFlatFault : ℕ → ℕ → Bool → Option (List ℕ) → OpenFault → Type 0
+IsFlatFault before now tells named Store = Rose before now
+IsFlatFault before now tells named Memory = ⊤
+IsFlatFault before now tells named fault = IsTrue tells → (kind : Kind) → IsFlatView named kind (Err fault)

@@ -1,0 +1,15 @@
+//! The flat quota file (vfsold): a table of records of 40 bytes, indexed by identifier.
+//!
+//! The layout is the one that the quota tools write on 64-bit x86, byte for byte. Record 0 has two roles: its two
+//! times are the file's grace periods, and the rest of it is the record of identifier 0, which has no timers.
+//!
+//! The one promise: an opened flat file is the map that its bytes stand for, and is opened exactly where they stand
+//! for one.
+#![tactic(auto)]
+
+mod flat_file;
+mod flat_record;
+mod opening;
+
+pub use flat_file::V1File;
+pub use opening::open_v1;
