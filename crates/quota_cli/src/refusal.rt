@@ -1,0 +1,146 @@
+ghost use Rattle.std.specs.Prelude.{◌≡◌};
+ghost use Rattle.quota_cli.specs.Refusal.{damage_name, names_identifier, place_text, status_of, usage_name};
+
+use quota_types::{Damage, DamageKind};
+
+/// What is wrong with the words of a command line.
+#[derive(Clone, Copy, Debug, PartialEq, Eq)]
+pub enum UsageKind {
+    /// There are no words.
+    NoCommand,
+    /// The first word is no command.
+    UnknownCommand,
+    /// The command has no such option.
+    UnknownOption,
+    /// The words end before an option's value.
+    MissingValue,
+    /// A value is not of its form or range.
+    BadValue,
+    /// An option stands a second time.
+    Repeated,
+    /// Two options exclude each other.
+    Excludes,
+    /// A required option is not there.
+    MissingOption,
+    /// The number of operands is another one.
+    WrongOperands,
+    /// A file's name is not one.
+    BadFileName,
+}
+
+impl UsageKind {
+    /// Its name, as error lines print it.
+    pub fn name(self) -> &'static str
+        ensures { result.now ≡ usage_name self }
+    {
+        match self {
+            UsageKind::NoCommand => "NoCommand",
+            UsageKind::UnknownCommand => "UnknownCommand",
+            UsageKind::UnknownOption => "UnknownOption",
+            UsageKind::MissingValue => "MissingValue",
+            UsageKind::BadValue => "BadValue",
+            UsageKind::Repeated => "Repeated",
+            UsageKind::Excludes => "Excludes",
+            UsageKind::MissingOption => "MissingOption",
+            UsageKind::WrongOperands => "WrongOperands",
+            UsageKind::BadFileName => "BadFileName",
+        }
+    }
+}
+
+/// Why a command was not carried out.
+#[derive(Clone, Copy, Debug, PartialEq, Eq)]
+pub enum Cause {
+    /// The store failed.
+    StoreFault,
+    /// There is no such file.
+    NoFile,
+    /// The file is larger than is read.
+    TooLarge,
+    /// The output failed.
+    SinkFault,
+    /// There was not enough memory.
+    Memory,
+    /// The file does not begin as a quota file does.
+    NotQuota,
+    /// The file is one of another kind.
+    WrongKind,
+    /// The file has a version that is not known.
+    UnknownVersion,
+    /// The header has a number of blocks below 2.
+    BadBlockCount,
+    /// The file has another format than the one that was asked for.
+    OtherFormat,
+    /// The file is damaged.
+    Damaged(Damage),
+    /// The words are outside the grammar.
+    Usage {
+        /// What is wrong.
+        kind: UsageKind,
+        /// The number of the word, counted from 0.
+        word: u64,
+    },
+}
+
+impl Cause {
+    /// The status with which the program ends.
+    pub fn status(self) -> u8
+        ensures { result ≡ status_of self }
+    {
+        match self {
+            Cause::NoFile | Cause::TooLarge => 1,
+            Cause::Usage { .. } => 2,
+            Cause::NotQuota
+            | Cause::WrongKind
+            | Cause::UnknownVersion
+            | Cause::BadBlockCount
+            | Cause::OtherFormat
+            | Cause::Damaged(_) => 3,
+            Cause::StoreFault | Cause::SinkFault => 4,
+            Cause::Memory => 5,
+        }
+    }
+}
+
+/// The name of a kind of damage, as error lines print it.
+pub fn damage_name(kind: DamageKind) -> &'static str
+    ensures { result.now ≡ damage_name kind }
+{
+    match kind {
+        DamageKind::Short => "Short",
+        DamageKind::RefOut => "RefOut",
+        DamageKind::TwoRoles => "TwoRoles",
+        DamageKind::NoRole => "NoRole",
+        DamageKind::EmptyTree => "EmptyTree",
+        DamageKind::ChainOut => "ChainOut",
+        DamageKind::ChainLoop => "ChainLoop",
+        DamageKind::ForeignInChain => "ForeignInChain",
+        DamageKind::MissingInChain => "MissingInChain",
+        DamageKind::BadPrev => "BadPrev",
+        DamageKind::BadCount => "BadCount",
+        DamageKind::MissingEntry => "MissingEntry",
+        DamageKind::StrayEntry => "StrayEntry",
+        DamageKind::DoubleEntry => "DoubleEntry",
+        DamageKind::PartialRecord => "PartialRecord",
+    }
+}
+
+/// Whether a damage is in an entry of an identifier.
+pub fn names_identifier(kind: DamageKind) -> bool
+    ensures { result ≡ names_identifier kind }
+{
+    matches!(
+        kind,
+        DamageKind::MissingEntry | DamageKind::StrayEntry | DamageKind::DoubleEntry
+    )
+}
+
+/// What a damage is in: a record of a flat file, or a block.
+pub fn place_text(kind: DamageKind) -> &'static str
+    ensures { result.now ≡ place_text kind }
+{
+    match kind {
+        DamageKind::PartialRecord => " at record ",
+        _ => " at block ",
+    }
+}
