@@ -104,15 +104,20 @@ is_exceeded limit used = nat_lt 0 limit && nat_lt limit used
 abbrev pub flag_of : Usage → ℕ
 flag_of usage = if is_exceeded usage.soft usage.used || is_exceeded usage.hard usage.used then 43 else 45
 
--- What is left of the grace period of a soft limit that is exceeded, or `none` where it has run out or never began,
--- and `-` where the limit is not exceeded. With `-p` it is when the period ends, in seconds since 1970, and 0 where
--- the limit is not exceeded.
+-- what is left of the grace period of a soft limit that is exceeded, or `none` where it has run out or never began
+abbrev pub grace_left : ℕ → Usage → List ℕ
+grace_left now usage =
+    if is_exceeded usage.soft usage.used
+    then (if nat_lt now usage.timer then period_of (usage.timer - now) else codes "none")
+    else codes "-"
+
+-- when the grace period of a soft limit that is exceeded ends, in seconds since 1970
+abbrev pub grace_end : Usage → List ℕ
+grace_end usage = if is_exceeded usage.soft usage.used then decimal usage.timer else codes "0"
+
+-- the grace column: what is left, or with `-p` when it ends
 unfoldable pub grace_of : Options → ℕ → Usage → List ℕ
-grace_of options now usage =
-    if options.raw then (if is_exceeded usage.soft usage.used then decimal usage.timer else codes "0")
-    else (if is_exceeded usage.soft usage.used
-      then (if nat_lt now usage.timer then period_of (usage.timer - now) else codes "none")
-      else codes "-")
+grace_of options now usage = if options.raw then grace_end usage else grace_left now usage
 
 -- the four columns on blocks, or on inodes
 abbrev pub columns_of : Options → ℕ → Usage → Columns

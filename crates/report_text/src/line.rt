@@ -53,7 +53,7 @@ impl Line {
         requires { length self.old + count ≤ CAPACITY }
         ensures { self.new ≡ self.old ++ replicate count byte }
     {
-        for _ in 0..count {
+        for _i in 0..count {
             self.bytes.push(byte);
         }
     }
@@ -70,7 +70,8 @@ impl Line {
     /// Appends a space and a text at the right of so many places.
     pub fn push_column(&mut self, width: usize, text: &[u8])
         requires { length self.old + 1 + max width (length text.now) ≤ CAPACITY }
-        ensures { self.new ≡ self.old ++ column width text.now }
+        ensures text { self.new ≡ self.old ++ column width text.now }
+        ensures long { length self.new ≡ length self.old + 1 + max width (length text.now) }
     {
         self.push_text(b" ");
         self.push_repeated(width.saturating_sub(text.len()), b' ');
@@ -80,7 +81,8 @@ impl Line {
     /// Appends a space and a number at the right of so many places.
     pub fn push_number(&mut self, width: usize, number: u64)
         requires { length self.old + 1 + max width 20 ≤ CAPACITY }
-        ensures { self.new ≡ self.old ++ column width (decimal number) }
+        ensures text { self.new ≡ self.old ++ column width (decimal number) }
+        ensures long { length self.new ≤ length self.old + 1 + max width 20 }
     {
         let mut digits = Buffer::new();
         self.push_column(width, digits.format(number).as_bytes());

@@ -1,5 +1,5 @@
 ghost use Rattle.std.specs.Prelude.{◌≡◌, ◌≤◌, length};
-ghost use Rattle.report_text.specs.Report.{blocks_of, inodes_of, flag_of, grace_of, is_exceeded};
+ghost use Rattle.report_text.specs.Report.{blocks_of, inodes_of, flag_of, grace_of, grace_left, grace_end, is_exceeded};
 
 use crate::{Options, period_text};
 use arrayvec::ArrayVec;
@@ -60,17 +60,33 @@ impl Usage {
     pub fn grace_text(&self, now: u64, options: &Options, text: &mut ArrayVec<u8, 32>)
         ensures { text.new.items ≡ grace_of options.now now self.now }
     {
-        let exceeded = is_exceeded(self.soft, self.used);
         if options.raw {
-            let timer = if exceeded { self.timer } else { 0 };
-            let mut digits = Buffer::new();
-            replace(text, digits.format(timer).as_bytes());
-        } else if !exceeded {
+            self.grace_end(text);
+        } else {
+            self.grace_left(now, text);
+        }
+    }
+
+    fn grace_left(&self, now: u64, text: &mut ArrayVec<u8, 32>)
+        ensures { text.new.items ≡ grace_left now self.now }
+    {
+        if !is_exceeded(self.soft, self.used) {
             replace(text, b"-");
         } else if now < self.timer {
             period_text(self.timer - now, text);
         } else {
             replace(text, b"none");
+        }
+    }
+
+    fn grace_end(&self, text: &mut ArrayVec<u8, 32>)
+        ensures { text.new.items ≡ grace_end self.now }
+    {
+        if is_exceeded(self.soft, self.used) {
+            let mut digits = Buffer::new();
+            replace(text, digits.format(self.timer).as_bytes());
+        } else {
+            replace(text, b"0");
         }
     }
 }
