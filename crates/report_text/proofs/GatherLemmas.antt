@@ -1,5 +1,5 @@
 -- Texts that are put one after another.
-use Rattle.std.proofs.Common.{◌≡◌, ℕ, Bool, List, ◌++◌, IsTrue, refl, sym, ap, subst, ◌∙◌, append_assoc}
+use Rattle.std.proofs.Common.{◌≡◌, ℕ, Bool, List, [], ◌++◌, IsTrue, refl, sym, ap, subst, ◌∙◌, append_assoc, append-nil}
 use Rattle.quota_blocks.specs.Text.{AppendsPrefix, IsGathered}
 use Rattle.quota_blocks.proofs.TextLemmas.{appends_more}
 use Rattle.report_text.specs.Gather.{Gathers, WritesPrefix}
@@ -29,3 +29,18 @@ writes_then tells next written buffered written_1 buffered_1 now text more whole
     λ told start before gathered.
       subst (λ (t : List ℕ). AppendsPrefix start now t) (append_assoc before text more ∙ ap (λ (t : List ℕ). before ++ t) (sym is))
         (two (subst IsTrue (sym same) told) start (before ++ text) (one told start before gathered))
+
+-- nothing is put
+pub gathers_none : (tells : Bool) (written buffered : List ℕ) → Gathers tells written buffered written buffered []
+gathers_none tells written buffered =
+    λ told start before gathered. subst (λ (t : List ℕ). IsGathered start t written buffered) (sym (append-nil before)) gathered
+
+-- what was put of a text is a prefix of it, whatever is still gathered
+pub writes_gathered : (tells : Bool) (written buffered now buffered_now text more whole : List ℕ)
+    → Gathers tells written buffered now buffered_now text → whole ≡ text ++ more → WritesPrefix tells written buffered now whole
+writes_gathered tells written buffered now buffered_now text more whole one is =
+    writes_more tells written buffered now text more whole
+      (λ told start before gathered.
+        let g : IsGathered start (before ++ text) now buffered_now = one told start before gathered in
+        record { done = g.sent; rest = buffered_now; appended = g.appended; prefix = sym g.whole })
+      is
