@@ -1,7 +1,7 @@
 -- Texts that are put one after another.
 use Rattle.std.proofs.Common.{◌≡◌, ℕ, Bool, List, [], ◌++◌, IsTrue, refl, sym, ap, subst, ◌∙◌, append_assoc, append-nil}
 use Rattle.quota_blocks.specs.Text.{AppendsPrefix, IsGathered}
-use Rattle.quota_blocks.proofs.TextLemmas.{appends_more}
+use Rattle.quota_blocks.proofs.TextLemmas.{appends_more, appends_at_flush}
 use Rattle.report_text.specs.Gather.{Gathers, WritesPrefix}
 
 -- a text is put, and then more
@@ -44,3 +44,27 @@ writes_gathered tells written buffered now buffered_now text more whole one is =
         let g : IsGathered start (before ++ text) now buffered_now = one told start before gathered in
         record { done = g.sent; rest = buffered_now; appended = g.appended; prefix = sym g.whole })
       is
+
+-- before anything is put into an empty buffer
+gathered_none : (written buffered : List ℕ) → buffered ≡ [] → IsGathered written [] written buffered
+gathered_none written buffered none = record { sent = []; appended = sym (append-nil written); whole = sym none }
+
+-- a prefix of what is put into an empty buffer is written
+pub prefix_written : (tells : Bool) (written buffered now text : List ℕ) → buffered ≡ [] → WritesPrefix tells written buffered now text
+    → IsTrue tells → AppendsPrefix written now text
+prefix_written tells written buffered now text none p told = p told written [] (gathered_none written buffered none)
+
+-- what was put into an empty buffer, and then all that is gathered, is written
+pub all_written : (tells : Bool) (written buffered written_1 buffered_1 now text : List ℕ) → buffered ≡ []
+    → Gathers tells written buffered written_1 buffered_1 text → now ≡ written_1 ++ buffered_1 → IsTrue tells → now ≡ written ++ text
+all_written tells written buffered written_1 buffered_1 now text none one flushed told =
+    let g = one told written [] (gathered_none written buffered none) in
+    flushed ∙ ap (λ (w : List ℕ). w ++ buffered_1) g.appended ∙ append_assoc written g.sent buffered_1
+    ∙ ap (λ (t : List ℕ). written ++ t) (sym g.whole)
+
+-- a fault while what is gathered is written
+pub prefix_flushed : (tells : Bool) (written buffered written_1 buffered_1 now text : List ℕ) → buffered ≡ []
+    → Gathers tells written buffered written_1 buffered_1 text → AppendsPrefix written_1 now buffered_1 → IsTrue tells → AppendsPrefix written now text
+prefix_flushed tells written buffered written_1 buffered_1 now text none one p told =
+    subst (λ (t : List ℕ). AppendsPrefix written now t) (append-nil text)
+      (appends_at_flush written text written_1 buffered_1 now [] (one told written [] (gathered_none written buffered none)) p)
