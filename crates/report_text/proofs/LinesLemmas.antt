@@ -1,0 +1,89 @@
+-- The lines of identifiers that are put one after another.
+use Rattle.std.proofs.Common.{◌≡◌, ℕ, ◌-◌, ◌^◌, ◌<◌, Bool, true, false, if◌then◌else◌, List, [], ◌∷◌, ◌++◌, Option, Some, None, refl, sym, ap, subst, ◌∙◌, arith, append_assoc, append-nil}
+use Rattle.std.specs.FinMap.{entries}
+use Rattle.quota_types.specs.declared.file_kind.Kind.{Kind}
+use Rattle.quota_types.specs.declared.record.Rec.{Rec}
+use Rattle.quota_types.specs.declared.record.Grace.{Grace}
+use Rattle.quota_types.specs.declared.record.Entry.{Entry}
+use Rattle.quota_blocks.specs.QuotaValue.{QuotaValue, Records, IsAfter, IsNextAfter}
+use Rattle.quota_blocks.specs.Text.{AppendsPrefix, IsGathered}
+use Rattle.quota_blocks.proofs.EntriesLemmas.{entries_after, entries_after-all, entries_after-next, entries_after-end}
+use Rattle.report_text.specs.declared.options.Options.{Options}
+use Rattle.report_text.specs.Gather.{Gathers, WritesPrefix}
+use Rattle.report_text.specs.Report.{report_of, head_of, lines_of, shown_line, is_shown, entry_line}
+use Rattle.report_text.proofs.GatherLemmas.{gathers_none, gathers_then, writes_more, writes_then, writes_gathered}
+
+-- how many identifiers there may be after one
+abbrev pub ids_after : Option ℕ → ℕ
+ids_after None = 2 ^ 32
+ids_after (Some id) = 2 ^ 32 - 1 - id
+
+pub ids_after-falls : (after : Option ℕ) (id : ℕ) → IsAfter after id → id < 2 ^ 32 → ids_after (Some id) < ids_after after
+ids_after-falls None id is fits = omega arith
+ids_after-falls (Some after) id is fits = omega arith
+
+module _ (names : ℕ → Option (List ℕ)) (now : ℕ) (options : Options) where
+  -- the lines of entries are that of the first, where it is shown, and those of the others
+  lines-cons : (entry : ℕ × Rec) (es : List (ℕ × Rec)) → lines_of names now options (entry ∷ es) ≡ shown_line names now options entry ++ lines_of names now options es
+  lines-cons entry es = grind arith
+
+  -- the report of a value is the head of its kind and grace periods, and the lines of its entries
+  pub report_is : (value : QuotaValue) (kind : Kind) (grace : Grace) (title : List ℕ) → value.kind ≡ kind → grace ≡ value.grace
+      → report_of value names title now options ≡ head_of kind title grace ++ lines_of names now options (entries value.records)
+  report_is value kind grace title same_kind same_grace =
+      ap (λ (k : Kind). head_of k title value.grace ++ lines_of names now options (entries value.records)) same_kind
+      ∙ ap (λ (g : Grace). head_of kind title g ++ lines_of names now options (entries value.records)) (sym same_grace)
+
+  -- The lines of the identifiers up to `after` were put.
+  pub record IsPutUpTo (tells : Bool) (written buffered written_now buffered_now : List ℕ) (records : Records) (after : Option ℕ) : Type 0 where
+    pub lines : List ℕ
+    pub gathers : Gathers tells written buffered written_now buffered_now lines
+    pub whole : lines ++ lines_of names now options (entries_after after (entries records)) ≡ lines_of names now options (entries records)
+
+  -- none yet
+  pub put_none : (tells : Bool) (written buffered : List ℕ) (records : Records) → IsPutUpTo tells written buffered written buffered records None
+  put_none tells written buffered records = record {
+    lines = [];
+    gathers = gathers_none tells written buffered;
+    whole = ap (lines_of names now options) (entries_after-all (entries records));
+  }
+
+  -- the lines that are left begin with that of the next one
+  left : (lines : List ℕ) (records : Records) (after : Option ℕ) (entry : Entry) → IsNextAfter after records (Some entry)
+      → (lines ++ shown_line names now options (entry.id, entry.rec)) ++ lines_of names now options (entries_after (Some entry.id) (entries records))
+        ≡ lines ++ lines_of names now options (entries_after after (entries records))
+  left lines records after entry next =
+      append_assoc lines _ _
+      ∙ ap (λ (rest : List ℕ). lines ++ rest)
+        (sym (lines-cons (entry.id, entry.rec) _) ∙ ap (lines_of names now options) (sym (entries_after-next after records entry next)))
+
+  module _ (tells : Bool) (written buffered written_1 buffered_1 : List ℕ) (records : Records) (after : Option ℕ)
+      (put : IsPutUpTo tells written buffered written_1 buffered_1 records after) where
+    -- one more
+    pub put_more : (next : Bool) (written_2 buffered_2 : List ℕ) (entry : Entry) → IsNextAfter after records (Some entry) → next ≡ tells
+        → Gathers next written_1 buffered_1 written_2 buffered_2 (shown_line names now options (entry.id, entry.rec))
+        → IsPutUpTo tells written buffered written_2 buffered_2 records (Some entry.id)
+    put_more next written_2 buffered_2 entry is same more = record {
+      lines = put.lines ++ shown_line names now options (entry.id, entry.rec);
+      gathers = gathers_then _ _ _ _ _ _ _ _ _ _ _ put.gathers same more refl;
+      whole = left put.lines records after entry is ∙ put.whole;
+    }
+
+    -- all of them
+    pub put_all : IsNextAfter after records None → Gathers tells written buffered written_1 buffered_1 (lines_of names now options (entries records))
+    put_all none =
+        let all : put.lines ≡ lines_of names now options (entries records) =
+          sym (append-nil put.lines) ∙ ap (λ (es : List (ℕ × Rec)). put.lines ++ lines_of names now options es) (sym (entries_after-end after records none)) ∙ put.whole in
+        subst (λ (t : List ℕ). Gathers tells written buffered written_1 buffered_1 t) all put.gathers
+
+    -- a fault while the line of the next one is put
+    pub put_fault : (next : Bool) (written_2 : List ℕ) (entry : Entry) → IsNextAfter after records (Some entry) → next ≡ tells
+        → WritesPrefix next written_1 buffered_1 written_2 (shown_line names now options (entry.id, entry.rec))
+        → WritesPrefix tells written buffered written_2 (lines_of names now options (entries records))
+    put_fault next written_2 entry is same fault =
+        writes_more _ _ _ _ _ _ _ (writes_then _ _ _ _ _ _ _ _ _ _ put.gathers same fault refl)
+          (sym (left put.lines records after entry is ∙ put.whole))
+
+    -- a fault while the next one is looked up
+    pub put_part : WritesPrefix tells written buffered written_1 (lines_of names now options (entries records))
+    put_part = writes_gathered _ _ _ _ _ _ _ _ put.gathers (sym put.whole)

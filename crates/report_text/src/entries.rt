@@ -1,0 +1,81 @@
+ghost use Rattle.std.specs.Prelude.{◌≡◌, ◌+◌, ◌≤◌, ◌++◌, length, OnOk, OnErr};
+ghost use Rattle.quota_blocks.specs.Count.{Rose};
+ghost use Rattle.report_text.specs.Gather.{Gathers, WritesPrefix};
+ghost use Rattle.report_text.specs.Report.{left_in, name_of, no_names, columns_in, columns_of, entry_line, is_shown, shown_line};
+
+use crate::Options;
+use crate::line::Line;
+use crate::usage::Usage;
+use arrayvec::ArrayVec;
+use itoa::Buffer;
+use quota_blocks::{Sink, SinkFault, TextBuffer};
+use quota_types::{Entry, Rec};
+
+/// Puts the line of an identifier, where it is shown.
+pub(crate) fn put_entry<O: Sink>(
+    entry: &Entry,
+    now: u64,
+    options: &Options,
+    text: &mut TextBuffer,
+    sink: &mut O,
+) -> Result<(), SinkFault>
+    ensures ok { OnOk result (Gathers (O.tells sink.old) (O.written sink.old) text.old (O.written sink.new) text.new
+        (shown_line no_names now options.now (entry.now.id, entry.now.rec))) }
+    ensures fault { OnErr result (WritesPrefix (O.tells sink.old) (O.written sink.old) text.old (O.written sink.new)
+        (shown_line no_names now options.now (entry.now.id, entry.now.rec))) }
+    ensures cause { OnErr result (Rose (O.faults sink.old) (O.faults sink.new)) }
+    ensures later { O.faults sink.old ≤ O.faults sink.new }
+    ensures same_telling { O.tells sink.new ≡ O.tells sink.old }
+{
+    if !is_shown(entry, options) {
+        return Ok(());
+    }
+    text.put(sink, entry_line(entry, now, options).as_slice())
+}
+
+fn is_shown(entry: &Entry, options: &Options) -> bool
+    ensures { result ≡ is_shown options.now (entry.now.id, entry.now.rec) }
+{
+    options.verbose || !(entry.rec.space == 0 && entry.rec.inodes == 0)
+}
+
+#[tactic(auto, unfolding(crate::specs::Report::entry_line))]
+fn entry_line(entry: &Entry, now: u64, options: &Options) -> Line
+    ensures { result ≡ entry_line no_names now options.now (entry.now.id, entry.now.rec) }
+{
+    let blocks = Usage::of_blocks(&entry.rec);
+    let inodes = Usage::of_inodes(&entry.rec);
+    let mut line = Line::new();
+    push_name(&mut line, entry.id, options);
+    line.push_text(&[b' ', blocks.flag(), inodes.flag()]);
+    push_columns(&mut line, 10, &blocks, now, options);
+    push_columns(&mut line, 8, &inodes, now, options);
+    line.push_text(b"\n");
+    line
+}
+
+fn push_name(line: &mut Line, id: u32, options: &Options)
+    requires { length line.old ≤ 64 }
+    ensures text { line.new ≡ line.old ++ left_in 12 (name_of no_names options.now id) }
+    ensures room { length line.new ≤ length line.old + 12 }
+{
+    let mut name = ArrayVec::<u8, 12>::new();
+    let mut digits = Buffer::new();
+    name.push(b'#');
+    name.try_extend_from_slice(digits.format(id).as_bytes()).unwrap();
+    line.push_left(12, name.as_slice());
+}
+
+fn push_columns(line: &mut Line, width: usize, usage: &Usage, now: u64, options: &Options)
+    requires narrow { width ≤ 20 }
+    requires room { length line.old ≤ 200 }
+    ensures text { line.new ≡ line.old ++ columns_in width (columns_of options.now now usage.now) }
+    ensures room { length line.new ≤ length line.old + 96 }
+{
+    let mut grace = ArrayVec::new();
+    usage.grace_text(now, options, &mut grace);
+    line.push_number(width, usage.used);
+    line.push_number(width, usage.soft);
+    line.push_number(width, usage.hard);
+    line.push_column(6, grace.as_slice());
+}

@@ -1,0 +1,111 @@
+ghost use Rattle.std.specs.Prelude.{◌≡◌, ◌≤◌, ◌++◌, length, codes, OnOk, OnErr};
+ghost use Rattle.quota_blocks.specs.Count.{Rose};
+ghost use Rattle.report_text.specs.Gather.{Gathers, WritesPrefix};
+ghost use Rattle.report_text.specs.Report.{head_of, title_front, title_line, grace_line, heading_line, hyphen_line};
+
+use crate::line::Line;
+use crate::period_text;
+use arrayvec::ArrayVec;
+use quota_blocks::{Sink, SinkFault, TextBuffer};
+use quota_types::{Grace, Kind};
+
+/// Puts the four lines in front of the columns.
+pub(crate) fn put_head<O: Sink>(
+    kind: Kind,
+    title: &str,
+    grace: Grace,
+    text: &mut TextBuffer,
+    sink: &mut O,
+) -> Result<(), SinkFault>
+    ensures ok { OnOk result (Gathers (O.tells sink.old) (O.written sink.old) text.old (O.written sink.new) text.new
+        (head_of kind title.now grace)) }
+    ensures fault { OnErr result (WritesPrefix (O.tells sink.old) (O.written sink.old) text.old (O.written sink.new)
+        (head_of kind title.now grace)) }
+    ensures cause { OnErr result (Rose (O.faults sink.old) (O.faults sink.new)) }
+    ensures later { O.faults sink.old ≤ O.faults sink.new }
+    ensures same_telling { O.tells sink.new ≡ O.tells sink.old }
+{
+    put_title(kind, title, text, sink)?;
+    text.put(sink, lines_below(kind, grace).as_slice())
+}
+
+/// Puts the first line.
+fn put_title<O: Sink>(
+    kind: Kind,
+    title: &str,
+    text: &mut TextBuffer,
+    sink: &mut O,
+) -> Result<(), SinkFault>
+    ensures ok { OnOk result (Gathers (O.tells sink.old) (O.written sink.old) text.old (O.written sink.new) text.new
+        (title_line kind title.now)) }
+    ensures fault { OnErr result (WritesPrefix (O.tells sink.old) (O.written sink.old) text.old (O.written sink.new)
+        (title_line kind title.now)) }
+    ensures cause { OnErr result (Rose (O.faults sink.old) (O.faults sink.new)) }
+    ensures later { O.faults sink.old ≤ O.faults sink.new }
+    ensures same_telling { O.tells sink.new ≡ O.tells sink.old }
+{
+    text.put(sink, title_front(kind))?;
+    text.put(sink, title.as_bytes())?;
+    text.put(sink, b"\n")
+}
+
+#[tactic(auto, unfolding(crate::specs::Report::title_front))]
+fn title_front(kind: Kind) -> &'static [u8]
+    ensures { result.now ≡ title_front kind }
+{
+    match kind {
+        Kind::User => b"*** Report for user quotas on ",
+        Kind::Group => b"*** Report for group quotas on ",
+    }
+}
+
+/// The three lines below the title.
+fn lines_below(kind: Kind, grace: Grace) -> Line
+    ensures { result ≡ grace_line grace ++ heading_line kind ++ hyphen_line }
+{
+    let mut line = grace_line(grace);
+    line.push_text(heading_line(kind));
+    push_hyphens(&mut line);
+    line
+}
+
+#[tactic(auto, unfolding(crate::specs::Report::grace_line))]
+fn grace_line(grace: Grace) -> Line
+    ensures text { result ≡ grace_line grace }
+    ensures room { length result ≤ 105 }
+{
+    let mut line = Line::new();
+    let mut period = ArrayVec::new();
+    line.push_text(b"Block grace time: ");
+    period_text(grace.block, &mut period);
+    line.push_text(period.as_slice());
+    line.push_text(b"; Inode grace time: ");
+    period_text(grace.inode, &mut period);
+    line.push_text(period.as_slice());
+    line.push_text(b"\n");
+    line
+}
+
+#[tactic(auto, unfolding(crate::specs::Report::heading_line))]
+fn heading_line(kind: Kind) -> &'static [u8]
+    ensures text { result.now ≡ heading_line kind }
+    ensures long { length result.now ≡ 90 }
+{
+    match kind {
+        Kind::User => {
+            b"User                  used       soft       hard  grace    files     soft     hard  grace\n"
+        }
+        Kind::Group => {
+            b"Group                 used       soft       hard  grace    files     soft     hard  grace\n"
+        }
+    }
+}
+
+#[tactic(auto, unfolding(crate::specs::Report::hyphen_line))]
+fn push_hyphens(line: &mut Line)
+    requires { length line.old ≤ 200 }
+    ensures { line.new ≡ line.old ++ hyphen_line }
+{
+    line.push_repeated(89, b'-');
+    line.push_text(b"\n");
+}
