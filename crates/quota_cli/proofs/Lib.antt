@@ -1,1 +1,4 @@
 pub mod PieceLemmas
+pub mod WordLemmas
+pub mod ReasonLemmas
+pub mod RunLemmas

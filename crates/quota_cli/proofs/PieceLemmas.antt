@@ -36,3 +36,7 @@ joined_all pieces i h = ap joined (take_all i pieces h)
 pub gathered_flushed : (start before written buffered now : List ℕ) → IsGathered start before written buffered → now ≡ written ++ buffered → now ≡ start ++ before
 gathered_flushed start before written buffered now g e =
     e ∙ ap (λ (w : List ℕ). w ++ buffered) g.appended ∙ append_assoc start g.sent buffered ∙ ap (λ (t : List ℕ). start ++ t) (sym g.whole)
+
+-- the whole of a text is a prefix of it
+pub appends_whole : (old new bytes : List ℕ) → new ≡ old ++ bytes → AppendsPrefix old new bytes
+appends_whole old new bytes e = record { done = bytes; rest = []; appended = e; prefix = append-nil bytes }

@@ -5,7 +5,7 @@ use Rattle.quota_types.specs.declared.damage.Damage.{Damage}
 use Rattle.quota_types.specs.declared.damage.DamageKind.{DamageKind}
 use Rattle.quota_types.specs.declared.damage.DamageKind.TheVariants.{Short, RefOut, TwoRoles, NoRole, EmptyTree, ChainOut, ChainLoop, ForeignInChain, MissingInChain, BadPrev, BadCount, MissingEntry, StrayEntry, DoubleEntry, PartialRecord}
 use Rattle.quota_cli.specs.declared.refusal.Cause.{Cause}
-use Rattle.quota_cli.specs.declared.refusal.Cause.TheVariants.{StoreFault, NoFile, TooLarge, SinkFault, Memory, NotQuota, WrongKind, UnknownVersion, BadBlockCount, OtherFormat, Damaged, Usage}
+use Rattle.quota_cli.specs.declared.refusal.Cause.TheVariants.{StoreFault, NoFile, TooLarge, SinkFault, Memory, NotQuota, WrongKind, UnknownVersion, BadBlockCount, OtherFormat, Damaged, Full, Usage}
 use Rattle.quota_cli.specs.declared.refusal.UsageKind.{UsageKind}
 use Rattle.quota_cli.specs.declared.refusal.UsageKind.TheVariants.{NoCommand, UnknownCommand, UnknownOption, MissingValue, BadValue, Repeated, Excludes, MissingOption, WrongOperands, BadFileName}
 
@@ -23,6 +23,7 @@ status_of UnknownVersion = 3
 status_of BadBlockCount = 3
 status_of OtherFormat = 3
 status_of (Damaged _) = 3
+status_of (Full _ _) = 1
 status_of (Usage _ _) = 2
 
 -- the name of a kind of damage
@@ -88,6 +89,7 @@ text_of OtherFormat name = name ∷ codes ": other format" ∷ []
 text_of (Damaged damage) name =
     name ∷ codes ": damaged: " ∷ damage_name damage.kind ∷ place_text damage.kind ∷ decimal damage.block
     ∷ identifier_text (names_identifier damage.kind) damage.id
+text_of (Full blocks limit) name = name ∷ codes ": full: " ∷ decimal blocks ∷ codes " blocks of " ∷ decimal limit ∷ []
 text_of (Usage kind word) name = codes "usage: " ∷ usage_name kind ∷ codes " at word " ∷ decimal word ∷ []
 
 -- the error line of a cause and the file that it is about

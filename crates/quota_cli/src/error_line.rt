@@ -56,8 +56,61 @@ pub fn write_error_line<O: Sink>(sink: &mut O, cause: Cause, name: &str) -> Resu
         ),
         Cause::OtherFormat => write_pieces(sink, &[b"quota: ", name, b": other format", b"\n"]),
         Cause::Damaged(damage) => write_damage_line(sink, damage, name),
+        Cause::Full { blocks, limit } => write_full_line(sink, blocks, limit, name),
         Cause::Usage { kind, word } => write_usage_line(sink, kind, word),
     }
+}
+
+#[tactic(auto, unfolding(crate::specs::Refusal::error_line))]
+fn write_full_line<O: Sink>(
+    sink: &mut O,
+    blocks: u64,
+    limit: u64,
+    name: &[u8],
+) -> Result<(), SinkFault>
+    ensures ok { OnOk result (IsTrue (O.tells sink.old)
+        → O.written sink.new ≡ O.written sink.old ++ error_line (Cause.Full blocks limit) name.now) }
+    ensures fault { OnErr result (IsTrue (O.tells sink.old)
+        → AppendsPrefix (O.written sink.old) (O.written sink.new) (error_line (Cause.Full blocks limit) name.now)) }
+    ensures cause { OnErr result (Rose (O.faults sink.old) (O.faults sink.new)) }
+    ensures later { O.faults sink.old ≤ O.faults sink.new }
+    ensures same_telling { O.tells sink.new ≡ O.tells sink.old }
+{
+    let mut block_digits = Buffer::new();
+    let mut limit_digits = Buffer::new();
+    let blocks = block_digits.format(blocks).as_bytes();
+    full_line(sink, name, blocks, limit_digits.format(limit).as_bytes())
+}
+
+/// A line on a file that has no room.
+fn full_line<'a, O: Sink>(
+    sink: &mut O,
+    name: &'a [u8],
+    blocks: &'a [u8],
+    limit: &'a [u8],
+) -> Result<(), SinkFault>
+    ensures ok { OnOk result (IsTrue (O.tells sink.old)
+        → O.written sink.new ≡ O.written sink.old ++ concat (codes "quota: " ∷ name.now ∷ codes ": full: " ∷ blocks.now
+        ∷ codes " blocks of " ∷ limit.now ∷ codes "\n" ∷ [])) }
+    ensures fault { OnErr result (IsTrue (O.tells sink.old)
+        → AppendsPrefix (O.written sink.old) (O.written sink.new) (concat (codes "quota: " ∷ name.now ∷ codes ": full: " ∷ blocks.now
+        ∷ codes " blocks of " ∷ limit.now ∷ codes "\n" ∷ []))) }
+    ensures cause { OnErr result (Rose (O.faults sink.old) (O.faults sink.new)) }
+    ensures later { O.faults sink.old ≤ O.faults sink.new }
+    ensures same_telling { O.tells sink.new ≡ O.tells sink.old }
+{
+    write_pieces(
+        sink,
+        &[
+            b"quota: ",
+            name,
+            b": full: ",
+            blocks,
+            b" blocks of ",
+            limit,
+            b"\n",
+        ],
+    )
 }
 
 #[tactic(auto, unfolding(crate::specs::Refusal::error_line))]

@@ -73,6 +73,13 @@ pub enum Cause {
     OtherFormat,
     /// The file is damaged.
     Damaged(Damage),
+    /// The file would need more blocks than it may have.
+    Full {
+        /// The blocks that it would need.
+        blocks: u64,
+        /// The blocks that it may have.
+        limit: u64,
+    },
     /// The words are outside the grammar.
     Usage {
         /// What is wrong.
@@ -88,7 +95,7 @@ impl Cause {
         ensures { result ≡ status_of self }
     {
         match self {
-            Cause::NoFile | Cause::TooLarge => 1,
+            Cause::NoFile | Cause::TooLarge | Cause::Full { .. } => 1,
             Cause::Usage { .. } => 2,
             Cause::NotQuota
             | Cause::WrongKind

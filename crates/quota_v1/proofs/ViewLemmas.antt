@@ -1,6 +1,7 @@
 -- What is seen of a flat file while it is opened.
 use Rattle.std.proofs.Common.{◌≡◌, ℕ, ◌%◌, ◌≤◌, Bool, IsTrue, List, length, Option, Some, None, Ok, Err, refl, sym, ap, subst, arith}
 use Rattle.std.specs.Option.{IsSomeAnd}
+use Rattle.std.proofs.lemmas.Option.{none-some}
 use Rattle.quota_types.specs.declared.file_kind.Kind.{Kind}
 use Rattle.quota_types.specs.declared.file_kind.Kind.TheVariants.{User}
 use Rattle.quota_blocks.specs.QuotaValue.{QuotaValue}
@@ -48,3 +49,17 @@ fault_since first before now tells tells' named named' UnknownVersion le t n cau
 fault_since first before now tells tells' named named' BadBlockCount le t n cause = seen_before tells tells' named named' BadBlockCount t n cause
 fault_since first before now tells tells' named named' (FormatMismatch found) le t n cause = seen_before tells tells' named named' (FormatMismatch found) t n cause
 fault_since first before now tells tells' named named' (Damage damage) le t n cause = seen_before tells tells' named named' (Damage damage) t n cause
+
+-- a file is not both seen as a value and refused
+pub seen_or_refused : (named : Option (List ℕ)) (kind : Kind) (value : QuotaValue) (fault : OpenFault) → IsFlatView named kind (Ok value) → IsFlatView named kind (Err fault) → ⊥
+seen_or_refused None kind value fault seen refused = absurd seen.0
+seen_or_refused (Some file) kind value Store seen refused = refused
+seen_or_refused (Some file) kind value NoFile seen refused = none-some file (sym refused)
+seen_or_refused (Some file) kind value (TooLarge number limit) seen refused = omega (arith, seen.0.0, refused.0.0)
+seen_or_refused (Some file) kind value Memory seen refused = refused
+seen_or_refused (Some file) kind value NotQuota seen refused = refused
+seen_or_refused (Some file) kind value WrongKind seen refused = refused
+seen_or_refused (Some file) kind value UnknownVersion seen refused = refused
+seen_or_refused (Some file) kind value BadBlockCount seen refused = refused
+seen_or_refused (Some file) kind value (FormatMismatch found) seen refused = refused
+seen_or_refused (Some file) kind value (Damage damage) seen refused = refused.1.cut seen.0.1.whole

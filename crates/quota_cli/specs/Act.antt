@@ -1,0 +1,56 @@
+-- What a command does to what is outside, act by act, and how the files follow.
+use Rattle.std.specs.Prelude.{◌≡◌, ◌≢◌, ℕ, List, [], ◌∷◌, ◌++◌, codes, Option, Some, None, Result, Ok}
+use Rattle.quota_types.specs.declared.file_kind.Kind.{Kind}
+use Rattle.quota_types.specs.declared.file_kind.Format.{Format}
+use Rattle.quota_types.specs.declared.file_kind.Format.TheVariants.{V1, V2R0, V2R1}
+use Rattle.quota_blocks.specs.World.{World}
+use Rattle.quota_blocks.specs.QuotaValue.{QuotaValue}
+use Rattle.quota_blocks.specs.declared.quota_file.OpenFault.{OpenFault}
+use Rattle.quota_v1.specs.View.{IsFlatView}
+
+-- What is seen of a file that is opened as one of a kind, in the format that is asked for: the value that it stands
+-- for, or the first refusal that holds. No file is opened as a tree so far.
+abbrev pub IsView : Option (List ℕ) → Kind → Option Format → Result QuotaValue OpenFault → Type 0
+IsView named kind (Some V1) seen = IsFlatView named kind seen
+IsView named kind (Some V2R0) seen = ⊥
+IsView named kind (Some V2R1) seen = ⊥
+IsView named kind None seen = ⊥
+
+-- One act: bytes to the output, bytes to the error output, an answer to a datagram, or a file that from then on stands
+-- for another value.
+pub data Act : Type 0 where
+  ToOut : List ℕ → Act
+  ToErr : List ℕ → Act
+  Answer : List ℕ → Act
+  Change : List ℕ → QuotaValue → Act
+
+-- the bytes that go to the output, joined
+abbrev pub out_bytes : List Act → List ℕ
+out_bytes [] = []
+out_bytes (ToOut bytes ∷ acts) = bytes ++ out_bytes acts
+out_bytes (_ ∷ acts) = out_bytes acts
+
+-- the bytes that go to the error output, joined
+abbrev pub err_bytes : List Act → List ℕ
+err_bytes [] = []
+err_bytes (ToErr bytes ∷ acts) = bytes ++ err_bytes acts
+err_bytes (_ ∷ acts) = err_bytes acts
+
+-- the answers, in order
+abbrev pub answers : List Act → List (List ℕ)
+answers [] = []
+answers (Answer bytes ∷ acts) = bytes ∷ answers acts
+answers (_ ∷ acts) = answers acts
+
+-- Files follow one act. After a change the named file is seen as the new value, and all other files are the same but
+-- for the one with `.new` added to the name. The other acts leave all files.
+abbrev pub FollowsAct : Act → World → World → Type 0
+FollowsAct (Change name value) old new =
+    IsView (new name) value.kind (Some value.format) (Ok value)
+    × ((other : List ℕ) → other ≢ name → other ≢ name ++ codes ".new" → new other ≡ old other)
+FollowsAct _ old new = new ≡ old
+
+-- files follow acts, one after another
+abbrev pub Follows : List Act → World → World → Type 0
+Follows [] old new = new ≡ old
+Follows (act ∷ acts) old new = (middle : World) × FollowsAct act old middle × Follows acts middle new
