@@ -10,16 +10,16 @@ pub gathers_then : (tells next : Bool) (written buffered written_1 buffered_1 wr
     → whole ≡ text ++ more → Gathers tells written buffered written_2 buffered_2 whole
 gathers_then tells next written buffered written_1 buffered_1 written_2 buffered_2 text more whole one same two is =
     λ told start before gathered.
-      subst (λ (t : List ℕ). IsGathered start t written_2 buffered_2) (append_assoc before text more ∙ ap (λ (t : List ℕ). before ++ t) (sym is))
-        (two (subst IsTrue (sym same) told) start (before ++ text) (one told start before gathered))
+    subst (λ (t : List ℕ). IsGathered start t written_2 buffered_2) (append_assoc before text more ∙ ap (λ (t : List ℕ). before ++ t) (sym is))
+    (two (subst IsTrue (sym same) told) start (before ++ text) (one told start before gathered))
 
 -- a prefix of a text is one of more
 pub writes_more : (tells : Bool) (written buffered now text more whole : List ℕ) → WritesPrefix tells written buffered now text
     → whole ≡ text ++ more → WritesPrefix tells written buffered now whole
 writes_more tells written buffered now text more whole p is =
     λ told start before gathered.
-      subst (λ (t : List ℕ). AppendsPrefix start now t) (append_assoc before text more ∙ ap (λ (t : List ℕ). before ++ t) (sym is))
-        (appends_more start now (before ++ text) more (p told start before gathered))
+    subst (λ (t : List ℕ). AppendsPrefix start now t) (append_assoc before text more ∙ ap (λ (t : List ℕ). before ++ t) (sym is))
+    (appends_more start now (before ++ text) more (p told start before gathered))
 
 -- a text is put, and then a prefix of more
 pub writes_then : (tells next : Bool) (written buffered written_1 buffered_1 now text more whole : List ℕ)
@@ -27,8 +27,8 @@ pub writes_then : (tells next : Bool) (written buffered written_1 buffered_1 now
     → whole ≡ text ++ more → WritesPrefix tells written buffered now whole
 writes_then tells next written buffered written_1 buffered_1 now text more whole one same two is =
     λ told start before gathered.
-      subst (λ (t : List ℕ). AppendsPrefix start now t) (append_assoc before text more ∙ ap (λ (t : List ℕ). before ++ t) (sym is))
-        (two (subst IsTrue (sym same) told) start (before ++ text) (one told start before gathered))
+    subst (λ (t : List ℕ). AppendsPrefix start now t) (append_assoc before text more ∙ ap (λ (t : List ℕ). before ++ t) (sym is))
+    (two (subst IsTrue (sym same) told) start (before ++ text) (one told start before gathered))
 
 -- nothing is put
 pub gathers_none : (tells : Bool) (written buffered : List ℕ) → Gathers tells written buffered written buffered []
@@ -40,10 +40,10 @@ pub writes_gathered : (tells : Bool) (written buffered now buffered_now text mor
     → Gathers tells written buffered now buffered_now text → whole ≡ text ++ more → WritesPrefix tells written buffered now whole
 writes_gathered tells written buffered now buffered_now text more whole one is =
     writes_more tells written buffered now text more whole
-      (λ told start before gathered.
-        let g : IsGathered start (before ++ text) now buffered_now = one told start before gathered in
-        record { done = g.sent; rest = buffered_now; appended = g.appended; prefix = sym g.whole })
-      is
+    (λ told start before gathered.
+    let g : IsGathered start (before ++ text) now buffered_now = one told start before gathered in
+    record { done = g.sent; rest = buffered_now; appended = g.appended; prefix = sym g.whole })
+    is
 
 -- before anything is put into an empty buffer
 gathered_none : (written buffered : List ℕ) → buffered ≡ [] → IsGathered written [] written buffered
@@ -67,4 +67,4 @@ pub prefix_flushed : (tells : Bool) (written buffered written_1 buffered_1 now t
     → Gathers tells written buffered written_1 buffered_1 text → AppendsPrefix written_1 now buffered_1 → IsTrue tells → AppendsPrefix written now text
 prefix_flushed tells written buffered written_1 buffered_1 now text none one p told =
     subst (λ (t : List ℕ). AppendsPrefix written now t) (append-nil text)
-      (appends_at_flush written text written_1 buffered_1 now [] (one told written [] (gathered_none written buffered none)) p)
+    (appends_at_flush written text written_1 buffered_1 now [] (one told written [] (gathered_none written buffered none)) p)

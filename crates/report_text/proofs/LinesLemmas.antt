@@ -30,6 +30,7 @@ module _ (names : ℕ → Option (List ℕ)) (now : ℕ) (options : Options) whe
   -- the report of a value is the head of its kind and grace periods, and the lines of its entries
   pub report_is : (value : QuotaValue) (kind : Kind) (grace : Grace) (title : List ℕ) → value.kind ≡ kind → grace ≡ value.grace
       → report_of value names title now options ≡ head_of kind title grace ++ lines_of names now options (entries value.records)
+  unfolding report_of
   report_is value kind grace title same_kind same_grace =
       ap (λ (k : Kind). head_of k title value.grace ++ lines_of names now options (entries value.records)) same_kind
       ∙ ap (λ (g : Grace). head_of kind title g ++ lines_of names now options (entries value.records)) (sym same_grace)
@@ -51,11 +52,11 @@ module _ (names : ℕ → Option (List ℕ)) (now : ℕ) (options : Options) whe
   -- the lines that are left begin with that of the next one
   left : (lines : List ℕ) (records : Records) (after : Option ℕ) (entry : Entry) → IsNextAfter after records (Some entry)
       → (lines ++ shown_line names now options (entry.id, entry.rec)) ++ lines_of names now options (entries_after (Some entry.id) (entries records))
-        ≡ lines ++ lines_of names now options (entries_after after (entries records))
+      ≡ lines ++ lines_of names now options (entries_after after (entries records))
   left lines records after entry next =
       append_assoc lines _ _
       ∙ ap (λ (rest : List ℕ). lines ++ rest)
-        (sym (lines-cons (entry.id, entry.rec) _) ∙ ap (lines_of names now options) (sym (entries_after-next after records entry next)))
+      (sym (lines-cons (entry.id, entry.rec) _) ∙ ap (lines_of names now options) (sym (entries_after-next after records entry next)))
 
   module _ (tells : Bool) (written buffered written_1 buffered_1 : List ℕ) (records : Records) (after : Option ℕ)
       (put : IsPutUpTo tells written buffered written_1 buffered_1 records after) where
@@ -73,7 +74,7 @@ module _ (names : ℕ → Option (List ℕ)) (now : ℕ) (options : Options) whe
     pub put_all : IsNextAfter after records None → Gathers tells written buffered written_1 buffered_1 (lines_of names now options (entries records))
     put_all none =
         let all : put.lines ≡ lines_of names now options (entries records) =
-          sym (append-nil put.lines) ∙ ap (λ (es : List (ℕ × Rec)). put.lines ++ lines_of names now options es) (sym (entries_after-end after records none)) ∙ put.whole in
+        sym (append-nil put.lines) ∙ ap (λ (es : List (ℕ × Rec)). put.lines ++ lines_of names now options es) (sym (entries_after-end after records none)) ∙ put.whole in
         subst (λ (t : List ℕ). Gathers tells written buffered written_1 buffered_1 t) all put.gathers
 
     -- a fault while the line of the next one is put
@@ -82,7 +83,7 @@ module _ (names : ℕ → Option (List ℕ)) (now : ℕ) (options : Options) whe
         → WritesPrefix tells written buffered written_2 (lines_of names now options (entries records))
     put_fault next written_2 entry is same fault =
         writes_more _ _ _ _ _ _ _ (writes_then _ _ _ _ _ _ _ _ _ _ put.gathers same fault refl)
-          (sym (left put.lines records after entry is ∙ put.whole))
+        (sym (left put.lines records after entry is ∙ put.whole))
 
     -- a fault while the next one is looked up
     pub put_part : WritesPrefix tells written buffered written_1 (lines_of names now options (entries records))

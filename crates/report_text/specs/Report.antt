@@ -162,5 +162,5 @@ abbrev pub lines_of : (ℕ → Option (List ℕ)) → ℕ → Options → List (
 lines_of names now options es = flat_map (entry_line names now options) (filter (is_shown options) es)
 
 -- the report on a quota file: its head, and the lines of its identifiers
-abbrev pub report_of : QuotaValue → (ℕ → Option (List ℕ)) → List ℕ → ℕ → Options → List ℕ
+unfoldable pub report_of : QuotaValue → (ℕ → Option (List ℕ)) → List ℕ → ℕ → Options → List ℕ
 report_of value names title now options = head_of value.kind title value.grace ++ lines_of names now options (entries value.records)

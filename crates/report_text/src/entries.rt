@@ -39,8 +39,9 @@ fn is_shown(entry: &Entry, options: &Options) -> bool
     options.verbose || !(entry.rec.space == 0 && entry.rec.inodes == 0)
 }
 
+/// The line of an identifier.
 #[tactic(auto, unfolding(crate::specs::Report::entry_line))]
-fn entry_line(entry: &Entry, now: u64, options: &Options) -> Line
+pub(crate) fn entry_line(entry: &Entry, now: u64, options: &Options) -> Line
     ensures { result ≡ entry_line no_names now options.now (entry.now.id, entry.now.rec) }
 {
     let blocks = Usage::of_blocks(&entry.rec);
@@ -62,7 +63,8 @@ fn push_name(line: &mut Line, id: u32, options: &Options)
     let mut name = ArrayVec::<u8, 12>::new();
     let mut digits = Buffer::new();
     name.push(b'#');
-    name.try_extend_from_slice(digits.format(id).as_bytes()).unwrap();
+    name.try_extend_from_slice(digits.format(id).as_bytes())
+        .unwrap();
     line.push_left(12, name.as_slice());
 }
 

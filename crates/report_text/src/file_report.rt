@@ -61,10 +61,10 @@ fn put_entries<S: Store, F: QuotaFile<S>, O: Sink>(
     requires { IsTrue (F.is_usable file.old) }
     ensures ok { OnOk result ((value : QuotaValue) → F.holds file.old store.old value
         → Gathers (O.tells sink.old) (O.written sink.old) text.old (O.written sink.new) text.new
-            (lines_of no_names now options.now (entries value.records))) }
+        (lines_of no_names now options.now (entries value.records))) }
     ensures fault { OnErr result ((value : QuotaValue) → F.holds file.old store.old value
         → WritesPrefix (O.tells sink.old) (O.written sink.old) text.old (O.written sink.new)
-            (lines_of no_names now options.now (entries value.records))) }
+        (lines_of no_names now options.now (entries value.records))) }
     ensures refused { IfErr result (IsReportFault (O.faults sink.old) (O.faults sink.new)
         (S.faults store.old) (S.faults store.new) (F.holds file.old store.old)) }
     ensures stays { (value : QuotaValue) → F.holds file.old store.old value → F.holds file.new store.new value }

@@ -10,6 +10,8 @@ mod head;
 mod line;
 mod options;
 mod period;
+#[cfg(test)]
+mod tests;
 mod usage;
 
 pub use fault::ReportFault;

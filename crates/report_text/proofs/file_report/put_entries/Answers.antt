@@ -30,9 +30,9 @@ returns-in_err-put_entry-clause-fault g c =
     let p = err_from_is_err_and c.from_residual-in_err-put_entry.result c.from_residual-in_err-put_entry.ensures.1 in
     let kept = c.loop-entry.invariant in
     rw p.1 (λ value holds.
-      let next = let P : Option Entry → Type 0 = λ o. IsNextAfter c.loop-entry.after value.records o in
-        subst P c.in-Some.is (c.in_ok-entry.ensures.found value (kept.stays value holds)) in
-      put_fault _ _ _ _ _ _ _ _ _ _ (kept.lines value holds) _ _ _ next kept.sink_telling c.in_err-put_entry.ensures.fault)
+    let next = let P : Option Entry → Type 0 = λ o. IsNextAfter c.loop-entry.after value.records o in
+    subst P c.in-Some.is (c.in_ok-entry.ensures.found value (kept.stays value holds)) in
+    put_fault _ _ _ _ _ _ _ _ _ _ (kept.lines value holds) _ _ _ next kept.sink_telling c.in_err-put_entry.ensures.fault)
 
 pub loop-entry-preserved : goal.loop-entry-preserved
 loop-entry-preserved g c =
@@ -40,9 +40,9 @@ loop-entry-preserved g c =
     let found = c.next_after.ensures in
     let put = c.in_ok-put_entry.ensures in record {
       lines = λ value holds.
-        let next = let P : Option Entry → Type 0 = λ o. IsNextAfter c.loop-entry.after value.records o in
+          let next = let P : Option Entry → Type 0 = λ o. IsNextAfter c.loop-entry.after value.records o in
           subst P c.in-Some.is (c.in_ok-entry.ensures.found value (kept.stays value holds)) in
-        put_more _ _ _ _ _ _ _ _ _ _ (kept.lines value holds) _ _ _ _ next kept.sink_telling put.ok;
+          put_more _ _ _ _ _ _ _ _ _ _ (kept.lines value holds) _ _ _ _ next kept.sink_telling put.ok;
       stays = λ value holds. found.stays value (kept.stays value holds);
       same_format = found.same_format ∙ kept.same_format;
       usable = found.usable ∙ kept.usable;
@@ -58,6 +58,6 @@ pub returns-clause-ok : goal.returns-clause-ok
 returns-clause-ok g c =
     let kept = c.loop-entry.invariant in
     λ value holds.
-      let none = let P : Option Entry → Type 0 = λ o. IsNextAfter c.loop-entry.after value.records o in
-        subst P c.in_default.is (c.in_ok-entry.ensures.found value (kept.stays value holds)) in
-      put_all _ _ _ _ _ _ _ _ _ _ (kept.lines value holds) none
+    let none = let P : Option Entry → Type 0 = λ o. IsNextAfter c.loop-entry.after value.records o in
+    subst P c.in_default.is (c.in_ok-entry.ensures.found value (kept.stays value holds)) in
+    put_all _ _ _ _ _ _ _ _ _ _ (kept.lines value holds) none

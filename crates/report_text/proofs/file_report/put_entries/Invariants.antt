@@ -11,7 +11,7 @@ invariant-loop-entry g l =
     let O = g.O.Sink in
     record {
       lines : (value : QuotaValue) → F.holds l.fn.file l.fn.store value
-        → IsPutUpTo no_names l.now l.options (O.tells l.fn.sink) (O.written l.fn.sink) l.fn.text (O.written l.sink) l.text value.records l.after;
+          → IsPutUpTo no_names l.now l.options (O.tells l.fn.sink) (O.written l.fn.sink) l.fn.text (O.written l.sink) l.text value.records l.after;
       stays : (value : QuotaValue) → F.holds l.fn.file l.fn.store value → F.holds l.file l.store value;
       same_format : F.format_of l.file ≡ F.format_of l.fn.file;
       usable : F.is_usable l.file ≡ F.is_usable l.fn.file;

@@ -12,20 +12,20 @@ pub returns-in_err-put-2-clause-fault : goal.returns-in_err-put-2-clause-fault
 returns-in_err-put-2-clause-fault g c =
     let p = err_from_is_err_and c.from_residual-in_err-put-2.result c.from_residual-in_err-put-2.ensures.1 in
     rw p.1 (writes_more _ _ _ _ _ (codes "\n") _
-      (writes_then _ _ _ _ _ _ _ _ _ _ c.in_ok-put.ensures.ok c.put.ensures.same_telling c.in_err-put-2.ensures.fault refl) cc)
+    (writes_then _ _ _ _ _ _ _ _ _ _ c.in_ok-put.ensures.ok c.put.ensures.same_telling c.in_err-put-2.ensures.fault refl) cc)
 
 pub returns-clause-ok : goal.returns-clause-ok
 returns-clause-ok g c =
     on_ok_weaker c.put-3.result
-      (λ ok. gathers_then _ _ _ _ _ _ _ _ _ _ _
-        (gathers_then _ _ _ _ _ _ _ _ _ _ _ c.in_ok-put.ensures.ok c.put.ensures.same_telling c.in_ok-put-2.ensures.ok refl)
-        (c.put-2.ensures.same_telling ∙ c.put.ensures.same_telling) ok cc)
-      c.put-3.ensures.ok
+    (λ ok. gathers_then _ _ _ _ _ _ _ _ _ _ _
+    (gathers_then _ _ _ _ _ _ _ _ _ _ _ c.in_ok-put.ensures.ok c.put.ensures.same_telling c.in_ok-put-2.ensures.ok refl)
+    (c.put-2.ensures.same_telling ∙ c.put.ensures.same_telling) ok cc)
+    c.put-3.ensures.ok
 
 pub returns-clause-fault : goal.returns-clause-fault
 returns-clause-fault g c =
     on_err_weaker c.put-3.result
-      (λ fault. writes_then _ _ _ _ _ _ _ _ _ _
-        (gathers_then _ _ _ _ _ _ _ _ _ _ _ c.in_ok-put.ensures.ok c.put.ensures.same_telling c.in_ok-put-2.ensures.ok refl)
-        (c.put-2.ensures.same_telling ∙ c.put.ensures.same_telling) fault cc)
-      c.put-3.ensures.fault
+    (λ fault. writes_then _ _ _ _ _ _ _ _ _ _
+    (gathers_then _ _ _ _ _ _ _ _ _ _ _ c.in_ok-put.ensures.ok c.put.ensures.same_telling c.in_ok-put-2.ensures.ok refl)
+    (c.put-2.ensures.same_telling ∙ c.put.ensures.same_telling) fault cc)
+    c.put-3.ensures.fault
