@@ -15,6 +15,8 @@ mod refusal;
 mod report_command;
 mod run;
 mod stream_sink;
+#[cfg(test)]
+mod tests;
 mod words;
 
 /// The status of a program that the system gives no words or no moment.

@@ -1,0 +1,293 @@
+use crate::run::run;
+use quota_blocks::{MemSink, MemStore};
+use std::alloc::{AllocError, Global};
+use std::test::Fail;
+
+const NOW: u64 = 1_700_000_000;
+
+const HEAD: &str = "*** Report for user quotas on q
+Block grace time: 7days; Inode grace time: 7days
+User                  used       soft       hard  grace    files     soft     hard  grace
+-----------------------------------------------------------------------------------------
+";
+
+/// The calls of the store, the output and the error output that are to fail, by their numbers; 0 is none.
+#[derive(Clone, Copy)]
+struct Failing {
+    store: u64,
+    out: u64,
+    err: u64,
+}
+
+const NONE: Failing = Failing {
+    store: 0,
+    out: 0,
+    err: 0,
+};
+
+/// What a run left: the status, and what went to the output and to the error output.
+#[derive(Drop)]
+struct Ran {
+    status: u8,
+    out: MemSink,
+    err: MemSink,
+}
+
+fn words_of(alloc: Global, line: &str) -> Result<Vec<String>, AllocError> {
+    let mut words = Vec::new(alloc);
+    for word in line.split(' ') {
+        words.push(String::from_str(alloc, word)?)?;
+    }
+    Ok(words)
+}
+
+/// Runs the words of a line over a store with one file named `q`.
+fn run_over(
+    alloc: Global,
+    line: &str,
+    bytes: &[u8],
+    now: u64,
+    failing: Failing,
+) -> Result<Ran, AllocError> {
+    let words = words_of(alloc, line)?;
+    let mut files = Vec::new(alloc);
+    files.push((
+        String::from_str(alloc, "q")?,
+        Vec::from_slice(alloc, bytes)?,
+    ))?;
+    let mut store = MemStore::new(files, Vec::from_slice(alloc, &[failing.store])?);
+    let mut out = MemSink::new(Vec::new(alloc), Vec::from_slice(alloc, &[failing.out])?);
+    let mut err = MemSink::new(Vec::new(alloc), Vec::from_slice(alloc, &[failing.err])?);
+    let status = run(alloc, &words, &mut store, &mut out, &mut err, now);
+    Ok(Ran { status, out, err })
+}
+
+const REPORT: &str = "repquota -F vfsold -u -v q";
+
+/// A record of a flat file: six numbers of 32 bits and two of 64.
+fn push_record(
+    bytes: &mut Vec<u8>,
+    numbers: &[u32; 6],
+    times: &[u64; 2],
+) -> Result<(), AllocError> {
+    for number in numbers {
+        bytes.extend_from_slice(&number.to_le_bytes())?;
+    }
+    for time in times {
+        bytes.extend_from_slice(&time.to_le_bytes())?;
+    }
+    Ok(())
+}
+
+/// A flat file whose last record is the given one, with its identifier.
+fn file_with(
+    alloc: Global,
+    id: usize,
+    numbers: &[u32; 6],
+    times: &[u64; 2],
+) -> Result<Vec<u8>, AllocError>
+    requires { id < 2000 }
+{
+    let mut bytes = vec![in alloc; 0u8; 40 * id]?;
+    push_record(&mut bytes, numbers, times)?;
+    Ok(bytes)
+}
+
+#[test]
+fn empty_flat_file_reports_its_head(rt: HostRuntime) -> Result<(), Fail> {
+    let ran = run_over(rt.alloc(), REPORT, b"", NOW, NONE)?;
+    assert_eq!(rt; ran.status, 0);
+    assert_eq!(rt; ran.out.bytes(), HEAD.as_bytes());
+    assert_eq!(rt; ran.err.bytes(), b"".as_slice());
+    Ok(())
+}
+
+#[test]
+fn refusals_have_their_status_and_their_line(rt: HostRuntime) -> Result<(), Fail> {
+    let alloc = rt.alloc();
+    let usage = "quota: usage: UnknownCommand at word 0\n";
+    let long = vec![in alloc; 0u8; 41_943_041]?;
+    for (line, len, status, want) in [
+        (
+            REPORT,
+            79,
+            3,
+            "quota: q: damaged: PartialRecord at record 1\n",
+        ),
+        (REPORT, 41_943_041, 1, "quota: q: too large\n"),
+        (
+            "repquota -F vfsold -u -v r",
+            0,
+            1,
+            "quota: r: no such file\n",
+        ),
+        ("repquota -u q", 0, 2, usage),
+        ("repquota -F vfsold -u -v -q", 0, 2, usage),
+        ("repquota -F vfsold -u -v q.new", 0, 2, usage),
+        ("repquota -F vfsold -u -v q q", 0, 2, usage),
+        ("repquota -F vfsold -v -u q", 0, 2, usage),
+    ] {
+        let bytes = long.get(..len).unwrap_or(b"");
+        let ran = run_over(alloc, line, bytes, NOW, NONE)?;
+        assert_eq!(rt; ran.status, status, "{line}");
+        assert_eq!(rt; ran.out.bytes(), b"".as_slice(), "{line}");
+        assert_eq!(rt; ran.err.bytes(), want.as_bytes(), "{line}");
+    }
+    Ok(())
+}
+
+#[test]
+fn records_have_their_lines(rt: HostRuntime) -> Result<(), Fail> {
+    let alloc = rt.alloc();
+    let ahead = 1_700_604_800;
+    // hard and soft limit and use of blocks, then of inodes; the two timers; the moment; the line
+    for (numbers, times, now, line) in [
+        (
+            [200, 100, 0, 20, 10, 0],
+            [0, 0],
+            NOW,
+            "#1000        --          0        100        200      -        0       10       20      -\n",
+        ),
+        // over the soft limit, with a timer ahead, just not 2 days ahead, reached, behind and not running
+        (
+            [8, 2, 4, 0, 0, 1],
+            [ahead, 0],
+            NOW,
+            "#1000        +-          4          2          8  7days        1        0        0      -\n",
+        ),
+        (
+            [8, 2, 4, 0, 0, 1],
+            [ahead, 0],
+            1_700_432_001,
+            "#1000        +-          4          2          8  2days        1        0        0      -\n",
+        ),
+        (
+            [8, 2, 4, 0, 0, 1],
+            [ahead, 0],
+            1_700_432_031,
+            "#1000        +-          4          2          8  47:59        1        0        0      -\n",
+        ),
+        (
+            [8, 2, 4, 0, 0, 1],
+            [ahead, 0],
+            ahead,
+            "#1000        +-          4          2          8   none        1        0        0      -\n",
+        ),
+        (
+            [8, 2, 4, 0, 0, 1],
+            [0, 0],
+            NOW,
+            "#1000        +-          4          2          8   none        1        0        0      -\n",
+        ),
+        // over the hard limit alone, of blocks and of inodes
+        (
+            [3, 0, 4, 5, 0, 6],
+            [0, 0],
+            NOW,
+            "#1000        ++          4          0          3      -        6        0        5      -\n",
+        ),
+        // at the soft limit
+        (
+            [0, 4, 4, 0, 6, 6],
+            [ahead, ahead],
+            NOW,
+            "#1000        --          4          4          0      -        6        6        0      -\n",
+        ),
+        // inodes over the soft limit, an hour and a half ahead
+        (
+            [0, 0, 0, 0, 6, 7],
+            [0, 1_700_005_400],
+            NOW,
+            "#1000        -+          0          0          0      -        7        6        0  01:30\n",
+        ),
+        // columns that widen
+        (
+            [
+                4_294_967_295,
+                4_294_967_295,
+                4_294_967_295,
+                4_294_967_295,
+                1,
+                4_294_967_295,
+            ],
+            [0, u64::MAX],
+            NOW,
+            "#1000        -+ 4294967295 4294967295 4294967295      - 4294967295        1 4294967295 213503982314925days\n",
+        ),
+    ] {
+        let bytes = file_with(alloc, 1000, &numbers, &times)?;
+        let ran = run_over(alloc, REPORT, &bytes, now, NONE)?;
+        assert_eq!(rt; ran.status, 0);
+        assert_eq!(rt; ran.out.bytes().get(..HEAD.len()), Some(HEAD.as_bytes()));
+        assert_eq!(rt;
+            ran.out.bytes().get(HEAD.len()..),
+            Some(line.as_bytes()),
+            "{line}"
+        );
+    }
+    Ok(())
+}
+
+#[test]
+fn record_0_has_the_grace_periods_and_no_timers(rt: HostRuntime) -> Result<(), Fail> {
+    let alloc = rt.alloc();
+    for (numbers, times, want) in [
+        // used blocks over the soft limit: the times are no timers of identifier 0
+        (
+            [8, 2, 4, 0, 0, 1],
+            [3600, 172_799],
+            "Block grace time: 01:00; Inode grace time: 2days
+User                  used       soft       hard  grace    files     soft     hard  grace
+-----------------------------------------------------------------------------------------
+#0           +-          4          2          8   none        1        0        0      -
+",
+        ),
+        // times alone make no record; a period of 0 is 7 days
+        (
+            [0, 0, 0, 0, 0, 0],
+            [0, u64::MAX],
+            "Block grace time: 7days; Inode grace time: 213503982334601days
+User                  used       soft       hard  grace    files     soft     hard  grace
+-----------------------------------------------------------------------------------------
+",
+        ),
+    ] {
+        let bytes = file_with(alloc, 0, &numbers, &times)?;
+        let ran = run_over(alloc, REPORT, &bytes, NOW, NONE)?;
+        assert_eq!(rt; ran.status, 0);
+        assert_eq!(rt; ran.out.bytes().get(32..), Some(want.as_bytes()));
+    }
+    Ok(())
+}
+
+#[test]
+fn each_failing_call_stops_the_report(rt: HostRuntime) -> Result<(), Fail> {
+    let alloc = rt.alloc();
+    let mut bytes = Vec::new(alloc);
+    for _ in 0..3 {
+        push_record(&mut bytes, &[2, 1, 1, 2, 1, 1], &[0, 0])?;
+    }
+    let whole = run_over(alloc, REPORT, &bytes, NOW, NONE)?;
+    assert_eq!(rt; whole.status, 0);
+    for (store, out, err, status, out_whole, line) in [
+        (1, 0, 0, 4, false, "quota: store fault\n"),
+        (2, 0, 0, 4, false, "quota: store fault\n"),
+        (3, 0, 0, 0, true, ""),
+        (0, 1, 0, 4, false, "quota: output fault\n"),
+        (0, 2, 0, 0, true, ""),
+        (0, 0, 1, 0, true, ""),
+        (1, 0, 1, 4, false, ""),
+        (0, 1, 1, 4, false, ""),
+    ] {
+        let failing = Failing { store, out, err };
+        let ran = run_over(alloc, REPORT, &bytes, NOW, failing)?;
+        assert_eq!(rt; ran.status, status, "{store} {out} {err}");
+        let want = if out_whole { whole.out.bytes() } else { b"" };
+        assert_eq!(rt; ran.out.bytes(), want, "{store} {out} {err}");
+        assert_eq!(rt; ran.err.bytes(), line.as_bytes(), "{store} {out} {err}");
+    }
+    let refused = run_over(alloc, "repquota", b"", NOW, Failing { err: 1, ..NONE })?;
+    assert_eq!(rt; refused.status, 2);
+    assert_eq!(rt; refused.err.bytes(), b"".as_slice());
+    Ok(())
+}
