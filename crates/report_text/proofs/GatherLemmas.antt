@@ -1,5 +1,5 @@
 -- Texts that are put one after another.
-use Rattle.std.proofs.Common.{◌≡◌, ℕ, Bool, List, [], ◌++◌, IsTrue, refl, sym, ap, subst, ◌∙◌, append_assoc, append-nil}
+use Rattle.std.proofs.Common.{◌≡◌, ℕ, Bool, List, [], ◌++◌, IsTrue, sym, ap, subst, ◌∙◌, append_assoc, append-nil}
 use Rattle.quota_blocks.specs.Text.{AppendsPrefix, IsGathered}
 use Rattle.quota_blocks.proofs.TextLemmas.{appends_more, appends_at_flush}
 use Rattle.report_text.specs.Gather.{Gathers, WritesPrefix}

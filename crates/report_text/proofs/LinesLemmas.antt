@@ -1,16 +1,15 @@
 -- The lines of identifiers that are put one after another.
-use Rattle.std.proofs.Common.{◌≡◌, ℕ, ◌-◌, ◌^◌, ◌<◌, Bool, true, false, if◌then◌else◌, List, [], ◌∷◌, ◌++◌, Option, Some, None, refl, sym, ap, subst, ◌∙◌, arith, append_assoc, append-nil}
+use Rattle.std.proofs.Common.{◌≡◌, ℕ, ◌-◌, ◌^◌, ◌<◌, Bool, List, [], ◌∷◌, ◌++◌, Option, Some, None, refl, sym, ap, subst, ◌∙◌, arith, append_assoc, append-nil}
 use Rattle.std.specs.FinMap.{entries}
 use Rattle.quota_types.specs.declared.file_kind.Kind.{Kind}
 use Rattle.quota_types.specs.declared.record.Rec.{Rec}
 use Rattle.quota_types.specs.declared.record.Grace.{Grace}
 use Rattle.quota_types.specs.declared.record.Entry.{Entry}
 use Rattle.quota_blocks.specs.QuotaValue.{QuotaValue, Records, IsAfter, IsNextAfter}
-use Rattle.quota_blocks.specs.Text.{AppendsPrefix, IsGathered}
 use Rattle.quota_blocks.proofs.EntriesLemmas.{entries_after, entries_after-all, entries_after-next, entries_after-end}
 use Rattle.report_text.specs.declared.options.Options.{Options}
 use Rattle.report_text.specs.Gather.{Gathers, WritesPrefix}
-use Rattle.report_text.specs.Report.{report_of, head_of, lines_of, shown_line, is_shown, entry_line}
+use Rattle.report_text.specs.Report.{report_of, head_of, lines_of, shown_line}
 use Rattle.report_text.proofs.GatherLemmas.{gathers_none, gathers_then, writes_more, writes_then, writes_gathered}
 
 -- how many identifiers there may be after one

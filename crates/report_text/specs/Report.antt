@@ -8,7 +8,7 @@ use Rattle.quota_types.specs.declared.file_kind.Kind.TheVariants.{User, Group}
 use Rattle.quota_types.specs.declared.record.Rec.{Rec}
 use Rattle.quota_types.specs.declared.record.Grace.{Grace}
 use Rattle.quota_types.specs.Rec.{kib_of}
-use Rattle.quota_blocks.specs.QuotaValue.{QuotaValue, Records}
+use Rattle.quota_blocks.specs.QuotaValue.{QuotaValue}
 use Rattle.report_text.specs.declared.options.Options.{Options}
 use Rattle.report_text.specs.declared.usage.Usage.{Usage}
 use Rattle.report_text.specs.Period.{period_of}

@@ -1,7 +1,7 @@
 ghost use Rattle.std.specs.Prelude.{◌≡◌, ◌+◌, ◌≤◌, ◌++◌, length, OnOk, OnErr};
 ghost use Rattle.quota_blocks.specs.Count.{Rose};
 ghost use Rattle.report_text.specs.Gather.{Gathers, WritesPrefix};
-ghost use Rattle.report_text.specs.Report.{left_in, name_of, no_names, columns_in, columns_of, entry_line, is_shown, shown_line};
+ghost use Rattle.report_text.specs.Report.{left_in, no_names, numbered, columns_in, columns_of, entry_line, is_shown, shown_line};
 
 use crate::Options;
 use crate::line::Line;
@@ -9,7 +9,7 @@ use crate::usage::Usage;
 use arrayvec::ArrayVec;
 use itoa::Buffer;
 use quota_blocks::{Sink, SinkFault, TextBuffer};
-use quota_types::{Entry, Rec};
+use quota_types::Entry;
 
 /// Puts the line of an identifier, where it is shown.
 pub(crate) fn put_entry<O: Sink>(
@@ -33,6 +33,7 @@ pub(crate) fn put_entry<O: Sink>(
     text.put(sink, entry_line(entry, now, options).as_slice())
 }
 
+/// Whether an identifier has a line: one that uses neither space nor inodes has it only where all are shown.
 fn is_shown(entry: &Entry, options: &Options) -> bool
     ensures { result ≡ is_shown options.now (entry.now.id, entry.now.rec) }
 {
@@ -40,14 +41,14 @@ fn is_shown(entry: &Entry, options: &Options) -> bool
 }
 
 /// The line of an identifier.
-#[tactic(auto, unfolding(crate::specs::Report::entry_line))]
+#[tactic(auto, using(crate::proofs::NameLemmas::unnamed), unfolding(crate::specs::Report::entry_line))]
 pub(crate) fn entry_line(entry: &Entry, now: u64, options: &Options) -> Line
     ensures { result ≡ entry_line no_names now options.now (entry.now.id, entry.now.rec) }
 {
     let blocks = Usage::of_blocks(&entry.rec);
     let inodes = Usage::of_inodes(&entry.rec);
     let mut line = Line::new();
-    push_name(&mut line, entry.id, options);
+    push_name(&mut line, entry.id);
     line.push_text(&[b' ', blocks.flag(), inodes.flag()]);
     push_columns(&mut line, 10, &blocks, now, options);
     push_columns(&mut line, 8, &inodes, now, options);
@@ -55,9 +56,10 @@ pub(crate) fn entry_line(entry: &Entry, now: u64, options: &Options) -> Line
     line
 }
 
-fn push_name(line: &mut Line, id: u32, options: &Options)
+/// Appends `#` and the identifier.
+fn push_name(line: &mut Line, id: u32)
     requires { length line.old ≤ 64 }
-    ensures text { line.new ≡ line.old ++ left_in 12 (name_of no_names options.now id) }
+    ensures text { line.new ≡ line.old ++ left_in 12 (numbered id) }
     ensures room { length line.new ≤ length line.old + 12 }
 {
     let mut name = ArrayVec::<u8, 12>::new();
@@ -68,6 +70,7 @@ fn push_name(line: &mut Line, id: u32, options: &Options)
     line.push_left(12, name.as_slice());
 }
 
+/// Appends the four columns on blocks, or on inodes.
 fn push_columns(line: &mut Line, width: usize, usage: &Usage, now: u64, options: &Options)
     requires narrow { width ≤ 20 }
     requires room { length line.old ≤ 200 }

@@ -1,4 +1,4 @@
-ghost use Rattle.std.specs.Prelude.{◌≡◌, ◌≤◌, ◌++◌, length, codes, OnOk, OnErr};
+ghost use Rattle.std.specs.Prelude.{◌≡◌, ◌≤◌, ◌++◌, length, OnOk, OnErr};
 ghost use Rattle.quota_blocks.specs.Count.{Rose};
 ghost use Rattle.report_text.specs.Gather.{Gathers, WritesPrefix};
 ghost use Rattle.report_text.specs.Report.{head_of, title_front, title_line, grace_line, heading_line, hyphen_line};
@@ -49,6 +49,7 @@ fn put_title<O: Sink>(
     text.put(sink, b"\n")
 }
 
+/// What stands in front of the title.
 #[tactic(auto, unfolding(crate::specs::Report::title_front))]
 fn title_front(kind: Kind) -> &'static [u8]
     ensures { result.now ≡ title_front kind }
@@ -69,6 +70,7 @@ fn lines_below(kind: Kind, grace: Grace) -> Line
     line
 }
 
+/// The second line.
 #[tactic(auto, unfolding(crate::specs::Report::grace_line))]
 fn grace_line(grace: Grace) -> Line
     ensures text { result ≡ grace_line grace }
@@ -86,6 +88,7 @@ fn grace_line(grace: Grace) -> Line
     line
 }
 
+/// The line above the columns.
 #[tactic(auto, unfolding(crate::specs::Report::heading_line))]
 fn heading_line(kind: Kind) -> &'static [u8]
     ensures text { result.now ≡ heading_line kind }
@@ -101,6 +104,7 @@ fn heading_line(kind: Kind) -> &'static [u8]
     }
 }
 
+/// Appends the line of hyphens.
 #[tactic(auto, unfolding(crate::specs::Report::hyphen_line))]
 fn push_hyphens(line: &mut Line)
     requires { length line.old ≤ 200 }

@@ -14,6 +14,7 @@ pub fn period_text(seconds: u64, text: &mut ArrayVec<u8, 32>)
     push_minutes(text, ((u128::from(seconds) + 30) / 60) as u64);
 }
 
+/// Appends the text of so many minutes.
 fn push_minutes(text: &mut ArrayVec<u8, 32>, minutes: u64)
     requires { text.old.items ≡ [] }
     ensures { text.new.items ≡ text_of_minutes minutes }
@@ -30,6 +31,7 @@ fn push_minutes(text: &mut ArrayVec<u8, 32>, minutes: u64)
     }
 }
 
+/// Appends a number in two digits.
 fn push_two_digits(text: &mut ArrayVec<u8, 32>, number: u64)
     requires small { number < 100 }
     requires room { length text.old.items + 2 ≤ 32 }
@@ -39,6 +41,7 @@ fn push_two_digits(text: &mut ArrayVec<u8, 32>, number: u64)
     text.push(b'0' + (number % 10) as u8);
 }
 
+/// Appends more.
 fn push(text: &mut ArrayVec<u8, 32>, more: &[u8])
     requires { length text.old.items + length more.now ≤ 32 }
     ensures { text.new.items ≡ text.old.items ++ more.now }

@@ -67,6 +67,7 @@ impl Usage {
         }
     }
 
+    /// What is left of the grace period.
     fn grace_left(&self, now: u64, text: &mut ArrayVec<u8, 32>)
         ensures { text.new.items ≡ grace_left now self.now }
     {
@@ -79,6 +80,7 @@ impl Usage {
         }
     }
 
+    /// When the grace period ends.
     fn grace_end(&self, text: &mut ArrayVec<u8, 32>)
         ensures { text.new.items ≡ grace_end self.now }
     {
@@ -91,12 +93,14 @@ impl Usage {
     }
 }
 
+/// Whether a limit is exceeded; 0 is none.
 fn is_exceeded(limit: u64, used: u64) -> bool
     ensures { result ≡ is_exceeded limit used }
 {
     limit != 0 && limit < used
 }
 
+/// Makes `text` another text, whatever it held before.
 fn replace(text: &mut ArrayVec<u8, 32>, by: &[u8])
     requires { length by.now ≤ 32 }
     ensures { text.new.items ≡ by.now }

@@ -1,4 +1,4 @@
-use Rattle.std.proofs.Common.{◌≤◌, ◌∙◌, refl, sym, subst, IsTrue, Some, None, Option, arith, rules}
+use Rattle.std.proofs.Common.{◌∙◌, refl, sym, subst, IsTrue, Option, arith}
 use Rattle.std.proofs.lemmas.Result.{err_from_is_err_and}
 use Rattle.quota_types.specs.declared.record.Entry.{Entry}
 use Rattle.quota_blocks.specs.QuotaValue.{IsNextAfter}

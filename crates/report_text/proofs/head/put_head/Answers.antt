@@ -1,4 +1,4 @@
-use Rattle.std.proofs.Common.{◌++◌, refl, append_assoc, arith}
+use Rattle.std.proofs.Common.{◌++◌, append_assoc, arith}
 use Rattle.std.proofs.lemmas.Result.{err_from_is_err_and, on_err_weaker, on_ok_weaker}
 use Rattle.report_text.specs.Report.{grace_line, heading_line, hyphen_line, head_of}
 use Rattle.report_text.proofs.GatherLemmas.{gathers_then, writes_more, writes_then}
