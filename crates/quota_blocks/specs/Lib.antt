@@ -5,6 +5,5 @@ pub mod QuotaFile
 pub mod QuotaValue
 pub mod Text
 pub mod World
-
 pub use Rattle.quota_types.specs.Range
 pub use Rattle.quota_types.specs.Rec

@@ -62,10 +62,10 @@ get-records_below : (file : List ℕ) (n q : ℕ) → q < n → get (records_bel
 unfolding records_below
 get-records_below file zero q h = absurd (omega arith)
 get-records_below file (suc n) q h = elim (below_cases n q h) [
-    | inl low ↦ get-with_record-other (flat_record file n) n (records_below file n) q (lower_key q n low) ∙ get-records_below file n q low
-    | inr same ↦ subst (λ (k : ℕ). get (with_record (flat_record file n) n (records_below file n)) k ≡ flat_record file k) (sym same)
-        (get-with_record-same (flat_record file n) n (records_below file n) (get-records_below-past file n n (omega arith)))
-  ]
+  | inl low ↦ get-with_record-other (flat_record file n) n (records_below file n) q (lower_key q n low) ∙ get-records_below file n q low
+  | inr same ↦ subst (λ (k : ℕ). get (with_record (flat_record file n) n (records_below file n)) k ≡ flat_record file k) (sym same)
+      (get-with_record-same (flat_record file n) n (records_below file n) (get-records_below-past file n n (omega arith)))
+]
 
 -- the value of a file of one kind
 pub flat_value : Kind → List ℕ → QuotaValue
@@ -83,7 +83,13 @@ flat_record-past file id h =
 -- a file of whole records stands for its value
 pub stands_for_value : (kind : Kind) (file : List ℕ) → length file % 40 ≡ 0 → FlatStandsFor file (flat_value kind file)
 unfolding flat_value
-stands_for_value kind file whole = record { whole = whole; format = refl; flags = refl; grace = refl; records = λ id. elim (cases_lt id (length file / 40)) [
+stands_for_value kind file whole = record {
+  whole = whole;
+  format = refl;
+  flags = refl;
+  grace = refl;
+  records = λ id. elim (cases_lt id (length file / 40)) [
     | inl low ↦ get-records_below file (length file / 40) id low
     | inr high ↦ get-records_below-past file (length file / 40) id high ∙ sym (flat_record-past file id high)
-  ] }
+  ];
+}

@@ -13,10 +13,13 @@ use Rattle.quota_v1.proofs.FlatLemmas.{flat_value, flat_value-kind, stands_for_v
 
 -- a file of whole records that is not too large is seen as its value
 pub value_seen : (named : Option (List ℕ)) (kind : Kind) (file : List ℕ) → named ≡ Some file → length file ≤ flat_limit → length file % 40 ≡ 0 → (value : QuotaValue) × IsFlatView named kind (Ok value)
-value_seen named kind file is few whole =
-    (flat_value kind file,
-      (subst (λ (n : Option (List ℕ)). IsSomeAnd n (λ (f : List ℕ). (length f ≤ flat_limit) × FlatStandsFor f (flat_value kind file))) (sym is) (few, stands_for_value kind file whole),
-      flat_value-kind kind file))
+value_seen named kind file is few whole = (
+  flat_value kind file,
+  (
+    subst (λ (n : Option (List ℕ)). IsSomeAnd n (λ (f : List ℕ). (length f ≤ flat_limit) × FlatStandsFor f (flat_value kind file))) (sym is) (few, stands_for_value kind file whole),
+    flat_value-kind kind file,
+  ),
+)
 
 seen_so : (named : Option (List ℕ)) (tells : Bool) (file : List ℕ) (fault : OpenFault) → (IsTrue tells → named ≡ Some file) → ((kind : Kind) → IsFlatView (Some file) kind (Err fault)) → IsTrue tells → (kind : Kind) → IsFlatView named kind (Err fault)
 seen_so named tells file fault is seen told kind = subst (λ (n : Option (List ℕ)). IsFlatView n kind (Err fault)) (sym (is told)) (seen kind)

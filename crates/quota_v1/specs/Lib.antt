@@ -1,7 +1,6 @@
 pub mod FlatFile
 pub mod Opened
 pub mod View
-
 pub use Rattle.quota_types.specs.Bytes
 pub use Rattle.quota_types.specs.Range
 pub use Rattle.quota_blocks.specs.Count
