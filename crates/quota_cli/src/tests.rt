@@ -33,6 +33,13 @@ struct Ran {
     err: MemSink,
 }
 
+impl Ran {
+    /// What went to the output from a place on.
+    fn out_from(&self, place: usize) -> &[u8] {
+        self.out.bytes().get(place..).unwrap_or(b"")
+    }
+}
+
 fn words_of(alloc: Global, line: &str) -> Result<Vec<String>, AllocError> {
     let mut words = Vec::new(alloc);
     for word in line.split(' ') {
@@ -64,33 +71,22 @@ fn run_over(
 
 const REPORT: &str = "repquota -F vfsold -u -v q";
 
-/// A record of a flat file: six numbers of 32 bits and two of 64.
-fn push_record(
-    bytes: &mut Vec<u8>,
-    numbers: &[u32; 6],
-    times: &[u64; 2],
-) -> Result<(), AllocError> {
-    for number in numbers {
-        bytes.extend_from_slice(&number.to_le_bytes())?;
-    }
-    for time in times {
-        bytes.extend_from_slice(&time.to_le_bytes())?;
+/// Appends a record of a flat file, from its numbers in their order on disk: hard limit, soft limit and use of blocks,
+/// the same of inodes, and the two times. The first six have 32 bits.
+fn push_record(bytes: &mut Vec<u8>, numbers: &str) -> Result<(), AllocError> {
+    for (place, word) in numbers.split(' ').enumerate() {
+        let number = word.parse::<u64>().unwrap_or(0).to_le_bytes();
+        let width = if place < 6 { 4 } else { 8 };
+        bytes.extend_from_slice(&number[..width])?;
     }
     Ok(())
 }
 
-/// A flat file whose last record is the given one, with its identifier.
-fn file_with(
-    alloc: Global,
-    id: usize,
-    numbers: &[u32; 6],
-    times: &[u64; 2],
-) -> Result<Vec<u8>, AllocError>
-    requires { id < 2000 }
-{
-    let mut bytes = vec![in alloc; 0u8; 40 * id]?;
-    push_record(&mut bytes, numbers, times)?;
-    Ok(bytes)
+/// The report of a flat file with so many bytes 0 before its last record.
+fn report_on(alloc: Global, zeros: usize, numbers: &str, now: u64) -> Result<Ran, AllocError> {
+    let mut bytes = vec![in alloc; 0u8; zeros]?;
+    push_record(&mut bytes, numbers)?;
+    run_over(alloc, REPORT, &bytes, now, NONE)
 }
 
 #[test]
@@ -141,89 +137,66 @@ fn records_have_their_lines(rt: HostRuntime) -> Result<(), Fail> {
     let alloc = rt.alloc();
     let ahead = 1_700_604_800;
     // hard and soft limit and use of blocks, then of inodes; the two timers; the moment; the line
-    for (numbers, times, now, line) in [
+    for (numbers, now, line) in [
         (
-            [200, 100, 0, 20, 10, 0],
-            [0, 0],
+            "200 100 0 20 10 0 0 0",
             NOW,
             "#1000        --          0        100        200      -        0       10       20      -\n",
         ),
         // over the soft limit, with a timer ahead, just not 2 days ahead, reached, behind and not running
         (
-            [8, 2, 4, 0, 0, 1],
-            [ahead, 0],
+            "8 2 4 0 0 1 1700604800 0",
             NOW,
             "#1000        +-          4          2          8  7days        1        0        0      -\n",
         ),
         (
-            [8, 2, 4, 0, 0, 1],
-            [ahead, 0],
+            "8 2 4 0 0 1 1700604800 0",
             1_700_432_001,
             "#1000        +-          4          2          8  2days        1        0        0      -\n",
         ),
         (
-            [8, 2, 4, 0, 0, 1],
-            [ahead, 0],
+            "8 2 4 0 0 1 1700604800 0",
             1_700_432_031,
             "#1000        +-          4          2          8  47:59        1        0        0      -\n",
         ),
         (
-            [8, 2, 4, 0, 0, 1],
-            [ahead, 0],
+            "8 2 4 0 0 1 1700604800 0",
             ahead,
             "#1000        +-          4          2          8   none        1        0        0      -\n",
         ),
         (
-            [8, 2, 4, 0, 0, 1],
-            [0, 0],
+            "8 2 4 0 0 1 0 0",
             NOW,
             "#1000        +-          4          2          8   none        1        0        0      -\n",
         ),
         // over the hard limit alone, of blocks and of inodes
         (
-            [3, 0, 4, 5, 0, 6],
-            [0, 0],
+            "3 0 4 5 0 6 0 0",
             NOW,
             "#1000        ++          4          0          3      -        6        0        5      -\n",
         ),
         // at the soft limit
         (
-            [0, 4, 4, 0, 6, 6],
-            [ahead, ahead],
+            "0 4 4 0 6 6 1700604800 1700604800",
             NOW,
             "#1000        --          4          4          0      -        6        6        0      -\n",
         ),
         // inodes over the soft limit, an hour and a half ahead
         (
-            [0, 0, 0, 0, 6, 7],
-            [0, 1_700_005_400],
+            "0 0 0 0 6 7 0 1700005400",
             NOW,
             "#1000        -+          0          0          0      -        7        6        0  01:30\n",
         ),
         // columns that widen
         (
-            [
-                4_294_967_295,
-                4_294_967_295,
-                4_294_967_295,
-                4_294_967_295,
-                1,
-                4_294_967_295,
-            ],
-            [0, u64::MAX],
+            "4294967295 4294967295 4294967295 4294967295 1 4294967295 0 18446744073709551615",
             NOW,
             "#1000        -+ 4294967295 4294967295 4294967295      - 4294967295        1 4294967295 213503982314925days\n",
         ),
     ] {
-        let bytes = file_with(alloc, 1000, &numbers, &times)?;
-        let ran = run_over(alloc, REPORT, &bytes, now, NONE)?;
+        let ran = report_on(alloc, 40_000, numbers, now)?;
         assert_eq!(rt; ran.status, 0);
-        assert_eq!(rt; ran.out.bytes().get(..HEAD.len()), Some(HEAD.as_bytes()));
-        assert_eq!(rt;
-            ran.out.bytes().get(HEAD.len()..),
-            Some(line.as_bytes()),
-            "{line}"
-        );
+        assert_eq!(rt; ran.out_from(HEAD.len()), line.as_bytes(), "{line}");
     }
     Ok(())
 }
@@ -231,11 +204,10 @@ fn records_have_their_lines(rt: HostRuntime) -> Result<(), Fail> {
 #[test]
 fn record_0_has_the_grace_periods_and_no_timers(rt: HostRuntime) -> Result<(), Fail> {
     let alloc = rt.alloc();
-    for (numbers, times, want) in [
+    for (numbers, want) in [
         // used blocks over the soft limit: the times are no timers of identifier 0
         (
-            [8, 2, 4, 0, 0, 1],
-            [3600, 172_799],
+            "8 2 4 0 0 1 3600 172799",
             "Block grace time: 01:00; Inode grace time: 2days
 User                  used       soft       hard  grace    files     soft     hard  grace
 -----------------------------------------------------------------------------------------
@@ -244,18 +216,16 @@ User                  used       soft       hard  grace    files     soft     ha
         ),
         // times alone make no record; a period of 0 is 7 days
         (
-            [0, 0, 0, 0, 0, 0],
-            [0, u64::MAX],
+            "0 0 0 0 0 0 0 18446744073709551615",
             "Block grace time: 7days; Inode grace time: 213503982334601days
 User                  used       soft       hard  grace    files     soft     hard  grace
 -----------------------------------------------------------------------------------------
 ",
         ),
     ] {
-        let bytes = file_with(alloc, 0, &numbers, &times)?;
-        let ran = run_over(alloc, REPORT, &bytes, NOW, NONE)?;
+        let ran = report_on(alloc, 0, numbers, NOW)?;
         assert_eq!(rt; ran.status, 0);
-        assert_eq!(rt; ran.out.bytes().get(32..), Some(want.as_bytes()));
+        assert_eq!(rt; ran.out_from(32), want.as_bytes());
     }
     Ok(())
 }
@@ -265,10 +235,11 @@ fn each_failing_call_stops_the_report(rt: HostRuntime) -> Result<(), Fail> {
     let alloc = rt.alloc();
     let mut bytes = Vec::new(alloc);
     for _ in 0..3 {
-        push_record(&mut bytes, &[2, 1, 1, 2, 1, 1], &[0, 0])?;
+        push_record(&mut bytes, "2 1 1 2 1 1 0 0")?;
     }
     let whole = run_over(alloc, REPORT, &bytes, NOW, NONE)?;
     assert_eq!(rt; whole.status, 0);
+    let whole_len = whole.out.bytes().len();
     for (store, out, err, status, out_whole, line) in [
         (1, 0, 0, 4, false, "quota: store fault\n"),
         (2, 0, 0, 4, false, "quota: store fault\n"),
@@ -282,8 +253,8 @@ fn each_failing_call_stops_the_report(rt: HostRuntime) -> Result<(), Fail> {
         let failing = Failing { store, out, err };
         let ran = run_over(alloc, REPORT, &bytes, NOW, failing)?;
         assert_eq!(rt; ran.status, status, "{store} {out} {err}");
-        let want = if out_whole { whole.out.bytes() } else { b"" };
-        assert_eq!(rt; ran.out.bytes(), want, "{store} {out} {err}");
+        let want = if out_whole { whole_len } else { 0 };
+        assert_eq!(rt; ran.out.bytes().len(), want, "{store} {out} {err}");
         assert_eq!(rt; ran.err.bytes(), line.as_bytes(), "{store} {out} {err}");
     }
     let refused = run_over(alloc, "repquota", b"", NOW, Failing { err: 1, ..NONE })?;
