@@ -1,11 +1,11 @@
 -- Texts that are put piece by piece.
-use Rattle.std.proofs.Common.{◌≡◌, ℕ, ◌+◌, ◌<◌, ◌≤◌, List, [], ◌∷◌, ◌++◌, length, get_or, take, drop, refl, sym, ap, subst, ◌∙◌, arith, append_assoc}
+use Rattle.std.proofs.Common.{◌≡◌, ℕ, ◌+◌, ◌<◌, ◌≤◌, List, [], ◌∷◌, ◌++◌, length, get_or, take, drop, sym, ap, subst, ◌∙◌, append_assoc}
 use Rattle.std.proofs.lemmas.List.{take_more, take-append-drop, append-nil, take_all}
 use Rattle.std.proofs.lemmas.List.Concat.{flat_map-append}
 use Rattle.std.specs.Borrow.{Bor}
 use Rattle.std.specs.List.{flat_map}
 use Rattle.quota_blocks.specs.Text.{AppendsPrefix, IsGathered}
-use Rattle.quota_blocks.proofs.TextLemmas.{appends_more, appends_gathered}
+use Rattle.quota_blocks.proofs.TextLemmas.{appends_more}
 
 -- the pieces, joined
 abbrev pub joined : List (Bor (List ℕ)) → List ℕ

@@ -1,5 +1,5 @@
 -- From what a command did to the effect of the words.
-use Rattle.std.proofs.Common.{◌≡◌, ℕ, Bool, IsTrue, List, [], ◌∷◌, ◌++◌, Option, Some, Ok, Err, Result, ◌⊎◌, inl, inr, refl, sym, ap, subst, ◌∙◌, arith}
+use Rattle.std.proofs.Common.{◌≡◌, ℕ, Bool, IsTrue, List, [], ◌∷◌, ◌++◌, Some, Ok, Err, Result, ◌⊎◌, inl, inr, refl, sym, ap, subst, ◌∙◌}
 use Rattle.std.proofs.lemmas.List.{append-nil}
 use Rattle.std.specs.Prelude.{IsErr, ◌↔◌}
 use Rattle.quota_types.specs.declared.file_kind.Kind.TheVariants.{User}
@@ -12,12 +12,12 @@ use Rattle.report_text.specs.Report.{report_of, no_names}
 use Rattle.quota_cli.specs.declared.refusal.Cause.{Cause}
 use Rattle.quota_cli.specs.declared.refusal.Cause.TheVariants.{StoreFault, SinkFault, Memory}
 use Rattle.quota_cli.specs.Refusal.{error_line, status_of}
-use Rattle.quota_cli.specs.Request.{Request, Report, request_of, verbose, unknown_command}
+use Rattle.quota_cli.specs.Request.{Request, Report, request_of, verbose}
 use Rattle.quota_cli.specs.Act.{Act, ToOut, ToErr, IsView, out_bytes, err_bytes, Follows}
-use Rattle.quota_cli.specs.Effect.{Setting, Effect, RequestEffect, ReportOfView, opening_cause}
+use Rattle.quota_cli.specs.Effect.{Setting, Effect, RequestEffect, ReportOfView}
 use Rattle.quota_cli.specs.ReportCommand.{IsRefusedView, report_of_view}
 use Rattle.quota_cli.specs.Run.{HasEffect, HasEffectUpToErr, HasOutEffect, HasReason, IsEffectOf, IsStopped, AppendsUnless}
-use Rattle.quota_cli.proofs.ReasonLemmas.{ReasonCase, ByStore, ByOut, ByMemory, ByEffect, reason_case}
+use Rattle.quota_cli.proofs.ReasonLemmas.{ByStore, ByOut, ByMemory, ByEffect, reason_case}
 
 -- bytes with nothing behind them
 nothing_behind : (old new bytes : List ℕ) → new ≡ old ++ bytes → new ≡ old ++ (bytes ++ [])

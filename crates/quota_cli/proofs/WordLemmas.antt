@@ -1,5 +1,5 @@
 -- What lists of words ask for.
-use Rattle.std.proofs.Common.{◌≡◌, ℕ, List, [], ◌∷◌, length, Err, String, refl}
+use Rattle.std.proofs.Common.{◌≡◌, List, [], ◌∷◌, length, Err, String, refl}
 use Rattle.std.specs.declared.alloc.Global.{Global}
 use Rattle.quota_cli.specs.Effect.{texts_of}
 use Rattle.quota_cli.specs.Request.{request_of, unknown_command}

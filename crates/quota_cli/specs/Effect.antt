@@ -1,6 +1,6 @@
 -- The effect of a command: its acts and its status, as a relation, since which damage of a file is named is a choice.
 -- The steps of a command come in order, and the first one that is refused ends it with its error line and its status.
-use Rattle.std.specs.Prelude.{◌≡◌, ℕ, List, [], ◌∷◌, map, Option, Some, Result, Ok, Err, String}
+use Rattle.std.specs.Prelude.{◌≡◌, ℕ, List, [], ◌∷◌, map, Option, Result, Ok, Err, String}
 use Rattle.std.specs.String.{string_bytes}
 use Rattle.std.specs.declared.alloc.Global.{Global}
 use Rattle.quota_types.specs.declared.file_kind.Kind.{Kind}

@@ -3,7 +3,7 @@ use Rattle.std.specs.Prelude.{◌≡◌, ℕ, Bool, IsTrue, List, [], ◌∷◌,
 use Rattle.quota_blocks.specs.World.{World}
 use Rattle.quota_blocks.specs.Text.{AppendsPrefix}
 use Rattle.quota_cli.specs.declared.refusal.Cause.{Cause}
-use Rattle.quota_cli.specs.declared.refusal.Cause.TheVariants.{StoreFault, SinkFault, Memory, NoFile, TooLarge, NotQuota, WrongKind, UnknownVersion, BadBlockCount, OtherFormat, Damaged, Full, Usage}
+use Rattle.quota_cli.specs.declared.refusal.Cause.TheVariants.{StoreFault, SinkFault, Memory}
 use Rattle.quota_cli.specs.Refusal.{error_line, status_of}
 use Rattle.quota_cli.specs.Act.{Act, ToErr, out_bytes, err_bytes, Follows}
 use Rattle.quota_cli.specs.Effect.{Setting, Effect}

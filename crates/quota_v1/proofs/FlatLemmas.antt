@@ -9,7 +9,7 @@ use Rattle.quota_types.specs.declared.file_kind.Kind.{Kind}
 use Rattle.quota_types.specs.declared.file_kind.Format.TheVariants.{V1}
 use Rattle.quota_types.specs.declared.record.Rec.{Rec}
 use Rattle.quota_types.specs.declared.record.Entry.{Entry}
-use Rattle.quota_blocks.specs.QuotaValue.{QuotaValue, Records, IsAfter, IsNextAfter}
+use Rattle.quota_blocks.specs.QuotaValue.{QuotaValue, Records, IsNextAfter}
 use Rattle.quota_v1.specs.FlatFile.{flat_record, flat_grace, FlatStandsFor, IsNextRecord, timed_record, unless_zeros}
 
 -- the next record of the file is the next one of the value

@@ -1,5 +1,5 @@
 -- What is seen of a flat file while it is opened.
-use Rattle.std.proofs.Common.{◌≡◌, ℕ, ◌%◌, ◌≤◌, Bool, IsTrue, List, length, Option, Some, None, Ok, Err, refl, sym, ap, subst, arith}
+use Rattle.std.proofs.Common.{◌≡◌, ℕ, ◌%◌, ◌≤◌, Bool, IsTrue, List, length, Option, Some, None, Ok, Err, sym, subst, arith}
 use Rattle.std.specs.Option.{IsSomeAnd}
 use Rattle.std.proofs.lemmas.Option.{none-some}
 use Rattle.quota_types.specs.declared.file_kind.Kind.{Kind}

@@ -1,18 +1,13 @@
 -- What a flat quota file stands for. Source: the table of vfsold, `struct v1_disk_dqblk` of the quota tools, as they
 -- write it on 64-bit x86.
-use Rattle.std.specs.Prelude.{◌≡◌, ℕ, ◌+◌, ◌*◌, ◌/◌, ◌%◌, ◌<◌, ◌≤◌, Bool, ◌&&◌, ◌==◌, nat_le, if◌then◌else◌, List, length, Option, Some, None, Result, Ok, Err, IsSomeAnd}
+use Rattle.std.specs.Prelude.{◌≡◌, ℕ, ◌+◌, ◌*◌, ◌%◌, ◌<◌, Bool, ◌&&◌, ◌==◌, nat_le, if◌then◌else◌, List, length, Option, Some, None}
 use Rattle.std.specs.FinMap.{get}
-use Rattle.quota_types.specs.declared.file_kind.Kind.{Kind}
 use Rattle.quota_types.specs.declared.file_kind.Format.TheVariants.{V1}
 use Rattle.quota_types.specs.declared.record.Rec.{Rec}
 use Rattle.quota_types.specs.declared.record.Grace.{Grace}
 use Rattle.quota_types.specs.declared.record.Entry.{Entry}
-use Rattle.quota_types.specs.declared.damage.Damage.{Damage}
-use Rattle.quota_types.specs.declared.damage.DamageKind.TheVariants.{PartialRecord}
 use Rattle.quota_types.specs.Bytes.{number_at}
 use Rattle.quota_blocks.specs.QuotaValue.{QuotaValue, IsAfter}
-use Rattle.quota_blocks.specs.declared.quota_file.OpenFault.{OpenFault}
-use Rattle.quota_blocks.specs.declared.quota_file.OpenFault.TheVariants.{Store, NoFile, TooLarge, Memory, NotQuota, WrongKind, UnknownVersion, BadBlockCount, FormatMismatch, Damage as Damaged}
 
 -- the 40 bytes of an identifier, as a record; the space is in KiB on disk
 abbrev pub stored_record : List ℕ → ℕ → Rec

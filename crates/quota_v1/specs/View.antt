@@ -6,7 +6,7 @@ use Rattle.quota_types.specs.declared.damage.DamageKind.TheVariants.{PartialReco
 use Rattle.quota_blocks.specs.Count.{Rose}
 use Rattle.quota_blocks.specs.QuotaValue.{QuotaValue}
 use Rattle.quota_blocks.specs.declared.quota_file.OpenFault.{OpenFault}
-use Rattle.quota_blocks.specs.declared.quota_file.OpenFault.TheVariants.{Store, NoFile, TooLarge, Memory, NotQuota, WrongKind, UnknownVersion, BadBlockCount, FormatMismatch, Damage as Damaged}
+use Rattle.quota_blocks.specs.declared.quota_file.OpenFault.TheVariants.{Store, NoFile, TooLarge, Memory, Damage as Damaged}
 use Rattle.quota_v1.specs.FlatFile.{FlatStandsFor}
 
 -- how many bytes a flat file may have: 40 for each identifier below 1,048,576

@@ -1,7 +1,7 @@
-use Rattle.std.proofs.Common.{List, ℕ, take, sym, subst, ap, ◌∙◌, ◌++◌, ◌≡◌, IsTrue, arith}
+use Rattle.std.proofs.Common.{List, ℕ, sym, subst, ◌∙◌, IsTrue, arith}
 use Rattle.std.proofs.lemmas.Result.{err_from_is_err_and, on_ok_weaker}
 use Rattle.quota_blocks.specs.Text.{IsGathered}
-use Rattle.quota_cli.proofs.PieceLemmas.{joined, joined_more, joined_all, appends_pieces, gathered_flushed}
+use Rattle.quota_cli.proofs.PieceLemmas.{joined_more, joined_all, appends_pieces, gathered_flushed}
 use Rattle.quota_cli.proofs.error_line.write_pieces.Goals as goal
 
 pub returns-in_err-put-clause-fault : goal.returns-in_err-put-clause-fault

@@ -1,5 +1,3 @@
-use Rattle.quota_cli.specs.declared.refusal.Cause.{Cause}
-use Rattle.quota_cli.specs.Run.{HasReason}
 use Rattle.quota_cli.proofs.PieceLemmas.{appends_whole}
 use Rattle.quota_cli.proofs.ReasonLemmas.{report_reason}
 use Rattle.quota_cli.proofs.report_command.write_report.Goals as goal

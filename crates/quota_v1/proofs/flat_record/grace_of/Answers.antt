@@ -1,5 +1,4 @@
-use Rattle.std.proofs.Common.{◌≡◌, ◌≤◌, length, arith, rules}
-use Rattle.quota_types.specs.Bytes.{number_at}
+use Rattle.std.proofs.Common.{◌≤◌, length, arith}
 use Rattle.quota_v1.proofs.NumberLemmas.{number_at-past}
 use Rattle.quota_v1.proofs.flat_record.grace_of.Goals as goal
 
