@@ -1,7 +1,11 @@
 use crate::entries::entry_line;
-use crate::{Options, period_text};
+use crate::one_entry::OneEntry;
+use crate::{Options, period_text, report};
 use arrayvec::ArrayVec;
-use quota_types::{Entry, Rec};
+use quota_blocks::{MemSink, MemStore};
+use quota_types::{Entry, Kind, Rec};
+use std::alloc::{AllocError, Global};
+use std::test::Fail;
 
 const NONE: Rec = Rec {
     ihard: 0,
@@ -99,4 +103,97 @@ fn a_soft_limit_of_blocks_that_is_exceeded(rt: HostRuntime) {
         let line = entry_line(&Entry { id: 1000, rec }, now, &options);
         assert_eq!(rt; line.as_slice(), wanted.as_bytes(), "{now}");
     }
+}
+
+/// The line of the one entry of a file of groups, after the head of its report.
+fn line_of(
+    alloc: Global,
+    space: u64,
+    verbose: bool,
+    numeric: bool,
+    raw: bool,
+) -> Result<MemSink, AllocError> {
+    let rec = Rec {
+        space,
+        bsoft: 1,
+        isoft: 5,
+        ihard: 6,
+        inodes: 6,
+        btime: 1_700_000_090,
+        itime: 1_699_999_999,
+        ..NONE
+    };
+    let mut file = OneEntry {
+        entry: Entry { id: u32::MAX, rec },
+    };
+    let mut store = MemStore::new(Vec::new(alloc), Vec::new(alloc));
+    let mut sink = MemSink::new(Vec::new(alloc), Vec::new(alloc));
+    let options = Options {
+        verbose,
+        numeric,
+        raw,
+    };
+    let done = report(
+        &mut file,
+        &mut store,
+        Kind::Group,
+        "g",
+        1_700_000_000,
+        &options,
+        &mut sink,
+    );
+    match done {
+        Ok(()) => Ok(sink),
+        Err(_) => Err(AllocError),
+    }
+}
+
+#[test]
+fn options_and_the_least_and_greatest_space(rt: HostRuntime) -> Result<(), Fail> {
+    let alloc = rt.alloc();
+    let head = "*** Report for group quotas on g
+Block grace time: 213503982334601days; Inode grace time: 00:01
+Group                 used       soft       hard  grace    files     soft     hard  grace
+-----------------------------------------------------------------------------------------
+";
+    for (space, verbose, numeric, raw, line) in [
+        (
+            1,
+            false,
+            false,
+            false,
+            "#4294967295  -+          1          1          0      -        6        5        6   none\n",
+        ),
+        (
+            1,
+            true,
+            true,
+            true,
+            "#4294967295  -+          1          1          0      0        6        5        6 1699999999\n",
+        ),
+        (
+            u64::MAX,
+            false,
+            true,
+            false,
+            "#4294967295  ++ 18014398509481984          1          0  00:02        6        5        6   none\n",
+        ),
+        (
+            u64::MAX,
+            false,
+            false,
+            true,
+            "#4294967295  ++ 18014398509481984          1          0 1700000090        6        5        6 1699999999\n",
+        ),
+    ] {
+        let sink = line_of(alloc, space, verbose, numeric, raw)?;
+        let text = sink.bytes();
+        assert_eq!(rt; text.get(..head.len()).unwrap_or(b""), head.as_bytes());
+        assert_eq!(rt;
+            text.get(head.len()..).unwrap_or(b""),
+            line.as_bytes(),
+            "{line}"
+        );
+    }
+    Ok(())
 }
