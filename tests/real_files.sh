@@ -1,0 +1,84 @@
+#!/usr/bin/env bash
+# Runs the built program over real files and streams. Ends with 1 where an answer is not the one that is wanted.
+set -u
+top=$(cd "$(dirname "${BASH_SOURCE[0]}")/.." && pwd) || exit 1
+run=$top/bin/quota_cli
+folder=$(mktemp -d) || exit 1
+trap 'rm -rf "$folder"' EXIT
+cd "$folder" || exit 1
+passed=0
+failed=0
+
+# expect WHAT STATUS OUT ERR WORD..: runs the words, and compares the status and what was written.
+expect() {
+    local what=$1 status=$2 out=$3 err=$4
+    shift 4
+    "$run" "$@" >out.txt 2>err.txt
+    local got=$?
+    if [ "$got" = "$status" ] && [ "$(cat out.txt)" = "$out" ] && [ "$(cat err.txt)" = "$err" ]; then
+        passed=$((passed + 1))
+    else
+        failed=$((failed + 1))
+        echo "FAILED: $what: status $got, wanted $status" >&2
+        diff <(printf '%s\n' "$out") out.txt >&2
+        diff <(printf '%s\n' "$err") err.txt >&2
+    fi
+}
+
+# same WHAT GOT WANTED: compares two texts.
+same() {
+    if [ "$2" = "$3" ]; then
+        passed=$((passed + 1))
+    else
+        failed=$((failed + 1))
+        echo "FAILED: $1: got «$2», wanted «$3»" >&2
+    fi
+}
+
+"$run" repquota -u >/dev/null 2>&1 # builds it, where it is stale
+
+head='*** Report for user quotas on q
+Block grace time: 7days; Inode grace time: 7days
+User                  used       soft       hard  grace    files     soft     hard  grace
+-----------------------------------------------------------------------------------------'
+usage='quota: usage: UnknownCommand at word 0'
+
+: >q
+expect 'an empty file' 0 "$head" '' repquota -F vfsold -u -v q
+head -c 79 /dev/zero >q
+expect 'a cut record' 3 '' 'quota: q: damaged: PartialRecord at record 1' repquota -F vfsold -u -v q
+truncate -s 41943041 q
+expect 'a file that is too large' 1 '' 'quota: q: too large' repquota -F vfsold -u -v q
+rm q
+expect 'an absent file' 1 '' 'quota: q: no such file' repquota -F vfsold -u -v q
+mkdir q
+expect 'a folder in place of a file' 4 '' 'quota: store fault' repquota -F vfsold -u -v q
+rmdir q
+expect 'other words' 2 '' "$usage" repquota -u q
+expect 'no words' 2 '' "$usage"
+expect 'a word that is no text' 2 '' "$usage" repquota -F vfsold -u -v $'q\xff'
+
+# The days that are left of a running grace period depend on the day.
+cp "$top/samples/quota.user" quota.user
+"$run" repquota -F vfsold -u -v quota.user | sed -E 's/ [0-9]{5}days/ SOMEdays/g' >out.txt
+same 'the sample' "$(cat out.txt)" '*** Report for user quotas on quota.user
+Block grace time: 7days; Inode grace time: 3days
+User                  used       soft       hard  grace    files     soft     hard  grace
+-----------------------------------------------------------------------------------------
+#0           --       1284          0          0      -       97        0        0      -
+#1000        --    3145728    4194304    5242880      -    84213   150000   200000      -
+#1001        +-    1310720    1048576    2097152 SOMEdays    12904    40000    50000      -
+#1002        +-    1835008    1048576    2097152   none    39999    40000    50000      -
+#1003        ++     300144     262144     524288   none     4711     4000     5000 SOMEdays
+#1004        --    7340032          0          0      -   310552        0        0      -
+#1005        --          0     524288    1048576      -        0     8000    10000      -'
+
+: >q
+"$run" repquota -F vfsold -u -v q >/dev/full 2>err.txt
+same 'the status of a full output' "$?" 4
+same 'the line of a full output' "$(cat err.txt)" 'quota: output fault'
+"$run" repquota -F vfsold -u -v absent 2>/dev/full
+same 'the status stays where the error output is full' "$?" 1
+
+echo "real_files: $passed passed, $failed failed"
+[ "$failed" = 0 ]
