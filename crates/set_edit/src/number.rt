@@ -1,0 +1,80 @@
+ghost use Rattle.std.specs.Prelude.{◌≡◌, ◌∷◌, [], Some};
+ghost use Rattle.set_edit.specs.Number.{factor_of, limit_of, number_of, product_of};
+
+/// How many digits a number has at most.
+const MAX_DIGITS: usize = 20;
+
+/// Reads a number of 1 to 20 decimal digits with a value below 2^64. Zeros may stand in front.
+pub fn read_number(word: &str) -> Option<u64>
+    ensures { result ≡ number_of word.now }
+{
+    number_from(word.as_bytes())
+}
+
+/// Reads a limit: a number, and behind it nothing or one suffix, with a product below 2^64.
+///
+/// For blocks `K`, `M`, `G` and `T` stand for 1, 1,024, 1,024^2 and 1,024^3 KiB. For inodes `k`, `m`, `g` and `t` stand
+/// for 10^3, 10^6, 10^9 and 10^12.
+pub fn read_limit(word: &str, blocks: bool) -> Option<u64>
+    ensures { result ≡ limit_of blocks word.now }
+{
+    limit_from(word.as_bytes(), blocks)
+}
+
+#[tactic(auto, unfolding(crate::specs::Number::number_of))]
+/// The number that bytes spell.
+fn number_from(digits: &[u8]) -> Option<u64>
+    ensures { result ≡ number_of digits.now }
+{
+    if digits.is_empty() || digits.len() > MAX_DIGITS {
+        return None;
+    }
+    let mut number: u64 = 0;
+    for digit in digits {
+        if !digit.is_ascii_digit() {
+            return None;
+        }
+        let unit = u64::from(*digit - b'0');
+        number = number.checked_mul(10)?.checked_add(unit)?;
+    }
+    Some(number)
+}
+
+/// The limit that bytes spell.
+fn limit_from(word: &[u8], blocks: bool) -> Option<u64>
+    ensures { result ≡ limit_of blocks word.now }
+{
+    let (digits, factor) = split_suffix(word, blocks);
+    number_from(digits)?.checked_mul(factor)
+}
+
+#[tactic(auto, unfolding(crate::specs::Number::limit_of, crate::specs::Number::number_of))]
+/// What stands before the suffix of a limit, and the suffix's factor: all of the word and 1 where there is none.
+fn split_suffix(word: &[u8], blocks: bool) -> (&[u8], u64)
+    ensures { limit_of blocks word.now ≡ product_of (number_of result.0.now) (Some result.1) }
+{
+    let Some((suffix, digits)) = word.split_last() else {
+        return (word, 1);
+    };
+    match suffix_factor(*suffix, blocks) {
+        Some(factor) => (digits, factor),
+        None => (word, 1),
+    }
+}
+
+/// How many KiB or inodes a suffix stands for, where it is one.
+fn suffix_factor(suffix: u8, blocks: bool) -> Option<u64>
+    ensures { result ≡ factor_of blocks (suffix ∷ []) }
+{
+    match (blocks, suffix) {
+        (true, b'K') => Some(1),
+        (true, b'M') => Some(1 << 10),
+        (true, b'G') => Some(1 << 20),
+        (true, b'T') => Some(1 << 30),
+        (false, b'k') => Some(1_000),
+        (false, b'm') => Some(1_000_000),
+        (false, b'g') => Some(1_000_000_000),
+        (false, b't') => Some(1_000_000_000_000),
+        _ => None,
+    }
+}
