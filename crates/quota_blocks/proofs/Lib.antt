@@ -1,2 +1,4 @@
 pub mod TextLemmas
 pub mod LoadLemmas
+pub mod NamedFilesLemmas
+pub mod OverwriteLemmas

@@ -11,6 +11,7 @@
 mod failures;
 mod mem_sink;
 mod mem_store;
+mod named_files;
 mod quota_file;
 mod sink;
 mod store;
