@@ -33,8 +33,8 @@ bytes_eq-ne one other differ = false_from_ne_true _ (λ e. differ (bytes_eq-true
 with_file-same : (files : World) (name : List ℕ) (file : Option (List ℕ)) → files name ≡ file → with_file files name file ≡ files
 with_file-same files name file is = same_world _ _ (λ other.
     elim (cases_Bool (bytes_eq name other)) [
-      inl e ↦ cond-true _ _ _ e ∙ sym is ∙ ap (λ (n : List ℕ). files n) (bytes_eq-true _ _ e)
-    | inr e ↦ cond-false _ _ _ e
+      | inl e ↦ cond-true _ _ _ e ∙ sym is ∙ ap (λ (n : List ℕ). files n) (bytes_eq-true _ _ e)
+      | inr e ↦ cond-false _ _ _ e
     ])
 
 -- the file of a name, by the first file of the list
@@ -52,8 +52,9 @@ place_from : (name : List ℕ) (files : List NamedFile) (place : ℕ) (d : Named
 place_from name [] place d within here before = absurd (omega arith)
 place_from name (file ∷ files) zero d within here before = bytes_eq-true _ _ here
 place_from name (file ∷ files) (suc place) d within here before = (
-    (λ e. both_ways _ (before 0 (omega arith)) (subst (λ (n : List ℕ). bytes_eq n name ≡ true) (sym e) (bytes_eq-same name))),
-    place_from name files place d (omega arith) here (λ k below. before (suc k) (omega arith)))
+  (λ e. both_ways _ (before 0 (omega arith)) (subst (λ (n : List ℕ). bytes_eq n name ≡ true) (sym e) (bytes_eq-same name))),
+  place_from name files place d (omega arith) here (λ k below. before (suc k) (omega arith)),
+)
 
 -- what a search by name found
 pub place_from_position : (name : List ℕ) (files : List NamedFile) (place : ℕ) (d : NamedFile) → position (λ (file : NamedFile). bytes_eq (string_bytes file.0) name) files ≡ Some place → IsPlace name files place
@@ -65,10 +66,11 @@ place_from_position name files place d e =
 absent_behind : (name : List ℕ) (first : NamedFile) (files : List NamedFile) → file_named (first ∷ files) name ≡ None → (string_bytes first.0 ≢ name) × (file_named files name ≡ None)
 absent_behind name first files absent =
     elim (cases_Bool (bytes_eq (string_bytes first.0) name)) [
-      inl e ↦ absurd (none-some first.1.items (sym absent ∙ file_named-cons first files name ∙ cond-true _ _ _ e))
-    | inr e ↦ (
+      | inl e ↦ absurd (none-some first.1.items (sym absent ∙ file_named-cons first files name ∙ cond-true _ _ _ e))
+      | inr e ↦ (
         (λ same. both_ways _ e (subst (λ (n : List ℕ). bytes_eq n name ≡ true) (sym same) (bytes_eq-same name))),
-        sym (cond-false _ _ _ e) ∙ sym (file_named-cons first files name) ∙ absent)
+        sym (cond-false _ _ _ e) ∙ sym (file_named-cons first files name) ∙ absent,
+      )
     ]
 
 cond_none : (test : Bool) → cond {A = Option (List ℕ)} test None None ≡ None
@@ -134,8 +136,8 @@ absent_from_position name files e =
     let P : NamedFile → Bool = λ file. bytes_eq (string_bytes file.0) name in
     let place = position_or_len P files in
     elim (cases_Bool (nat_lt place (length files))) [
-      inl found ↦ absurd (none-some place (sym e ∙ cond-true _ _ _ found))
-    | inr past ↦ ap (λ (file : Option NamedFile). option_map (λ (f : NamedFile). f.1.items) file) (find_at P files ∙ slice_get_past files place (ltb-false _ _ past))
+      | inl found ↦ absurd (none-some place (sym e ∙ cond-true _ _ _ found))
+      | inr past ↦ ap (λ (file : Option NamedFile). option_map (λ (f : NamedFile). f.1.items) file) (find_at P files ∙ slice_get_past files place (ltb-false _ _ past))
     ]
 
 -- all files but those of a name
@@ -145,16 +147,16 @@ file_named-filter name [] other =
 file_named-filter name (first ∷ files) other =
     let kept : List NamedFile = filter (λ (file : NamedFile). not (bytes_eq (string_bytes file.0) name)) files in
     elim (cases_Bool (bytes_eq (string_bytes first.0) name)) [
-      inl e ↦ ap (λ (test : Bool). file_named (cond (not test) (first ∷ kept) kept) other) e
-        ∙ file_named-filter name files other
-        ∙ sym (cond-again (bytes_eq name other) None (Some first.1.items) (file_named files other))
-        ∙ ap (λ (n : List ℕ). cond (bytes_eq name other) None (cond (bytes_eq n other) (Some first.1.items) (file_named files other))) (sym (bytes_eq-true _ _ e))
-        ∙ ap (λ (f : Option (List ℕ)). cond (bytes_eq name other) None f) (sym (file_named-cons first files other))
-    | inr e ↦ ap (λ (test : Bool). file_named (cond (not test) (first ∷ kept) kept) other) e
-        ∙ file_named-cons first kept other
-        ∙ ap (λ (f : Option (List ℕ)). cond (bytes_eq (string_bytes first.0) other) (Some first.1.items) f) (file_named-filter name files other)
-        ∙ cond_swap _ _ _ _ _ (apart_names _ _ other (λ same. both_ways _ e (subst (λ (n : List ℕ). bytes_eq n name ≡ true) (sym same) (bytes_eq-same name))))
-        ∙ ap (λ (f : Option (List ℕ)). cond (bytes_eq name other) None f) (sym (file_named-cons first files other))
+      | inl e ↦ ap (λ (test : Bool). file_named (cond (not test) (first ∷ kept) kept) other) e
+          ∙ file_named-filter name files other
+          ∙ sym (cond-again (bytes_eq name other) None (Some first.1.items) (file_named files other))
+          ∙ ap (λ (n : List ℕ). cond (bytes_eq name other) None (cond (bytes_eq n other) (Some first.1.items) (file_named files other))) (sym (bytes_eq-true _ _ e))
+          ∙ ap (λ (f : Option (List ℕ)). cond (bytes_eq name other) None f) (sym (file_named-cons first files other))
+      | inr e ↦ ap (λ (test : Bool). file_named (cond (not test) (first ∷ kept) kept) other) e
+          ∙ file_named-cons first kept other
+          ∙ ap (λ (f : Option (List ℕ)). cond (bytes_eq (string_bytes first.0) other) (Some first.1.items) f) (file_named-filter name files other)
+          ∙ cond_swap _ _ _ _ _ (apart_names _ _ other (λ same. both_ways _ e (subst (λ (n : List ℕ). bytes_eq n name ≡ true) (sym same) (bytes_eq-same name))))
+          ∙ ap (λ (f : Option (List ℕ)). cond (bytes_eq name other) None f) (sym (file_named-cons first files other))
     ]
 
 -- all files but those of a name, as a list
@@ -166,7 +168,7 @@ file_named-kept_others name files kept is =
 pub distinct-kept_others : (name : List ℕ) (files kept : List NamedFile) → kept ≡ filter (λ (file : NamedFile). not (bytes_eq (string_bytes file.0) name)) files → HaveDistinctNames files → HaveDistinctNames kept
 distinct-kept_others name files kept is distinct =
     subst (λ (f : List NamedFile). HaveDistinctNames f) (sym is)
-      (AllPairs-filter (λ (one other : NamedFile). string_bytes one.0 ≢ string_bytes other.0) (λ (file : NamedFile). not (bytes_eq (string_bytes file.0) name)) files distinct)
+    (AllPairs-filter (λ (one other : NamedFile). string_bytes one.0 ≢ string_bytes other.0) (λ (file : NamedFile). not (bytes_eq (string_bytes file.0) name)) files distinct)
 
 -- the names of the files behind the first one differ
 distinct_behind : (first : NamedFile) (files : List NamedFile) → HaveDistinctNames (first ∷ files) → HaveDistinctNames files
@@ -186,13 +188,13 @@ file_named-moved from to [] place file distinct at named absent other = absurd a
 file_named-moved from to (first ∷ files) zero file distinct at named absent other =
     let gone : file_named files from ≡ None = absent_from_names from files (λ place d within same. distinct 0 (suc place) d (omega arith) (omega arith) (at ∙ sym same)) in
     let rest : file_named files other ≡ cond (bytes_eq from other) None (file_named (first ∷ files) other) =
-        elim (cases_Bool (bytes_eq from other)) [
-          inl e ↦ ap (λ (n : List ℕ). file_named files n) (sym (bytes_eq-true _ _ e)) ∙ gone ∙ sym (cond-true _ _ _ e)
-        | inr e ↦ sym (cond-false _ (Some first.1.items) (file_named files other) e)
-            ∙ ap (λ (n : List ℕ). cond (bytes_eq n other) (Some first.1.items) (file_named files other)) (sym at)
-            ∙ sym (file_named-cons first files other)
-            ∙ sym (cond-false _ None (file_named (first ∷ files) other) e)
-        ] in
+    elim (cases_Bool (bytes_eq from other)) [
+      | inl e ↦ ap (λ (n : List ℕ). file_named files n) (sym (bytes_eq-true _ _ e)) ∙ gone ∙ sym (cond-true _ _ _ e)
+      | inr e ↦ sym (cond-false _ (Some first.1.items) (file_named files other) e)
+          ∙ ap (λ (n : List ℕ). cond (bytes_eq n other) (Some first.1.items) (file_named files other)) (sym at)
+          ∙ sym (file_named-cons first files other)
+          ∙ sym (cond-false _ None (file_named (first ∷ files) other) e)
+    ] in
     file_named-cons file files other
     ∙ ap (λ (n : List ℕ). cond (bytes_eq n other) (Some file.1.items) (file_named files other)) named
     ∙ ap (λ (f : Option (List ℕ)). cond (bytes_eq to other) (Some file.1.items) f) rest
@@ -201,18 +203,18 @@ file_named-moved from to (first ∷ files) (suc place) file distinct at named ab
     let other_file = file_named files other in
     file_named-cons first (set files place file) other
     ∙ ap (λ (f : Option (List ℕ)). cond (bytes_eq (string_bytes first.0) other) (Some first.1.items) f)
-      (file_named-moved from to files place file (distinct_behind first files distinct) at.1 named behind.1 other)
+    (file_named-moved from to files place file (distinct_behind first files distinct) at.1 named behind.1 other)
     ∙ cond_swap (bytes_eq (string_bytes first.0) other) (bytes_eq to other) (Some first.1.items) (Some file.1.items) (cond (bytes_eq from other) None other_file) (apart_names _ _ other behind.0)
     ∙ ap (λ (f : Option (List ℕ)). cond (bytes_eq to other) (Some file.1.items) f)
-      (cond_swap (bytes_eq (string_bytes first.0) other) (bytes_eq from other) (Some first.1.items) None other_file (apart_names _ _ other at.0)
-      ∙ ap (λ (f : Option (List ℕ)). cond (bytes_eq from other) None f) (sym (file_named-cons first files other)))
+    (cond_swap (bytes_eq (string_bytes first.0) other) (bytes_eq from other) (Some first.1.items) None other_file (apart_names _ _ other at.0)
+    ∙ ap (λ (f : Option (List ℕ)). cond (bytes_eq from other) None f) (sym (file_named-cons first files other)))
 
 -- a new name for a file, where no file has it yet
 pub file_named-renamed : (from to : List ℕ) (files : List NamedFile) (place : ℕ) (file d : NamedFile) → HaveDistinctNames files → IsPlace from files place → string_bytes file.0 ≡ to → file.1 ≡ (get_or files place d).1 → file_named files to ≡ None → (other : List ℕ) → file_named (set files place file) other ≡ with_new_name (file_named files) from to other
 file_named-renamed from to files place file d distinct at named same absent other =
     file_named-moved from to files place file distinct at named absent other
     ∙ ap (λ (file : Option (List ℕ)). option_map_or (λ (bytes : List ℕ). with_file (with_file (file_named files) from None) to (Some bytes)) file (file_named files) other)
-      (ap (λ (v : Vec ℕ Global). Some v.items) same ∙ sym (file_named-place from files place d at))
+    (ap (λ (v : Vec ℕ Global). Some v.items) same ∙ sym (file_named-place from files place d at))
 
 set_here : (files : List NamedFile) (place at : ℕ) (file d : NamedFile) → at ≡ place → at < length files → get_or (set files place file) at d ≡ file
 set_here files place at file d here inside =
@@ -224,13 +226,13 @@ distinct-set to files place file distinct named absent i j d before within same 
     let inside : j < length files = omega (arith, length-set files place file) in
     let name_of : NamedFile → List ℕ = λ f. string_bytes f.0 in
     elim (cases_eq i place) [
-      inl here ↦ absent_names to files absent j d inside
-        (sym (ap name_of (get_or-set_other files place j file d (λ there. omega (arith, here, there)))) ∙ sym same ∙ ap name_of (set_here files place i file d here (omega arith)) ∙ named)
-    | inr not_here ↦ elim (cases_eq j place) [
-        inl here ↦ absent_names to files absent i d (omega arith)
-          (sym (ap name_of (get_or-set_other files place i file d not_here)) ∙ same ∙ ap name_of (set_here files place j file d here inside) ∙ named)
-      | inr nor_there ↦ distinct i j d before inside
-          (sym (ap name_of (get_or-set_other files place i file d not_here)) ∙ same ∙ ap name_of (get_or-set_other files place j file d nor_there))
+      | inl here ↦ absent_names to files absent j d inside
+          (sym (ap name_of (get_or-set_other files place j file d (λ there. omega (arith, here, there)))) ∙ sym same ∙ ap name_of (set_here files place i file d here (omega arith)) ∙ named)
+      | inr not_here ↦ elim (cases_eq j place) [
+        | inl here ↦ absent_names to files absent i d (omega arith)
+            (sym (ap name_of (get_or-set_other files place i file d not_here)) ∙ same ∙ ap name_of (set_here files place j file d here inside) ∙ named)
+        | inr nor_there ↦ distinct i j d before inside
+            (sym (ap name_of (get_or-set_other files place i file d not_here)) ∙ same ∙ ap name_of (get_or-set_other files place j file d nor_there))
       ]
     ]
 
@@ -238,7 +240,7 @@ distinct-set to files place file distinct named absent i j d before within same 
 pub distinct-push : (to : List ℕ) (files : List NamedFile) (file : NamedFile) → HaveDistinctNames files → string_bytes file.0 ≡ to → file_named files to ≡ None → HaveDistinctNames (files ++ file ∷ [])
 distinct-push to files file distinct named absent =
     all_pairs_push (λ (one other : NamedFile). string_bytes one.0 ≢ string_bytes other.0) files file distinct
-      (λ place d within same. absent_names to files absent place d within (same ∙ named))
+    (λ place d within same. absent_names to files absent place d within (same ∙ named))
 
 -- the file that a search by name found
 pub file_named-found : (name : List ℕ) (files : List NamedFile) (place : ℕ) (was : NamedFile) → position (λ (file : NamedFile). bytes_eq (string_bytes file.0) name) files ≡ Some place → was ≡ get_or files place was → file_named files name ≡ Some was.1.items

@@ -27,7 +27,7 @@ appends_gathered start before written buffered new bytes g p = record {
   rest = p.rest;
   appended = p.appended ∙ ap (λ (w : List ℕ). w ++ p.done) g.appended ∙ append_assoc start g.sent p.done;
   prefix = append_assoc g.sent p.done p.rest ∙ ap (λ (b : List ℕ). g.sent ++ b) p.prefix
-    ∙ sym (append_assoc g.sent buffered bytes) ∙ ap (λ (b : List ℕ). b ++ bytes) (sym g.whole);
+      ∙ sym (append_assoc g.sent buffered bytes) ∙ ap (λ (b : List ℕ). b ++ bytes) (sym g.whole);
 }
 
 -- a fault while what was gathered is written
@@ -39,4 +39,4 @@ appends_at_flush start before written buffered new bytes g p =
 pub appends_at_write : (start before written buffered flushed new bytes : List ℕ) → IsGathered start before written buffered → flushed ≡ written ++ buffered → AppendsPrefix flushed new bytes → AppendsPrefix start new (before ++ bytes)
 appends_at_write start before written buffered flushed new bytes g is p =
     appends_gathered start before written buffered new bytes g
-      (appends_front written buffered new bytes (let Q : List ℕ → Type 0 = λ w. AppendsPrefix w new bytes in rw is at p))
+    (appends_front written buffered new bytes (let Q : List ℕ → Type 0 = λ w. AppendsPrefix w new bytes in rw is at p))

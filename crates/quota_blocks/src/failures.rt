@@ -55,7 +55,7 @@ impl Failures {
         self.faults = self.faults.saturating_add(1);
     }
 
-    /// What a store answers that has done its work or could not get the memory for it, which is counted as a fault.
+    /// What a store answers that has done its work, or that could not get the memory for it, which is a fault.
     pub(crate) fn outcome(&mut self, done: Result<(), AllocError>) -> Result<(), StoreFault>
         ensures same { is_ok result ≡ is_ok done }
         ensures failing { self.new.failing ≡ self.old.failing }

@@ -1,11 +1,13 @@
-ghost use Rattle.std.specs.Prelude.{◌≡◌, true};
-ghost use Rattle.std.specs.Option.{option_copied};
+ghost use Rattle.std.specs.Prelude.{◌≡◌, ◌≢◌, ◌≤◌, ◌^◌, ◌↔◌, [], Some, length, take, true, Contains, IsErr, IfOk, OnOk, OnErr};
+ghost use Rattle.std.specs.Option.{option_copied, option_map};
+ghost use Rattle.quota_blocks.specs.Count.{Rose, counted};
+ghost use Rattle.quota_blocks.specs.InMemory.{mem_store_calls, mem_store_failing, mem_store_faults, mem_store_files, mem_store_reads, mem_store_writes};
 ghost use Rattle.quota_blocks.specs.MemStore.{HaveDistinctNames, file_named};
+ghost use Rattle.quota_blocks.specs.World.{bytes_from, with_bytes, with_file, with_new_name};
 
 use crate::failures::Failures;
 use crate::named_files::NamedFiles;
 use crate::{Store, StoreFault};
-use std::alloc::AllocError;
 
 /// A store in memory, which tells its files. It can be made to fail at given calls. Where it cannot get memory for a
 /// file, it has failed too.
@@ -26,6 +28,8 @@ impl MemStore {
         ensures faults { ⟦<MemStore as Store>⟧.faults result ≡ 0 }
         ensures reads { ⟦<MemStore as Store>⟧.reads result ≡ 0 }
         ensures writes { ⟦<MemStore as Store>⟧.writes result ≡ 0 }
+        ensures failing { mem_store_failing result ≡ failing.items }
+        ensures calls { mem_store_calls result ≡ 0 }
     {
         MemStore {
             files: NamedFiles::new(files),
@@ -60,15 +64,25 @@ impl MemStore {
 impl Store for MemStore {
     ghost tells = { λ _. true };
 
-    ghost files = { λ s. file_named s.files.entries.items };
+    ghost files = { mem_store_files };
 
-    ghost faults = { λ s. s.failures.faults };
+    ghost faults = { mem_store_faults };
 
-    ghost reads = { λ s. s.reads };
+    ghost reads = { mem_store_reads };
 
-    ghost writes = { λ s. s.writes };
+    ghost writes = { mem_store_writes };
 
-    fn size(&mut self, name: &str) -> Result<Option<u64>, StoreFault> {
+    fn size(&mut self, name: &str) -> Result<Option<u64>, StoreFault>
+        ensures planned { IsErr result ↔ Contains (mem_store_failing self.old) (counted (mem_store_calls self.old)) }
+        ensures found { IfOk result (λ found. found ≡ option_map length (mem_store_files self.old name.now)) }
+        ensures failing { mem_store_failing self.new ≡ mem_store_failing self.old }
+        ensures calls { mem_store_calls self.new ≡ counted (mem_store_calls self.old) }
+        ensures cause { OnErr result (Rose (mem_store_faults self.old) (mem_store_faults self.new)) }
+        ensures later { mem_store_faults self.old ≤ mem_store_faults self.new }
+        ensures reads { mem_store_reads self.new ≡ mem_store_reads self.old }
+        ensures writes { mem_store_writes self.new ≡ mem_store_writes self.old }
+        ensures same_files { mem_store_files self.new ≡ mem_store_files self.old }
+    {
         if self.failures.next_fails() {
             return Err(StoreFault);
         }
@@ -78,7 +92,19 @@ impl Store for MemStore {
         }
     }
 
-    fn read(&mut self, name: &str, at: u64, buf: &mut [u8]) -> Result<usize, StoreFault> {
+    fn read(&mut self, name: &str, at: u64, buf: &mut [u8]) -> Result<usize, StoreFault>
+        ensures planned { IsErr result ↔ Contains (mem_store_failing self.old) (counted (mem_store_calls self.old)) }
+        ensures fits { IfOk result (λ count. count ≤ length buf.new) }
+        ensures count { IfOk result (λ count. count ≡ length (bytes_from (mem_store_files self.old name.now) at (length buf.old))) }
+        ensures bytes { IfOk result (λ count. take count buf.new ≡ bytes_from (mem_store_files self.old name.now) at (length buf.old)) }
+        ensures failing { mem_store_failing self.new ≡ mem_store_failing self.old }
+        ensures calls { mem_store_calls self.new ≡ counted (mem_store_calls self.old) }
+        ensures cause { OnErr result (Rose (mem_store_faults self.old) (mem_store_faults self.new)) }
+        ensures later { mem_store_faults self.old ≤ mem_store_faults self.new }
+        ensures reads { mem_store_reads self.new ≡ counted (mem_store_reads self.old) }
+        ensures writes { mem_store_writes self.new ≡ mem_store_writes self.old }
+        ensures same_files { mem_store_files self.new ≡ mem_store_files self.old }
+    {
         self.reads = self.reads.saturating_add(1);
         if self.failures.next_fails() {
             return Err(StoreFault);
@@ -92,7 +118,19 @@ impl Store for MemStore {
         Ok(count)
     }
 
-    fn write(&mut self, name: &str, at: u64, bytes: &[u8]) -> Result<(), StoreFault> {
+    fn write(&mut self, name: &str, at: u64, bytes: &[u8]) -> Result<(), StoreFault>
+        requires few { length bytes.now ≤ 1024 }
+        requires place { at ≤ 2 ^ 42 }
+        ensures planned { Contains (mem_store_failing self.old) (counted (mem_store_calls self.old)) → IsErr result }
+        ensures ok { OnOk result (mem_store_files self.new ≡ with_bytes (mem_store_files self.old) name.now at bytes.now) }
+        ensures fault { OnErr result (mem_store_files self.new ≡ mem_store_files self.old) }
+        ensures failing { mem_store_failing self.new ≡ mem_store_failing self.old }
+        ensures calls { mem_store_calls self.new ≡ counted (mem_store_calls self.old) }
+        ensures cause { OnErr result (Rose (mem_store_faults self.old) (mem_store_faults self.new)) }
+        ensures later { mem_store_faults self.old ≤ mem_store_faults self.new }
+        ensures reads { mem_store_reads self.new ≡ mem_store_reads self.old }
+        ensures writes { mem_store_writes self.new ≡ counted (mem_store_writes self.old) }
+    {
         self.writes = self.writes.saturating_add(1);
         if self.failures.next_fails() {
             return Err(StoreFault);
@@ -101,7 +139,17 @@ impl Store for MemStore {
         self.failures.outcome(done)
     }
 
-    fn create(&mut self, name: &str) -> Result<(), StoreFault> {
+    fn create(&mut self, name: &str) -> Result<(), StoreFault>
+        ensures planned { Contains (mem_store_failing self.old) (counted (mem_store_calls self.old)) → IsErr result }
+        ensures ok { OnOk result (mem_store_files self.new ≡ with_file (mem_store_files self.old) name.now (Some [])) }
+        ensures fault { OnErr result (mem_store_files self.new ≡ mem_store_files self.old) }
+        ensures failing { mem_store_failing self.new ≡ mem_store_failing self.old }
+        ensures calls { mem_store_calls self.new ≡ counted (mem_store_calls self.old) }
+        ensures cause { OnErr result (Rose (mem_store_faults self.old) (mem_store_faults self.new)) }
+        ensures later { mem_store_faults self.old ≤ mem_store_faults self.new }
+        ensures reads { mem_store_reads self.new ≡ mem_store_reads self.old }
+        ensures writes { mem_store_writes self.new ≡ mem_store_writes self.old }
+    {
         if self.failures.next_fails() {
             return Err(StoreFault);
         }
@@ -109,14 +157,34 @@ impl Store for MemStore {
         self.failures.outcome(done)
     }
 
-    fn sync(&mut self, _name: &str) -> Result<(), StoreFault> {
+    fn sync(&mut self, _name: &str) -> Result<(), StoreFault>
+        ensures planned { IsErr result ↔ Contains (mem_store_failing self.old) (counted (mem_store_calls self.old)) }
+        ensures failing { mem_store_failing self.new ≡ mem_store_failing self.old }
+        ensures calls { mem_store_calls self.new ≡ counted (mem_store_calls self.old) }
+        ensures cause { OnErr result (Rose (mem_store_faults self.old) (mem_store_faults self.new)) }
+        ensures later { mem_store_faults self.old ≤ mem_store_faults self.new }
+        ensures reads { mem_store_reads self.new ≡ mem_store_reads self.old }
+        ensures writes { mem_store_writes self.new ≡ mem_store_writes self.old }
+        ensures same_files { mem_store_files self.new ≡ mem_store_files self.old }
+    {
         if self.failures.next_fails() {
             return Err(StoreFault);
         }
         Ok(())
     }
 
-    fn rename(&mut self, from: &str, to: &str) -> Result<(), StoreFault> {
+    fn rename(&mut self, from: &str, to: &str) -> Result<(), StoreFault>
+        requires { from.now ≢ to.now }
+        ensures planned { Contains (mem_store_failing self.old) (counted (mem_store_calls self.old)) → IsErr result }
+        ensures ok { OnOk result (mem_store_files self.new ≡ with_new_name (mem_store_files self.old) from.now to.now) }
+        ensures fault { OnErr result (mem_store_files self.new ≡ mem_store_files self.old) }
+        ensures failing { mem_store_failing self.new ≡ mem_store_failing self.old }
+        ensures calls { mem_store_calls self.new ≡ counted (mem_store_calls self.old) }
+        ensures cause { OnErr result (Rose (mem_store_faults self.old) (mem_store_faults self.new)) }
+        ensures later { mem_store_faults self.old ≤ mem_store_faults self.new }
+        ensures reads { mem_store_reads self.new ≡ mem_store_reads self.old }
+        ensures writes { mem_store_writes self.new ≡ mem_store_writes self.old }
+    {
         if self.failures.next_fails() {
             return Err(StoreFault);
         }

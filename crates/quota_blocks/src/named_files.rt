@@ -36,9 +36,7 @@ impl NamedFiles {
     fn position(&self, name: &str) -> Option<usize>
         ensures { result ≡ position (λ (file : NamedFile). bytes_eq (string_bytes file.0) name.now) self.now.entries.items }
     {
-        self.entries
-            .iter()
-            .position(|file| file.0.as_str() == name)
+        self.entries.iter().position(|file| file.0.as_str() == name)
     }
 
     /// Makes a file empty that is there, or makes an empty one.

@@ -37,7 +37,12 @@ impl From<AllocError> for LoadFault {
 }
 
 /// Reads a whole file, of at most `most` bytes.
-pub fn load<S: Store>(alloc: Global, store: &mut S, name: &str, most: u64) -> Result<Vec<u8>, LoadFault>
+pub fn load<S: Store>(
+    alloc: Global,
+    store: &mut S,
+    name: &str,
+    most: u64,
+) -> Result<Vec<u8>, LoadFault>
     ensures whole { IfOk result (λ bytes. IsTrue (S.tells store.old) → S.files store.old name.now ≡ Some bytes.items) }
     ensures within { IfOk result (λ bytes. length bytes.items ≤ most) }
     ensures refused { IfErr result (IsLoadFault (S.faults store.old) (S.faults store.new) (S.tells store.old)

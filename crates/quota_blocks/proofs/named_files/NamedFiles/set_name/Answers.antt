@@ -10,7 +10,7 @@ invariant_of-self c =
 pub returns-in-Some : goal.returns-in-Some
 returns-in-Some c =
     file_named-renamed_found c.args.from.now (string_bytes c.args.to) c.args.self.now.entries.items c.in-Some.place c.index_mut.result.now _
-      c.args.self.now.distinct (sym c.position.ensures ∙ c.in-Some.is) c.index_mut.ensures.value refl refl c.requires
+    c.args.self.now.distinct (sym c.position.ensures ∙ c.in-Some.is) c.index_mut.ensures.value refl refl c.requires
 
 pub returns-in_default : goal.returns-in_default
 returns-in_default c =

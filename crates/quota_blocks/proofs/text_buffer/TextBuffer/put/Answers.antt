@@ -11,6 +11,6 @@ returns-in_err-flush-clause-fault g c =
 pub returns-clause-fault : goal.returns-clause-fault
 returns-clause-fault g c =
     on_err_weaker c.write.result
-      (λ fault told start before gathered. appends_at_write start before _ _ _ _ _ gathered (c.in_ok-flush.ensures.ok told)
-        (fault (subst IsTrue (sym c.flush.ensures.same_telling) told)))
-      c.write.ensures.fault
+    (λ fault told start before gathered. appends_at_write start before _ _ _ _ _ gathered (c.in_ok-flush.ensures.ok told)
+    (fault (subst IsTrue (sym c.flush.ensures.same_telling) told)))
+    c.write.ensures.fault
