@@ -2,3 +2,5 @@ pub mod TextLemmas
 pub mod LoadLemmas
 pub mod NamedFilesLemmas
 pub mod OverwriteLemmas
+pub mod WorldLemmas
+pub mod ReplaceLemmas

@@ -1,41 +1,19 @@
 -- Files in memory, as a list of names and bytes.
-use Rattle.std.proofs.Common.{◌≡◌, ◌≢◌, ◌⊎◌, inl, inr, ℕ, zero, suc, ◌+◌, ◌-◌, ◌<◌, ◌≤◌, Bool, true, false, cond, not, List, [], ◌∷◌, ◌++◌, length, get_or, set, length-set, get_or-set_same, get_or-set_other, Option, Some, None, refl, sym, ap, subst, ◌∙◌, arith, position, filter, find, nat_lt, String, Vec, AllPairs, rules}
+use Rattle.std.proofs.Common.{◌≡◌, ◌≢◌, inl, inr, ℕ, zero, suc, ◌<◌, Bool, true, false, cond, not, List, [], ◌∷◌, ◌++◌, length, get_or, set, length-set, get_or-set_same, get_or-set_other, Option, Some, None, refl, sym, ap, subst, ◌∙◌, arith, position, filter, find, nat_lt, String, Vec}
 use Rattle.std.specs.Option.{is_some, option_copied, option_map, option_map_or, unwrap_or}
 use Rattle.std.specs.List.{position_or_len}
 use Rattle.std.specs.declared.alloc.Global.{Global}
 use Rattle.std.proofs.lemmas.List.Folds.{find_at}
 use Rattle.std.specs.Str.{bytes_eq}
 use Rattle.std.specs.String.{string_bytes}
-use Rattle.std.proofs.lemmas.Bool.{cases_Bool, cond-true, cond-false, false_from_ne_true, both_ways, false≢true, ltb-false, cases_eq}
+use Rattle.std.proofs.lemmas.Bool.{cases_Bool, cond-true, cond-false, both_ways, false≢true, ltb-false, cases_eq}
 use Rattle.std.proofs.lemmas.Option.{none-some, slice_get_past}
 use Rattle.std.proofs.lemmas.List.Quantifiers.{position-Some, all_pairs_push}
 use Rattle.std.proofs.lemmas.List.Kept.{AllPairs-filter}
-use Rattle.std.proofs.lemmas.Slice.Eq.{bytes_eq-Decides}
 use denote.Ref.{Bor}
 use Rattle.quota_blocks.specs.MemStore.{NamedFile, file_named, HaveDistinctNames}
-use Rattle.quota_blocks.specs.World.{World, overwritten, with_bytes, with_file, with_new_name}
-
--- two worlds with the same file under each name
-pub same_world : (one other : World) → ((name : List ℕ) → one name ≡ other name) → one ≡ other
-same_world one other same = λ i name. same name i
-
--- the same name
-pub bytes_eq-same : (name : List ℕ) → bytes_eq name name ≡ true
-bytes_eq-same name = (bytes_eq-Decides name name).1 refl
-
-pub bytes_eq-true : (one other : List ℕ) → bytes_eq one other ≡ true → one ≡ other
-bytes_eq-true one other = (bytes_eq-Decides one other).0
-
-pub bytes_eq-ne : (one other : List ℕ) → one ≢ other → bytes_eq one other ≡ false
-bytes_eq-ne one other differ = false_from_ne_true _ (λ e. differ (bytes_eq-true one other e))
-
--- a name that has this file already
-with_file-same : (files : World) (name : List ℕ) (file : Option (List ℕ)) → files name ≡ file → with_file files name file ≡ files
-with_file-same files name file is = same_world _ _ (λ other.
-    elim (cases_Bool (bytes_eq name other)) [
-      | inl e ↦ cond-true _ _ _ e ∙ sym is ∙ ap (λ (n : List ℕ). files n) (bytes_eq-true _ _ e)
-      | inr e ↦ cond-false _ _ _ e
-    ])
+use Rattle.quota_blocks.specs.World.{overwritten, with_bytes, with_file, with_new_name}
+use Rattle.quota_blocks.proofs.WorldLemmas.{same_world, bytes_eq-same, bytes_eq-true, bytes_eq-ne, with_file-same, cond-again, cond_swap, apart_names}
 
 -- the file of a name, by the first file of the list
 pub file_named-cons : (file : NamedFile) (files : List NamedFile) (name : List ℕ) → file_named (file ∷ files) name ≡ cond (bytes_eq (string_bytes file.0) name) (Some file.1.items) (file_named files name)
@@ -76,19 +54,6 @@ absent_behind name first files absent =
 cond_none : (test : Bool) → cond {A = Option (List ℕ)} test None None ≡ None
 cond_none true = refl
 cond_none false = refl
-
-cond-again : (test : Bool) (x y z : Option (List ℕ)) → cond test x (cond test y z) ≡ cond test x z
-cond-again true x y z = refl
-cond-again false x y z = refl
-
-cond_swap : (one other : Bool) (x y z : Option (List ℕ)) → (one ≡ true → other ≡ true → ⊥) → cond one x (cond other y z) ≡ cond other y (cond one x z)
-cond_swap true true x y z apart = absurd (apart refl refl)
-cond_swap true false x y z apart = refl
-cond_swap false other x y z apart = refl
-
--- two names that differ are not both equal to a third
-apart_names : (one other name : List ℕ) → one ≢ other → bytes_eq one name ≡ true → bytes_eq other name ≡ true → ⊥
-apart_names one other name differ e f = differ (bytes_eq-true one name e ∙ sym (bytes_eq-true other name f))
 
 -- other bytes under the same name
 pub file_named-set : (name : List ℕ) (files : List NamedFile) (place : ℕ) (file : NamedFile) → IsPlace name files place → string_bytes file.0 ≡ name → (other : List ℕ) → file_named (set files place file) other ≡ with_file (file_named files) name (Some file.1.items) other
@@ -275,34 +240,6 @@ distinct-pushed false to files file distinct named absent = distinct
 -- one more file, under a name that is new
 pub file_named-added : (name : List ℕ) (files : List NamedFile) (file : NamedFile) → string_bytes file.0 ≡ name → file_named files name ≡ None → file_named (files ++ file ∷ []) ≡ with_file (file_named files) name (Some file.1.items)
 file_named-added name files file named absent = same_world _ _ (file_named-push name files file named absent)
-
--- bytes written into a file that was not there
-pub with_bytes-made : (files : World) (name : List ℕ) (at : ℕ) (bytes empty made : List ℕ) → files name ≡ None → empty ≡ [] → made ≡ overwritten empty at bytes → with_file files name (Some made) ≡ with_bytes files name at bytes
-with_bytes-made files name at bytes empty made absent none written =
-    ap (λ (b : List ℕ). with_file files name (Some b)) (written ∙ ap (λ (e : List ℕ). overwritten e at bytes) none)
-    ∙ ap (λ (f : Option (List ℕ)). with_file files name (Some (overwritten (unwrap_or f []) at bytes))) (sym absent)
-
-moved_again : (one other : Bool) (x z : Option (List ℕ)) → cond one x (cond other None (cond one None z)) ≡ cond one x (cond other None z)
-moved_again true other x z = refl
-moved_again false other x z = refl
-
--- a file given another name, where the other file of that name was removed before
-pub with_new_name-removed : (files : World) (from to bytes : List ℕ) → from ≢ to → files from ≡ Some bytes → with_new_name (with_file files to None) from to ≡ with_new_name files from to
-with_new_name-removed files from to bytes differ there =
-    let kept : World = with_file files to None in
-    let still_there : kept from ≡ Some bytes = cond-false _ _ _ (bytes_eq-ne to from (λ same. differ (sym same))) ∙ there in
-    ap (λ (file : Option (List ℕ)). option_map_or (λ (b : List ℕ). with_file (with_file kept from None) to (Some b)) file kept) still_there
-    ∙ same_world _ _ (λ other. moved_again (bytes_eq to other) (bytes_eq from other) (Some bytes) (files other))
-    ∙ sym (ap (λ (file : Option (List ℕ)). option_map_or (λ (b : List ℕ). with_file (with_file files from None) to (Some b)) file files) there)
-
--- a file that is not there given another name
-pub with_new_name-absent : (files : World) (from to : List ℕ) → files from ≡ None → with_new_name files from to ≡ files
-with_new_name-absent files from to absent =
-    ap (λ (file : Option (List ℕ)). option_map_or (λ (bytes : List ℕ). with_file (with_file files from None) to (Some bytes)) file files) absent
-
--- a name that was removed has no file
-pub with_file-removed : (files : World) (name : List ℕ) → with_file files name None name ≡ None
-with_file-removed files name = cond-true _ _ _ (bytes_eq-same name)
 
 -- the file of a name that a search found
 pub file_named-renamed_found : (from to : List ℕ) (files : List NamedFile) (place : ℕ) (was file : NamedFile) → HaveDistinctNames files → position (λ (file : NamedFile). bytes_eq (string_bytes file.0) from) files ≡ Some place → was ≡ get_or files place was → string_bytes file.0 ≡ to → file.1 ≡ was.1 → file_named files to ≡ None → file_named (set files place file) ≡ with_new_name (file_named files) from to

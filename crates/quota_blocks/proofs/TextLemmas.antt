@@ -1,5 +1,5 @@
 -- What a sink has got of a text, step by step.
-use Rattle.std.proofs.Common.{◌≡◌, ℕ, List, ◌++◌, refl, sym, ap, ◌∙◌, append_assoc}
+use Rattle.std.proofs.Common.{◌≡◌, ℕ, List, ◌++◌, sym, ap, ◌∙◌, append_assoc}
 use Rattle.quota_blocks.specs.Text.{AppendsPrefix, IsGathered}
 
 -- a prefix of a text is a prefix of a longer one

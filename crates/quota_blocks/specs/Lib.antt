@@ -4,6 +4,7 @@ pub mod Load
 pub mod MemStore
 pub mod QuotaFile
 pub mod QuotaValue
+pub mod Replace
 pub mod Text
 pub mod World
 pub use Rattle.quota_types.specs.Range

@@ -1,5 +1,5 @@
 -- Named files. A file is a list of bytes, which are numbers below 256.
-use Rattle.std.specs.Prelude.{ℕ, ◌+◌, ◌-◌, List, [], ◌++◌, length, take, drop, replicate, Option, None, Some, unwrap_or, if◌then◌else◌}
+use Rattle.std.specs.Prelude.{◌≡◌, ◌≢◌, ℕ, ◌+◌, ◌-◌, List, [], ◌++◌, length, take, drop, replicate, Option, None, Some, unwrap_or, if◌then◌else◌}
 use Rattle.std.specs.Option.{option_map_or}
 use Rattle.std.specs.Str.{bytes_eq}
 
@@ -29,3 +29,7 @@ with_bytes files name at bytes = with_file files name (Some (overwritten (unwrap
 abbrev pub with_new_name : World → List ℕ → List ℕ → World
 with_new_name files from to =
     option_map_or (λ (bytes : List ℕ). with_file (with_file files from None) to (Some bytes)) (files from) files
+
+-- all files are as before but the one of this name
+abbrev pub KeepsOthers : List ℕ → World → World → Type 0
+KeepsOthers name old new = (other : List ℕ) → other ≢ name → new other ≡ old other

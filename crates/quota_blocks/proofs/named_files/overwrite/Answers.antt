@@ -1,6 +1,6 @@
-use Rattle.std.proofs.Common.{◌≡◌, ◌+◌, List, ℕ, ◌++◌, length, take, drop, sym, ap, ◌∙◌, arith}
+use Rattle.std.proofs.Common.{◌+◌, List, ℕ, ◌++◌, length, take, drop, ap, ◌∙◌}
 use Rattle.std.proofs.lemmas.List.{take_at}
-use Rattle.quota_blocks.proofs.OverwriteLemmas.{overwritten-filled_up, length-filled_up}
+use Rattle.quota_blocks.proofs.OverwriteLemmas.{overwritten-filled_up}
 use Rattle.quota_blocks.proofs.named_files.overwrite.Goals as goal
 
 pub returns-clause-ok : goal.returns-clause-ok

@@ -8,7 +8,7 @@ loop-bytes-preserved g c =
     let appends = c.in_ok-append_block.ensures in
     record {
       begun = λ told. begun_step _ _ _ _ _ _ _ (kept.begun told) (ap (λ (files : List ℕ → Option (List ℕ)). files c.args.name.now) kept.same_files) c.loop-bytes.bytes.ok.0
-        (appends.appended (subst IsTrue (sym kept.same_telling) told));
+          (appends.appended (subst IsTrue (sym kept.same_telling) told));
       within = omega (arith, appends.count, appends.within, c.len-in-loop-bytes.ensures);
       later = omega (arith, appends.later, kept.later);
       writes = appends.writes ∙ kept.writes;

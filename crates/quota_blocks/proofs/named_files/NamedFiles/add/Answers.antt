@@ -1,4 +1,4 @@
-use Rattle.std.proofs.Common.{refl, sym, ◌∙◌, is_ok}
+use Rattle.std.proofs.Common.{is_ok}
 use Rattle.quota_blocks.proofs.NamedFilesLemmas.{file_named-added, distinct-pushed}
 use Rattle.quota_blocks.proofs.named_files.NamedFiles.add.Goals as goal
 

@@ -1,4 +1,4 @@
-use Rattle.std.proofs.Common.{refl, sym, ap, ◌∙◌, Option, List, ℕ, Some}
+use Rattle.std.proofs.Common.{refl, sym, ap, ◌∙◌, List, ℕ, Some}
 use Rattle.quota_blocks.specs.World.{with_file}
 use Rattle.quota_blocks.specs.MemStore.{file_named}
 use Rattle.quota_blocks.proofs.NamedFilesLemmas.{file_named-changed, absent_from_position}

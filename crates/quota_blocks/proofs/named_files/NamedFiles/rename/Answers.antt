@@ -1,8 +1,8 @@
 use Rattle.std.proofs.Common.{◌≡◌, None, ap, ◌∙◌, List, ℕ, rules}
-use Rattle.std.proofs.lemmas.Bool.{not-false}
 use Rattle.quota_blocks.specs.World.{World, with_file, with_new_name}
 use Rattle.quota_blocks.specs.MemStore.{file_named}
-use Rattle.quota_blocks.proofs.NamedFilesLemmas.{with_new_name-removed, with_file-removed, found_from_some}
+use Rattle.quota_blocks.proofs.NamedFilesLemmas.{found_from_some}
+use Rattle.quota_blocks.proofs.WorldLemmas.{with_new_name-removed, with_file-at}
 use Rattle.quota_blocks.proofs.named_files.NamedFiles.rename.Goals as goal
 
 pub set_name-requires : goal.set_name-requires
@@ -11,7 +11,7 @@ set_name-requires c =
     let removed : file_named c.remove.new.self.entries.items ≡ with_file files c.args.to.now None = c.remove.ensures in
     ap (λ (name : List ℕ). file_named c.remove.new.self.entries.items name) c.in_ok-name.ensures.ok
     ∙ ap (λ (f : World). f c.args.to.now) removed
-    ∙ with_file-removed files c.args.to.now
+    ∙ with_file-at files c.args.to.now None
 
 pub returns-clause-ok : goal.returns-clause-ok
 returns-clause-ok c =

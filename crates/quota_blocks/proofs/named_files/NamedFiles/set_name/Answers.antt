@@ -1,6 +1,7 @@
 use Rattle.std.proofs.Common.{refl, sym, ◌∙◌}
 use Rattle.std.specs.String.{string_bytes}
-use Rattle.quota_blocks.proofs.NamedFilesLemmas.{distinct-set, file_named-renamed_found, with_new_name-absent, absent_from_position}
+use Rattle.quota_blocks.proofs.NamedFilesLemmas.{distinct-set, file_named-renamed_found, absent_from_position}
+use Rattle.quota_blocks.proofs.WorldLemmas.{with_new_name-absent}
 use Rattle.quota_blocks.proofs.named_files.NamedFiles.set_name.Goals as goal
 
 pub invariant_of-self : goal.invariant_of-self

@@ -1,6 +1,7 @@
 use Rattle.std.proofs.Common.{refl, sym, ◌∙◌}
 use Rattle.std.proofs.lemmas.Result.{on_ok_weaker, on_err_weaker}
-use Rattle.quota_blocks.proofs.NamedFilesLemmas.{file_named-written, file_named-kept, with_bytes-made, absent_from_position}
+use Rattle.quota_blocks.proofs.NamedFilesLemmas.{file_named-written, file_named-kept, absent_from_position}
+use Rattle.quota_blocks.proofs.WorldLemmas.{with_bytes-made}
 use Rattle.quota_blocks.proofs.named_files.NamedFiles.write.Goals as goal
 
 pub returns-in-Some-clause-ok : goal.returns-in-Some-clause-ok
