@@ -17,6 +17,8 @@ mod quota_file;
 mod replacement;
 mod sink;
 mod store;
+#[cfg(test)]
+mod tests;
 mod text_buffer;
 mod whole_file;
 
