@@ -1,5 +1,5 @@
 -- Numbers in parts of a file.
-use Rattle.std.proofs.Common.{◌≡◌, ℕ, zero, suc, ◌+◌, ◌*◌, ◌<◌, ◌≤◌, List, get_or, take, drop, refl, sym, ap, ◌∙◌, arith}
+use Rattle.std.proofs.Common.{◌≡◌, ℕ, zero, suc, ◌+◌, ◌*◌, ◌≤◌, List, take, drop, refl, ap, ◌∙◌, arith}
 use Rattle.std.proofs.lemmas.List.{get_or-drop, get_or-take}
 use Rattle.quota_types.specs.Bytes.{number_at}
 
@@ -16,7 +16,7 @@ unfolding number_at
 number_at-drop zero skip file at = refl
 number_at-drop (suc width) skip file at =
     number_by _ _ _ _ (get_or-drop skip file at 0)
-      (number_at-drop width skip file (suc at) ∙ ap (λ (n : ℕ). number_at width file n) (add_suc skip at))
+    (number_at-drop width skip file (suc at) ∙ ap (λ (n : ℕ). number_at width file n) (add_suc skip at))
 
 -- a number within what was taken
 pub number_at-take : (width : ℕ) (most : ℕ) (file : List ℕ) (at : ℕ) → at + width ≤ most → number_at width (take most file) at ≡ number_at width file at
