@@ -7,5 +7,6 @@ pub mod QuotaValue
 pub mod Replace
 pub mod Text
 pub mod World
+pub use Rattle.quota_types.specs.Kept
 pub use Rattle.quota_types.specs.Range
 pub use Rattle.quota_types.specs.Rec
