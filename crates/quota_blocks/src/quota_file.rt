@@ -208,4 +208,8 @@ pub trait QuotaFile<S: Store> {
         ensures same_format { format_of self.new ≡ format_of self.old }
         ensures later { S.faults store.old ≤ S.faults store.new }
         ensures same_telling { S.tells store.new ≡ S.tells store.old };
+
+    /// What an opened file with its store holds rests on the named file, and on no other file of the store.
+    ghost rests_on_named: { (file : Self) (one other : S) (value : QuotaValue) → S.tells other ≡ S.tells one
+        → S.files other (name_of file) ≡ S.files one (name_of file) → holds file one value → holds file other value };
 }
