@@ -1,4 +1,7 @@
-use crate::{LoadFault, MemStore, ReplaceFault, Store, StoreFault, load, replace};
+use crate::{
+    LoadFault, MemSink, MemStore, ReplaceFault, Sink, SinkFault, Store, StoreFault, TextBuffer,
+    load, replace,
+};
 use std::alloc::Global;
 use std::test::Fail;
 
@@ -96,5 +99,19 @@ fn a_file_is_loaded_whole_up_to_the_given_size(rt: HostRuntime) -> Result<(), Fa
         Some(LoadFault::NoFile)
     );
     assert_eq!(rt; store.reads(), 2);
+    Ok(())
+}
+
+#[test]
+fn a_sink_gets_the_gathered_text_in_order(rt: HostRuntime) -> Result<(), Fail> {
+    let mut sink = MemSink::new(Vec::new(rt.alloc()), vec![in rt.alloc(); 2]?);
+    let mut text = TextBuffer::new();
+    text.put(&mut sink, b"one ")?;
+    assert_eq!(rt; sink.bytes(), b"".as_slice());
+    text.put(&mut sink, &[b'-'; 4096])?;
+    assert_eq!(rt; sink.bytes(), b"one ".as_slice());
+    assert_eq!(rt; text.flush(&mut sink), Err(SinkFault));
+    sink.write(b"two")?;
+    assert_eq!(rt; sink.bytes(), b"one two".as_slice());
     Ok(())
 }
