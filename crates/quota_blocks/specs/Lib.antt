@@ -1,9 +1,12 @@
 pub mod Count
+pub mod InMemory
 pub mod Load
 pub mod MemStore
 pub mod QuotaFile
 pub mod QuotaValue
+pub mod Replace
 pub mod Text
 pub mod World
+pub use Rattle.quota_types.specs.Kept
 pub use Rattle.quota_types.specs.Range
 pub use Rattle.quota_types.specs.Rec

@@ -1,7 +1,7 @@
 -- What a quota file stands for, whatever its format.
 use Rattle.std.specs.Prelude.{◌≡◌, ℕ, ◌<◌, Option, Some, None}
 use Rattle.std.specs.Ordering.{nat_cmp}
-use Rattle.std.specs.FinMap.{FinMap, get}
+use Rattle.std.specs.FinMap.{FinMap, get, insert, remove}
 use Rattle.quota_types.specs.declared.file_kind.Kind.{Kind}
 use Rattle.quota_types.specs.declared.file_kind.Format.{Format}
 use Rattle.quota_types.specs.declared.record.Rec.{Rec}
@@ -19,6 +19,18 @@ pub record QuotaValue : Type 0 where
   pub grace : Grace
   pub flags : ℕ
   pub records : Records
+
+-- the value with this record of the identifier
+abbrev pub with_record : QuotaValue → ℕ → Rec → QuotaValue
+with_record value id rec = record value { records = insert value.records id rec }
+
+-- the value with no record of the identifier
+abbrev pub without_record : QuotaValue → ℕ → QuotaValue
+without_record value id = record value { records = remove value.records id }
+
+-- the value with these grace periods
+abbrev pub with_grace : QuotaValue → Grace → QuotaValue
+with_grace value grace = record value { grace = grace }
 
 -- an identifier comes after another one, or after none
 abbrev pub IsAfter : Option ℕ → ℕ → Type 0

@@ -1,5 +1,8 @@
-ghost use Rattle.std.specs.Prelude.{◌≡◌, ◌≤◌, ◌↔◌, IsTrue, Contains, if◌then◌else◌};
+ghost use Rattle.std.specs.Prelude.{◌≡◌, ◌≤◌, ◌↔◌, IsTrue, Contains, is_ok, if◌then◌else◌};
 ghost use Rattle.quota_blocks.specs.Count.{counted};
+
+use crate::StoreFault;
+use std::alloc::AllocError;
 
 /// Which calls of an object in memory are to fail, and how many did.
 #[derive(Debug, Drop)]
@@ -50,5 +53,22 @@ impl Failures {
         ensures later { self.old.faults ≤ self.new.faults }
     {
         self.faults = self.faults.saturating_add(1);
+    }
+
+    /// What a store answers that has done its work, or that could not get the memory for it, which is a fault.
+    pub(crate) fn outcome(&mut self, done: Result<(), AllocError>) -> Result<(), StoreFault>
+        ensures same { is_ok result ≡ is_ok done }
+        ensures failing { self.new.failing ≡ self.old.failing }
+        ensures calls { self.new.calls ≡ self.old.calls }
+        ensures faults { self.new.faults ≡ (if is_ok done then self.old.faults else counted self.old.faults) }
+        ensures later { self.old.faults ≤ self.new.faults }
+    {
+        match done {
+            Ok(()) => Ok(()),
+            Err(_) => {
+                self.count_fault();
+                Err(StoreFault)
+            }
+        }
     }
 }

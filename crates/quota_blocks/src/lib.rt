@@ -1,8 +1,9 @@
 //! What a quota program meets outside itself, and how it sees an opened quota file.
 //!
 //! A `Store` holds named files, and a `Sink` takes text. Each has a count of faults that never falls, and may tell
-//! its contents: an object in memory does, and an adapter over the real thing does not. `load` reads a whole file,
-//! `TextBuffer` gathers text in front of a sink, and `QuotaFile` is what every format of quota file offers.
+//! its contents: an object in memory does, and an adapter over the real thing does not. `load` reads a whole file and
+//! `replace` puts one in the place of another, `TextBuffer` gathers text in front of a sink, and `QuotaFile` is what
+//! every format of quota file offers.
 //!
 //! The one promise: every answer has a cause that the caller can see, and what is told of the outside stays in step
 //! with what was done.
@@ -11,15 +12,20 @@
 mod failures;
 mod mem_sink;
 mod mem_store;
+mod named_files;
 mod quota_file;
+mod replacement;
 mod sink;
 mod store;
+#[cfg(test)]
+mod tests;
 mod text_buffer;
 mod whole_file;
 
 pub use mem_sink::MemSink;
 pub use mem_store::MemStore;
 pub use quota_file::{FileFault, OpenFault, QuotaFile};
+pub use replacement::{ReplaceFault, replace};
 pub use sink::{Sink, SinkFault};
 pub use store::{Store, StoreFault};
 pub use text_buffer::TextBuffer;

@@ -1,4 +1,6 @@
-ghost use Rattle.std.specs.Prelude.{◌≡◌, ◌++◌, true};
+ghost use Rattle.std.specs.Prelude.{◌≡◌, ◌≤◌, ◌++◌, true, Contains, IsErr, OnOk, OnErr};
+ghost use Rattle.quota_blocks.specs.Count.{Rose, counted};
+ghost use Rattle.quota_blocks.specs.InMemory.{mem_sink_calls, mem_sink_failing, mem_sink_faults, mem_sink_written};
 
 use crate::failures::Failures;
 use crate::{Sink, SinkFault};
@@ -16,6 +18,8 @@ impl MemSink {
         ensures bytes { ⟦<MemSink as Sink>⟧.written result ≡ bytes.items }
         ensures told { ⟦<MemSink as Sink>⟧.tells result ≡ true }
         ensures faults { ⟦<MemSink as Sink>⟧.faults result ≡ 0 }
+        ensures failing { mem_sink_failing result ≡ failing.items }
+        ensures calls { mem_sink_calls result ≡ 0 }
     {
         MemSink {
             bytes,
@@ -34,11 +38,19 @@ impl MemSink {
 impl Sink for MemSink {
     ghost tells = { λ _. true };
 
-    ghost written = { λ s. s.bytes.items };
+    ghost written = { mem_sink_written };
 
-    ghost faults = { λ s. s.failures.faults };
+    ghost faults = { mem_sink_faults };
 
-    fn write(&mut self, bytes: &[u8]) -> Result<(), SinkFault> {
+    fn write(&mut self, bytes: &[u8]) -> Result<(), SinkFault>
+        ensures planned { Contains (mem_sink_failing self.old) (counted (mem_sink_calls self.old)) → IsErr result }
+        ensures ok { OnOk result (mem_sink_written self.new ≡ mem_sink_written self.old ++ bytes.now) }
+        ensures fault { OnErr result (mem_sink_written self.new ≡ mem_sink_written self.old) }
+        ensures failing { mem_sink_failing self.new ≡ mem_sink_failing self.old }
+        ensures calls { mem_sink_calls self.new ≡ counted (mem_sink_calls self.old) }
+        ensures cause { OnErr result (Rose (mem_sink_faults self.old) (mem_sink_faults self.new)) }
+        ensures later { mem_sink_faults self.old ≤ mem_sink_faults self.new }
+    {
         if self.failures.next_fails() {
             return Err(SinkFault);
         }

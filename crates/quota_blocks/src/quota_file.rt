@@ -1,9 +1,12 @@
-ghost use Rattle.std.specs.Prelude.{◌≡◌, ◌≤◌, Bool, None, IsTrue, IfOk, IfErr, IfSome};
+ghost use Rattle.std.specs.Prelude.{◌≡◌, ◌<◌, ◌≤◌, ℕ, Bool, List, None, not, IsTrue, IsSome, IfOk, IfErr, IfSome, OnOk};
 ghost use Rattle.std.specs.FinMap.{get};
 ghost use Rattle.quota_types.specs.declared.file_kind.Format.{Format};
-ghost use Rattle.quota_types.specs.Range.{grace_unfit};
-ghost use Rattle.quota_blocks.specs.QuotaValue.{QuotaValue, IsAfter, IsNextAfter};
-ghost use Rattle.quota_blocks.specs.QuotaFile.{IsLookupFault};
+ghost use Rattle.quota_types.specs.Kept.{kept_of};
+ghost use Rattle.quota_types.specs.Range.{grace_unfit, unfit};
+ghost use Rattle.quota_types.specs.Rec.{IsNull};
+ghost use Rattle.quota_blocks.specs.QuotaValue.{QuotaValue, IsAfter, IsNextAfter, with_grace, with_record, without_record};
+ghost use Rattle.quota_blocks.specs.QuotaFile.{IfFull, IsChangeFault, IsLookupFault, OnWant, is_store_fault};
+ghost use Rattle.quota_blocks.specs.Replace.{ReplacesOnly};
 
 use crate::Store;
 use quota_types::{Damage, Entry, Format, Grace, Rec};
@@ -60,6 +63,11 @@ pub enum OpenFault {
 }
 
 /// An opened quota file, whatever its format. Each call is given the store that the file was opened from.
+///
+/// What a change needs of memory is taken from the allocator that the opened file keeps. After a change for which there
+/// is no room, or no memory, nothing has changed. After one in which the store failed the opened file is not used again.
+/// What the named file holds then each type says itself, since it rests on how the type writes: a type that writes the
+/// whole file anew and then renames it leaves the old one, and one that writes in place may have written some blocks.
 pub trait QuotaFile<S: Store> {
     /// The opened file with the store holds this value: the store tells its files, the named file stands for the
     /// value, and what the opened file keeps agrees with that file.
@@ -70,6 +78,13 @@ pub trait QuotaFile<S: Store> {
 
     /// The file's format, whatever the store tells.
     ghost format_of: { Self → Format };
+
+    /// The bytes of the file's name.
+    ghost name_of: { Self → List ℕ };
+
+    /// The opened file with the store has no room for this value: it would need so many blocks, and may have only so
+    /// many.
+    ghost lacks_room: { Self → S → QuotaValue → ℕ → ℕ → Type 0 };
 
     /// The file's format.
     fn format(&self) -> Format
@@ -92,9 +107,11 @@ pub trait QuotaFile<S: Store> {
             → found ≡ get value.records id) }
         ensures refused { IfErr result (IsLookupFault (S.faults store.old) (S.faults store.new) (holds self.old store.old)) }
         ensures stays { (value : QuotaValue) → holds self.old store.old value → holds self.new store.new value }
+        ensures same_name { name_of self.new ≡ name_of self.old }
         ensures same_format { format_of self.new ≡ format_of self.old }
         ensures usable { is_usable self.new ≡ is_usable self.old }
         ensures later { S.faults store.old ≤ S.faults store.new }
+        ensures writes { S.writes store.new ≡ S.writes store.old }
         ensures same_files { S.files store.new ≡ S.files store.old }
         ensures same_telling { S.tells store.new ≡ S.tells store.old };
 
@@ -107,9 +124,92 @@ pub trait QuotaFile<S: Store> {
         ensures ascends { IfOk result (λ found. IfSome found (λ entry. IsAfter after entry.id)) }
         ensures refused { IfErr result (IsLookupFault (S.faults store.old) (S.faults store.new) (holds self.old store.old)) }
         ensures stays { (value : QuotaValue) → holds self.old store.old value → holds self.new store.new value }
+        ensures same_name { name_of self.new ≡ name_of self.old }
         ensures same_format { format_of self.new ≡ format_of self.old }
         ensures usable { is_usable self.new ≡ is_usable self.old }
         ensures later { S.faults store.old ≤ S.faults store.new }
+        ensures writes { S.writes store.new ≡ S.writes store.old }
         ensures same_files { S.files store.new ≡ S.files store.old }
         ensures same_telling { S.tells store.new ≡ S.tells store.old };
+
+    /// Gives an identifier this record, in place of the one that it may have. All other records stay. The record limits
+    /// or counts something, and the format keeps it as it is.
+    fn put(&mut self, store: &mut S, id: u32, rec: Rec) -> Result<(), FileFault>
+        requires usable { IsTrue (is_usable self.old) }
+        requires not_null { ¬ (IsNull rec) }
+        requires fits { unfit (format_of self.old) id rec ≡ None }
+        requires kept { kept_of (format_of self.old) id rec ≡ rec }
+        ensures put { OnOk result ((value : QuotaValue) → holds self.old store.old value
+            → holds self.new store.new (with_record value id rec)) }
+        ensures room { OnOk result ((value : QuotaValue) (blocks limit : ℕ) → holds self.old store.old value
+            → ¬ (lacks_room self.old store.old (with_record value id rec) blocks limit)) }
+        ensures refused { IfErr result (IsChangeFault (S.faults store.old) (S.faults store.new) (holds self.old store.old)
+            (λ blocks limit. (value : QuotaValue) → holds self.old store.old value
+            → lacks_room self.old store.old (with_record value id rec) blocks limit)) }
+        ensures passes { IfErr result (λ fault. IfFull fault (λ blocks limit. limit < blocks)) }
+        ensures stays { IfErr result (λ fault. OnWant fault ((value : QuotaValue) → holds self.old store.old value
+            → holds self.new store.new value)) }
+        ensures same_files { IfErr result (λ fault. OnWant fault (S.files store.new ≡ S.files store.old)) }
+        ensures writes { IfErr result (λ fault. OnWant fault (S.writes store.new ≡ S.writes store.old)) }
+        ensures others { IsTrue (S.tells store.old)
+            → ReplacesOnly (name_of self.old) (S.files store.old) (S.files store.new) }
+        ensures usable { OnOk result (is_usable self.new ≡ is_usable self.old) }
+        ensures unusable { IfErr result (λ fault. is_usable self.new ≡ not (is_store_fault fault)) }
+        ensures same_name { name_of self.new ≡ name_of self.old }
+        ensures same_format { format_of self.new ≡ format_of self.old }
+        ensures later { S.faults store.old ≤ S.faults store.new }
+        ensures same_telling { S.tells store.new ≡ S.tells store.old };
+
+    /// Takes an identifier's record away. All other records stay. Where it has none nothing changes.
+    fn remove(&mut self, store: &mut S, id: u32) -> Result<(), FileFault>
+        requires { IsTrue (is_usable self.old) }
+        ensures removed { OnOk result ((value : QuotaValue) → holds self.old store.old value
+            → holds self.new store.new (without_record value id)) }
+        ensures room { OnOk result ((value : QuotaValue) (blocks limit : ℕ) → holds self.old store.old value
+            → ¬ (lacks_room self.old store.old (without_record value id) blocks limit)) }
+        ensures absent { (value : QuotaValue) → holds self.old store.old value → get value.records id ≡ None
+            → S.files store.new ≡ S.files store.old }
+        ensures refused { IfErr result (IsChangeFault (S.faults store.old) (S.faults store.new) (holds self.old store.old)
+            (λ blocks limit. (value : QuotaValue) → holds self.old store.old value
+            → lacks_room self.old store.old (without_record value id) blocks limit)) }
+        ensures present { IfErr result (λ fault. IfFull fault (λ _ _. (value : QuotaValue) → holds self.old store.old value
+            → IsSome (get value.records id))) }
+        ensures passes { IfErr result (λ fault. IfFull fault (λ blocks limit. limit < blocks)) }
+        ensures stays { IfErr result (λ fault. OnWant fault ((value : QuotaValue) → holds self.old store.old value
+            → holds self.new store.new value)) }
+        ensures same_files { IfErr result (λ fault. OnWant fault (S.files store.new ≡ S.files store.old)) }
+        ensures writes { IfErr result (λ fault. OnWant fault (S.writes store.new ≡ S.writes store.old)) }
+        ensures others { IsTrue (S.tells store.old)
+            → ReplacesOnly (name_of self.old) (S.files store.old) (S.files store.new) }
+        ensures usable { OnOk result (is_usable self.new ≡ is_usable self.old) }
+        ensures unusable { IfErr result (λ fault. is_usable self.new ≡ not (is_store_fault fault)) }
+        ensures same_name { name_of self.new ≡ name_of self.old }
+        ensures same_format { format_of self.new ≡ format_of self.old }
+        ensures later { S.faults store.old ≤ S.faults store.new }
+        ensures same_telling { S.tells store.new ≡ S.tells store.old };
+
+    /// Sets both grace periods, for which the format has room. All records stay. `Full` never comes.
+    fn set_grace(&mut self, store: &mut S, grace: Grace) -> Result<(), FileFault>
+        requires usable { IsTrue (is_usable self.old) }
+        requires fits { grace_unfit (format_of self.old) grace ≡ None }
+        ensures set { OnOk result ((value : QuotaValue) → holds self.old store.old value
+            → holds self.new store.new (with_grace value grace)) }
+        ensures refused { IfErr result (IsChangeFault (S.faults store.old) (S.faults store.new) (holds self.old store.old)
+            (λ _ _. ⊥)) }
+        ensures stays { IfErr result (λ fault. OnWant fault ((value : QuotaValue) → holds self.old store.old value
+            → holds self.new store.new value)) }
+        ensures same_files { IfErr result (λ fault. OnWant fault (S.files store.new ≡ S.files store.old)) }
+        ensures writes { IfErr result (λ fault. OnWant fault (S.writes store.new ≡ S.writes store.old)) }
+        ensures others { IsTrue (S.tells store.old)
+            → ReplacesOnly (name_of self.old) (S.files store.old) (S.files store.new) }
+        ensures usable { OnOk result (is_usable self.new ≡ is_usable self.old) }
+        ensures unusable { IfErr result (λ fault. is_usable self.new ≡ not (is_store_fault fault)) }
+        ensures same_name { name_of self.new ≡ name_of self.old }
+        ensures same_format { format_of self.new ≡ format_of self.old }
+        ensures later { S.faults store.old ≤ S.faults store.new }
+        ensures same_telling { S.tells store.new ≡ S.tells store.old };
+
+    /// What an opened file with its store holds rests on the named file, and on no other file of the store.
+    ghost rests_on_named: { (file : Self) (one other : S) (value : QuotaValue) → S.tells other ≡ S.tells one
+        → S.files other (name_of file) ≡ S.files one (name_of file) → holds file one value → holds file other value };
 }

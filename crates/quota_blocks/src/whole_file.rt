@@ -48,6 +48,7 @@ pub fn load<S: Store>(
     ensures refused { IfErr result (IsLoadFault (S.faults store.old) (S.faults store.new) (S.tells store.old)
         (S.files store.old name.now) most) }
     ensures later { S.faults store.old ≤ S.faults store.new }
+    ensures writes { S.writes store.new ≡ S.writes store.old }
     ensures same_files { S.files store.new ≡ S.files store.old }
     ensures same_telling { S.tells store.new ≡ S.tells store.old }
 {
@@ -82,6 +83,7 @@ fn append_block<S: Store>(
     ensures within { IfOk result (λ count. count ≤ most) }
     ensures refused { IfErr result (IsReadFault (S.faults store.old) (S.faults store.new)) }
     ensures later { S.faults store.old ≤ S.faults store.new }
+    ensures writes { S.writes store.new ≡ S.writes store.old }
     ensures same_files { S.files store.new ≡ S.files store.old }
     ensures same_telling { S.tells store.new ≡ S.tells store.old }
 {

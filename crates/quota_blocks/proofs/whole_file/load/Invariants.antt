@@ -8,8 +8,11 @@ decreases-loop-bytes g l = l.len - vec_len l.bytes
 abbrev pub invariant-loop-bytes : goal.invariant-loop-bytes
 invariant-loop-bytes g l =
     let S = g.S.Store in
-    (IsTrue (S.tells l.fn.store) → IsBegun (S.files l.fn.store l.name) l.len l.bytes.items)
-    × (vec_len l.bytes ≤ l.len)
-    × (S.faults l.fn.store ≤ S.faults l.store)
-    × (S.files l.store ≡ S.files l.fn.store)
-    × (S.tells l.store ≡ S.tells l.fn.store)
+    record {
+      begun : IsTrue (S.tells l.fn.store) → IsBegun (S.files l.fn.store l.name) l.len l.bytes.items;
+      within : vec_len l.bytes ≤ l.len;
+      later : S.faults l.fn.store ≤ S.faults l.store;
+      writes : S.writes l.store ≡ S.writes l.fn.store;
+      same_files : S.files l.store ≡ S.files l.fn.store;
+      same_telling : S.tells l.store ≡ S.tells l.fn.store;
+    }

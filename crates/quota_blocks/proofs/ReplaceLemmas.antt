@@ -1,0 +1,58 @@
+-- A file that is written in pieces under another name, and then renamed.
+use Rattle.std.proofs.Common.{◌≡◌, ◌≢◌, ◌⊎◌, inl, inr, ℕ, ◌+◌, ◌-◌, ◌≤◌, List, [], ◌++◌, length, take, drop, replicate, Option, None, Some, sym, ap, subst, ◌∙◌, arith, append-nil, length-append, length-take}
+use Rattle.std.specs.Prelude.{codes}
+use Rattle.std.specs.Option.{option_map_or, unwrap_or}
+use Rattle.std.proofs.Math.Seq.{take-add}
+use Rattle.std.proofs.lemmas.List.{take_all, drop_all}
+use Rattle.quota_blocks.specs.Replace.{replacement_name}
+use Rattle.quota_blocks.specs.World.{World, KeepsOthers, overwritten, with_bytes, with_file, with_new_name}
+use Rattle.quota_blocks.proofs.WorldLemmas.{with_file-at, with_file-again, KeepsOthers-with_file, KeepsOthers-then}
+
+-- a piece written behind the pieces before it
+overwritten-piece : (bytes : List ℕ) (at end : ℕ) → at ≤ end → end ≤ length bytes → overwritten (take at bytes) at (take (end - at) (drop at bytes)) ≡ take end bytes
+overwritten-piece bytes at end before within =
+    let long : length (take at bytes) ≡ at = omega (arith, length-take at bytes) in
+    let none : at - length (take at bytes) ≡ 0 = omega (arith, long) in
+    let piece = take (end - at) (drop at bytes) in
+    let whole : at + (end - at) ≡ end = omega arith in
+    ap (λ (rest : List ℕ). take at (take at bytes) ++ replicate (at - length (take at bytes)) 0 ++ piece ++ rest)
+    (drop_all (at + length piece) (take at bytes) (omega (arith, long)))
+    ∙ append-nil (take at (take at bytes) ++ replicate (at - length (take at bytes)) 0 ++ piece)
+    ∙ ap (λ (n : ℕ). take at (take at bytes) ++ replicate n 0 ++ piece) none
+    ∙ ap (λ (front : List ℕ). front ++ piece) (append-nil (take at (take at bytes)) ∙ take_all at (take at bytes) (omega (arith, long)))
+    ∙ sym (take-add at (end - at) bytes)
+    ∙ ap (λ (n : ℕ). take n bytes) whole
+
+-- the files after one more piece
+pub with_bytes-piece : (files now : World) (name bytes : List ℕ) (at end : ℕ) → at ≤ end → end ≤ length bytes → now ≡ with_file files name (Some (take at bytes)) → with_bytes now name at (take (end - at) (drop at bytes)) ≡ with_file files name (Some (take end bytes))
+with_bytes-piece files now name bytes at end before within is =
+    let piece = take (end - at) (drop at bytes) in
+    ap (λ (f : World). with_bytes f name at piece) is
+    ∙ ap (λ (file : Option (List ℕ)). with_file (with_file files name (Some (take at bytes))) name (Some (overwritten (unwrap_or file []) at piece))) (with_file-at files name (Some (take at bytes)))
+    ∙ with_file-again files name (Some (take at bytes)) (Some (overwritten (take at bytes) at piece))
+    ∙ ap (λ (b : List ℕ). with_file files name (Some b)) (overwritten-piece bytes at end before within)
+
+-- all files but one stay where that one was changed
+pub KeepsOthers-changed : (files now : World) (name : List ℕ) (file : Option (List ℕ)) → now ≡ with_file files name file → KeepsOthers name files now
+KeepsOthers-changed files now name file is = subst (λ (f : World). KeepsOthers name files f) (sym is) (KeepsOthers-with_file files name file)
+
+-- all files but one stay where a call may have changed that one
+pub KeepsOthers-either : (files now new : World) (name : List ℕ) (file : Option (List ℕ)) → (new ≡ now) ⊎ (new ≡ with_file now name file) → KeepsOthers name files now → KeepsOthers name files new
+KeepsOthers-either files now new name file (inl same) kept = subst (λ (f : World). KeepsOthers name files f) (sym same) kept
+KeepsOthers-either files now new name file (inr changed) kept = KeepsOthers-then name files now new kept (KeepsOthers-changed now new name file changed)
+
+-- the added part makes another name
+pub replacement_name-ne : (name : List ℕ) → replacement_name name ≢ name
+unfolding replacement_name
+replacement_name-ne name same = omega (arith, ap length same, length-append name (codes ".new"))
+
+-- the old file stays where only the new one was changed
+pub keeps_named : (name new_name : List ℕ) (old new : World) → KeepsOthers new_name old new → new_name ≡ replacement_name name → new name ≡ old name
+keeps_named name new_name old new kept is = kept name (λ same. replacement_name-ne name (sym (same ∙ is)))
+
+-- the new file in the place of the old one
+pub with_new_name-replaced : (files now : World) (from to bytes : List ℕ) → now ≡ with_file files from (Some bytes) → with_new_name now from to ≡ with_file (with_file files from None) to (Some bytes)
+with_new_name-replaced files now from to bytes is =
+    ap (λ (f : World). with_new_name f from to) is
+    ∙ ap (λ (file : Option (List ℕ)). option_map_or (λ (b : List ℕ). with_file (with_file (with_file files from (Some bytes)) from None) to (Some b)) file (with_file files from (Some bytes))) (with_file-at files from (Some bytes))
+    ∙ ap (λ (f : World). with_file f to (Some bytes)) (with_file-again files from (Some bytes) None)

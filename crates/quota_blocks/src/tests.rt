@@ -1,0 +1,117 @@
+use crate::{
+    LoadFault, MemSink, MemStore, ReplaceFault, Sink, SinkFault, Store, StoreFault, TextBuffer,
+    load, replace,
+};
+use std::alloc::Global;
+use std::test::Fail;
+
+fn empty_store(alloc: Global, failing: Vec<u64>) -> MemStore {
+    MemStore::new(Vec::new(alloc), failing)
+}
+
+#[test]
+fn a_store_holds_what_each_call_leaves(rt: HostRuntime) -> Result<(), Fail> {
+    let mut store = empty_store(rt.alloc(), Vec::new(rt.alloc()));
+    store.write("q", 0, b"abc")?;
+    assert_eq!(rt; store.file("q"), Some(b"abc".as_slice()));
+    store.write("q", 5, b"z")?;
+    assert_eq!(rt; store.file("q"), Some(b"abc\0\0z".as_slice()));
+    store.write("q", 1, b"XY")?;
+    assert_eq!(rt; store.file("q"), Some(b"aXY\0\0z".as_slice()));
+    store.write("q", 4, b"1234")?;
+    assert_eq!(rt; store.file("q"), Some(b"aXY\x001234".as_slice()));
+    store.sync("q")?;
+    assert_eq!(rt; store.size("q")?, Some(8));
+    store.write("r", 2, b"r")?;
+    assert_eq!(rt; store.file("r"), Some(b"\0\0r".as_slice()));
+    store.rename("absent", "r")?;
+    assert_eq!(rt; store.file("r"), Some(b"\0\0r".as_slice()));
+    store.rename("q", "r")?;
+    assert_eq!(rt; store.file("r"), Some(b"aXY\x001234".as_slice()));
+    assert_eq!(rt; store.file("q"), None);
+    store.rename("r", "s")?;
+    assert_eq!(rt; store.size("r")?, None);
+    assert_eq!(rt; store.size("s")?, Some(8));
+    store.create("s")?;
+    store.create("t")?;
+    assert_eq!(rt; store.size("s")?, Some(0));
+    assert_eq!(rt; store.size("t")?, Some(0));
+    assert_eq!(rt; store.writes(), 5);
+    assert_eq!(rt; store.reads(), 0);
+    Ok(())
+}
+
+#[test]
+fn a_store_fails_at_the_calls_that_were_named(rt: HostRuntime) -> Result<(), Fail> {
+    let mut store = empty_store(rt.alloc(), vec![in rt.alloc(); 2, 3, 5, 7]?);
+    let mut buf = [9u8; 4];
+    store.write("q", 0, b"abc")?;
+    assert_eq!(rt; store.write("q", 0, b"X"), Err(StoreFault));
+    assert_eq!(rt; store.create("q"), Err(StoreFault));
+    store.sync("q")?;
+    assert_eq!(rt; store.rename("q", "r"), Err(StoreFault));
+    assert_eq!(rt; store.read("q", 1, &mut buf)?, 2);
+    assert_eq!(rt; buf, [b'b', b'c', 9, 9]);
+    assert_eq!(rt; store.read("q", 1, &mut buf), Err(StoreFault));
+    assert_eq!(rt; store.file("q"), Some(b"abc".as_slice()));
+    assert_eq!(rt; store.reads(), 2);
+    assert_eq!(rt; store.writes(), 2);
+    Ok(())
+}
+
+#[test]
+fn a_replacement_takes_the_place_of_the_old_file_or_leaves_it(rt: HostRuntime) -> Result<(), Fail> {
+    let bytes = vec![in rt.alloc(); 7u8; 2500]?;
+    for failing in 3..=9 {
+        let mut store = empty_store(rt.alloc(), vec![in rt.alloc(); failing]?);
+        store.write("q", 0, b"old")?;
+        store.write("q.new", 0, b"left over")?;
+        let replaced = replace(rt.alloc(), &mut store, "q", bytes.as_slice());
+        if failing < 9 {
+            assert_eq!(rt; replaced, Err(ReplaceFault::Store), "at call {failing}");
+            assert_eq!(rt;
+                store.file("q"),
+                Some(b"old".as_slice()),
+                "at call {failing}"
+            );
+        } else {
+            assert_eq!(rt; replaced, Ok(()));
+            assert_eq!(rt; store.file("q"), Some(bytes.as_slice()));
+            assert_eq!(rt; store.file("q.new"), None);
+            assert_eq!(rt; store.writes(), 5);
+        }
+    }
+    Ok(())
+}
+
+#[test]
+fn a_file_is_loaded_whole_up_to_the_given_size(rt: HostRuntime) -> Result<(), Fail> {
+    let mut store = empty_store(rt.alloc(), Vec::new(rt.alloc()));
+    store.write("q", 1024, b"end")?;
+    let whole = load(rt.alloc(), &mut store, "q", 1027);
+    assert!(rt; whole.is_ok_and(|file| file.len() == 1027 && file.ends_with(b"\0end")));
+    assert_eq!(rt;
+        load(rt.alloc(), &mut store, "q", 1026).err(),
+        Some(LoadFault::TooLarge)
+    );
+    assert_eq!(rt;
+        load(rt.alloc(), &mut store, "r", 1026).err(),
+        Some(LoadFault::NoFile)
+    );
+    assert_eq!(rt; store.reads(), 2);
+    Ok(())
+}
+
+#[test]
+fn a_sink_gets_the_gathered_text_in_order(rt: HostRuntime) -> Result<(), Fail> {
+    let mut sink = MemSink::new(Vec::new(rt.alloc()), vec![in rt.alloc(); 2]?);
+    let mut text = TextBuffer::new();
+    text.put(&mut sink, b"one ")?;
+    assert_eq!(rt; sink.bytes(), b"".as_slice());
+    text.put(&mut sink, &[b'-'; 4096])?;
+    assert_eq!(rt; sink.bytes(), b"one ".as_slice());
+    assert_eq!(rt; text.flush(&mut sink), Err(SinkFault));
+    sink.write(b"two")?;
+    assert_eq!(rt; sink.bytes(), b"one two".as_slice());
+    Ok(())
+}
