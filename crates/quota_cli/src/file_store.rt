@@ -1,23 +1,36 @@
-ghost use Rattle.std.specs.Prelude.{◌≡◌, ◌≤◌, length, IfOk};
-ghost use Rattle.quota_blocks.specs.Count.{counted};
+ghost use Rattle.std.specs.Prelude.{◌≡◌, ◌≤◌, length, Ok, IfOk, OnErr};
+ghost use Rattle.quota_blocks.specs.Count.{Rose};
 
 use quota_blocks::{Store, StoreFault};
 use std::alloc::Global;
-use std::fs::{File, Files};
+use std::fs;
+use std::fs::{File, Files, OpenOptions};
 use std::io;
 use std::io::ErrorKind;
-use std::os::unix::fs::FileExt;
+use std::os::unix::fs::{FileExt, MetadataExt, OpenOptionsExt, chown};
+
+/// What an open file may be used for.
+#[derive(Clone, Copy, Debug, PartialEq, Eq)]
+enum Access {
+    /// To read it.
+    Reading,
+    /// To read it and write to it; it is made where it is not there.
+    Writing,
+    /// The same, and it begins empty.
+    Making,
+}
 
 /// An open file, with the name that it was opened by.
 #[derive(Drop)]
 struct Opened {
     name: String,
     file: File,
+    access: Access,
 }
 
 /// The files of the system as a store, by paths that count from the current folder. It tells nothing of them.
 ///
-/// The file that was used last stays open, so that a read is one call of the system.
+/// The file that was used last stays open, so that a read or a write is one call of the system.
 #[derive(Drop)]
 pub struct FileStore<'a, R> {
     alloc: Global,
@@ -25,6 +38,7 @@ pub struct FileStore<'a, R> {
     last: Option<Opened>,
     faults: u64,
     reads: u64,
+    writes: u64,
 }
 
 /// Reads from a place on until the buffer is full or the file ends.
@@ -46,11 +60,43 @@ fn read_from(file: &File, at: u64, buf: &mut [u8]) -> io::Result<usize>
     Ok(done)
 }
 
+/// Opens a file by its path. A file that is made may be read and written by its owner alone.
+fn open_file<R: Files<File = File>>(files: &R, name: &str, access: Access) -> io::Result<File> {
+    let mut options = OpenOptions::new();
+    options.read(true);
+    if access != Access::Reading {
+        options.write(true).create(true).mode(0o600);
+    }
+    if access == Access::Making {
+        options.truncate(true);
+    }
+    options.open(files, name)
+}
+
+/// Gives a file the owner and the permissions of another one, as far as the system lets us.
+fn take_owner<R: Files>(files: &R, from: &str, of: &str) {
+    if let Ok(metadata) = fs::metadata(files, of) {
+        let _ = chown(files, from, Some(metadata.uid()), Some(metadata.gid()));
+        let _ = fs::set_permissions(files, from, metadata.permissions());
+    }
+}
+
+/// Keeps the names of a file's folder safe, so that a rename survives a power cut.
+fn sync_folder<R: Files<File = File>>(files: &R, name: &str) -> io::Result<()> {
+    let folder = match name.rsplit_once('/') {
+        Some(("", _)) => "/",
+        Some((folder, _)) => folder,
+        None => ".",
+    };
+    File::open(files, folder)?.sync_all()
+}
+
 impl<'a, R: Files<File = File>> FileStore<'a, R> {
     /// The files of the system, none of them open yet.
     pub fn new(alloc: Global, files: &'a R) -> Self
         ensures faults { result.faults ≡ 0 }
         ensures reads { result.reads ≡ 0 }
+        ensures writes { result.writes ≡ 0 }
     {
         FileStore {
             alloc,
@@ -58,26 +104,31 @@ impl<'a, R: Files<File = File>> FileStore<'a, R> {
             last: None,
             faults: 0,
             reads: 0,
+            writes: 0,
         }
     }
 
-    /// Opens a file, unless it is the one that was used last. False where there is none of this name.
-    fn open(&mut self, name: &str) -> io::Result<bool>
+    /// Opens a file, unless it is the one that was used last. False where it is to be read and is not there.
+    fn open(&mut self, name: &str, access: Access) -> io::Result<bool>
         ensures faults { self.new.faults ≡ self.old.faults }
         ensures reads { self.new.reads ≡ self.old.reads }
+        ensures writes { self.new.writes ≡ self.old.writes }
     {
         if let Some(last) = &self.last {
-            if last.name.as_str() == name {
+            let serves = access == Access::Reading || last.access != Access::Reading;
+            if serves && access != Access::Making && last.name.as_str() == name {
                 return Ok(true);
             }
         }
-        match File::open(self.files, name) {
+        match open_file(self.files, name, access) {
             Ok(file) => {
                 let name = String::from_str(self.alloc, name)?;
-                self.last = Some(Opened { name, file });
+                self.last = Some(Opened { name, file, access });
                 Ok(true)
             }
-            Err(error) if error.kind() == ErrorKind::NotFound => Ok(false),
+            Err(error) if error.kind() == ErrorKind::NotFound && access == Access::Reading => {
+                Ok(false)
+            }
             Err(error) => Err(error),
         }
     }
@@ -86,8 +137,9 @@ impl<'a, R: Files<File = File>> FileStore<'a, R> {
     fn length(&mut self, name: &str) -> io::Result<Option<u64>>
         ensures faults { self.new.faults ≡ self.old.faults }
         ensures reads { self.new.reads ≡ self.old.reads }
+        ensures writes { self.new.writes ≡ self.old.writes }
     {
-        if !self.open(name)? {
+        if !self.open(name, Access::Reading)? {
             return Ok(None);
         }
         let Some(last) = &self.last else {
@@ -104,8 +156,9 @@ impl<'a, R: Files<File = File>> FileStore<'a, R> {
         ensures fits { IfOk result (λ count. count ≤ length buf.new) }
         ensures faults { self.new.faults ≡ self.old.faults }
         ensures reads { self.new.reads ≡ self.old.reads }
+        ensures writes { self.new.writes ≡ self.old.writes }
     {
-        if !self.open(name)? {
+        if !self.open(name, Access::Reading)? {
             return Ok(0);
         }
         match &self.last {
@@ -114,12 +167,63 @@ impl<'a, R: Files<File = File>> FileStore<'a, R> {
         }
     }
 
-    fn count_fault(&mut self)
-        ensures faults { self.new.faults ≡ counted self.old.faults }
+    fn write_file(&mut self, name: &str, at: u64, bytes: &[u8]) -> io::Result<()>
+        ensures faults { self.new.faults ≡ self.old.faults }
+        ensures reads { self.new.reads ≡ self.old.reads }
+        ensures writes { self.new.writes ≡ self.old.writes }
+    {
+        self.open(name, Access::Writing)?;
+        match &self.last {
+            Some(last) => last.file.write_all_at(bytes, at),
+            None => Ok(()),
+        }
+    }
+
+    /// Waits until a file's bytes are on the disk. A file that is not there has none.
+    fn sync_file(&mut self, name: &str) -> io::Result<()>
+        ensures faults { self.new.faults ≡ self.old.faults }
+        ensures reads { self.new.reads ≡ self.old.reads }
+        ensures writes { self.new.writes ≡ self.old.writes }
+    {
+        if !self.open(name, Access::Reading)? {
+            return Ok(());
+        }
+        match &self.last {
+            Some(last) => last.file.sync_all(),
+            None => Ok(()),
+        }
+    }
+
+    /// Renames a file, which takes the owner and the permissions of the one that had the name.
+    fn rename_file(&mut self, from: &str, to: &str) -> io::Result<()>
+        ensures faults { self.new.faults ≡ self.old.faults }
+        ensures reads { self.new.reads ≡ self.old.reads }
+        ensures writes { self.new.writes ≡ self.old.writes }
+    {
+        self.last = None;
+        take_owner(self.files, from, to);
+        match fs::rename(self.files, from, to) {
+            Ok(()) => sync_folder(self.files, to),
+            Err(error) if error.kind() == ErrorKind::NotFound => Ok(()),
+            Err(error) => Err(error),
+        }
+    }
+
+    /// Turns an error of the system into a fault, which is counted.
+    fn counting<T>(&mut self, answer: io::Result<T>) -> Result<T, StoreFault>
+        ensures ok { IfOk result (λ value. answer ≡ Ok value) }
+        ensures cause { OnErr result (Rose self.old.faults self.new.faults) }
         ensures later { self.old.faults ≤ self.new.faults }
         ensures reads { self.new.reads ≡ self.old.reads }
+        ensures writes { self.new.writes ≡ self.old.writes }
     {
-        self.faults = self.faults.saturating_add(1);
+        match answer {
+            Ok(value) => Ok(value),
+            Err(_) => {
+                self.faults = self.faults.saturating_add(1);
+                Err(StoreFault)
+            }
+        }
     }
 }
 
@@ -134,24 +238,39 @@ impl<'a, R: Files<File = File>> Store for FileStore<'a, R> {
 
     ghost reads = { λ s. s.reads };
 
+    ghost writes = { λ s. s.writes };
+
     fn size(&mut self, name: &str) -> Result<Option<u64>, StoreFault> {
-        match self.length(name) {
-            Ok(found) => Ok(found),
-            Err(_) => {
-                self.count_fault();
-                Err(StoreFault)
-            }
-        }
+        let found = self.length(name);
+        self.counting(found)
     }
 
     fn read(&mut self, name: &str, at: u64, buf: &mut [u8]) -> Result<usize, StoreFault> {
         self.reads = self.reads.saturating_add(1);
-        match self.read_file(name, at, buf) {
-            Ok(count) => Ok(count),
-            Err(_) => {
-                self.count_fault();
-                Err(StoreFault)
-            }
+        let count = self.read_file(name, at, buf);
+        self.counting(count)
+    }
+
+    fn write(&mut self, name: &str, at: u64, bytes: &[u8]) -> Result<(), StoreFault> {
+        self.writes = self.writes.saturating_add(1);
+        let done = self.write_file(name, at, bytes);
+        self.counting(done)
+    }
+
+    fn create(&mut self, name: &str) -> Result<(), StoreFault> {
+        match self.open(name, Access::Making) {
+            Ok(_) => Ok(()),
+            Err(error) => self.counting(Err(error)),
         }
+    }
+
+    fn sync(&mut self, name: &str) -> Result<(), StoreFault> {
+        let done = self.sync_file(name);
+        self.counting(done)
+    }
+
+    fn rename(&mut self, from: &str, to: &str) -> Result<(), StoreFault> {
+        let done = self.rename_file(from, to);
+        self.counting(done)
     }
 }

@@ -40,6 +40,7 @@ pub fn report_flat_file<S: Store, O: Sink>(
     ensures about_file { IfErr result (λ cause. status_of cause ≢ 2) }
     ensures store_later { S.faults store.old ≤ S.faults store.new }
     ensures out_later { O.faults out.old ≤ O.faults out.new }
+    ensures writes { S.writes store.new ≡ S.writes store.old }
     ensures same_files { S.files store.new ≡ S.files store.old }
     ensures store_telling { S.tells store.new ≡ S.tells store.old }
     ensures out_telling { O.tells out.new ≡ O.tells out.old }
@@ -70,6 +71,7 @@ fn write_report<S: Store, O: Sink>(
     ensures about_file { IfErr result (λ cause. status_of cause ≢ 2) }
     ensures store_later { S.faults store.old ≤ S.faults store.new }
     ensures out_later { O.faults out.old ≤ O.faults out.new }
+    ensures writes { S.writes store.new ≡ S.writes store.old }
     ensures same_files { S.files store.new ≡ S.files store.old }
     ensures store_telling { S.tells store.new ≡ S.tells store.old }
     ensures out_telling { O.tells out.new ≡ O.tells out.old }

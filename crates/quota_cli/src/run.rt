@@ -72,6 +72,7 @@ pub fn run<S: Store, O: Sink, E: Sink>(
         → ¬ Rose (S.faults store.old) (S.faults store.new) → ¬ Rose (O.faults out.old) (O.faults out.new)
         → (result ≡ 0) ⊎ (result ≡ 5) }
 
+    ensures writes { S.writes store.new ≡ S.writes store.old }
     ensures same_files { S.files store.new ≡ S.files store.old }
     ensures store_later { S.faults store.old ≤ S.faults store.new }
     ensures out_later { O.faults out.old ≤ O.faults out.new }
@@ -111,6 +112,7 @@ fn attempt<'a, S: Store, O: Sink>(
         → HasReason (Rose (S.faults store.old) (S.faults store.new)) (Rose (O.faults out.old) (O.faults out.new)) ⊥ refusal.cause) }
     ensures store_later { S.faults store.old ≤ S.faults store.new }
     ensures out_later { O.faults out.old ≤ O.faults out.new }
+    ensures writes { S.writes store.new ≡ S.writes store.old }
     ensures same_files { S.files store.new ≡ S.files store.old }
     ensures store_telling { S.tells store.new ≡ S.tells store.old }
     ensures out_telling { O.tells out.new ≡ O.tells out.old }

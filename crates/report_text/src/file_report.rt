@@ -38,6 +38,7 @@ pub fn report<S: Store, F: QuotaFile<S>, O: Sink>(
     ensures usable { F.is_usable file.new ≡ F.is_usable file.old }
     ensures store_later { S.faults store.old ≤ S.faults store.new }
     ensures sink_later { O.faults sink.old ≤ O.faults sink.new }
+    ensures writes { S.writes store.new ≡ S.writes store.old }
     ensures same_files { S.files store.new ≡ S.files store.old }
     ensures store_telling { S.tells store.new ≡ S.tells store.old }
     ensures sink_telling { O.tells sink.new ≡ O.tells sink.old }
@@ -72,6 +73,7 @@ fn put_entries<S: Store, F: QuotaFile<S>, O: Sink>(
     ensures usable { F.is_usable file.new ≡ F.is_usable file.old }
     ensures store_later { S.faults store.old ≤ S.faults store.new }
     ensures sink_later { O.faults sink.old ≤ O.faults sink.new }
+    ensures writes { S.writes store.new ≡ S.writes store.old }
     ensures same_files { S.files store.new ≡ S.files store.old }
     ensures store_telling { S.tells store.new ≡ S.tells store.old }
     ensures sink_telling { O.tells sink.new ≡ O.tells sink.old }
