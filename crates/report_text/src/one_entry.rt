@@ -8,7 +8,7 @@ pub(crate) struct OneEntry {
 }
 
 impl<S: Store> QuotaFile<S> for OneEntry {
-    ghost use Rattle.std.specs.Prelude.{true};
+    ghost use Rattle.std.specs.Prelude.{⊥, true, []};
     ghost use Rattle.quota_types.specs.declared.file_kind.Format.TheVariants.{V1};
 
     ghost holds = { λ _ _ _. ⊥ };
@@ -16,6 +16,10 @@ impl<S: Store> QuotaFile<S> for OneEntry {
     ghost is_usable = { λ _. true };
 
     ghost format_of = { λ _. V1 };
+
+    ghost name_of = { λ _. [] };
+
+    ghost lacks_room = { λ _ _ _ _ _. ⊥ };
 
     fn format(&self) -> Format {
         Format::V1

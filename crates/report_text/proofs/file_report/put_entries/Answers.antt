@@ -15,6 +15,7 @@ loop-entry-init g c = record {
   store_later = omega arith;
   sink_later = omega arith;
   same_files = refl;
+  writes = refl;
   store_telling = refl;
   sink_telling = refl;
 }
@@ -50,6 +51,7 @@ loop-entry-preserved g c =
       store_later = omega (arith, found.later, kept.store_later);
       sink_later = omega (arith, put.later, kept.sink_later);
       same_files = found.same_files ∙ kept.same_files;
+      writes = found.writes ∙ kept.writes;
       store_telling = found.same_telling ∙ kept.store_telling;
       sink_telling = put.same_telling ∙ kept.sink_telling;
     }

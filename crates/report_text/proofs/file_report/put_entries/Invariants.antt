@@ -19,6 +19,7 @@ invariant-loop-entry g l =
       store_later : S.faults l.fn.store ≤ S.faults l.store;
       sink_later : O.faults l.fn.sink ≤ O.faults l.sink;
       same_files : S.files l.store ≡ S.files l.fn.store;
+      writes : S.writes l.store ≡ S.writes l.fn.store;
       store_telling : S.tells l.store ≡ S.tells l.fn.store;
       sink_telling : O.tells l.sink ≡ O.tells l.fn.sink;
     }
