@@ -19,7 +19,7 @@ use Rattle.quota_cli.specs.declared.refusal.Cause.TheVariants.{StoreFault, SinkF
 use Rattle.quota_cli.specs.Refusal.{status_of}
 use Rattle.quota_cli.specs.Effect.{opening_cause}
 use Rattle.quota_cli.specs.ReportCommand.{IsRefusedView, report_cause, report_of_view}
-use Rattle.quota_cli.specs.Run.{HasReason}
+use Rattle.quota_cli.specs.Run.{HasReason, MayRefuse}
 
 -- why a report was not written whole
 pub report_reason : (sink_before sink_now store_before store_now : ℕ) (holds : QuotaValue → Type 0) (fault : ReportFault) → IsReportFault sink_before sink_now store_before store_now holds fault → HasReason (Rose store_before store_now) (Rose sink_before sink_now) ((value : QuotaValue) → holds value → ⊥) (report_cause fault)
@@ -32,15 +32,36 @@ report_reason sink_before sink_now store_before store_now holds (File NoMemory) 
 -- why a file was not opened, where some fact holds besides
 pub opening_reason : (before now : ℕ) (tells : Bool) (named : Option (List ℕ)) (out_rose besides : Type 0) (fault : OpenFault) → besides → IsFlatFault before now tells named fault → HasReason (Rose before now) out_rose (IsTrue tells → IsRefusedView named (opening_cause fault) × besides) (opening_cause fault)
 opening_reason before now tells named out_rose besides Store fact cause = cause
-opening_reason before now tells named out_rose besides NoFile fact cause = λ told. ((NoFile, cause told User, refl), fact)
-opening_reason before now tells named out_rose besides (TooLarge number limit) fact cause = λ told. ((TooLarge number limit, cause told User, refl), fact)
+opening_reason before now tells named out_rose besides NoFile fact cause = λ told. ((NoFile, cause told, refl), fact)
+opening_reason before now tells named out_rose besides (TooLarge number limit) fact cause = λ told. ((TooLarge number limit, (cause.1 told, cause.0), refl), fact)
 opening_reason before now tells named out_rose besides Memory fact cause = tt
-opening_reason before now tells named out_rose besides NotQuota fact cause = λ told. ((NotQuota, cause told User, refl), fact)
-opening_reason before now tells named out_rose besides WrongKind fact cause = λ told. ((WrongKind, cause told User, refl), fact)
-opening_reason before now tells named out_rose besides UnknownVersion fact cause = λ told. ((UnknownVersion, cause told User, refl), fact)
-opening_reason before now tells named out_rose besides BadBlockCount fact cause = λ told. ((BadBlockCount, cause told User, refl), fact)
-opening_reason before now tells named out_rose besides (FormatMismatch found) fact cause = λ told. ((FormatMismatch found, cause told User, refl), fact)
-opening_reason before now tells named out_rose besides (Damage damage) fact cause = λ told. ((Damage damage, cause told User, refl), fact)
+opening_reason before now tells named out_rose besides NotQuota fact cause = absurd cause
+opening_reason before now tells named out_rose besides WrongKind fact cause = absurd cause
+opening_reason before now tells named out_rose besides UnknownVersion fact cause = absurd cause
+opening_reason before now tells named out_rose besides BadBlockCount fact cause = absurd cause
+opening_reason before now tells named out_rose besides (FormatMismatch found) fact cause = absurd cause
+opening_reason before now tells named out_rose besides (Damage damage) fact cause = λ told. ((Damage damage, cause.1 told, refl), fact)
+
+-- a cause for which a report is not written whole is one for which a run may be refused
+pub report_may : (sink_before sink_now store_before store_now : ℕ) (holds : QuotaValue → Type 0) (fault : ReportFault) → IsReportFault sink_before sink_now store_before store_now holds fault → MayRefuse (report_cause fault)
+report_may sink_before sink_now store_before store_now holds Sink cause = tt
+report_may sink_before sink_now store_before store_now holds (File StoreFailed) cause = tt
+report_may sink_before sink_now store_before store_now holds (File (Damaged damage)) cause = tt
+report_may sink_before sink_now store_before store_now holds (File (Full blocks limit)) cause = cause
+report_may sink_before sink_now store_before store_now holds (File NoMemory) cause = tt
+
+-- a cause for which a file is not opened is one for which a run may be refused
+pub opening_may : (before now : ℕ) (tells : Bool) (named : Option (List ℕ)) (fault : OpenFault) → IsFlatFault before now tells named fault → MayRefuse (opening_cause fault)
+opening_may before now tells named Store cause = tt
+opening_may before now tells named NoFile cause = tt
+opening_may before now tells named (TooLarge number limit) cause = tt
+opening_may before now tells named Memory cause = tt
+opening_may before now tells named NotQuota cause = cause
+opening_may before now tells named WrongKind cause = cause
+opening_may before now tells named UnknownVersion cause = cause
+opening_may before now tells named BadBlockCount cause = cause
+opening_may before now tells named (FormatMismatch found) cause = cause
+opening_may before now tells named (Damage damage) cause = tt
 
 -- a reason within a call is a reason of the call
 pub reason_within : (store_rose store_rose' out_rose out_rose' stated stated' : Type 0) (cause : Cause) → (store_rose → store_rose') → (out_rose → out_rose') → (stated → stated') → HasReason store_rose out_rose stated cause → HasReason store_rose' out_rose' stated' cause
@@ -85,3 +106,19 @@ reason_case s o p OtherFormat reason = ByEffect (λ e. omega (arith, e)) (λ e. 
 reason_case s o p (FileDamaged damage) reason = ByEffect (λ e. omega (arith, e)) (λ e. omega (arith, e)) reason
 reason_case s o p (FileFull blocks limit) reason = ByEffect (λ e. omega (arith, e)) (λ e. omega (arith, e)) reason
 reason_case s o p (Usage kind word) reason = ByEffect (λ e. omega (arith, e)) (λ e. omega (arith, e)) reason
+
+-- no refusal has status 0
+pub no_status_0 : (cause : Cause) → status_of cause ≡ 0 → ⊥
+no_status_0 StoreFault e = omega (arith, e)
+no_status_0 SinkFault e = omega (arith, e)
+no_status_0 WantOfMemory e = omega (arith, e)
+no_status_0 NoSuchFile e = omega (arith, e)
+no_status_0 FileTooLarge e = omega (arith, e)
+no_status_0 NoQuotaFile e = omega (arith, e)
+no_status_0 OtherKind e = omega (arith, e)
+no_status_0 OtherVersion e = omega (arith, e)
+no_status_0 TooFewBlocks e = omega (arith, e)
+no_status_0 OtherFormat e = omega (arith, e)
+no_status_0 (FileDamaged damage) e = omega (arith, e)
+no_status_0 (FileFull blocks limit) e = omega (arith, e)
+no_status_0 (Usage kind word) e = omega (arith, e)

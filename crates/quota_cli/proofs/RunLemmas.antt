@@ -1,23 +1,27 @@
 -- From what a command did to the effect of the words.
-use Rattle.std.proofs.Common.{◌≡◌, ℕ, Bool, IsTrue, List, [], ◌∷◌, ◌++◌, Some, Ok, Err, Result, ◌⊎◌, inl, inr, refl, sym, ap, subst, ◌∙◌}
+use Rattle.std.proofs.Common.{◌≡◌, ℕ, Bool, IsTrue, List, [], ◌∷◌, ◌++◌, Option, None, Some, Ok, Err, Result, ◌⊎◌, inl, inr, refl, sym, ap, subst, ◌∙◌}
 use Rattle.std.proofs.lemmas.List.{append-nil}
 use Rattle.std.specs.Prelude.{IsErr, ◌↔◌}
+use Rattle.quota_types.specs.declared.file_kind.Kind.{Kind}
 use Rattle.quota_types.specs.declared.file_kind.Kind.TheVariants.{User}
-use Rattle.quota_types.specs.declared.file_kind.Format.TheVariants.{V1}
+use Rattle.quota_types.specs.declared.file_kind.Format.{Format}
+use Rattle.quota_types.specs.declared.file_kind.Format.TheVariants.{V1, V2R0, V2R1}
 use Rattle.quota_blocks.specs.World.{World}
 use Rattle.quota_blocks.specs.QuotaValue.{QuotaValue}
 use Rattle.quota_blocks.specs.Text.{AppendsPrefix}
 use Rattle.quota_blocks.specs.declared.quota_file.OpenFault.{OpenFault}
+use Rattle.quota_v1.proofs.ViewLemmas.{seen_or_refused}
+use Rattle.report_text.specs.declared.options.Options.{Options}
 use Rattle.report_text.specs.Report.{report_of, no_names}
 use Rattle.quota_cli.specs.declared.refusal.Cause.{Cause}
 use Rattle.quota_cli.specs.declared.refusal.Cause.TheVariants.{StoreFault, SinkFault, Memory}
 use Rattle.quota_cli.specs.Refusal.{error_line, status_of}
 use Rattle.quota_cli.specs.Request.{Request, Report, request_of, verbose}
 use Rattle.quota_cli.specs.Act.{Act, ToOut, ToErr, IsView, out_bytes, err_bytes, Follows}
-use Rattle.quota_cli.specs.Effect.{Setting, Effect, RequestEffect, ReportOfView}
+use Rattle.quota_cli.specs.Effect.{Setting, Effect, RequestEffect, ReportOfView, opening_cause}
 use Rattle.quota_cli.specs.ReportCommand.{IsRefusedView, report_of_view}
 use Rattle.quota_cli.specs.Run.{HasEffect, HasEffectUpToErr, HasOutEffect, HasReason, IsEffectOf, IsStopped, AppendsUnless}
-use Rattle.quota_cli.proofs.ReasonLemmas.{ByStore, ByOut, ByMemory, ByEffect, reason_case}
+use Rattle.quota_cli.proofs.ReasonLemmas.{ByStore, ByOut, ByMemory, ByEffect, no_status_0, reason_case}
 
 -- bytes with nothing behind them
 nothing_behind : (old new bytes : List ℕ) → new ≡ old ++ bytes → new ≡ old ++ (bytes ++ [])
@@ -169,6 +173,59 @@ refusal_stopped cause status name err_old err_new s o e p tells reason line ende
       | ByMemory is ↦ record { cause = Memory; reason = tt; status = ended ∙ ap (λ (c : Cause). status_of c) is; line = λ told. line_as cause Memory name err_old err_new e is (memory_line name) (line told) }
       | ByEffect no_fault no_memory _ ↦ absurd (elim ends [ inl four ↦ no_fault (sym ended ∙ four) | inr five ↦ no_memory (sym ended ∙ five) ])
     ]
+
+-- two views of a file have the same status, where one has status 0
+views_agree : (options : Options) (name : List ℕ) (now : ℕ) (named : Option (List ℕ)) (kind : Kind) (format : Option Format) (one other : Result QuotaValue OpenFault)
+    → IsView named kind format one → IsView named kind format other → (acts acts' : List Act) (status : ℕ)
+    → ReportOfView options name now one acts 0 → ReportOfView options name now other acts' status → status ≡ 0
+views_agree options name now named kind (Some V1) (Ok value) (Ok value') view view' acts acts' status done done' = done'.status
+views_agree options name now named kind (Some V1) (Ok value) (Err fault) view view' acts acts' status done done' = absurd (seen_or_refused named kind value fault view view')
+views_agree options name now named kind (Some V1) (Err fault) other view view' acts acts' status done done' = absurd (no_status_0 (opening_cause fault) (sym done.status))
+views_agree options name now named kind (Some V2R0) one other view view' acts acts' status done done' = absurd view
+views_agree options name now named kind (Some V2R1) one other view view' acts acts' status done done' = absurd view
+views_agree options name now named kind None one other view view' acts acts' status done done' = absurd view
+
+requests_agree : (request : Result Request Cause) (setting : Setting) (acts acts' : List Act) (status : ℕ)
+    → RequestEffect request setting acts 0 → RequestEffect request setting acts' status → status ≡ 0
+requests_agree (Ok (Report kind format options name)) setting acts acts' status one other =
+    views_agree options name setting.now (setting.world name) kind format one.0 other.0 one.1 other.1 acts acts' status one.2 other.2
+requests_agree (Err cause) setting acts acts' status one other = absurd (no_status_0 cause (sym one.status))
+
+-- where an effect has status 0, every effect has
+pub effects_agree : (setting : Setting) (acts acts' : List Act) (status : ℕ) → Effect setting acts 0 → Effect setting acts' status → status ≡ 0
+effects_agree setting acts acts' status one other = requests_agree (request_of setting.words) setting acts acts' status one other
+
+-- a refusal where an effect has status 0 and nothing outside failed is for want of memory
+pub refusal_complete : (setting : Setting) (cause : Cause) (status : ℕ) (name out_old out_new : List ℕ) (acts : List Act) (store_rose out_rose stated : Type 0)
+    → HasReason store_rose out_rose stated cause → (stated → IsEffectOf setting cause name out_old out_new) → Effect setting acts 0
+    → status ≡ status_of cause → ¬ store_rose → ¬ out_rose → (status ≡ 0) ⊎ (status ≡ 5)
+refusal_complete setting cause status name out_old out_new acts s o p reason so effect ended no_store no_out =
+    elim (reason_case s o p cause reason) [
+      | ByStore _ rose ↦ absurd (no_store rose)
+      | ByOut _ rose ↦ absurd (no_out rose)
+      | ByMemory is ↦ inr (ended ∙ ap (λ (c : Cause). status_of c) is)
+      | ByEffect _ _ stated ↦ inl (ended ∙ effects_agree setting acts _ _ effect (so stated).effect)
+    ]
+
+-- a refusal with a status other than 4 and 5 has the status of the effect
+pub refusal_status : (setting : Setting) (cause : Cause) (status : ℕ) (name out_old out_new : List ℕ) (store_rose out_rose stated : Type 0)
+    → HasReason store_rose out_rose stated cause → (stated → IsEffectOf setting cause name out_old out_new)
+    → status ≡ status_of cause → (status ≡ 4 → ⊥) → (status ≡ 5 → ⊥) → (acts : List Act) × Effect setting acts status
+refusal_status setting cause status name out_old out_new s o p reason so ended no_fault no_memory =
+    elim (reason_case s o p cause reason) [
+      | ByStore is _ ↦ absurd (no_fault (ended ∙ ap (λ (c : Cause). status_of c) is))
+      | ByOut is _ ↦ absurd (no_fault (ended ∙ ap (λ (c : Cause). status_of c) is))
+      | ByMemory is ↦ absurd (no_memory (ended ∙ ap (λ (c : Cause). status_of c) is))
+      | ByEffect _ _ stated ↦ (_, subst (λ (n : ℕ). Effect setting (ToErr (error_line cause name) ∷ []) n) (sym ended) (so stated).effect)
+    ]
+
+-- the effect of a report of a file that is seen as a value
+pub report_status : (setting : Setting) (name : List ℕ) (value : QuotaValue)
+    → request_of setting.words ≡ Ok (Report User (Some V1) verbose name)
+    → IsView (setting.world name) User (Some V1) (Ok value) → (acts : List Act) × Effect setting acts 0
+report_status setting name value asks view =
+    let done = report_effect setting name [] (report_of value no_names name setting.now verbose) value asks view refl in
+    (done.acts, done.effect)
 
 no_error : (request : Request) → IsErr {T = Request} {E = Cause} (Ok request) → ⊥
 no_error request h = cc

@@ -11,7 +11,7 @@ ghost use Rattle.quota_cli.specs.Effect.{opening_cause};
 ghost use Rattle.quota_cli.specs.Refusal.{status_of};
 ghost use Rattle.quota_cli.specs.ReportCommand.{file_cause, IsRefusedView, report_cause, report_of_view};
 ghost use Rattle.quota_cli.specs.Request.{verbose};
-ghost use Rattle.quota_cli.specs.Run.{HasReason};
+ghost use Rattle.quota_cli.specs.Run.{HasReason, MayRefuse};
 
 use crate::refusal::Cause;
 use quota_blocks::{FileFault, OpenFault, QuotaFile, Sink, Store};
@@ -34,10 +34,13 @@ pub fn report_flat_file<S: Store, O: Sink>(
     ensures refused { IfErr result (λ cause. HasReason (Rose (S.faults store.old) (S.faults store.new))
         (Rose (O.faults out.old) (O.faults out.new))
         (IsTrue (S.tells store.old) → IsRefusedView (S.files store.old name.now) cause × (O.written out.new ≡ O.written out.old)) cause) }
+    ensures seen { OnOk result (IsTrue (S.tells store.old) → (value : QuotaValue)
+        × IsView (S.files store.old name.now) User (Some V1) (Ok value)) }
     ensures prefix { IsTrue (S.tells store.old) → IsTrue (O.tells out.old) → (seen : Result QuotaValue OpenFault)
         → IsView (S.files store.old name.now) User (Some V1) seen
         → AppendsPrefix (O.written out.old) (O.written out.new) (report_of_view seen name.now now verbose) }
     ensures about_file { IfErr result (λ cause. status_of cause ≢ 2) }
+    ensures may { IfErr result MayRefuse }
     ensures store_later { S.faults store.old ≤ S.faults store.new }
     ensures out_later { O.faults out.old ≤ O.faults out.new }
     ensures writes { S.writes store.new ≡ S.writes store.old }
@@ -69,6 +72,7 @@ fn write_report<S: Store, O: Sink>(
         → ⟦<V1File as QuotaFile<S>>⟧.holds file.old store.old value → value.kind ≡ User
         → AppendsPrefix (O.written out.old) (O.written out.new) (report_of value no_names name.now now verbose) }
     ensures about_file { IfErr result (λ cause. status_of cause ≢ 2) }
+    ensures may { IfErr result MayRefuse }
     ensures store_later { S.faults store.old ≤ S.faults store.new }
     ensures out_later { O.faults out.old ≤ O.faults out.new }
     ensures writes { S.writes store.new ≡ S.writes store.old }

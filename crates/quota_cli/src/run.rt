@@ -8,7 +8,7 @@ ghost use Rattle.quota_cli.specs.Act.{Act, IsView, err_bytes, Follows, out_bytes
 ghost use Rattle.quota_cli.specs.Effect.{Effect, setting_of, texts_of};
 ghost use Rattle.quota_cli.specs.Refusal.{error_line, status_of};
 ghost use Rattle.quota_cli.specs.Request.{Report, request_of, verbose};
-ghost use Rattle.quota_cli.specs.Run.{AppendsUnless, HasEffect, HasEffectUpToErr, HasOutEffect, HasReason, IsEffectOf, IsStopped};
+ghost use Rattle.quota_cli.specs.Run.{AppendsUnless, HasEffect, HasEffectUpToErr, HasOutEffect, HasReason, HasSaid, IsEffectOf, IsStopped, MayRefuse};
 
 use crate::error_line::write_error_line;
 use crate::refusal::{Cause, UsageKind};
@@ -65,10 +65,18 @@ pub fn run<S: Store, O: Sink, E: Sink>(
     // Status 2 comes exactly where the words ask for nothing.
     ensures usage { (result ≡ 2) ↔ IsErr (request_of (texts_of words.now)) }
 
-    // Words in the grammar, an accepted file and no fault give status 0, unless memory is wanting.
-    ensures complete { (name : List ℕ) → (value : QuotaValue) → IsTrue (S.tells store.old)
-        → request_of (texts_of words.now) ≡ Ok (Report User (Some V1) verbose name)
-        → IsView (S.files store.old name) User (Some V1) (Ok value)
+    // Where the store is told, a status other than 4 and 5 is that of the effect.
+    ensures status { IsTrue (S.tells store.old) → result ≢ 4 → result ≢ 5
+        → (acts : List Act) × Effect (setting_of words.now (S.files store.old) now) acts result }
+
+    // Whatever is told, status 0 says nothing, and any other one is that of a cause whose error line went out.
+    ensures says { HasSaid result (Rose (S.faults store.old) (S.faults store.new))
+        (Rose (O.faults out.old) (O.faults out.new)) (Rose (E.faults err.old) (E.faults err.new)) (E.tells err.old)
+        (E.written err.old) (E.written err.new) }
+
+    // An effect with status 0 and no fault give status 0, unless memory is wanting.
+    ensures complete { (acts : List Act) → IsTrue (S.tells store.old)
+        → Effect (setting_of words.now (S.files store.old) now) acts 0
         → ¬ Rose (S.faults store.old) (S.faults store.new) → ¬ Rose (O.faults out.old) (O.faults out.new)
         → (result ≡ 0) ⊎ (result ≡ 5) }
 
@@ -106,10 +114,9 @@ fn attempt<'a, S: Store, O: Sink>(
         → AppendsPrefix (O.written out.old) (O.written out.new) (out_bytes acts) }
     ensures read { OnOk result (IsOk (request_of (texts_of words.now))) }
     ensures usage { IfErr result (λ refusal. (status_of refusal.cause ≡ 2) ↔ IsErr (request_of (texts_of words.now))) }
-    ensures complete { IfErr result (λ refusal. (name : List ℕ) → (value : QuotaValue) → IsTrue (S.tells store.old)
-        → request_of (texts_of words.now) ≡ Ok (Report User (Some V1) verbose name)
-        → IsView (S.files store.old name) User (Some V1) (Ok value)
-        → HasReason (Rose (S.faults store.old) (S.faults store.new)) (Rose (O.faults out.old) (O.faults out.new)) ⊥ refusal.cause) }
+    ensures status { OnOk result (IsTrue (S.tells store.old) → (acts : List Act)
+        × Effect (setting_of words.now (S.files store.old) now) acts 0) }
+    ensures may { IfErr result (λ refusal. MayRefuse refusal.cause) }
     ensures store_later { S.faults store.old ≤ S.faults store.new }
     ensures out_later { O.faults out.old ≤ O.faults out.new }
     ensures writes { S.writes store.new ≡ S.writes store.old }

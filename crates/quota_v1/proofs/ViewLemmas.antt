@@ -1,5 +1,5 @@
 -- What is seen of a flat file while it is opened.
-use Rattle.std.proofs.Common.{◌≡◌, ℕ, ◌%◌, ◌≤◌, Bool, IsTrue, List, length, Option, Some, None, Ok, Err, sym, subst, arith}
+use Rattle.std.proofs.Common.{◌≡◌, ℕ, ◌%◌, ◌<◌, ◌≤◌, Bool, IsTrue, List, length, Option, Some, None, Ok, Err, sym, subst, ◌∙◌, arith}
 use Rattle.std.specs.Option.{IsSomeAnd}
 use Rattle.std.proofs.lemmas.Option.{none-some}
 use Rattle.quota_types.specs.declared.file_kind.Kind.{Kind}
@@ -8,7 +8,7 @@ use Rattle.quota_blocks.specs.QuotaValue.{QuotaValue}
 use Rattle.quota_blocks.specs.declared.quota_file.OpenFault.{OpenFault}
 use Rattle.quota_blocks.specs.declared.quota_file.OpenFault.TheVariants.{Store, NoFile, TooLarge, Memory, NotQuota, WrongKind, UnknownVersion, BadBlockCount, FormatMismatch, Damage}
 use Rattle.quota_v1.specs.FlatFile.{FlatStandsFor}
-use Rattle.quota_v1.specs.View.{IsFlatView, IsFlatFault, flat_limit}
+use Rattle.quota_v1.specs.View.{IsFlatDefect, IsFlatView, IsFlatFault, flat_limit}
 use Rattle.quota_v1.proofs.FlatLemmas.{flat_value, flat_value-kind, stands_for_value}
 
 -- a file of whole records that is not too large is seen as its value
@@ -21,37 +21,39 @@ value_seen named kind file is few whole = (
   ),
 )
 
-seen_so : (named : Option (List ℕ)) (tells : Bool) (file : List ℕ) (fault : OpenFault) → (IsTrue tells → named ≡ Some file) → ((kind : Kind) → IsFlatView (Some file) kind (Err fault)) → IsTrue tells → (kind : Kind) → IsFlatView named kind (Err fault)
-seen_so named tells file fault is seen told kind = subst (λ (n : Option (List ℕ)). IsFlatView n kind (Err fault)) (sym (is told)) (seen kind)
+-- what is said of a file under another name of it is said of the file
+said_so : (named named' : Option (List ℕ)) (say : List ℕ → Type 0) → named' ≡ named → IsSomeAnd named' say → IsSomeAnd named say
+said_so named named' say is said = subst (λ (n : Option (List ℕ)). IsSomeAnd n say) is said
 
 -- what is seen of the bytes that were loaded is seen of the file
 pub fault_of_loaded : (before now : ℕ) (tells : Bool) (named : Option (List ℕ)) (file : List ℕ) (fault : OpenFault) → (IsTrue tells → named ≡ Some file) → ((kind : Kind) → IsFlatView (Some file) kind (Err fault)) → IsFlatFault before now tells named fault
 fault_of_loaded before now tells named file Store is seen = absurd (seen User)
-fault_of_loaded before now tells named file NoFile is seen = seen_so named tells file NoFile is seen
-fault_of_loaded before now tells named file (TooLarge number limit) is seen = seen_so named tells file (TooLarge number limit) is seen
+fault_of_loaded before now tells named file NoFile is seen = absurd (none-some file (sym (seen User)))
+fault_of_loaded before now tells named file (TooLarge number limit) is seen =
+    ((seen User).1, λ told. said_so named (Some file) (λ f. (flat_limit < length f) × (number ≡ length f)) (sym (is told)) (seen User).0)
 fault_of_loaded before now tells named file Memory is seen = tt
-fault_of_loaded before now tells named file NotQuota is seen = seen_so named tells file NotQuota is seen
-fault_of_loaded before now tells named file WrongKind is seen = seen_so named tells file WrongKind is seen
-fault_of_loaded before now tells named file UnknownVersion is seen = seen_so named tells file UnknownVersion is seen
-fault_of_loaded before now tells named file BadBlockCount is seen = seen_so named tells file BadBlockCount is seen
-fault_of_loaded before now tells named file (FormatMismatch found) is seen = seen_so named tells file (FormatMismatch found) is seen
-fault_of_loaded before now tells named file (Damage damage) is seen = seen_so named tells file (Damage damage) is seen
-
-seen_before : (tells tells' : Bool) (named named' : Option (List ℕ)) (fault : OpenFault) → tells' ≡ tells → named' ≡ named → (IsTrue tells' → (kind : Kind) → IsFlatView named' kind (Err fault)) → IsTrue tells → (kind : Kind) → IsFlatView named kind (Err fault)
-seen_before tells tells' named named' fault t n seen told kind = subst (λ (m : Option (List ℕ)). IsFlatView m kind (Err fault)) n (seen (subst IsTrue (sym t) told) kind)
+fault_of_loaded before now tells named file NotQuota is seen = seen User
+fault_of_loaded before now tells named file WrongKind is seen = seen User
+fault_of_loaded before now tells named file UnknownVersion is seen = seen User
+fault_of_loaded before now tells named file BadBlockCount is seen = seen User
+fault_of_loaded before now tells named file (FormatMismatch found) is seen = seen User
+fault_of_loaded before now tells named file (Damage damage) is seen =
+    (((seen User).1.kind, (seen User).1.id), λ told. said_so named (Some file) (λ f. (length f ≤ flat_limit) × IsFlatDefect f damage) (sym (is told)) (seen User))
 
 -- a cause that comes later in a call is a cause of the call
 pub fault_since : (first before now : ℕ) (tells tells' : Bool) (named named' : Option (List ℕ)) (fault : OpenFault) → first ≤ before → tells' ≡ tells → named' ≡ named → IsFlatFault before now tells' named' fault → IsFlatFault first now tells named fault
 fault_since first before now tells tells' named named' Store le t n cause = omega arith
-fault_since first before now tells tells' named named' NoFile le t n cause = seen_before tells tells' named named' NoFile t n cause
-fault_since first before now tells tells' named named' (TooLarge number limit) le t n cause = seen_before tells tells' named named' (TooLarge number limit) t n cause
+fault_since first before now tells tells' named named' NoFile le t n cause = λ told. sym n ∙ cause (subst IsTrue (sym t) told)
+fault_since first before now tells tells' named named' (TooLarge number limit) le t n cause =
+    (cause.0, λ told. said_so named named' (λ f. (flat_limit < length f) × (number ≡ length f)) n (cause.1 (subst IsTrue (sym t) told)))
 fault_since first before now tells tells' named named' Memory le t n cause = tt
-fault_since first before now tells tells' named named' NotQuota le t n cause = seen_before tells tells' named named' NotQuota t n cause
-fault_since first before now tells tells' named named' WrongKind le t n cause = seen_before tells tells' named named' WrongKind t n cause
-fault_since first before now tells tells' named named' UnknownVersion le t n cause = seen_before tells tells' named named' UnknownVersion t n cause
-fault_since first before now tells tells' named named' BadBlockCount le t n cause = seen_before tells tells' named named' BadBlockCount t n cause
-fault_since first before now tells tells' named named' (FormatMismatch found) le t n cause = seen_before tells tells' named named' (FormatMismatch found) t n cause
-fault_since first before now tells tells' named named' (Damage damage) le t n cause = seen_before tells tells' named named' (Damage damage) t n cause
+fault_since first before now tells tells' named named' NotQuota le t n cause = cause
+fault_since first before now tells tells' named named' WrongKind le t n cause = cause
+fault_since first before now tells tells' named named' UnknownVersion le t n cause = cause
+fault_since first before now tells tells' named named' BadBlockCount le t n cause = cause
+fault_since first before now tells tells' named named' (FormatMismatch found) le t n cause = cause
+fault_since first before now tells tells' named named' (Damage damage) le t n cause =
+    (cause.0, λ told. said_so named named' (λ f. (length f ≤ flat_limit) × IsFlatDefect f damage) n (cause.1 (subst IsTrue (sym t) told)))
 
 -- a file is not both seen as a value and refused
 pub seen_or_refused : (named : Option (List ℕ)) (kind : Kind) (value : QuotaValue) (fault : OpenFault) → IsFlatView named kind (Ok value) → IsFlatView named kind (Err fault) → ⊥

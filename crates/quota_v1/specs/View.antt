@@ -30,9 +30,15 @@ IsFlatView named kind (Err (TooLarge number limit)) =
 IsFlatView named kind (Err (Damaged damage)) = IsSomeAnd named (λ file. (length file ≤ flat_limit) × IsFlatDefect file damage)
 IsFlatView named kind (Err _) = ⊥
 
--- Opening is refused where the store's count of faults rose, where memory is wanting, or where the file, if the store
--- tells it, is seen so, whatever kind is asked for.
+-- Why opening is refused: the store's count of faults rose, memory is wanting, there is no file, it is too large, or its
+-- last record is cut off. What is said of the file holds where the store tells it, whatever kind is asked for; that no
+-- other refusal comes, and where the limit lies, holds always.
 abbrev pub IsFlatFault : ℕ → ℕ → Bool → Option (List ℕ) → OpenFault → Type 0
 IsFlatFault before now tells named Store = Rose before now
 IsFlatFault before now tells named Memory = ⊤
-IsFlatFault before now tells named fault = IsTrue tells → (kind : Kind) → IsFlatView named kind (Err fault)
+IsFlatFault before now tells named NoFile = IsTrue tells → named ≡ None
+IsFlatFault before now tells named (TooLarge number limit) =
+    (limit ≡ flat_limit) × (IsTrue tells → IsSomeAnd named (λ file. (flat_limit < length file) × (number ≡ length file)))
+IsFlatFault before now tells named (Damaged damage) =
+    ((damage.kind ≡ PartialRecord) × (damage.id ≡ 0)) × (IsTrue tells → IsSomeAnd named (λ file. (length file ≤ flat_limit) × IsFlatDefect file damage))
+IsFlatFault before now tells named _ = ⊥

@@ -1,7 +1,7 @@
 use Rattle.std.proofs.Common.{refl, arith}
 use Rattle.std.proofs.lemmas.Result.{on_ok_weaker, IfErr-weaker}
 use Rattle.quota_types.specs.declared.file_kind.Kind.TheVariants.{User}
-use Rattle.quota_cli.proofs.ReasonLemmas.{opening_reason, prefix_of_view, reason_within}
+use Rattle.quota_cli.proofs.ReasonLemmas.{opening_may, opening_reason, prefix_of_view, reason_within}
 use Rattle.quota_cli.proofs.report_command.report_flat_file.Goals as goal
 
 pub returns-in-Ok-clause-done : goal.returns-in-Ok-clause-done
@@ -28,3 +28,12 @@ returns-in-Ok-clause-prefix g c = λ told out_told.
 
 pub returns-in-Err-clause-refused : goal.returns-in-Err-clause-refused
 returns-in-Err-clause-refused g c = rw c.opening_cause.ensures (opening_reason _ _ _ _ _ _ c.in-Err.fault refl c.in-Err.ensures.refused)
+
+pub returns-in-Ok-clause-seen : goal.returns-in-Ok-clause-seen
+returns-in-Ok-clause-seen g c =
+    on_ok_weaker c.write_report.result
+    (λ done told. let view = c.in-Ok.ensures.seen told User in (view.0, view.1))
+    c.write_report.ensures.done
+
+pub returns-in-Err-clause-may : goal.returns-in-Err-clause-may
+returns-in-Err-clause-may g c = rw c.opening_cause.ensures (opening_may _ _ _ _ c.in-Err.fault c.in-Err.ensures.refused)
