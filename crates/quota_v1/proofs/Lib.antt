@@ -1,3 +1,4 @@
 pub mod NumberLemmas
 pub mod FlatLemmas
 pub mod ViewLemmas
+pub mod ChangeLemmas
