@@ -2,3 +2,4 @@ pub mod NumberLemmas
 pub mod FlatLemmas
 pub mod ViewLemmas
 pub mod ChangeLemmas
+pub mod RecordLemmas
