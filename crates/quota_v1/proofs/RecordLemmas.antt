@@ -1,10 +1,10 @@
 -- Records of a flat file of which a part was written over.
-use Rattle.std.proofs.Common.{◌≡◌, ◌≢◌, ℕ, zero, suc, ◌+◌, ◌-◌, ◌*◌, ◌%◌, ◌<◌, ◌≤◌, Bool, true, false, cond, nat_eq, nat_le, ◌==◌, IsTrue, List, length, Option, Some, None, Result, Ok, Err, OnOk, refl, sym, ap, subst, ◌∙◌, ◌⊎◌, inl, inr, arith}
-use Rattle.std.proofs.lemmas.Bool.{cases_lt, lt-leb, cases_Bool}
+use Rattle.std.proofs.Common.{◌≡◌, ◌≢◌, ℕ, zero, suc, ◌+◌, ◌*◌, ◌%◌, ◌<◌, ◌≤◌, Bool, true, false, cond, nat_le, ◌==◌, IsTrue, List, length, Option, Some, None, Result, Ok, Err, OnOk, refl, sym, ap, subst, ◌∙◌, inl, inr, arith}
+use Rattle.std.specs.Option.{is_some}
+use Rattle.std.proofs.lemmas.Bool.{cases_lt, lt-leb, cases_Bool, true≢false}
 use Rattle.std.proofs.lemmas.Bool.Decides.{nat_tests, eqb_tells}
-use Rattle.std.specs.Ordering.{nat_cmp, eq_by_cmp}
 use Rattle.std.specs.Cmp.{nat_cmp_total, unsigned_tied}
-use Rattle.std.specs.FinMap.{get, insert, remove, get-insert, get-remove}
+use Rattle.std.specs.FinMap.{get, get-insert, get-remove}
 use Rattle.quota_types.specs.declared.file_kind.Format.TheVariants.{V1}
 use Rattle.quota_types.specs.declared.record.Rec.{Rec}
 use Rattle.quota_types.specs.declared.record.Grace.{Grace}
@@ -47,9 +47,16 @@ timed_record-same old new (suc n) numbers times =
     let same : (width at : ℕ) → 40 * suc n ≤ at → at + width ≤ 40 * suc n + 24 → number_at width new at ≡ number_at width old at = λ width at g h. number_at-same width at old new (λ k a b. numbers k (omega arith) (omega arith)) in
     let same_time : (width at : ℕ) → 40 * suc n + 24 ≤ at → at + width ≤ 40 * suc n + 40 → number_at width new at ≡ number_at width old at = λ width at g h. number_at-same width at old new (λ k a b. times (omega arith) k (omega arith) (omega arith)) in
     let stored : stored_record new (suc n) ≡ stored_record old (suc n) =
-    rw (same 4 (40 * suc n) (omega arith) (omega arith), same 4 (40 * suc n + 4) (omega arith) (omega arith), same 4 (40 * suc n + 8) (omega arith) (omega arith),
-    same 4 (40 * suc n + 12) (omega arith) (omega arith), same 4 (40 * suc n + 16) (omega arith) (omega arith), same 4 (40 * suc n + 20) (omega arith) (omega arith),
-    same_time 8 (40 * suc n + 24) (omega arith) (omega arith), same_time 8 (40 * suc n + 32) (omega arith) (omega arith)) in
+    rw (
+      same 4 (40 * suc n) (omega arith) (omega arith),
+      same 4 (40 * suc n + 4) (omega arith) (omega arith),
+      same 4 (40 * suc n + 8) (omega arith) (omega arith),
+      same 4 (40 * suc n + 12) (omega arith) (omega arith),
+      same 4 (40 * suc n + 16) (omega arith) (omega arith),
+      same 4 (40 * suc n + 20) (omega arith) (omega arith),
+      same_time 8 (40 * suc n + 24) (omega arith) (omega arith),
+      same_time 8 (40 * suc n + 32) (omega arith) (omega arith),
+    ) in
     timed_record-other new (suc n) (not_zero n) ∙ stored ∙ sym (timed_record-other old (suc n) (not_zero n))
 
 -- past the end there are zeros
@@ -60,8 +67,16 @@ unless_zeros-past file zero h =
 unless_zeros-past file (suc n) h =
     let past : (width at : ℕ) → 40 * suc n ≤ at → number_at width file at ≡ 0 = λ width at g. number_at-past width at file (omega arith) in
     let stored : unless_zeros (stored_record file (suc n)) ≡ None =
-    rw (past 4 (40 * suc n) (omega arith), past 4 (40 * suc n + 4) (omega arith), past 4 (40 * suc n + 8) (omega arith), past 4 (40 * suc n + 12) (omega arith),
-    past 4 (40 * suc n + 16) (omega arith), past 4 (40 * suc n + 20) (omega arith), past 8 (40 * suc n + 24) (omega arith), past 8 (40 * suc n + 32) (omega arith)) in
+    rw (
+      past 4 (40 * suc n) (omega arith),
+      past 4 (40 * suc n + 4) (omega arith),
+      past 4 (40 * suc n + 8) (omega arith),
+      past 4 (40 * suc n + 12) (omega arith),
+      past 4 (40 * suc n + 16) (omega arith),
+      past 4 (40 * suc n + 20) (omega arith),
+      past 8 (40 * suc n + 24) (omega arith),
+      past 8 (40 * suc n + 32) (omega arith),
+    ) in
     ap unless_zeros (timed_record-other file (suc n) (not_zero n)) ∙ stored
 
 -- so the record is what is read, whether it is within the file or past its end
@@ -200,3 +215,7 @@ holds_rewritten tells tells' named named' old loaded new value value' t is l sta
 pub on_ok_both : {T E P Q R : Type 0} (r : Result T E) → (P → Q → R) → OnOk r P → OnOk r Q → OnOk r R
 on_ok_both (Ok x) both p q = both p q
 on_ok_both (Err e) both p q = tt
+
+pub none_of : {X : Type 0} (found : Option X) → is_some found ≡ false → found ≡ None
+none_of None e = refl
+none_of (Some x) e = absurd (true≢false e)

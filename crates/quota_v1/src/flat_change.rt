@@ -124,11 +124,7 @@ pub(crate) fn with_record(
 }
 
 /// The bytes with these grace periods, which are the times of record 0. Where there is no record 0, there is one then.
-pub(crate) fn with_grace(
-    alloc: Global,
-    bytes: &[u8],
-    grace: Grace,
-) -> Result<Vec<u8>, AllocError>
+pub(crate) fn with_grace(alloc: Global, bytes: &[u8], grace: Grace) -> Result<Vec<u8>, AllocError>
     ensures length { IfOk result (λ new. vec_len new ≡ max (length bytes.now) 40) }
     ensures block { IfOk result (λ new. number_at 8 new.items 24 ≡ grace.block) }
     ensures inode { IfOk result (λ new. number_at 8 new.items 32 ≡ grace.inode) }

@@ -1,6 +1,4 @@
-use Rattle.std.proofs.Common.{sym, subst, arith, ap, ◌∙◌}
-use Rattle.quota_types.specs.Bytes.{number_at}
-use Rattle.quota_v1.specs.Change.{KeepsOutside}
+use Rattle.std.proofs.Common.{arith}
 use Rattle.quota_v1.proofs.ChangeLemmas.{written_at, number_at-with_number, keeps-with_number}
 use Rattle.quota_v1.proofs.flat_change.write4.Goals as goal
 

@@ -1,4 +1,4 @@
-use Rattle.std.proofs.Common.{◌≡◌, ◌%◌, List, ℕ, length, sym, subst, ap, ◌∙◌, IsTrue, arith}
+use Rattle.std.proofs.Common.{◌≡◌, ◌%◌, List, ℕ, length, ap, ◌∙◌, arith}
 use Rattle.quota_v1.proofs.RecordLemmas.{holds_rewritten, on_ok_both, stands_put}
 use Rattle.quota_v1.proofs.flat_file.V1FileQuotaFile.put.Goals as goal
 
