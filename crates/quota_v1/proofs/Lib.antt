@@ -1,3 +1,5 @@
 pub mod NumberLemmas
 pub mod FlatLemmas
 pub mod ViewLemmas
+pub mod ChangeLemmas
+pub mod RecordLemmas

@@ -1,8 +1,12 @@
-ghost use Rattle.std.specs.Prelude.{◌≡◌, ◌%◌, ◌≤◌, true, vec_len};
+ghost use Rattle.std.specs.Prelude.{◌≡◌, ◌%◌, ◌≤◌, true, not, vec_len, string_bytes, Some, IsTrue, IfErr, OnOk};
 ghost use Rattle.quota_types.specs.declared.file_kind.Format.TheVariants.{V1};
+ghost use Rattle.quota_blocks.specs.QuotaFile.{OnWant, is_store_fault};
+ghost use Rattle.quota_blocks.specs.Replace.{ReplacesOnly};
+ghost use Rattle.quota_v1.specs.Change.{IsRewriteFault};
 
+use crate::flat_change::{with_grace, with_record};
 use crate::flat_record::{grace_of, next_record, record_of};
-use quota_blocks::{FileFault, QuotaFile, Store};
+use quota_blocks::{FileFault, QuotaFile, ReplaceFault, Store, replace};
 use quota_types::{Entry, Format, Grace, Rec};
 
 /// An opened flat file, which keeps the file's name and its bytes.
@@ -10,27 +14,70 @@ use quota_types::{Entry, Format, Grace, Rec};
 pub struct V1File {
     pub(crate) name: String,
     pub(crate) bytes: Vec<u8>,
+    pub(crate) usable: bool,
     ghost whole: { vec_len bytes % 40 ≡ 0 },
     ghost limited: { vec_len bytes ≤ 41943040 },
 }
 
+impl V1File {
+    /// Puts a file of these bytes in the place of the named one, and keeps them.
+    fn rewrite<S: Store>(&mut self, store: &mut S, bytes: Vec<u8>) -> Result<(), FileFault>
+        requires usable { IsTrue self.old.usable }
+        requires whole { vec_len bytes % 40 ≡ 0 }
+        requires limited { vec_len bytes ≤ 41943040 }
+        ensures named { OnOk result (IsTrue (S.tells store.old) → S.files store.new (string_bytes self.old.name) ≡ Some bytes.items) }
+        ensures loaded { OnOk result (self.new.bytes.items ≡ bytes.items) }
+        ensures refused { IfErr result (IsRewriteFault (S.faults store.old) (S.faults store.new)) }
+        ensures stays { IfErr result (λ fault. OnWant fault (self.new.bytes.items ≡ self.old.bytes.items)) }
+        ensures same_files { IfErr result (λ fault. OnWant fault (S.files store.new ≡ S.files store.old)) }
+        ensures writes { IfErr result (λ fault. OnWant fault (S.writes store.new ≡ S.writes store.old)) }
+        ensures others { IsTrue (S.tells store.old)
+            → ReplacesOnly (string_bytes self.old.name) (S.files store.old) (S.files store.new) }
+        ensures usable { OnOk result (self.new.usable ≡ true) }
+        ensures unusable { IfErr result (λ fault. self.new.usable ≡ not (is_store_fault fault)) }
+        ensures same_name { string_bytes self.new.name ≡ string_bytes self.old.name }
+        ensures later { S.faults store.old ≤ S.faults store.new }
+        ensures same_telling { S.tells store.new ≡ S.tells store.old }
+    {
+        match replace(*self.bytes.allocator(), store, self.name.as_str(), &bytes) {
+            Ok(()) => {
+                self.bytes = bytes;
+                Ok(())
+            }
+            Err(ReplaceFault::Store) => {
+                self.usable = false;
+                Err(FileFault::Store)
+            }
+            Err(ReplaceFault::Full { blocks, limit }) => Err(FileFault::Full { blocks, limit }),
+            Err(ReplaceFault::Memory) => Err(FileFault::Memory),
+        }
+    }
+}
+
 impl<S: Store> QuotaFile<S> for V1File {
-    ghost use Rattle.std.specs.Prelude.{true, string_bytes};
+    ghost use Rattle.std.specs.Prelude.{string_bytes};
     ghost use Rattle.quota_types.specs.declared.file_kind.Format.TheVariants.{V1};
     ghost use Rattle.quota_v1.specs.Opened.{HoldsFlat};
+    ghost use Rattle.quota_v1.specs.Rests.{rests_on_named};
 
     ghost holds = { λ file store value. HoldsFlat (S.tells store) (S.files store (string_bytes file.name)) file.bytes.items value };
 
-    ghost is_usable = { λ _. true };
+    ghost is_usable = { λ file. file.usable };
 
     ghost format_of = { λ _. V1 };
+
+    ghost name_of = { λ file. string_bytes file.name };
+
+    ghost lacks_room = { λ _ _ _ _ _. ⊥ };
+
+    ghost rests_on_named = { λ file one other value told named held. rests_on_named _ _ _ _ file.bytes.items value told named held };
 
     fn format(&self) -> Format {
         Format::V1
     }
 
     fn usable(&self) -> bool {
-        true
+        self.usable
     }
 
     fn grace(&self) -> Grace {
@@ -47,5 +94,29 @@ impl<S: Store> QuotaFile<S> for V1File {
         after: Option<u32>,
     ) -> Result<Option<Entry>, FileFault> {
         Ok(next_record(&self.bytes, after))
+    }
+
+    fn put(&mut self, store: &mut S, id: u32, rec: Rec) -> Result<(), FileFault> {
+        match with_record(*self.bytes.allocator(), &self.bytes, id, &rec) {
+            Ok(bytes) => self.rewrite(store, bytes),
+            Err(_) => Err(FileFault::Memory),
+        }
+    }
+
+    fn remove(&mut self, store: &mut S, id: u32) -> Result<(), FileFault> {
+        if record_of(&self.bytes, id).is_none() {
+            return Ok(());
+        }
+        match with_record(*self.bytes.allocator(), &self.bytes, id, &Rec::default()) {
+            Ok(bytes) => self.rewrite(store, bytes),
+            Err(_) => Err(FileFault::Memory),
+        }
+    }
+
+    fn set_grace(&mut self, store: &mut S, grace: Grace) -> Result<(), FileFault> {
+        match with_grace(*self.bytes.allocator(), &self.bytes, grace) {
+            Ok(bytes) => self.rewrite(store, bytes),
+            Err(_) => Err(FileFault::Memory),
+        }
     }
 }

@@ -7,6 +7,7 @@
 //! for one.
 #![tactic(auto)]
 
+mod flat_change;
 mod flat_file;
 mod flat_record;
 mod opening;

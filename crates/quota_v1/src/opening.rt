@@ -23,9 +23,11 @@ pub fn open_v1<S: Store>(alloc: Global, store: &mut S, name: &str) -> Result<V1F
         → IsFlatView (S.files store.old name.now) kind (Ok value)
         → ⟦<V1File as QuotaFile<S>>⟧.holds file store.new value) }
     ensures usable { IfOk result (λ file. ⟦<V1File as QuotaFile<S>>⟧.is_usable file ≡ true) }
+    ensures named { IfOk result (λ file. ⟦<V1File as QuotaFile<S>>⟧.name_of file ≡ name.now) }
     ensures refused { IfErr result (IsFlatFault (S.faults store.old) (S.faults store.new) (S.tells store.old)
         (S.files store.old name.now)) }
     ensures later { S.faults store.old ≤ S.faults store.new }
+    ensures writes { S.writes store.new ≡ S.writes store.old }
     ensures same_files { S.files store.new ≡ S.files store.old }
     ensures same_telling { S.tells store.new ≡ S.tells store.old }
 {
@@ -46,6 +48,7 @@ pub fn open_v1<S: Store>(alloc: Global, store: &mut S, name: &str) -> Result<V1F
 fn opened(name: String, bytes: Vec<u8>) -> Result<V1File, OpenFault>
     requires { vec_len bytes ≤ 41943040 }
     ensures ok { IfOk result (λ file. (file.name ≡ name) × (file.bytes ≡ bytes)) }
+    ensures usable { IfOk result (λ file. file.usable ≡ true) }
     ensures whole { OnOk result (length bytes.items % 40 ≡ 0) }
     ensures refused { IfErr result (λ fault. (kind : Kind) → IsFlatView (Some bytes.items) kind (Err fault)) }
 {
@@ -56,7 +59,11 @@ fn opened(name: String, bytes: Vec<u8>) -> Result<V1File, OpenFault>
             id: 0,
         }));
     }
-    Ok(V1File { name, bytes })
+    Ok(V1File {
+        name,
+        bytes,
+        usable: true,
+    })
 }
 
 /// Why a file is refused that was found to have too many bytes, with their number.
@@ -64,6 +71,7 @@ fn too_large<S: Store>(store: &mut S, name: &str) -> OpenFault
     requires { IsTrue (S.tells store.old) → IsSomeAnd (S.files store.old name.now) (λ bytes. 41943040 < length bytes) }
     ensures refused { IsFlatFault (S.faults store.old) (S.faults store.new) (S.tells store.old) (S.files store.old name.now) result }
     ensures later { S.faults store.old ≤ S.faults store.new }
+    ensures writes { S.writes store.new ≡ S.writes store.old }
     ensures same_files { S.files store.new ≡ S.files store.old }
     ensures same_telling { S.tells store.new ≡ S.tells store.old }
 {

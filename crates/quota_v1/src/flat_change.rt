@@ -1,0 +1,136 @@
+ghost use Rattle.std.specs.Prelude.{◌≡◌, ◌+◌, ◌-◌, ◌*◌, ◌^◌, ◌<◌, ◌≤◌, ◌++◌, length, max, replicate, vec_len, None, IfOk};
+ghost use Rattle.quota_types.specs.Bytes.{number_at};
+ghost use Rattle.quota_types.specs.declared.file_kind.Format.TheVariants.{V1};
+ghost use Rattle.quota_types.specs.Kept.{kept_of};
+ghost use Rattle.quota_types.specs.Range.{unfit};
+ghost use Rattle.quota_types.specs.Rec.{kib_of};
+ghost use Rattle.quota_v1.specs.Change.{KeepsOutside};
+ghost use Rattle.quota_v1.specs.FlatFile.{timed_record};
+
+use crate::flat_record::RECORD;
+use byteorder::{ByteOrder, LittleEndian};
+use quota_types::{Grace, Rec};
+use std::alloc::{AllocError, Global};
+
+/// Where the two times of a record begin.
+const TIMES: usize = 24;
+
+fn write4(bytes: &mut [u8], at: usize, number: u64)
+    requires within { at + 4 ≤ length bytes.old }
+    requires small { number < 2 ^ 32 }
+    ensures value { number_at 4 bytes.new at ≡ number }
+    ensures kept { KeepsOutside at (at + 4) bytes.old bytes.new }
+{
+    LittleEndian::write_u32(&mut bytes[at..], number as u32);
+}
+
+fn write8(bytes: &mut [u8], at: usize, number: u64)
+    requires { at + 8 ≤ length bytes.old }
+    ensures value { number_at 8 bytes.new at ≡ number }
+    ensures kept { KeepsOutside at (at + 8) bytes.old bytes.new }
+{
+    LittleEndian::write_u64(&mut bytes[at..], number);
+}
+
+/// Writes a hard limit, a soft limit and a usage.
+fn write_limits(bytes: &mut [u8], at: usize, hard: u64, soft: u64, used: u64)
+    requires within { at + 12 ≤ length bytes.old }
+    requires hard { hard < 2 ^ 32 }
+    requires soft { soft < 2 ^ 32 }
+    requires used { used < 2 ^ 32 }
+    ensures hard { number_at 4 bytes.new at ≡ hard }
+    ensures soft { number_at 4 bytes.new (at + 4) ≡ soft }
+    ensures used { number_at 4 bytes.new (at + 8) ≡ used }
+    ensures kept { KeepsOutside at (at + 12) bytes.old bytes.new }
+{
+    write4(bytes, at, hard);
+    write4(bytes, at + 4, soft);
+    write4(bytes, at + 8, used);
+}
+
+/// Writes the two times of a record, which in record 0 are the grace periods.
+fn write_times(bytes: &mut [u8], at: usize, block: u64, inode: u64)
+    requires { at + 16 ≤ length bytes.old }
+    ensures block { number_at 8 bytes.new at ≡ block }
+    ensures inode { number_at 8 bytes.new (at + 8) ≡ inode }
+    ensures kept { KeepsOutside at (at + 16) bytes.old bytes.new }
+{
+    write8(bytes, at, block);
+    write8(bytes, at + 8, inode);
+}
+
+/// Writes the record of an identifier, but its times.
+fn write_numbers(bytes: &mut [u8], at: usize, rec: &Rec)
+    requires within { at + 24 ≤ length bytes.old }
+    requires fits { unfit V1 0 rec.now ≡ None }
+    ensures bhard { number_at 4 bytes.new at ≡ rec.now.bhard }
+    ensures bsoft { number_at 4 bytes.new (at + 4) ≡ rec.now.bsoft }
+    ensures space { number_at 4 bytes.new (at + 8) ≡ kib_of rec.now.space }
+    ensures ihard { number_at 4 bytes.new (at + 12) ≡ rec.now.ihard }
+    ensures isoft { number_at 4 bytes.new (at + 16) ≡ rec.now.isoft }
+    ensures inodes { number_at 4 bytes.new (at + 20) ≡ rec.now.inodes }
+    ensures kept { KeepsOutside at (at + 24) bytes.old bytes.new }
+{
+    write_limits(bytes, at, rec.bhard, rec.bsoft, rec.kib());
+    write_limits(bytes, at + 12, rec.ihard, rec.isoft, rec.inodes);
+}
+
+/// Writes the record of an identifier. The times of record 0 stay.
+fn write_record(bytes: &mut [u8], id: usize, rec: &Rec)
+    requires within { 40 * id + 40 ≤ length bytes.old }
+    requires fits { unfit V1 id rec.now ≡ None }
+    requires kept { kept_of V1 id rec.now ≡ rec.now }
+    ensures written { timed_record bytes.new id ≡ rec.now }
+    ensures others { KeepsOutside (40 * id) (40 * id + 40) bytes.old bytes.new }
+    ensures times { id ≡ 0 → KeepsOutside 0 24 bytes.old bytes.new }
+{
+    let start = RECORD * id;
+    write_numbers(bytes, start, rec);
+    if id == 0 {
+        return;
+    }
+    write_times(bytes, start + TIMES, rec.btime, rec.itime);
+}
+
+/// A copy of the bytes, with zeros behind them up to a length.
+fn lengthened(alloc: Global, bytes: &[u8], least: usize) -> Result<Vec<u8>, AllocError>
+    ensures { IfOk result (λ copy. copy.items ≡ bytes.now ++ replicate (least - length bytes.now) 0) }
+{
+    let mut copy = Vec::with_capacity(alloc, bytes.len().max(least))?;
+    copy.extend_from_slice(bytes)?;
+    copy.resize(bytes.len().max(least), 0)?;
+    Ok(copy)
+}
+
+/// The bytes with this record of an identifier, lengthened with zeros where they end before it. The times of record 0
+/// stay.
+pub(crate) fn with_record(
+    alloc: Global,
+    bytes: &[u8],
+    id: u32,
+    rec: &Rec,
+) -> Result<Vec<u8>, AllocError>
+    requires fits { unfit V1 id rec.now ≡ None }
+    requires kept { kept_of V1 id rec.now ≡ rec.now }
+    ensures length { IfOk result (λ new. vec_len new ≡ max (length bytes.now) (40 * (id + 1))) }
+    ensures written { IfOk result (λ new. timed_record new.items id ≡ rec.now) }
+    ensures others { IfOk result (λ new. KeepsOutside (40 * id) (40 * id + 40) bytes.now new.items) }
+    ensures times { IfOk result (λ new. id ≡ 0 → KeepsOutside 0 24 bytes.now new.items) }
+{
+    let id = id as usize;
+    let mut new = lengthened(alloc, bytes, RECORD * (id + 1))?;
+    write_record(&mut new, id, rec);
+    Ok(new)
+}
+
+/// The bytes with these grace periods, which are the times of record 0. Where there is no record 0, there is one then.
+pub(crate) fn with_grace(alloc: Global, bytes: &[u8], grace: Grace) -> Result<Vec<u8>, AllocError>
+    ensures length { IfOk result (λ new. vec_len new ≡ max (length bytes.now) 40) }
+    ensures block { IfOk result (λ new. number_at 8 new.items 24 ≡ grace.block) }
+    ensures inode { IfOk result (λ new. number_at 8 new.items 32 ≡ grace.inode) }
+    ensures others { IfOk result (λ new. KeepsOutside 24 40 bytes.now new.items) }
+{
+    let mut new = lengthened(alloc, bytes, RECORD)?;
+    write_times(&mut new, TIMES, grace.block, grace.inode);
+    Ok(new)
+}
