@@ -3,11 +3,10 @@ ghost use Rattle.quota_blocks.specs.Count.{Rose};
 
 use quota_blocks::{Store, StoreFault};
 use std::alloc::Global;
-use std::fs;
 use std::fs::{File, Files, OpenOptions};
-use std::io;
 use std::io::ErrorKind;
 use std::os::unix::fs::{FileExt, MetadataExt, OpenOptionsExt, chown};
+use std::{fs, io};
 
 /// What an open file may be used for.
 #[derive(Clone, Copy, Debug, PartialEq, Eq)]
@@ -41,7 +40,8 @@ pub struct FileStore<'a, R> {
     writes: u64,
 }
 
-/// Reads from a place on until the buffer is full or the file ends.
+/// Reads from a place on until the buffer is full or the file ends. Each turn reads at least a byte, but for one that a
+/// signal interrupts, so the bound on the turns is never met.
 fn read_from(file: &File, at: u64, buf: &mut [u8]) -> io::Result<usize>
     ensures { IfOk result (λ count. count ≤ length buf.new) }
 {
@@ -58,6 +58,19 @@ fn read_from(file: &File, at: u64, buf: &mut [u8]) -> io::Result<usize>
         }
     }
     Ok(done)
+}
+
+/// Whether there is a file of this name. What is no regular file, as a folder or a pipe, is an error: opening a pipe
+/// would wait for whoever writes to it.
+fn is_there<R: Files>(files: &R, name: &str) -> io::Result<bool> {
+    match fs::metadata(files, name) {
+        Ok(metadata) if metadata.is_file() => Ok(true),
+        Ok(_) => Err(io::Error::from(ErrorKind::InvalidInput)),
+        Err(error) => match error.kind() {
+            ErrorKind::NotFound | ErrorKind::NotADirectory => Ok(false),
+            _ => Err(error),
+        },
+    }
 }
 
 /// Opens a file by its path. A file that is made may be read and written by its owner alone.
@@ -120,16 +133,20 @@ impl<'a, R: Files<File = File>> FileStore<'a, R> {
                 return Ok(true);
             }
         }
-        match open_file(self.files, name, access) {
-            Ok(file) => {
-                let name = String::from_str(self.alloc, name)?;
-                self.last = Some(Opened { name, file, access });
-                Ok(true)
-            }
-            Err(error) if error.kind() == ErrorKind::NotFound && access == Access::Reading => {
-                Ok(false)
-            }
-            Err(error) => Err(error),
+        if !is_there(self.files, name)? && access == Access::Reading {
+            return Ok(false);
+        }
+        let file = open_file(self.files, name, access)?;
+        let name = String::from_str(self.alloc, name)?;
+        self.last = Some(Opened { name, file, access });
+        Ok(true)
+    }
+
+    /// The file that was used last.
+    fn last_file(&self) -> io::Result<&File> {
+        match &self.last {
+            Some(last) => Ok(&last.file),
+            None => Err(io::Error::from(ErrorKind::NotFound)),
         }
     }
 
@@ -142,16 +159,14 @@ impl<'a, R: Files<File = File>> FileStore<'a, R> {
         if !self.open(name, Access::Reading)? {
             return Ok(None);
         }
-        let Some(last) = &self.last else {
-            return Ok(None);
-        };
-        let metadata = last.file.metadata()?;
+        let metadata = self.last_file()?.metadata()?;
         if !metadata.is_file() {
             return Err(io::Error::from(ErrorKind::InvalidInput));
         }
         Ok(Some(metadata.len()))
     }
 
+    /// Reads from a place of a file on; a file that is not there has no bytes.
     fn read_file(&mut self, name: &str, at: u64, buf: &mut [u8]) -> io::Result<usize>
         ensures fits { IfOk result (λ count. count ≤ length buf.new) }
         ensures faults { self.new.faults ≡ self.old.faults }
@@ -161,22 +176,17 @@ impl<'a, R: Files<File = File>> FileStore<'a, R> {
         if !self.open(name, Access::Reading)? {
             return Ok(0);
         }
-        match &self.last {
-            Some(last) => read_from(&last.file, at, buf),
-            None => Ok(0),
-        }
+        read_from(self.last_file()?, at, buf)
     }
 
+    /// Writes bytes to a place of a file.
     fn write_file(&mut self, name: &str, at: u64, bytes: &[u8]) -> io::Result<()>
         ensures faults { self.new.faults ≡ self.old.faults }
         ensures reads { self.new.reads ≡ self.old.reads }
         ensures writes { self.new.writes ≡ self.old.writes }
     {
         self.open(name, Access::Writing)?;
-        match &self.last {
-            Some(last) => last.file.write_all_at(bytes, at),
-            None => Ok(()),
-        }
+        self.last_file()?.write_all_at(bytes, at)
     }
 
     /// Waits until a file's bytes are on the disk. A file that is not there has none.
@@ -188,10 +198,7 @@ impl<'a, R: Files<File = File>> FileStore<'a, R> {
         if !self.open(name, Access::Reading)? {
             return Ok(());
         }
-        match &self.last {
-            Some(last) => last.file.sync_all(),
-            None => Ok(()),
-        }
+        self.last_file()?.sync_all()
     }
 
     /// Renames a file, which takes the owner and the permissions of the one that had the name.

@@ -1,7 +1,9 @@
-//! The Linux disk quota tools as one program.
+//! The Linux disk quota tools as one program. [`run::run`] carries out a command, and its contract is what the program
+//! promises.
 #![tactic(auto)]
 
 use file_store::FileStore;
+use refusal::Cause;
 use std::io::ErrorKind;
 use std::process::ExitCode;
 use std::time::{Clock, SystemTime};
@@ -18,9 +20,6 @@ mod stream_sink;
 #[cfg(test)]
 mod tests;
 mod words;
-
-/// The status of a program that the system gives no words or no moment.
-const NOTHING_GIVEN: u8 = 4;
 
 /// The words of the command line without the program's own name. Words that are no text are no words of any command.
 fn given_words<R: env::Env + AllocGlobal>(rt: &R) -> io::Result<Vec<String>> {
@@ -39,12 +38,25 @@ fn given_moment(clock: &impl Clock) -> io::Result<u64> {
     }
 }
 
+/// Why a program stops to which the system gives no words or no moment.
+fn starting_cause(kind: ErrorKind) -> Cause {
+    match kind {
+        ErrorKind::OutOfMemory => Cause::Memory,
+        _ => Cause::StoreFault,
+    }
+}
+
 fn main(rt: HostRuntime) -> ExitCode {
-    let (Ok(words), Ok(now)) = (given_words(&rt), given_moment(&rt)) else {
-        return ExitCode::from(NOTHING_GIVEN);
-    };
-    let mut store = FileStore::new(rt.alloc(), &rt);
-    let mut out = StreamSink::new(rt.stdout());
     let mut err = StreamSink::new(rt.stderr());
-    ExitCode::from(run::run(rt.alloc(), &words, &mut store, &mut out, &mut err, now))
+    let status = match (given_words(&rt), given_moment(&rt)) {
+        (Ok(words), Ok(now)) => {
+            let mut store = FileStore::new(rt.alloc(), &rt);
+            let mut out = StreamSink::new(rt.stdout());
+            run::run(rt.alloc(), &words, &mut store, &mut out, &mut err, now)
+        }
+        (Err(error), _) | (_, Err(error)) => {
+            run::refuse(&mut err, starting_cause(error.kind()), "")
+        }
+    };
+    ExitCode::from(status)
 }

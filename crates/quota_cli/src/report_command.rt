@@ -1,4 +1,4 @@
-ghost use Rattle.std.specs.Prelude.{◌≡◌, ◌≢◌, ◌≤◌, ◌++◌, Some, Ok, Err, Result, IsTrue, IfErr, OnOk};
+ghost use Rattle.std.specs.Prelude.{◌≡◌, ◌≢◌, ◌≤◌, ◌++◌, Some, Ok, Err, Result, true, IsTrue, IfErr, OnOk};
 ghost use Rattle.quota_types.specs.declared.file_kind.Kind.TheVariants.{User};
 ghost use Rattle.quota_types.specs.declared.file_kind.Format.TheVariants.{V1};
 ghost use Rattle.quota_blocks.specs.Count.{Rose};
@@ -62,6 +62,7 @@ fn write_report<S: Store, O: Sink>(
     now: u64,
     out: &mut O,
 ) -> Result<(), Cause>
+    requires { ⟦<V1File as QuotaFile<S>>⟧.is_usable file.old ≡ true }
     ensures done { OnOk result (IsTrue (O.tells out.old) → (value : QuotaValue)
         → ⟦<V1File as QuotaFile<S>>⟧.holds file.old store.old value → value.kind ≡ User
         → O.written out.new ≡ O.written out.old ++ report_of value no_names name.now now verbose) }

@@ -140,7 +140,7 @@ fn attempt<'a, S: Store, O: Sink>(
 }
 
 /// Writes the error line of a refusal, and answers its status, which stays where the error output fails.
-fn refuse<E: Sink>(err: &mut E, cause: Cause, name: &str) -> u8
+pub fn refuse<E: Sink>(err: &mut E, cause: Cause, name: &str) -> u8
     ensures status { result ≡ status_of cause }
     ensures line { IsTrue (E.tells err.old) → AppendsUnless (Rose (E.faults err.old) (E.faults err.new))
         (E.written err.old) (E.written err.new) (error_line cause name.now) }
