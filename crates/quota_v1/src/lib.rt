@@ -11,6 +11,8 @@ mod flat_change;
 mod flat_file;
 mod flat_record;
 mod opening;
+#[cfg(test)]
+mod tests;
 
 pub use flat_file::V1File;
 pub use opening::open_v1;
