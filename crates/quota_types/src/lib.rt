@@ -3,15 +3,26 @@
 //! Units are those of the quota files: block limits are in KiB, the space that is used is in bytes, timers are in
 //! seconds since 1970, and grace periods are in seconds.
 //!
-//! The one promise: null records, KiB and ranges are those of the definitions in `specs/`.
+//! The one promise: null records, KiB, ranges, what a format keeps of a record, and timers are those of the definitions
+//! in `specs/`.
 #![tactic(auto)]
 
 mod damage;
 mod field;
 mod file_kind;
+mod keeping;
+mod ranges;
 mod record;
+#[cfg(test)]
+mod tests;
+mod timers;
+mod wanted;
 
 pub use damage::{Damage, DamageKind};
 pub use field::{Field, NoRoom};
 pub use file_kind::{Format, Kind};
+pub use keeping::kept;
+pub use ranges::{check_grace, check_record, fits, grace_fits};
 pub use record::{Entry, Grace, Rec};
+pub use timers::{is_exceeded, next_timers};
+pub use wanted::next_kept;

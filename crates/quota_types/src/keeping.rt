@@ -1,0 +1,63 @@
+ghost use Rattle.std.specs.Prelude.{◌≡◌, ◌^◌, ◌<◌, ◌↔◌, None};
+ghost use Rattle.quota_types.specs.Kept.{kept_of, without_marker};
+ghost use Rattle.quota_types.specs.Range.{unfit};
+ghost use Rattle.quota_types.specs.Rec.{IsNull, kib_of};
+
+use crate::{Format, Rec};
+
+/// What a tree file has in place of a record of zeros of identifier 0, since an entry of zeros is an unused one.
+const MARKER: Rec = Rec {
+    ihard: 0,
+    isoft: 0,
+    inodes: 0,
+    bhard: 0,
+    bsoft: 0,
+    space: 0,
+    btime: 0,
+    itime: 1,
+};
+
+fn kept_flat(id: u32, rec: Rec) -> Rec
+    requires { kib_of rec.space < 2 ^ 32 }
+    ensures { result ≡ kept_of Format.V1 id rec }
+{
+    let rounded = Rec {
+        space: 1024 * rec.kib(),
+        ..rec
+    };
+    if id == 0 {
+        Rec {
+            btime: 0,
+            itime: 0,
+            ..rounded
+        }
+    } else {
+        rounded
+    }
+}
+
+fn kept_tree(id: u32, rec: Rec) -> Rec
+    ensures { result ≡ without_marker id rec }
+{
+    if id == 0 && rec == MARKER {
+        Rec::default()
+    } else {
+        rec
+    }
+}
+
+/// What the format keeps of an identifier's record for which it has room. A flat file keeps the space in whole KiB,
+/// rounded up, and no timers of identifier 0. A tree file keeps a record as it is, but for an itime of 1 and else zeros
+/// of identifier 0, by which it marks a record of zeros, and which becomes one.
+pub fn kept(format: Format, id: u32, rec: Rec) -> Rec
+    requires { unfit format id rec ≡ None }
+    ensures kept { result ≡ kept_of format id rec }
+    ensures fits { unfit format id result ≡ None }
+    ensures again { kept_of format id result ≡ result }
+    ensures null { IsNull result ↔ IsNull rec }
+{
+    match format {
+        Format::V1 => kept_flat(id, rec),
+        Format::V2R0 | Format::V2R1 => kept_tree(id, rec),
+    }
+}
