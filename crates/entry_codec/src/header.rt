@@ -107,6 +107,8 @@ fn read_from(block: &[u8], kind: Kind) -> Result<Header, HeaderFault>
     ensures kind { IfOk result (λ header. header.kind ≡ kind) }
     ensures numbers { IfOk result (λ header. AreOf header (header_of block.now)) }
     ensures grace { IfOk result (λ header. grace_unfit header.format header.grace ≡ None) }
+    ensures blocks { IfOk result (λ header. 2 ≤ header.blocks) }
+    ensures tree { IfOk result (λ header. header.format ≢ Format.V1) }
 {
     let format = check_header(block, kind)?;
     Ok(Header {
@@ -131,6 +133,8 @@ pub fn read_header(block: &[u8; 1024], kind: Kind) -> Result<Header, HeaderFault
     ensures kind { IfOk result (λ header. header.kind ≡ kind) }
     ensures numbers { IfOk result (λ header. AreOf header (header_of block.now)) }
     ensures grace { IfOk result (λ header. grace_unfit header.format header.grace ≡ None) }
+    ensures blocks { IfOk result (λ header. 2 ≤ header.blocks) }
+    ensures tree { IfOk result (λ header. header.format ≢ Format.V1) }
 {
     read_from(&block[..], kind)
 }
