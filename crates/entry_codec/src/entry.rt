@@ -7,10 +7,11 @@ ghost use Rattle.quota_types.specs.Range.{unfit};
 use crate::numbers::{number4, number8, put_numbers4, put_numbers8};
 use quota_types::{Format, Rec, kept};
 
+/// The record of an entry of vfsv0, as it is stored. It fits, whatever the identifier.
 fn stored_v2r0(bytes: &[u8]) -> Rec
     requires { length bytes.now ≡ 48 }
     ensures value { result ≡ stored_v2r0 bytes.now }
-    ensures fits { (id : ℕ) → unfit Format.V2R0 id result ≡ None }
+    ensures fits { unfit Format.V2R0 0 result ≡ None }
 {
     Rec {
         ihard: u64::from(number4(bytes, 4)),
@@ -24,10 +25,11 @@ fn stored_v2r0(bytes: &[u8]) -> Rec
     }
 }
 
+/// The record of an entry of vfsv1, as it is stored. It fits, whatever the identifier.
 fn stored_v2r1(bytes: &[u8]) -> Rec
     requires { length bytes.now ≡ 72 }
     ensures value { result ≡ stored_v2r1 bytes.now }
-    ensures fits { (id : ℕ) → unfit Format.V2R1 id result ≡ None }
+    ensures fits { unfit Format.V2R1 0 result ≡ None }
 {
     Rec {
         ihard: number8(bytes, 8),
@@ -60,8 +62,8 @@ fn used_record(format: Format, id: u32, bytes: &[u8]) -> Rec
 {
     match format {
         Format::V1 => unreachable!(),
-        Format::V2R0 => kept(format, id, stored_v2r0(bytes)),
-        Format::V2R1 => kept(format, id, stored_v2r1(bytes)),
+        Format::V2R0 => kept(Format::V2R0, id, stored_v2r0(bytes)),
+        Format::V2R1 => kept(Format::V2R1, id, stored_v2r1(bytes)),
     }
 }
 
