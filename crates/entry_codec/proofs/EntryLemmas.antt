@@ -12,7 +12,7 @@ use Rattle.entry_codec.specs.Entry.{IsEntry, IsUsedBy, is_unused, stored_id, sto
 use Rattle.entry_codec.proofs.NumberLemmas.{number_at-zeros}
 
 -- the record of zeros
-abbrev zeros : Rec
+abbrev pub zeros : Rec
 zeros = record { ihard = 0; isoft = 0; inodes = 0; bhard = 0; bsoft = 0; space = 0; btime = 0; itime = 0 }
 
 test_cases : (b : Bool) → (b ≡ true) ⊎ (b ≡ false)

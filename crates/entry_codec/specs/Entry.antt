@@ -1,7 +1,7 @@
 -- The entries of a tree file. Source: `struct v2r0_disk_dqblk` and `struct v2r1_disk_dqblk` of the quota tools.
-use Rattle.std.specs.Prelude.{◌≡◌, ℕ, Bool, false, ◌==◌, List}
+use Rattle.std.specs.Prelude.{◌≡◌, ℕ, ◌<◌, Bool, false, ◌==◌, List, length}
 use Rattle.std.specs.List.{list_all}
-use Rattle.quota_types.specs.Bytes.{number_at}
+use Rattle.quota_types.specs.Bytes.{byte_at, number_at}
 use Rattle.quota_types.specs.Kept.{without_marker}
 use Rattle.quota_types.specs.declared.file_kind.Format.{Format}
 use Rattle.quota_types.specs.declared.file_kind.Format.TheVariants.{V1, V2R0, V2R1}
@@ -71,3 +71,14 @@ abbrev pub IsEntry : Format → List ℕ → ℕ → Rec → Type 0
 IsEntry V1 bytes id rec = ⊥
 IsEntry V2R0 bytes id rec = IsUsedBy bytes (stored_v2r0 bytes) id rec
 IsEntry V2R1 bytes id rec = IsUsedBy bytes (stored_v2r1 bytes) id rec
+
+-- each number of the list is that of a byte
+abbrev pub AreBytes : List ℕ → Type 0
+AreBytes bytes = (at : ℕ) → byte_at bytes at < 256
+
+-- the bytes are a whole entry of this identifier and record, and its padding is 0
+pub record IsSpelling (format : Format) (bytes : List ℕ) (id : ℕ) (rec : Rec) : Type 0 where
+  pub are_bytes : AreBytes bytes
+  pub size : length bytes ≡ entry_size format
+  pub entry : IsEntry format bytes id rec
+  pub padding : padding_of format bytes ≡ 0

@@ -1,7 +1,7 @@
 //! Laws of the layout: what is written is read again, and bytes and values determine each other.
 
 ghost use Rattle.std.specs.Prelude.{◌≡◌, ◌≢◌, ◌^◌, ◌<◌, ◌≤◌, ℕ, List, None, Ok, Some, length};
-ghost use Rattle.entry_codec.specs.Entry.{IsEntry, entry_size, padding_of};
+ghost use Rattle.entry_codec.specs.Entry.{AreBytes, IsEntry, IsSpelling, entry_size};
 ghost use Rattle.entry_codec.specs.Header.{AreOf, HeaderNumbers, header_of};
 ghost use Rattle.quota_types.specs.Bytes.{byte_at};
 ghost use Rattle.quota_types.specs.Kept.{kept_of};
@@ -51,4 +51,14 @@ pub fn numbers_are_of_one_header()
 pub fn an_entry_has_one_meaning()
     ensures id { (format : Format) (bytes : List ℕ) (id other_id : ℕ) (rec other : Rec) → IsEntry format bytes id rec → IsEntry format bytes other_id other → id ≡ other_id }
     ensures rec { (format : Format) (bytes : List ℕ) (id other_id : ℕ) (rec other : Rec) → IsEntry format bytes id rec → IsEntry format bytes other_id other → rec ≡ other }
+{}
+
+/// An identifier's record is spelled by one entry at most in which padding is 0, so `write_entry` has no choice.
+pub fn an_entry_has_one_spelling()
+    ensures { (format : Format) (bytes other : List ℕ) (id : ℕ) (rec : Rec) → IsSpelling format bytes id rec → IsSpelling format other id rec → bytes ≡ other }
+{}
+
+/// The numbers of a header are spelled by one row of 32 bytes, so `write_header` has no choice.
+pub fn numbers_have_one_spelling()
+    ensures { (file other : List ℕ) → AreBytes file → AreBytes other → header_of file ≡ header_of other → (at : ℕ) → at < 32 → byte_at file at ≡ byte_at other at }
 {}
