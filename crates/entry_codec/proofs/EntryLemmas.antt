@@ -1,12 +1,12 @@
 -- Entries in use, by their stored identifier and record.
-use Rattle.std.proofs.Common.{◌≡◌, ◌≢◌, ℕ, ◌<◌, ◌≤◌, ◌==◌, ◌⊎◌, inl, inr, Bool, true, false, List, length, get_or, refl, sym, ap, subst, ◌∙◌, arith}
+use Rattle.std.proofs.Common.{◌≡◌, ◌≢◌, ℕ, ◌==◌, ◌⊎◌, inl, inr, Bool, true, false, List, length, get_or, refl, sym, ap, subst, ◌∙◌, arith}
 use Rattle.std.proofs.lemmas.Bool.{cases_lt}
 use Rattle.std.proofs.lemmas.List.{get_or_past}
 use Rattle.std.proofs.lemmas.List.Folds.{list_all_at}
 use Rattle.quota_types.specs.Bytes.{number_at}
 use Rattle.quota_types.specs.Kept.{without_marker}
 use Rattle.quota_types.specs.declared.file_kind.Format.{Format}
-use Rattle.quota_types.specs.declared.file_kind.Format.TheVariants.{V1, V2R0, V2R1}
+use Rattle.quota_types.specs.declared.file_kind.Format.TheVariants.{V2R0, V2R1}
 use Rattle.quota_types.specs.declared.record.Rec.{Rec}
 use Rattle.entry_codec.specs.Entry.{IsEntry, IsUsedBy, is_unused, stored_id, stored_v2r0, stored_v2r1}
 use Rattle.entry_codec.proofs.NumberLemmas.{number_at-zeros}

@@ -1,5 +1,5 @@
 -- Bytes are the same where the numbers that they spell are.
-use Rattle.std.proofs.Common.{◌≡◌, ◌≢◌, ℕ, zero, suc, ◌+◌, ◌-◌, ◌*◌, ◌<◌, ◌≤◌, ◌==◌, ◌⊎◌, inl, inr, true, List, [], ◌∷◌, length, get_or, refl, sym, ap, subst, ◌∙◌, arith}
+use Rattle.std.proofs.Common.{◌≡◌, ◌≢◌, ℕ, zero, suc, ◌+◌, ◌-◌, ◌*◌, ◌<◌, ◌⊎◌, inl, inr, true, List, [], ◌∷◌, length, refl, sym, ap, subst, ◌∙◌, arith}
 use Rattle.std.proofs.lemmas.Bool.{cases_lt}
 use Rattle.std.proofs.lemmas.Grind.{same_number_lists}
 use Rattle.quota_types.specs.Bytes.{byte_at, number_at}
@@ -7,7 +7,7 @@ use Rattle.quota_types.specs.Kept.{without_marker}
 use Rattle.quota_types.specs.declared.file_kind.Format.{Format}
 use Rattle.quota_types.specs.declared.file_kind.Format.TheVariants.{V1, V2R0, V2R1}
 use Rattle.quota_types.specs.declared.record.Rec.{Rec}
-use Rattle.entry_codec.specs.Entry.{AreBytes, IsEntry, IsSpelling, IsUsedBy, is_unused, stored_id, stored_v2r0, stored_v2r1}
+use Rattle.entry_codec.specs.Entry.{AreBytes, IsSpelling, IsUsedBy, is_unused, stored_id, stored_v2r0, stored_v2r1}
 use Rattle.entry_codec.specs.Header.{HeaderNumbers, header_of}
 use Rattle.entry_codec.proofs.EntryLemmas.{zeros}
 use Rattle.entry_codec.proofs.NumberLemmas.{number_at-zeros}

@@ -1,3 +1,5 @@
+ghost use Rattle.std.specs.Prelude.{◌<◌};
+
 use super::*;
 use quota_types::{Format, Grace, Kind, Rec, check_record, kept};
 
@@ -6,6 +8,32 @@ const EMPTY: [u8; 32] = [
     0x11, 0x1f, 0xc0, 0xd9, 1, 0, 0, 0, 0x80, 0x3a, 9, 0, 0x80, 0x3a, 9, 0, 0, 0, 0, 0, 2, 0, 0, 0,
     0, 0, 0, 0, 0, 0, 0, 0,
 ];
+
+/// The same header, as a value.
+const EMPTY_HEADER: Header = Header {
+    kind: Kind::User,
+    format: Format::V2R1,
+    grace: Grace {
+        block: 604_800,
+        inode: 604_800,
+    },
+    flags: 0,
+    blocks: 2,
+    free: 0,
+    first: 0,
+};
+
+/// The record of `OVER`.
+const OVER_RECORD: Rec = Rec {
+    ihard: 0,
+    isoft: 0,
+    inodes: 1,
+    bhard: 8,
+    bsoft: 2,
+    space: 4096,
+    btime: 1_700_604_800,
+    itime: 0,
+};
 
 /// An entry of vfsv1: identifier 1000 has one inode and 4,096 bytes in use, which exceeds its soft limit of 2 KiB.
 const OVER: [u8; 72] = [
@@ -36,29 +64,14 @@ fn changed(at: usize, byte: u8) -> [u8; 32]
     head
 }
 
-fn empty_header() -> Header {
-    Header {
-        kind: Kind::User,
-        format: Format::V2R1,
-        grace: Grace {
-            block: 604_800,
-            inode: 604_800,
-        },
-        flags: 0,
-        blocks: 2,
-        free: 0,
-        first: 0,
-    }
-}
-
 #[test]
 fn reads_a_header_or_names_its_first_fault(rt: HostRuntime) {
     let vfsv0 = Header {
         format: Format::V2R0,
-        ..empty_header()
+        ..EMPTY_HEADER
     };
     let cases = [
-        (EMPTY, Kind::User, Ok(empty_header())),
+        (EMPTY, Kind::User, Ok(EMPTY_HEADER)),
         (EMPTY, Kind::Group, Err(HeaderFault::WrongKind)),
         (changed(4, 0), Kind::User, Ok(vfsv0)),
         (changed(4, 2), Kind::User, Err(HeaderFault::UnknownVersion)),
@@ -76,7 +89,7 @@ fn reads_a_header_or_names_its_first_fault(rt: HostRuntime) {
 #[test]
 fn writes_a_header_and_leaves_the_other_bytes(rt: HostRuntime) {
     let mut block = [0xff; 1024];
-    write_header(&empty_header(), &mut block);
+    write_header(&EMPTY_HEADER, &mut block);
     assert_eq!(rt; block, block_of(EMPTY, 0xff));
 }
 
@@ -89,8 +102,8 @@ fn reads_the_entries_of_a_data_block(rt: HostRuntime) {
     let cases = [
         ([0; 72], None),
         (marker, Some((0, Rec::default()))),
-        (OVER, Some((1000, over()))),
-        (padded, Some((1000, over()))),
+        (OVER, Some((1000, OVER_RECORD))),
+        (padded, Some((1000, OVER_RECORD))),
     ];
     for (bytes, want) in cases {
         assert_eq!(rt; read_entry(Format::V2R1, &bytes), want, "{bytes:?}");
@@ -115,7 +128,7 @@ fn writes_an_entry_over_all_its_bytes(rt: HostRuntime) {
         ..Rec::default()
     };
     let cases = [
-        (1000, over(), OVER),
+        (1000, OVER_RECORD, OVER),
         (0, Rec::default(), zeros),
         (0, marker, zeros),
     ];
@@ -138,21 +151,12 @@ fn entries_fill_a_block_behind_its_head(rt: HostRuntime) {
 #[test]
 fn reads_and_writes_limits_of_32_bits(rt: HostRuntime) {
     let mut bytes = [0xff; 48];
-    write_entry(Format::V2R0, 1000, &over(), &mut bytes);
-    assert_eq!(rt; bytes[..4], OVER[..4]);
-    assert_eq!(rt; bytes[12..24], [1, 0, 0, 0, 8, 0, 0, 0, 2, 0, 0, 0]);
-    assert_eq!(rt; bytes[24..], OVER[48..]);
-    assert_eq!(rt; read_entry(Format::V2R0, &bytes), Some((1000, over())));
-}
-
-/// The record of `OVER`.
-fn over() -> Rec {
-    Rec {
-        inodes: 1,
-        bhard: 8,
-        bsoft: 2,
-        space: 4096,
-        btime: 1_700_604_800,
-        ..Rec::default()
-    }
+    write_entry(Format::V2R0, 1000, &OVER_RECORD, &mut bytes);
+    assert_eq!(rt; &bytes[..4], &OVER[..4]);
+    assert_eq!(rt;
+        &bytes[12..24],
+        [1, 0, 0, 0, 8, 0, 0, 0, 2, 0, 0, 0].as_slice()
+    );
+    assert_eq!(rt; &bytes[24..], &OVER[48..]);
+    assert_eq!(rt; read_entry(Format::V2R0, &bytes), Some((1000, OVER_RECORD)));
 }

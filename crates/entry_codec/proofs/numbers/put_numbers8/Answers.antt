@@ -1,4 +1,4 @@
-use Rattle.std.proofs.Common.{◌≤◌, ◌+◌, ◌-◌, length, take, drop, arith}
+use Rattle.std.proofs.Common.{◌≤◌, length, take, arith}
 use Rattle.std.proofs.lemmas.List.{length-take-le}
 use Rattle.entry_codec.proofs.NumberLemmas.{number_at-written_from, number_at-kept}
 use Rattle.entry_codec.proofs.numbers.put_numbers8.Goals as goal
