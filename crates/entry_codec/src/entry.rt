@@ -1,5 +1,5 @@
-ghost use Rattle.std.specs.Prelude.{◌≡◌, ◌≢◌, ℕ, ◌≤◌, ◌^◌, ◌<◌, true, false, None, Some, IfNone, IfSome, length, nat_lt};
-ghost use Rattle.entry_codec.specs.Entry.{IsEntry, IsUsedBy, entry_size, is_unused, padding_of, stored_id, stored_v2r0, stored_v2r1};
+ghost use Rattle.std.specs.Prelude.{◌≡◌, ◌≢◌, ℕ, true, false, None, Some, IfNone, IfSome, length};
+ghost use Rattle.entry_codec.specs.Entry.{IsEntry, entry_size, is_unused, padding_of, stored_id, stored_v2r0, stored_v2r1};
 ghost use Rattle.quota_types.specs.Bytes.{number_at};
 ghost use Rattle.quota_types.specs.Kept.{kept_of, without_marker};
 ghost use Rattle.quota_types.specs.Range.{unfit};

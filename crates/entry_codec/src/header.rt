@@ -1,4 +1,4 @@
-ghost use Rattle.std.specs.Prelude.{◌≡◌, ◌≢◌, ◌^◌, ◌<◌, ◌≤◌, None, Some, IfErr, IfOk, OnOk, drop, length, List, ℕ};
+ghost use Rattle.std.specs.Prelude.{◌≡◌, ◌≢◌, ◌^◌, ◌<◌, ◌≤◌, None, Some, IfErr, IfOk, OnOk, drop, length};
 ghost use Rattle.entry_codec.specs.Header.{AreOf, format_of, header_fault, header_of, is_magic, magic_of};
 ghost use Rattle.quota_types.specs.Range.{grace_unfit};
 
