@@ -1,0 +1,84 @@
+-- The entries of a tree file. Source: `struct v2r0_disk_dqblk` and `struct v2r1_disk_dqblk` of the quota tools.
+use Rattle.std.specs.Prelude.{◌≡◌, ℕ, ◌<◌, Bool, false, ◌==◌, List, length}
+use Rattle.std.specs.List.{list_all}
+use Rattle.quota_types.specs.Bytes.{byte_at, number_at}
+use Rattle.quota_types.specs.Kept.{without_marker}
+use Rattle.quota_types.specs.declared.file_kind.Format.{Format}
+use Rattle.quota_types.specs.declared.file_kind.Format.TheVariants.{V1, V2R0, V2R1}
+use Rattle.quota_types.specs.declared.record.Rec.{Rec}
+
+-- the bytes of an entry; a flat file has none
+abbrev pub entry_size : Format → ℕ
+entry_size V1 = 0
+entry_size V2R0 = 48
+entry_size V2R1 = 72
+
+-- the entries of a data block, which fill it behind its first 16 bytes
+abbrev pub entries_per_block : Format → ℕ
+entries_per_block V1 = 0
+entries_per_block V2R0 = 21
+entries_per_block V2R1 = 14
+
+-- all bytes of an entry are 0
+abbrev pub is_unused : List ℕ → Bool
+is_unused bytes = list_all (λ byte. byte == 0) bytes
+
+-- the identifier of an entry, as it is stored in both formats
+abbrev pub stored_id : List ℕ → ℕ
+stored_id bytes = number_at 4 bytes 0
+
+-- the record of an entry of vfsv0, as it is stored
+abbrev pub stored_v2r0 : List ℕ → Rec
+stored_v2r0 bytes = record {
+  ihard = number_at 4 bytes 4;
+  isoft = number_at 4 bytes 8;
+  inodes = number_at 4 bytes 12;
+  bhard = number_at 4 bytes 16;
+  bsoft = number_at 4 bytes 20;
+  space = number_at 8 bytes 24;
+  btime = number_at 8 bytes 32;
+  itime = number_at 8 bytes 40;
+}
+
+-- the record of an entry of vfsv1, as it is stored
+abbrev pub stored_v2r1 : List ℕ → Rec
+stored_v2r1 bytes = record {
+  ihard = number_at 8 bytes 8;
+  isoft = number_at 8 bytes 16;
+  inodes = number_at 8 bytes 24;
+  bhard = number_at 8 bytes 32;
+  bsoft = number_at 8 bytes 40;
+  space = number_at 8 bytes 48;
+  btime = number_at 8 bytes 56;
+  itime = number_at 8 bytes 64;
+}
+
+-- the bytes between the identifier and the record, which have any value
+abbrev pub padding_of : Format → List ℕ → ℕ
+padding_of V1 bytes = 0
+padding_of V2R0 bytes = 0
+padding_of V2R1 bytes = number_at 4 bytes 4
+
+-- An entry with this stored record is used, by this identifier and this record. The record is the stored one, but that
+-- the marker of identifier 0, an itime of 1 and else zeros, is its record of zeros.
+pub record IsUsedBy (bytes : List ℕ) (stored : Rec) (id : ℕ) (rec : Rec) : Type 0 where
+  pub used : is_unused bytes ≡ false
+  pub id_is : id ≡ stored_id bytes
+  pub rec_is : rec ≡ without_marker (stored_id bytes) stored
+
+-- the bytes of an entry are used by this identifier with this record
+abbrev pub IsEntry : Format → List ℕ → ℕ → Rec → Type 0
+IsEntry V1 bytes id rec = ⊥
+IsEntry V2R0 bytes id rec = IsUsedBy bytes (stored_v2r0 bytes) id rec
+IsEntry V2R1 bytes id rec = IsUsedBy bytes (stored_v2r1 bytes) id rec
+
+-- each number of the list is that of a byte
+abbrev pub AreBytes : List ℕ → Type 0
+AreBytes bytes = (at : ℕ) → byte_at bytes at < 256
+
+-- the bytes are a whole entry of this identifier and record, and its padding is 0
+pub record IsSpelling (format : Format) (bytes : List ℕ) (id : ℕ) (rec : Rec) : Type 0 where
+  pub are_bytes : AreBytes bytes
+  pub size : length bytes ≡ entry_size format
+  pub entry : IsEntry format bytes id rec
+  pub padding : padding_of format bytes ≡ 0

@@ -1,0 +1,5 @@
+pub mod Entry
+pub mod Header
+pub use Rattle.quota_types.specs.Bytes
+pub use Rattle.quota_types.specs.Kept
+pub use Rattle.quota_types.specs.Range

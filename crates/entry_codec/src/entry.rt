@@ -1,0 +1,155 @@
+ghost use Rattle.std.specs.Prelude.{◌≡◌, ◌≢◌, ℕ, true, false, None, Some, IfNone, IfSome, length};
+ghost use Rattle.entry_codec.specs.Entry.{IsEntry, entry_size, is_unused, padding_of, stored_id, stored_v2r0, stored_v2r1};
+ghost use Rattle.quota_types.specs.Bytes.{number_at};
+ghost use Rattle.quota_types.specs.Kept.{kept_of, without_marker};
+ghost use Rattle.quota_types.specs.Range.{unfit};
+
+use crate::numbers::{number4, number8, put_numbers4, put_numbers8};
+use quota_types::{Format, Rec, kept};
+
+/// The record of an entry of vfsv0, as it is stored. It fits, whatever the identifier.
+fn stored_v2r0(bytes: &[u8]) -> Rec
+    requires { length bytes.now ≡ 48 }
+    ensures value { result ≡ stored_v2r0 bytes.now }
+    ensures fits { unfit Format.V2R0 0 result ≡ None }
+{
+    Rec {
+        ihard: u64::from(number4(bytes, 4)),
+        isoft: u64::from(number4(bytes, 8)),
+        inodes: u64::from(number4(bytes, 12)),
+        bhard: u64::from(number4(bytes, 16)),
+        bsoft: u64::from(number4(bytes, 20)),
+        space: number8(bytes, 24),
+        btime: number8(bytes, 32),
+        itime: number8(bytes, 40),
+    }
+}
+
+/// The record of an entry of vfsv1, as it is stored. It fits, whatever the identifier.
+fn stored_v2r1(bytes: &[u8]) -> Rec
+    requires { length bytes.now ≡ 72 }
+    ensures value { result ≡ stored_v2r1 bytes.now }
+    ensures fits { unfit Format.V2R1 0 result ≡ None }
+{
+    Rec {
+        ihard: number8(bytes, 8),
+        isoft: number8(bytes, 16),
+        inodes: number8(bytes, 24),
+        bhard: number8(bytes, 32),
+        bsoft: number8(bytes, 40),
+        space: number8(bytes, 48),
+        btime: number8(bytes, 56),
+        itime: number8(bytes, 64),
+    }
+}
+
+/// Whether all bytes are 0.
+fn is_unused(bytes: &[u8]) -> bool
+    ensures { result ≡ is_unused bytes.now }
+{
+    bytes.iter().all(|byte| *byte == 0)
+}
+
+/// The record of an entry in use.
+fn used_record(format: Format, id: u32, bytes: &[u8]) -> Rec
+    requires tree { format ≢ Format.V1 }
+    requires size { length bytes.now ≡ entry_size format }
+    requires used { is_unused bytes.now ≡ false }
+    requires id { id ≡ stored_id bytes.now }
+    ensures entry { IsEntry format bytes.now id result }
+    ensures fits { unfit format id result ≡ None }
+    ensures kept { kept_of format id result ≡ result }
+{
+    match format {
+        Format::V1 => unreachable!(),
+        Format::V2R0 => kept(Format::V2R0, id, stored_v2r0(bytes)),
+        Format::V2R1 => kept(Format::V2R1, id, stored_v2r1(bytes)),
+    }
+}
+
+/// The identifier and the record of an entry, or none where it is unused.
+pub fn read_entry(format: Format, bytes: &[u8]) -> Option<(u32, Rec)>
+    requires tree { format ≢ Format.V1 }
+    requires size { length bytes.now ≡ entry_size format }
+    ensures used { IfSome result (λ entry. IsEntry format bytes.now entry.0 entry.1) }
+    ensures found { (id : ℕ) (rec : Rec) → IsEntry format bytes.now id rec → result ≡ Some (id, rec) }
+    ensures unused { IfNone result (is_unused bytes.now ≡ true) }
+    ensures none { is_unused bytes.now ≡ true → result ≡ None }
+    ensures fits { IfSome result (λ entry. unfit format entry.0 entry.1 ≡ None) }
+    ensures kept { IfSome result (λ entry. kept_of format entry.0 entry.1 ≡ entry.1) }
+{
+    if is_unused(bytes) {
+        return None;
+    }
+    let id = number4(bytes, 0);
+    Some((id, used_record(format, id, bytes)))
+}
+
+/// The record as it is stored: the record of zeros of identifier 0 has the marker in its place.
+fn marked(id: u32, rec: &Rec) -> Rec
+    requires { without_marker id rec.now ≡ rec.now }
+    ensures read { without_marker id result ≡ rec.now }
+    ensures used { id ≡ 0 → result ≢ record { ihard = 0; isoft = 0; inodes = 0; bhard = 0; bsoft = 0; space = 0; btime = 0; itime = 0 } }
+{
+    let rec = *rec;
+    if id == 0 && rec == Rec::default() {
+        Rec { itime: 1, ..rec }
+    } else {
+        rec
+    }
+}
+
+fn write_v2r0(id: u32, stored: &Rec, bytes: &mut [u8])
+    requires size { length bytes.old ≡ 48 }
+    requires fits { unfit Format.V2R0 id stored.now ≡ None }
+    ensures id { stored_id bytes.new ≡ id }
+    ensures stored { stored_v2r0 bytes.new ≡ stored.now }
+{
+    let numbers = [
+        id,
+        stored.ihard as u32,
+        stored.isoft as u32,
+        stored.inodes as u32,
+        stored.bhard as u32,
+        stored.bsoft as u32,
+    ];
+    put_numbers4(bytes, &numbers);
+    put_numbers8(bytes, 24, &[stored.space, stored.btime, stored.itime]);
+}
+
+fn write_v2r1(id: u32, stored: &Rec, bytes: &mut [u8])
+    requires { length bytes.old ≡ 72 }
+    ensures id { stored_id bytes.new ≡ id }
+    ensures padding { number_at 4 bytes.new 4 ≡ 0 }
+    ensures stored { stored_v2r1 bytes.new ≡ stored.now }
+{
+    let numbers = [
+        stored.ihard,
+        stored.isoft,
+        stored.inodes,
+        stored.bhard,
+        stored.bsoft,
+        stored.space,
+        stored.btime,
+        stored.itime,
+    ];
+    put_numbers4(bytes, &[id, 0]);
+    put_numbers8(bytes, 8, &numbers);
+}
+
+/// Writes the entry of an identifier and its record over all bytes of `bytes`; padding becomes 0.
+pub fn write_entry(format: Format, id: u32, rec: &Rec, bytes: &mut [u8])
+    requires tree { format ≢ Format.V1 }
+    requires size { length bytes.old ≡ entry_size format }
+    requires fits { unfit format id rec.now ≡ None }
+    requires kept { kept_of format id rec.now ≡ rec.now }
+    ensures entry { IsEntry format bytes.new id rec.now }
+    ensures padding { padding_of format bytes.new ≡ 0 }
+{
+    let stored = marked(id, rec);
+    match format {
+        Format::V1 => unreachable!(),
+        Format::V2R0 => write_v2r0(id, &stored, bytes),
+        Format::V2R1 => write_v2r1(id, &stored, bytes),
+    }
+}

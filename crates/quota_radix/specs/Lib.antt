@@ -1,0 +1,2 @@
+pub mod Digits
+pub use Rattle.quota_types.specs.Bytes
