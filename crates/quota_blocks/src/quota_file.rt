@@ -1,4 +1,4 @@
-ghost use Rattle.std.specs.Prelude.{◌≡◌, ◌<◌, ◌≤◌, ℕ, Bool, List, None, not, IsTrue, IsSome, IfOk, IfErr, IfSome, OnOk};
+ghost use Rattle.std.specs.Prelude.{◌≡◌, ◌<◌, ◌≤◌, ◌↔◌, ℕ, Bool, List, None, not, IsTrue, IsSome, IfOk, IfErr, IfSome, OnOk};
 ghost use Rattle.std.specs.FinMap.{get};
 ghost use Rattle.quota_types.specs.declared.file_kind.Format.{Format};
 ghost use Rattle.quota_types.specs.Kept.{kept_of};
@@ -110,6 +110,8 @@ pub trait QuotaFile<S: Store> {
         ensures same_name { name_of self.new ≡ name_of self.old }
         ensures same_format { format_of self.new ≡ format_of self.old }
         ensures usable { is_usable self.new ≡ is_usable self.old }
+        ensures same_room { (held value : QuotaValue) (blocks limit : ℕ) → holds self.old store.old held
+            → lacks_room self.new store.new value blocks limit ↔ lacks_room self.old store.old value blocks limit }
         ensures later { S.faults store.old ≤ S.faults store.new }
         ensures writes { S.writes store.new ≡ S.writes store.old }
         ensures same_files { S.files store.new ≡ S.files store.old }

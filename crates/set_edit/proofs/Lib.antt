@@ -1,2 +1,3 @@
+pub mod EditedLemmas
 pub mod LimitLemmas
 pub mod NumberLemmas

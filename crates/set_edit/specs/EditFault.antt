@@ -1,0 +1,36 @@
+-- Why an edit of a quota file is refused, and what it leaves as it was.
+use Rattle.std.specs.Prelude.{Bool, false, IsTrue, ⊤}
+use Rattle.quota_types.specs.declared.field.NoRoom.{NoRoom}
+use Rattle.quota_blocks.specs.QuotaFile.{is_store_fault}
+use Rattle.quota_blocks.specs.declared.quota_file.FileFault.{FileFault}
+use Rattle.quota_blocks.specs.declared.quota_file.FileFault.TheVariants.{Store, Damage, Full, Memory}
+use Rattle.set_edit.specs.declared.fault.EditFault.{EditFault}
+use Rattle.set_edit.specs.declared.fault.EditFault.TheVariants.{File, NoRoom as Unfit}
+
+-- a fact of the file's fault, where an edit was refused by one
+abbrev pub IfFile : EditFault → (FileFault → Type 0) → Type 0
+IfFile (File fault) P = P fault
+IfFile (Unfit _) P = ⊤
+
+-- a fact of the value that does not fit, where an edit was refused by one
+abbrev pub IfNoRoom : EditFault → (NoRoom → Type 0) → Type 0
+IfNoRoom (File _) P = ⊤
+IfNoRoom (Unfit out) P = P out
+
+-- the store failed
+abbrev pub is_store_failure : EditFault → Bool
+is_store_failure (File fault) = is_store_fault fault
+is_store_failure (Unfit _) = false
+
+-- a fact where the file had no room or there was no memory, or where the store failed and the file may still be used
+abbrev pub OnUnwritten : FileFault → Bool → Type 0 → Type 0
+OnUnwritten Store usable P = IsTrue usable → P
+OnUnwritten (Damage _) usable P = ⊤
+OnUnwritten (Full _ _) usable P = P
+OnUnwritten Memory usable P = P
+
+-- a fact where an edit changed nothing: the value did not fit, the file had no room, there was no memory, or the store
+-- failed and the file may still be used
+abbrev pub OnUnchanged : EditFault → Bool → Type 0 → Type 0
+OnUnchanged (File fault) usable P = OnUnwritten fault usable P
+OnUnchanged (Unfit _) usable P = P
