@@ -9,19 +9,26 @@ cd "$folder" || exit 1
 passed=0
 failed=0
 
+# lines TEXT: the text with its last newline, or nothing at all.
+lines() {
+    if [ -n "$1" ]; then printf '%s\n' "$1"; fi
+}
+
 # expect WHAT STATUS OUT ERR WORD..: runs the words, and compares the status and what was written.
 expect() {
     local what=$1 status=$2 out=$3 err=$4
     shift 4
-    "$run" "$@" >out.txt 2>err.txt
+    timeout 10 "$run" "$@" >out.txt 2>err.txt
     local got=$?
-    if [ "$got" = "$status" ] && [ "$(cat out.txt)" = "$out" ] && [ "$(cat err.txt)" = "$err" ]; then
+    lines "$out" >want_out.txt
+    lines "$err" >want_err.txt
+    if [ "$got" = "$status" ] && cmp -s out.txt want_out.txt && cmp -s err.txt want_err.txt; then
         passed=$((passed + 1))
     else
         failed=$((failed + 1))
         echo "FAILED: $what: status $got, wanted $status" >&2
-        diff <(printf '%s\n' "$out") out.txt >&2
-        diff <(printf '%s\n' "$err") err.txt >&2
+        diff want_out.txt out.txt >&2
+        diff want_err.txt err.txt >&2
     fi
 }
 
@@ -54,6 +61,11 @@ expect 'an absent file' 1 '' 'quota: q: no such file' repquota -F vfsold -u -v q
 mkdir q
 expect 'a folder in place of a file' 4 '' 'quota: store fault' repquota -F vfsold -u -v q
 rmdir q
+mkfifo q
+expect 'a pipe in place of a file' 4 '' 'quota: store fault' repquota -F vfsold -u -v q
+rm q
+: >q
+expect 'a path through a file' 1 '' 'quota: q/x: no such file' repquota -F vfsold -u -v q/x
 expect 'other words' 2 '' "$usage" repquota -u q
 expect 'no words' 2 '' "$usage"
 expect 'a word that is no text' 2 '' "$usage" repquota -F vfsold -u -v $'q\xff'
