@@ -1,13 +1,13 @@
-ghost use Rattle.std.specs.Prelude.{◌≡◌, ◌≤◌, ◌<◌, ℕ, None, Err, false, not, IsTrue, IfErr, IfOk, IsOkAnd, OnOk, if◌then◌else◌, unwrap_or};
+ghost use Rattle.std.specs.Prelude.{◌≡◌, ◌≤◌, ◌<◌, ℕ, None, Err, false, not, IsTrue, IfErr, IfOk, IsOkAnd, OnOk, unwrap_or};
 ghost use Rattle.std.specs.FinMap.{get};
 ghost use Rattle.quota_types.specs.Kept.{kept_of};
 ghost use Rattle.quota_types.specs.Range.{unfit};
 ghost use Rattle.quota_types.specs.Rec.{IsNull};
 ghost use Rattle.quota_blocks.specs.QuotaFile.{IfFull, IsChangeFault, OnWant, is_store_fault};
-ghost use Rattle.quota_blocks.specs.QuotaValue.{QuotaValue, with_record, without_record};
+ghost use Rattle.quota_blocks.specs.QuotaValue.{QuotaValue};
 ghost use Rattle.quota_blocks.specs.Replace.{ReplacesOnly};
 ghost use Rattle.set_edit.specs.EditFault.{IfFile, IfNoRoom, OnUnchanged, is_store_failure};
-ghost use Rattle.set_edit.specs.Edited.{is_null_of, limits_set, wanted_limits, with_limits, zero_record, with_or_without};
+ghost use Rattle.set_edit.specs.Edited.{limits_set, wanted_limits, with_limits, zero_record, with_or_without};
 
 use crate::{EditFault, Limits};
 use quota_blocks::{FileFault, QuotaFile, Store};

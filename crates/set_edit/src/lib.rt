@@ -5,9 +5,13 @@
 #![tactic(auto)]
 
 mod edit;
+#[cfg(test)]
+mod edit_tests;
 mod fault;
 mod limits;
 mod number;
+#[cfg(test)]
+mod one_record;
 #[cfg(test)]
 mod tests;
 

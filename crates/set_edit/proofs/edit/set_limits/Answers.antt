@@ -10,8 +10,8 @@ returns-clause-set g c = λ value holds.
     let held = c.in_ok-old.ensures.stays value holds in
     let next = c.in_ok-next.ensures in
     let made = limits_set-fits value c.args.id c.args.limits.now c.args.now _ _ _ _ _
-        (c.in_ok-old.ensures.found value holds) (c.format.ensures.value _ value held) (c.grace.ensures.value _ value held)
-        c.limited-rec.ensures next.wanted next.kept in
+    (c.in_ok-old.ensures.found value holds) (c.format.ensures.value _ value held) (c.grace.ensures.value _ value held)
+    c.limited-rec.ensures next.wanted next.kept in
     rw made (c.in_ok-put_or_remove.ensures.put value held)
 
 pub returns-clause-room : goal.returns-clause-room
@@ -19,8 +19,8 @@ returns-clause-room g c = λ value blocks limit holds.
     let held = c.in_ok-old.ensures.stays value holds in
     let next = c.in_ok-next.ensures in
     let made = limits_set-fits value c.args.id c.args.limits.now c.args.now _ _ _ _ _
-        (c.in_ok-old.ensures.found value holds) (c.format.ensures.value _ value held) (c.grace.ensures.value _ value held)
-        c.limited-rec.ensures next.wanted next.kept in
+    (c.in_ok-old.ensures.found value holds) (c.format.ensures.value _ value held) (c.grace.ensures.value _ value held)
+    c.limited-rec.ensures next.wanted next.kept in
     rw made (λ lacks. c.in_ok-put_or_remove.ensures.room value blocks limit held
     ((c.in_ok-old.ensures.same_room value _ blocks limit holds).1 lacks))
 
@@ -42,7 +42,7 @@ returns-in_err-put_or_remove-clause-refused g c =
     (λ blocks limit lacks value holds.
     let held = looked_up.stays value holds in
     let made = limits_set-fits value c.args.id c.args.limits.now c.args.now _ _ _ _ _
-        (looked_up.found value holds) (c.format.ensures.value _ value held) (c.grace.ensures.value _ value held)
-        c.limited-rec.ensures next.wanted next.kept in
+    (looked_up.found value holds) (c.format.ensures.value _ value held) (c.grace.ensures.value _ value held)
+    c.limited-rec.ensures next.wanted next.kept in
     rw made ((looked_up.same_room value _ blocks limit holds).0 (lacks value held)))
     c.in_err-put_or_remove.ensures.refused)

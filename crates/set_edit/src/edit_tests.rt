@@ -1,0 +1,97 @@
+use crate::one_record::OneRecord;
+use crate::{EditFault, Limits, set_limits};
+use quota_blocks::MemStore;
+use quota_types::{Field, NoRoom, Rec};
+use std::alloc::Global;
+
+/// 4 KiB and one inode in use, and no limits.
+const USED: Rec = Rec {
+    ihard: 0,
+    isoft: 0,
+    inodes: 1,
+    bhard: 0,
+    bsoft: 0,
+    space: 4096,
+    btime: 0,
+    itime: 0,
+};
+
+const LIMITS: Limits = Limits {
+    bsoft: 2,
+    bhard: 8,
+    isoft: 0,
+    ihard: 0,
+};
+
+fn set(
+    alloc: Global,
+    rec: Option<Rec>,
+    limits: &Limits,
+    now: u64,
+) -> (Result<(), EditFault>, Option<Rec>, u8) {
+    let mut file = OneRecord {
+        id: 1000,
+        rec,
+        changes: 0,
+    };
+    let mut store = MemStore::new(Vec::new(alloc), Vec::new(alloc));
+    let result = set_limits(&mut file, &mut store, 1000, limits, now);
+    (result, file.rec, file.changes)
+}
+
+#[test]
+fn an_exceeded_limit_starts_a_timer_once(rt: HostRuntime) {
+    let alloc = rt.alloc();
+    let started = Rec {
+        bsoft: 2,
+        bhard: 8,
+        btime: 1_700_604_800,
+        ..USED
+    };
+    let first = set(alloc, Some(USED), &LIMITS, 1_700_000_000);
+    assert_eq!(rt; first, (Ok(()), Some(started), 1));
+    let again = set(alloc, Some(started), &LIMITS, 1_700_000_001);
+    assert_eq!(rt; again, (Ok(()), Some(started), 1));
+    let none = set(alloc, Some(started), &Limits::default(), 1_700_000_001);
+    assert_eq!(rt; none, (Ok(()), Some(USED), 1));
+}
+
+#[test]
+fn an_absent_identifier_gets_a_record_of_its_limits(rt: HostRuntime) {
+    let alloc = rt.alloc();
+    let limited = Rec {
+        bsoft: 2,
+        bhard: 8,
+        inodes: 0,
+        space: 0,
+        ..USED
+    };
+    let set_first = set(alloc, None, &LIMITS, 1_700_000_000);
+    assert_eq!(rt; set_first, (Ok(()), Some(limited), 1));
+    let removed = set(alloc, Some(limited), &Limits::default(), 1_700_000_000);
+    assert_eq!(rt; removed, (Ok(()), None, 1));
+}
+
+#[test]
+fn what_does_not_fit_is_told_and_changes_nothing(rt: HostRuntime) {
+    let alloc = rt.alloc();
+    let past = set(alloc, Some(USED), &LIMITS, u64::MAX);
+    let no_room = NoRoom {
+        id: 1000,
+        field: Field::Btime,
+        value: 18_446_744_073_710_156_415,
+    };
+    assert_eq!(rt; past, (Err(EditFault::NoRoom(no_room)), Some(USED), 0));
+    let wide = Limits {
+        bhard: 1 << 32,
+        isoft: 1 << 33,
+        ..LIMITS
+    };
+    let no_room = NoRoom {
+        id: 1000,
+        field: Field::Isoft,
+        value: 8_589_934_592,
+    };
+    let refused = set(alloc, None, &wide, 0);
+    assert_eq!(rt; refused, (Err(EditFault::NoRoom(no_room)), None, 0));
+}
