@@ -208,7 +208,8 @@ fn records_have_their_lines(rt: HostRuntime) -> Result<(), Fail> {
 fn large_flat_file_is_reported_to_its_last_record(rt: HostRuntime) -> Result<(), Fail> {
     let ran = report_on(rt.alloc(), 4_000_000, "0 0 0 0 0 1 0 0", NOW)?;
     assert_eq!(rt; ran.status, 0);
-    let line = "#100000      --          0          0          0      -        1        0        0      -\n";
+    let line =
+        "#100000      --          0          0          0      -        1        0        0      -\n";
     assert_eq!(rt; ran.out_from(HEAD.len()), line.as_bytes());
     Ok(())
 }
