@@ -15,6 +15,7 @@ use Rattle.entry_codec.proofs.NumberLemmas.{number_at-zeros}
 same_byte : (x y rest rest' : ℕ) → x < 256 → y < 256 → x + 256 * rest ≡ y + 256 * rest' → (x ≡ y) × (rest ≡ rest')
 same_byte x y rest rest' hx hy same = (omega arith, omega arith)
 
+-- the bytes of one number
 same_bytes : (width : ℕ) (xs ys : List ℕ) (at : ℕ) → AreBytes xs → AreBytes ys → number_at width xs at ≡ number_at width ys at → (k : ℕ) → k < width → byte_at xs (at + k) ≡ byte_at ys (at + k)
 unfolding number_at
 same_bytes zero xs ys at hx hy same k lt = absurd (omega arith)
@@ -32,6 +33,7 @@ SameBelow xs ys most = (k : ℕ) → k < most → byte_at xs k ≡ byte_at ys k
 same_none : (xs ys : List ℕ) → SameBelow xs ys 0
 same_none xs ys k lt = absurd (omega arith)
 
+-- the same below the end of one number more, which starts at this place
 same_more : (width at next : ℕ) (xs ys : List ℕ) → at + width ≡ next → AreBytes xs → AreBytes ys → SameBelow xs ys at → number_at width xs at ≡ number_at width ys at → SameBelow xs ys next
 same_more width at next xs ys sum hx hy below same k lt = elim (cases_lt k at) [
   | inl low ↦ below k low
@@ -40,7 +42,7 @@ same_more width at next xs ys sum hx hy below same k lt = elim (cases_lt k at) [
       subst (λ (j : ℕ). byte_at xs j ≡ byte_at ys j) e (same_bytes width xs ys at hx hy same (k - at) (omega arith))
 ]
 
--- one number more of this width, from this place on
+-- the bytes of a header
 pub same_header : (xs ys : List ℕ) → AreBytes xs → AreBytes ys → header_of xs ≡ header_of ys → SameBelow xs ys 32
 same_header xs ys hx hy same =
     let more = λ (at : ℕ). same_more 4 at (at + 4) xs ys refl hx hy in
@@ -54,6 +56,7 @@ same_header xs ys hx hy same =
     (ap (λ (n : HeaderNumbers). n.free) same))
     (ap (λ (n : HeaderNumbers). n.first) same)
 
+-- the bytes of an entry of vfsv0
 same_v2r0 : (xs ys : List ℕ) → AreBytes xs → AreBytes ys → stored_id xs ≡ stored_id ys → stored_v2r0 xs ≡ stored_v2r0 ys → SameBelow xs ys 48
 same_v2r0 xs ys hx hy same_id same =
     let more4 = λ (at : ℕ). same_more 4 at (at + 4) xs ys refl hx hy in
@@ -69,6 +72,7 @@ same_v2r0 xs ys hx hy same_id same =
     (ap (λ (r : Rec). r.btime) same))
     (ap (λ (r : Rec). r.itime) same)
 
+-- the bytes of an entry of vfsv1
 same_v2r1 : (xs ys : List ℕ) → AreBytes xs → AreBytes ys → stored_id xs ≡ stored_id ys → number_at 4 xs 4 ≡ number_at 4 ys 4 → stored_v2r1 xs ≡ stored_v2r1 ys → SameBelow xs ys 72
 same_v2r1 xs ys hx hy same_id same_padding same =
     let more4 = λ (at : ℕ). same_more 4 at (at + 4) xs ys refl hx hy in
@@ -115,6 +119,7 @@ same_stored id stored other same used other_used = elim (marker_cases id stored)
   ]
 ]
 
+-- an entry in use whose padding is 0 has no stored record of zeros of identifier 0
 not_zeros_v2r0 : (xs : List ℕ) → AreBytes xs → length xs ≡ 48 → is_unused xs ≢ true → stored_id xs ≡ 0 → stored_v2r0 xs ≢ zeros
 not_zeros_v2r0 xs hx size used is_zero same =
     let none : stored_v2r0 [] ≡ zeros = simp no_number in
