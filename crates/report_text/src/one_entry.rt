@@ -8,7 +8,7 @@ pub(crate) struct OneEntry {
 }
 
 impl<S: Store> QuotaFile<S> for OneEntry {
-    ghost use Rattle.std.specs.Prelude.{⊥, true, []};
+    ghost use Rattle.std.specs.Prelude.{true, []};
     ghost use Rattle.quota_types.specs.declared.file_kind.Format.TheVariants.{V1};
 
     ghost holds = { λ _ _ _. ⊥ };
@@ -20,6 +20,8 @@ impl<S: Store> QuotaFile<S> for OneEntry {
     ghost name_of = { λ _. [] };
 
     ghost lacks_room = { λ _ _ _ _ _. ⊥ };
+
+    ghost rests_on_named = { λ _ _ _ _ _ _ held. held };
 
     fn format(&self) -> Format {
         Format::V1
@@ -54,5 +56,17 @@ impl<S: Store> QuotaFile<S> for OneEntry {
             Some(after) if after < self.entry.id => Ok(Some(self.entry)),
             Some(_) => Ok(None),
         }
+    }
+
+    fn put(&mut self, _store: &mut S, _id: u32, _rec: Rec) -> Result<(), FileFault> {
+        Err(FileFault::Memory)
+    }
+
+    fn remove(&mut self, _store: &mut S, _id: u32) -> Result<(), FileFault> {
+        Err(FileFault::Memory)
+    }
+
+    fn set_grace(&mut self, _store: &mut S, _grace: Grace) -> Result<(), FileFault> {
+        Err(FileFault::Memory)
     }
 }
