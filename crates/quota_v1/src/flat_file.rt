@@ -1,4 +1,4 @@
-ghost use Rattle.std.specs.Prelude.{◌≡◌, ◌%◌, ◌≤◌, ◌+◌, ◌*◌, true, not, max, vec_len, string_bytes, None, Some, IsTrue, IfErr, OnOk};
+ghost use Rattle.std.specs.Prelude.{◌≡◌, ◌%◌, ◌≤◌, ◌+◌, ◌*◌, true, not, max, vec_len, string_bytes, None, Some, IsTrue, IfErr, OnOk, OnErr};
 ghost use Rattle.std.specs.FinMap.{get};
 ghost use Rattle.quota_types.specs.declared.file_kind.Format.TheVariants.{V1};
 ghost use Rattle.quota_types.specs.Bytes.{number_at};
@@ -17,6 +17,8 @@ use quota_blocks::{FileFault, QuotaFile, ReplaceFault, Store, replace};
 use quota_types::{Entry, Format, Grace, Rec};
 
 /// An opened flat file, which keeps the file's name and its bytes.
+///
+/// A change writes the whole file anew and renames it, so that a fault leaves the named file as it was.
 #[derive(Debug, Drop)]
 pub struct V1File {
     pub(crate) name: String,
@@ -34,6 +36,8 @@ impl V1File {
         requires limited { vec_len bytes ≤ 41943040 }
         ensures named { OnOk result (IsTrue (S.tells store.old) → S.files store.new (string_bytes self.old.name) ≡ Some bytes.items) }
         ensures loaded { OnOk result (self.new.bytes.items ≡ bytes.items) }
+        ensures unchanged { OnErr result (IsTrue (S.tells store.old)
+            → S.files store.new (string_bytes self.old.name) ≡ S.files store.old (string_bytes self.old.name)) }
         ensures refused { IfErr result (IsRewriteFault (S.faults store.old) (S.faults store.new)) }
         ensures stays { IfErr result (λ fault. OnWant fault (self.new.bytes.items ≡ self.old.bytes.items)) }
         ensures same_files { IfErr result (λ fault. OnWant fault (S.files store.new ≡ S.files store.old)) }
@@ -113,6 +117,8 @@ impl<S: Store> QuotaFile<S> for V1File {
         ensures inode_time { OnOk result (number_at 8 self.new.bytes.items 32 ≡ number_at 8 self.old.bytes.items 32) }
         ensures put { OnOk result ((value : QuotaValue) → HoldsFlat (S.tells store.old) (S.files store.old (string_bytes self.old.name)) self.old.bytes.items value
             → HoldsFlat (S.tells store.new) (S.files store.new (string_bytes self.new.name)) self.new.bytes.items (with_record value id rec)) }
+        ensures unchanged { OnErr result (IsTrue (S.tells store.old)
+            → S.files store.new (string_bytes self.old.name) ≡ S.files store.old (string_bytes self.old.name)) }
         ensures refused { IfErr result (IsRewriteFault (S.faults store.old) (S.faults store.new)) }
         ensures stays { IfErr result (λ fault. OnWant fault ((value : QuotaValue)
             → HoldsFlat (S.tells store.old) (S.files store.old (string_bytes self.old.name)) self.old.bytes.items value
@@ -142,6 +148,8 @@ impl<S: Store> QuotaFile<S> for V1File {
             → HoldsFlat (S.tells store.new) (S.files store.new (string_bytes self.new.name)) self.new.bytes.items (without_record value id)) }
         ensures absent { (value : QuotaValue) → HoldsFlat (S.tells store.old) (S.files store.old (string_bytes self.old.name)) self.old.bytes.items value
             → get value.records id ≡ None → S.files store.new ≡ S.files store.old }
+        ensures unchanged { OnErr result (IsTrue (S.tells store.old)
+            → S.files store.new (string_bytes self.old.name) ≡ S.files store.old (string_bytes self.old.name)) }
         ensures refused { IfErr result (IsRewriteFault (S.faults store.old) (S.faults store.new)) }
         ensures stays { IfErr result (λ fault. OnWant fault ((value : QuotaValue)
             → HoldsFlat (S.tells store.old) (S.files store.old (string_bytes self.old.name)) self.old.bytes.items value
