@@ -3,9 +3,9 @@ ghost use Rattle.std.specs.FinMap.{get};
 ghost use Rattle.quota_types.specs.declared.file_kind.Format.TheVariants.{V1};
 ghost use Rattle.quota_types.specs.Bytes.{number_at};
 ghost use Rattle.quota_types.specs.Kept.{kept_of};
-ghost use Rattle.quota_types.specs.Range.{unfit};
+ghost use Rattle.quota_types.specs.Range.{grace_unfit, unfit};
 ghost use Rattle.quota_types.specs.Rec.{IsNull};
-ghost use Rattle.quota_blocks.specs.QuotaValue.{QuotaValue, with_record, without_record};
+ghost use Rattle.quota_blocks.specs.QuotaValue.{QuotaValue, with_grace, with_record, without_record};
 ghost use Rattle.quota_blocks.specs.QuotaFile.{OnWant, is_store_fault};
 ghost use Rattle.quota_blocks.specs.Replace.{ReplacesOnly};
 ghost use Rattle.quota_v1.specs.Change.{IsRewriteFault};
@@ -173,7 +173,28 @@ impl<S: Store> QuotaFile<S> for V1File {
         }
     }
 
-    fn set_grace(&mut self, store: &mut S, grace: Grace) -> Result<(), FileFault> {
+    fn set_grace(&mut self, store: &mut S, grace: Grace) -> Result<(), FileFault>
+        requires usable { IsTrue self.old.usable }
+        requires fits { grace_unfit V1 grace ≡ None }
+        ensures length { OnOk result (vec_len self.new.bytes ≡ max (vec_len self.old.bytes) 40) }
+        ensures set { OnOk result ((value : QuotaValue) → HoldsFlat (S.tells store.old) (S.files store.old (string_bytes self.old.name)) self.old.bytes.items value
+            → HoldsFlat (S.tells store.new) (S.files store.new (string_bytes self.new.name)) self.new.bytes.items (with_grace value grace)) }
+        ensures unchanged { OnErr result (IsTrue (S.tells store.old)
+            → S.files store.new (string_bytes self.old.name) ≡ S.files store.old (string_bytes self.old.name)) }
+        ensures refused { IfErr result (IsRewriteFault (S.faults store.old) (S.faults store.new)) }
+        ensures stays { IfErr result (λ fault. OnWant fault ((value : QuotaValue)
+            → HoldsFlat (S.tells store.old) (S.files store.old (string_bytes self.old.name)) self.old.bytes.items value
+            → HoldsFlat (S.tells store.new) (S.files store.new (string_bytes self.new.name)) self.new.bytes.items value)) }
+        ensures same_files { IfErr result (λ fault. OnWant fault (S.files store.new ≡ S.files store.old)) }
+        ensures writes { IfErr result (λ fault. OnWant fault (S.writes store.new ≡ S.writes store.old)) }
+        ensures others { IsTrue (S.tells store.old)
+            → ReplacesOnly (string_bytes self.old.name) (S.files store.old) (S.files store.new) }
+        ensures usable { OnOk result (self.new.usable ≡ self.old.usable) }
+        ensures unusable { IfErr result (λ fault. self.new.usable ≡ not (is_store_fault fault)) }
+        ensures same_name { string_bytes self.new.name ≡ string_bytes self.old.name }
+        ensures later { S.faults store.old ≤ S.faults store.new }
+        ensures same_telling { S.tells store.new ≡ S.tells store.old }
+    {
         match with_grace(*self.bytes.allocator(), &self.bytes, grace) {
             Ok(bytes) => self.rewrite(store, bytes),
             Err(_) => Err(FileFault::Memory),
