@@ -219,3 +219,18 @@ on_ok_both (Err e) both p q = tt
 pub none_of : {X : Type 0} (found : Option X) → is_some found ≡ false → found ≡ None
 none_of None e = refl
 none_of (Some x) e = absurd (true≢false e)
+
+-- a time of record 0 stays
+pub stored_time-kept : (old new loaded : List ℕ) (id at : ℕ) → loaded ≡ new → 24 ≤ at → at + 8 ≤ 40 → KeepsOutside (40 * id) (40 * id + 40) old new → (id ≡ 0 → KeepsOutside 0 24 old new) → number_at 8 loaded at ≡ number_at 8 old at
+stored_time-kept old new loaded zero at l low high keeps times = ap (λ (file : List ℕ). number_at 8 file at) l ∙ number_behind 8 at 0 24 old new (times refl) low
+stored_time-kept old new loaded (suc n) at l low high keeps times =
+    ap (λ (file : List ℕ). number_at 8 file at) l ∙ number_before 8 at (40 * suc n) (40 * suc n + 40) old new keeps (omega arith)
+
+-- a record that is there lies within the file
+pub within_of_found : (file : List ℕ) (id : ℕ) (found : Option Rec) → found ≡ flat_record file id → is_some found ≡ true → 40 * id + 40 ≤ length file
+within_of_found file id found is there = elim (cases_lt (length file) (40 * id + 40)) [
+  | inl short ↦
+      let none : flat_record file id ≡ None = ap (λ (b : Bool). cond b (unless_zeros (timed_record file id)) None) (lt-leb (40 * id + 40) (length file) short) in
+      absurd (true≢false (sym there ∙ ap is_some (is ∙ none)))
+  | inr long ↦ long
+]

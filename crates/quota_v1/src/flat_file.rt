@@ -1,8 +1,15 @@
-ghost use Rattle.std.specs.Prelude.{◌≡◌, ◌%◌, ◌≤◌, true, not, vec_len, string_bytes, Some, IsTrue, IfErr, OnOk};
+ghost use Rattle.std.specs.Prelude.{◌≡◌, ◌%◌, ◌≤◌, ◌+◌, ◌*◌, true, not, max, vec_len, string_bytes, None, Some, IsTrue, IfErr, OnOk, OnErr};
+ghost use Rattle.std.specs.FinMap.{get};
 ghost use Rattle.quota_types.specs.declared.file_kind.Format.TheVariants.{V1};
+ghost use Rattle.quota_types.specs.Bytes.{number_at};
+ghost use Rattle.quota_types.specs.Kept.{kept_of};
+ghost use Rattle.quota_types.specs.Range.{grace_unfit, unfit};
+ghost use Rattle.quota_types.specs.Rec.{IsNull};
+ghost use Rattle.quota_blocks.specs.QuotaValue.{QuotaValue, with_grace, with_record, without_record};
 ghost use Rattle.quota_blocks.specs.QuotaFile.{OnWant, is_store_fault};
 ghost use Rattle.quota_blocks.specs.Replace.{ReplacesOnly};
 ghost use Rattle.quota_v1.specs.Change.{IsRewriteFault};
+ghost use Rattle.quota_v1.specs.Opened.{HoldsFlat};
 
 use crate::flat_change::{with_grace, with_record};
 use crate::flat_record::{grace_of, next_record, record_of};
@@ -10,6 +17,8 @@ use quota_blocks::{FileFault, QuotaFile, ReplaceFault, Store, replace};
 use quota_types::{Entry, Format, Grace, Rec};
 
 /// An opened flat file, which keeps the file's name and its bytes.
+///
+/// A change writes the whole file anew and renames it, so that a fault leaves the named file as it was.
 #[derive(Debug, Drop)]
 pub struct V1File {
     pub(crate) name: String,
@@ -27,6 +36,8 @@ impl V1File {
         requires limited { vec_len bytes ≤ 41943040 }
         ensures named { OnOk result (IsTrue (S.tells store.old) → S.files store.new (string_bytes self.old.name) ≡ Some bytes.items) }
         ensures loaded { OnOk result (self.new.bytes.items ≡ bytes.items) }
+        ensures unchanged { OnErr result (IsTrue (S.tells store.old)
+            → S.files store.new (string_bytes self.old.name) ≡ S.files store.old (string_bytes self.old.name)) }
         ensures refused { IfErr result (IsRewriteFault (S.faults store.old) (S.faults store.new)) }
         ensures stays { IfErr result (λ fault. OnWant fault (self.new.bytes.items ≡ self.old.bytes.items)) }
         ensures same_files { IfErr result (λ fault. OnWant fault (S.files store.new ≡ S.files store.old)) }
@@ -96,14 +107,63 @@ impl<S: Store> QuotaFile<S> for V1File {
         Ok(next_record(&self.bytes, after))
     }
 
-    fn put(&mut self, store: &mut S, id: u32, rec: Rec) -> Result<(), FileFault> {
+    fn put(&mut self, store: &mut S, id: u32, rec: Rec) -> Result<(), FileFault>
+        requires usable { IsTrue self.old.usable }
+        requires not_null { ¬ (IsNull rec) }
+        requires fits { unfit V1 id rec ≡ None }
+        requires kept { kept_of V1 id rec ≡ rec }
+        ensures length { OnOk result (vec_len self.new.bytes ≡ max (vec_len self.old.bytes) (40 * (id + 1))) }
+        ensures block_time { OnOk result (number_at 8 self.new.bytes.items 24 ≡ number_at 8 self.old.bytes.items 24) }
+        ensures inode_time { OnOk result (number_at 8 self.new.bytes.items 32 ≡ number_at 8 self.old.bytes.items 32) }
+        ensures put { OnOk result ((value : QuotaValue) → HoldsFlat (S.tells store.old) (S.files store.old (string_bytes self.old.name)) self.old.bytes.items value
+            → HoldsFlat (S.tells store.new) (S.files store.new (string_bytes self.new.name)) self.new.bytes.items (with_record value id rec)) }
+        ensures unchanged { OnErr result (IsTrue (S.tells store.old)
+            → S.files store.new (string_bytes self.old.name) ≡ S.files store.old (string_bytes self.old.name)) }
+        ensures refused { IfErr result (IsRewriteFault (S.faults store.old) (S.faults store.new)) }
+        ensures stays { IfErr result (λ fault. OnWant fault ((value : QuotaValue)
+            → HoldsFlat (S.tells store.old) (S.files store.old (string_bytes self.old.name)) self.old.bytes.items value
+            → HoldsFlat (S.tells store.new) (S.files store.new (string_bytes self.new.name)) self.new.bytes.items value)) }
+        ensures same_files { IfErr result (λ fault. OnWant fault (S.files store.new ≡ S.files store.old)) }
+        ensures writes { IfErr result (λ fault. OnWant fault (S.writes store.new ≡ S.writes store.old)) }
+        ensures others { IsTrue (S.tells store.old)
+            → ReplacesOnly (string_bytes self.old.name) (S.files store.old) (S.files store.new) }
+        ensures usable { OnOk result (self.new.usable ≡ self.old.usable) }
+        ensures unusable { IfErr result (λ fault. self.new.usable ≡ not (is_store_fault fault)) }
+        ensures same_name { string_bytes self.new.name ≡ string_bytes self.old.name }
+        ensures later { S.faults store.old ≤ S.faults store.new }
+        ensures same_telling { S.tells store.new ≡ S.tells store.old }
+    {
         match with_record(*self.bytes.allocator(), &self.bytes, id, &rec) {
             Ok(bytes) => self.rewrite(store, bytes),
             Err(_) => Err(FileFault::Memory),
         }
     }
 
-    fn remove(&mut self, store: &mut S, id: u32) -> Result<(), FileFault> {
+    fn remove(&mut self, store: &mut S, id: u32) -> Result<(), FileFault>
+        requires { IsTrue self.old.usable }
+        ensures length { OnOk result (vec_len self.new.bytes ≡ vec_len self.old.bytes) }
+        ensures block_time { OnOk result (number_at 8 self.new.bytes.items 24 ≡ number_at 8 self.old.bytes.items 24) }
+        ensures inode_time { OnOk result (number_at 8 self.new.bytes.items 32 ≡ number_at 8 self.old.bytes.items 32) }
+        ensures removed { OnOk result ((value : QuotaValue) → HoldsFlat (S.tells store.old) (S.files store.old (string_bytes self.old.name)) self.old.bytes.items value
+            → HoldsFlat (S.tells store.new) (S.files store.new (string_bytes self.new.name)) self.new.bytes.items (without_record value id)) }
+        ensures absent { (value : QuotaValue) → HoldsFlat (S.tells store.old) (S.files store.old (string_bytes self.old.name)) self.old.bytes.items value
+            → get value.records id ≡ None → S.files store.new ≡ S.files store.old }
+        ensures unchanged { OnErr result (IsTrue (S.tells store.old)
+            → S.files store.new (string_bytes self.old.name) ≡ S.files store.old (string_bytes self.old.name)) }
+        ensures refused { IfErr result (IsRewriteFault (S.faults store.old) (S.faults store.new)) }
+        ensures stays { IfErr result (λ fault. OnWant fault ((value : QuotaValue)
+            → HoldsFlat (S.tells store.old) (S.files store.old (string_bytes self.old.name)) self.old.bytes.items value
+            → HoldsFlat (S.tells store.new) (S.files store.new (string_bytes self.new.name)) self.new.bytes.items value)) }
+        ensures same_files { IfErr result (λ fault. OnWant fault (S.files store.new ≡ S.files store.old)) }
+        ensures writes { IfErr result (λ fault. OnWant fault (S.writes store.new ≡ S.writes store.old)) }
+        ensures others { IsTrue (S.tells store.old)
+            → ReplacesOnly (string_bytes self.old.name) (S.files store.old) (S.files store.new) }
+        ensures usable { OnOk result (self.new.usable ≡ self.old.usable) }
+        ensures unusable { IfErr result (λ fault. self.new.usable ≡ not (is_store_fault fault)) }
+        ensures same_name { string_bytes self.new.name ≡ string_bytes self.old.name }
+        ensures later { S.faults store.old ≤ S.faults store.new }
+        ensures same_telling { S.tells store.new ≡ S.tells store.old }
+    {
         if record_of(&self.bytes, id).is_none() {
             return Ok(());
         }
@@ -113,7 +173,28 @@ impl<S: Store> QuotaFile<S> for V1File {
         }
     }
 
-    fn set_grace(&mut self, store: &mut S, grace: Grace) -> Result<(), FileFault> {
+    fn set_grace(&mut self, store: &mut S, grace: Grace) -> Result<(), FileFault>
+        requires usable { IsTrue self.old.usable }
+        requires fits { grace_unfit V1 grace ≡ None }
+        ensures length { OnOk result (vec_len self.new.bytes ≡ max (vec_len self.old.bytes) 40) }
+        ensures set { OnOk result ((value : QuotaValue) → HoldsFlat (S.tells store.old) (S.files store.old (string_bytes self.old.name)) self.old.bytes.items value
+            → HoldsFlat (S.tells store.new) (S.files store.new (string_bytes self.new.name)) self.new.bytes.items (with_grace value grace)) }
+        ensures unchanged { OnErr result (IsTrue (S.tells store.old)
+            → S.files store.new (string_bytes self.old.name) ≡ S.files store.old (string_bytes self.old.name)) }
+        ensures refused { IfErr result (IsRewriteFault (S.faults store.old) (S.faults store.new)) }
+        ensures stays { IfErr result (λ fault. OnWant fault ((value : QuotaValue)
+            → HoldsFlat (S.tells store.old) (S.files store.old (string_bytes self.old.name)) self.old.bytes.items value
+            → HoldsFlat (S.tells store.new) (S.files store.new (string_bytes self.new.name)) self.new.bytes.items value)) }
+        ensures same_files { IfErr result (λ fault. OnWant fault (S.files store.new ≡ S.files store.old)) }
+        ensures writes { IfErr result (λ fault. OnWant fault (S.writes store.new ≡ S.writes store.old)) }
+        ensures others { IsTrue (S.tells store.old)
+            → ReplacesOnly (string_bytes self.old.name) (S.files store.old) (S.files store.new) }
+        ensures usable { OnOk result (self.new.usable ≡ self.old.usable) }
+        ensures unusable { IfErr result (λ fault. self.new.usable ≡ not (is_store_fault fault)) }
+        ensures same_name { string_bytes self.new.name ≡ string_bytes self.old.name }
+        ensures later { S.faults store.old ≤ S.faults store.new }
+        ensures same_telling { S.tells store.new ≡ S.tells store.old }
+    {
         match with_grace(*self.bytes.allocator(), &self.bytes, grace) {
             Ok(bytes) => self.rewrite(store, bytes),
             Err(_) => Err(FileFault::Memory),

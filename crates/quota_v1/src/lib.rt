@@ -3,8 +3,8 @@
 //! The layout is the one that the quota tools write on 64-bit x86, byte for byte. Record 0 has two roles: its two
 //! times are the file's grace periods, and the rest of it is the record of identifier 0, which has no timers.
 //!
-//! The one promise: an opened flat file is the map that its bytes stand for, and is opened exactly where they stand
-//! for one.
+//! The one promise: an opened flat file is the map that its bytes stand for, is opened exactly where they stand for
+//! one, and after a change the named file stands for the changed map.
 #![tactic(auto)]
 
 mod flat_change;

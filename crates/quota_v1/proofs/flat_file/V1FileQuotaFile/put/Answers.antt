@@ -1,5 +1,6 @@
 use Rattle.std.proofs.Common.{◌≡◌, ◌%◌, List, ℕ, length, ap, ◌∙◌, arith}
-use Rattle.quota_v1.proofs.RecordLemmas.{holds_rewritten, on_ok_both, stands_put}
+use Rattle.std.proofs.lemmas.Result.{on_ok_weaker}
+use Rattle.quota_v1.proofs.RecordLemmas.{holds_rewritten, on_ok_both, stands_put, stored_time-kept}
 use Rattle.quota_v1.proofs.flat_file.V1FileQuotaFile.put.Goals as goal
 
 pub returns-in-Ok-clause-put : goal.returns-in-Ok-clause-put
@@ -15,3 +16,17 @@ returns-in-Ok-clause-put g c =
     (rw c.deref.ensures.value at c.in-Ok.ensures.others) (rw c.deref.ensures.value at c.in-Ok.ensures.times) c.requires.not_null)
     held)
     wrote.named wrote.loaded
+
+pub returns-in-Ok-clause-block_time : goal.returns-in-Ok-clause-block_time
+returns-in-Ok-clause-block_time g c =
+    on_ok_weaker c.rewrite.result
+    (λ loaded. stored_time-kept c.args.self.now.bytes.items c.in-Ok.bytes.items _ c.args.id 24 loaded (omega arith) (omega arith)
+    (rw c.deref.ensures.value at c.in-Ok.ensures.others) (rw c.deref.ensures.value at c.in-Ok.ensures.times))
+    c.rewrite.ensures.loaded
+
+pub returns-in-Ok-clause-inode_time : goal.returns-in-Ok-clause-inode_time
+returns-in-Ok-clause-inode_time g c =
+    on_ok_weaker c.rewrite.result
+    (λ loaded. stored_time-kept c.args.self.now.bytes.items c.in-Ok.bytes.items _ c.args.id 32 loaded (omega arith) (omega arith)
+    (rw c.deref.ensures.value at c.in-Ok.ensures.others) (rw c.deref.ensures.value at c.in-Ok.ensures.times))
+    c.rewrite.ensures.loaded
