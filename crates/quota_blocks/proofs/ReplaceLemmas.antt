@@ -1,12 +1,12 @@
 -- A file that is written in pieces under another name, and then renamed.
-use Rattle.std.proofs.Common.{◌≡◌, ◌≢◌, ◌⊎◌, inl, inr, ℕ, ◌+◌, ◌-◌, ◌≤◌, List, [], ◌++◌, length, take, drop, replicate, Option, None, Some, sym, ap, subst, ◌∙◌, arith, append-nil, length-append, length-take}
+use Rattle.std.proofs.Common.{◌≡◌, ◌≢◌, ◌⊎◌, inl, inr, Bool, cond, ℕ, ◌+◌, ◌-◌, ◌≤◌, List, [], ◌++◌, length, take, drop, replicate, Option, None, Some, sym, ap, subst, ◌∙◌, arith, append-nil, length-append, length-take}
 use Rattle.std.specs.Prelude.{codes}
 use Rattle.std.specs.Option.{option_map_or, unwrap_or}
 use Rattle.std.proofs.Math.Seq.{take-add}
 use Rattle.std.proofs.lemmas.List.{take_all, drop_all}
 use Rattle.quota_blocks.specs.Replace.{replacement_name}
 use Rattle.quota_blocks.specs.World.{World, KeepsOthers, overwritten, with_bytes, with_file, with_new_name}
-use Rattle.quota_blocks.proofs.WorldLemmas.{with_file-at, with_file-again, KeepsOthers-with_file, KeepsOthers-then}
+use Rattle.quota_blocks.proofs.WorldLemmas.{bytes_eq-ne, with_file-at, with_file-again, KeepsOthers-with_file, KeepsOthers-then}
 
 -- a piece written behind the pieces before it
 overwritten-piece : (bytes : List ℕ) (at end : ℕ) → at ≤ end → end ≤ length bytes → overwritten (take at bytes) at (take (end - at) (drop at bytes)) ≡ take end bytes
@@ -56,3 +56,10 @@ with_new_name-replaced files now from to bytes is =
     ap (λ (f : World). with_new_name f from to) is
     ∙ ap (λ (file : Option (List ℕ)). option_map_or (λ (b : List ℕ). with_file (with_file (with_file files from (Some bytes)) from None) to (Some b)) file (with_file files from (Some bytes))) (with_file-at files from (Some bytes))
     ∙ ap (λ (f : World). with_file f to (Some bytes)) (with_file-again files from (Some bytes) None)
+
+-- once a file was replaced there is none under the name that the new one was written under
+pub replaced-cleared : (files : World) (name bytes : List ℕ) → with_file (with_file files (replacement_name name) None) name (Some bytes) (replacement_name name) ≡ None
+replaced-cleared files name bytes =
+    ap (λ (same : Bool). cond same (Some bytes) (with_file files (replacement_name name) None (replacement_name name)))
+    (bytes_eq-ne name (replacement_name name) (λ same. replacement_name-ne name (sym same)))
+    ∙ with_file-at files (replacement_name name) None

@@ -5,8 +5,10 @@ pub mod MemStore
 pub mod QuotaFile
 pub mod QuotaValue
 pub mod Replace
+pub mod Span
 pub mod Text
 pub mod World
+pub use Rattle.quota_types.specs.Bytes
 pub use Rattle.quota_types.specs.Kept
 pub use Rattle.quota_types.specs.Range
 pub use Rattle.quota_types.specs.Rec

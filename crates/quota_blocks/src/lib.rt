@@ -3,12 +3,13 @@
 //! A `Store` holds named files, and a `Sink` takes text. Each has a count of faults that never falls, and may tell
 //! its contents: an object in memory does, and an adapter over the real thing does not. `load` reads a whole file and
 //! `replace` puts one in the place of another, `TextBuffer` gathers text in front of a sink, and `QuotaFile` is what
-//! every format of quota file offers.
+//! every format of quota file offers. `le16` to `set_le64` read and write the numbers in a block.
 //!
 //! The one promise: every answer has a cause that the caller can see, and what is told of the outside stays in step
 //! with what was done.
 #![tactic(auto)]
 
+mod block_number;
 mod failures;
 mod mem_sink;
 mod mem_store;
@@ -22,6 +23,7 @@ mod tests;
 mod text_buffer;
 mod whole_file;
 
+pub use block_number::{le16, le32, le64, set_le16, set_le32, set_le64};
 pub use mem_sink::MemSink;
 pub use mem_store::MemStore;
 pub use quota_file::{FileFault, OpenFault, QuotaFile};

@@ -1,4 +1,4 @@
-ghost use Rattle.std.specs.Prelude.{◌≡◌, ◌<◌, ◌≤◌, ◌↔◌, ℕ, Bool, List, None, not, IsTrue, IsSome, IfOk, IfErr, IfSome, OnOk};
+ghost use Rattle.std.specs.Prelude.{◌≡◌, ◌<◌, ◌≤◌, ◌↔◌, ℕ, Bool, List, None, not, IsTrue, IsSome, IfOk, IfErr, IfSome, OnOk, OnErr};
 ghost use Rattle.std.specs.FinMap.{get};
 ghost use Rattle.quota_types.specs.declared.file_kind.Format.{Format};
 ghost use Rattle.quota_types.specs.Kept.{kept_of};
@@ -7,6 +7,7 @@ ghost use Rattle.quota_types.specs.Rec.{IsNull};
 ghost use Rattle.quota_blocks.specs.QuotaValue.{QuotaValue, IsAfter, IsNextAfter, with_grace, with_record, without_record};
 ghost use Rattle.quota_blocks.specs.QuotaFile.{IfFull, IsChangeFault, IsLookupFault, OnWant, is_store_fault};
 ghost use Rattle.quota_blocks.specs.Replace.{ReplacesOnly};
+ghost use Rattle.quota_blocks.specs.declared.quota_file.FileFault.{FileFault};
 
 use crate::Store;
 use quota_types::{Damage, Entry, Format, Grace, Rec};
@@ -66,8 +67,8 @@ pub enum OpenFault {
 ///
 /// What a change needs of memory is taken from the allocator that the opened file keeps. After a change for which there
 /// is no room, or no memory, nothing has changed. After one in which the store failed the opened file is not used again.
-/// What the named file holds then each type says itself, since it rests on how the type writes: a type that writes the
-/// whole file anew and then renames it leaves the old one, and one that writes in place may have written some blocks.
+/// What the named file holds then rests on how the type writes, which `replaces` says: a type that writes the whole file
+/// anew and then renames it leaves the old one, and one that writes in place may have written some blocks.
 pub trait QuotaFile<S: Store> {
     /// The opened file with the store holds this value: the store tells its files, the named file stands for the
     /// value, and what the opened file keeps agrees with that file.
@@ -85,6 +86,13 @@ pub trait QuotaFile<S: Store> {
     /// The opened file with the store has no room for this value: it would need so many blocks, and may have only so
     /// many.
     ghost lacks_room: { Self → S → QuotaValue → ℕ → ℕ → Type 0 };
+
+    /// Whether a change writes the whole file anew under another name first, so that one that fails leaves the named
+    /// file as it was.
+    ghost replaces: { Self → Bool };
+
+    /// The faults that a call on the opened file may answer, whatever the store tells.
+    ghost may_refuse: { Self → FileFault → Type 0 };
 
     /// The file's format.
     fn format(&self) -> Format
@@ -106,9 +114,12 @@ pub trait QuotaFile<S: Store> {
         ensures found { IfOk result (λ found. (value : QuotaValue) → holds self.old store.old value
             → found ≡ get value.records id) }
         ensures refused { IfErr result (IsLookupFault (S.faults store.old) (S.faults store.new) (holds self.old store.old)) }
+        ensures may { IfErr result (may_refuse self.old) }
         ensures stays { (value : QuotaValue) → holds self.old store.old value → holds self.new store.new value }
         ensures same_name { name_of self.new ≡ name_of self.old }
         ensures same_format { format_of self.new ≡ format_of self.old }
+        ensures same_way { replaces self.new ≡ replaces self.old }
+        ensures same_faults { (fault : FileFault) → may_refuse self.new fault → may_refuse self.old fault }
         ensures usable { is_usable self.new ≡ is_usable self.old }
         ensures same_room { (held value : QuotaValue) (blocks limit : ℕ) → holds self.old store.old held
             → lacks_room self.new store.new value blocks limit ↔ lacks_room self.old store.old value blocks limit }
@@ -125,9 +136,12 @@ pub trait QuotaFile<S: Store> {
             → IsNextAfter after value.records found) }
         ensures ascends { IfOk result (λ found. IfSome found (λ entry. IsAfter after entry.id)) }
         ensures refused { IfErr result (IsLookupFault (S.faults store.old) (S.faults store.new) (holds self.old store.old)) }
+        ensures may { IfErr result (may_refuse self.old) }
         ensures stays { (value : QuotaValue) → holds self.old store.old value → holds self.new store.new value }
         ensures same_name { name_of self.new ≡ name_of self.old }
         ensures same_format { format_of self.new ≡ format_of self.old }
+        ensures same_way { replaces self.new ≡ replaces self.old }
+        ensures same_faults { (fault : FileFault) → may_refuse self.new fault → may_refuse self.old fault }
         ensures usable { is_usable self.new ≡ is_usable self.old }
         ensures later { S.faults store.old ≤ S.faults store.new }
         ensures writes { S.writes store.new ≡ S.writes store.old }
@@ -148,17 +162,22 @@ pub trait QuotaFile<S: Store> {
         ensures refused { IfErr result (IsChangeFault (S.faults store.old) (S.faults store.new) (holds self.old store.old)
             (λ blocks limit. (value : QuotaValue) → holds self.old store.old value
             → lacks_room self.old store.old (with_record value id rec) blocks limit)) }
+        ensures may { IfErr result (may_refuse self.old) }
         ensures passes { IfErr result (λ fault. IfFull fault (λ blocks limit. limit < blocks)) }
         ensures stays { IfErr result (λ fault. OnWant fault ((value : QuotaValue) → holds self.old store.old value
             → holds self.new store.new value)) }
         ensures same_files { IfErr result (λ fault. OnWant fault (S.files store.new ≡ S.files store.old)) }
         ensures writes { IfErr result (λ fault. OnWant fault (S.writes store.new ≡ S.writes store.old)) }
+        ensures unchanged { OnErr result (IsTrue (S.tells store.old) → IsTrue (replaces self.old)
+            → S.files store.new (name_of self.old) ≡ S.files store.old (name_of self.old)) }
         ensures others { IsTrue (S.tells store.old)
             → ReplacesOnly (name_of self.old) (S.files store.old) (S.files store.new) }
         ensures usable { OnOk result (is_usable self.new ≡ is_usable self.old) }
         ensures unusable { IfErr result (λ fault. is_usable self.new ≡ not (is_store_fault fault)) }
         ensures same_name { name_of self.new ≡ name_of self.old }
         ensures same_format { format_of self.new ≡ format_of self.old }
+        ensures same_way { replaces self.new ≡ replaces self.old }
+        ensures same_faults { (fault : FileFault) → may_refuse self.new fault → may_refuse self.old fault }
         ensures later { S.faults store.old ≤ S.faults store.new }
         ensures same_telling { S.tells store.new ≡ S.tells store.old };
 
@@ -171,22 +190,29 @@ pub trait QuotaFile<S: Store> {
             → ¬ (lacks_room self.old store.old (without_record value id) blocks limit)) }
         ensures absent { (value : QuotaValue) → holds self.old store.old value → get value.records id ≡ None
             → S.files store.new ≡ S.files store.old }
+        ensures absent_writes { (value : QuotaValue) → holds self.old store.old value → get value.records id ≡ None
+            → S.writes store.new ≡ S.writes store.old }
         ensures refused { IfErr result (IsChangeFault (S.faults store.old) (S.faults store.new) (holds self.old store.old)
             (λ blocks limit. (value : QuotaValue) → holds self.old store.old value
             → lacks_room self.old store.old (without_record value id) blocks limit)) }
         ensures present { IfErr result (λ fault. IfFull fault (λ _ _. (value : QuotaValue) → holds self.old store.old value
             → IsSome (get value.records id))) }
+        ensures may { IfErr result (may_refuse self.old) }
         ensures passes { IfErr result (λ fault. IfFull fault (λ blocks limit. limit < blocks)) }
         ensures stays { IfErr result (λ fault. OnWant fault ((value : QuotaValue) → holds self.old store.old value
             → holds self.new store.new value)) }
         ensures same_files { IfErr result (λ fault. OnWant fault (S.files store.new ≡ S.files store.old)) }
         ensures writes { IfErr result (λ fault. OnWant fault (S.writes store.new ≡ S.writes store.old)) }
+        ensures unchanged { OnErr result (IsTrue (S.tells store.old) → IsTrue (replaces self.old)
+            → S.files store.new (name_of self.old) ≡ S.files store.old (name_of self.old)) }
         ensures others { IsTrue (S.tells store.old)
             → ReplacesOnly (name_of self.old) (S.files store.old) (S.files store.new) }
         ensures usable { OnOk result (is_usable self.new ≡ is_usable self.old) }
         ensures unusable { IfErr result (λ fault. is_usable self.new ≡ not (is_store_fault fault)) }
         ensures same_name { name_of self.new ≡ name_of self.old }
         ensures same_format { format_of self.new ≡ format_of self.old }
+        ensures same_way { replaces self.new ≡ replaces self.old }
+        ensures same_faults { (fault : FileFault) → may_refuse self.new fault → may_refuse self.old fault }
         ensures later { S.faults store.old ≤ S.faults store.new }
         ensures same_telling { S.tells store.new ≡ S.tells store.old };
 
@@ -198,16 +224,21 @@ pub trait QuotaFile<S: Store> {
             → holds self.new store.new (with_grace value grace)) }
         ensures refused { IfErr result (IsChangeFault (S.faults store.old) (S.faults store.new) (holds self.old store.old)
             (λ _ _. ⊥)) }
+        ensures may { IfErr result (may_refuse self.old) }
         ensures stays { IfErr result (λ fault. OnWant fault ((value : QuotaValue) → holds self.old store.old value
             → holds self.new store.new value)) }
         ensures same_files { IfErr result (λ fault. OnWant fault (S.files store.new ≡ S.files store.old)) }
         ensures writes { IfErr result (λ fault. OnWant fault (S.writes store.new ≡ S.writes store.old)) }
+        ensures unchanged { OnErr result (IsTrue (S.tells store.old) → IsTrue (replaces self.old)
+            → S.files store.new (name_of self.old) ≡ S.files store.old (name_of self.old)) }
         ensures others { IsTrue (S.tells store.old)
             → ReplacesOnly (name_of self.old) (S.files store.old) (S.files store.new) }
         ensures usable { OnOk result (is_usable self.new ≡ is_usable self.old) }
         ensures unusable { IfErr result (λ fault. is_usable self.new ≡ not (is_store_fault fault)) }
         ensures same_name { name_of self.new ≡ name_of self.old }
         ensures same_format { format_of self.new ≡ format_of self.old }
+        ensures same_way { replaces self.new ≡ replaces self.old }
+        ensures same_faults { (fault : FileFault) → may_refuse self.new fault → may_refuse self.old fault }
         ensures later { S.faults store.old ≤ S.faults store.new }
         ensures same_telling { S.tells store.new ≡ S.tells store.old };
 

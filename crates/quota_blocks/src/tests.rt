@@ -1,6 +1,6 @@
 use crate::{
     LoadFault, MemSink, MemStore, ReplaceFault, Sink, SinkFault, Store, StoreFault, TextBuffer,
-    load, replace,
+    le16, le32, le64, load, replace, set_le16, set_le32, set_le64,
 };
 use std::alloc::Global;
 use std::test::Fail;
@@ -114,4 +114,48 @@ fn a_sink_gets_the_gathered_text_in_order(rt: HostRuntime) -> Result<(), Fail> {
     sink.write(b"two")?;
     assert_eq!(rt; sink.bytes(), b"one two".as_slice());
     Ok(())
+}
+
+#[test]
+fn numbers_of_a_block_are_read_the_lowest_byte_first(rt: HostRuntime) {
+    let mut block = [0; 1024];
+    for (at, byte) in [(3, 1), (4, 2), (5, 3), (6, 4), (1022, 5), (1023, 255)] {
+        block[at] = byte;
+    }
+    for (at, want) in [(0, 0), (2, 256), (3, 513), (6, 4), (1022, 65_285)] {
+        assert_eq!(rt; le16(&block, at), want, "{at}");
+    }
+    for (at, want) in [
+        (0, 0x0100_0000),
+        (3, 0x0403_0201),
+        (6, 4),
+        (1020, 0xff05_0000),
+    ] {
+        assert_eq!(rt; le32(&block, at), want, "{at}");
+    }
+    for (at, want) in [
+        (0, 0x0004_0302_0100_0000),
+        (3, 0x0403_0201),
+        (1016, 0xff05_0000_0000_0000),
+    ] {
+        assert_eq!(rt; le64(&block, at), want, "{at}");
+    }
+}
+
+#[test]
+fn a_number_is_written_at_its_place_alone(rt: HostRuntime) {
+    let mut block = [9; 1024];
+    set_le16(&mut block, 0, 0x0201);
+    set_le32(&mut block, 3, 0x0403_0201);
+    set_le64(&mut block, 1016, 0x0807_0605_0403_0201);
+    assert_eq!(rt; &block[..9], [1, 2, 9, 1, 2, 3, 4, 9, 9].as_slice());
+    assert_eq!(rt; &block[9..1015], [9; 1006].as_slice());
+    assert_eq!(rt; &block[1015..], [9, 1, 2, 3, 4, 5, 6, 7, 8].as_slice());
+    set_le64(&mut block, 1016, u64::MAX);
+    assert_eq!(rt;
+        &block[1015..],
+        [9, 255, 255, 255, 255, 255, 255, 255, 255].as_slice()
+    );
+    set_le16(&mut block, 1022, 0);
+    assert_eq!(rt; le64(&block, 1016), 0x0000_ffff_ffff_ffff);
 }

@@ -19,7 +19,7 @@ pub enum DamageKind {
     ForeignInChain,
     /// A data block with an unused entry is not in the entry list.
     MissingInChain,
-    /// A data block's previous field is not the block before it in the entry list.
+    /// A block of the entry list does not name the block before it, or 0 where it is the first.
     BadPrev,
     /// A data block's stored number is not the number of its used entries.
     BadCount,

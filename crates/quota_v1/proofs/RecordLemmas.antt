@@ -13,7 +13,7 @@ use Rattle.quota_types.specs.Kept.{kept_of}
 use Rattle.quota_types.specs.Range.{grace_unfit}
 use Rattle.quota_types.specs.Rec.{IsNull, kib_of}
 use Rattle.quota_blocks.specs.QuotaValue.{QuotaValue, with_record, without_record, with_grace}
-use Rattle.quota_v1.specs.Change.{KeepsOutside}
+use Rattle.quota_blocks.specs.Span.{KeepsOutside}
 use Rattle.quota_v1.specs.Opened.{HoldsFlat}
 use Rattle.quota_v1.specs.FlatFile.{FlatStandsFor, flat_record, flat_grace, is_zeros, or_week, stored_record, timed_record, unless_zeros}
 use Rattle.quota_v1.proofs.ChangeLemmas.{number_at-same, number_before, number_behind}

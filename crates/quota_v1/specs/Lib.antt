@@ -11,4 +11,5 @@ pub use Rattle.quota_blocks.specs.Count
 pub use Rattle.quota_blocks.specs.QuotaFile
 pub use Rattle.quota_blocks.specs.QuotaValue
 pub use Rattle.quota_blocks.specs.Replace
+pub use Rattle.quota_blocks.specs.Span
 pub use Rattle.quota_blocks.specs.World

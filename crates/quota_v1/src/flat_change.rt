@@ -4,7 +4,7 @@ ghost use Rattle.quota_types.specs.declared.file_kind.Format.TheVariants.{V1};
 ghost use Rattle.quota_types.specs.Kept.{kept_of};
 ghost use Rattle.quota_types.specs.Range.{unfit};
 ghost use Rattle.quota_types.specs.Rec.{kib_of};
-ghost use Rattle.quota_v1.specs.Change.{KeepsOutside};
+ghost use Rattle.quota_blocks.specs.Span.{KeepsOutside};
 ghost use Rattle.quota_v1.specs.FlatFile.{timed_record};
 
 use crate::flat_record::RECORD;

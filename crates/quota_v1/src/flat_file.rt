@@ -1,4 +1,4 @@
-ghost use Rattle.std.specs.Prelude.{◌≡◌, ◌%◌, ◌≤◌, ◌+◌, ◌*◌, true, not, max, vec_len, string_bytes, None, Some, IsTrue, IfErr, OnOk, OnErr};
+ghost use Rattle.std.specs.Prelude.{◌≡◌, ◌%◌, ◌≤◌, ◌+◌, ◌*◌, true, not, max, vec_len, string_bytes, None, Some, IsTrue, IfErr, IsOk, OnOk, OnErr};
 ghost use Rattle.std.specs.FinMap.{get};
 ghost use Rattle.quota_types.specs.declared.file_kind.Format.TheVariants.{V1};
 ghost use Rattle.quota_types.specs.Bytes.{number_at};
@@ -7,9 +7,11 @@ ghost use Rattle.quota_types.specs.Range.{grace_unfit, unfit};
 ghost use Rattle.quota_types.specs.Rec.{IsNull};
 ghost use Rattle.quota_blocks.specs.QuotaValue.{QuotaValue, with_grace, with_record, without_record};
 ghost use Rattle.quota_blocks.specs.QuotaFile.{OnWant, is_store_fault};
-ghost use Rattle.quota_blocks.specs.Replace.{ReplacesOnly};
-ghost use Rattle.quota_v1.specs.Change.{IsRewriteFault};
+ghost use Rattle.quota_blocks.specs.Replace.{ReplacesOnly, replacement_name};
+ghost use Rattle.quota_v1.specs.Change.{IsRewriteFault, MayRefuse};
+ghost use Rattle.quota_v1.specs.FlatFile.{flat_record};
 ghost use Rattle.quota_v1.specs.Opened.{HoldsFlat};
+ghost use Rattle.quota_v1.specs.View.{flat_limit};
 
 use crate::flat_change::{with_grace, with_record};
 use crate::flat_record::{grace_of, next_record, record_of};
@@ -25,7 +27,7 @@ pub struct V1File {
     pub(crate) bytes: Vec<u8>,
     pub(crate) usable: bool,
     ghost whole: { vec_len bytes % 40 ≡ 0 },
-    ghost limited: { vec_len bytes ≤ 41943040 },
+    ghost limited: { vec_len bytes ≤ flat_limit },
 }
 
 impl V1File {
@@ -33,12 +35,15 @@ impl V1File {
     fn rewrite<S: Store>(&mut self, store: &mut S, bytes: Vec<u8>) -> Result<(), FileFault>
         requires usable { IsTrue self.old.usable }
         requires whole { vec_len bytes % 40 ≡ 0 }
-        requires limited { vec_len bytes ≤ 41943040 }
+        requires limited { vec_len bytes ≤ flat_limit }
         ensures named { OnOk result (IsTrue (S.tells store.old) → S.files store.new (string_bytes self.old.name) ≡ Some bytes.items) }
         ensures loaded { OnOk result (self.new.bytes.items ≡ bytes.items) }
+        ensures cleared { OnOk result (IsTrue (S.tells store.old)
+            → S.files store.new (replacement_name (string_bytes self.old.name)) ≡ None) }
         ensures unchanged { OnErr result (IsTrue (S.tells store.old)
             → S.files store.new (string_bytes self.old.name) ≡ S.files store.old (string_bytes self.old.name)) }
         ensures refused { IfErr result (IsRewriteFault (S.faults store.old) (S.faults store.new)) }
+        ensures may { IfErr result MayRefuse }
         ensures stays { IfErr result (λ fault. OnWant fault (self.new.bytes.items ≡ self.old.bytes.items)) }
         ensures same_files { IfErr result (λ fault. OnWant fault (S.files store.new ≡ S.files store.old)) }
         ensures writes { IfErr result (λ fault. OnWant fault (S.writes store.new ≡ S.writes store.old)) }
@@ -66,8 +71,9 @@ impl V1File {
 }
 
 impl<S: Store> QuotaFile<S> for V1File {
-    ghost use Rattle.std.specs.Prelude.{string_bytes};
+    ghost use Rattle.std.specs.Prelude.{string_bytes, true};
     ghost use Rattle.quota_types.specs.declared.file_kind.Format.TheVariants.{V1};
+    ghost use Rattle.quota_v1.specs.Change.{MayRefuse};
     ghost use Rattle.quota_v1.specs.Opened.{HoldsFlat};
     ghost use Rattle.quota_v1.specs.Rests.{rests_on_named};
 
@@ -80,6 +86,10 @@ impl<S: Store> QuotaFile<S> for V1File {
     ghost name_of = { λ file. string_bytes file.name };
 
     ghost lacks_room = { λ _ _ _ _ _. ⊥ };
+
+    ghost replaces = { λ _. true };
+
+    ghost may_refuse = { λ _ fault. MayRefuse fault };
 
     ghost rests_on_named = { λ file one other value told named held. rests_on_named _ _ _ _ file.bytes.items value told named held };
 
@@ -117,9 +127,12 @@ impl<S: Store> QuotaFile<S> for V1File {
         ensures inode_time { OnOk result (number_at 8 self.new.bytes.items 32 ≡ number_at 8 self.old.bytes.items 32) }
         ensures put { OnOk result ((value : QuotaValue) → HoldsFlat (S.tells store.old) (S.files store.old (string_bytes self.old.name)) self.old.bytes.items value
             → HoldsFlat (S.tells store.new) (S.files store.new (string_bytes self.new.name)) self.new.bytes.items (with_record value id rec)) }
+        ensures cleared { OnOk result (IsTrue (S.tells store.old)
+            → S.files store.new (replacement_name (string_bytes self.old.name)) ≡ None) }
         ensures unchanged { OnErr result (IsTrue (S.tells store.old)
             → S.files store.new (string_bytes self.old.name) ≡ S.files store.old (string_bytes self.old.name)) }
         ensures refused { IfErr result (IsRewriteFault (S.faults store.old) (S.faults store.new)) }
+        ensures may { IfErr result MayRefuse }
         ensures stays { IfErr result (λ fault. OnWant fault ((value : QuotaValue)
             → HoldsFlat (S.tells store.old) (S.files store.old (string_bytes self.old.name)) self.old.bytes.items value
             → HoldsFlat (S.tells store.new) (S.files store.new (string_bytes self.new.name)) self.new.bytes.items value)) }
@@ -146,11 +159,19 @@ impl<S: Store> QuotaFile<S> for V1File {
         ensures inode_time { OnOk result (number_at 8 self.new.bytes.items 32 ≡ number_at 8 self.old.bytes.items 32) }
         ensures removed { OnOk result ((value : QuotaValue) → HoldsFlat (S.tells store.old) (S.files store.old (string_bytes self.old.name)) self.old.bytes.items value
             → HoldsFlat (S.tells store.new) (S.files store.new (string_bytes self.new.name)) self.new.bytes.items (without_record value id)) }
+        ensures absent_ok { flat_record self.old.bytes.items id ≡ None → IsOk result }
+        ensures absent_bytes { flat_record self.old.bytes.items id ≡ None → self.new.bytes.items ≡ self.old.bytes.items }
+        ensures absent_files { flat_record self.old.bytes.items id ≡ None → S.files store.new ≡ S.files store.old }
+        ensures absent_calls { flat_record self.old.bytes.items id ≡ None → S.writes store.new ≡ S.writes store.old }
+        ensures absent_faults { flat_record self.old.bytes.items id ≡ None → S.faults store.new ≡ S.faults store.old }
         ensures absent { (value : QuotaValue) → HoldsFlat (S.tells store.old) (S.files store.old (string_bytes self.old.name)) self.old.bytes.items value
             → get value.records id ≡ None → S.files store.new ≡ S.files store.old }
+        ensures absent_writes { (value : QuotaValue) → HoldsFlat (S.tells store.old) (S.files store.old (string_bytes self.old.name)) self.old.bytes.items value
+            → get value.records id ≡ None → S.writes store.new ≡ S.writes store.old }
         ensures unchanged { OnErr result (IsTrue (S.tells store.old)
             → S.files store.new (string_bytes self.old.name) ≡ S.files store.old (string_bytes self.old.name)) }
         ensures refused { IfErr result (IsRewriteFault (S.faults store.old) (S.faults store.new)) }
+        ensures may { IfErr result MayRefuse }
         ensures stays { IfErr result (λ fault. OnWant fault ((value : QuotaValue)
             → HoldsFlat (S.tells store.old) (S.files store.old (string_bytes self.old.name)) self.old.bytes.items value
             → HoldsFlat (S.tells store.new) (S.files store.new (string_bytes self.new.name)) self.new.bytes.items value)) }
@@ -177,11 +198,16 @@ impl<S: Store> QuotaFile<S> for V1File {
         requires usable { IsTrue self.old.usable }
         requires fits { grace_unfit V1 grace ≡ None }
         ensures length { OnOk result (vec_len self.new.bytes ≡ max (vec_len self.old.bytes) 40) }
+        ensures block_time { OnOk result (number_at 8 self.new.bytes.items 24 ≡ grace.block) }
+        ensures inode_time { OnOk result (number_at 8 self.new.bytes.items 32 ≡ grace.inode) }
         ensures set { OnOk result ((value : QuotaValue) → HoldsFlat (S.tells store.old) (S.files store.old (string_bytes self.old.name)) self.old.bytes.items value
             → HoldsFlat (S.tells store.new) (S.files store.new (string_bytes self.new.name)) self.new.bytes.items (with_grace value grace)) }
+        ensures cleared { OnOk result (IsTrue (S.tells store.old)
+            → S.files store.new (replacement_name (string_bytes self.old.name)) ≡ None) }
         ensures unchanged { OnErr result (IsTrue (S.tells store.old)
             → S.files store.new (string_bytes self.old.name) ≡ S.files store.old (string_bytes self.old.name)) }
         ensures refused { IfErr result (IsRewriteFault (S.faults store.old) (S.faults store.new)) }
+        ensures may { IfErr result MayRefuse }
         ensures stays { IfErr result (λ fault. OnWant fault ((value : QuotaValue)
             → HoldsFlat (S.tells store.old) (S.files store.old (string_bytes self.old.name)) self.old.bytes.items value
             → HoldsFlat (S.tells store.new) (S.files store.new (string_bytes self.new.name)) self.new.bytes.items value)) }

@@ -2,6 +2,7 @@ ghost use Rattle.std.specs.Prelude.{◌≡◌, ℕ, ◌+◌, ◌*◌, ◌%◌, �
 ghost use Rattle.quota_types.specs.Bytes.{number_at};
 ghost use Rattle.quota_blocks.specs.QuotaValue.{IsAfter};
 ghost use Rattle.quota_v1.specs.FlatFile.{flat_grace, flat_record, is_zeros, IsNextRecord, or_week, stored_record, timed_record};
+ghost use Rattle.quota_v1.specs.View.{flat_limit};
 
 use byteorder::{ByteOrder, LittleEndian};
 use quota_types::{Entry, Grace, Rec};
@@ -101,7 +102,7 @@ fn first_after(after: Option<u32>) -> usize
 
 /// The first identifier after another one that has a record, with it.
 pub(crate) fn next_record(bytes: &[u8], after: Option<u32>) -> Option<Entry>
-    requires { length bytes.now ≤ 41943040 }
+    requires { length bytes.now ≤ flat_limit }
     ensures { IsNextRecord bytes.now after result }
 {
     let first = first_after(after);

@@ -1,7 +1,7 @@
 ghost use Rattle.std.specs.Prelude.{◌≡◌, ◌%◌, ◌<◌, ◌≤◌, true, Ok, Err, Some, IsTrue, IfOk, IfErr, OnOk, IsSomeAnd, length, vec_len};
 ghost use Rattle.quota_types.specs.declared.file_kind.Kind.{Kind};
 ghost use Rattle.quota_blocks.specs.QuotaValue.{QuotaValue};
-ghost use Rattle.quota_v1.specs.View.{IsFlatView, IsFlatFault};
+ghost use Rattle.quota_v1.specs.View.{IsFlatView, IsFlatFault, flat_limit};
 
 use crate::V1File;
 use crate::flat_record::RECORD;
@@ -46,7 +46,7 @@ pub fn open_v1<S: Store>(alloc: Global, store: &mut S, name: &str) -> Result<V1F
 
 /// The file that was loaded, where it consists of whole records.
 fn opened(name: String, bytes: Vec<u8>) -> Result<V1File, OpenFault>
-    requires { vec_len bytes ≤ 41943040 }
+    requires { vec_len bytes ≤ flat_limit }
     ensures ok { IfOk result (λ file. (file.name ≡ name) × (file.bytes ≡ bytes)) }
     ensures usable { IfOk result (λ file. file.usable ≡ true) }
     ensures whole { OnOk result (length bytes.items % 40 ≡ 0) }
@@ -68,7 +68,7 @@ fn opened(name: String, bytes: Vec<u8>) -> Result<V1File, OpenFault>
 
 /// Why a file is refused that was found to have too many bytes, with their number.
 fn too_large<S: Store>(store: &mut S, name: &str) -> OpenFault
-    requires { IsTrue (S.tells store.old) → IsSomeAnd (S.files store.old name.now) (λ bytes. 41943040 < length bytes) }
+    requires { IsTrue (S.tells store.old) → IsSomeAnd (S.files store.old name.now) (λ bytes. flat_limit < length bytes) }
     ensures refused { IsFlatFault (S.faults store.old) (S.faults store.new) (S.tells store.old) (S.files store.old name.now) result }
     ensures later { S.faults store.old ≤ S.faults store.new }
     ensures writes { S.writes store.new ≡ S.writes store.old }

@@ -1,8 +1,9 @@
 -- Why a report was refused.
-use Rattle.std.specs.Prelude.{ℕ}
+use Rattle.std.specs.Prelude.{ℕ, ⊤}
 use Rattle.quota_blocks.specs.Count.{Rose}
 use Rattle.quota_blocks.specs.QuotaValue.{QuotaValue}
 use Rattle.quota_blocks.specs.QuotaFile.{IsLookupFault}
+use Rattle.quota_blocks.specs.declared.quota_file.FileFault.{FileFault}
 use Rattle.report_text.specs.declared.fault.ReportFault.{ReportFault}
 use Rattle.report_text.specs.declared.fault.ReportFault.TheVariants.{Sink, File}
 
@@ -11,3 +12,8 @@ use Rattle.report_text.specs.declared.fault.ReportFault.TheVariants.{Sink, File}
 abbrev pub IsReportFault : (sink_before sink_now store_before store_now : ℕ) → (QuotaValue → Type 0) → ReportFault → Type 0
 IsReportFault sink_before sink_now store_before store_now holds Sink = Rose sink_before sink_now
 IsReportFault sink_before sink_now store_before store_now holds (File fault) = IsLookupFault store_before store_now holds fault
+
+-- a fact of the fault of a lookup, where a report was refused by one
+abbrev pub IfFile : ReportFault → (FileFault → Type 0) → Type 0
+IfFile Sink P = ⊤
+IfFile (File fault) P = P fault

@@ -8,6 +8,7 @@ use Rattle.quota_types.specs.declared.file_kind.Kind.TheVariants.{User, Group}
 use Rattle.quota_types.specs.declared.record.Rec.{Rec}
 use Rattle.quota_types.specs.declared.record.Grace.{Grace}
 use Rattle.quota_types.specs.Rec.{kib_of}
+use Rattle.quota_types.specs.Timers.{is_exceeded}
 use Rattle.quota_blocks.specs.QuotaValue.{QuotaValue}
 use Rattle.report_text.specs.declared.options.Options.{Options}
 use Rattle.report_text.specs.declared.usage.Usage.{Usage}
@@ -95,10 +96,6 @@ blocks_of rec = record { used = kib_of rec.space; soft = rec.bsoft; hard = rec.b
 -- what is used of inodes
 abbrev pub inodes_of : Rec → Usage
 inodes_of rec = record { used = rec.inodes; soft = rec.isoft; hard = rec.ihard; timer = rec.itime }
-
--- a limit is exceeded; 0 is none
-abbrev pub is_exceeded : ℕ → ℕ → Bool
-is_exceeded limit used = nat_lt 0 limit && nat_lt limit used
 
 -- `+` where the soft or the hard limit is exceeded, else `-`
 abbrev pub flag_of : Usage → ℕ

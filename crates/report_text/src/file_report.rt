@@ -2,7 +2,8 @@ ghost use Rattle.std.specs.Prelude.{◌≡◌, ◌≤◌, ◌++◌, IsTrue, OnOk
 ghost use Rattle.std.specs.FinMap.{entries};
 ghost use Rattle.quota_blocks.specs.QuotaValue.{QuotaValue};
 ghost use Rattle.quota_blocks.specs.Text.{AppendsPrefix};
-ghost use Rattle.report_text.specs.Fault.{IsReportFault};
+ghost use Rattle.quota_blocks.specs.declared.quota_file.FileFault.{FileFault};
+ghost use Rattle.report_text.specs.Fault.{IfFile, IsReportFault};
 ghost use Rattle.report_text.specs.Gather.{Gathers, WritesPrefix};
 ghost use Rattle.report_text.specs.Report.{report_of, lines_of, no_names};
 
@@ -33,8 +34,12 @@ pub fn report<S: Store, F: QuotaFile<S>, O: Sink>(
         → AppendsPrefix (O.written sink.old) (O.written sink.new) (report_of value no_names title.now now options.now)) }
     ensures refused { IfErr result (IsReportFault (O.faults sink.old) (O.faults sink.new)
         (S.faults store.old) (S.faults store.new) (F.holds file.old store.old)) }
+    ensures may { IfErr result (λ fault. IfFile fault (F.may_refuse file.old)) }
     ensures stays { (value : QuotaValue) → F.holds file.old store.old value → F.holds file.new store.new value }
     ensures same_format { F.format_of file.new ≡ F.format_of file.old }
+    ensures same_name { F.name_of file.new ≡ F.name_of file.old }
+    ensures same_way { F.replaces file.new ≡ F.replaces file.old }
+    ensures same_faults { (fault : FileFault) → F.may_refuse file.new fault → F.may_refuse file.old fault }
     ensures usable { F.is_usable file.new ≡ F.is_usable file.old }
     ensures store_later { S.faults store.old ≤ S.faults store.new }
     ensures sink_later { O.faults sink.old ≤ O.faults sink.new }
@@ -68,8 +73,12 @@ fn put_entries<S: Store, F: QuotaFile<S>, O: Sink>(
         (lines_of no_names now options.now (entries value.records))) }
     ensures refused { IfErr result (IsReportFault (O.faults sink.old) (O.faults sink.new)
         (S.faults store.old) (S.faults store.new) (F.holds file.old store.old)) }
+    ensures may { IfErr result (λ fault. IfFile fault (F.may_refuse file.old)) }
     ensures stays { (value : QuotaValue) → F.holds file.old store.old value → F.holds file.new store.new value }
     ensures same_format { F.format_of file.new ≡ F.format_of file.old }
+    ensures same_name { F.name_of file.new ≡ F.name_of file.old }
+    ensures same_way { F.replaces file.new ≡ F.replaces file.old }
+    ensures same_faults { (fault : FileFault) → F.may_refuse file.new fault → F.may_refuse file.old fault }
     ensures usable { F.is_usable file.new ≡ F.is_usable file.old }
     ensures store_later { S.faults store.old ≤ S.faults store.new }
     ensures sink_later { O.faults sink.old ≤ O.faults sink.new }

@@ -1,10 +1,10 @@
 ghost use Rattle.std.specs.Prelude.{◌≡◌, ◌≤◌, length};
-ghost use Rattle.report_text.specs.Report.{blocks_of, inodes_of, flag_of, grace_of, grace_left, grace_end, is_exceeded};
+ghost use Rattle.report_text.specs.Report.{blocks_of, inodes_of, flag_of, grace_of, grace_left, grace_end};
 
 use crate::{Options, period_text};
 use arrayvec::ArrayVec;
 use itoa::Buffer;
-use quota_types::Rec;
+use quota_types::{Rec, is_exceeded};
 
 /// What an identifier uses of blocks or of inodes.
 #[derive(Clone, Copy, Debug, PartialEq, Eq)]
@@ -91,13 +91,6 @@ impl Usage {
             replace(text, b"0");
         }
     }
-}
-
-/// Whether a limit is exceeded; 0 is none.
-fn is_exceeded(limit: u64, used: u64) -> bool
-    ensures { result ≡ is_exceeded limit used }
-{
-    limit != 0 && limit < used
 }
 
 /// Makes `text` another text, whatever it held before.

@@ -1,11 +1,15 @@
-ghost use Rattle.std.specs.Prelude.{◌≡◌, ◌≤◌, ◌<◌, ℕ, None, Err, false, not, IsTrue, IfErr, IfOk, IsOkAnd, OnOk, unwrap_or};
+ghost use Rattle.std.specs.Prelude.{◌≡◌, ◌≤◌, ◌<◌, ℕ, None, Err, false, not, IsTrue, IfErr, IfOk, IsOkAnd, OnErr, OnOk, Some, unwrap_or};
 ghost use Rattle.std.specs.FinMap.{get};
 ghost use Rattle.quota_types.specs.Kept.{kept_of};
 ghost use Rattle.quota_types.specs.Range.{unfit};
 ghost use Rattle.quota_types.specs.Rec.{IsNull};
+ghost use Rattle.quota_types.specs.Timers.{timers_of};
+ghost use Rattle.quota_types.specs.declared.record.Grace.{Grace};
+ghost use Rattle.quota_types.specs.declared.record.Rec.{Rec};
 ghost use Rattle.quota_blocks.specs.QuotaFile.{IfFull, IsChangeFault, OnWant, is_store_fault};
 ghost use Rattle.quota_blocks.specs.QuotaValue.{QuotaValue};
 ghost use Rattle.quota_blocks.specs.Replace.{ReplacesOnly};
+ghost use Rattle.quota_blocks.specs.declared.quota_file.FileFault.{FileFault};
 ghost use Rattle.set_edit.specs.EditFault.{IfFile, IfNoRoom, OnUnchanged, is_store_failure};
 ghost use Rattle.set_edit.specs.Edited.{limits_set, wanted_limits, with_limits, zero_record, with_or_without};
 
@@ -18,7 +22,8 @@ use quota_types::{Rec, next_kept};
 ///
 /// It is refused with `NoRoom` by the first field of the record for which the format has no room, in the order of
 /// `Field`, with its value. Then, and where the file has no room or there is no memory, nothing has changed. Where the
-/// store failed and the file may still be used, nothing has changed either.
+/// store failed and the file may still be used, nothing has changed either. A file that is replaced by each change is as
+/// before after any refusal.
 pub fn set_limits<S: Store, F: QuotaFile<S>>(
     file: &mut F,
     store: &mut S,
@@ -34,8 +39,13 @@ pub fn set_limits<S: Store, F: QuotaFile<S>>(
         (λ edited. ¬ (F.lacks_room file.old store.old edited blocks limit))) }
     ensures absent { (value : QuotaValue) → F.holds file.old store.old value → get value.records id ≡ None
         → IsNull (wanted_limits None limits.now value.grace now) → S.files store.new ≡ S.files store.old }
+    ensures absent_writes { (value : QuotaValue) → F.holds file.old store.old value → get value.records id ≡ None
+        → IsNull (wanted_limits None limits.now value.grace now) → S.writes store.new ≡ S.writes store.old }
     ensures no_room { IfErr result (λ fault. IfNoRoom fault (λ out. (value : QuotaValue)
         → F.holds file.old store.old value → limits_set value id limits.now now ≡ Err (out.field, out.value))) }
+    ensures field { IfErr result (λ fault. IfNoRoom fault (λ out. (rec : Rec) × (grace : Grace)
+        × (unfit (F.format_of file.old) id (timers_of (with_limits rec limits.now) grace now)
+        ≡ Some (out.field, out.value)))) }
     ensures id { IfErr result (λ fault. IfNoRoom fault (λ out. out.id ≡ id)) }
     ensures refused { IfErr result (λ fault. IfFile fault (IsChangeFault (S.faults store.old) (S.faults store.new)
         (F.holds file.old store.old) (λ blocks limit. (value : QuotaValue) → F.holds file.old store.old value
@@ -44,6 +54,7 @@ pub fn set_limits<S: Store, F: QuotaFile<S>>(
     ensures present { IfErr result (λ fault. IfFile fault (λ out. IfFull out (λ _ _. (value : QuotaValue)
         → F.holds file.old store.old value → get value.records id ≡ None
         → ¬ (IsNull (wanted_limits None limits.now value.grace now))))) }
+    ensures may { IfErr result (λ fault. IfFile fault (F.may_refuse file.old)) }
     ensures passes { IfErr result (λ fault. IfFile fault (λ out. IfFull out (λ blocks limit. limit < blocks))) }
     ensures stays { IfErr result (λ fault. OnUnchanged fault (F.is_usable file.new) ((value : QuotaValue)
         → F.holds file.old store.old value → F.holds file.new store.new value)) }
@@ -51,6 +62,8 @@ pub fn set_limits<S: Store, F: QuotaFile<S>>(
         (S.files store.new ≡ S.files store.old)) }
     ensures writes { IfErr result (λ fault. OnUnchanged fault (F.is_usable file.new)
         (S.writes store.new ≡ S.writes store.old)) }
+    ensures unchanged { OnErr result (IsTrue (S.tells store.old) → IsTrue (F.replaces file.old)
+        → S.files store.new (F.name_of file.old) ≡ S.files store.old (F.name_of file.old)) }
     ensures others { IsTrue (S.tells store.old)
         → ReplacesOnly (F.name_of file.old) (S.files store.old) (S.files store.new) }
     ensures usable { OnOk result (F.is_usable file.new ≡ F.is_usable file.old) }
@@ -58,6 +71,8 @@ pub fn set_limits<S: Store, F: QuotaFile<S>>(
         → F.is_usable file.new ≡ F.is_usable file.old) }
     ensures same_name { F.name_of file.new ≡ F.name_of file.old }
     ensures same_format { F.format_of file.new ≡ F.format_of file.old }
+    ensures same_way { F.replaces file.new ≡ F.replaces file.old }
+    ensures same_faults { (fault : FileFault) → F.may_refuse file.new fault → F.may_refuse file.old fault }
     ensures later { S.faults store.old ≤ S.faults store.new }
     ensures same_telling { S.tells store.new ≡ S.tells store.old }
 {
@@ -97,22 +112,29 @@ fn put_or_remove<S: Store, F: QuotaFile<S>>(
         → ¬ (F.lacks_room file.old store.old (with_or_without value id rec) blocks limit)) }
     ensures absent { (value : QuotaValue) → F.holds file.old store.old value → get value.records id ≡ None
         → IsNull rec → S.files store.new ≡ S.files store.old }
+    ensures absent_writes { (value : QuotaValue) → F.holds file.old store.old value → get value.records id ≡ None
+        → IsNull rec → S.writes store.new ≡ S.writes store.old }
     ensures refused { IfErr result (IsChangeFault (S.faults store.old) (S.faults store.new)
         (F.holds file.old store.old) (λ blocks limit. (value : QuotaValue) → F.holds file.old store.old value
         → F.lacks_room file.old store.old (with_or_without value id rec) blocks limit)) }
     ensures present { IfErr result (λ fault. IfFull fault (λ _ _. (value : QuotaValue)
         → F.holds file.old store.old value → get value.records id ≡ None → ¬ (IsNull rec))) }
+    ensures may { IfErr result (F.may_refuse file.old) }
     ensures passes { IfErr result (λ fault. IfFull fault (λ blocks limit. limit < blocks)) }
     ensures stays { IfErr result (λ fault. OnWant fault ((value : QuotaValue) → F.holds file.old store.old value
         → F.holds file.new store.new value)) }
     ensures same_files { IfErr result (λ fault. OnWant fault (S.files store.new ≡ S.files store.old)) }
     ensures writes { IfErr result (λ fault. OnWant fault (S.writes store.new ≡ S.writes store.old)) }
+    ensures unchanged { OnErr result (IsTrue (S.tells store.old) → IsTrue (F.replaces file.old)
+        → S.files store.new (F.name_of file.old) ≡ S.files store.old (F.name_of file.old)) }
     ensures others { IsTrue (S.tells store.old)
         → ReplacesOnly (F.name_of file.old) (S.files store.old) (S.files store.new) }
     ensures usable { OnOk result (F.is_usable file.new ≡ F.is_usable file.old) }
     ensures unusable { IfErr result (λ fault. F.is_usable file.new ≡ not (is_store_fault fault)) }
     ensures same_name { F.name_of file.new ≡ F.name_of file.old }
     ensures same_format { F.format_of file.new ≡ F.format_of file.old }
+    ensures same_way { F.replaces file.new ≡ F.replaces file.old }
+    ensures same_faults { (fault : FileFault) → F.may_refuse file.new fault → F.may_refuse file.old fault }
     ensures later { S.faults store.old ≤ S.faults store.new }
     ensures same_telling { S.tells store.new ≡ S.tells store.old }
 {

@@ -20,7 +20,7 @@ impl OneRecord {
 }
 
 impl<S: Store> QuotaFile<S> for OneRecord {
-    ghost use Rattle.std.specs.Prelude.{true, []};
+    ghost use Rattle.std.specs.Prelude.{true, [], ⊤};
     ghost use Rattle.quota_types.specs.declared.file_kind.Format.TheVariants.{V1};
 
     ghost holds = { λ _ _ _. ⊥ };
@@ -32,6 +32,10 @@ impl<S: Store> QuotaFile<S> for OneRecord {
     ghost name_of = { λ _. [] };
 
     ghost lacks_room = { λ _ _ _ _ _. ⊥ };
+
+    ghost replaces = { λ _. true };
+
+    ghost may_refuse = { λ _ _. ⊤ };
 
     ghost rests_on_named = { λ _ _ _ _ _ _ held. held };
 

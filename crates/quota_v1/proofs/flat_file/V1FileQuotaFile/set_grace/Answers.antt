@@ -1,4 +1,6 @@
 use Rattle.std.proofs.Common.{◌≡◌, ◌%◌, List, ℕ, length, ap, ◌∙◌, arith}
+use Rattle.std.proofs.lemmas.Result.{on_ok_weaker}
+use Rattle.quota_types.specs.Bytes.{number_at}
 use Rattle.quota_v1.proofs.RecordLemmas.{holds_rewritten, on_ok_both, stands_graced}
 use Rattle.quota_v1.proofs.flat_file.V1FileQuotaFile.set_grace.Goals as goal
 
@@ -15,3 +17,11 @@ returns-in-Ok-clause-set g c =
     (rw c.deref.ensures.value at c.in-Ok.ensures.others) c.requires.fits)
     held)
     wrote.named wrote.loaded
+
+pub returns-in-Ok-clause-block_time : goal.returns-in-Ok-clause-block_time
+returns-in-Ok-clause-block_time g c =
+    on_ok_weaker c.rewrite.result (λ loaded. ap (λ (file : List ℕ). number_at 8 file 24) loaded ∙ c.in-Ok.ensures.block) c.rewrite.ensures.loaded
+
+pub returns-in-Ok-clause-inode_time : goal.returns-in-Ok-clause-inode_time
+returns-in-Ok-clause-inode_time g c =
+    on_ok_weaker c.rewrite.result (λ loaded. ap (λ (file : List ℕ). number_at 8 file 32) loaded ∙ c.in-Ok.ensures.inode) c.rewrite.ensures.loaded
