@@ -1,0 +1,194 @@
+-- The roles of a file's blocks, as a check finds them one after another.
+use Rattle.std.proofs.Common.{◌^◌, ◌≡◌, ◌≢◌, ℕ, ◌<◌, ◌≤◌, Bool, true, false, if◌then◌else◌, IsTrue, MatchBool, List, [], ◌∷◌, ◌++◌, length, refl, sym, ap, subst, ◌∙◌, inl, inr, arith, append_assoc}
+use Rattle.std.proofs.lemmas.Bool.{cases_lt, le-ltb, lt-ltb}
+use Rattle.std.proofs.lemmas.List.FromFn.{length-map-range_with_len}
+use Rattle.entry_codec.specs.Header.{HeaderNumbers}
+use Rattle.quota_types.specs.declared.damage.Damage.{Damage}
+use Rattle.quota_types.specs.declared.damage.DamageKind.{DamageKind}
+use Rattle.quota_types.specs.declared.damage.DamageKind.TheVariants.{BadCount, BadPrev, ChainLoop, ChainOut, DoubleEntry, EmptyTree, ForeignInChain, MissingEntry, MissingInChain, NoRole, PartialRecord, RefOut, Short, StrayEntry, TwoRoles}
+use Rattle.quota_types.specs.declared.file_kind.Format.{Format}
+use Rattle.tree_file.specs.declared.checked.CheckFault.{CheckFault}
+use Rattle.tree_file.specs.declared.checked.CheckFault.TheVariants.{Store, Damage as Damaged, Memory}
+use Rattle.tree_file.specs.declared.link.Link.{Link}
+use Rattle.tree_file.specs.declared.path.Path.{Path}
+use Rattle.tree_file.specs.BlockSet.{AreFlagsOf}
+use Rattle.tree_file.specs.Chain.{IsChain}
+use Rattle.tree_file.specs.Check.{IsCheckFault}
+use Rattle.tree_file.specs.Count.{StandsIn, times}
+use Rattle.tree_file.specs.Defect.{IsDefectOf, IsTreeDefect, NamesItsId}
+use Rattle.tree_file.specs.Found.{HasNoEmptyBlock, IsRoleDefect}
+use Rattle.tree_file.specs.Groups.{AreGroupsOf, named_blocks}
+use Rattle.tree_file.specs.Levels.{AreTreeBlocksWhole, AreWithin, IsSecondRole, IsStepFault, IsTreeFault, IsTreeFaultOf}
+use Rattle.tree_file.specs.Roles.{OneRole, roles}
+use Rattle.tree_file.specs.Tree.{data_blocks, ids_at, leads, leaves, lower_blocks, tree_blocks}
+use Rattle.tree_file.specs.Walk.{linked_blocks}
+use Rattle.tree_file.proofs.ChainLemmas.{leads_within, some_chain}
+use Rattle.tree_file.proofs.CountLemmas.{times-append, times-cons-same, times-cons-other}
+
+-- the set that has the header's block
+pub header_marked : (blocks : ℕ) (flags : List Bool) (result : Bool) → MatchBool result (AreFlagsOf blocks flags (0 ∷ []) × (times [] 0 ≡ 0)) (1 ≤ times [] 0) → AreFlagsOf blocks flags (0 ∷ [])
+header_marked blocks flags true added = added.0
+header_marked blocks flags false added = absurd (omega (arith, added))
+
+second_role_of : (format : Format) (file : List ℕ) (numbers : HeaderNumbers) (free : List ℕ) (end : ℕ) (front rest : List ℕ) (damage : Damage)
+    → IsChain file numbers.blocks numbers.free free end → front ++ rest ≡ roles file numbers.blocks free → IsSecondRole front damage → IsTreeDefect format file numbers damage
+second_role_of format file numbers free end front rest damage is_free all is =
+    subst (λ (kind : DamageKind). IsDefectOf format file numbers kind damage.block damage.id × NamesItsId kind damage.id) (sym is.kind) (
+      record {
+        free = free;
+        end = end;
+        is_free = is_free;
+        twice = omega (arith, is.twice, times-append front rest damage.block, ap (λ (ns : List ℕ). times ns damage.block) all);
+      },
+      is.no_id,
+    )
+
+-- a second role among those that were found so far is one of the file
+pub second_role : (file : List ℕ) (blocks free_head : ℕ) (free : List ℕ) (end : ℕ) (front rest : List ℕ) (damage : Damage)
+    → IsChain file blocks free_head free end → front ++ rest ≡ roles file blocks free → IsSecondRole front damage → IsRoleDefect file blocks free_head damage
+second_role file blocks free_head free end front rest damage is_free all is format numbers same same_free =
+    second_role_of format file numbers free end front rest damage
+    (subst (λ (b : ℕ). IsChain file b numbers.free free end) (sym same) (subst (λ (h : ℕ). IsChain file blocks h free end) (sym same_free) is_free))
+    (subst (λ (b : ℕ). front ++ rest ≡ roles file b free) (sym same) all) is
+
+-- the damages of the tree
+tree_fault_of : (format : Format) (file : List ℕ) (numbers : HeaderNumbers) (block id : ℕ) (kind : DamageKind) → id ≡ 0 → IsTreeFaultOf file numbers.blocks (0 ∷ []) kind block
+    → IsDefectOf format file numbers kind block id × NamesItsId kind id
+tree_fault_of format file numbers block id RefOut no_id is = (is, no_id)
+tree_fault_of format file numbers block id EmptyTree no_id is = (is, no_id)
+tree_fault_of format file numbers block id TwoRoles no_id is =
+    let found = some_chain file numbers.blocks numbers.free in
+    let rest : List ℕ = data_blocks file numbers.blocks ++ found.0 in (
+      record {
+        free = found.0;
+        end = found.1;
+        is_free = found.2;
+        twice = omega (
+          arith,
+          is,
+          times-append (0 ∷ tree_blocks file numbers.blocks) rest block,
+          ap (λ (ns : List ℕ). times ns block) (append_assoc (0 ∷ tree_blocks file numbers.blocks) (data_blocks file numbers.blocks) found.0),
+        );
+      },
+      no_id,
+    )
+tree_fault_of format file numbers block id Short no_id is = absurd is
+tree_fault_of format file numbers block id NoRole no_id is = absurd is
+tree_fault_of format file numbers block id ChainOut no_id is = absurd is
+tree_fault_of format file numbers block id ChainLoop no_id is = absurd is
+tree_fault_of format file numbers block id ForeignInChain no_id is = absurd is
+tree_fault_of format file numbers block id MissingInChain no_id is = absurd is
+tree_fault_of format file numbers block id BadPrev no_id is = absurd is
+tree_fault_of format file numbers block id BadCount no_id is = absurd is
+tree_fault_of format file numbers block id MissingEntry no_id is = absurd is
+tree_fault_of format file numbers block id StrayEntry no_id is = absurd is
+tree_fault_of format file numbers block id DoubleEntry no_id is = absurd is
+tree_fault_of format file numbers block id PartialRecord no_id is = absurd is
+
+-- what the search for the leaves was refused for
+pub tree_refused : (before now : ℕ) (tells : Bool) (file : List ℕ) (blocks free_head : ℕ) (flags : List Bool) (fault : CheckFault) → AreFlagsOf blocks flags (0 ∷ [])
+    → IsCheckFault before now (λ damage. IsTrue tells → (numbers : List ℕ) → AreFlagsOf blocks flags numbers → IsTreeFault file blocks numbers damage) fault
+    → IsCheckFault before now (λ damage. IsTrue tells → IsRoleDefect file blocks free_head damage) fault
+tree_refused before now tells file blocks free_head flags Store are is = is
+tree_refused before now tells file blocks free_head flags (Damaged damage) are is = (
+  is.0,
+  λ told format numbers same same_free.
+      let fault = is.1 told (0 ∷ []) are in
+      tree_fault_of format file numbers damage.block damage.id damage.kind fault.1
+      (subst (λ (b : ℕ). IsTreeFaultOf file b (0 ∷ []) damage.kind damage.block) (sym same) fault.0),
+)
+tree_refused before now tells file blocks free_head flags Memory are is = tt
+
+-- what the marking of the data blocks was refused for
+pub data_marked_refused : (before now : ℕ) (tells : Bool) (file : List ℕ) (blocks free_head : ℕ) (flags : List Bool) (found : List Path) (groups : List (List ℕ)) (fault : CheckFault)
+    → (IsTrue tells → found ≡ leaves file blocks) → (IsTrue tells → AreFlagsOf blocks flags (0 ∷ tree_blocks file blocks)) → AreGroupsOf blocks found groups
+    → IsStepFault (λ damage. (all : ℕ) → (leaves : List Path) → (numbers : List ℕ) → AreGroupsOf all leaves groups → AreFlagsOf all flags numbers
+    → IsSecondRole (numbers ++ named_blocks all leaves) damage) fault
+    → IsCheckFault before now (λ damage. IsTrue tells → IsRoleDefect file blocks free_head damage) fault
+data_marked_refused before now tells file blocks free_head flags found groups Store are_leaves marked are is = absurd is
+data_marked_refused before now tells file blocks free_head flags found groups (Damaged damage) are_leaves marked are is = (
+  is.0,
+  λ told.
+      let chain = some_chain file blocks free_head in
+      second_role file blocks free_head chain.0 chain.1 ((0 ∷ tree_blocks file blocks) ++ data_blocks file blocks) chain.0 damage chain.2 refl
+      (is.1 blocks (leaves file blocks) (0 ∷ tree_blocks file blocks) (subst (λ (ps : List Path). AreGroupsOf blocks ps groups) (are_leaves told) are) (marked told)),
+)
+data_marked_refused before now tells file blocks free_head flags found groups Memory are_leaves marked are is = tt
+
+-- a block without a role
+no_role_of : (format : Format) (file : List ℕ) (numbers : HeaderNumbers) (free : List ℕ) (end block : ℕ) → IsChain file numbers.blocks numbers.free free end
+    → block < numbers.blocks → times (roles file numbers.blocks free) block ≡ 0 → IsTreeDefect format file numbers (record { kind = NoRole; block = block; id = 0 })
+no_role_of format file numbers free end block is_free low none = (record { free = free; end = end; is_free = is_free; inside = low; none = none }, refl)
+
+pub no_role : (file : List ℕ) (blocks free_head : ℕ) (free : List ℕ) (end block : ℕ) → IsChain file blocks free_head free end → block < blocks → times (roles file blocks free) block ≡ 0
+    → IsRoleDefect file blocks free_head (record { kind = NoRole; block = block; id = 0 })
+no_role file blocks free_head free end block is_free low none format numbers same same_free =
+    no_role_of format file numbers free end block
+    (subst (λ (b : ℕ). IsChain file b numbers.free free end) (sym same) (subst (λ (h : ℕ). IsChain file blocks h free end) (sym same_free) is_free))
+    (subst (λ (b : ℕ). block < b) (sym same) low)
+    (subst (λ (b : ℕ). times (roles file b free) block ≡ 0) (sym same) none)
+
+-- each block has one role
+pub one_role : (file : List ℕ) (blocks free_head : ℕ) (free : List ℕ) (flags : List Bool) → AreTreeBlocksWhole file blocks → IsChain file blocks free_head free 0
+    → AreFlagsOf blocks flags (roles file blocks free) → ((n : ℕ) → n < blocks → StandsIn (roles file blocks free) n) → OneRole file blocks free_head
+one_role file blocks free_head free flags whole is_free are each = record {
+  references = whole.references;
+  free = free;
+  is_free = is_free;
+  once = λ block. elim (cases_lt block blocks) [
+    | inl low ↦ omega (arith, each block low, are.distinct block, ap {B = ℕ} (λ (b : Bool). if b then 1 else 0) (lt-ltb block blocks low))
+    | inr high ↦ elim (cases_lt 0 (times (roles file blocks free) block)) [
+      | inl some ↦ absurd (omega (arith, are.inside block some, high))
+      | inr none ↦ omega (arith, none, ap {B = ℕ} (λ (b : Bool). if b then 1 else 0) (le-ltb block blocks high))
+    ]
+  ];
+}
+
+pub one_role-free : (file : List ℕ) (blocks free_head : ℕ) (free : List ℕ) (flags : List Bool) (whole : AreTreeBlocksWhole file blocks) (is_free : IsChain file blocks free_head free 0)
+    (are : AreFlagsOf blocks flags (roles file blocks free)) (each : (n : ℕ) → n < blocks → StandsIn (roles file blocks free) n)
+    → length (one_role file blocks free_head free flags whole is_free are each).free ≡ length free
+unfolding one_role
+one_role-free file blocks free_head free flags whole is_free are each = refl
+
+-- the root is no block below it
+pub none_empty : (file : List ℕ) (blocks : ℕ) (free : List ℕ) (flags : List Bool) → AreTreeBlocksWhole file blocks → AreFlagsOf blocks flags (roles file blocks free) → HasNoEmptyBlock file blocks
+none_empty file blocks free flags whole are block lower =
+    let not_root : block ≢ 1 = λ e.
+    let again : StandsIn (lower_blocks file blocks) 1 = subst (λ (b : ℕ). StandsIn (lower_blocks file blocks) b) e lower in
+    omega (
+      arith,
+      again,
+      are.distinct 1,
+      times-append ((0 ∷ tree_blocks file blocks) ++ data_blocks file blocks) free 1,
+      times-append (0 ∷ tree_blocks file blocks) (data_blocks file blocks) 1,
+      times-cons-other 0 (tree_blocks file blocks) 1 (λ z. omega (arith, z)),
+      times-cons-same 1 (lower_blocks file blocks),
+    ) in
+    whole.not_empty block lower not_root
+
+-- how many blocks there are groups of
+pub length_groups : (blocks : ℕ) (found : List Path) (groups : List (List ℕ)) → AreGroupsOf blocks found groups → length groups ≡ blocks
+length_groups blocks found groups are = ap length are ∙ length-map-range_with_len (ids_at found) 0 blocks
+
+-- the groups, by the lists that a call was given and has answered
+pub groups_are : (blocks : ℕ) (found given : List Path) (groups : List (List ℕ)) → given ≡ found → AreWithin blocks (2 ^ 32) found
+    → ((bound : ℕ) → AreWithin blocks bound given → AreGroupsOf blocks given groups) → AreGroupsOf blocks found groups
+groups_are blocks found given groups same within are =
+    subst (λ (ps : List Path). AreGroupsOf blocks ps groups) same (are (2 ^ 32) (subst (λ (ps : List Path). AreWithin blocks (2 ^ 32) ps) (sym same) within))
+
+-- the blocks that have a role, once the data blocks are marked
+pub data_marked : (file : List ℕ) (blocks : ℕ) (flags now : List Bool) (found : List Path) (groups : List (List ℕ)) → found ≡ leaves file blocks
+    → AreFlagsOf blocks flags (0 ∷ tree_blocks file blocks) → AreGroupsOf blocks found groups
+    → ((all : ℕ) (leaves : List Path) (numbers : List ℕ) → AreGroupsOf all leaves groups → AreFlagsOf all flags numbers → AreFlagsOf all now (numbers ++ named_blocks all leaves))
+    → AreFlagsOf blocks now ((0 ∷ tree_blocks file blocks) ++ data_blocks file blocks)
+data_marked file blocks flags now found groups are_leaves marked are more =
+    more blocks (leaves file blocks) (0 ∷ tree_blocks file blocks) (subst (λ (ps : List Path). AreGroupsOf blocks ps groups) are_leaves are) marked
+
+-- what follows of the blocks of a list once they are marked, or are not
+pub links_marked : (R : ℕ → List ℕ → Type 0) (blocks : ℕ) (flags : List Bool) (numbers : List ℕ) (links given : List Link) → given ≡ links
+    → ((n : ℕ) → StandsIn (linked_blocks links) n → IsTrue (leads blocks n)) → AreFlagsOf blocks flags numbers
+    → ((all : ℕ) (ns : List ℕ) → AreFlagsOf all flags ns → ((n : ℕ) → StandsIn (linked_blocks given) n → n < all) → R all (ns ++ linked_blocks given))
+    → R blocks (numbers ++ linked_blocks links)
+links_marked R blocks flags numbers links given same inside are marks =
+    subst (λ (ls : List Link). R blocks (numbers ++ linked_blocks ls)) same
+    (marks blocks numbers are (λ n stands. (leads_within blocks n (inside n (subst (λ (ls : List Link). StandsIn (linked_blocks ls) n) same stands))).1))

@@ -1,0 +1,38 @@
+-- The entries of a data block. Source: the kernel's `fs/quota/quota_tree.c` (entries fill a data block behind its
+-- header of 16 bytes; one of zeros is unused).
+use Rattle.std.specs.Prelude.{ℕ, ◌+◌, ◌*◌, Bool, if◌then◌else◌, List, map, take, drop, Option, Some, None}
+use Rattle.std.specs.List.{filter_map, list_any, range_with_len}
+use Rattle.quota_types.specs.Kept.{without_marker}
+use Rattle.quota_types.specs.declared.file_kind.Format.{Format}
+use Rattle.quota_types.specs.declared.file_kind.Format.TheVariants.{V1, V2R0, V2R1}
+use Rattle.quota_types.specs.declared.record.Entry.{Entry}
+use Rattle.quota_types.specs.declared.record.Rec.{Rec}
+use Rattle.entry_codec.specs.Entry.{entries_per_block, entry_size, is_unused, stored_id, stored_v2r0, stored_v2r1}
+
+-- the bytes of an entry of a block, by its place among the entries
+abbrev pub entry_bytes : Format → List ℕ → ℕ → List ℕ
+entry_bytes format block place = take (entry_size format) (drop (16 + entry_size format * place) block)
+
+-- the record of an entry, as it is stored; a flat file has no entries
+abbrev pub stored_record : Format → List ℕ → Rec
+stored_record V1 bytes = stored_v2r0 bytes
+stored_record V2R0 bytes = stored_v2r0 bytes
+stored_record V2R1 bytes = stored_v2r1 bytes
+
+-- the identifier and the record of an entry, or none where it is unused
+abbrev pub entry_of : Format → List ℕ → Option Entry
+entry_of format bytes =
+    if is_unused bytes then None
+    else Some (record { id = stored_id bytes; rec = without_marker (stored_id bytes) (stored_record format bytes) })
+
+-- the entries of a block that are used, in order
+unfoldable pub used_entries : Format → List ℕ → List Entry
+used_entries format block = filter_map (λ place. entry_of format (entry_bytes format block place)) (range_with_len 0 (entries_per_block format))
+
+-- the identifiers of the entries of a block that are used, in order
+abbrev pub used_ids : Format → List ℕ → List ℕ
+used_ids format block = map (λ entry. entry.id) (used_entries format block)
+
+-- some entry of a block is unused
+unfoldable pub has_unused : Format → List ℕ → Bool
+has_unused format block = list_any (λ place. is_unused (entry_bytes format block place)) (range_with_len 0 (entries_per_block format))

@@ -1,0 +1,57 @@
+ghost use Rattle.std.specs.Prelude.{◌≡◌};
+ghost use Rattle.tree_file.specs.declared.checked.CheckFault.TheVariants.{Store as StoreFailed, Damage as Damaged, Memory};
+
+use quota_blocks::StoreFault;
+use quota_types::{Damage, DamageKind};
+use std::alloc::AllocError;
+
+/// What a check of a tree file found.
+#[derive(Clone, Copy, Debug, PartialEq, Eq)]
+pub struct Checked {
+    /// How many records there are.
+    pub used: u64,
+    /// How many blocks are free.
+    pub free: u32,
+}
+
+/// Why a tree file could not be checked, or what is wrong with it.
+#[derive(Clone, Copy, Debug, PartialEq, Eq)]
+pub enum CheckFault {
+    /// The store failed.
+    Store,
+    /// The file is damaged.
+    Damage(Damage),
+    /// There was not enough memory.
+    Memory,
+}
+
+impl From<StoreFault> for CheckFault {
+    ghost from_gives = { λ _ fault. fault ≡ StoreFailed };
+
+    fn from(_: StoreFault) -> Self {
+        CheckFault::Store
+    }
+}
+
+impl From<AllocError> for CheckFault {
+    ghost from_gives = { λ _ fault. fault ≡ Memory };
+
+    fn from(_: AllocError) -> Self {
+        CheckFault::Memory
+    }
+}
+
+impl From<Damage> for CheckFault {
+    ghost from_gives = { λ damage fault. fault ≡ Damaged damage };
+
+    fn from(damage: Damage) -> Self {
+        CheckFault::Damage(damage)
+    }
+}
+
+/// The damage of a block, of a kind that names no identifier.
+pub(crate) fn damage_at(kind: DamageKind, block: u32) -> Damage
+    ensures { result ≡ record { kind = kind; block = block; id = 0 } }
+{
+    Damage { kind, block, id: 0 }
+}

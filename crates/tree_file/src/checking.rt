@@ -1,0 +1,78 @@
+ghost use Rattle.std.specs.Prelude.{◌≡◌, ◌≢◌, ◌+◌, ◌*◌, ◌<◌, ◌≤◌, length, IsTrue, IfOk, IfErr, OnOk};
+ghost use Rattle.entry_codec.specs.Header.{AreOf, header_of};
+ghost use Rattle.quota_types.specs.declared.damage.Damage.{Damage};
+ghost use Rattle.quota_types.specs.declared.file_kind.Format.TheVariants.{V1};
+ghost use Rattle.quota_blocks.specs.Count.{Rose};
+ghost use Rattle.quota_blocks.specs.QuotaValue.{QuotaValue};
+ghost use Rattle.tree_file.specs.declared.checked.CheckFault.TheVariants.{Damage as Damaged};
+ghost use Rattle.tree_file.specs.Check.{IsChecked, IsCheckFault, bytes_of};
+ghost use Rattle.tree_file.specs.Defect.{IsTreeDefect};
+ghost use Rattle.tree_file.specs.Found.{IsLengthDefect};
+ghost use Rattle.tree_file.specs.TreeFile.{TreeStandsFor};
+
+use crate::checked::{CheckFault, Checked, damage_at};
+use crate::lists::check_lists;
+use crate::roles::check_roles;
+use entry_codec::Header;
+use quota_blocks::Store;
+use quota_types::DamageKind;
+use std::alloc::Global;
+
+/// Checks a tree file whose header is this one, and tells how many records it has and how many blocks are free.
+///
+/// It succeeds exactly where the file stands for a map, and a damage that it answers is one of the file. It takes time
+/// and memory in proportion to the blocks and the identifiers, and makes at most two reads for each block of the file.
+///
+/// # Errors
+///
+/// `Store` where the store failed, `Damage` where the file is damaged, and `Memory` where there was not enough memory.
+pub fn check<S: Store>(
+    alloc: Global,
+    store: &mut S,
+    name: &str,
+    header: &Header,
+) -> Result<Checked, CheckFault>
+    requires tree { header.now.format ≢ V1 }
+    requires two { 2 ≤ header.now.blocks }
+    ensures checked { IfOk result (λ checked. IsTrue (S.tells store.old) → AreOf header.now (header_of (bytes_of (S.files store.old name.now)))
+        → IsChecked (bytes_of (S.files store.old name.now)) checked) }
+    ensures refused { IfErr result (IsCheckFault (S.faults store.old) (S.faults store.new) (λ damage. IsTrue (S.tells store.old)
+        → AreOf header.now (header_of (bytes_of (S.files store.old name.now)))
+        → IsTreeDefect header.now.format (bytes_of (S.files store.old name.now)) (header_of (bytes_of (S.files store.old name.now))) damage)) }
+    ensures only_damaged { IfErr result (λ fault. (damage : Damage) → fault ≡ Damaged damage → IsTrue (S.tells store.old)
+        → AreOf header.now (header_of (bytes_of (S.files store.old name.now)))
+        → (value : QuotaValue) → ¬ TreeStandsFor (bytes_of (S.files store.old name.now)) value) }
+    ensures later { S.faults store.old ≤ S.faults store.new }
+    ensures reads { S.reads store.new ≤ S.reads store.old + 2 * header.now.blocks }
+    ensures writes { S.writes store.new ≡ S.writes store.old }
+    ensures same_files { S.files store.new ≡ S.files store.old }
+    ensures same_telling { S.tells store.new ≡ S.tells store.old }
+{
+    check_length(store, name, header.blocks)?;
+    let roles = check_roles(alloc, store, name, header.blocks, header.free)?;
+    let groups = roles.groups.as_slice();
+    check_lists(alloc, store, name, header, groups)?;
+    Ok(Checked {
+        used: roles.used,
+        free: roles.free,
+    })
+}
+
+/// Checks that a file of more blocks than header and root is as long as they.
+fn check_length<S: Store>(store: &mut S, name: &str, blocks: u32) -> Result<(), CheckFault>
+    ensures long { OnOk result (IsTrue (S.tells store.old) → 2 < blocks
+        → 1024 * blocks ≤ length (bytes_of (S.files store.old name.now))) }
+    ensures refused { IfErr result (IsCheckFault (S.faults store.old) (S.faults store.new) (λ damage. IsTrue (S.tells store.old)
+        → IsLengthDefect (bytes_of (S.files store.old name.now)) blocks damage)) }
+    ensures later { S.faults store.old ≤ S.faults store.new }
+    ensures reads { S.reads store.new ≡ S.reads store.old }
+    ensures writes { S.writes store.new ≡ S.writes store.old }
+    ensures same_files { S.files store.new ≡ S.files store.old }
+    ensures same_telling { S.tells store.new ≡ S.tells store.old }
+{
+    let size = store.size(name)?.unwrap_or(0);
+    if blocks > 2 && size < 1024 * u64::from(blocks) {
+        return Err(CheckFault::Damage(damage_at(DamageKind::Short, (size / 1024) as u32)));
+    }
+    Ok(())
+}

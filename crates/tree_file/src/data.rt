@@ -1,0 +1,178 @@
+ghost use Rattle.std.specs.Prelude.{◌≡◌, ◌≢◌, ℕ, List, ◌+◌, ◌<◌, ◌≤◌, ◌++◌, ◌∷◌, [], ◌&&◌, nat_le, if◌then◌else◌, map, take, length, IsTrue, IfOk, OnOk, IfErr, MatchOption};
+ghost use Rattle.tree_file.specs.Block.{block_of, stated_count};
+ghost use Rattle.tree_file.specs.BlockSet.{AreFlagsOf};
+ghost use Rattle.tree_file.specs.Check.{IsCheckFault, bytes_of};
+ghost use Rattle.tree_file.specs.Compared.{AreEntriesOf, HasEntriesOf, IsDataDefect, IsEntryDefectAt, ids_of, rooms};
+ghost use Rattle.tree_file.specs.Count.{StandsIn, times};
+ghost use Rattle.tree_file.specs.Defect.{NamesItsId};
+ghost use Rattle.tree_file.specs.Entries.{has_unused, used_ids};
+ghost use Rattle.tree_file.specs.Reads.{led_blocks};
+ghost use Rattle.tree_file.specs.Walk.{AreListed, IsListDefect, IsWalk, NamesOther, linked_blocks, previous_in};
+
+use crate::block::read_block;
+use crate::block_set::BlockSet;
+use crate::chain::Walk;
+use crate::checked::{CheckFault, damage_at};
+use crate::entries::compare_entries;
+use crate::link::Link;
+use quota_blocks::Store;
+use quota_types::{Damage, DamageKind, Format};
+use std::alloc::Global;
+
+/// Checks the entries of a data block against the identifiers that lead to it, and answers whether it has room.
+fn check_block<S: Store>(
+    store: &mut S,
+    name: &str,
+    format: Format,
+    number: u32,
+    ids: &[u32],
+) -> Result<bool, CheckFault>
+    requires tree { format ≢ Format.V1 }
+    ensures entries { OnOk result (IsTrue (S.tells store.old)
+        → AreEntriesOf (stated_count (bytes_of (S.files store.old name.now)) number)
+        (used_ids format (block_of (bytes_of (S.files store.old name.now)) number)) ids.now) }
+    ensures room { IfOk result (λ has_room. IsTrue (S.tells store.old)
+        → has_room ≡ has_unused format (block_of (bytes_of (S.files store.old name.now)) number)) }
+    ensures refused { IfErr result (IsCheckFault (S.faults store.old) (S.faults store.new) (λ damage. IsTrue (S.tells store.old)
+        → IsEntryDefectAt number (stated_count (bytes_of (S.files store.old name.now)) number)
+        (used_ids format (block_of (bytes_of (S.files store.old name.now)) number)) ids.now damage)) }
+    ensures later { S.faults store.old ≤ S.faults store.new }
+    ensures reads { S.reads store.new ≤ S.reads store.old + 1 }
+    ensures writes { S.writes store.new ≡ S.writes store.old }
+    ensures same_files { S.files store.new ≡ S.files store.old }
+    ensures same_telling { S.tells store.new ≡ S.tells store.old }
+{
+    let mut block = [0; 1024];
+    read_block(store, name, number, &mut block)?;
+    Ok(compare_entries(format, number, &block, ids)?)
+}
+
+/// Checks the data blocks, which are those to which identifiers lead, and answers those that have room.
+pub(crate) fn check_data<S: Store>(
+    alloc: Global,
+    store: &mut S,
+    name: &str,
+    format: Format,
+    blocks: u32,
+    groups: &[Vec<u32>],
+) -> Result<BlockSet, CheckFault>
+    requires tree { format ≢ Format.V1 }
+    requires groups { length groups.now ≡ blocks }
+    ensures entries { OnOk result (IsTrue (S.tells store.old) → (block : ℕ) → block < blocks
+        → HasEntriesOf format (bytes_of (S.files store.old name.now)) block (ids_of (map (λ ids. ids.items) groups.now) block)) }
+    ensures room { IfOk result (λ room. IsTrue (S.tells store.old)
+        → AreFlagsOf blocks room.flags.items (rooms format (bytes_of (S.files store.old name.now)) (map (λ ids. ids.items) groups.now) blocks)) }
+    ensures refused { IfErr result (IsCheckFault (S.faults store.old) (S.faults store.new) (λ damage. IsTrue (S.tells store.old)
+        → IsDataDefect format (bytes_of (S.files store.old name.now)) (ids_of (map (λ ids. ids.items) groups.now) damage.block) damage.block damage)) }
+    ensures later { S.faults store.old ≤ S.faults store.new }
+    ensures reads { S.reads store.new ≤ S.reads store.old + led_blocks (map (λ ids. ids.items) groups.now) }
+    ensures writes { S.writes store.new ≡ S.writes store.old }
+    ensures same_files { S.files store.new ≡ S.files store.old }
+    ensures same_telling { S.tells store.new ≡ S.tells store.old }
+{
+    let mut room = BlockSet::new(alloc, blocks)?;
+    for (block, ids) in groups.iter().enumerate() {
+        let number = block as u32;
+        check_group(store, name, format, number, ids.as_slice(), &mut room)?;
+    }
+    Ok(room)
+}
+
+/// Checks a block against the identifiers that lead to it, where there are some, and adds it to those that have room
+/// where it has room.
+fn check_group<S: Store>(
+    store: &mut S,
+    name: &str,
+    format: Format,
+    number: u32,
+    ids: &[u32],
+    room: &mut BlockSet,
+) -> Result<(), CheckFault>
+    requires tree { format ≢ Format.V1 }
+    ensures entries { OnOk result (IsTrue (S.tells store.old) → HasEntriesOf format (bytes_of (S.files store.old name.now)) number ids.now) }
+    ensures room { OnOk result (IsTrue (S.tells store.old) → (blocks : ℕ) → (numbers : List ℕ) → AreFlagsOf blocks room.old.flags.items numbers
+        → number < blocks → times numbers number ≡ 0
+        → AreFlagsOf blocks room.new.flags.items (numbers ++ (if nat_le 1 (length ids.now)
+        && has_unused format (block_of (bytes_of (S.files store.old name.now)) number) then number ∷ [] else []))) }
+    ensures refused { IfErr result (IsCheckFault (S.faults store.old) (S.faults store.new) (λ damage. IsTrue (S.tells store.old)
+        → IsDataDefect format (bytes_of (S.files store.old name.now)) ids.now number damage)) }
+    ensures later { S.faults store.old ≤ S.faults store.new }
+    ensures reads { S.reads store.new ≤ S.reads store.old + (if nat_le 1 (length ids.now) then 1 else 0) }
+    ensures writes { S.writes store.new ≡ S.writes store.old }
+    ensures same_files { S.files store.new ≡ S.files store.old }
+    ensures same_telling { S.tells store.new ≡ S.tells store.old }
+{
+    if ids.is_empty() {
+        return Ok(());
+    }
+    if check_block(store, name, format, number, ids)? {
+        room.insert(number);
+    }
+    Ok(())
+}
+
+/// The first block of a list that a set does not have.
+fn first_foreign(links: &[Link], room: &BlockSet) -> Option<u32>
+    ensures { (blocks : ℕ) → (numbers : List ℕ) → AreFlagsOf blocks room.now.flags.items numbers
+        → ((number : ℕ) → StandsIn (linked_blocks links.now) number → number < blocks)
+        → MatchOption result ((number : ℕ) → StandsIn (linked_blocks links.now) number → StandsIn numbers number)
+        (λ block. StandsIn (linked_blocks links.now) block × (times numbers block ≡ 0)) }
+{
+    for link in links {
+        if !room.contains(link.block) {
+            return Some(link.block);
+        }
+    }
+    None
+}
+
+/// The first block of a list that does not name the block before it, or 0 where it is the first.
+fn first_bad_previous(links: &[Link]) -> Option<u32>
+    ensures { MatchOption result
+        (previous_in links.now ≡ take (length (linked_blocks links.now)) (0 ∷ linked_blocks links.now))
+        (NamesOther (linked_blocks links.now) (previous_in links.now)) }
+{
+    let mut before = 0;
+    for link in links {
+        if link.previous != before {
+            return Some(link.block);
+        }
+        before = link.block;
+    }
+    None
+}
+
+/// The first block of so many that one set has, and another one has not.
+fn first_missing(room: &BlockSet, met: &BlockSet, blocks: u32) -> Option<u32>
+    ensures { (numbers others : List ℕ) → AreFlagsOf blocks room.now.flags.items numbers
+        → AreFlagsOf blocks met.now.flags.items others
+        → MatchOption result ((number : ℕ) → number < blocks → StandsIn numbers number → StandsIn others number)
+        (λ block. StandsIn numbers block × (times others block ≡ 0)) }
+{
+    for block in 0..blocks {
+        if room.contains(block) && !met.contains(block) {
+            return Some(block);
+        }
+    }
+    None
+}
+
+/// Checks that the entry list has the data blocks with room and no other, each with its previous field.
+pub(crate) fn check_listed(walk: &Walk, room: &BlockSet, blocks: u32) -> Result<(), Damage>
+    ensures listed { OnOk result ((numbers : List ℕ) → IsWalk blocks walk.now → AreFlagsOf blocks room.now.flags.items numbers
+        → AreListed numbers (linked_blocks walk.now.links.items) (previous_in walk.now.links.items)) }
+    ensures refused { IfErr result (λ damage. (numbers : List ℕ) → IsWalk blocks walk.now → AreFlagsOf blocks room.now.flags.items numbers
+        → IsListDefect numbers (linked_blocks walk.now.links.items) (previous_in walk.now.links.items) damage) }
+    ensures names_id { IfErr result (λ damage. NamesItsId damage.kind damage.id) }
+{
+    if let Some(block) = first_foreign(walk.links.as_slice(), room) {
+        return Err(damage_at(DamageKind::ForeignInChain, block));
+    }
+    if let Some(block) = first_bad_previous(walk.links.as_slice()) {
+        return Err(damage_at(DamageKind::BadPrev, block));
+    }
+    if let Some(block) = first_missing(room, &walk.met, blocks) {
+        return Err(damage_at(DamageKind::MissingInChain, block));
+    }
+    Ok(())
+}

@@ -1,0 +1,102 @@
+ghost use Rattle.std.specs.Prelude.{◌≡◌, ◌<◌, ◌≤◌, ◌+◌, ◌*◌, ◌==◌, if◌then◌else◌, ◌^◌, ◌++◌, ◌∷◌, [], ℕ, List, length, All, IsTrue, OnOk, IfOk, IfErr};
+ghost use Rattle.std.specs.List.{flat_map};
+ghost use Rattle.tree_file.specs.declared.path.Path.{Path};
+ghost use Rattle.tree_file.specs.Block.{block_of};
+ghost use Rattle.tree_file.specs.Check.{IsCheckFault, bytes_of};
+ghost use Rattle.tree_file.specs.Levels.{AreWithin, IsLevelDefect, IsStepFault, IsWhole, blocks_of};
+ghost use Rattle.tree_file.specs.Tree.{steps};
+
+use crate::block::read_block;
+use crate::{CheckFault, Path};
+use quota_blocks::Store;
+use quota_radix::level_ref;
+use quota_types::{Damage, DamageKind};
+use std::alloc::{AllocError, Global};
+
+/// The block of the root.
+pub(crate) const ROOT: u32 = 1;
+
+/// Finds the paths that go on from those of a level, in order.
+pub(crate) fn next_level<S: Store>(
+    alloc: Global,
+    store: &mut S,
+    name: &str,
+    blocks: u32,
+    level: &[Path],
+) -> Result<Vec<Path>, CheckFault>
+    requires small { AreWithin blocks (2 ^ 24) level.now }
+    ensures next { IfOk result (λ next. IsTrue (S.tells store.old)
+        → next.items ≡ flat_map (steps (bytes_of (S.files store.old name.now)) blocks) level.now) }
+    ensures whole { OnOk result (IsTrue (S.tells store.old)
+        → All (λ path. IsWhole (bytes_of (S.files store.old name.now)) blocks path.block) level.now) }
+    ensures within { IfOk result (λ next. (bound : ℕ) → AreWithin blocks bound level.now → AreWithin blocks (256 * bound) next.items) }
+    ensures refused { IfErr result (IsCheckFault (S.faults store.old) (S.faults store.new) (λ damage. IsTrue (S.tells store.old)
+        → IsLevelDefect (bytes_of (S.files store.old name.now)) blocks (blocks_of level.now) damage)) }
+    ensures later { S.faults store.old ≤ S.faults store.new }
+    ensures reads { S.reads store.new ≤ S.reads store.old + length level.now }
+    ensures writes { S.writes store.new ≡ S.writes store.old }
+    ensures same_files { S.files store.new ≡ S.files store.old }
+    ensures same_telling { S.tells store.new ≡ S.tells store.old }
+{
+    let mut next = Vec::new(alloc);
+    let mut block = [0u8; 1024];
+    for path in level {
+        read_block(store, name, path.block, &mut block)?;
+        add_steps(&mut next, blocks, *path, &block)?;
+    }
+    Ok(next)
+}
+
+/// Appends the paths that go on from `path`, whose block has these bytes, by each of its references.
+fn add_steps(
+    next: &mut Vec<Path>,
+    blocks: u32,
+    path: Path,
+    block: &[u8; 1024],
+) -> Result<(), CheckFault>
+    requires small { path.number < 2 ^ 24 }
+    ensures added { OnOk result ((file : List ℕ) → block.now ≡ block_of file path.block
+        → next.new.items ≡ next.old.items ++ steps file blocks path) }
+    ensures whole { OnOk result ((file : List ℕ) → block.now ≡ block_of file path.block → IsWhole file blocks path.block) }
+    ensures within { OnOk result ((bound : ℕ) → path.number < bound
+        → AreWithin blocks (256 * bound) next.old.items → AreWithin blocks (256 * bound) next.new.items) }
+    ensures refused { IfErr result (IsStepFault (λ damage. (file : List ℕ) → block.now ≡ block_of file path.block
+        → IsLevelDefect file blocks (path.block ∷ []) damage)) }
+{
+    let before = next.len();
+    for digit in 0..256u32 {
+        let reference = level_ref(block, digit as u8);
+        if reference >= blocks {
+            return Err(CheckFault::Damage(Damage {
+                kind: DamageKind::RefOut,
+                block: path.block,
+                id: 0,
+            }));
+        }
+        push_step(next, path, digit, reference)?;
+    }
+    if next.len() == before && path.block != ROOT {
+        return Err(CheckFault::Damage(Damage {
+            kind: DamageKind::EmptyTree,
+            block: path.block,
+            id: 0,
+        }));
+    }
+    Ok(())
+}
+
+/// Appends the path that goes on from `path` by a digit, where the reference there is one.
+fn push_step(next: &mut Vec<Path>, path: Path, digit: u32, reference: u32) -> Result<(), AllocError>
+    requires small { path.number < 2 ^ 24 }
+    requires is_digit { digit < 256 }
+    ensures { OnOk result (next.new.items ≡ next.old.items ++ (if reference == 0 then []
+        else record { number = 256 * path.number + digit; block = reference } ∷ [])) }
+{
+    if reference != 0 {
+        next.push(Path {
+            number: 256 * path.number + digit,
+            block: reference,
+        })?;
+    }
+    Ok(())
+}

@@ -1,0 +1,29 @@
+//! Tree quota files, vfsv0 and vfsv1: blocks of 1,024 bytes in a tree by which each identifier's entry is found.
+//!
+//! The one promise: a file that is checked stands for a map from identifiers to records, with every block in one role;
+//! and what is said to be wrong with a file is wrong with it.
+#![tactic(auto)]
+
+mod block;
+mod block_set;
+mod chain;
+mod checked;
+mod checking;
+mod data;
+mod entries;
+mod groups;
+pub mod laws;
+mod levels;
+mod link;
+mod lists;
+mod path;
+#[cfg(test)]
+mod plain;
+mod roles;
+#[cfg(test)]
+mod tests;
+mod tree;
+
+pub use checked::{CheckFault, Checked};
+pub use checking::check;
+pub use path::Path;

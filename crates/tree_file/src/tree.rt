@@ -1,0 +1,104 @@
+ghost use Rattle.std.specs.Prelude.{◌≡◌, ◌≤◌, ◌+◌, ◌*◌, ◌^◌, ◌⊎◌, ◌++◌, ℕ, List, length, All, IsTrue, OnOk, IfOk, IfErr};
+ghost use Rattle.std.specs.List.{flat_map};
+ghost use Rattle.tree_file.specs.BlockSet.{AreFlagsOf};
+ghost use Rattle.tree_file.specs.Check.{IsCheckFault, bytes_of};
+ghost use Rattle.tree_file.specs.Levels.{AreTreeBlocksWhole, AreWithin, IsLevelDefect, IsSecondRole, IsStepFault, IsTreeFault, IsWhole, blocks_of};
+ghost use Rattle.tree_file.specs.Reads.{AreMarkedReads};
+ghost use Rattle.tree_file.specs.Tree.{leaves, steps, tree_blocks};
+
+use crate::block_set::BlockSet;
+use crate::levels::{ROOT, next_level};
+use crate::{CheckFault, Path};
+use quota_blocks::Store;
+use quota_types::{Damage, DamageKind};
+use std::alloc::Global;
+
+/// Finds the leaves of a file's tree, in order, and adds the blocks of the tree to those that were met.
+pub(crate) fn find_leaves<S: Store>(
+    alloc: Global,
+    store: &mut S,
+    name: &str,
+    blocks: u32,
+    met: &mut BlockSet,
+) -> Result<Vec<Path>, CheckFault>
+    requires two { 2 ≤ blocks }
+    ensures leaves { IfOk result (λ found. IsTrue (S.tells store.old)
+        → found.items ≡ leaves (bytes_of (S.files store.old name.now)) blocks) }
+    ensures marked { OnOk result (IsTrue (S.tells store.old) → (numbers : List ℕ) → AreFlagsOf blocks met.old.flags.items numbers
+        → AreFlagsOf blocks met.new.flags.items (numbers ++ tree_blocks (bytes_of (S.files store.old name.now)) blocks)) }
+    ensures whole { OnOk result (IsTrue (S.tells store.old)
+        → AreTreeBlocksWhole (bytes_of (S.files store.old name.now)) blocks) }
+    ensures within { IfOk result (λ found. AreWithin blocks (2 ^ 32) found.items) }
+    ensures refused { IfErr result (IsCheckFault (S.faults store.old) (S.faults store.new) (λ damage. IsTrue (S.tells store.old)
+        → (numbers : List ℕ) → AreFlagsOf blocks met.old.flags.items numbers
+        → IsTreeFault (bytes_of (S.files store.old name.now)) blocks numbers damage)) }
+    ensures later { S.faults store.old ≤ S.faults store.new }
+    ensures reads { OnOk result ((numbers : List ℕ) → AreFlagsOf blocks met.old.flags.items numbers
+        → AreMarkedReads blocks met.new.flags.items numbers (S.reads store.old) (S.reads store.new)) }
+    ensures few_reads { (numbers : List ℕ) → AreFlagsOf blocks met.old.flags.items numbers
+        → S.reads store.new + length numbers ≤ S.reads store.old + blocks }
+    ensures writes { S.writes store.new ≡ S.writes store.old }
+    ensures same_files { S.files store.new ≡ S.files store.old }
+    ensures same_telling { S.tells store.new ≡ S.tells store.old }
+{
+    let root = [Path {
+        number: 0,
+        block: ROOT,
+    }];
+    let second = go_down(alloc, store, name, blocks, met, &root)?;
+    let third = go_down(alloc, store, name, blocks, met, &second)?;
+    let fourth = go_down(alloc, store, name, blocks, met, &third)?;
+    go_down(alloc, store, name, blocks, met, &fourth)
+}
+
+/// Adds the blocks of a level to those that were met, and finds the paths that go on from it.
+fn go_down<S: Store>(
+    alloc: Global,
+    store: &mut S,
+    name: &str,
+    blocks: u32,
+    met: &mut BlockSet,
+    level: &[Path],
+) -> Result<Vec<Path>, CheckFault>
+    requires small { AreWithin blocks (2 ^ 24) level.now }
+    ensures next { IfOk result (λ next. IsTrue (S.tells store.old)
+        → next.items ≡ flat_map (steps (bytes_of (S.files store.old name.now)) blocks) level.now) }
+    ensures marked { OnOk result ((numbers : List ℕ) → AreFlagsOf blocks met.old.flags.items numbers
+        → AreFlagsOf blocks met.new.flags.items (numbers ++ blocks_of level.now)) }
+    ensures whole { OnOk result (IsTrue (S.tells store.old)
+        → All (λ path. IsWhole (bytes_of (S.files store.old name.now)) blocks path.block) level.now) }
+    ensures within { IfOk result (λ next. (bound : ℕ) → AreWithin blocks bound level.now → AreWithin blocks (256 * bound) next.items) }
+    ensures refused { IfErr result (IsCheckFault (S.faults store.old) (S.faults store.new) (λ damage. IsTrue (S.tells store.old)
+        → (numbers : List ℕ) → AreFlagsOf blocks met.old.flags.items numbers
+        → (IsSecondRole (numbers ++ blocks_of level.now) damage
+        ⊎ IsLevelDefect (bytes_of (S.files store.old name.now)) blocks (blocks_of level.now) damage))) }
+    ensures later { S.faults store.old ≤ S.faults store.new }
+    ensures reads { S.reads store.new ≤ S.reads store.old + length level.now }
+    ensures few_reads { (numbers : List ℕ) → AreFlagsOf blocks met.old.flags.items numbers
+        → S.reads store.new + length numbers ≤ S.reads store.old + blocks }
+    ensures writes { S.writes store.new ≡ S.writes store.old }
+    ensures same_files { S.files store.new ≡ S.files store.old }
+    ensures same_telling { S.tells store.new ≡ S.tells store.old }
+{
+    mark_all(met, level)?;
+    next_level(alloc, store, name, blocks, level)
+}
+
+/// Adds the block of each path to those that were met.
+fn mark_all(met: &mut BlockSet, paths: &[Path]) -> Result<(), CheckFault>
+    ensures marked { OnOk result ((blocks bound : ℕ) → (numbers : List ℕ) → AreFlagsOf blocks met.old.flags.items numbers
+        → AreWithin blocks bound paths.now → AreFlagsOf blocks met.new.flags.items (numbers ++ blocks_of paths.now)) }
+    ensures refused { IfErr result (IsStepFault (λ damage. (blocks bound : ℕ) → (numbers : List ℕ) → AreFlagsOf blocks met.old.flags.items numbers
+        → AreWithin blocks bound paths.now → IsSecondRole (numbers ++ blocks_of paths.now) damage)) }
+{
+    for path in paths {
+        if !met.insert(path.block) {
+            return Err(CheckFault::Damage(Damage {
+                kind: DamageKind::TwoRoles,
+                block: path.block,
+                id: 0,
+            }));
+        }
+    }
+    Ok(())
+}
