@@ -92,5 +92,55 @@ same 'the line of a full output' "$(cat err.txt)" 'quota: output fault'
 "$run" repquota -F vfsold -u -v absent 2>/dev/full
 same 'the status stays where the error output is full' "$?" 1
 
+# New limits, and the report of the file after them.
+: >q
+expect 'new limits' 0 '' '' setquota -F vfsold -u 1000 100 200 10 20 q
+same 'the length of the changed file' "$(stat -c %s q)" 40040
+same 'the record of the changed file' "$(tail -c 40 q | od -An -v -tx1 | tr -d ' \n')" \
+    "c80000006400000000000000140000000a000000$(printf '%040d' 0)"
+same 'all else is 0' "$(head -c 40000 q | tr -d '\0' | wc -c)" 0
+expect 'the report after new limits' 0 "$head
+#1000        --          0        100        200      -        0       10       20      -" '' repquota -F vfsold -u -v q
+expect 'limits of 0 drop the record' 0 '' '' setquota -F vfsold -u 1000 0 0 0 0 q
+expect 'the report after that' 0 "$head" '' repquota -F vfsold -u -v q
+same 'nothing is left beside the file' "$(ls -d q q.* 2>/dev/null)" q
+
+# The record of a user with use over the soft limit gets a timer of a grace period from now.
+cp "$top/samples/quota.user" quota.user
+expect 'a limit below the use' 0 '' '' setquota -F vfsold -u 1004 1M 0 0 0 quota.user
+"$run" repquota -F vfsold -u -v quota.user >out.txt
+same 'its report' "$(grep '^#1004' out.txt)" \
+    '#1004        +-    7340032       1024          0  7days   310552        0        0      -'
+
+# The owner and the permissions stay, and a file that was left behind is no obstacle.
+: >q
+chmod 640 q
+if [ "$(id -u)" = 0 ]; then chown 12:34 q; fi
+before=$(stat -c '%a %u %g' q)
+echo junk >q.new
+chmod 400 q.new
+expect 'a file that was left behind' 0 '' '' setquota -F vfsold -u 0 1 1 1 1 q
+same 'the owner and the permissions' "$(stat -c '%a %u %g' q)" "$before"
+same 'the length of the new file' "$(stat -c %s q)" 40
+same 'what was left behind is gone' "$(ls -d q q.* 2>/dev/null)" q
+
+# Refusals leave the file as it is.
+cp q want
+expect 'a faulty limit' 1 '' 'quota: bad number 10x' setquota -F vfsold -u 1000 10x 0 0 0 q
+expect 'a name' 1 '' 'quota: unknown name carol' setquota -F vfsold -u carol 0 0 0 0 q
+expect 'an identifier without room' 1 '' 'quota: q: no room for id 1048576 of 1048576' setquota -F vfsold -u 1048576 1 1 0 0 q
+expect 'an edit of an absent file' 1 '' 'quota: r: no such file' setquota -F vfsold -u 1 1 1 0 0 r
+same 'an absent file is not made' "$(ls r* 2>/dev/null)" ''
+mkdir q.new
+expect 'a folder in place of the new file' 4 '' 'quota: store fault' setquota -F vfsold -u 1 1 1 0 0 q
+expect 'no change needs no new file' 0 '' '' setquota -F vfsold -u 1 0 0 0 0 q
+rmdir q.new
+if [ "$(id -u)" != 0 ]; then
+    chmod 555 .
+    expect 'a folder that cannot be written' 4 '' 'quota: store fault' setquota -F vfsold -u 1 1 1 0 0 q
+    chmod 755 .
+fi
+same 'a refused change leaves the file' "$(cmp q want && echo same)" same
+
 echo "real_files: $passed passed, $failed failed"
 [ "$failed" = 0 ]

@@ -1,4 +1,8 @@
 pub mod PieceLemmas
+pub mod LineLemmas
 pub mod WordLemmas
+pub mod ValueLemmas
+pub mod IdentifierLemmas
 pub mod ReasonLemmas
+pub mod LimitsLemmas
 pub mod RunLemmas

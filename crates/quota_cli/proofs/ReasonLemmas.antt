@@ -1,6 +1,7 @@
 -- Reasons for which a command is refused.
-use Rattle.std.proofs.Common.{◌≡◌, ℕ, Bool, IsTrue, List, Option, Result, Ok, Err, refl, arith}
+use Rattle.std.proofs.Common.{◌≡◌, ℕ, Bool, IsTrue, List, Option, Some, Result, Ok, Err, refl, arith}
 use Rattle.quota_types.specs.declared.file_kind.Kind.TheVariants.{User}
+use Rattle.quota_types.specs.declared.file_kind.Format.TheVariants.{V1}
 use Rattle.quota_blocks.specs.Count.{Rose}
 use Rattle.quota_blocks.specs.QuotaValue.{QuotaValue}
 use Rattle.quota_blocks.specs.declared.quota_file.OpenFault.{OpenFault}
@@ -11,15 +12,17 @@ use Rattle.quota_v1.specs.View.{IsFlatFault, IsFlatView}
 use Rattle.quota_v1.proofs.ViewLemmas.{seen_or_refused}
 use Rattle.report_text.specs.declared.fault.ReportFault.{ReportFault}
 use Rattle.report_text.specs.declared.fault.ReportFault.TheVariants.{Sink, File}
-use Rattle.report_text.specs.Fault.{IsReportFault}
+use Rattle.quota_v1.specs.Change.{MayRefuse}
+use Rattle.report_text.specs.Fault.{IfFile, IsReportFault}
 use Rattle.report_text.specs.Report.{report_of, no_names}
 use Rattle.report_text.specs.declared.options.Options.{Options}
 use Rattle.quota_cli.specs.declared.refusal.Cause.{Cause}
-use Rattle.quota_cli.specs.declared.refusal.Cause.TheVariants.{StoreFault, SinkFault, Memory as WantOfMemory, NoFile as NoSuchFile, TooLarge as FileTooLarge, NotQuota as NoQuotaFile, WrongKind as OtherKind, UnknownVersion as OtherVersion, BadBlockCount as TooFewBlocks, OtherFormat, Damaged as FileDamaged, Full as FileFull, Usage}
+use Rattle.quota_cli.specs.declared.refusal.Cause.TheVariants.{StoreFault, SinkFault, Memory as WantOfMemory, NoFile as NoSuchFile, TooLarge as FileTooLarge, NotQuota as NoQuotaFile, WrongKind as OtherKind, UnknownVersion as OtherVersion, BadBlockCount as TooFewBlocks, OtherFormat, Damaged as FileDamaged, Full as FileFull, NoRoom as Unfit, UnknownName, BadNumber, Usage}
 use Rattle.quota_cli.specs.Refusal.{status_of}
-use Rattle.quota_cli.specs.Effect.{opening_cause}
+use Rattle.quota_cli.specs.Request.{Request, Report, verbose}
+use Rattle.quota_cli.specs.Step.{opening_cause}
 use Rattle.quota_cli.specs.ReportCommand.{IsRefusedView, report_cause, report_of_view}
-use Rattle.quota_cli.specs.Run.{HasReason, MayRefuse}
+use Rattle.quota_cli.specs.Run.{HasReason, MayRefuseRequest, file_of}
 
 -- why a report was not written whole
 pub report_reason : (sink_before sink_now store_before store_now : ℕ) (holds : QuotaValue → Type 0) (fault : ReportFault) → IsReportFault sink_before sink_now store_before store_now holds fault → HasReason (Rose store_before store_now) (Rose sink_before sink_now) ((value : QuotaValue) → holds value → ⊥) (report_cause fault)
@@ -42,26 +45,26 @@ opening_reason before now tells named out_rose besides BadBlockCount fact cause 
 opening_reason before now tells named out_rose besides (FormatMismatch found) fact cause = absurd cause
 opening_reason before now tells named out_rose besides (Damage damage) fact cause = λ told. ((Damage damage, cause.1 told, refl), fact)
 
--- a cause for which a report is not written whole is one for which a run may be refused
-pub report_may : (sink_before sink_now store_before store_now : ℕ) (holds : QuotaValue → Type 0) (fault : ReportFault) → IsReportFault sink_before sink_now store_before store_now holds fault → MayRefuse (report_cause fault)
-report_may sink_before sink_now store_before store_now holds Sink cause = tt
-report_may sink_before sink_now store_before store_now holds (File StoreFailed) cause = tt
-report_may sink_before sink_now store_before store_now holds (File (Damaged damage)) cause = tt
-report_may sink_before sink_now store_before store_now holds (File (Full blocks limit)) cause = cause
-report_may sink_before sink_now store_before store_now holds (File NoMemory) cause = tt
+-- a cause for which a report is not written whole is one for which it may be refused
+pub report_may : (name : List ℕ) (fault : ReportFault) → IfFile fault MayRefuse → MayRefuseRequest (Report User (Some V1) verbose name) (report_cause fault) name
+report_may name Sink may = tt
+report_may name (File StoreFailed) may = tt
+report_may name (File (Damaged damage)) may = absurd may
+report_may name (File (Full blocks limit)) may = absurd may
+report_may name (File NoMemory) may = tt
 
--- a cause for which a file is not opened is one for which a run may be refused
-pub opening_may : (before now : ℕ) (tells : Bool) (named : Option (List ℕ)) (fault : OpenFault) → IsFlatFault before now tells named fault → MayRefuse (opening_cause fault)
-opening_may before now tells named Store cause = tt
-opening_may before now tells named NoFile cause = tt
-opening_may before now tells named (TooLarge number limit) cause = tt
-opening_may before now tells named Memory cause = tt
-opening_may before now tells named NotQuota cause = cause
-opening_may before now tells named WrongKind cause = cause
-opening_may before now tells named UnknownVersion cause = cause
-opening_may before now tells named BadBlockCount cause = cause
-opening_may before now tells named (FormatMismatch found) cause = cause
-opening_may before now tells named (Damage damage) cause = tt
+-- a cause for which a file is not opened is one for which a request may be refused that is about that file
+pub opening_may : (before now : ℕ) (tells : Bool) (named : Option (List ℕ)) (request : Request) (fault : OpenFault) → IsFlatFault before now tells named fault → MayRefuseRequest request (opening_cause fault) (file_of request)
+opening_may before now tells named request Store cause = tt
+opening_may before now tells named request NoFile cause = refl
+opening_may before now tells named request (TooLarge number limit) cause = refl
+opening_may before now tells named request Memory cause = tt
+opening_may before now tells named request NotQuota cause = cause
+opening_may before now tells named request WrongKind cause = cause
+opening_may before now tells named request UnknownVersion cause = cause
+opening_may before now tells named request BadBlockCount cause = cause
+opening_may before now tells named request (FormatMismatch found) cause = cause
+opening_may before now tells named request (Damage damage) cause = (cause.0.0, cause.0.1, refl)
 
 -- a reason within a call is a reason of the call
 pub reason_within : (store_rose store_rose' out_rose out_rose' stated stated' : Type 0) (cause : Cause) → (store_rose → store_rose') → (out_rose → out_rose') → (stated → stated') → HasReason store_rose out_rose stated cause → HasReason store_rose' out_rose' stated' cause
@@ -77,6 +80,9 @@ reason_within s s' o o' p p' TooFewBlocks f g h reason = h reason
 reason_within s s' o o' p p' OtherFormat f g h reason = h reason
 reason_within s s' o o' p p' (FileDamaged damage) f g h reason = h reason
 reason_within s s' o o' p p' (FileFull blocks limit) f g h reason = h reason
+reason_within s s' o o' p p' (Unfit out) f g h reason = h reason
+reason_within s s' o o' p p' UnknownName f g h reason = h reason
+reason_within s s' o o' p p' BadNumber f g h reason = h reason
 reason_within s s' o o' p p' (Usage kind word) f g h reason = h reason
 
 -- of a file that is seen as a value, a prefix of its report is written, however it is seen
@@ -105,6 +111,9 @@ reason_case s o p TooFewBlocks reason = ByEffect (λ e. omega (arith, e)) (λ e.
 reason_case s o p OtherFormat reason = ByEffect (λ e. omega (arith, e)) (λ e. omega (arith, e)) reason
 reason_case s o p (FileDamaged damage) reason = ByEffect (λ e. omega (arith, e)) (λ e. omega (arith, e)) reason
 reason_case s o p (FileFull blocks limit) reason = ByEffect (λ e. omega (arith, e)) (λ e. omega (arith, e)) reason
+reason_case s o p (Unfit out) reason = ByEffect (λ e. omega (arith, e)) (λ e. omega (arith, e)) reason
+reason_case s o p UnknownName reason = ByEffect (λ e. omega (arith, e)) (λ e. omega (arith, e)) reason
+reason_case s o p BadNumber reason = ByEffect (λ e. omega (arith, e)) (λ e. omega (arith, e)) reason
 reason_case s o p (Usage kind word) reason = ByEffect (λ e. omega (arith, e)) (λ e. omega (arith, e)) reason
 
 -- no refusal has status 0
@@ -121,4 +130,7 @@ no_status_0 TooFewBlocks e = omega (arith, e)
 no_status_0 OtherFormat e = omega (arith, e)
 no_status_0 (FileDamaged damage) e = omega (arith, e)
 no_status_0 (FileFull blocks limit) e = omega (arith, e)
+no_status_0 (Unfit out) e = omega (arith, e)
+no_status_0 UnknownName e = omega (arith, e)
+no_status_0 BadNumber e = omega (arith, e)
 no_status_0 (Usage kind word) e = omega (arith, e)

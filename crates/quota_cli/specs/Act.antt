@@ -1,8 +1,9 @@
 -- What a command does to what is outside, act by act, and how the files follow.
-use Rattle.std.specs.Prelude.{◌≡◌, ◌≢◌, ℕ, List, [], ◌∷◌, ◌++◌, codes, Option, Some, None, Result, Ok}
+use Rattle.std.specs.Prelude.{◌≡◌, ℕ, List, [], ◌∷◌, ◌++◌, Option, Some, None, Result, Ok}
 use Rattle.quota_types.specs.declared.file_kind.Kind.{Kind}
 use Rattle.quota_types.specs.declared.file_kind.Format.{Format}
 use Rattle.quota_types.specs.declared.file_kind.Format.TheVariants.{V1, V2R0, V2R1}
+use Rattle.quota_blocks.specs.Replace.{ReplacesOnly}
 use Rattle.quota_blocks.specs.World.{World}
 use Rattle.quota_blocks.specs.QuotaValue.{QuotaValue}
 use Rattle.quota_blocks.specs.declared.quota_file.OpenFault.{OpenFault}
@@ -47,7 +48,7 @@ answers (_ ∷ acts) = answers acts
 abbrev pub FollowsAct : Act → World → World → Type 0
 FollowsAct (Change name value) old new =
     IsView (new name) value.kind (Some value.format) (Ok value)
-    × ((other : List ℕ) → other ≢ name → other ≢ name ++ codes ".new" → new other ≡ old other)
+    × ReplacesOnly name old new
 FollowsAct _ old new = new ≡ old
 
 -- files follow acts, one after another

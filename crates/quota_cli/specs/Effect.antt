@@ -1,21 +1,19 @@
--- The effect of a command: its acts and its status, as a relation, since which damage of a file is named is a choice.
--- The steps of a command come in order, and the first one that is refused ends it with its error line and its status.
-use Rattle.std.specs.Prelude.{◌≡◌, ℕ, List, [], ◌∷◌, map, Option, Result, Ok, Err, String}
+-- The effect of a command: its acts and its status, by the steps of the command.
+use Rattle.std.specs.Prelude.{ℕ, List, [], ◌∷◌, map, Option, Result, Ok, Err, String}
 use Rattle.std.specs.String.{string_bytes}
 use Rattle.std.specs.declared.alloc.Global.{Global}
 use Rattle.quota_types.specs.declared.file_kind.Kind.{Kind}
 use Rattle.quota_types.specs.declared.file_kind.Format.{Format}
 use Rattle.quota_blocks.specs.World.{World}
 use Rattle.quota_blocks.specs.QuotaValue.{QuotaValue}
-use Rattle.quota_blocks.specs.declared.quota_file.OpenFault.{OpenFault}
-use Rattle.quota_blocks.specs.declared.quota_file.OpenFault.TheVariants.{Store, NoFile, TooLarge, Memory, NotQuota, WrongKind, UnknownVersion, BadBlockCount, FormatMismatch, Damage}
 use Rattle.report_text.specs.declared.options.Options.{Options}
 use Rattle.report_text.specs.Report.{report_of, no_names}
 use Rattle.quota_cli.specs.declared.refusal.Cause.{Cause}
-use Rattle.quota_cli.specs.declared.refusal.Cause.TheVariants.{StoreFault, NoFile as NoSuchFile, TooLarge as FileTooLarge, Memory as WantOfMemory, NotQuota as NoQuotaFile, WrongKind as OtherKind, UnknownVersion as OtherVersion, BadBlockCount as TooFewBlocks, OtherFormat, Damaged}
-use Rattle.quota_cli.specs.Refusal.{error_line, status_of}
-use Rattle.quota_cli.specs.Request.{Request, Report, request_of}
-use Rattle.quota_cli.specs.Act.{Act, ToOut, ToErr, IsView}
+use Rattle.quota_cli.specs.declared.limit_edit.LimitEdit.{LimitEdit}
+use Rattle.quota_cli.specs.Request.{Request, Report, SetLimits, LimitWords, request_of}
+use Rattle.quota_cli.specs.Act.{Act, ToOut}
+use Rattle.quota_cli.specs.Step.{Outcome, Passed, IsRefused, AndThen, Opening}
+use Rattle.quota_cli.specs.LimitsCommand.{edit_read, limits_step}
 
 -- a datagram and the moment at which it comes, in seconds since 1970
 pub record Datagram : Type 0 where
@@ -38,44 +36,29 @@ texts_of words = map (λ (word : String Global). string_bytes word) words
 abbrev pub setting_of : List (String Global) → World → ℕ → Setting
 setting_of words world now = record { words = texts_of words; world = world; input = []; datagrams = []; now = now }
 
--- a step is refused: the one act is the error line
-pub record IsRefused (cause : Cause) (name : List ℕ) (done : List Act) (ended : ℕ) : Type 0 where
-  pub acts : done ≡ ToErr (error_line cause name) ∷ []
-  pub status : ended ≡ status_of cause
-
--- all steps passed: these are the acts
-pub record IsDone (stated done : List Act) (ended : ℕ) : Type 0 where
-  pub acts : done ≡ stated
-  pub status : ended ≡ 0
-
--- what is said of a file that could not be opened
-abbrev pub opening_cause : OpenFault → Cause
-opening_cause Store = StoreFault
-opening_cause NoFile = NoSuchFile
-opening_cause (TooLarge number limit) = FileTooLarge
-opening_cause Memory = WantOfMemory
-opening_cause NotQuota = NoQuotaFile
-opening_cause WrongKind = OtherKind
-opening_cause UnknownVersion = OtherVersion
-opening_cause BadBlockCount = TooFewBlocks
-opening_cause (FormatMismatch found) = OtherFormat
-opening_cause (Damage damage) = Damaged damage
-
--- a report of what is seen of a file
-abbrev pub ReportOfView : Options → List ℕ → ℕ → Result QuotaValue OpenFault → List Act → ℕ → Type 0
-ReportOfView options name now (Ok value) acts status = IsDone (ToOut (report_of value no_names name now options) ∷ []) acts status
-ReportOfView options name now (Err fault) acts status = IsRefused (opening_cause fault) name acts status
+-- the report of a value goes to the output
+abbrev pub report_step : Options → List ℕ → ℕ → QuotaValue → Outcome (List Act)
+report_step options name now value = Passed (ToOut (report_of value no_names name now options) ∷ [])
 
 -- `repquota`: the file is opened, and its report goes to the output
-abbrev pub ReportEffect : Kind → Option Format → Options → List ℕ → Setting → List Act → ℕ → Type 0
-ReportEffect kind format options name setting acts status =
-    (seen : Result QuotaValue OpenFault) × IsView (setting.world name) kind format seen × ReportOfView options name setting.now seen acts status
+abbrev pub ReportEffect : Kind → Option Format → Options → List ℕ → World → ℕ → List Act → ℕ → Type 0
+ReportEffect kind format options name world now = Opening kind format name world (report_step options name now)
 
--- the effect of what the words ask for; no words are about a file
-abbrev pub RequestEffect : Result Request Cause → Setting → List Act → ℕ → Type 0
-RequestEffect (Ok (Report kind format options name)) setting acts status = ReportEffect kind format options name setting acts status
-RequestEffect (Err cause) setting acts status = IsRefused cause [] acts status
+-- `setquota`: the identifier and the limits are read, the file is opened, and the limits are set
+abbrev pub LimitsEffect : Kind → Option Format → List ℕ → LimitWords → List ℕ → World → ℕ → List Act → ℕ → Type 0
+LimitsEffect kind format word limits name world now =
+    AndThen (edit_read word limits) (λ (edit : LimitEdit). Opening kind format name world (limits_step name edit now))
+
+-- the effect of a request in a world, at a moment
+abbrev pub AskedEffect : Request → World → ℕ → List Act → ℕ → Type 0
+AskedEffect (Report kind format options name) = ReportEffect kind format options name
+AskedEffect (SetLimits kind format word limits name) = LimitsEffect kind format word limits name
+
+-- the effect of what words ask for; where they ask for nothing it is a refusal that is about no file
+abbrev pub RequestEffect : Result Request Cause → World → ℕ → List Act → ℕ → Type 0
+RequestEffect (Ok request) world now = AskedEffect request world now
+RequestEffect (Err cause) world now = IsRefused cause []
 
 -- the effect of a command
 abbrev pub Effect : Setting → List Act → ℕ → Type 0
-Effect setting acts status = RequestEffect (request_of setting.words) setting acts status
+Effect setting = RequestEffect (request_of setting.words) setting.world setting.now

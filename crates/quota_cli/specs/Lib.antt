@@ -1,7 +1,10 @@
 pub mod Act
+pub mod Command
 pub mod Effect
+pub mod LimitsCommand
 pub mod Refusal
 pub mod ReportCommand
 pub mod Request
 pub mod Run
+pub mod Step
 pub mod Words

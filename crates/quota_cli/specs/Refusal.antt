@@ -3,8 +3,10 @@ use Rattle.std.specs.Prelude.{ℕ, Bool, true, false, List, [], ◌∷◌, ◌++
 use Rattle.std.specs.List.{concat}
 use Rattle.quota_types.specs.declared.damage.DamageKind.{DamageKind}
 use Rattle.quota_types.specs.declared.damage.DamageKind.TheVariants.{Short, RefOut, TwoRoles, NoRole, EmptyTree, ChainOut, ChainLoop, ForeignInChain, MissingInChain, BadPrev, BadCount, MissingEntry, StrayEntry, DoubleEntry, PartialRecord}
+use Rattle.quota_types.specs.declared.field.Field.{Field}
+use Rattle.quota_types.specs.declared.field.Field.TheVariants.{BlockGrace, InodeGrace, Id, Ihard, Isoft, Inodes, Bhard, Bsoft, Space, Btime, Itime}
 use Rattle.quota_cli.specs.declared.refusal.Cause.{Cause}
-use Rattle.quota_cli.specs.declared.refusal.Cause.TheVariants.{StoreFault, NoFile, TooLarge, SinkFault, Memory, NotQuota, WrongKind, UnknownVersion, BadBlockCount, OtherFormat, Damaged, Full, Usage}
+use Rattle.quota_cli.specs.declared.refusal.Cause.TheVariants.{StoreFault, NoFile, TooLarge, SinkFault, Memory, NotQuota, WrongKind, UnknownVersion, BadBlockCount, OtherFormat, Damaged, Full, NoRoom, UnknownName, BadNumber, Usage}
 use Rattle.quota_cli.specs.declared.refusal.UsageKind.{UsageKind}
 use Rattle.quota_cli.specs.declared.refusal.UsageKind.TheVariants.{NoCommand, UnknownCommand, UnknownOption, MissingValue, BadValue, Repeated, Excludes, MissingOption, WrongOperands, BadFileName}
 
@@ -23,6 +25,9 @@ status_of BadBlockCount = 3
 status_of OtherFormat = 3
 status_of (Damaged _) = 3
 status_of (Full _ _) = 1
+status_of (NoRoom _) = 1
+status_of UnknownName = 1
+status_of BadNumber = 1
 status_of (Usage _ _) = 2
 
 -- the name of a kind of damage
@@ -68,12 +73,32 @@ abbrev pub place_text : DamageKind → List ℕ
 place_text PartialRecord = codes " at record "
 place_text _ = codes " at block "
 
--- the identifier that a damage is about, where it is about one
+-- the identifier that a refusal is about, where it is about one
 abbrev pub identifier_text : Bool → ℕ → List (List ℕ)
 identifier_text true id = codes " of " ∷ decimal id ∷ []
 identifier_text false id = []
 
--- what an error line says of a cause and the file that it is about, in pieces
+-- the name of a field
+abbrev pub field_name : Field → List ℕ
+field_name BlockGrace = codes "bgrace"
+field_name InodeGrace = codes "igrace"
+field_name Id = codes "id"
+field_name Ihard = codes "ihard"
+field_name Isoft = codes "isoft"
+field_name Inodes = codes "inodes"
+field_name Bhard = codes "bhard"
+field_name Bsoft = codes "bsoft"
+field_name Space = codes "space"
+field_name Btime = codes "btime"
+field_name Itime = codes "itime"
+
+-- a field that is one of an identifier's record, and none of the whole file
+abbrev pub is_of_identifier : Field → Bool
+is_of_identifier BlockGrace = false
+is_of_identifier InodeGrace = false
+is_of_identifier _ = true
+
+-- what an error line says of a cause and the file or the word that it is about, in pieces
 abbrev pub text_of : Cause → List ℕ → List (List ℕ)
 text_of StoreFault name = codes "store fault" ∷ []
 text_of NoFile name = name ∷ codes ": no such file" ∷ []
@@ -89,8 +114,13 @@ text_of (Damaged damage) name =
     name ∷ codes ": damaged: " ∷ damage_name damage.kind ∷ place_text damage.kind ∷ decimal damage.block
     ∷ identifier_text (names_identifier damage.kind) damage.id
 text_of (Full blocks limit) name = name ∷ codes ": full: " ∷ decimal blocks ∷ codes " blocks of " ∷ decimal limit ∷ []
+text_of (NoRoom out) name =
+    name ∷ codes ": no room for " ∷ field_name out.field ∷ codes " " ∷ decimal out.value
+    ∷ identifier_text (is_of_identifier out.field) out.id
+text_of UnknownName name = codes "unknown name " ∷ name ∷ []
+text_of BadNumber name = codes "bad number " ∷ name ∷ []
 text_of (Usage kind word) name = codes "usage: " ∷ usage_name kind ∷ codes " at word " ∷ decimal word ∷ []
 
--- the error line of a cause and the file that it is about
+-- the error line of a cause and the file or the word that it is about
 unfoldable pub error_line : Cause → List ℕ → List ℕ
 error_line cause name = concat (codes "quota: " ∷ text_of cause name ++ codes "\n" ∷ [])

@@ -13,7 +13,7 @@ use Rattle.report_text.specs.Report.{report_of, no_names}
 use Rattle.quota_cli.specs.declared.refusal.Cause.{Cause}
 use Rattle.quota_cli.specs.declared.refusal.Cause.TheVariants.{StoreFault, SinkFault, Memory as WantOfMemory, Damaged, Full as FileFull}
 use Rattle.quota_cli.specs.Act.{IsView}
-use Rattle.quota_cli.specs.Effect.{opening_cause}
+use Rattle.quota_cli.specs.Step.{opening_cause}
 
 -- what is said where a call on an opened file was refused
 abbrev pub file_cause : FileFault → Cause

@@ -1,4 +1,4 @@
--- The words of a command line. Source: the manual page of repquota; the exact reading is this project's own.
+-- The words of a command line. Source: the manual pages of repquota and setquota; the exact reading is this project's own.
 use Rattle.std.specs.Prelude.{ℕ, Bool, not, ◌&&◌, nat_le, List, length, drop, codes, ◌-◌}
 use Rattle.std.specs.List.{list_all}
 use Rattle.std.specs.Str.{bytes_eq}

@@ -10,15 +10,24 @@ use std::time::{Clock, SystemTime};
 use std::{env, io};
 use stream_sink::StreamSink;
 
+mod command;
+mod edit_words;
 mod error_line;
 mod file_name;
 mod file_store;
+mod limit_edit;
+mod limit_operands;
+mod limits_command;
+#[cfg(test)]
+mod limits_tests;
 mod refusal;
 mod report_command;
+#[cfg(test)]
+mod report_tests;
 mod run;
 mod stream_sink;
 #[cfg(test)]
-mod tests;
+mod test_runs;
 mod words;
 
 /// The words of the command line without the program's own name. Words that are no text are no words of any command.

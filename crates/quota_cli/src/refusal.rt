@@ -1,7 +1,7 @@
 ghost use Rattle.std.specs.Prelude.{◌≡◌};
-ghost use Rattle.quota_cli.specs.Refusal.{damage_name, names_identifier, place_text, status_of, usage_name};
+ghost use Rattle.quota_cli.specs.Refusal.{damage_name, field_name, is_of_identifier, names_identifier, place_text, status_of, usage_name};
 
-use quota_types::{Damage, DamageKind};
+use quota_types::{Damage, DamageKind, Field, NoRoom};
 
 /// What is wrong with the words of a command line.
 #[derive(Clone, Copy, Debug, PartialEq, Eq)]
@@ -80,6 +80,12 @@ pub enum Cause {
         /// The blocks that it may have.
         limit: u64,
     },
+    /// The format has no room for a value.
+    NoRoom(NoRoom),
+    /// A word names no identifier.
+    UnknownName,
+    /// A word is not of a number's form or range.
+    BadNumber,
     /// The words are outside the grammar.
     Usage {
         /// What is wrong.
@@ -95,7 +101,12 @@ impl Cause {
         ensures { result ≡ status_of self }
     {
         match self {
-            Cause::NoFile | Cause::TooLarge | Cause::Full { .. } => 1,
+            Cause::NoFile
+            | Cause::TooLarge
+            | Cause::Full { .. }
+            | Cause::NoRoom(_)
+            | Cause::UnknownName
+            | Cause::BadNumber => 1,
             Cause::Usage { .. } => 2,
             Cause::NotQuota
             | Cause::WrongKind
@@ -107,6 +118,15 @@ impl Cause {
             Cause::Memory => 5,
         }
     }
+}
+
+/// Why a command was not carried out, and the file or the word that it is about.
+#[derive(Clone, Copy)]
+pub struct Refusal<'a> {
+    /// Why.
+    pub cause: Cause,
+    /// The file or the word.
+    pub name: &'a str,
 }
 
 /// The name of a kind of damage, as error lines print it.
@@ -150,4 +170,30 @@ pub fn place_text(kind: DamageKind) -> &'static str
         DamageKind::PartialRecord => " at record ",
         _ => " at block ",
     }
+}
+
+/// The name of a field, as error lines print it.
+pub fn field_name(field: Field) -> &'static str
+    ensures { result.now ≡ field_name field }
+{
+    match field {
+        Field::BlockGrace => "bgrace",
+        Field::InodeGrace => "igrace",
+        Field::Id => "id",
+        Field::Ihard => "ihard",
+        Field::Isoft => "isoft",
+        Field::Inodes => "inodes",
+        Field::Bhard => "bhard",
+        Field::Bsoft => "bsoft",
+        Field::Space => "space",
+        Field::Btime => "btime",
+        Field::Itime => "itime",
+    }
+}
+
+/// Whether a field is one of an identifier's record, and none of the whole file.
+pub fn is_of_identifier(field: Field) -> bool
+    ensures { result ≡ is_of_identifier field }
+{
+    !matches!(field, Field::BlockGrace | Field::InodeGrace)
 }

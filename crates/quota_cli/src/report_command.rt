@@ -7,11 +7,11 @@ ghost use Rattle.quota_blocks.specs.Text.{AppendsPrefix};
 ghost use Rattle.quota_blocks.specs.declared.quota_file.OpenFault.{OpenFault};
 ghost use Rattle.report_text.specs.Report.{no_names, report_of};
 ghost use Rattle.quota_cli.specs.Act.{IsView};
-ghost use Rattle.quota_cli.specs.Effect.{opening_cause};
+ghost use Rattle.quota_cli.specs.Step.{opening_cause};
 ghost use Rattle.quota_cli.specs.Refusal.{status_of};
 ghost use Rattle.quota_cli.specs.ReportCommand.{file_cause, IsRefusedView, report_cause, report_of_view};
-ghost use Rattle.quota_cli.specs.Request.{verbose};
-ghost use Rattle.quota_cli.specs.Run.{HasReason, MayRefuse};
+ghost use Rattle.quota_cli.specs.Request.{Report, verbose};
+ghost use Rattle.quota_cli.specs.Run.{HasReason, MayRefuseRequest};
 
 use crate::refusal::Cause;
 use quota_blocks::{FileFault, OpenFault, QuotaFile, Sink, Store};
@@ -40,7 +40,7 @@ pub fn report_flat_file<S: Store, O: Sink>(
         → IsView (S.files store.old name.now) User (Some V1) seen
         → AppendsPrefix (O.written out.old) (O.written out.new) (report_of_view seen name.now now verbose) }
     ensures about_file { IfErr result (λ cause. status_of cause ≢ 2) }
-    ensures may { IfErr result MayRefuse }
+    ensures may { IfErr result (λ cause. MayRefuseRequest (Report User (Some V1) verbose name.now) cause name.now) }
     ensures store_later { S.faults store.old ≤ S.faults store.new }
     ensures out_later { O.faults out.old ≤ O.faults out.new }
     ensures writes { S.writes store.new ≡ S.writes store.old }
@@ -73,7 +73,7 @@ fn write_report<S: Store, O: Sink>(
         → ⟦<V1File as QuotaFile<S>>⟧.holds file.old store.old value → value.kind ≡ User
         → AppendsPrefix (O.written out.old) (O.written out.new) (report_of value no_names name.now now verbose) }
     ensures about_file { IfErr result (λ cause. status_of cause ≢ 2) }
-    ensures may { IfErr result MayRefuse }
+    ensures may { IfErr result (λ cause. MayRefuseRequest (Report User (Some V1) verbose name.now) cause name.now) }
     ensures store_later { S.faults store.old ≤ S.faults store.new }
     ensures out_later { O.faults out.old ≤ O.faults out.new }
     ensures writes { S.writes store.new ≡ S.writes store.old }
@@ -103,7 +103,7 @@ fn report_cause(fault: ReportFault) -> Cause
 }
 
 /// What is said where a call on an opened file was refused.
-fn file_cause(fault: FileFault) -> Cause
+pub fn file_cause(fault: FileFault) -> Cause
     ensures { result ≡ file_cause fault }
 {
     match fault {
@@ -115,7 +115,7 @@ fn file_cause(fault: FileFault) -> Cause
 }
 
 /// What is said of a file that could not be opened.
-fn opening_cause(fault: OpenFault) -> Cause
+pub fn opening_cause(fault: OpenFault) -> Cause
     ensures { result ≡ opening_cause fault }
 {
     match fault {

@@ -1,28 +1,30 @@
-ghost use Rattle.std.specs.Prelude.{◌≡◌, ◌≢◌, ◌≤◌, ◌↔◌, ◌⊎◌, [], Some, Ok, Err, List, ℕ, IsTrue, IfErr, OnOk, IsErr, IsOk};
-ghost use Rattle.quota_types.specs.declared.file_kind.Kind.TheVariants.{User};
-ghost use Rattle.quota_types.specs.declared.file_kind.Format.TheVariants.{V1};
+ghost use Rattle.std.specs.Prelude.{◌≡◌, ◌≢◌, ◌≤◌, ◌↔◌, ◌⊎◌, List, ℕ, [], IsTrue, IfErr, IfOk, IsErr, IsErrAnd, IsOkAnd, OnErr, OnOk};
 ghost use Rattle.quota_blocks.specs.Count.{Rose};
-ghost use Rattle.quota_blocks.specs.QuotaValue.{QuotaValue};
+ghost use Rattle.quota_blocks.specs.Replace.{ReplacesOnly};
 ghost use Rattle.quota_blocks.specs.Text.{AppendsPrefix};
-ghost use Rattle.quota_cli.specs.Act.{Act, IsView, err_bytes, Follows, out_bytes};
-ghost use Rattle.quota_cli.specs.Effect.{Effect, setting_of, texts_of};
+ghost use Rattle.quota_cli.specs.Act.{Act, out_bytes};
+ghost use Rattle.quota_cli.specs.Command.{request_in};
+ghost use Rattle.quota_cli.specs.Effect.{AskedEffect, Effect, setting_of, texts_of};
 ghost use Rattle.quota_cli.specs.Refusal.{error_line, status_of};
-ghost use Rattle.quota_cli.specs.Request.{Report, request_of, verbose};
-ghost use Rattle.quota_cli.specs.Run.{AppendsUnless, HasEffect, HasEffectUpToErr, HasOutEffect, HasReason, HasSaid, IsEffectOf, IsStopped, MayRefuse};
+ghost use Rattle.quota_cli.specs.Request.{request_of};
+ghost use Rattle.quota_cli.specs.Run.{AppendsUnless, EndsBy, file_of, HasEffect, HasEffectUpToErr, HasOutEffect, HasReason, HasSaid, IsEffectOf, IsReport, IsStopped, MayRefuseRequest, RefusesFirst, RefusesWord};
+ghost use Rattle.quota_cli.specs.declared.refusal.Cause.{Cause};
 
+use crate::command::Command;
+use crate::edit_words::read_edit;
 use crate::error_line::write_error_line;
-use crate::refusal::{Cause, UsageKind};
+use crate::limits_command::set_flat_limits;
+use crate::refusal::{Cause, Refusal, UsageKind};
 use crate::report_command::report_flat_file;
-use crate::words::flat_report_file;
+use crate::words::read_words;
 use quota_blocks::{Sink, Store};
 use std::alloc::Global;
 
-/// Why a command was not carried out, and the file that it is about.
-#[derive(Clone, Copy)]
-struct Refusal<'a> {
-    cause: Cause,
-    name: &'a str,
-}
+/// What is said of words that ask for nothing.
+const UNKNOWN_COMMAND: Cause = Cause::Usage {
+    kind: UsageKind::UnknownCommand,
+    word: 0,
+};
 
 /// Carries out the command that the words ask for, and answers the status with which the program ends: 0 done,
 /// 1 refused by the command, 2 the words are outside the grammar, 3 the file is damaged, 4 a fault of the store or the
@@ -70,7 +72,7 @@ pub fn run<S: Store, O: Sink, E: Sink>(
         → (acts : List Act) × Effect (setting_of words.now (S.files store.old) now) acts result }
 
     // Whatever is told, status 0 says nothing, and any other one is that of a cause whose error line went out.
-    ensures says { HasSaid result (Rose (S.faults store.old) (S.faults store.new))
+    ensures says { HasSaid (request_of (texts_of words.now)) result (Rose (S.faults store.old) (S.faults store.new))
         (Rose (O.faults out.old) (O.faults out.new)) (Rose (E.faults err.old) (E.faults err.new)) (E.tells err.old)
         (E.written err.old) (E.written err.new) }
 
@@ -80,8 +82,41 @@ pub fn run<S: Store, O: Sink, E: Sink>(
         → ¬ Rose (S.faults store.old) (S.faults store.new) → ¬ Rose (O.faults out.old) (O.faults out.new)
         → (result ≡ 0) ⊎ (result ≡ 5) }
 
-    ensures writes { S.writes store.new ≡ S.writes store.old }
-    ensures same_files { S.files store.new ≡ S.files store.old }
+    // Where a word of a command in the grammar is faulty, the first such word is refused, whatever is told.
+    ensures words { (cause : Cause) (word : List ℕ) → RefusesFirst (request_of (texts_of words.now)) cause word
+        → EndsBy cause word result (Rose (E.faults err.old) (E.faults err.new)) (E.tells err.old)
+        (E.written err.old) (E.written err.new) }
+
+    // A report changes no file and writes none, whatever is told.
+    ensures report_files { IsOkAnd (request_of (texts_of words.now)) IsReport → S.files store.new ≡ S.files store.old }
+    ensures report_writes { IsOkAnd (request_of (texts_of words.now)) IsReport → S.writes store.new ≡ S.writes store.old }
+
+    // A command that was refused changed no file and wrote none.
+    ensures refused_files { result ≢ 0 → result ≢ 4 → S.files store.new ≡ S.files store.old }
+    ensures refused_writes { result ≢ 0 → result ≢ 4 → S.writes store.new ≡ S.writes store.old }
+
+    // Words that are refused leave the store alone, whatever it tells.
+    ensures unasked { IsErr (request_of (texts_of words.now)) → store.new ≡ store.old }
+    ensures unread { (cause : Cause) (word : List ℕ) → RefusesFirst (request_of (texts_of words.now)) cause word
+        → store.new ≡ store.old }
+
+    // Only a report touches the output.
+    ensures no_out { ¬ (IsOkAnd (request_of (texts_of words.now)) IsReport) → out.new ≡ out.old }
+
+    // With any status but 0 the named file is as before, after a fault of the store too.
+    ensures named { IfOk (request_of (texts_of words.now)) (λ request. IsTrue (S.tells store.old) → result ≢ 0
+        → S.files store.new (file_of request) ≡ S.files store.old (file_of request)) }
+
+    // An effect without an act changes no file and writes none, however the run ends.
+    ensures idle_files { IsTrue (S.tells store.old) → Effect (setting_of words.now (S.files store.old) now) [] 0
+        → S.files store.new ≡ S.files store.old }
+    ensures idle_writes { IsTrue (S.tells store.old) → Effect (setting_of words.now (S.files store.old) now) [] 0
+        → S.writes store.new ≡ S.writes store.old }
+
+    // In every case all files stay but the named one and the one with `.new` added to the name.
+    ensures others { IfOk (request_of (texts_of words.now)) (λ request. IsTrue (S.tells store.old)
+        → ReplacesOnly (file_of request) (S.files store.old) (S.files store.new)) }
+
     ensures store_later { S.faults store.old ≤ S.faults store.new }
     ensures out_later { O.faults out.old ≤ O.faults out.new }
     ensures err_later { E.faults err.old ≤ E.faults err.new }
@@ -89,53 +124,73 @@ pub fn run<S: Store, O: Sink, E: Sink>(
     ensures out_telling { O.tells out.new ≡ O.tells out.old }
     ensures err_telling { E.tells err.new ≡ E.tells err.old }
 {
-    match attempt(alloc, words, store, out, now) {
-        Ok(()) => 0,
-        Err(refusal) => refuse(err, refusal.cause, refusal.name),
+    match read_words(words) {
+        Some(command) => match carry_out(alloc, &command, store, out, now) {
+            Ok(()) => 0,
+            Err(refusal) => refuse(err, refusal.cause, refusal.name),
+        },
+        None => refuse(err, UNKNOWN_COMMAND, ""),
     }
 }
 
-/// Carries out a command but for its error line.
-fn attempt<'a, S: Store, O: Sink>(
+/// Carries out what is asked for but for the error line.
+fn carry_out<'a, S: Store, O: Sink>(
     alloc: Global,
-    words: &'a [String],
+    command: &Command<'a>,
     store: &mut S,
     out: &mut O,
     now: u64,
 ) -> Result<(), Refusal<'a>>
     ensures done { OnOk result (IsTrue (S.tells store.old) → IsTrue (O.tells out.old)
-        → HasOutEffect (setting_of words.now (S.files store.old) now) (O.written out.old) (O.written out.new)) }
+        → HasOutEffect (AskedEffect (request_in command.now) (S.files store.old) now) (S.files store.old) (S.files store.new)
+        (O.written out.old) (O.written out.new)) }
     ensures refused { IfErr result (λ refusal. HasReason (Rose (S.faults store.old) (S.faults store.new))
-        (Rose (O.faults out.old) (O.faults out.new))
-        (IsTrue (S.tells store.old) → IsEffectOf (setting_of words.now (S.files store.old) now) refusal.cause refusal.name.now
+        (Rose (O.faults out.old) (O.faults out.new)) (IsTrue (S.tells store.old)
+        → IsEffectOf (AskedEffect (request_in command.now) (S.files store.old) now) refusal.cause refusal.name.now
         (O.written out.old) (O.written out.new)) refusal.cause) }
     ensures prefix { IsTrue (S.tells store.old) → IsTrue (O.tells out.old) → (acts : List Act) → (status : ℕ)
-        → Effect (setting_of words.now (S.files store.old) now) acts status
+        → AskedEffect (request_in command.now) (S.files store.old) now acts status
         → AppendsPrefix (O.written out.old) (O.written out.new) (out_bytes acts) }
-    ensures read { OnOk result (IsOk (request_of (texts_of words.now))) }
-    ensures usage { IfErr result (λ refusal. (status_of refusal.cause ≡ 2) ↔ IsErr (request_of (texts_of words.now))) }
     ensures status { OnOk result (IsTrue (S.tells store.old) → (acts : List Act)
-        × Effect (setting_of words.now (S.files store.old) now) acts 0) }
-    ensures may { IfErr result (λ refusal. MayRefuse refusal.cause) }
+        × AskedEffect (request_in command.now) (S.files store.old) now acts 0) }
+    ensures may { IfErr result (λ refusal. MayRefuseRequest (request_in command.now) refusal.cause refusal.name.now) }
+    ensures about_file { IfErr result (λ refusal. status_of refusal.cause ≢ 2) }
+    ensures words { (cause : Cause) (word : List ℕ) → RefusesWord (request_in command.now) cause word
+        → IsErrAnd result (λ refusal. (refusal.cause ≡ cause) × (refusal.name.now ≡ word)) }
+    ensures report_files { IsReport (request_in command.now) → S.files store.new ≡ S.files store.old }
+    ensures report_writes { IsReport (request_in command.now) → S.writes store.new ≡ S.writes store.old }
+    ensures refused_files { IfErr result (λ refusal. status_of refusal.cause ≢ 4
+        → S.files store.new ≡ S.files store.old) }
+    ensures refused_writes { IfErr result (λ refusal. status_of refusal.cause ≢ 4
+        → S.writes store.new ≡ S.writes store.old) }
+    ensures unread { (cause : Cause) (word : List ℕ) → RefusesWord (request_in command.now) cause word
+        → store.new ≡ store.old }
+    ensures no_out { ¬ (IsReport (request_in command.now)) → out.new ≡ out.old }
+    ensures named { OnErr result (IsTrue (S.tells store.old)
+        → S.files store.new (file_of (request_in command.now)) ≡ S.files store.old (file_of (request_in command.now))) }
+    ensures idle_files { IsTrue (S.tells store.old)
+        → AskedEffect (request_in command.now) (S.files store.old) now [] 0 → S.files store.new ≡ S.files store.old }
+    ensures idle_writes { IsTrue (S.tells store.old)
+        → AskedEffect (request_in command.now) (S.files store.old) now [] 0 → S.writes store.new ≡ S.writes store.old }
+    ensures others { IsTrue (S.tells store.old)
+        → ReplacesOnly (file_of (request_in command.now)) (S.files store.old) (S.files store.new) }
     ensures store_later { S.faults store.old ≤ S.faults store.new }
     ensures out_later { O.faults out.old ≤ O.faults out.new }
-    ensures writes { S.writes store.new ≡ S.writes store.old }
-    ensures same_files { S.files store.new ≡ S.files store.old }
     ensures store_telling { S.tells store.new ≡ S.tells store.old }
     ensures out_telling { O.tells out.new ≡ O.tells out.old }
 {
-    let Some(name) = flat_report_file(words) else {
-        return Err(Refusal {
-            cause: Cause::Usage {
-                kind: UsageKind::UnknownCommand,
-                word: 0,
+    match *command {
+        Command::Report { file } => match report_flat_file(alloc, store, file, now, out) {
+            Ok(()) => Ok(()),
+            Err(cause) => Err(Refusal { cause, name: file }),
+        },
+        Command::SetLimits { name, limits, file } => match read_edit(name, &limits) {
+            Ok(edit) => match set_flat_limits(alloc, store, file, &edit, now) {
+                Ok(()) => Ok(()),
+                Err(cause) => Err(Refusal { cause, name: file }),
             },
-            name: "",
-        });
-    };
-    match report_flat_file(alloc, store, name, now, out) {
-        Ok(()) => Ok(()),
-        Err(cause) => Err(Refusal { cause, name }),
+            Err(refusal) => Err(refusal),
+        },
     }
 }
 

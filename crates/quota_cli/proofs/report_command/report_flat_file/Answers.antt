@@ -1,4 +1,6 @@
-use Rattle.std.proofs.Common.{refl, arith}
+use Rattle.std.proofs.Common.{Some, refl, arith}
+use Rattle.quota_types.specs.declared.file_kind.Format.TheVariants.{V1}
+use Rattle.quota_cli.specs.Request.{Report, verbose}
 use Rattle.std.proofs.lemmas.Result.{on_ok_weaker, IfErr-weaker}
 use Rattle.quota_types.specs.declared.file_kind.Kind.TheVariants.{User}
 use Rattle.quota_cli.proofs.ReasonLemmas.{opening_may, opening_reason, prefix_of_view, reason_within}
@@ -36,4 +38,4 @@ returns-in-Ok-clause-seen g c =
     c.write_report.ensures.done
 
 pub returns-in-Err-clause-may : goal.returns-in-Err-clause-may
-returns-in-Err-clause-may g c = rw c.opening_cause.ensures (opening_may _ _ _ _ c.in-Err.fault c.in-Err.ensures.refused)
+returns-in-Err-clause-may g c = rw c.opening_cause.ensures (opening_may _ _ _ _ (Report User (Some V1) verbose c.args.name.now) c.in-Err.fault c.in-Err.ensures.refused)

@@ -1,9 +1,6 @@
-use crate::run::run;
-use quota_blocks::{MemSink, MemStore};
+use crate::test_runs::{Failing, NONE, NOW, Ran, push_record, run_over};
 use std::alloc::{AllocError, Global};
 use std::test::Fail;
-
-const NOW: u64 = 1_700_000_000;
 
 const HEAD: &str = "*** Report for user quotas on q
 Block grace time: 7days; Inode grace time: 7days
@@ -11,79 +8,7 @@ User                  used       soft       hard  grace    files     soft     ha
 -----------------------------------------------------------------------------------------
 ";
 
-/// The calls of the store, the output and the error output that are to fail, by their numbers; 0 is none.
-#[derive(Clone, Copy)]
-struct Failing {
-    store: u64,
-    out: u64,
-    err: u64,
-}
-
-const NONE: Failing = Failing {
-    store: 0,
-    out: 0,
-    err: 0,
-};
-
-/// What a run left: the status, and what went to the output and to the error output.
-#[derive(Drop)]
-struct Ran {
-    status: u8,
-    out: MemSink,
-    err: MemSink,
-}
-
-impl Ran {
-    /// What went to the output from a place on.
-    fn out_from(&self, place: usize) -> &[u8] {
-        self.out.bytes().get(place..).unwrap_or(b"")
-    }
-}
-
-fn words_of(alloc: Global, line: &str) -> Result<Vec<String>, AllocError> {
-    let mut words = Vec::new(alloc);
-    for word in line.split(' ') {
-        words.push(String::from_str(alloc, word)?)?;
-    }
-    Ok(words)
-}
-
-/// Runs the words of a line over a store with one file named `q`.
-fn run_over(
-    alloc: Global,
-    line: &str,
-    bytes: &[u8],
-    now: u64,
-    failing: Failing,
-) -> Result<Ran, AllocError> {
-    let words = words_of(alloc, line)?;
-    let mut files = Vec::new(alloc);
-    files.push((
-        String::from_str(alloc, "q")?,
-        Vec::from_slice(alloc, bytes)?,
-    ))?;
-    let mut store = MemStore::new(files, Vec::from_slice(alloc, &[failing.store])?);
-    let mut out = MemSink::new(Vec::new(alloc), Vec::from_slice(alloc, &[failing.out])?);
-    let mut err = MemSink::new(Vec::new(alloc), Vec::from_slice(alloc, &[failing.err])?);
-    let status = run(alloc, &words, &mut store, &mut out, &mut err, now);
-    Ok(Ran { status, out, err })
-}
-
 const REPORT: &str = "repquota -F vfsold -u -v q";
-
-/// Appends a record of a flat file, from its numbers in their order on disk: hard limit, soft limit and use of blocks,
-/// the same of inodes, and the two times. The first six have 32 bits.
-fn push_record(bytes: &mut Vec<u8>, numbers: &str) -> Result<(), AllocError> {
-    for (place, word) in numbers.split(' ').enumerate() {
-        let Ok(number) = word.parse::<u64>() else {
-            // a misspelt number leaves a cut record, with which no report is made
-            break;
-        };
-        let width = if place < 6 { 4 } else { 8 };
-        bytes.extend_from_slice(&number.to_le_bytes()[..width])?;
-    }
-    Ok(())
-}
 
 /// The report of a flat file with so many bytes 0 before its last record.
 fn report_on(alloc: Global, zeros: usize, numbers: &str, now: u64) -> Result<Ran, AllocError> {
