@@ -1,4 +1,4 @@
-ghost use Rattle.std.specs.Prelude.{◌≡◌, ◌%◌, ◌≤◌, ◌+◌, ◌*◌, true, not, max, vec_len, string_bytes, None, Some, IsTrue, IfErr, IsOk, OnOk, OnErr};
+ghost use Rattle.std.specs.Prelude.{◌≡◌, ◌≢◌, ◌%◌, ◌≤◌, ◌+◌, ◌*◌, true, not, max, vec_len, string_bytes, None, Some, IsTrue, IfErr, IsOk, OnOk, OnErr};
 ghost use Rattle.std.specs.FinMap.{get};
 ghost use Rattle.quota_types.specs.declared.file_kind.Format.TheVariants.{V1};
 ghost use Rattle.quota_types.specs.Bytes.{number_at};
@@ -8,6 +8,7 @@ ghost use Rattle.quota_types.specs.Rec.{IsNull};
 ghost use Rattle.quota_blocks.specs.QuotaValue.{QuotaValue, with_grace, with_record, without_record};
 ghost use Rattle.quota_blocks.specs.QuotaFile.{OnWant, is_store_fault};
 ghost use Rattle.quota_blocks.specs.Replace.{ReplacesOnly, replacement_name};
+ghost use Rattle.quota_blocks.specs.Span.{KeepsOutside};
 ghost use Rattle.quota_v1.specs.Change.{IsRewriteFault, MayRefuse};
 ghost use Rattle.quota_v1.specs.FlatFile.{flat_record};
 ghost use Rattle.quota_v1.specs.Opened.{HoldsFlat};
@@ -125,6 +126,10 @@ impl<S: Store> QuotaFile<S> for V1File {
         ensures length { OnOk result (vec_len self.new.bytes ≡ max (vec_len self.old.bytes) (40 * (id + 1))) }
         ensures block_time { OnOk result (number_at 8 self.new.bytes.items 24 ≡ number_at 8 self.old.bytes.items 24) }
         ensures inode_time { OnOk result (number_at 8 self.new.bytes.items 32 ≡ number_at 8 self.old.bytes.items 32) }
+        ensures others_stay { OnOk result (KeepsOutside (40 * id) (40 * id + 40) self.old.bytes.items self.new.bytes.items) }
+        ensures new_record { OnOk result (flat_record self.new.bytes.items id ≡ Some rec) }
+        ensures written { OnOk result (IsTrue (S.tells store.old)
+            → S.files store.new (string_bytes self.old.name) ≡ Some self.new.bytes.items) }
         ensures put { OnOk result ((value : QuotaValue) → HoldsFlat (S.tells store.old) (S.files store.old (string_bytes self.old.name)) self.old.bytes.items value
             → HoldsFlat (S.tells store.new) (S.files store.new (string_bytes self.new.name)) self.new.bytes.items (with_record value id rec)) }
         ensures cleared { OnOk result (IsTrue (S.tells store.old)
@@ -136,6 +141,7 @@ impl<S: Store> QuotaFile<S> for V1File {
         ensures stays { IfErr result (λ fault. OnWant fault ((value : QuotaValue)
             → HoldsFlat (S.tells store.old) (S.files store.old (string_bytes self.old.name)) self.old.bytes.items value
             → HoldsFlat (S.tells store.new) (S.files store.new (string_bytes self.new.name)) self.new.bytes.items value)) }
+        ensures loaded_stays { IfErr result (λ fault. OnWant fault (self.new.bytes.items ≡ self.old.bytes.items)) }
         ensures same_files { IfErr result (λ fault. OnWant fault (S.files store.new ≡ S.files store.old)) }
         ensures writes { IfErr result (λ fault. OnWant fault (S.writes store.new ≡ S.writes store.old)) }
         ensures others { IsTrue (S.tells store.old)
@@ -157,6 +163,10 @@ impl<S: Store> QuotaFile<S> for V1File {
         ensures length { OnOk result (vec_len self.new.bytes ≡ vec_len self.old.bytes) }
         ensures block_time { OnOk result (number_at 8 self.new.bytes.items 24 ≡ number_at 8 self.old.bytes.items 24) }
         ensures inode_time { OnOk result (number_at 8 self.new.bytes.items 32 ≡ number_at 8 self.old.bytes.items 32) }
+        ensures others_stay { OnOk result (KeepsOutside (40 * id) (40 * id + 40) self.old.bytes.items self.new.bytes.items) }
+        ensures no_record { OnOk result (flat_record self.new.bytes.items id ≡ None) }
+        ensures written { flat_record self.old.bytes.items id ≢ None → OnOk result (IsTrue (S.tells store.old)
+            → S.files store.new (string_bytes self.old.name) ≡ Some self.new.bytes.items) }
         ensures removed { OnOk result ((value : QuotaValue) → HoldsFlat (S.tells store.old) (S.files store.old (string_bytes self.old.name)) self.old.bytes.items value
             → HoldsFlat (S.tells store.new) (S.files store.new (string_bytes self.new.name)) self.new.bytes.items (without_record value id)) }
         ensures absent_ok { flat_record self.old.bytes.items id ≡ None → IsOk result }
@@ -175,6 +185,7 @@ impl<S: Store> QuotaFile<S> for V1File {
         ensures stays { IfErr result (λ fault. OnWant fault ((value : QuotaValue)
             → HoldsFlat (S.tells store.old) (S.files store.old (string_bytes self.old.name)) self.old.bytes.items value
             → HoldsFlat (S.tells store.new) (S.files store.new (string_bytes self.new.name)) self.new.bytes.items value)) }
+        ensures loaded_stays { IfErr result (λ fault. OnWant fault (self.new.bytes.items ≡ self.old.bytes.items)) }
         ensures same_files { IfErr result (λ fault. OnWant fault (S.files store.new ≡ S.files store.old)) }
         ensures writes { IfErr result (λ fault. OnWant fault (S.writes store.new ≡ S.writes store.old)) }
         ensures others { IsTrue (S.tells store.old)
@@ -200,6 +211,9 @@ impl<S: Store> QuotaFile<S> for V1File {
         ensures length { OnOk result (vec_len self.new.bytes ≡ max (vec_len self.old.bytes) 40) }
         ensures block_time { OnOk result (number_at 8 self.new.bytes.items 24 ≡ grace.block) }
         ensures inode_time { OnOk result (number_at 8 self.new.bytes.items 32 ≡ grace.inode) }
+        ensures others_stay { OnOk result (KeepsOutside 24 40 self.old.bytes.items self.new.bytes.items) }
+        ensures written { OnOk result (IsTrue (S.tells store.old)
+            → S.files store.new (string_bytes self.old.name) ≡ Some self.new.bytes.items) }
         ensures set { OnOk result ((value : QuotaValue) → HoldsFlat (S.tells store.old) (S.files store.old (string_bytes self.old.name)) self.old.bytes.items value
             → HoldsFlat (S.tells store.new) (S.files store.new (string_bytes self.new.name)) self.new.bytes.items (with_grace value grace)) }
         ensures cleared { OnOk result (IsTrue (S.tells store.old)
@@ -211,6 +225,7 @@ impl<S: Store> QuotaFile<S> for V1File {
         ensures stays { IfErr result (λ fault. OnWant fault ((value : QuotaValue)
             → HoldsFlat (S.tells store.old) (S.files store.old (string_bytes self.old.name)) self.old.bytes.items value
             → HoldsFlat (S.tells store.new) (S.files store.new (string_bytes self.new.name)) self.new.bytes.items value)) }
+        ensures loaded_stays { IfErr result (λ fault. OnWant fault (self.new.bytes.items ≡ self.old.bytes.items)) }
         ensures same_files { IfErr result (λ fault. OnWant fault (S.files store.new ≡ S.files store.old)) }
         ensures writes { IfErr result (λ fault. OnWant fault (S.writes store.new ≡ S.writes store.old)) }
         ensures others { IsTrue (S.tells store.old)

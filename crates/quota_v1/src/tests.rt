@@ -1,7 +1,10 @@
-use crate::open_v1;
+ghost use Rattle.std.specs.Prelude.{IsTrue};
+
+use crate::{V1File, open_v1};
 use quota_blocks::{FileFault, MemStore, QuotaFile, Store};
 use quota_types::{Grace, Rec};
 use std::alloc::Global;
+use std::process::Abort;
 use std::test::Fail;
 
 const LIMITS: Rec = Rec {
@@ -30,6 +33,22 @@ fn is_zeros(bytes: &[u8]) -> bool {
     bytes.iter().all(|byte| *byte == 0)
 }
 
+/// Puts `LIMITS` for identifier 0, which must be accepted.
+fn assert_put(rt: &impl Abort, file: &mut V1File, store: &mut MemStore)
+    requires { IsTrue file.old.usable }
+    ensures { IsTrue file.new.usable }
+{
+    assert_eq!(rt; file.put(store, 0, LIMITS), Ok(()));
+}
+
+/// Removes a record, which must be accepted.
+fn assert_remove(rt: &impl Abort, file: &mut V1File, store: &mut MemStore, id: u32)
+    requires { IsTrue file.old.usable }
+    ensures { IsTrue file.new.usable }
+{
+    assert_eq!(rt; file.remove(store, id), Ok(()));
+}
+
 #[test]
 fn put_lengthens_a_file_up_to_the_record(rt: HostRuntime) -> Result<(), Fail> {
     for (id, len) in [(1000, 40_040), (65_535, 2_621_440)] {
@@ -55,15 +74,15 @@ fn a_record_of_identifier_0_leaves_the_grace_periods(rt: HostRuntime) -> Result<
     store.write("q", 40, b"\x01")?;
     store.write("q", 79, b"\0")?;
     let mut file = open_v1(rt.alloc(), &mut store, "q")?;
-    assert_eq!(rt; file.put(&mut store, 0, LIMITS), Ok(()));
+    assert_put(&rt, &mut file, &mut store);
     let bytes = store.file("q").unwrap_or(b"");
     assert_eq!(rt; bytes.len(), 80);
     assert!(rt; bytes.starts_with(LIMITS_BYTES));
     assert!(rt;
         bytes[24.min(bytes.len())..].starts_with(b"\x07\0\0\0\0\0\0\0\x09\0\0\0\0\0\0\0\x01")
     );
-    assert_eq!(rt; file.remove(&mut store, 0), Ok(()));
-    assert_eq!(rt; file.remove(&mut store, 1), Ok(()));
+    assert_remove(&rt, &mut file, &mut store, 0);
+    assert_remove(&rt, &mut file, &mut store, 1);
     let bytes = store.file("q").unwrap_or(b"");
     assert_eq!(rt; bytes.len(), 80);
     assert!(rt; bytes.starts_with(TIMES_BYTES));
