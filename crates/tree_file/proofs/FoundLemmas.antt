@@ -13,7 +13,7 @@ use Rattle.quota_types.specs.declared.file_kind.Format.{Format}
 use Rattle.tree_file.specs.declared.checked.CheckFault.{CheckFault}
 use Rattle.tree_file.specs.declared.checked.CheckFault.TheVariants.{Store, Damage as Damaged, Memory}
 use Rattle.tree_file.specs.declared.link.Link.{Link}
-use Rattle.tree_file.specs.declared.path.Path.{Path}
+use Rattle.tree_file.specs.declared.tree_path.TreePath.{TreePath}
 use Rattle.tree_file.specs.Block.{block_of, previous_of, stated_count}
 use Rattle.tree_file.specs.Chain.{IsChain}
 use Rattle.tree_file.specs.Check.{IsCheckFault, bytes_of}
@@ -30,7 +30,7 @@ use Rattle.tree_file.proofs.CountLemmas.{length_same_times, times-cons-same, tim
 use Rattle.tree_file.proofs.PathLemmas.{data_block_of_id, data_within, ids_distinct, times-data_blocks}
 
 -- as many identifiers lead to a block as paths come to it
-length_ids : (ps : List Path) (block : ℕ) → length (ids_at ps block) ≡ times (map (λ path. path.block) ps) block
+length_ids : (ps : List TreePath) (block : ℕ) → length (ids_at ps block) ≡ times (map (λ path. path.block) ps) block
 length_ids [] block = refl
 length_ids (p ∷ ps) block = elim (eqb_tells p.block block) [
   | inl same ↦
@@ -43,12 +43,12 @@ length_ids (p ∷ ps) block = elim (eqb_tells p.block block) [
       ∙ sym (times-cons-other p.block (map (λ path. path.block) ps) block other.1)
 ]
 
-ids_there : (blocks : ℕ) (ps : List Path) (groups : List (List ℕ)) (block : ℕ) → AreGroupsOf blocks ps groups → block < blocks → ids_of groups block ≡ ids_at ps block
+ids_there : (blocks : ℕ) (ps : List TreePath) (groups : List (List ℕ)) (block : ℕ) → AreGroupsOf blocks ps groups → block < blocks → ids_of groups block ≡ ids_at ps block
 ids_there blocks ps groups block are low =
     ap (λ (g : List (List ℕ)). get_or g block []) are ∙ get_or-map-range_with_len (ids_at ps) 0 blocks block block [] low (omega arith)
 
 -- a block to which identifiers lead is a block
-led_within : (blocks : ℕ) (ps : List Path) (groups : List (List ℕ)) (block : ℕ) → AreGroupsOf blocks ps groups → 1 ≤ length (ids_of groups block) → block < blocks
+led_within : (blocks : ℕ) (ps : List TreePath) (groups : List (List ℕ)) (block : ℕ) → AreGroupsOf blocks ps groups → 1 ≤ length (ids_of groups block) → block < blocks
 led_within blocks ps groups block are led = elim (cases_lt block blocks) [
   | inl low ↦ low
   | inr high ↦

@@ -7,7 +7,7 @@ use Rattle.std.proofs.lemmas.List.Elements.{filter-append}
 use Rattle.std.proofs.lemmas.List.FromFn.{get_or-map-range_with_len, length-map-range_with_len, map-range_with_len_more}
 use Rattle.std.proofs.lemmas.Bool.{cases_eq, eq-eqb, eqb-false, eqb-true, le-leb, lt-leb, ne_eqb}
 use Rattle.std.proofs.lemmas.Bool.Decides.{eqb_tells}
-use Rattle.tree_file.specs.declared.path.Path.{Path}
+use Rattle.tree_file.specs.declared.tree_path.TreePath.{TreePath}
 use Rattle.tree_file.specs.BlockSet.{AreFlagsOf}
 use Rattle.tree_file.specs.Count.{StandsIn, StandsTwiceIn, times}
 use Rattle.tree_file.specs.Groups.{AreGroupsOf, named_blocks}
@@ -38,53 +38,53 @@ set_made f g count at x low here others =
     ])
 
 -- the identifiers of the leaves of one more, by whether it names the block
-ids_at_same : (leaves : List Path) (leaf : Path) → ids_at (leaves ++ leaf ∷ []) leaf.block ≡ ids_at leaves leaf.block ++ leaf.number ∷ []
+ids_at_same : (leaves : List TreePath) (leaf : TreePath) → ids_at (leaves ++ leaf ∷ []) leaf.block ≡ ids_at leaves leaf.block ++ leaf.number ∷ []
 ids_at_same leaves leaf =
-    ap (λ (ps : List Path). map (λ path. path.number) ps) (filter-append (λ (path : Path). path.block == leaf.block) leaves (leaf ∷ []))
-    ∙ map-append (λ (path : Path). path.number) (filter (λ (path : Path). path.block == leaf.block) leaves) (filter (λ (path : Path). path.block == leaf.block) (leaf ∷ []))
-    ∙ ap (λ (b : Bool). ids_at leaves leaf.block ++ map (λ (path : Path). path.number) (cond b (leaf ∷ []) [])) (eq-eqb leaf.block leaf.block refl)
+    ap (λ (ps : List TreePath). map (λ path. path.number) ps) (filter-append (λ (path : TreePath). path.block == leaf.block) leaves (leaf ∷ []))
+    ∙ map-append (λ (path : TreePath). path.number) (filter (λ (path : TreePath). path.block == leaf.block) leaves) (filter (λ (path : TreePath). path.block == leaf.block) (leaf ∷ []))
+    ∙ ap (λ (b : Bool). ids_at leaves leaf.block ++ map (λ (path : TreePath). path.number) (cond b (leaf ∷ []) [])) (eq-eqb leaf.block leaf.block refl)
 
-ids_at_other : (leaves : List Path) (leaf : Path) (block : ℕ) → block ≢ leaf.block → ids_at (leaves ++ leaf ∷ []) block ≡ ids_at leaves block
+ids_at_other : (leaves : List TreePath) (leaf : TreePath) (block : ℕ) → block ≢ leaf.block → ids_at (leaves ++ leaf ∷ []) block ≡ ids_at leaves block
 ids_at_other leaves leaf block other =
-    ap (λ (ps : List Path). map (λ path. path.number) ps) (filter-append (λ (path : Path). path.block == block) leaves (leaf ∷ []))
-    ∙ map-append (λ (path : Path). path.number) (filter (λ (path : Path). path.block == block) leaves) (filter (λ (path : Path). path.block == block) (leaf ∷ []))
-    ∙ ap (λ (b : Bool). ids_at leaves block ++ map (λ (path : Path). path.number) (cond b (leaf ∷ []) [])) (ne_eqb leaf.block block (λ same. other (sym same)))
+    ap (λ (ps : List TreePath). map (λ path. path.number) ps) (filter-append (λ (path : TreePath). path.block == block) leaves (leaf ∷ []))
+    ∙ map-append (λ (path : TreePath). path.number) (filter (λ (path : TreePath). path.block == block) leaves) (filter (λ (path : TreePath). path.block == block) (leaf ∷ []))
+    ∙ ap (λ (b : Bool). ids_at leaves block ++ map (λ (path : TreePath). path.number) (cond b (leaf ∷ []) [])) (ne_eqb leaf.block block (λ same. other (sym same)))
     ∙ append-nil (ids_at leaves block)
 
 -- one leaf more
-pub groups_more : (blocks : ℕ) (leaves : List Path) (i : ℕ) (d : Path) (groups : List (List ℕ)) (ids : List ℕ) → i < length leaves → (get_or leaves i d).block < blocks
+pub groups_more : (blocks : ℕ) (leaves : List TreePath) (i : ℕ) (d : TreePath) (groups : List (List ℕ)) (ids : List ℕ) → i < length leaves → (get_or leaves i d).block < blocks
     → AreGroupsOf blocks (take i leaves) groups → ids ≡ get_or groups (get_or leaves i d).block ids
     → AreGroupsOf blocks (take (i + 1) leaves) (set groups (get_or leaves i d).block (ids ++ (get_or leaves i d).number ∷ []))
 groups_more blocks leaves i d groups ids low inside are is =
-    let leaf : Path = get_or leaves i d in
-    let first : List Path = take i leaves in
+    let leaf : TreePath = get_or leaves i d in
+    let first : List TreePath = take i leaves in
     let here : ids_at first leaf.block ≡ ids =
     sym (is ∙ ap (λ (gs : List (List ℕ)). get_or gs leaf.block ids) are ∙ get_or-map-range_with_len (ids_at first) 0 blocks leaf.block leaf.block ids inside (omega arith)) in
     ap (λ (gs : List (List ℕ)). set gs leaf.block (ids ++ leaf.number ∷ [])) are
     ∙ set_made (ids_at first) (ids_at (first ++ leaf ∷ [])) blocks leaf.block (ids ++ leaf.number ∷ []) inside
     (ids_at_same first leaf ∙ ap (λ (ns : List ℕ). ns ++ leaf.number ∷ []) here) (λ k other. ids_at_other first leaf k other)
-    ∙ ap (λ (ps : List Path). map (ids_at ps) (range_with_len 0 blocks)) (sym (take_more leaves i d low))
+    ∙ ap (λ (ps : List TreePath). map (ids_at ps) (range_with_len 0 blocks)) (sym (take_more leaves i d low))
 
 -- all leaves
-pub groups_all : (blocks : ℕ) (leaves : List Path) (i : ℕ) (groups : List (List ℕ)) → length leaves ≤ i → AreGroupsOf blocks (take i leaves) groups
+pub groups_all : (blocks : ℕ) (leaves : List TreePath) (i : ℕ) (groups : List (List ℕ)) → length leaves ≤ i → AreGroupsOf blocks (take i leaves) groups
     → AreGroupsOf blocks leaves groups
-groups_all blocks leaves i groups all are = subst (λ (ps : List Path). AreGroupsOf blocks ps groups) (take_all i leaves all) are
+groups_all blocks leaves i groups all are = subst (λ (ps : List TreePath). AreGroupsOf blocks ps groups) (take_all i leaves all) are
 
 -- a block has as many identifiers as leaves name it
-pub count_ids : (leaves : List Path) (block : ℕ) → length (ids_at leaves block) ≡ times (blocks_of leaves) block
+pub count_ids : (leaves : List TreePath) (block : ℕ) → length (ids_at leaves block) ≡ times (blocks_of leaves) block
 count_ids [] block = refl
 count_ids (leaf ∷ leaves) block =
-    let rest : List Path = filter (λ (path : Path). path.block == block) leaves in
+    let rest : List TreePath = filter (λ (path : TreePath). path.block == block) leaves in
     elim (eqb_tells leaf.block block) [
-      | inl same ↦ ap (λ (b : Bool). length (map (λ (path : Path). path.number) (cond b (leaf ∷ rest) rest))) same.0
+      | inl same ↦ ap (λ (b : Bool). length (map (λ (path : TreePath). path.number) (cond b (leaf ∷ rest) rest))) same.0
           ∙ ap suc (count_ids leaves block) ∙ ap (λ (n : ℕ). suc (times (blocks_of leaves) n)) (sym same.1)
           ∙ sym (times-cons-same leaf.block (blocks_of leaves)) ∙ ap (λ (n : ℕ). times (leaf.block ∷ blocks_of leaves) n) same.1
-      | inr other ↦ ap (λ (b : Bool). length (map (λ (path : Path). path.number) (cond b (leaf ∷ rest) rest))) other.0
+      | inr other ↦ ap (λ (b : Bool). length (map (λ (path : TreePath). path.number) (cond b (leaf ∷ rest) rest))) other.0
           ∙ count_ids leaves block ∙ sym (times-cons-other leaf.block (blocks_of leaves) block other.1)
     ]
 
 -- one block more, which leaves name or not
-named_yes : (count : ℕ) (leaves : List Path) → 1 ≤ times (blocks_of leaves) count → named_blocks (count + 1) leaves ≡ named_blocks count leaves ++ count ∷ []
+named_yes : (count : ℕ) (leaves : List TreePath) → 1 ≤ times (blocks_of leaves) count → named_blocks (count + 1) leaves ≡ named_blocks count leaves ++ count ∷ []
 named_yes count leaves some =
     let test : ℕ → Bool = λ block. nat_le 1 (times (blocks_of leaves) block) in
     ap (λ (ks : List ℕ). filter test ks) (range_push 0 count) ∙ filter-append test (range_with_len 0 count) ((0 + count) ∷ [])
@@ -94,7 +94,7 @@ named_yes count leaves some =
     zero_plus : 0 + count ≡ count
     zero_plus = omega arith
 
-named_no : (count : ℕ) (leaves : List Path) → times (blocks_of leaves) count ≡ 0 → named_blocks (count + 1) leaves ≡ named_blocks count leaves
+named_no : (count : ℕ) (leaves : List TreePath) → times (blocks_of leaves) count ≡ 0 → named_blocks (count + 1) leaves ≡ named_blocks count leaves
 named_no count leaves none =
     let test : ℕ → Bool = λ block. nat_le 1 (times (blocks_of leaves) block) in
     ap (λ (ks : List ℕ). filter test ks) (range_push 0 count) ∙ filter-append test (range_with_len 0 count) ((0 + count) ∷ [])
@@ -106,19 +106,19 @@ named_no count leaves none =
     zero_plus = omega arith
 
 -- so many groups as blocks, and each has the identifiers of its block
-pub count_groups : {V : Type 0} (items : V → List ℕ) (blocks : ℕ) (leaves : List Path) (groups : List V) → AreGroupsOf blocks leaves (map items groups)
+pub count_groups : {V : Type 0} (items : V → List ℕ) (blocks : ℕ) (leaves : List TreePath) (groups : List V) → AreGroupsOf blocks leaves (map items groups)
     → length groups ≡ blocks
 count_groups items blocks leaves groups are =
     sym (length-map groups items) ∙ ap length are ∙ length-map-range_with_len (ids_at leaves) 0 blocks
 
-pub group_at : {V : Type 0} (items : V → List ℕ) (blocks : ℕ) (leaves : List Path) (groups : List V) (block : ℕ) (group : V) → AreGroupsOf blocks leaves (map items groups)
+pub group_at : {V : Type 0} (items : V → List ℕ) (blocks : ℕ) (leaves : List TreePath) (groups : List V) (block : ℕ) (group : V) → AreGroupsOf blocks leaves (map items groups)
     → block < length groups → group ≡ get_or groups block group → items group ≡ ids_at leaves block
 group_at items blocks leaves groups block group are low is =
     ap items is ∙ sym (get_or-map items groups block group (items group) low) ∙ ap (λ (gs : List (List ℕ)). get_or gs block (items group)) are
     ∙ get_or-map-range_with_len (ids_at leaves) 0 blocks block block (items group) (omega (arith, low, count_groups items blocks leaves groups are)) (omega arith)
 
 -- a block that leaves name, and that was met before, stands twice
-pub named_twice : (blocks block : ℕ) (leaves : List Path) (numbers : List ℕ) → block < blocks → 1 ≤ length (ids_at leaves block)
+pub named_twice : (blocks block : ℕ) (leaves : List TreePath) (numbers : List ℕ) → block < blocks → 1 ≤ length (ids_at leaves block)
     → StandsIn (numbers ++ named_blocks block leaves) block → StandsTwiceIn (numbers ++ named_blocks blocks leaves) block
 named_twice blocks block leaves numbers low some stands =
     let test : ℕ → Bool = λ other. nat_le 1 (times (blocks_of leaves) other) in
@@ -135,14 +135,14 @@ named_twice blocks block leaves numbers low some stands =
     )
 
 -- the set after one more block
-pub marked_yes : (blocks block : ℕ) (flags : List Bool) (leaves : List Path) (numbers : List ℕ) → 1 ≤ length (ids_at leaves block)
+pub marked_yes : (blocks block : ℕ) (flags : List Bool) (leaves : List TreePath) (numbers : List ℕ) → 1 ≤ length (ids_at leaves block)
     → AreFlagsOf blocks flags ((numbers ++ named_blocks block leaves) ++ block ∷ []) → AreFlagsOf blocks flags (numbers ++ named_blocks (block + 1) leaves)
 marked_yes blocks block flags leaves numbers some are =
     subst (λ (all : List ℕ). AreFlagsOf blocks flags all)
     (append_assoc numbers (named_blocks block leaves) (block ∷ [])
     ∙ ap (λ (all : List ℕ). numbers ++ all) (sym (named_yes block leaves (omega (arith, some, count_ids leaves block))))) are
 
-pub marked_no : (blocks block : ℕ) (flags : List Bool) (leaves : List Path) (numbers : List ℕ) → length (ids_at leaves block) ≡ 0
+pub marked_no : (blocks block : ℕ) (flags : List Bool) (leaves : List TreePath) (numbers : List ℕ) → length (ids_at leaves block) ≡ 0
     → AreFlagsOf blocks flags (numbers ++ named_blocks block leaves) → AreFlagsOf blocks flags (numbers ++ named_blocks (block + 1) leaves)
 marked_no blocks block flags leaves numbers none are =
     subst (λ (all : List ℕ). AreFlagsOf blocks flags (numbers ++ all)) (sym (named_no block leaves (sym (count_ids leaves block) ∙ none))) are
@@ -153,7 +153,7 @@ pub pushed_group : {V : Type 0} (items : V → List ℕ) (groups now : List V) (
 pushed_group {V} items groups now group pushed empty =
     ap (λ (gs : List V). map items gs) pushed ∙ map-append items groups (group ∷ []) ∙ ap (λ (ids : List ℕ). map items groups ++ ids ∷ []) empty
 
-pub group_grown : {V : Type 0} (items : V → List ℕ) (blocks : ℕ) (leaves : List Path) (i : ℕ) (d : Path) (groups now : List V) (group grown : V) → i < length leaves
+pub group_grown : {V : Type 0} (items : V → List ℕ) (blocks : ℕ) (leaves : List TreePath) (i : ℕ) (d : TreePath) (groups now : List V) (group grown : V) → i < length leaves
     → (get_or leaves i d).block < blocks → AreGroupsOf blocks (take i leaves) (map items groups) → group ≡ get_or groups (get_or leaves i d).block group
     → items grown ≡ items group ++ (get_or leaves i d).number ∷ [] → now ≡ set groups (get_or leaves i d).block grown
     → AreGroupsOf blocks (take (i + 1) leaves) (map items now)

@@ -8,7 +8,7 @@ use Rattle.tree_file.specs.declared.checked.CheckFault.{CheckFault}
 use Rattle.tree_file.specs.declared.checked.CheckFault.TheVariants.{Store, Damage as Damaged, Memory}
 use Rattle.std.proofs.lemmas.Bool.Decides.{nat_tests}
 use Rattle.std.specs.Prelude.{Bool}
-use Rattle.tree_file.specs.declared.path.Path.{Path}
+use Rattle.tree_file.specs.declared.tree_path.TreePath.{TreePath}
 use Rattle.tree_file.specs.BlockSet.{AreFlagsOf}
 use Rattle.tree_file.specs.Check.{IsCheckFault, bytes_of}
 use Rattle.tree_file.specs.Block.{block_of}
@@ -22,29 +22,29 @@ pub leads_below : (blocks reference : ℕ) → IsTrue (leads blocks reference) �
 leads_below blocks reference h = grind (arith, nat_tests)
 
 -- the set after one more block of a level
-pub met_more : (blocks : ℕ) (flags : List Bool) (numbers : List ℕ) (paths : List Path) (i : ℕ) (d : Path) → i < length paths
+pub met_more : (blocks : ℕ) (flags : List Bool) (numbers : List ℕ) (paths : List TreePath) (i : ℕ) (d : TreePath) → i < length paths
     → AreFlagsOf blocks flags ((numbers ++ blocks_of (take i paths)) ++ (get_or paths i d).block ∷ [])
     → AreFlagsOf blocks flags (numbers ++ blocks_of (take (i + 1) paths))
 met_more blocks flags numbers paths i d low are =
     let first : List ℕ = blocks_of (take i paths) in
-    let more : blocks_of (take (i + 1) paths) ≡ first ++ (get_or paths i d).block ∷ [] = map_more (λ (path : Path). path.block) paths i d low in
+    let more : blocks_of (take (i + 1) paths) ≡ first ++ (get_or paths i d).block ∷ [] = map_more (λ (path : TreePath). path.block) paths i d low in
     subst (λ (all : List ℕ). AreFlagsOf blocks flags all) (append_assoc numbers first ((get_or paths i d).block ∷ []) ∙ ap (λ (all : List ℕ). numbers ++ all) (sym more)) are
 
 -- the set after all blocks of a level
-pub met_all : (blocks : ℕ) (flags : List Bool) (numbers : List ℕ) (paths : List Path) (i : ℕ) → length paths ≤ i
+pub met_all : (blocks : ℕ) (flags : List Bool) (numbers : List ℕ) (paths : List TreePath) (i : ℕ) → length paths ≤ i
     → AreFlagsOf blocks flags (numbers ++ blocks_of (take i paths)) → AreFlagsOf blocks flags (numbers ++ blocks_of paths)
 met_all blocks flags numbers paths i all are =
-    subst (λ (ps : List Path). AreFlagsOf blocks flags (numbers ++ blocks_of ps)) (take_all i paths all) are
+    subst (λ (ps : List TreePath). AreFlagsOf blocks flags (numbers ++ blocks_of ps)) (take_all i paths all) are
 
 -- the blocks of a level, parted at one of them
-blocks_of_parted : (paths : List Path) (i : ℕ) (d : Path) → i < length paths
+blocks_of_parted : (paths : List TreePath) (i : ℕ) (d : TreePath) → i < length paths
     → blocks_of paths ≡ blocks_of (take i paths) ++ (get_or paths i d).block ∷ blocks_of (drop (i + 1) paths)
 blocks_of_parted paths i d low =
-    ap blocks_of (sym (take-append-drop i paths)) ∙ map-append (λ (path : Path). path.block) (take i paths) (drop i paths)
-    ∙ ap (λ (ps : List Path). blocks_of (take i paths) ++ blocks_of ps) (drop_more paths i d low)
+    ap blocks_of (sym (take-append-drop i paths)) ∙ map-append (λ (path : TreePath). path.block) (take i paths) (drop i paths)
+    ∙ ap (λ (ps : List TreePath). blocks_of (take i paths) ++ blocks_of ps) (drop_more paths i d low)
 
 -- a block of a level stands in it
-pub stands_in_level : (paths : List Path) (i : ℕ) (d : Path) → i < length paths → StandsIn (blocks_of paths) (get_or paths i d).block
+pub stands_in_level : (paths : List TreePath) (i : ℕ) (d : TreePath) → i < length paths → StandsIn (blocks_of paths) (get_or paths i d).block
 stands_in_level paths i d low =
     let block : ℕ = (get_or paths i d).block in
     let behind : List ℕ = blocks_of (drop (i + 1) paths) in
@@ -56,7 +56,7 @@ stands_in_level paths i d low =
     )
 
 -- a block of a level that was met before stands twice
-pub met_twice : (numbers : List ℕ) (paths : List Path) (i : ℕ) (d : Path) → i < length paths
+pub met_twice : (numbers : List ℕ) (paths : List TreePath) (i : ℕ) (d : TreePath) → i < length paths
     → StandsIn (numbers ++ blocks_of (take i paths)) (get_or paths i d).block → StandsTwiceIn (numbers ++ blocks_of paths) (get_or paths i d).block
 met_twice numbers paths i d low stands =
     let block : ℕ = (get_or paths i d).block in
@@ -77,7 +77,7 @@ pub only_one : (x n : ℕ) → StandsIn (x ∷ []) n → x ≡ n
 only_one x n stands = elim (times_cases x [] n) [ inl same ↦ same.0 | inr other ↦ absurd (omega (arith, stands, other.1)) ]
 
 -- a damage of one block of a level is one of the level
-pub defect_in_level : (file : List ℕ) (blocks : ℕ) (paths : List Path) (i : ℕ) (d : Path) → i < length paths → (damage : Damage)
+pub defect_in_level : (file : List ℕ) (blocks : ℕ) (paths : List TreePath) (i : ℕ) (d : TreePath) → i < length paths → (damage : Damage)
     → IsLevelDefect file blocks ((get_or paths i d).block ∷ []) damage → IsLevelDefect file blocks (blocks_of paths) damage
 defect_in_level file blocks paths i d low damage one = record {
   stands = subst (λ (n : ℕ). StandsIn (blocks_of paths) n) (only_one (get_or paths i d).block damage.block one.stands) (stands_in_level paths i d low);
@@ -86,7 +86,7 @@ defect_in_level file blocks paths i d low damage one = record {
 }
 
 -- a refusal at one block of a level is one of the level
-pub level_refused : (before now blocks : ℕ) (tells : Bool) (file block : List ℕ) (paths : List Path) (i : ℕ) (d : Path) → i < length paths
+pub level_refused : (before now blocks : ℕ) (tells : Bool) (file block : List ℕ) (paths : List TreePath) (i : ℕ) (d : TreePath) → i < length paths
     → (IsTrue tells → block ≡ block_of file (get_or paths i d).block) → (fault : CheckFault)
     → IsStepFault (λ damage. (other : List ℕ) → block ≡ block_of other (get_or paths i d).block
     → IsLevelDefect other blocks ((get_or paths i d).block ∷ []) damage) fault
@@ -102,12 +102,12 @@ pub read_of_same : (name : List ℕ) (files now : List ℕ → Option (List ℕ)
 read_of_same name files now number block same is = is ∙ ap (λ (fs : List ℕ → Option (List ℕ)). block_of (bytes_of (fs name)) number) same
 
 -- the paths that go on from one more of a level
-pub paths_more : (file : List ℕ) (blocks : ℕ) (paths next now : List Path) (i : ℕ) (d : Path) → i < length paths
+pub paths_more : (file : List ℕ) (blocks : ℕ) (paths next now : List TreePath) (i : ℕ) (d : TreePath) → i < length paths
     → next ≡ flat_map (steps file blocks) (take i paths) → now ≡ next ++ steps file blocks (get_or paths i d)
     → now ≡ flat_map (steps file blocks) (take (i + 1) paths)
 paths_more file blocks paths next now i d low before added =
-    let f : Path → List Path = steps file blocks in
-    added ∙ ap (λ (ps : List Path). ps ++ f (get_or paths i d)) before
-    ∙ ap (λ (ps : List Path). flat_map f (take i paths) ++ ps) (sym (append-nil (f (get_or paths i d))))
+    let f : TreePath → List TreePath = steps file blocks in
+    added ∙ ap (λ (ps : List TreePath). ps ++ f (get_or paths i d)) before
+    ∙ ap (λ (ps : List TreePath). flat_map f (take i paths) ++ ps) (sym (append-nil (f (get_or paths i d))))
     ∙ sym (flat_map-append f (take i paths) (get_or paths i d ∷ []))
-    ∙ ap (λ (ps : List Path). flat_map f ps) (sym (take_more paths i d low))
+    ∙ ap (λ (ps : List TreePath). flat_map f ps) (sym (take_more paths i d low))

@@ -8,7 +8,7 @@ use Rattle.std.specs.List.{count_by, range_with_len}
 use Rattle.tree_file.specs.declared.chain.Walk.{Walk}
 use Rattle.tree_file.specs.declared.checked.CheckFault.{CheckFault}
 use Rattle.tree_file.specs.declared.link.Link.{Link}
-use Rattle.tree_file.specs.declared.path.Path.{Path}
+use Rattle.tree_file.specs.declared.tree_path.TreePath.{TreePath}
 use Rattle.tree_file.specs.BlockSet.{AreFlagsOf}
 use Rattle.tree_file.specs.Count.{times}
 use Rattle.tree_file.specs.Groups.{AreGroupsOf, named_blocks}
@@ -25,10 +25,10 @@ pub marked_fit : (blocks : ℕ) (flags : List Bool) (numbers : List ℕ) → Are
 marked_fit blocks flags numbers are = few_of_distinct blocks numbers are.distinct are.inside
 
 -- nor with those of a level
-pub level_fits : (blocks : ℕ) (flags : List Bool) (numbers : List ℕ) (level : List Path) → AreFlagsOf blocks flags (numbers ++ blocks_of level)
+pub level_fits : (blocks : ℕ) (flags : List Bool) (numbers : List ℕ) (level : List TreePath) → AreFlagsOf blocks flags (numbers ++ blocks_of level)
     → length numbers + length level ≤ blocks
 level_fits blocks flags numbers level are =
-    omega (arith, marked_fit blocks flags (numbers ++ blocks_of level) are, length-append numbers (blocks_of level), length-map level (λ (path : Path). path.block))
+    omega (arith, marked_fit blocks flags (numbers ++ blocks_of level) are, length-append numbers (blocks_of level), length-map level (λ (path : TreePath). path.block))
 
 -- nor with one more of a list
 pub links_fit : (blocks : ℕ) (flags : List Bool) (links : List Link) (at : ℕ) → AreFlagsOf blocks flags (linked_blocks links ++ at ∷ [])
@@ -54,7 +54,7 @@ led_first groups i =
     omega (arith, sum_by-append (λ (ids : List ℕ). cond (test ids) 1 0) (take i groups) (drop i groups), ap led_blocks (take-append-drop i groups))
 
 -- the blocks that leaves name are those to which identifiers lead
-led_from : (leaves : List Path) (low count : ℕ)
+led_from : (leaves : List TreePath) (low count : ℕ)
     → led_blocks (map (ids_at leaves) (range_with_len low count)) ≡ count_by (λ block. nat_le 1 (times (blocks_of leaves) block)) (range_with_len low count)
 led_from leaves low zero = refl
 led_from leaves low (suc count) =
@@ -70,7 +70,7 @@ led_from leaves low (suc count) =
       led_from leaves (low + 1) count,
     )
 
-pub led_named : (blocks : ℕ) (leaves : List Path) (groups : List (List ℕ)) → AreGroupsOf blocks leaves groups → led_blocks groups ≡ length (named_blocks blocks leaves)
+pub led_named : (blocks : ℕ) (leaves : List TreePath) (groups : List (List ℕ)) → AreGroupsOf blocks leaves groups → led_blocks groups ≡ length (named_blocks blocks leaves)
 led_named blocks leaves groups are =
     ap led_blocks are ∙ led_from leaves 0 blocks ∙ sym (length-filter (λ (block : ℕ). nat_le 1 (times (blocks_of leaves) block)) (range_with_len 0 blocks))
 
@@ -83,13 +83,13 @@ marked_start blocks flags numbers reads are = record {
 }
 
 -- after one more level, whose blocks were marked before they were read
-pub marked_level : (blocks : ℕ) (flags next : List Bool) (numbers : List ℕ) (level : List Path) (before between now : ℕ) → AreMarkedReads blocks flags numbers before between
+pub marked_level : (blocks : ℕ) (flags next : List Bool) (numbers : List ℕ) (level : List TreePath) (before between now : ℕ) → AreMarkedReads blocks flags numbers before between
     → ((others : List ℕ) → AreFlagsOf blocks flags others → AreFlagsOf blocks next (others ++ blocks_of level)) → now ≤ between + length level
     → AreMarkedReads blocks next numbers before now
 marked_level blocks flags next numbers level before between now so_far marks few = record {
   more = so_far.more ++ blocks_of level;
   marked = subst (λ (all : List ℕ). AreFlagsOf blocks next all) (append_assoc numbers so_far.more (blocks_of level)) (marks (numbers ++ so_far.more) so_far.marked);
-  few = omega (arith, so_far.few, few, length-append so_far.more (blocks_of level), length-map level (λ (path : Path). path.block));
+  few = omega (arith, so_far.few, few, length-append so_far.more (blocks_of level), length-map level (λ (path : TreePath). path.block));
 }
 
 -- no more blocks were read than are not marked before
@@ -99,7 +99,7 @@ marked_few blocks flags numbers before between now so_far few =
     omega (arith, so_far.few, few (numbers ++ so_far.more) so_far.marked, length-append numbers so_far.more)
 
 -- after the last level, by what a call answers
-pub marked_end : {T : Type 0} (blocks : ℕ) (start flags next : List Bool) (level : List Path) (before between now : ℕ)
+pub marked_end : {T : Type 0} (blocks : ℕ) (start flags next : List Bool) (level : List TreePath) (before between now : ℕ)
     → ((numbers : List ℕ) → AreFlagsOf blocks start numbers → AreMarkedReads blocks flags numbers before between)
     → (result : Result T CheckFault) → OnOk result ((others : List ℕ) → AreFlagsOf blocks flags others → AreFlagsOf blocks next (others ++ blocks_of level))
     → now ≤ between + length level → OnOk result ((numbers : List ℕ) → AreFlagsOf blocks start numbers → AreMarkedReads blocks next numbers before now)
@@ -108,7 +108,7 @@ marked_end blocks start flags next level before between now so_far (Ok found) ma
 marked_end blocks start flags next level before between now so_far (Err fault) marks few = tt
 
 -- the blocks that were read for their roles, and the data blocks, which are not read yet, are no more than there are
-pub roles_few : (blocks : ℕ) (found flags : List Bool) (leaves : List Path) (groups : List (List ℕ)) (links : List Link) (before between now : ℕ)
+pub roles_few : (blocks : ℕ) (found flags : List Bool) (leaves : List TreePath) (groups : List (List ℕ)) (links : List Link) (before between now : ℕ)
     → (so_far : AreMarkedReads blocks found (0 ∷ []) before between) → now ≤ between + length links → AreGroupsOf blocks leaves groups
     → AreFlagsOf blocks flags ((((0 ∷ []) ++ so_far.more) ++ named_blocks blocks leaves) ++ linked_blocks links)
     → now + led_blocks groups ≤ before + blocks

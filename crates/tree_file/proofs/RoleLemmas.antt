@@ -10,7 +10,7 @@ use Rattle.quota_types.specs.declared.file_kind.Format.{Format}
 use Rattle.tree_file.specs.declared.checked.CheckFault.{CheckFault}
 use Rattle.tree_file.specs.declared.checked.CheckFault.TheVariants.{Store, Damage as Damaged, Memory}
 use Rattle.tree_file.specs.declared.link.Link.{Link}
-use Rattle.tree_file.specs.declared.path.Path.{Path}
+use Rattle.tree_file.specs.declared.tree_path.TreePath.{TreePath}
 use Rattle.tree_file.specs.BlockSet.{AreFlagsOf}
 use Rattle.tree_file.specs.Chain.{IsChain}
 use Rattle.tree_file.specs.Check.{IsCheckFault}
@@ -100,9 +100,9 @@ tree_refused before now tells file blocks free_head flags (Damaged damage) are i
 tree_refused before now tells file blocks free_head flags Memory are is = tt
 
 -- what the marking of the data blocks was refused for
-pub data_marked_refused : (before now : ℕ) (tells : Bool) (file : List ℕ) (blocks free_head : ℕ) (flags : List Bool) (found : List Path) (groups : List (List ℕ)) (fault : CheckFault)
+pub data_marked_refused : (before now : ℕ) (tells : Bool) (file : List ℕ) (blocks free_head : ℕ) (flags : List Bool) (found : List TreePath) (groups : List (List ℕ)) (fault : CheckFault)
     → (IsTrue tells → found ≡ leaves file blocks) → (IsTrue tells → AreFlagsOf blocks flags (0 ∷ tree_blocks file blocks)) → AreGroupsOf blocks found groups
-    → IsStepFault (λ damage. (all : ℕ) → (leaves : List Path) → (numbers : List ℕ) → AreGroupsOf all leaves groups → AreFlagsOf all flags numbers
+    → IsStepFault (λ damage. (all : ℕ) → (leaves : List TreePath) → (numbers : List ℕ) → AreGroupsOf all leaves groups → AreFlagsOf all flags numbers
     → IsSecondRole (numbers ++ named_blocks all leaves) damage) fault
     → IsCheckFault before now (λ damage. IsTrue tells → IsRoleDefect file blocks free_head damage) fault
 data_marked_refused before now tells file blocks free_head flags found groups Store are_leaves marked are is = absurd is
@@ -111,7 +111,7 @@ data_marked_refused before now tells file blocks free_head flags found groups (D
   λ told.
       let chain = some_chain file blocks free_head in
       second_role file blocks free_head chain.0 chain.1 ((0 ∷ tree_blocks file blocks) ++ data_blocks file blocks) chain.0 damage chain.2 refl
-      (is.1 blocks (leaves file blocks) (0 ∷ tree_blocks file blocks) (subst (λ (ps : List Path). AreGroupsOf blocks ps groups) (are_leaves told) are) (marked told)),
+      (is.1 blocks (leaves file blocks) (0 ∷ tree_blocks file blocks) (subst (λ (ps : List TreePath). AreGroupsOf blocks ps groups) (are_leaves told) are) (marked told)),
 )
 data_marked_refused before now tells file blocks free_head flags found groups Memory are_leaves marked are is = tt
 
@@ -167,22 +167,22 @@ none_empty file blocks free flags whole are block lower =
     whole.not_empty block lower not_root
 
 -- how many blocks there are groups of
-pub length_groups : (blocks : ℕ) (found : List Path) (groups : List (List ℕ)) → AreGroupsOf blocks found groups → length groups ≡ blocks
+pub length_groups : (blocks : ℕ) (found : List TreePath) (groups : List (List ℕ)) → AreGroupsOf blocks found groups → length groups ≡ blocks
 length_groups blocks found groups are = ap length are ∙ length-map-range_with_len (ids_at found) 0 blocks
 
 -- the groups, by the lists that a call was given and has answered
-pub groups_are : (blocks : ℕ) (found given : List Path) (groups : List (List ℕ)) → given ≡ found → AreWithin blocks (2 ^ 32) found
+pub groups_are : (blocks : ℕ) (found given : List TreePath) (groups : List (List ℕ)) → given ≡ found → AreWithin blocks (2 ^ 32) found
     → ((bound : ℕ) → AreWithin blocks bound given → AreGroupsOf blocks given groups) → AreGroupsOf blocks found groups
 groups_are blocks found given groups same within are =
-    subst (λ (ps : List Path). AreGroupsOf blocks ps groups) same (are (2 ^ 32) (subst (λ (ps : List Path). AreWithin blocks (2 ^ 32) ps) (sym same) within))
+    subst (λ (ps : List TreePath). AreGroupsOf blocks ps groups) same (are (2 ^ 32) (subst (λ (ps : List TreePath). AreWithin blocks (2 ^ 32) ps) (sym same) within))
 
 -- the blocks that have a role, once the data blocks are marked
-pub data_marked : (file : List ℕ) (blocks : ℕ) (flags now : List Bool) (found : List Path) (groups : List (List ℕ)) → found ≡ leaves file blocks
+pub data_marked : (file : List ℕ) (blocks : ℕ) (flags now : List Bool) (found : List TreePath) (groups : List (List ℕ)) → found ≡ leaves file blocks
     → AreFlagsOf blocks flags (0 ∷ tree_blocks file blocks) → AreGroupsOf blocks found groups
-    → ((all : ℕ) (leaves : List Path) (numbers : List ℕ) → AreGroupsOf all leaves groups → AreFlagsOf all flags numbers → AreFlagsOf all now (numbers ++ named_blocks all leaves))
+    → ((all : ℕ) (leaves : List TreePath) (numbers : List ℕ) → AreGroupsOf all leaves groups → AreFlagsOf all flags numbers → AreFlagsOf all now (numbers ++ named_blocks all leaves))
     → AreFlagsOf blocks now ((0 ∷ tree_blocks file blocks) ++ data_blocks file blocks)
 data_marked file blocks flags now found groups are_leaves marked are more =
-    more blocks (leaves file blocks) (0 ∷ tree_blocks file blocks) (subst (λ (ps : List Path). AreGroupsOf blocks ps groups) are_leaves are) marked
+    more blocks (leaves file blocks) (0 ∷ tree_blocks file blocks) (subst (λ (ps : List TreePath). AreGroupsOf blocks ps groups) are_leaves are) marked
 
 -- what follows of the blocks of a list once they are marked, or are not
 pub links_marked : (R : ℕ → List ℕ → Type 0) (blocks : ℕ) (flags : List Bool) (numbers : List ℕ) (links given : List Link) → given ≡ links

@@ -13,7 +13,7 @@ use Rattle.quota_types.specs.declared.record.Entry.{Entry}
 use Rattle.quota_types.specs.declared.record.Rec.{Rec}
 use Rattle.quota_blocks.specs.QuotaValue.{QuotaValue}
 use Rattle.entry_codec.specs.Header.{format_of, header_of, magic_of}
-use Rattle.tree_file.specs.declared.path.Path.{Path}
+use Rattle.tree_file.specs.declared.tree_path.TreePath.{TreePath}
 use Rattle.tree_file.specs.Block.{block_of}
 use Rattle.tree_file.specs.Count.{StandsIn}
 use Rattle.tree_file.specs.Entries.{used_entries}
@@ -37,21 +37,21 @@ found_entry (e ∷ entries) id stands =
     ]
 
 -- a leaf has a record
-abbrev HasRecord : Format → List ℕ → Path → Type 0
+abbrev HasRecord : Format → List ℕ → TreePath → Type 0
 HasRecord format file leaf = (rec : Rec) × (record_in format (block_of file leaf.block) leaf.number ≡ Some rec)
 
 leaves_have_records : (file : List ℕ) (blocks : ℕ) (format : Format) → Filled format file blocks → AllByRecursion (HasRecord format file) (leaves file blocks)
 leaves_have_records file blocks format filled =
-    each_weaker (λ (leaf : Path). StandsIn (ids_at (leaves file blocks) leaf.block) leaf.number) (HasRecord format file) (leaves file blocks)
+    each_weaker (λ (leaf : TreePath). StandsIn (ids_at (leaves file blocks) leaf.block) leaf.number) (HasRecord format file) (leaves file blocks)
     (λ leaf stands. found_entry (used_entries format (block_of file leaf.block)) leaf.number (omega (arith, filled.one_entry leaf.block leaf.number stands)))
     (leaves_lead file blocks)
 
 -- the identifiers of leaves with their records
-leaf_records : (format : Format) (file : List ℕ) (ps : List Path) → AllByRecursion (HasRecord format file) ps → List (ℕ × Rec)
+leaf_records : (format : Format) (file : List ℕ) (ps : List TreePath) → AllByRecursion (HasRecord format file) ps → List (ℕ × Rec)
 leaf_records format file [] all = []
 leaf_records format file (p ∷ ps) all = (p.number, all.0.0) ∷ leaf_records format file ps all.1
 
-length-leaf_records : (format : Format) (file : List ℕ) (ps : List Path) (all : AllByRecursion (HasRecord format file) ps) → length (leaf_records format file ps all) ≡ length ps
+length-leaf_records : (format : Format) (file : List ℕ) (ps : List TreePath) (all : AllByRecursion (HasRecord format file) ps) → length (leaf_records format file ps all) ≡ length ps
 unfolding leaf_records
 length-leaf_records format file [] all = refl
 length-leaf_records format file (p ∷ ps) all = ap suc (length-leaf_records format file ps all.1)
@@ -60,7 +60,7 @@ both : (a b : Bool) → T a → T b → T (a && b)
 both true b p q = q
 both false b p q = p
 
-below_records : (format : Format) (file : List ℕ) (low high : ℕ) (ps : List Path) (all : AllByRecursion (HasRecord format file) ps) (n : ℕ) → Rises low ps high → n < low
+below_records : (format : Format) (file : List ℕ) (low high : ℕ) (ps : List TreePath) (all : AllByRecursion (HasRecord format file) ps) (n : ℕ) → Rises low ps high → n < low
     → T (below_all nat_cmp n (leaf_records format file ps all))
 unfolding leaf_records
 below_records format file low high [] all n r h = tt
@@ -70,7 +70,7 @@ below_records format file low high (p ∷ ps) all n r h =
     both (is_lt (nat_cmp n p.number)) (below_all nat_cmp n (leaf_records format file ps all.1)) (subst (λ o. T (is_lt o)) less tt)
     (below_records format file (suc p.number) high ps all.1 n r.1 (omega arith))
 
-sorted_records : (format : Format) (file : List ℕ) (low high : ℕ) (ps : List Path) (all : AllByRecursion (HasRecord format file) ps) → Rises low ps high
+sorted_records : (format : Format) (file : List ℕ) (low high : ℕ) (ps : List TreePath) (all : AllByRecursion (HasRecord format file) ps) → Rises low ps high
     → T (is_sorted nat_cmp (leaf_records format file ps all))
 unfolding leaf_records
 sorted_records format file low high [] all r = tt
@@ -79,14 +79,14 @@ sorted_records format file low high (p ∷ ps) all r =
     (below_records format file (suc p.number) high ps all.1 p.number r.1 (omega arith)) (sorted_records format file (suc p.number) high ps all.1 r.1)
 
 -- the record of an identifier among those of the leaves
-find-leaf_records : (format : Format) (file : List ℕ) (ps : List Path) (all : AllByRecursion (HasRecord format file) ps) (id : ℕ)
-    → find_key nat_cmp id (leaf_records format file ps all) ≡ option_and_then (λ (leaf : Path). record_in format (block_of file leaf.block) id) (find (λ (leaf : Path). leaf.number == id) ps)
+find-leaf_records : (format : Format) (file : List ℕ) (ps : List TreePath) (all : AllByRecursion (HasRecord format file) ps) (id : ℕ)
+    → find_key nat_cmp id (leaf_records format file ps all) ≡ option_and_then (λ (leaf : TreePath). record_in format (block_of file leaf.block) id) (find (λ (leaf : TreePath). leaf.number == id) ps)
 unfolding leaf_records
 find-leaf_records format file [] all id = refl
 find-leaf_records format file (p ∷ ps) all id =
     let later : Option Rec = find_key nat_cmp id (leaf_records format file ps all.1) in
-    let first = λ (b : Bool). cond b (Some p) (find (λ (leaf : Path). leaf.number == id) ps) in
-    let read = λ (leaf : Path). record_in format (block_of file leaf.block) id in
+    let first = λ (b : Bool). cond b (Some p) (find (λ (leaf : TreePath). leaf.number == id) ps) in
+    let read = λ (leaf : TreePath). record_in format (block_of file leaf.block) id in
     elim (eqb_tells p.number id) [
       | inl same ↦ ap (λ (b : Bool). cond b (Some all.0.0) later) (unsigned_tied id p.number ∙ eq-eqb id p.number (sym same.1))
           ∙ sym (ap (λ (b : Bool). option_and_then read (first b)) same.0 ∙ ap (record_in format (block_of file p.block)) (sym same.1) ∙ all.0.1)

@@ -1,15 +1,15 @@
 -- Identifiers by the block to which they lead.
 use Rattle.std.specs.Prelude.{◌≡◌, ℕ, nat_le, List, map}
 use Rattle.std.specs.List.{filter, range_with_len}
-use Rattle.tree_file.specs.declared.path.Path.{Path}
+use Rattle.tree_file.specs.declared.tree_path.TreePath.{TreePath}
 use Rattle.tree_file.specs.Count.{times}
 use Rattle.tree_file.specs.Levels.{blocks_of}
 use Rattle.tree_file.specs.Tree.{ids_at}
 
 -- these are, for each of so many blocks, the identifiers of those leaves that name it
-abbrev pub AreGroupsOf : ℕ → List Path → List (List ℕ) → Type 0
+abbrev pub AreGroupsOf : ℕ → List TreePath → List (List ℕ) → Type 0
 AreGroupsOf blocks leaves groups = groups ≡ map (ids_at leaves) (range_with_len 0 blocks)
 
 -- the blocks that leaves name, each once
-abbrev pub named_blocks : ℕ → List Path → List ℕ
+abbrev pub named_blocks : ℕ → List TreePath → List ℕ
 named_blocks blocks leaves = filter (λ block. nat_le 1 (times (blocks_of leaves) block)) (range_with_len 0 blocks)

@@ -5,7 +5,7 @@ use Rattle.quota_types.specs.declared.damage.DamageKind.{DamageKind}
 use Rattle.quota_types.specs.declared.damage.DamageKind.TheVariants.{RefOut, EmptyTree, TwoRoles}
 use Rattle.tree_file.specs.declared.checked.CheckFault.{CheckFault}
 use Rattle.tree_file.specs.declared.checked.CheckFault.TheVariants.{Store, Damage as Damaged, Memory}
-use Rattle.tree_file.specs.declared.path.Path.{Path}
+use Rattle.tree_file.specs.declared.tree_path.TreePath.{TreePath}
 use Rattle.tree_file.specs.Block.{word_at}
 use Rattle.tree_file.specs.Count.{StandsIn, StandsTwiceIn}
 use Rattle.tree_file.specs.Defect.{IsEmptyTree, IsRefOut, NamesItsId}
@@ -13,12 +13,12 @@ use Rattle.tree_file.specs.Roles.{IsEmpty}
 use Rattle.tree_file.specs.Tree.{leads, lower_blocks, tree_blocks}
 
 -- the blocks to which some paths come, in order
-abbrev pub blocks_of : List Path → List ℕ
+abbrev pub blocks_of : List TreePath → List ℕ
 blocks_of paths = map (λ path. path.block) paths
 
 -- each of some paths has a number below a bound, and comes to a block other than that of the header
-abbrev pub AreWithin : ℕ → ℕ → List Path → Type 0
-AreWithin blocks bound paths = All (λ (path : Path). (path.number < bound) × IsTrue (leads blocks path.block)) paths
+abbrev pub AreWithin : ℕ → ℕ → List TreePath → Type 0
+AreWithin blocks bound paths = All (λ (path : TreePath). (path.number < bound) × IsTrue (leads blocks path.block)) paths
 
 -- no reference of a tree block leads past the last block, and one below the root has a reference
 pub record IsWhole (file : List ℕ) (blocks block : ℕ) : Type 0 where

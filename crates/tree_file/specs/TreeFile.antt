@@ -8,7 +8,7 @@ use Rattle.quota_types.specs.declared.record.Entry.{Entry}
 use Rattle.quota_types.specs.declared.record.Rec.{Rec}
 use Rattle.quota_blocks.specs.QuotaValue.{QuotaValue}
 use Rattle.entry_codec.specs.Header.{HeaderNumbers, format_of, header_of, magic_of}
-use Rattle.tree_file.specs.declared.path.Path.{Path}
+use Rattle.tree_file.specs.declared.tree_path.TreePath.{TreePath}
 use Rattle.tree_file.specs.Block.{block_of}
 use Rattle.tree_file.specs.Entries.{used_entries}
 use Rattle.tree_file.specs.Roles.{Chained, Filled, OneRole}
@@ -21,7 +21,7 @@ record_in format block id = option_map (λ (entry : Entry). entry.rec) (find (λ
 -- the record of an identifier: that of the entry in the data block to which the identifier leads
 abbrev pub tree_record : Format → List ℕ → ℕ → ℕ → Option Rec
 tree_record format file blocks id =
-    option_and_then (λ (leaf : Path). record_in format (block_of file leaf.block) id) (find (λ (leaf : Path). leaf.number == id) (leaves file blocks))
+    option_and_then (λ (leaf : TreePath). record_in format (block_of file leaf.block) id) (find (λ (leaf : TreePath). leaf.number == id) (leaves file blocks))
 
 -- The blocks and entries of a file are sound: it has header and root; where it has more blocks it is as long as they; and
 -- its roles, its entry list and its entries are in order.

@@ -69,16 +69,10 @@ impl Walk {
         let mut block = [0; 1024];
         read_block(store, name, at, &mut block)?;
         let previous = le32(&block, 4);
-        if self
-            .links
-            .push(Link {
-                block: at,
-                previous,
-            })
-            .is_err()
-        {
-            return Err(CheckFault::Memory);
-        }
+        self.links.push(Link {
+            block: at,
+            previous,
+        })?;
         Ok(le32(&block, 0))
     }
 }

@@ -3,7 +3,7 @@ ghost use Rattle.tree_file.specs.declared.checked.CheckFault.TheVariants.{Store 
 
 use quota_blocks::StoreFault;
 use quota_types::{Damage, DamageKind};
-use std::alloc::AllocError;
+use std::alloc::{AllocError, AllocFailed};
 
 /// What a check of a tree file found.
 #[derive(Clone, Copy, Debug, PartialEq, Eq)]
@@ -37,6 +37,14 @@ impl From<AllocError> for CheckFault {
     ghost from_gives = { λ _ fault. fault ≡ Memory };
 
     fn from(_: AllocError) -> Self {
+        CheckFault::Memory
+    }
+}
+
+impl<T: Drop> From<AllocFailed<T>> for CheckFault {
+    ghost from_gives = { λ _ fault. fault ≡ Memory };
+
+    fn from(_: AllocFailed<T>) -> Self {
         CheckFault::Memory
     }
 }

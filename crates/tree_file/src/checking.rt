@@ -20,8 +20,9 @@ use std::alloc::Global;
 
 /// Checks a tree file whose header is this one, and tells how many records it has and how many blocks are free.
 ///
-/// It succeeds exactly where the file stands for a map, and a damage that it answers is one of the file. It takes time
-/// and memory in proportion to the blocks and the identifiers, and makes at most two reads for each block of the file.
+/// It succeeds exactly where the file stands for a map, and a damage that it answers is one of the file. It makes in all
+/// at most twice as many reads as the header has blocks, whatever it answers and whether or not the store tells its files.
+/// Time and memory grow with the blocks and the identifiers; no clause says so.
 ///
 /// # Errors
 ///

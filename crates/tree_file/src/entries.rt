@@ -7,6 +7,7 @@ ghost use Rattle.tree_file.specs.Count.{StandsIn, StandsTwiceIn, times};
 ghost use Rattle.tree_file.specs.Defect.{NamesItsId};
 ghost use Rattle.tree_file.specs.Entries.{entry_bytes, has_unused, used_ids};
 
+use crate::checked::damage_at;
 use arrayvec::ArrayVec;
 use entry_codec::{entries_per_block, entry_size, read_entry};
 use quota_blocks::le16;
@@ -113,22 +114,28 @@ pub(crate) fn compare_entries(
 {
     let used = read_used(format, block);
     if usize::from(le16(block, 8)) != used.ids.len() {
-        return Err(Damage {
-            kind: DamageKind::BadCount,
-            block: number,
-            id: 0,
-        });
+        return Err(damage_at(DamageKind::BadCount, number));
     }
     compare_ids(number, used.ids.as_slice(), ids)?;
     Ok(used.has_unused)
 }
 
 /// Compares the identifiers of a data block's used entries with those that lead to it.
+///
+/// An identifier without an entry is looked for first: where more of them lead to the block than it has entries, one of
+/// the first `used.len() + 1` has none, and the searches that follow never run.
 fn compare_ids(number: u32, used: &[u32], ids: &[u32]) -> Result<(), Damage>
     ensures same { OnOk result (AreEntriesOf (length used.now) used.now ids.now) }
     ensures refused { IfErr result (λ damage. (stated : ℕ) → IsEntryDefectAt number stated used.now ids.now damage) }
     ensures names_id { IfErr result (λ damage. NamesItsId damage.kind damage.id) }
 {
+    if let Some(id) = first_not_in(ids, used) {
+        return Err(Damage {
+            kind: DamageKind::MissingEntry,
+            block: number,
+            id,
+        });
+    }
     if let Some(id) = first_not_in(used, ids) {
         return Err(Damage {
             kind: DamageKind::StrayEntry,
@@ -139,13 +146,6 @@ fn compare_ids(number: u32, used: &[u32], ids: &[u32]) -> Result<(), Damage>
     if let Some(id) = first_double(used) {
         return Err(Damage {
             kind: DamageKind::DoubleEntry,
-            block: number,
-            id,
-        });
-    }
-    if let Some(id) = first_not_in(ids, used) {
-        return Err(Damage {
-            kind: DamageKind::MissingEntry,
             block: number,
             id,
         });

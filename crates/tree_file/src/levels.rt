@@ -1,16 +1,17 @@
 ghost use Rattle.std.specs.Prelude.{◌≡◌, ◌<◌, ◌≤◌, ◌+◌, ◌*◌, ◌==◌, if◌then◌else◌, ◌^◌, ◌++◌, ◌∷◌, [], ℕ, List, length, All, IsTrue, OnOk, IfOk, IfErr};
 ghost use Rattle.std.specs.List.{flat_map};
-ghost use Rattle.tree_file.specs.declared.path.Path.{Path};
+ghost use Rattle.tree_file.specs.declared.tree_path.TreePath.{TreePath};
 ghost use Rattle.tree_file.specs.Block.{block_of};
 ghost use Rattle.tree_file.specs.Check.{IsCheckFault, bytes_of};
 ghost use Rattle.tree_file.specs.Levels.{AreWithin, IsLevelDefect, IsStepFault, IsWhole, blocks_of};
 ghost use Rattle.tree_file.specs.Tree.{steps};
 
 use crate::block::read_block;
-use crate::{CheckFault, Path};
+use crate::checked::damage_at;
+use crate::{CheckFault, TreePath};
 use quota_blocks::Store;
 use quota_radix::level_ref;
-use quota_types::{Damage, DamageKind};
+use quota_types::DamageKind;
 use std::alloc::{AllocError, Global};
 
 /// The block of the root.
@@ -22,8 +23,8 @@ pub(crate) fn next_level<S: Store>(
     store: &mut S,
     name: &str,
     blocks: u32,
-    level: &[Path],
-) -> Result<Vec<Path>, CheckFault>
+    level: &[TreePath],
+) -> Result<Vec<TreePath>, CheckFault>
     requires small { AreWithin blocks (2 ^ 24) level.now }
     ensures next { IfOk result (λ next. IsTrue (S.tells store.old)
         → next.items ≡ flat_map (steps (bytes_of (S.files store.old name.now)) blocks) level.now) }
@@ -49,9 +50,9 @@ pub(crate) fn next_level<S: Store>(
 
 /// Appends the paths that go on from `path`, whose block has these bytes, by each of its references.
 fn add_steps(
-    next: &mut Vec<Path>,
+    next: &mut Vec<TreePath>,
     blocks: u32,
-    path: Path,
+    path: TreePath,
     block: &[u8; 1024],
 ) -> Result<(), CheckFault>
     requires small { path.number < 2 ^ 24 }
@@ -67,33 +68,30 @@ fn add_steps(
     for digit in 0..256u32 {
         let reference = level_ref(block, digit as u8);
         if reference >= blocks {
-            return Err(CheckFault::Damage(Damage {
-                kind: DamageKind::RefOut,
-                block: path.block,
-                id: 0,
-            }));
+            return Err(CheckFault::Damage(damage_at(DamageKind::RefOut, path.block)));
         }
         push_step(next, path, digit, reference)?;
     }
     if next.len() == before && path.block != ROOT {
-        return Err(CheckFault::Damage(Damage {
-            kind: DamageKind::EmptyTree,
-            block: path.block,
-            id: 0,
-        }));
+        return Err(CheckFault::Damage(damage_at(DamageKind::EmptyTree, path.block)));
     }
     Ok(())
 }
 
 /// Appends the path that goes on from `path` by a digit, where the reference there is one.
-fn push_step(next: &mut Vec<Path>, path: Path, digit: u32, reference: u32) -> Result<(), AllocError>
+fn push_step(
+    next: &mut Vec<TreePath>,
+    path: TreePath,
+    digit: u32,
+    reference: u32,
+) -> Result<(), AllocError>
     requires small { path.number < 2 ^ 24 }
     requires is_digit { digit < 256 }
     ensures { OnOk result (next.new.items ≡ next.old.items ++ (if reference == 0 then []
         else record { number = 256 * path.number + digit; block = reference } ∷ [])) }
 {
     if reference != 0 {
-        next.push(Path {
+        next.push(TreePath {
             number: 256 * path.number + digit,
             block: reference,
         })?;

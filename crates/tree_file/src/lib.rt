@@ -16,14 +16,18 @@ pub mod laws;
 mod levels;
 mod link;
 mod lists;
-mod path;
 #[cfg(test)]
 mod plain;
+#[cfg(test)]
+mod plain_tests;
 mod roles;
+#[cfg(test)]
+mod test_files;
 #[cfg(test)]
 mod tests;
 mod tree;
+mod tree_path;
 
 pub use checked::{CheckFault, Checked};
 pub use checking::check;
-pub use path::Path;
+pub use tree_path::TreePath;

@@ -3,7 +3,7 @@
 
 ghost use Rattle.std.specs.Prelude.{◌≤◌};
 
-use crate::Path;
+use crate::TreePath;
 use entry_codec::Header;
 use quota_types::{Damage, DamageKind, Format};
 use std::alloc::{AllocError, Global};
@@ -23,10 +23,12 @@ struct Chain {
     end: u32,
 }
 
+/// How often a number stands among others: `times`.
 fn count(numbers: &[u32], number: u32) -> usize {
     numbers.iter().filter(|other| **other == number).count()
 }
 
+/// Adds a damage to the defects where it holds.
 fn note(
     defects: &mut Vec<Damage>,
     holds: bool,
@@ -34,16 +36,19 @@ fn note(
     block: u32,
     id: u32,
 ) -> Result<(), AllocError> {
-    if holds && defects.push(Damage { kind, block, id }).is_err() {
-        return Err(AllocError);
+    if holds {
+        defects.push(Damage { kind, block, id })?;
     }
     Ok(())
 }
 
+/// Adds numbers behind others.
 fn add(numbers: &mut Vec<u32>, more: &[u32]) -> Result<(), AllocError> {
     numbers.extend_from_slice(more)
 }
 
+/// The entries of identifiers that do not lead to the block, and those with a second one: `HasStrayEntry`,
+/// `HasDoubleEntry`.
 fn of_used(
     defects: &mut Vec<Damage>,
     block: u32,
@@ -59,6 +64,7 @@ fn of_used(
     Ok(())
 }
 
+/// The identifiers that have no entry: `LacksEntry`.
 fn of_ids(
     defects: &mut Vec<Damage>,
     block: u32,
@@ -73,11 +79,13 @@ fn of_ids(
 }
 
 impl Plain<'_> {
+    /// The byte at a place of a block, 0 behind the end of the file: `block_of`.
     fn byte(&self, block: u32, at: u64) -> u8 {
         let at = 1024 * u64::from(block) + at.min(1023);
         self.file.get(at as usize).copied().unwrap_or(0)
     }
 
+    /// The number of the four bytes at a place of a block: `number_at` of `block_of`.
     fn number(&self, block: u32, at: u64) -> u32 {
         let at = at.min(1020);
         u32::from_le_bytes([
@@ -88,27 +96,27 @@ impl Plain<'_> {
         ])
     }
 
+    /// The number of four bytes at a place that counts such numbers: `word_at`.
     fn word(&self, block: u32, place: u32) -> u32 {
         self.number(block, 4 * u64::from(place))
     }
 
-    fn onward(&self, path: &Path, next: &mut Vec<Path>) -> Result<(), AllocError> {
+    /// Adds the paths that go on from another one: `steps`.
+    fn onward(&self, path: &TreePath, next: &mut Vec<TreePath>) -> Result<(), AllocError> {
         for digit in 0..256 {
             let block = self.word(path.block, digit);
             let number = path.number.wrapping_mul(256).wrapping_add(digit);
-            if block != 0
-                && block < self.header.blocks
-                && next.push(Path { number, block }).is_err()
-            {
-                return Err(AllocError);
+            if block != 0 && block < self.header.blocks {
+                next.push(TreePath { number, block })?;
             }
         }
         Ok(())
     }
 
-    fn paths(&self, digits: u32) -> Result<Vec<Path>, AllocError> {
+    /// The paths of so many digits: `paths`.
+    fn paths(&self, digits: u32) -> Result<Vec<TreePath>, AllocError> {
         let mut paths = vec![in self.alloc;
-            Path {
+            TreePath {
                 number: 0,
                 block: 1
             },
@@ -119,7 +127,8 @@ impl Plain<'_> {
         Ok(paths)
     }
 
-    fn longer(&self, paths: &[Path]) -> Result<Vec<Path>, AllocError> {
+    /// The paths that go on from those of a level: `steps` of each, as `paths` has them for one more digit.
+    fn longer(&self, paths: &[TreePath]) -> Result<Vec<TreePath>, AllocError> {
         let mut next = Vec::new(self.alloc);
         for path in paths {
             self.onward(path, &mut next)?;
@@ -127,11 +136,13 @@ impl Plain<'_> {
         Ok(next)
     }
 
+    /// The blocks to which the paths of so many digits come: `level`.
     fn level(&self, digits: u32) -> Result<Vec<u32>, AllocError> {
         let paths = self.paths(digits)?;
         paths.iter().map(|path| path.block).collect(self.alloc)
     }
 
+    /// The list of a head, as far as it goes, and the number that ends it: `IsChain`.
     fn chain(&self, head: u32) -> Result<Chain, AllocError> {
         let mut blocks = Vec::new(self.alloc);
         let mut end = head;
@@ -145,6 +156,7 @@ impl Plain<'_> {
         Ok(Chain { blocks, end })
     }
 
+    /// The blocks of the tree below the root: `lower_blocks`.
     fn lower_blocks(&self) -> Result<Vec<u32>, AllocError> {
         let mut lower = self.level(1)?;
         add(&mut lower, self.level(2)?.as_slice())?;
@@ -152,6 +164,7 @@ impl Plain<'_> {
         Ok(lower)
     }
 
+    /// The blocks that leaves name, each once: `data_blocks`.
     fn data_blocks(&self) -> Result<Vec<u32>, AllocError> {
         let leaves = self.level(4)?;
         (0..self.header.blocks)
@@ -159,6 +172,7 @@ impl Plain<'_> {
             .collect(self.alloc)
     }
 
+    /// The identifiers that lead to a block: `ids_at` of `leaves`.
     fn ids_at(&self, block: u32) -> Result<Vec<u32>, AllocError> {
         let leaves = self.paths(4)?;
         leaves
@@ -168,6 +182,7 @@ impl Plain<'_> {
             .collect(self.alloc)
     }
 
+    /// How many bytes an entry has: `entry_size`.
     fn entry_size(&self) -> u64
         ensures { result ≤ 72 }
     {
@@ -178,10 +193,17 @@ impl Plain<'_> {
         }
     }
 
+    /// The number of used entries that a block states: `stated_count`.
+    fn stated(&self, block: u32) -> usize {
+        usize::from(u16::from_le_bytes([self.byte(block, 8), self.byte(block, 9)]))
+    }
+
+    /// Where an entry of a block begins: `entry_bytes`.
     fn entry_at(&self, place: u64) -> u64 {
         16 + self.entry_size() * place.min(20)
     }
 
+    /// How many entries a block has: `entries_per_block`.
     fn entries(&self) -> u64 {
         if self.header.format == Format::V2R0 {
             21
@@ -190,15 +212,18 @@ impl Plain<'_> {
         }
     }
 
+    /// Whether the bytes of an entry are all 0: `is_unused` of `entry_bytes`.
     fn is_unused(&self, block: u32, place: u64) -> bool {
         let start = self.entry_at(place);
         (0..self.entry_size()).all(|at| self.byte(block, start.saturating_add(at)) == 0)
     }
 
+    /// Whether some entry of a block is unused: `has_unused`.
     fn has_unused(&self, block: u32) -> bool {
         (0..self.entries()).any(|place| self.is_unused(block, place))
     }
 
+    /// The identifiers of the used entries of a block: `used_ids`.
     fn used_ids(&self, block: u32) -> Result<Vec<u32>, AllocError> {
         (0..self.entries())
             .filter(|place| !self.is_unused(block, *place))
@@ -206,6 +231,7 @@ impl Plain<'_> {
             .collect(self.alloc)
     }
 
+    /// A file that is shorter than its blocks: `IsShort`.
     fn is_short(&self, defects: &mut Vec<Damage>) -> Result<(), AllocError> {
         let blocks = self.header.blocks;
         let len = self.file.len() as u64;
@@ -214,6 +240,7 @@ impl Plain<'_> {
         note(defects, short, DamageKind::Short, cut, 0)
     }
 
+    /// A reference past the last block, and a block below the root without a reference: `IsRefOut`, `IsEmptyTree`.
     fn of_tree_block(
         &self,
         defects: &mut Vec<Damage>,
@@ -226,6 +253,7 @@ impl Plain<'_> {
         note(defects, is_lower && empty, DamageKind::EmptyTree, block, 0)
     }
 
+    /// The same of each block of the tree: `tree_blocks`, of which `lower_blocks` may not be empty.
     fn of_tree(&self, defects: &mut Vec<Damage>) -> Result<(), AllocError> {
         self.of_tree_block(defects, 1, false)?;
         for block in self.lower_blocks()?.iter() {
@@ -234,6 +262,7 @@ impl Plain<'_> {
         Ok(())
     }
 
+    /// The blocks with two roles and those with none, by `roles`: `HasTwoRoles`, `HasNoRole`.
     fn of_roles(&self, defects: &mut Vec<Damage>) -> Result<(), AllocError> {
         let mut roles = vec![in self.alloc; 0, 1]?;
         add(&mut roles, self.lower_blocks()?.as_slice())?;
@@ -247,6 +276,7 @@ impl Plain<'_> {
         Ok(())
     }
 
+    /// A list that leads past the last block, or to one of its blocks again: `IsOut`, `IsLoop`.
     fn of_chain(&self, defects: &mut Vec<Damage>, head: u32) -> Result<(), AllocError> {
         let Chain { blocks, end } = self.chain(head)?;
         let out = end >= self.header.blocks;
@@ -260,6 +290,8 @@ impl Plain<'_> {
         )
     }
 
+    /// The blocks of the entry list that have no room, and those that do not name the one before: `IsForeign`,
+    /// `HasBadPrevious`.
     fn of_listed(&self, defects: &mut Vec<Damage>) -> Result<(), AllocError> {
         let data = self.data_blocks()?;
         let listed = self.chain(self.header.first)?;
@@ -274,13 +306,14 @@ impl Plain<'_> {
         Ok(())
     }
 
+    /// What is wrong with the data blocks: `IsMissing`, `HasBadCount`, and the entries.
     fn of_data(&self, defects: &mut Vec<Damage>) -> Result<(), AllocError> {
         let listed = self.chain(self.header.first)?;
         for block in self.data_blocks()?.iter() {
             let missing = self.has_unused(*block) && !listed.blocks.contains(block);
             note(defects, missing, DamageKind::MissingInChain, *block, 0)?;
             let used = self.used_ids(*block)?;
-            let other = self.number(*block, 8) as usize % 65536 != used.len();
+            let other = self.stated(*block) != used.len();
             note(defects, other, DamageKind::BadCount, *block, 0)?;
             let ids = self.ids_at(*block)?;
             of_used(defects, *block, used.as_slice(), ids.as_slice())?;

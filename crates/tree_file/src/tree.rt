@@ -7,10 +7,11 @@ ghost use Rattle.tree_file.specs.Reads.{AreMarkedReads};
 ghost use Rattle.tree_file.specs.Tree.{leaves, steps, tree_blocks};
 
 use crate::block_set::BlockSet;
+use crate::checked::damage_at;
 use crate::levels::{ROOT, next_level};
-use crate::{CheckFault, Path};
+use crate::{CheckFault, TreePath};
 use quota_blocks::Store;
-use quota_types::{Damage, DamageKind};
+use quota_types::DamageKind;
 use std::alloc::Global;
 
 /// Finds the leaves of a file's tree, in order, and adds the blocks of the tree to those that were met.
@@ -20,7 +21,7 @@ pub(crate) fn find_leaves<S: Store>(
     name: &str,
     blocks: u32,
     met: &mut BlockSet,
-) -> Result<Vec<Path>, CheckFault>
+) -> Result<Vec<TreePath>, CheckFault>
     requires two { 2 ≤ blocks }
     ensures leaves { IfOk result (λ found. IsTrue (S.tells store.old)
         → found.items ≡ leaves (bytes_of (S.files store.old name.now)) blocks) }
@@ -41,7 +42,7 @@ pub(crate) fn find_leaves<S: Store>(
     ensures same_files { S.files store.new ≡ S.files store.old }
     ensures same_telling { S.tells store.new ≡ S.tells store.old }
 {
-    let root = [Path {
+    let root = [TreePath {
         number: 0,
         block: ROOT,
     }];
@@ -58,8 +59,8 @@ fn go_down<S: Store>(
     name: &str,
     blocks: u32,
     met: &mut BlockSet,
-    level: &[Path],
-) -> Result<Vec<Path>, CheckFault>
+    level: &[TreePath],
+) -> Result<Vec<TreePath>, CheckFault>
     requires small { AreWithin blocks (2 ^ 24) level.now }
     ensures next { IfOk result (λ next. IsTrue (S.tells store.old)
         → next.items ≡ flat_map (steps (bytes_of (S.files store.old name.now)) blocks) level.now) }
@@ -85,7 +86,7 @@ fn go_down<S: Store>(
 }
 
 /// Adds the block of each path to those that were met.
-fn mark_all(met: &mut BlockSet, paths: &[Path]) -> Result<(), CheckFault>
+fn mark_all(met: &mut BlockSet, paths: &[TreePath]) -> Result<(), CheckFault>
     ensures marked { OnOk result ((blocks bound : ℕ) → (numbers : List ℕ) → AreFlagsOf blocks met.old.flags.items numbers
         → AreWithin blocks bound paths.now → AreFlagsOf blocks met.new.flags.items (numbers ++ blocks_of paths.now)) }
     ensures refused { IfErr result (IsStepFault (λ damage. (blocks bound : ℕ) → (numbers : List ℕ) → AreFlagsOf blocks met.old.flags.items numbers
@@ -93,11 +94,7 @@ fn mark_all(met: &mut BlockSet, paths: &[Path]) -> Result<(), CheckFault>
 {
     for path in paths {
         if !met.insert(path.block) {
-            return Err(CheckFault::Damage(Damage {
-                kind: DamageKind::TwoRoles,
-                block: path.block,
-                id: 0,
-            }));
+            return Err(CheckFault::Damage(damage_at(DamageKind::TwoRoles, path.block)));
         }
     }
     Ok(())

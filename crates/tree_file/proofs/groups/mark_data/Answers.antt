@@ -7,7 +7,7 @@ use Rattle.tree_file.proofs.groups.mark_data.Goals as goal
 use Rattle.tree_file.proofs.groups.mark_data.Goals.{else-not-is_empty-via-then-not-is_empty+else-not-insert, else-not-is_empty-via-else-not-is_empty}
 
 pub returns-then-not-insert-clause-refused : goal.returns-then-not-insert-clause-refused
-returns-then-not-insert-clause-refused c = (
+returns-then-not-insert-clause-refused c = rw c.damage_at.ensures (
   refl,
   λ blocks leaves numbers groups are.
       let count = count_groups (λ (ids : Vec ℕ Global). ids.items) blocks leaves c.args.groups.now groups in

@@ -1,9 +1,9 @@
 use Rattle.std.proofs.Common.{ℕ, List, ◌++◌, map, Vec, Global}
-use Rattle.tree_file.specs.declared.path.Path.{Path}
+use Rattle.tree_file.specs.declared.tree_path.TreePath.{TreePath}
 use Rattle.tree_file.specs.BlockSet.{AreFlagsOf}
 use Rattle.tree_file.specs.Groups.{AreGroupsOf, named_blocks}
 use Rattle.tree_file.proofs.groups.mark_data.Given as goal
 
 abbrev pub invariant-loop-block : goal.invariant-loop-block
-invariant-loop-block l = (blocks : ℕ) → (leaves : List Path) → (numbers : List ℕ) → AreGroupsOf blocks leaves (map (λ (ids : Vec ℕ Global). ids.items) l.groups)
+invariant-loop-block l = (blocks : ℕ) → (leaves : List TreePath) → (numbers : List ℕ) → AreGroupsOf blocks leaves (map (λ (ids : Vec ℕ Global). ids.items) l.groups)
     → AreFlagsOf blocks l.fn.met.flags.items numbers → AreFlagsOf blocks l.met.flags.items (numbers ++ named_blocks l.block leaves)

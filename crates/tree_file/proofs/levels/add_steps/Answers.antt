@@ -13,7 +13,7 @@ loop-digit-preserved c =
     }
 
 pub returns-then-path-ne-ROOT-clause-refused : goal.returns-then-path-ne-ROOT-clause-refused
-returns-then-path-ne-ROOT-clause-refused c = (
+returns-then-path-ne-ROOT-clause-refused c = rw c.damage_at-then-path-ne-ROOT.ensures (
   refl,
   λ file is.
       let all : c.loop-digit.digit ≡ 256 = omega arith in

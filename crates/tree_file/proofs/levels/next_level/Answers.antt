@@ -1,7 +1,7 @@
 use Rattle.std.proofs.Common.{ℕ, IsTrue, List, subst, sym, ◌∙◌, arith}
 use Rattle.std.proofs.lemmas.Result.{err_from_is_err_and}
 use Rattle.std.proofs.lemmas.List.Elements.{All-more}
-use Rattle.tree_file.specs.declared.path.Path.{Path}
+use Rattle.tree_file.specs.declared.tree_path.TreePath.{TreePath}
 use Rattle.tree_file.specs.Check.{bytes_of}
 use Rattle.tree_file.specs.Levels.{IsWhole}
 use Rattle.tree_file.proofs.LevelLemmas.{level_refused, paths_more, read_of_same}
@@ -24,7 +24,7 @@ loop-path-preserved g c =
     record {
       next = λ told. paths_more _ _ c.args.level.now c.loop-path.next.items _ c.loop-path.path-index _ c.loop-path-test.true (kept.next told)
           (adds.added file (read_of_same c.args.name.now _ _ _ _ kept.same_files (read.bytes (subst IsTrue (sym kept.same_telling) told))));
-      whole = λ told. All-more (λ (path : Path). IsWhole file c.args.blocks path.block) c.args.level.now c.loop-path.path-index _ c.loop-path-test.true (kept.whole told)
+      whole = λ told. All-more (λ (path : TreePath). IsWhole file c.args.blocks path.block) c.args.level.now c.loop-path.path-index _ c.loop-path-test.true (kept.whole told)
           (adds.whole file (read_of_same c.args.name.now _ _ _ _ kept.same_files (read.bytes (subst IsTrue (sym kept.same_telling) told))));
       within = λ bound within. adds.within bound (within c.loop-path.path-index _ c.loop-path-test.true).0 (kept.within bound within);
       later = omega (arith, read.later, kept.later);

@@ -1,7 +1,7 @@
 use Rattle.std.proofs.Common.{◌≡◌, ℕ, ◌+◌, ◌*◌, ◌≤◌, IsTrue, take}
 use Rattle.std.specs.Prelude.{All}
 use Rattle.std.specs.List.{flat_map}
-use Rattle.tree_file.specs.declared.path.Path.{Path}
+use Rattle.tree_file.specs.declared.tree_path.TreePath.{TreePath}
 use Rattle.tree_file.specs.Check.{bytes_of}
 use Rattle.tree_file.specs.Levels.{AreWithin, IsWhole}
 use Rattle.tree_file.specs.Tree.{steps}
@@ -14,7 +14,7 @@ invariant-loop-path g l =
       next : IsTrue (S.tells l.fn.store)
           → l.next.items ≡ flat_map (steps (bytes_of (S.files l.fn.store l.name)) l.blocks) (take l.path-index l.level);
       whole : IsTrue (S.tells l.fn.store)
-          → All (λ (path : Path). IsWhole (bytes_of (S.files l.fn.store l.name)) l.blocks path.block) (take l.path-index l.level);
+          → All (λ (path : TreePath). IsWhole (bytes_of (S.files l.fn.store l.name)) l.blocks path.block) (take l.path-index l.level);
       within : (bound : ℕ) → AreWithin l.blocks bound l.level → AreWithin l.blocks (256 * bound) l.next.items;
       later : S.faults l.fn.store ≤ S.faults l.store;
       reads : S.reads l.store ≤ S.reads l.fn.store + l.path-index;

@@ -2,7 +2,7 @@ use Rattle.std.proofs.Common.{ℕ, List, [], ◌∷◌, ◌++◌, length, Vec, G
 use Rattle.std.proofs.lemmas.List.{length-map}
 use Rattle.std.proofs.lemmas.Result.{err_from_is_err_and}
 use Rattle.tree_file.specs.declared.link.Link.{Link}
-use Rattle.tree_file.specs.declared.path.Path.{Path}
+use Rattle.tree_file.specs.declared.tree_path.TreePath.{TreePath}
 use Rattle.tree_file.specs.BlockSet.{AreFlagsOf}
 use Rattle.tree_file.specs.Check.{bytes_of}
 use Rattle.tree_file.specs.Groups.{AreGroupsOf, named_blocks}
@@ -26,7 +26,7 @@ returns-in_err-leaves-clause-refused g c =
 
 pub mark_data-requires : goal.mark_data-requires
 mark_data-requires g c =
-    let found : List Path = c.in_ok-leaves.leaves.items in
+    let found : List TreePath = c.in_ok-leaves.leaves.items in
     let groups : AreGroupsOf c.args.blocks found (map (λ (ids : Vec ℕ Global). ids.items) c.in_ok-groups.groups.items) =
     groups_are c.args.blocks found c.as_slice.result.now _ c.as_slice.ensures.value c.in_ok-leaves.ensures.within c.in_ok-groups.ensures.groups in
     record {
@@ -39,7 +39,7 @@ returns-in_err-mark_data-clause-refused g c =
     let file : List ℕ = bytes_of (g.S.Store.files c.args.store.now c.args.name.now) in
     let header : AreFlagsOf c.args.blocks c.insert.new.self.flags.items (0 ∷ []) =
     header_marked c.args.blocks c.insert.new.self.flags.items c.insert.result (c.insert.ensures.added c.args.blocks [] c.in_ok-met.ensures (omega (arith, c.requires.two))) in
-    let found : List Path = c.in_ok-leaves.leaves.items in
+    let found : List TreePath = c.in_ok-leaves.leaves.items in
     let groups : AreGroupsOf c.args.blocks found (map (λ (ids : Vec ℕ Global). ids.items) c.in_ok-groups.groups.items) =
     groups_are c.args.blocks found c.as_slice.result.now _ c.as_slice.ensures.value c.in_ok-leaves.ensures.within c.in_ok-groups.ensures.groups in
     let given : List (List ℕ) = map (λ (ids : Vec ℕ Global). ids.items) c.as_slice-2.result.now in
@@ -55,7 +55,7 @@ returns-in_err-mark_links-clause-refused g c =
     let file : List ℕ = bytes_of (g.S.Store.files c.args.store.now c.args.name.now) in
     let header : AreFlagsOf c.args.blocks c.insert.new.self.flags.items (0 ∷ []) =
     header_marked c.args.blocks c.insert.new.self.flags.items c.insert.result (c.insert.ensures.added c.args.blocks [] c.in_ok-met.ensures (omega (arith, c.requires.two))) in
-    let found : List Path = c.in_ok-leaves.leaves.items in
+    let found : List TreePath = c.in_ok-leaves.leaves.items in
     let groups : AreGroupsOf c.args.blocks found (map (λ (ids : Vec ℕ Global). ids.items) c.in_ok-groups.groups.items) =
     groups_are c.args.blocks found c.as_slice.result.now _ c.as_slice.ensures.value c.in_ok-leaves.ensures.within c.in_ok-groups.ensures.groups in
     let given : List (List ℕ) = map (λ (ids : Vec ℕ Global). ids.items) c.as_slice-2.result.now in
@@ -84,7 +84,7 @@ returns-in-Some-clause-refused g c =
     let file : List ℕ = bytes_of (g.S.Store.files c.args.store.now c.args.name.now) in
     let header : AreFlagsOf c.args.blocks c.insert.new.self.flags.items (0 ∷ []) =
     header_marked c.args.blocks c.insert.new.self.flags.items c.insert.result (c.insert.ensures.added c.args.blocks [] c.in_ok-met.ensures (omega (arith, c.requires.two))) in
-    let found : List Path = c.in_ok-leaves.leaves.items in
+    let found : List TreePath = c.in_ok-leaves.leaves.items in
     let groups : AreGroupsOf c.args.blocks found (map (λ (ids : Vec ℕ Global). ids.items) c.in_ok-groups.groups.items) =
     groups_are c.args.blocks found c.as_slice.result.now _ c.as_slice.ensures.value c.in_ok-leaves.ensures.within c.in_ok-groups.ensures.groups in
     let given : List (List ℕ) = map (λ (ids : Vec ℕ Global). ids.items) c.as_slice-2.result.now in
@@ -119,7 +119,7 @@ returns-clause-roles g c =
     let file : List ℕ = bytes_of (g.S.Store.files c.args.store.now c.args.name.now) in
     let header : AreFlagsOf c.args.blocks c.insert.new.self.flags.items (0 ∷ []) =
     header_marked c.args.blocks c.insert.new.self.flags.items c.insert.result (c.insert.ensures.added c.args.blocks [] c.in_ok-met.ensures (omega (arith, c.requires.two))) in
-    let found : List Path = c.in_ok-leaves.leaves.items in
+    let found : List TreePath = c.in_ok-leaves.leaves.items in
     let groups : AreGroupsOf c.args.blocks found (map (λ (ids : Vec ℕ Global). ids.items) c.in_ok-groups.groups.items) =
     groups_are c.args.blocks found c.as_slice.result.now _ c.as_slice.ensures.value c.in_ok-leaves.ensures.within c.in_ok-groups.ensures.groups in
     let given : List (List ℕ) = map (λ (ids : Vec ℕ Global). ids.items) c.as_slice-2.result.now in
@@ -143,7 +143,7 @@ returns-clause-roles g c =
       one_role = one_role file c.args.blocks c.args.free_head (linked_blocks links) c.mark_links.new.met.flags.items (c.in_ok-leaves.ensures.whole told) is_free all
           (c.in_default.ensures (roles file c.args.blocks (linked_blocks links)) all);
       not_empty = none_empty file c.args.blocks (linked_blocks links) c.mark_links.new.met.flags.items (c.in_ok-leaves.ensures.whole told) all;
-      groups = subst (λ (ps : List Path). AreGroupsOf c.args.blocks ps (map (λ (ids : Vec ℕ Global). ids.items) c.in_ok-groups.groups.items)) are_leaves groups;
+      groups = subst (λ (ps : List TreePath). AreGroupsOf c.args.blocks ps (map (λ (ids : Vec ℕ Global). ids.items) c.in_ok-groups.groups.items)) are_leaves groups;
       used = omega (arith, c.len.ensures, c.in_ok-leaves.leaves.ok.0, ap length are_leaves);
       free = omega (
         arith,
@@ -157,7 +157,7 @@ returns-clause-roles g c =
 
 pub returns-clause-groups : goal.returns-clause-groups
 returns-clause-groups g c =
-    let found : List Path = c.in_ok-leaves.leaves.items in
+    let found : List TreePath = c.in_ok-leaves.leaves.items in
     let groups : AreGroupsOf c.args.blocks found (map (λ (ids : Vec ℕ Global). ids.items) c.in_ok-groups.groups.items) =
     groups_are c.args.blocks found c.as_slice.result.now _ c.as_slice.ensures.value c.in_ok-leaves.ensures.within c.in_ok-groups.ensures.groups in
     omega (arith, length_groups c.args.blocks found _ groups, length-map c.in_ok-groups.groups.items (λ (ids : Vec ℕ Global). ids.items), c.in_ok-groups.groups.ok.0)
@@ -208,7 +208,7 @@ pub returns-clause-reads : goal.returns-clause-reads
 returns-clause-reads g c =
     let header : AreFlagsOf c.args.blocks c.insert.new.self.flags.items (0 ∷ []) =
     header_marked c.args.blocks c.insert.new.self.flags.items c.insert.result (c.insert.ensures.added c.args.blocks [] c.in_ok-met.ensures (omega (arith, c.requires.two))) in
-    let found : List Path = c.in_ok-leaves.leaves.items in
+    let found : List TreePath = c.in_ok-leaves.leaves.items in
     let groups : AreGroupsOf c.args.blocks found (map (λ (ids : Vec ℕ Global). ids.items) c.in_ok-groups.groups.items) =
     groups_are c.args.blocks found c.as_slice.result.now _ c.as_slice.ensures.value c.in_ok-leaves.ensures.within c.in_ok-groups.ensures.groups in
     let given : List (List ℕ) = map (λ (ids : Vec ℕ Global). ids.items) c.as_slice-2.result.now in

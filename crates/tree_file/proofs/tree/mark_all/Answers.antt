@@ -3,7 +3,7 @@ use Rattle.tree_file.proofs.LevelLemmas.{leads_below, met_all, met_more, met_twi
 use Rattle.tree_file.proofs.tree.mark_all.Goals as goal
 
 pub returns-then-not-insert-clause-refused : goal.returns-then-not-insert-clause-refused
-returns-then-not-insert-clause-refused c = (
+returns-then-not-insert-clause-refused c = rw c.damage_at.ensures (
   refl,
   λ blocks bound numbers are within. record {
     kind = refl;

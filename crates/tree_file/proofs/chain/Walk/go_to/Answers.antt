@@ -1,4 +1,4 @@
-use Rattle.std.proofs.Common.{◌≡◌, Bool, cond, List, [], ◌∷◌, ◌++◌, inr, refl, ap, ◌∙◌, arith}
+use Rattle.std.proofs.Common.{◌≡◌, List, [], ◌∷◌, ◌++◌, inr, refl, arith}
 use Rattle.tree_file.specs.declared.link.Link.{Link}
 use Rattle.tree_file.proofs.ReadLemmas.{links_fit, walk_few}
 use Rattle.tree_file.proofs.WalkLemmas.{walk_more}
@@ -22,8 +22,7 @@ pub returns-clause-walk : goal.returns-clause-walk
 returns-clause-walk g c = λ is.
     let link : Link = record { block = c.args.at; previous = c.le32-previous.result } in
     let links : List Link = c.args.self.now.links.items in
-    let pushed : c.push.new.self.items ≡ links ++ link ∷ [] =
-    c.push.ensures.items ∙ ap (λ (b : Bool). cond b (links ++ link ∷ []) links) c.if-is_err.ensures.negation in
+    let pushed : c.push.new.self.items ≡ links ++ link ∷ [] = c.in_ok-push.ensures.items in
     walk_more c.args.blocks c.args.at c.args.self.now (record { links = c.push.new.self; met = c.insert.new.self }) link is c.requires (omega arith) refl pushed
     (c.if-not-insert.ensures.added c.args.blocks _ is.marked (omega arith)).0
 
@@ -38,8 +37,8 @@ returns-in_err-read_block-clause-few_reads g c = λ is.
     let fits = links_fit c.args.blocks _ c.args.self.now.links.items c.args.at (c.if-not-insert.ensures.added c.args.blocks _ is.marked (omega arith)).0 in
     omega (arith, fits, c.args.self.now.links.ok.0, c.in_err-read_block.ensures.reads)
 
-pub returns-then-is_err-clause-few_reads : goal.returns-then-is_err-clause-few_reads
-returns-then-is_err-clause-few_reads g c = λ is.
+pub returns-in_err-push-clause-few_reads : goal.returns-in_err-push-clause-few_reads
+returns-in_err-push-clause-few_reads g c = λ is.
     let fits = links_fit c.args.blocks _ c.args.self.now.links.items c.args.at (c.if-not-insert.ensures.added c.args.blocks _ is.marked (omega arith)).0 in
     omega (arith, fits, c.args.self.now.links.ok.0, c.in_ok-read_block.ensures.reads)
 
