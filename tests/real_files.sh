@@ -3,6 +3,7 @@
 set -u
 top=$(cd "$(dirname "${BASH_SOURCE[0]}")/.." && pwd) || exit 1
 run=$top/bin/quota_cli
+runner=("$run")
 folder=$(mktemp -d) || exit 1
 trap 'rm -rf "$folder"' EXIT
 cd "$folder" || exit 1
@@ -18,7 +19,7 @@ lines() {
 expect() {
     local what=$1 status=$2 out=$3 err=$4
     shift 4
-    timeout 10 "$run" "$@" >out.txt 2>err.txt
+    timeout 10 "${runner[@]}" "$@" >out.txt 2>err.txt
     local got=$?
     lines "$out" >want_out.txt
     lines "$err" >want_err.txt
@@ -43,6 +44,14 @@ same() {
 }
 
 "$run" repquota -u >/dev/null 2>&1 # builds it, where it is stale
+
+# What root may do anyway is tried by somebody else, with the built program itself.
+cp "$top/crates/quota_cli/out/quota_cli" program || exit 1
+somebody=("$folder/program")
+if [ "$(id -u)" = 0 ]; then
+    chmod 755 . program
+    somebody=(setpriv --reuid=65534 --regid=65534 --clear-groups "$folder/program")
+fi
 
 head='*** Report for user quotas on q
 Block grace time: 7days; Inode grace time: 7days
@@ -135,12 +144,28 @@ mkdir q.new
 expect 'a folder in place of the new file' 4 '' 'quota: store fault' setquota -F vfsold -u 1 1 1 0 0 q
 expect 'no change needs no new file' 0 '' '' setquota -F vfsold -u 1 0 0 0 0 q
 rmdir q.new
-if [ "$(id -u)" != 0 ]; then
-    chmod 555 .
-    expect 'a folder that cannot be written' 4 '' 'quota: store fault' setquota -F vfsold -u 1 1 1 0 0 q
-    chmod 755 .
-fi
 same 'a refused change leaves the file' "$(cmp q want && echo same)" same
+
+# A link in place of the new file is taken away, and what it leads to stays.
+echo keep >kept
+ln -s kept q.new
+expect 'a link in place of the new file' 0 '' '' setquota -F vfsold -u 1 1 1 0 0 q
+same 'what the link led to' "$(cat kept)" keep
+same 'the file is no link' "$(stat -c %F q)" 'regular file'
+
+# For who is not root, a file left behind is no obstacle though it may not be written, and a folder that may not be is one.
+mkdir own
+cp want own/q
+: >own/q.new
+chmod 400 own/q.new
+if [ "$(id -u)" = 0 ]; then chown -R 65534:65534 own; fi
+runner=("${somebody[@]}")
+expect 'a file left behind that may not be written' 0 '' '' setquota -F vfsold -u 1 1 1 0 0 own/q
+cp own/q changed
+chmod 555 own
+expect 'a folder that may not be written' 4 '' 'quota: store fault' setquota -F vfsold -u 2 1 1 0 0 own/q
+chmod 755 own
+same 'the file in that folder' "$(cmp own/q changed && echo same)" same
 
 echo "real_files: $passed passed, $failed failed"
 [ "$failed" = 0 ]

@@ -53,8 +53,8 @@ fn write_line<'a, O: Sink>(
     write_pieces(sink, &[b"quota: ", a, b, c, d, e, f, g, b"\n"])
 }
 
-#[tactic(auto, unfolding(crate::specs::Refusal::error_line))]
 /// Writes the error line of a cause and the file or the word that it is about.
+#[tactic(auto, unfolding(crate::specs::Refusal::error_line))]
 pub fn write_error_line<O: Sink>(sink: &mut O, cause: Cause, name: &str) -> Result<(), SinkFault>
     ensures ok { OnOk result (IsTrue (O.tells sink.old)
         → O.written sink.new ≡ O.written sink.old ++ error_line cause name.now) }
@@ -91,8 +91,8 @@ pub fn write_error_line<O: Sink>(sink: &mut O, cause: Cause, name: &str) -> Resu
     }
 }
 
-#[tactic(auto, unfolding(crate::specs::Refusal::error_line))]
 /// Writes the line on a damage.
+#[tactic(auto, unfolding(crate::specs::Refusal::error_line))]
 fn write_damage_line<O: Sink>(sink: &mut O, damage: Damage, name: &[u8]) -> Result<(), SinkFault>
     ensures ok { OnOk result (IsTrue (O.tells sink.old)
         → O.written sink.new ≡ O.written sink.old ++ error_line (Damaged damage) name.now) }
@@ -115,8 +115,8 @@ fn write_damage_line<O: Sink>(sink: &mut O, damage: Damage, name: &[u8]) -> Resu
     }
 }
 
-#[tactic(auto, unfolding(crate::specs::Refusal::error_line))]
 /// Writes the line on a value for which the format has no room.
+#[tactic(auto, unfolding(crate::specs::Refusal::error_line))]
 fn write_no_room_line<O: Sink>(sink: &mut O, out: NoRoom, name: &[u8]) -> Result<(), SinkFault>
     ensures ok { OnOk result (IsTrue (O.tells sink.old)
         → O.written sink.new ≡ O.written sink.old ++ error_line (Unfit out) name.now) }
@@ -147,8 +147,8 @@ fn write_no_room_line<O: Sink>(sink: &mut O, out: NoRoom, name: &[u8]) -> Result
     }
 }
 
-#[tactic(auto, unfolding(crate::specs::Refusal::error_line))]
 /// Writes the line on a file that has no room.
+#[tactic(auto, unfolding(crate::specs::Refusal::error_line))]
 fn write_full_line<O: Sink>(
     sink: &mut O,
     blocks: u64,
@@ -179,8 +179,8 @@ fn write_full_line<O: Sink>(
     )
 }
 
-#[tactic(auto, unfolding(crate::specs::Refusal::error_line))]
 /// Writes the line on what is wrong with the words.
+#[tactic(auto, unfolding(crate::specs::Refusal::error_line))]
 fn write_usage_line<O: Sink>(sink: &mut O, kind: UsageKind, word: u64) -> Result<(), SinkFault>
     ensures ok { OnOk result (IsTrue (O.tells sink.old)
         → O.written sink.new ≡ O.written sink.old ++ error_line (Usage kind word) []) }

@@ -5,8 +5,11 @@ use quota_blocks::{Store, StoreFault};
 use std::alloc::Global;
 use std::fs::{File, Files, OpenOptions};
 use std::io::ErrorKind;
-use std::os::unix::fs::{FileExt, MetadataExt, OpenOptionsExt, chown};
+use std::os::unix::fs::{FileExt, MetadataExt, OpenOptionsExt, PermissionsExt, chown};
 use std::{fs, io};
+
+/// What a file's group may do, in its mode.
+const GROUP: u32 = 0o070;
 
 /// What an open file may be used for.
 #[derive(Clone, Copy, Debug, PartialEq, Eq)]
@@ -15,7 +18,7 @@ enum Access {
     Reading,
     /// To read it and write to it; it is made where it is not there.
     Writing,
-    /// The same, and it begins empty.
+    /// The same of a new file, in place of the one that was there.
     Making,
 }
 
@@ -73,6 +76,14 @@ fn is_there<R: Files>(files: &R, name: &str) -> io::Result<bool> {
     }
 }
 
+/// Takes a file's name away, where it has one. What it named stays where it has another one, as behind a link.
+fn take_away<R: Files>(files: &R, name: &str) -> io::Result<()> {
+    match fs::remove_file(files, name) {
+        Err(error) if error.kind() != ErrorKind::NotFound => Err(error),
+        _ => Ok(()),
+    }
+}
+
 /// Opens a file by its path. A file that is made may be read and written by its owner alone.
 fn open_file<R: Files<File = File>>(files: &R, name: &str, access: Access) -> io::Result<File> {
     let mut options = OpenOptions::new();
@@ -81,16 +92,23 @@ fn open_file<R: Files<File = File>>(files: &R, name: &str, access: Access) -> io
         options.write(true).create(true).mode(0o600);
     }
     if access == Access::Making {
-        options.truncate(true);
+        take_away(files, name)?;
+        options.create_new(true);
     }
     options.open(files, name)
 }
 
-/// Gives a file the owner and the permissions of another one, as far as the system lets us.
+/// Gives a file the owner, the group and the permissions of another one, as far as the system lets us. Where it does not
+/// get the group, its own one may do nothing.
 fn take_owner<R: Files>(files: &R, from: &str, of: &str) {
     if let Ok(metadata) = fs::metadata(files, of) {
-        let _ = chown(files, from, Some(metadata.uid()), Some(metadata.gid()));
-        let _ = fs::set_permissions(files, from, metadata.permissions());
+        let has_group = chown(files, from, None, Some(metadata.gid())).is_ok();
+        let _ = chown(files, from, Some(metadata.uid()), None);
+        let mut permissions = metadata.permissions();
+        if !has_group {
+            permissions.set_mode(permissions.mode() & !GROUP);
+        }
+        let _ = fs::set_permissions(files, from, permissions);
     }
 }
 
@@ -179,6 +197,16 @@ impl<'a, R: Files<File = File>> FileStore<'a, R> {
         read_from(self.last_file()?, at, buf)
     }
 
+    /// Makes an empty file.
+    fn make_file(&mut self, name: &str) -> io::Result<()>
+        ensures faults { self.new.faults ≡ self.old.faults }
+        ensures reads { self.new.reads ≡ self.old.reads }
+        ensures writes { self.new.writes ≡ self.old.writes }
+    {
+        self.open(name, Access::Making)?;
+        Ok(())
+    }
+
     /// Writes bytes to a place of a file.
     fn write_file(&mut self, name: &str, at: u64, bytes: &[u8]) -> io::Result<()>
         ensures faults { self.new.faults ≡ self.old.faults }
@@ -265,10 +293,8 @@ impl<'a, R: Files<File = File>> Store for FileStore<'a, R> {
     }
 
     fn create(&mut self, name: &str) -> Result<(), StoreFault> {
-        match self.open(name, Access::Making) {
-            Ok(_) => Ok(()),
-            Err(error) => self.counting(Err(error)),
-        }
+        let done = self.make_file(name);
+        self.counting(done)
     }
 
     fn sync(&mut self, name: &str) -> Result<(), StoreFault> {

@@ -11,6 +11,15 @@ fn file_of(alloc: Global, zeros: usize, numbers: &str) -> Result<Vec<u8>, AllocE
     Ok(bytes)
 }
 
+/// A flat file of these records.
+fn table_of(alloc: Global, records: &[&str]) -> Result<Vec<u8>, AllocError> {
+    let mut bytes = Vec::new(alloc);
+    for numbers in records {
+        push_record(&mut bytes, numbers)?;
+    }
+    Ok(bytes)
+}
+
 /// Runs the words of a line over a file, in which no call fails.
 fn change(alloc: Global, line: &str, bytes: &[u8], now: u64) -> Result<Ran, AllocError> {
     run_over(alloc, line, bytes, now, NONE)
@@ -31,6 +40,50 @@ fn new_limits_lengthen_an_empty_file(rt: HostRuntime) -> Result<(), Fail> {
         "#1000        --          0        100        200      -        0       10       20      -\n";
     assert_eq!(rt; report.status, 0);
     assert!(rt; report.out.bytes().ends_with(line.as_bytes()));
+    Ok(())
+}
+
+#[test]
+fn all_bytes_but_those_of_the_record_stay(rt: HostRuntime) -> Result<(), Fail> {
+    let alloc = rt.alloc();
+    for (user, line, other) in [
+        (
+            "8 2 4 0 0 1 5 6",
+            "setquota -F vfsold -u 1 100 200 10 20 q",
+            "200 100 4 20 10 1 0 0",
+        ),
+        (
+            "0 0 0 0 0 0 5 6",
+            "setquota -F vfsold -u 1 0 0 0 0 q",
+            "0 0 0 0 0 0 0 0",
+        ),
+    ] {
+        let old = table_of(
+            alloc,
+            &[
+                "0 0 9 0 0 9 7 9",
+                user,
+                "1 0 0 0 0 0 8 9",
+                "0 0 0 0 0 0 0 0",
+            ],
+        )?;
+        let want = table_of(
+            alloc,
+            &[
+                "0 0 9 0 0 9 7 9",
+                other,
+                "1 0 0 0 0 0 8 9",
+                "0 0 0 0 0 0 0 0",
+            ],
+        )?;
+        let ran = change(alloc, line, &old, NOW)?;
+        assert_eq!(rt; ran.status, 0, "{line}");
+        assert!(rt; ran.file("q") == want.as_slice(), "{line}");
+    }
+    let old = table_of(alloc, &["0 0 0 0 0 0 7 9", "8 2 4 0 0 1 5 6"])?;
+    let want = table_of(alloc, &["2 1 0 4 3 0 7 9", "8 2 4 0 0 1 5 6"])?;
+    let ran = change(alloc, "setquota -F vfsold -u 0 1 2 3 4 q", &old, NOW)?;
+    assert!(rt; ran.file("q") == want.as_slice());
     Ok(())
 }
 

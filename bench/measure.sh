@@ -1,0 +1,42 @@
+# Functions of the benchmarks, which source this file in a folder of their own; `program` is the built program.
+
+# best WORD..: the least of three times, in seconds, of a command.
+best() {
+    local least=999999 i start end
+    for i in 1 2 3; do
+        start=$(date +%s.%N)
+        "$@" >/dev/null 2>&1
+        end=$(date +%s.%N)
+        least=$(echo "$start $end $least" | awk '{ t = $2 - $1; print (t < $3 ? t : $3) }')
+    done
+    echo "$least"
+}
+
+# ratio ONE OTHER: how often the second number is in the first.
+ratio() {
+    echo "$1 $2" | awk '{ printf "%.2f", $1 / $2 }'
+}
+
+# memory FILE WORD..: the most memory that the program holds with these words, beside the size of the file.
+memory() {
+    local file held
+    file=$(($(stat -c %s "$1") / 1024))
+    shift
+    held=$(python3 - "$program" "$@" <<'PY'
+import resource, subprocess, sys
+subprocess.run(sys.argv[1:], stdout=subprocess.DEVNULL, check=True)
+print(resource.getrusage(resource.RUSAGE_CHILDREN).ru_maxrss)
+PY
+)
+    echo "memory: at most $held KiB, the file $file KiB, $((held - file)) KiB more"
+}
+
+# calls PATTERN WORD..: how many calls of the system of these names the program makes with these words, and in all.
+calls() {
+    local pattern=$1
+    shift
+    if command -v strace >/dev/null; then
+        strace -f -c -o calls "$program" "$@" >/dev/null
+        grep -E "$pattern|total" calls | awk '{ print "calls of the system: " $NF " " $4 }'
+    fi
+}
