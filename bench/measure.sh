@@ -1,4 +1,12 @@
-# Functions of the benchmarks, which source this file in a folder of their own; `program` is the built program.
+# What the benchmarks share; each of them sources this file. It makes a folder of its own, which goes when the script ends,
+# with a full flat file `q` and a text dump of it. `top` is the top of the repository, and `program` the built program.
+set -eu
+top=$(cd "$(dirname "${BASH_SOURCE[0]}")/.." && pwd)
+program=$top/crates/quota_cli/out/quota_cli
+folder=$(mktemp -d)
+trap 'rm -rf "$folder"' EXIT
+cd "$folder"
+python3 "$top/bench/make_flat_file.py" q dump
 
 # best WORD..: the least of three times, in seconds, of a command.
 best() {

@@ -1,14 +1,7 @@
 #!/usr/bin/env bash
 # The report of a full flat file beside awk, which prints the same lines from a text dump of it, in one run: the ratio
 # of their times (the best of three each), the most memory that the program held, and its calls of the system.
-set -eu
-top=$(cd "$(dirname "${BASH_SOURCE[0]}")/.." && pwd)
-. "$top/bench/measure.sh"
-program=$top/crates/quota_cli/out/quota_cli
-folder=$(mktemp -d)
-trap 'rm -rf "$folder"' EXIT
-cd "$folder"
-python3 "$top/bench/make_flat_file.py" q dump
+. "$(dirname "${BASH_SOURCE[0]}")/measure.sh"
 words=(repquota -F vfsold -u -v q)
 "$top/bin/quota_cli" "${words[@]}" >report
 now=$(date +%s)

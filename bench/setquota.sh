@@ -1,14 +1,7 @@
 #!/usr/bin/env bash
 # One change of a full flat file beside reading that file once in pieces of 1,024 bytes, in one run: the ratio of their
 # times (the best of three each), the most memory that the program held, and its calls of the system.
-set -eu
-top=$(cd "$(dirname "${BASH_SOURCE[0]}")/.." && pwd)
-. "$top/bench/measure.sh"
-program=$top/crates/quota_cli/out/quota_cli
-folder=$(mktemp -d)
-trap 'rm -rf "$folder"' EXIT
-cd "$folder"
-python3 "$top/bench/make_flat_file.py" q dump
+. "$(dirname "${BASH_SOURCE[0]}")/measure.sh"
 words=(setquota -F vfsold -u 1000 100 200 10 20 q)
 "$top/bin/quota_cli" "${words[@]}"
 
