@@ -1,0 +1,4 @@
+pub mod Units
+pub mod Rows
+pub mod Call
+pub mod Reply

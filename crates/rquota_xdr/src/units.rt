@@ -1,0 +1,37 @@
+ghost use Rattle.std.specs.Prelude.{◌≡◌, ◌+◌, ◌*◌, ◌≤◌, ◌++◌, length, drop};
+ghost use Rattle.rquota_xdr.specs.Units.{unit_at, units_from};
+ghost use Rattle.rquota_xdr.specs.Reply.{bytes_of};
+
+use arrayvec::ArrayVec;
+
+/// The number of the unit at a place.
+pub(crate) fn unit_at(bytes: &[u8], at: usize) -> u32
+    requires { at + 4 ≤ length bytes.now }
+    ensures { result ≡ unit_at bytes.now at }
+{
+    u32::from_be_bytes([bytes[at], bytes[at + 1], bytes[at + 2], bytes[at + 3]])
+}
+
+/// The numbers of so many units from a place on.
+#[tactic(auto, using(crate::proofs::UnitLemmas::one_unit_more), unfolding(crate::specs::Units::units_from))]
+pub(crate) fn units_from<const N: usize>(bytes: &[u8], at: usize, count: usize) -> ArrayVec<u32, N>
+    requires few { count ≤ N }
+    requires inside { at + 4 * count ≤ length bytes.now }
+    ensures { result.items ≡ units_from bytes.now at count }
+{
+    let mut units = ArrayVec::new();
+    for place in 0..count {
+        units.push(unit_at(bytes, at + 4 * place));
+    }
+    units
+}
+
+/// Writes the numbers as units from the start on, and leaves the other bytes.
+pub(crate) fn put_units(bytes: &mut [u8], units: &[u32])
+    requires { 4 * length units.now ≤ length bytes.old }
+    ensures { bytes.new ≡ bytes_of units.now ++ drop (4 * length units.now) bytes.old }
+{
+    for (place, unit) in units.iter().enumerate() {
+        bytes[4 * place..4 * place + 4].copy_from_slice(&unit.to_be_bytes());
+    }
+}
