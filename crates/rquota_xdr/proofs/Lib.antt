@@ -1,2 +1,4 @@
 pub mod UnitLemmas
 pub mod RowLemmas
+pub mod SpellingLemmas
+pub mod ReplyLemmas

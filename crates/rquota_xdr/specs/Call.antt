@@ -171,8 +171,8 @@ accepted datagram =
     if is_set datagram
     then Set (xid_of datagram)
     else Get (xid_of datagram) (caller_of datagram)
-      (record { start = path_at datagram + 4; len = unit_at datagram (path_at datagram) })
-      (kind_of datagram) (id_of datagram)
+    (record { start = path_at datagram + 4; len = unit_at datagram (path_at datagram) })
+    (kind_of datagram) (id_of datagram)
 
 -- what a datagram asks: the answer of the first row that fails, or the accepted call
 abbrev pub call_of : List ℕ → Call

@@ -1,7 +1,7 @@
 -- The bytes of a reply. Sources: RFC 5531, section 9, for its head; `rquota.x` of the quota tools for its results.
-use Rattle.std.specs.Prelude.{ℕ, ◌<◌, ◌^◌, List, [], ◌∷◌, ◌++◌, slice_index}
+use Rattle.std.specs.Prelude.{ℕ, ◌<◌, ◌^◌, List, [], ◌∷◌, ◌++◌}
 use Rattle.std.specs.Int.{w32, to_be_bytes}
-use Rattle.std.specs.List.{flat_map}
+use Rattle.std.specs.List.{AllByRecursion, flat_map}
 use Rattle.rquota_xdr.specs.declared.quota.Quota.{Quota}
 use Rattle.rquota_xdr.specs.declared.reply.Reply.{Reply}
 use Rattle.rquota_xdr.specs.declared.reply.Reply.TheVariants.{OldRpc, NoProgram, NoVersion, NoProcedure, Auth, Garbage, Null, NoQuota, Denied}
@@ -42,6 +42,10 @@ bytes_of units = flat_map (to_be_bytes w32) units
 abbrev pub spelling_of : Reply → List ℕ
 spelling_of reply = bytes_of (units_of reply)
 
+-- each is a number of 32 bits
+abbrev pub AreNumbers : List ℕ → Type 0
+AreNumbers units = AllByRecursion (λ unit. unit < 2 ^ 32) units
+
 -- each unit of the reply is a number of 32 bits
 abbrev pub FitsUnits : Reply → Type 0
-FitsUnits reply = (at : ℕ) → slice_index (units_of reply) at < 2 ^ 32
+FitsUnits reply = AreNumbers (units_of reply)

@@ -1,5 +1,5 @@
 ghost use Rattle.std.specs.Prelude.{◌≡◌, ◌*◌, ◌≤◌, ◌++◌, length, drop};
-ghost use Rattle.rquota_xdr.specs.Reply.{bytes_of, spelling_of, units_of};
+ghost use Rattle.rquota_xdr.specs.Reply.{AreNumbers, FitsUnits, bytes_of, spelling_of};
 
 use crate::units::put_units;
 use crate::{Quota, Reply};
@@ -9,6 +9,7 @@ fn put(out: &mut [u8; 68], units: &[u32]) -> usize
     requires { length units.now ≤ 17 }
     ensures len { result ≡ 4 * length units.now }
     ensures bytes { out.new ≡ bytes_of units.now ++ drop (4 * length units.now) out.old }
+    ensures numbers { AreNumbers units.now }
 {
     put_units(&mut out[..], units);
     4 * units.len()
@@ -18,6 +19,7 @@ fn put(out: &mut [u8; 68], units: &[u32]) -> usize
 fn put_quota(out: &mut [u8; 68], xid: u32, quota: &Quota) -> usize
     ensures len { result ≡ 68 }
     ensures bytes { out.new ≡ spelling_of (Reply.Quota xid quota.now) }
+    ensures numbers { FitsUnits (Reply.Quota xid quota.now) }
 {
     put(
         out,
@@ -48,6 +50,7 @@ pub fn write_reply(reply: &Reply, out: &mut [u8; 68]) -> usize
     ensures len { result ≡ length (spelling_of reply.now) }
     ensures bytes { out.new ≡ spelling_of reply.now ++ drop (length (spelling_of reply.now)) out.old }
     ensures fits { result ≤ 68 }
+    ensures numbers { FitsUnits reply.now }
 {
     match *reply {
         Reply::Null { xid } => put(out, &[xid, 1, 0, 0, 0, 0]),
