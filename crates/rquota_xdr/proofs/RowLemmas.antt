@@ -1,5 +1,7 @@
 -- The first failing row of two tables, one behind the other.
-use Rattle.std.proofs.Common.{◌≡◌, Bool, true, false, cond, List, [], ◌∷◌, ◌++◌, Option, Some, None, refl}
+use Rattle.std.proofs.Common.{◌≡◌, ℕ, Bool, true, false, cond, List, [], ◌∷◌, ◌++◌, Option, Some, None, refl, subst}
+use Rattle.std.specs.List.{AllByRecursion}
+use Rattle.rquota_xdr.specs.Call.{HasPathWithin, head_rows}
 use Rattle.rquota_xdr.specs.declared.call.Call.{Call}
 use Rattle.rquota_xdr.specs.Rows.{Row, first_failing}
 
@@ -22,3 +24,19 @@ pub first_failing_behind : (rows others : List Row) → first_failing rows ≡ N
 first_failing_behind [] others all = refl
 first_failing_behind (row ∷ rows) others all =
     holds_too row.holds row.answer (first_failing rows) (first_failing (rows ++ others)) (first_failing others) (first_failing_behind rows others) all
+
+answer_of : (P : Call → Type 0) (holds : Bool) (told answer : Call) (rest : Option Call) → P told → (rest ≡ Some answer → P answer) → cond holds rest (Some told) ≡ Some answer → P answer
+answer_of P true told answer rest is more fails = more fails
+answer_of P false told answer rest is more fails = let same : told ≡ answer = cc in subst P same is
+
+-- what holds of the answer of each row holds of that of the first that fails
+first_failing_answer : (P : Call → Type 0) (rows : List Row) (answer : Call) → AllByRecursion (λ row. P row.answer) rows → first_failing rows ≡ Some answer → P answer
+first_failing_answer P [] answer all fails = absurd cc
+first_failing_answer P (row ∷ rows) answer all fails =
+    answer_of P row.holds row.answer answer (first_failing rows) all.0 (first_failing_answer P rows answer all.1) fails
+
+-- no answer of a head is a call for limits
+pub head_answer : (datagram : List ℕ) (len : ℕ) (answer : Call) → first_failing (head_rows datagram) ≡ Some answer → HasPathWithin len answer
+unfolding head_rows
+head_answer datagram len answer fails =
+    first_failing_answer (HasPathWithin len) (head_rows datagram) answer (tt, (tt, (tt, (tt, (tt, (tt, (tt, tt))))))) fails

@@ -1,6 +1,6 @@
 -- What a datagram asks of an rquota server. Sources: RFC 5531 for the call, `rquota.x` of the quota tools for the
 -- procedures and their arguments. Each field is named by its place in the whole datagram.
-use Rattle.std.specs.Prelude.{ℕ, ◌+◌, ◌*◌, Bool, not, ◌&&◌, ◌||◌, ◌==◌, nat_lt, nat_le, if◌then◌else◌, List, [], ◌∷◌, ◌++◌, length, unwrap_or}
+use Rattle.std.specs.Prelude.{ℕ, ◌+◌, ◌*◌, ◌≤◌, Bool, not, ◌&&◌, ◌||◌, ◌==◌, nat_lt, nat_le, if◌then◌else◌, List, [], ◌∷◌, ◌++◌, length, unwrap_or}
 use Rattle.rquota_xdr.specs.Units.{unit_at, units_from, opaque_end, is_opaque}
 use Rattle.rquota_xdr.specs.Rows.{Row, ◌otherwise◌, first_failing}
 use Rattle.rquota_xdr.specs.declared.span.Span.{Span}
@@ -177,3 +177,16 @@ accepted datagram =
 -- what a datagram asks: the answer of the first row that fails, or the accepted call
 abbrev pub call_of : List ℕ → Call
 call_of datagram = unwrap_or (first_failing (rows_of datagram)) (accepted datagram)
+
+-- the path of a call for limits stands in a datagram of so many bytes, and has at most 1,024 of them
+abbrev pub HasPathWithin : ℕ → Call → Type 0
+HasPathWithin len (Get xid caller path kind id) = (path.start + path.len ≤ len) × (path.len ≤ 1024)
+HasPathWithin len Silent = Unit {0}
+HasPathWithin len (OldRpc xid) = Unit {0}
+HasPathWithin len (NoProgram xid) = Unit {0}
+HasPathWithin len (NoVersion xid) = Unit {0}
+HasPathWithin len (NoProcedure xid) = Unit {0}
+HasPathWithin len (Auth xid stat) = Unit {0}
+HasPathWithin len (Garbage xid) = Unit {0}
+HasPathWithin len (Null xid) = Unit {0}
+HasPathWithin len (Set xid) = Unit {0}

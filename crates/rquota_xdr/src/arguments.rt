@@ -52,6 +52,8 @@ pub(crate) fn arguments_of(bytes: &[u8], head: Head, at: usize) -> Option<Argume
     ensures found { is_some result ≡ has_arguments bytes.now }
     ensures start { IfSome result (λ found. found.path.start ≡ path_at bytes.now + 4) }
     ensures len { IfSome result (λ found. found.path.len ≡ unit_at bytes.now (path_at bytes.now)) }
+    ensures inside { IfSome result (λ found. found.path.start + found.path.len ≤ length bytes.now) }
+    ensures few { IfSome result (λ found. found.path.len ≤ 1024) }
     ensures kind { IfSome result (λ found. found.kind ≡ kind_of bytes.now) }
     ensures id { IfSome result (λ found. found.id ≡ id_of bytes.now) }
 {

@@ -1,5 +1,5 @@
-ghost use Rattle.std.specs.Prelude.{◌≡◌};
-ghost use Rattle.rquota_xdr.specs.Call.{call_of};
+ghost use Rattle.std.specs.Prelude.{◌≡◌, length};
+ghost use Rattle.rquota_xdr.specs.Call.{HasPathWithin, call_of};
 
 use crate::Call;
 use crate::arguments::arguments_of;
@@ -10,7 +10,8 @@ use crate::verifier::authenticate;
 /// of a `Get` stands in the datagram.
 #[tactic(auto, using(crate::proofs::RowLemmas::first_failing_before, crate::proofs::RowLemmas::first_failing_behind), unfolding(crate::specs::Call::argument_rows, crate::specs::Call::accepted))]
 pub fn read_call(bytes: &[u8]) -> Call
-    ensures { result ≡ call_of bytes.now }
+    ensures call { result ≡ call_of bytes.now }
+    ensures path { HasPathWithin (length bytes.now) result }
 {
     let head = match head_of(bytes) {
         Ok(head) => head,

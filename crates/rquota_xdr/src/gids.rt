@@ -35,7 +35,8 @@ impl Gids {
 
     /// The numbers of the groups, in the order of the call.
     pub fn as_slice(&self) -> &[u32]
-        ensures { result.now ≡ self.now }
+        ensures numbers { result.now ≡ self.now }
+        ensures few { length result.now ≤ 16 }
     {
         self.numbers.as_slice()
     }

@@ -31,7 +31,7 @@ pub(crate) fn opaque_at(bytes: &[u8], at: usize, most: usize, end: usize) -> Opt
     }
     let len = unit_at(bytes, at) as usize;
     let start = at + 4;
-    let behind = start + (len + 3) / 4 * 4;
+    let behind = start + len.div_ceil(4) * 4;
     if len > most || behind > end {
         return None;
     }
