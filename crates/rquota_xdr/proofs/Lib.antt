@@ -2,3 +2,4 @@ pub mod UnitLemmas
 pub mod RowLemmas
 pub mod SpellingLemmas
 pub mod ReplyLemmas
+pub mod QuestionLemmas

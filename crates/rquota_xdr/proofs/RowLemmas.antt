@@ -40,3 +40,8 @@ pub head_answer : (datagram : List ℕ) (len : ℕ) (answer : Call) → first_fa
 unfolding head_rows
 head_answer datagram len answer fails =
     first_failing_answer (HasPathWithin len) (head_rows datagram) answer (tt, (tt, (tt, (tt, (tt, (tt, (tt, tt))))))) fails
+
+-- no row fails where each holds
+pub all_hold : (rows : List Row) → AllByRecursion (λ row. row.holds ≡ true) rows → first_failing rows ≡ None
+all_hold [] all = refl
+all_hold (row ∷ rows) all = let holds = all.0 in rw holds (all_hold rows all.1)

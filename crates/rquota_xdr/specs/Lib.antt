@@ -2,3 +2,4 @@ pub mod Units
 pub mod Rows
 pub mod Call
 pub mod Reply
+pub mod Question

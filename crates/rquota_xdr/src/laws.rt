@@ -1,6 +1,7 @@
-//! Laws of the replies.
+//! Laws of the codec: what was written is read again.
 
 ghost use Rattle.std.specs.Prelude.{◌≡◌, Some};
+ghost use Rattle.rquota_xdr.specs.Question.{Asks, IsQuestion, Question, question_bytes};
 ghost use Rattle.rquota_xdr.specs.Reply.{FitsUnits, spelling_of};
 ghost use Rattle.rquota_xdr.specs.declared.reply.Reply.{Reply};
 
@@ -17,4 +18,9 @@ pub fn a_reply_is_read_again(reply: &Reply, out: &mut [u8; 68]) -> Option<Reply>
 /// Bytes spell one reply at most.
 pub fn a_spelling_has_one_meaning()
     ensures { (reply other : Reply) → FitsUnits reply → FitsUnits other → spelling_of reply ≡ spelling_of other → reply ≡ other }
+{}
+
+/// A call for limits that was written field behind field asks for what its fields say.
+pub fn a_written_call_is_what_is_asked()
+    ensures { (q : Question) → IsQuestion q → Asks (question_bytes q) q }
 {}
