@@ -1,5 +1,5 @@
 -- A call for limits that was written is read.
-use Rattle.std.proofs.Common.{◌≡◌, ℕ, zero, suc, ◌+◌, ◌-◌, ◌*◌, ◌/◌, ◌^◌, ◌<◌, ◌≤◌, Bool, true, false, List, [], ◌∷◌, ◌++◌, length, take, drop, Option, None, Some, refl, sym, ap, ◌∙◌, arith, append_assoc, length-append, length-drop}
+use Rattle.std.proofs.Common.{◌≡◌, ℕ, suc, ◌+◌, ◌-◌, ◌*◌, ◌^◌, ◌<◌, ◌≤◌, true, false, List, [], ◌∷◌, ◌++◌, length, drop, Option, None, Some, refl, sym, ap, ◌∙◌, arith, append_assoc, length-append, length-drop}
 use Rattle.std.specs.Prelude.{not, ◌==◌, ◌||◌, nat_le, nat_lt, if◌then◌else◌, slice_range}
 use Rattle.std.specs.Int.{w32, to_be_bytes}
 use Rattle.std.proofs.lemmas.List.{drop-drop, drop_at, take_at}
@@ -8,7 +8,8 @@ use Rattle.std.proofs.lemmas.Nat.{from_be_bytes-to_be_bytes_4}
 use Rattle.rquota_xdr.specs.Units.{unit_at, units_from, padded, opaque_end, is_opaque}
 use Rattle.rquota_xdr.specs.Reply.{AreNumbers, bytes_of}
 use Rattle.rquota_xdr.specs.Rows.{first_failing}
-use Rattle.rquota_xdr.specs.Call.{HasPathWithin, accepted, argument_rows, caller_of, caller_rows, call_of, credential_rows, has_arguments, head_rows, is_system_credential, rows_of, verifier_rows}
+use Rattle.rquota_xdr.specs.Call.{accepted, argument_rows, caller_rows, call_of, credential_rows, head_rows, rows_of, verifier_rows}
+use Rattle.rquota_xdr.specs.Fields.{caller_of, has_arguments, is_system_credential}
 use Rattle.rquota_xdr.specs.Question.{Asks, IsPadded, IsQuestion, Padded, Question, credential, kind_with, last_units, opaque, question_bytes, version_with}
 use Rattle.rquota_xdr.specs.declared.call.Call.TheVariants.{Get}
 use Rattle.rquota_xdr.proofs.UnitLemmas.{unit_at-bytes}

@@ -1,5 +1,5 @@
 -- Replies and their units.
-use Rattle.std.proofs.Common.{◌≡◌, ◌≢◌, ℕ, ◌*◌, ◌/◌, ◌^◌, ◌<◌, List, [], ◌∷◌, length, get_or, Option, Some, None, refl, sym, ap, subst, ◌∙◌, arith}
+use Rattle.std.proofs.Common.{◌≡◌, ◌≢◌, ℕ, ◌*◌, ◌/◌, List, length, get_or, Option, Some, None, refl, sym, ap, subst, ◌∙◌, arith}
 use Rattle.std.specs.Prelude.{◌==◌, ◌%◌, if◌then◌else◌, IfSome, IfNone}
 use Rattle.rquota_xdr.specs.Units.{units_from}
 use Rattle.rquota_xdr.specs.Reply.{AreNumbers, FitsUnits, bytes_of, spelling_of, units_of}

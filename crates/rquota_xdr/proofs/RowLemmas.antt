@@ -25,6 +25,9 @@ first_failing_behind [] others all = refl
 first_failing_behind (row ∷ rows) others all =
     holds_too row.holds row.answer (first_failing rows) (first_failing (rows ++ others)) (first_failing others) (first_failing_behind rows others) all
 
+-- both
+pub ruleset two_tables = (first_failing_before, first_failing_behind)
+
 answer_of : (P : Call → Type 0) (holds : Bool) (told answer : Call) (rest : Option Call) → P told → (rest ≡ Some answer → P answer) → cond holds rest (Some told) ≡ Some answer → P answer
 answer_of P true told answer rest is more fails = more fails
 answer_of P false told answer rest is more fails = let same : told ≡ answer = cc in subst P same is

@@ -1,6 +1,6 @@
 -- A call for limits as it is written, field behind field (RFC 5531, sections 8.2 and 9, and appendix A; `getquota_args` and
 -- `ext_getquota_args` of `rquota.x`).
-use Rattle.std.specs.Prelude.{◌≡◌, ℕ, ◌+◌, ◌<◌, ◌≤◌, ◌^◌, List, [], ◌∷◌, ◌++◌, length, slice_range, Option, Some, None}
+use Rattle.std.specs.Prelude.{◌≡◌, ℕ, ◌+◌, ◌≤◌, List, [], ◌∷◌, ◌++◌, length, slice_range, Option, Some, None}
 use Rattle.std.specs.Int.{w32, to_be_bytes}
 use Rattle.rquota_xdr.specs.Units.{padded}
 use Rattle.rquota_xdr.specs.Reply.{AreNumbers, bytes_of}

@@ -1,6 +1,5 @@
 ghost use Rattle.std.specs.Prelude.{◌≡◌, ◌+◌, ◌≤◌, ◌<◌, ◌^◌, if◌then◌else◌, length, is_some, IfSome};
-ghost use Rattle.rquota_xdr.specs.Units.{unit_at};
-ghost use Rattle.rquota_xdr.specs.Call.{arguments_at, has_arguments, has_type, id_of, is_set, kind_of, path_at, units_behind_path};
+ghost use Rattle.rquota_xdr.specs.Fields.{arguments_at, has_arguments, has_type, id_of, is_set, kind_of, path_of};
 
 use crate::Span;
 use crate::head::Head;
@@ -43,15 +42,14 @@ fn units_behind_path(head: Head) -> usize
 }
 
 /// The arguments at a place, where all of them stand there.
-#[tactic(auto, unfolding(crate::specs::Call::has_arguments))]
+#[tactic(auto, unfolding(crate::specs::Fields::has_arguments))]
 pub(crate) fn arguments_of(bytes: &[u8], head: Head, at: usize) -> Option<Arguments>
     requires is_set { head.is_set ≡ is_set bytes.now }
     requires has_type { head.has_type ≡ has_type bytes.now }
     requires at { at ≡ arguments_at bytes.now }
     requires inside { at ≤ length bytes.now }
     ensures found { is_some result ≡ has_arguments bytes.now }
-    ensures start { IfSome result (λ found. found.path.start ≡ path_at bytes.now + 4) }
-    ensures len { IfSome result (λ found. found.path.len ≡ unit_at bytes.now (path_at bytes.now)) }
+    ensures path { IfSome result (λ found. found.path ≡ path_of bytes.now) }
     ensures inside { IfSome result (λ found. found.path.start + found.path.len ≤ length bytes.now) }
     ensures few { IfSome result (λ found. found.path.len ≤ 1024) }
     ensures kind { IfSome result (λ found. found.kind ≡ kind_of bytes.now) }

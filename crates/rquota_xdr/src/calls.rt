@@ -8,7 +8,7 @@ use crate::verifier::authenticate;
 
 /// What a datagram asks: the answer of the first row of the table `call_of` that fails, or the accepted call. The path
 /// of a `Get` stands in the datagram.
-#[tactic(auto, using(crate::proofs::RowLemmas::first_failing_before, crate::proofs::RowLemmas::first_failing_behind), unfolding(crate::specs::Call::argument_rows, crate::specs::Call::accepted))]
+#[tactic(auto, using(crate::proofs::RowLemmas::two_tables), unfolding(crate::specs::Call::argument_rows, crate::specs::Call::accepted))]
 pub fn read_call(bytes: &[u8]) -> Call
     ensures call { result ≡ call_of bytes.now }
     ensures path { HasPathWithin (length bytes.now) result }

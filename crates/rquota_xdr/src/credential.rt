@@ -1,7 +1,8 @@
 ghost use Rattle.std.specs.Prelude.{◌≡◌, ◌+◌, ◌≤◌, ◌==◌, if◌then◌else◌, length, None, Some, is_some, IfSome, OnOk, IfOk, IfErr};
 ghost use Rattle.rquota_xdr.specs.Rows.{first_failing};
 ghost use Rattle.rquota_xdr.specs.Units.{unit_at};
-ghost use Rattle.rquota_xdr.specs.Call.{body_end_of, caller_of, credential_rows, flavor_of, is_system_credential, verifier_at, xid_of};
+ghost use Rattle.rquota_xdr.specs.Call.{credential_rows};
+ghost use Rattle.rquota_xdr.specs.Fields.{body_end_of, caller_of, flavor_of, is_system_credential, verifier_at, xid_of};
 ghost use Rattle.rquota_xdr.specs.declared.call.Call.TheVariants.{Auth};
 
 use crate::opaque::opaque_at;
@@ -39,7 +40,7 @@ pub(crate) struct Credential {
 }
 
 /// The caller that a credential of the system names, whose body ends at this place.
-#[tactic(auto, unfolding(crate::specs::Call::is_system_credential, crate::specs::Call::caller_of))]
+#[tactic(auto, unfolding(crate::specs::Fields::is_system_credential, crate::specs::Fields::caller_of))]
 fn system_caller(bytes: &[u8], end: usize) -> Option<Caller>
     requires inside { end ≤ length bytes.now }
     requires body { 32 ≤ end }
@@ -67,8 +68,10 @@ fn system_caller(bytes: &[u8], end: usize) -> Option<Caller>
 pub(crate) fn credential_of(bytes: &[u8]) -> Result<Credential, u32>
     requires { 24 ≤ length bytes.now }
     ensures ok { OnOk result (first_failing (credential_rows bytes.now) ≡ None) }
-    ensures err { IfErr result (λ stat. first_failing (credential_rows bytes.now) ≡ Some (Auth (xid_of bytes.now) stat)) }
-    ensures caller { IfOk result (λ found. found.caller ≡ (if flavor_of bytes.now == 0 then None else Some (caller_of bytes.now))) }
+    ensures err { IfErr result (λ stat.
+        first_failing (credential_rows bytes.now) ≡ Some (Auth (xid_of bytes.now) stat)) }
+    ensures caller { IfOk result (λ found.
+        found.caller ≡ (if flavor_of bytes.now == 0 then None else Some (caller_of bytes.now))) }
     ensures end { IfOk result (λ found. found.end ≡ verifier_at bytes.now) }
     ensures inside { IfOk result (λ found. found.end ≤ length bytes.now) }
 {

@@ -1,6 +1,7 @@
 ghost use Rattle.std.specs.Prelude.{◌≡◌, ◌≤◌, length, None, Some, OnOk, IfOk, IfErr};
 ghost use Rattle.rquota_xdr.specs.Rows.{first_failing};
-ghost use Rattle.rquota_xdr.specs.Call.{has_type, head_rows, is_set, xid_of};
+ghost use Rattle.rquota_xdr.specs.Call.{head_rows};
+ghost use Rattle.rquota_xdr.specs.Fields.{has_type, is_set, xid_of};
 
 use crate::Call;
 use crate::units::unit_at;

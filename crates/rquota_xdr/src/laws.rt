@@ -17,7 +17,8 @@ pub fn a_reply_is_read_again(reply: &Reply, out: &mut [u8; 68]) -> Option<Reply>
 
 /// Bytes spell one reply at most.
 pub fn a_spelling_has_one_meaning()
-    ensures { (reply other : Reply) → FitsUnits reply → FitsUnits other → spelling_of reply ≡ spelling_of other → reply ≡ other }
+    ensures { (reply other : Reply) → FitsUnits reply → FitsUnits other
+        → spelling_of reply ≡ spelling_of other → reply ≡ other }
 {}
 
 /// A call for limits that was written field behind field asks for what its fields say.

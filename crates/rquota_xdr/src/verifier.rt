@@ -1,6 +1,7 @@
 ghost use Rattle.std.specs.Prelude.{◌≡◌, ◌≤◌, length, None, Some, OnOk, IfOk, IfErr};
 ghost use Rattle.rquota_xdr.specs.Rows.{first_failing};
-ghost use Rattle.rquota_xdr.specs.Call.{arguments_at, caller_of, caller_rows, xid_of};
+ghost use Rattle.rquota_xdr.specs.Call.{caller_rows};
+ghost use Rattle.rquota_xdr.specs.Fields.{arguments_at, caller_of, xid_of};
 ghost use Rattle.rquota_xdr.specs.declared.call.Call.TheVariants.{Auth};
 
 use crate::Caller;
@@ -22,11 +23,12 @@ pub(crate) struct Authenticated {
 }
 
 /// The caller that the credential names, where a verifier stands behind it, or the `auth_stat` of the refusal.
-#[tactic(auto, using(crate::proofs::RowLemmas::first_failing_before, crate::proofs::RowLemmas::first_failing_behind), unfolding(crate::specs::Call::caller_rows, crate::specs::Call::verifier_rows))]
+#[tactic(auto, using(crate::proofs::RowLemmas::two_tables), unfolding(crate::specs::Call::caller_rows, crate::specs::Call::verifier_rows))]
 pub(crate) fn authenticate(bytes: &[u8]) -> Result<Authenticated, u32>
     requires { 24 ≤ length bytes.now }
     ensures ok { OnOk result (first_failing (caller_rows bytes.now) ≡ None) }
-    ensures err { IfErr result (λ stat. first_failing (caller_rows bytes.now) ≡ Some (Auth (xid_of bytes.now) stat)) }
+    ensures err { IfErr result (λ stat.
+        first_failing (caller_rows bytes.now) ≡ Some (Auth (xid_of bytes.now) stat)) }
     ensures caller { IfOk result (λ found. found.caller ≡ caller_of bytes.now) }
     ensures arguments { IfOk result (λ found. found.arguments ≡ arguments_at bytes.now) }
     ensures inside { IfOk result (λ found. found.arguments ≤ length bytes.now) }
