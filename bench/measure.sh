@@ -1,6 +1,8 @@
-# What the benchmarks share; each of them sources this file. It makes a folder of its own, which goes when the script ends,
-# with a full flat file `q` and a text dump of it. `top` is the top of the repository, and `program` the built program.
-set -eu
+# What the benchmarks share; each of them sources this file. It makes a folder, which is removed when the script ends, and
+# in it a full flat file `q` and a text dump of it. `top` is the top of the repository, and `program` the built program.
+# A command that fails ends the benchmark with its status.
+set -euo pipefail
+shopt -s inherit_errexit
 top=$(cd "$(dirname "${BASH_SOURCE[0]}")/.." && pwd)
 program=$top/crates/quota_cli/out/quota_cli
 folder=$(mktemp -d)
@@ -10,11 +12,17 @@ python3 "$top/bench/make_flat_file.py" q dump
 
 # best WORD..: the least of three times, in seconds, of a command.
 best() {
-    local least=999999 i start end
-    for i in 1 2 3; do
+    local least=999999 status start end
+    for _ in 1 2 3; do
+        status=0
         start=$(date +%s.%N)
-        "$@" >/dev/null 2>&1
+        "$@" >/dev/null 2>said || status=$?
         end=$(date +%s.%N)
+        if [ "$status" != 0 ]; then
+            cat said >&2
+            echo "this was timed, and failed with status $status: $*" >&2
+            return "$status"
+        fi
         least=$(echo "$start $end $least" | awk '{ t = $2 - $1; print (t < $3 ? t : $3) }')
     done
     echo "$least"
@@ -25,7 +33,7 @@ ratio() {
     echo "$1 $2" | awk '{ printf "%.2f", $1 / $2 }'
 }
 
-# memory FILE WORD..: the most memory that the program holds with these words, beside the size of the file.
+# memory FILE WORD..: the most memory that the program holds at a time with these words, beside the size of the file.
 memory() {
     local file held
     file=$(($(stat -c %s "$1") / 1024))
@@ -43,8 +51,10 @@ PY
 calls() {
     local pattern=$1
     shift
-    if command -v strace >/dev/null; then
-        strace -f -c -o calls "$program" "$@" >/dev/null
-        grep -E "$pattern|total" calls | awk '{ print "calls of the system: " $NF " " $4 }'
+    if ! command -v strace >/dev/null; then
+        echo "calls of the system: not counted, since strace is not there"
+        return
     fi
+    strace -f -c -o calls "$program" "$@" >/dev/null
+    grep -E "$pattern|total" calls | awk '{ print "calls of the system: " $NF " " $4 }'
 }

@@ -1,6 +1,6 @@
 #!/usr/bin/env bash
-# The report of a full flat file beside awk, which prints the same lines from a text dump of it, in one run: the ratio
-# of their times (the best of three each), the most memory that the program held, and its calls of the system.
+# Measures, in one run, the report of a full flat file beside awk, which prints the same lines from a text dump of it:
+# the ratio of their times (the best of three each), the most memory that the program holds, and its calls of the system.
 . "$(dirname "${BASH_SOURCE[0]}")/measure.sh"
 words=(repquota -F vfsold -u -v q)
 "$top/bin/quota_cli" "${words[@]}" >report

@@ -1,6 +1,6 @@
 #!/usr/bin/env bash
-# One change of a full flat file beside reading that file once in pieces of 1,024 bytes, in one run: the ratio of their
-# times (the best of three each), the most memory that the program held, and its calls of the system.
+# Measures, in one run, one change of a full flat file beside reading that file once in pieces of 1,024 bytes: the ratio
+# of their times (the best of three each), the most memory that the program holds, and its calls of the system.
 . "$(dirname "${BASH_SOURCE[0]}")/measure.sh"
 words=(setquota -F vfsold -u 1000 100 200 10 20 q)
 "$top/bin/quota_cli" "${words[@]}"

@@ -1,12 +1,15 @@
 #!/usr/bin/env bash
-# Runs the built program over real files and streams. Ends with 1 where an answer is not the one that is wanted.
-set -u
-top=$(cd "$(dirname "${BASH_SOURCE[0]}")/.." && pwd) || exit 1
+# Runs the built program over real files and streams. Ends with status 1 where an answer is not the wanted one, and
+# stops, naming the line, where a command of the test itself fails. Globs that match nothing are dropped.
+set -Eeuo pipefail
+shopt -s inherit_errexit nullglob
+trap 'echo "real_files: line $LINENO failed: $BASH_COMMAND" >&2' ERR
+top=$(cd "$(dirname "${BASH_SOURCE[0]}")/.." && pwd)
 run=$top/bin/quota_cli
 runner=("$run")
-folder=$(mktemp -d) || exit 1
+folder=$(mktemp -d)
 trap 'rm -rf "$folder"' EXIT
-cd "$folder" || exit 1
+cd "$folder"
 passed=0
 failed=0
 
@@ -17,10 +20,9 @@ lines() {
 
 # expect WHAT STATUS OUT ERR WORD..: runs the words, and compares the status and what was written.
 expect() {
-    local what=$1 status=$2 out=$3 err=$4
+    local what=$1 status=$2 out=$3 err=$4 got=0
     shift 4
-    timeout 10 "${runner[@]}" "$@" >out.txt 2>err.txt
-    local got=$?
+    timeout 10 "${runner[@]}" "$@" >out.txt 2>err.txt || got=$?
     lines "$out" >want_out.txt
     lines "$err" >want_err.txt
     if [ "$got" = "$status" ] && cmp -s out.txt want_out.txt && cmp -s err.txt want_err.txt; then
@@ -28,8 +30,8 @@ expect() {
     else
         failed=$((failed + 1))
         echo "FAILED: $what: status $got, wanted $status" >&2
-        diff want_out.txt out.txt >&2
-        diff want_err.txt err.txt >&2
+        diff want_out.txt out.txt >&2 || true
+        diff want_err.txt err.txt >&2 || true
     fi
 }
 
@@ -43,10 +45,12 @@ same() {
     fi
 }
 
-"$run" repquota -u >/dev/null 2>&1 # builds it, where it is stale
+# The first call builds the program where it is stale, and shows how.
+cp "$top/samples/quota.user" quota.user
+"$run" repquota -F vfsold -u -v quota.user >/dev/null
 
-# What root may do anyway is tried by somebody else, with the built program itself.
-cp "$top/crates/quota_cli/out/quota_cli" program || exit 1
+# What root is never denied is tried as another user, who runs a copy of the built program.
+cp "$top/crates/quota_cli/out/quota_cli" program
 somebody=("$folder/program")
 if [ "$(id -u)" = 0 ]; then
     chmod 755 . program
@@ -79,27 +83,27 @@ expect 'other words' 2 '' "$usage" repquota -u q
 expect 'no words' 2 '' "$usage"
 expect 'a word that is no text' 2 '' "$usage" repquota -F vfsold -u -v $'q\xff'
 
-# The days that are left of a running grace period depend on the day.
-cp "$top/samples/quota.user" quota.user
-"$run" repquota -F vfsold -u -v quota.user | sed -E 's/ [0-9]{5}days/ SOMEdays/g' >out.txt
-same 'the sample' "$(cat out.txt)" '*** Report for user quotas on quota.user
+expect 'the sample' 0 '*** Report for user quotas on quota.user
 Block grace time: 7days; Inode grace time: 3days
 User                  used       soft       hard  grace    files     soft     hard  grace
 -----------------------------------------------------------------------------------------
 #0           --       1284          0          0      -       97        0        0      -
 #1000        --    3145728    4194304    5242880      -    84213   150000   200000      -
-#1001        +-    1310720    1048576    2097152 SOMEdays    12904    40000    50000      -
-#1002        +-    1835008    1048576    2097152   none    39999    40000    50000      -
-#1003        ++     300144     262144     524288   none     4711     4000     5000 SOMEdays
+#1001        +-    1835008    1048576    2097152   none    39999    40000    50000      -
+#1002        -+     835008    1048576    2097152      -    41377    40000    50000   none
+#1003        ++     300144     262144     524288   none     4711     4000     5000   none
 #1004        --    7340032          0          0      -   310552        0        0      -
-#1005        --          0     524288    1048576      -        0     8000    10000      -'
+#1005        --          0     524288    1048576      -        0     8000    10000      -' \
+    '' repquota -F vfsold -u -v quota.user
 
 : >q
-"$run" repquota -F vfsold -u -v q >/dev/full 2>err.txt
-same 'the status of a full output' "$?" 4
+got=0
+"$run" repquota -F vfsold -u -v q >/dev/full 2>err.txt || got=$?
+same 'the status of a full output' "$got" 4
 same 'the line of a full output' "$(cat err.txt)" 'quota: output fault'
-"$run" repquota -F vfsold -u -v absent 2>/dev/full
-same 'the status stays where the error output is full' "$?" 1
+got=0
+"$run" repquota -F vfsold -u -v absent 2>/dev/full || got=$?
+same 'the status stays where the error output is full' "$got" 1
 
 # New limits, and the report of the file after them.
 : >q
@@ -112,16 +116,15 @@ expect 'the report after new limits' 0 "$head
 #1000        --          0        100        200      -        0       10       20      -" '' repquota -F vfsold -u -v q
 expect 'limits of 0 drop the record' 0 '' '' setquota -F vfsold -u 1000 0 0 0 0 q
 expect 'the report after that' 0 "$head" '' repquota -F vfsold -u -v q
-same 'nothing is left beside the file' "$(ls -d q q.* 2>/dev/null)" q
+same 'nothing is left beside the file' "$(echo q.*)" ''
 
-# The record of a user with use over the soft limit gets a timer of a grace period from now.
-cp "$top/samples/quota.user" quota.user
+# A user whose use exceeds the new soft limit gets a timer, which ends a grace period from now.
 expect 'a limit below the use' 0 '' '' setquota -F vfsold -u 1004 1M 0 0 0 quota.user
 "$run" repquota -F vfsold -u -v quota.user >out.txt
-same 'its report' "$(grep '^#1004' out.txt)" \
+same 'its report' "$(sed -n '/^#1004 /p' out.txt)" \
     '#1004        +-    7340032       1024          0  7days   310552        0        0      -'
 
-# The owner and the permissions stay, and a file that was left behind is no obstacle.
+# The owner and the permissions stay, and a file that was left behind is not in the way.
 : >q
 chmod 640 q
 if [ "$(id -u)" = 0 ]; then chown 12:34 q; fi
@@ -131,7 +134,7 @@ chmod 400 q.new
 expect 'a file that was left behind' 0 '' '' setquota -F vfsold -u 0 1 1 1 1 q
 same 'the owner and the permissions' "$(stat -c '%a %u %g' q)" "$before"
 same 'the length of the new file' "$(stat -c %s q)" 40
-same 'what was left behind is gone' "$(ls -d q q.* 2>/dev/null)" q
+same 'what was left behind is gone' "$(echo q.*)" ''
 
 # Refusals leave the file as it is.
 cp q want
@@ -139,21 +142,22 @@ expect 'a faulty limit' 1 '' 'quota: bad number 10x' setquota -F vfsold -u 1000 
 expect 'a name' 1 '' 'quota: unknown name carol' setquota -F vfsold -u carol 0 0 0 0 q
 expect 'an identifier without room' 1 '' 'quota: q: no room for id 1048576 of 1048576' setquota -F vfsold -u 1048576 1 1 0 0 q
 expect 'an edit of an absent file' 1 '' 'quota: r: no such file' setquota -F vfsold -u 1 1 1 0 0 r
-same 'an absent file is not made' "$(ls r* 2>/dev/null)" ''
+same 'an absent file is not made' "$(echo r*)" ''
 mkdir q.new
 expect 'a folder in place of the new file' 4 '' 'quota: store fault' setquota -F vfsold -u 1 1 1 0 0 q
 expect 'no change needs no new file' 0 '' '' setquota -F vfsold -u 1 0 0 0 0 q
 rmdir q.new
 same 'a refused change leaves the file' "$(cmp q want && echo same)" same
 
-# A link in place of the new file is taken away, and what it leads to stays.
+# A link in place of the new file is removed, and the file that it leads to stays.
 echo keep >kept
 ln -s kept q.new
 expect 'a link in place of the new file' 0 '' '' setquota -F vfsold -u 1 1 1 0 0 q
 same 'what the link led to' "$(cat kept)" keep
 same 'the file is no link' "$(stat -c %F q)" 'regular file'
 
-# For who is not root, a file left behind is no obstacle though it may not be written, and a folder that may not be is one.
+# Another user than root: a file that was left behind and may not be written is not in the way. A permission that is
+# denied, to write in the folder or to read the file, is a fault.
 mkdir own
 cp want own/q
 : >own/q.new
@@ -166,6 +170,39 @@ chmod 555 own
 expect 'a folder that may not be written' 4 '' 'quota: store fault' setquota -F vfsold -u 2 1 1 0 0 own/q
 chmod 755 own
 same 'the file in that folder' "$(cmp own/q changed && echo same)" same
+chmod 0 own/q
+expect 'a file that may not be read' 4 '' 'quota: store fault' repquota -F vfsold -u -v own/q
+
+# order FILE: in which order a change of a file makes, writes, syncs and renames files, and with which mode it makes one.
+# Several writes in a row of one file count as one.
+order() {
+    strace -y -o trace.txt "$folder/program" setquota -F vfsold -u 50 1 1 1 1 "$1"
+    sed -n -E \
+        -e 's/^open[^"]*"([^"]*)".*O_CREAT.*, (0[0-7]*)\) += [0-9].*/make \1 with mode \2/p' \
+        -e 's/^p?write[^<]*<([^>]*)>.*/write \1/p' \
+        -e 's/^f(data)?sync\([0-9]+<([^>]*)>\) += 0$/sync \2/p' \
+        -e 's/^rename[^"]*"([^"]*)"[^"]*"([^"]*)".* = 0$/rename \1 to \2/p' trace.txt |
+        sed -e "s|$(pwd -P)/||" -e "s|$(pwd -P)|.|" | uniq
+}
+
+# The new file is safe on the disk before it gets the name of the old one, and its folder after that.
+if strace -o trace.txt true 2>err.txt; then
+    : >q
+    mkdir below
+    : >below/q
+    same 'the order of a change' "$(order q)" 'make q.new with mode 0600
+write q.new
+sync q.new
+rename q.new to q
+sync .'
+    same 'the order of a change in another folder' "$(order below/q)" 'make below/q.new with mode 0600
+write below/q.new
+sync below/q.new
+rename below/q.new to below/q
+sync below'
+else
+    echo 'real_files: strace is not there or may not trace: neither the order of syncs nor the mode of a new file is shown' >&2
+fi
 
 echo "real_files: $passed passed, $failed failed"
-[ "$failed" = 0 ]
+exit $((failed > 0))
