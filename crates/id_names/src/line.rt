@@ -1,6 +1,6 @@
 ghost use Rattle.std.specs.Prelude.{◌≡◌, ◌≢◌, [], IfSome, IfNone, length};
-ghost use Rattle.id_names.specs.NamesFile.{fields_in, fields_of, id_of_field, is_name, is_passed_over, line_of};
-ghost use Rattle.std.specs.List.{slice_index_or};
+ghost use Rattle.id_names.specs.NamesFile.{fields_in, fields_of, id_of_field, is_name, is_name_byte, is_passed_over, line_of};
+ghost use Rattle.std.specs.List.{list_all, slice_index_or};
 ghost use Rattle.std.specs.Option.{option_map};
 
 use crate::parts::{count, split_once};
@@ -18,6 +18,9 @@ pub(crate) struct Line<'a> {
 /// How many bytes a name has at most.
 const MAX_NAME: usize = 255;
 
+/// The first character behind the control characters and the space.
+const FIRST_PRINTED: u8 = b'!';
+
 /// The delete character, which stands in no name.
 const DELETE: u8 = 127;
 
@@ -31,13 +34,20 @@ pub(crate) fn is_passed_over(line: &[u8]) -> bool
     }
 }
 
+/// Whether each byte may stand in a name.
+fn are_name_bytes(bytes: &[u8]) -> bool
+    ensures { result ≡ list_all is_name_byte bytes.now }
+{
+    bytes
+        .iter()
+        .all(|byte| *byte >= FIRST_PRINTED && *byte != DELETE)
+}
+
 /// Whether bytes may be a name.
 fn is_name(bytes: &[u8]) -> bool
     ensures { result ≡ is_name bytes.now }
 {
-    !bytes.is_empty()
-        && bytes.len() <= MAX_NAME
-        && bytes.iter().all(|byte| *byte > b' ' && *byte != DELETE)
+    !bytes.is_empty() && bytes.len() <= MAX_NAME && are_name_bytes(bytes)
 }
 
 /// The identifier that a field spells in decimal, where it is one.
