@@ -4,9 +4,7 @@ use Rattle.std.specs.List.{onto_first, slice_split, position_or_len, before_firs
 use Rattle.std.proofs.lemmas.Bool.Decides.{nat_tests}
 use Rattle.std.proofs.lemmas.List.Quantifiers.{position-Some}
 use Rattle.std.proofs.lemmas.List.Splits.{slice_split_first}
-
-first_place : (p : ℕ → Bool) (xs : List ℕ) (at : ℕ) → position p xs ≡ Some at → position_or_len p xs ≡ at
-first_place p xs at h = grind (arith, nat_tests)
+use Rattle.id_names.proofs.FirstLemmas.{first_place}
 
 -- the first part ends at the first separator
 pub cut_at : (p : ℕ → Bool) (xs : List ℕ) (at : ℕ) → position p xs ≡ Some at → slice_split p xs ≡ take at xs ∷ slice_split p (drop (at + 1) xs)
