@@ -89,12 +89,12 @@ IsIndex-added old new row line index named adds =
     let rows : All Within old.rows.items = All-weaker (λ (r : Row). IsSome (slice_get names r.name)) Within (λ r some. still_some names more r.name adds.kept some) old.rows.items index.within in
     record {
       ids = λ name. adds.ids name
-        ∙ ap (λ (o : Option ℕ). option_or o (if bytes_eq name line.name then Some line.id else None)) (index.ids name)
-        ∙ sym (first_id_push (kept_lines old) line name) ∙ ap (λ (ls : List NameLine). first_id ls name) (sym lines);
+          ∙ ap (λ (o : Option ℕ). option_or o (if bytes_eq name line.name then Some line.id else None)) (index.ids name)
+          ∙ sym (first_id_push (kept_lines old) line name) ∙ ap (λ (ls : List NameLine). first_id ls name) (sym lines);
       first_rows = λ id. adds.first_rows id
-        ∙ ap (λ (o : Option ℕ). option_or o (if line.id == id then Some (length old.rows.items) else None)) (index.first_rows id)
-        ∙ ap (λ (n : ℕ). option_or (position (λ l. l.id == id) (kept_lines old)) (if line.id == id then Some n else None)) (sym (length-map old.rows.items (line_at names)))
-        ∙ sym (position_push (λ (l : NameLine). l.id == id) (kept_lines old) line) ∙ ap (λ (ls : List NameLine). position (λ l. l.id == id) ls) (sym lines);
+          ∙ ap (λ (o : Option ℕ). option_or o (if line.id == id then Some (length old.rows.items) else None)) (index.first_rows id)
+          ∙ ap (λ (n : ℕ). option_or (position (λ l. l.id == id) (kept_lines old)) (if line.id == id then Some n else None)) (sym (length-map old.rows.items (line_at names)))
+          ∙ sym (position_push (λ (l : NameLine). l.id == id) (kept_lines old) line) ∙ ap (λ (ls : List NameLine). position (λ l. l.id == id) ls) (sym lines);
       within = subst (λ (rs : List Row). All Within rs) (sym adds.rows) (All-push Within old.rows.items row rows here);
       are_names = subst (λ (ls : List NameLine). All Named ls) (sym lines) (All-push Named (kept_lines old) line index.are_names named);
     }
