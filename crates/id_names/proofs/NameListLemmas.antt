@@ -1,16 +1,13 @@
 -- The names that an index keeps, and its lines, when one more is added.
-use Rattle.std.proofs.Common.{◌≡◌, ℕ, zero, suc, ◌<◌, Bool, true, false, IsTrue, IsSome, unwrap_or, List, [], ◌∷◌, ◌++◌, length, map, slice_get, All, Option, Some, None, Vec, Global, refl, sym, ap, subst, ◌∙◌, arith, if◌then◌else◌}
+use Rattle.std.proofs.Common.{◌≡◌, ℕ, zero, suc, Bool, true, false, List, [], ◌∷◌, ◌++◌, length, slice_get, Some, None, Vec, Global, refl, sym, ap, ◌∙◌, if◌then◌else◌}
 use Rattle.std.specs.Map.{lookup, lookup_key}
 use Rattle.std.specs.Option.{option_map, option_or}
 use Rattle.std.specs.Str.{bytes_eq}
 use Rattle.std.proofs.lemmas.List.{length-map, map-append}
-use Rattle.std.proofs.lemmas.List.Elements.{All-head, All-tail, All-push, All-weaker}
 use Rattle.std.proofs.lemmas.Map.Made.{lookup_key_passes}
 use Rattle.std.proofs.lemmas.Option.{slice_get-map}
 use Rattle.std.proofs.lemmas.Slice.Eq.{bytes_eq-Decides}
-use Rattle.id_names.specs.declared.index.Row.{Row}
-use Rattle.id_names.specs.Index.{line_at, name_list}
-use Rattle.id_names.specs.NamesFile.{NameLine}
+use Rattle.id_names.specs.Index.{name_list}
 use Rattle.id_names.proofs.FirstLemmas.{lookup_push, option_or-none}
 
 -- what stands in a list stands in a longer one

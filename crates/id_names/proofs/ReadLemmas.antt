@@ -1,14 +1,10 @@
 -- The lines of a file, taken from the front.
-use Rattle.std.proofs.Common.{◌≡◌, ℕ, suc, ◌+◌, ◌<◌, ◌≤◌, Bool, true, false, IsTrue, List, [], ◌∷◌, ◌++◌, length, position, Option, Some, None, refl, sym, ap, ◌∙◌, add-one, append_assoc, arith}
+use Rattle.std.proofs.Common.{◌≡◌, ℕ, suc, ◌+◌, ◌<◌, ◌≤◌, Bool, false, List, [], ◌∷◌, ◌++◌, length, position, Option, Some, None, refl, sym, ap, ◌∙◌, add-one, append_assoc, arith}
 use Rattle.std.specs.List.{filter_map}
 use Rattle.std.specs.Option.{option_map, option_to_list}
 use Rattle.std.proofs.lemmas.Bool.Decides.{nat_tests}
-use Rattle.std.proofs.lemmas.List.{append-nil}
 use Rattle.quota_types.specs.declared.file_kind.Kind.{Kind}
 use Rattle.id_names.specs.declared.index.Index.{Index}
-use Rattle.id_names.specs.declared.fault.NamesFault.{NamesFault}
-use Rattle.id_names.specs.declared.fault.NamesFault.TheVariants.{BadLine, Memory}
-use Rattle.id_names.specs.Fault.{IsBadLine, IsFaultOf}
 use Rattle.id_names.specs.Index.{IsIndex, kept_lines}
 use Rattle.id_names.specs.NamesFile.{NameLine, bad_line, is_bad, lines_in, names_in, told_by}
 
@@ -64,20 +60,3 @@ read_more kind file rest line behind number index new read first shorter told in
   is_index = indexed;
   fits = omega (arith, read.fits);
 }
-
--- the last line is read
-pub read_all : (kind : Kind) (file rest : List ℕ) (number : ℕ) (index new : Index) → IsRead kind file rest number index → lines_in rest ≡ rest ∷ [] → kept_lines new ≡ kept_lines index ++ option_to_list (told_by kind rest) → kept_lines new ≡ names_in kind file
-read_all kind file rest number index new read last told =
-    sym (lines_more kind file rest rest [] number index new read last told ∙ append-nil (kept_lines new))
-
-pub none_bad : (kind : Kind) (file rest : List ℕ) (number : ℕ) (index : Index) → IsRead kind file rest number index → lines_in rest ≡ rest ∷ [] → is_bad kind rest ≡ false → bad_line kind file ≡ None
-none_bad kind file rest number index read last good = bad_more kind file rest rest [] number index read last good
-
-here : (p : List ℕ → Bool) (line : List ℕ) (lines : List (List ℕ)) (number : ℕ) → IsTrue (p line) → option_map (λ place. place + number) (position p (line ∷ lines)) ≡ Some number
-here p line lines number bad = grind (arith, nat_tests)
-
--- a line that is refused is the first bad one
-pub refused_at : (kind : Kind) (file rest line : List ℕ) (lines : List (List ℕ)) (number : ℕ) (index : Index) (fault : NamesFault) → IsRead kind file rest number index → lines_in rest ≡ line ∷ lines → IsBadLine number (is_bad kind line) fault → IsFaultOf (bad_line kind file) fault
-refused_at kind file rest line lines number index (BadLine named) read first refused =
-    read.bad ∙ ap (bad_from kind number) first ∙ here (is_bad kind) line lines number refused.1 ∙ ap Some (sym refused.0)
-refused_at kind file rest line lines number index Memory read first refused = tt

@@ -1,5 +1,5 @@
 -- The lines that an index keeps.
-use Rattle.std.proofs.Common.{◌≡◌, ℕ, ◌<◌, ◌==◌, Bool, true, false, IsTrue, IsSome, unwrap_or, List, [], ◌∷◌, ◌++◌, length, map, find, position, slice_get, get_or, All, nat_eq, if◌then◌else◌, Option, Some, None, Vec, Global, refl, sym, ap, subst, ◌∙◌, arith}
+use Rattle.std.proofs.Common.{◌≡◌, ℕ, ◌<◌, ◌==◌, IsTrue, IsSome, unwrap_or, List, [], ◌∷◌, ◌++◌, length, map, position, slice_get, get_or, All, nat_eq, if◌then◌else◌, Option, Some, None, Vec, Global, refl, sym, ap, subst, ◌∙◌}
 use Rattle.std.specs.HashMap.{get}
 use Rattle.std.specs.Map.{lookup}
 use Rattle.std.specs.Option.{option_map, option_or}

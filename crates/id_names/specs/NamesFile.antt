@@ -1,5 +1,5 @@
 -- Files of names, whose bytes may be any. Source: passwd(5) and group(5).
-use Rattle.std.specs.Prelude.{ℕ, ◌+◌, ◌^◌, Bool, true, ◌&&◌, ◌||◌, not, ◌==◌, nat_lt, nat_le, is_none, if◌then◌else◌, List, [], ◌∷◌, length, position, Option, Some, None, codes}
+use Rattle.std.specs.Prelude.{ℕ, ◌+◌, ◌^◌, Bool, true, ◌&&◌, not, ◌==◌, nat_lt, nat_le, is_none, if◌then◌else◌, List, [], ◌∷◌, length, position, Option, Some, None, codes}
 use Rattle.std.specs.List.{slice_split, slice_index_or, list_all, list_any, filter_map}
 use Rattle.std.specs.Option.{option_map}
 use Rattle.std.specs.Str.{all_ascii_digits}
@@ -29,22 +29,24 @@ fields_of line = parts_of 58 line
 -- mode of nsswitch.conf(5)
 abbrev pub is_passed_over : List ℕ → Bool
 is_passed_over [] = true
-is_passed_over (first ∷ behind) = first == 35 || first == 43 || first == 45
+is_passed_over (first ∷ behind) = list_any (λ mark. first == mark) (codes "#+-")
 
 -- how many fields a line has
 abbrev pub fields_in : Kind → ℕ
 fields_in User = 7
 fields_in Group = 4
 
--- a byte of a name: no control character and no space
+-- a byte that may stand in a name: no control character and not the space
 abbrev pub is_name_byte : ℕ → Bool
 is_name_byte byte = nat_le 33 byte && not (byte == 127)
 
--- a name has 1 to 255 bytes of names
+-- a name has 1 to 255 bytes that may stand in one; with the zero byte that ends it in C, 256 is `LOGIN_NAME_MAX` of
+-- limits.h
 abbrev pub is_name : List ℕ → Bool
 is_name name = nat_le 1 (length name) && nat_le (length name) 255 && list_all is_name_byte name
 
--- the identifier that a field spells: one or more decimal digits, whose value is below 2^32
+-- The identifier that a field spells: one or more decimal digits, whose value is below 2^32, as a `uid_t` is. Zeros in
+-- front are digits as any others.
 abbrev pub id_of_field : List ℕ → Option ℕ
 id_of_field field =
     if nat_lt 0 (length field) && all_ascii_digits field && nat_lt (digits_value 10 field) (2 ^ 32)

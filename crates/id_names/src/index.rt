@@ -12,10 +12,12 @@ use indexmap::IndexMap;
 use std::alloc::{AllocError, Global};
 use std::collections::HashMap;
 
-/// A line: where its name stands among the names, and its identifier.
+/// A line of names, whose name is kept elsewhere.
 #[derive(Clone, Copy)]
 struct Row {
+    /// The place of the name among the names.
     name: usize,
+    /// The identifier.
     id: u32,
 }
 

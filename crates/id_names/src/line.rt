@@ -88,6 +88,7 @@ fn name_and_id(line: &[u8], kind: Kind) -> Option<(&[u8], &[u8])>
     let (name, behind) = split_once(line, b':')?;
     let (_password, behind) = split_once(behind, b':')?;
     let (id, behind) = split_once(behind, b':')?;
+    // Three fields are cut off, and there is one more than there are colons behind them.
     if count(behind, b':') + 4 == fields_in(kind) {
         Some((name, id))
     } else {

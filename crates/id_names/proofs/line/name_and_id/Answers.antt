@@ -1,5 +1,4 @@
-use Rattle.std.proofs.Common.{◌≡◌, ◌+◌, ◌==◌, count_by, length, arith}
-use Rattle.id_names.specs.NamesFile.{fields_of}
+use Rattle.std.proofs.Common.{arith}
 use Rattle.id_names.proofs.LineLemmas.{length-fields_of}
 use Rattle.id_names.proofs.line.name_and_id.Goals as goal
 

@@ -1,4 +1,4 @@
-use Rattle.std.proofs.Common.{◌==◌, ◌∙◌, sym, ap, arith}
+use Rattle.std.proofs.Common.{◌==◌, sym}
 use Rattle.std.proofs.lemmas.List.{take_rest}
 use Rattle.id_names.proofs.PartsLemmas.{cut_at, cut_nowhere}
 use Rattle.id_names.proofs.parts.split_once.Goals as goal

@@ -1,4 +1,4 @@
-use Rattle.std.proofs.Common.{◌≡◌, ℕ, length, arith, ◌==◌, if◌then◌else◌, Option, Some, None, refl, ap, ◌∙◌, nat_eq}
+use Rattle.std.proofs.Common.{◌≡◌, ℕ, length, arith, ◌==◌, if◌then◌else◌, Some, None, refl, ap, ◌∙◌, nat_eq}
 use Rattle.std.specs.HashMap.{get}
 use Rattle.std.specs.Option.{option_or}
 use Rattle.id_names.specs.declared.index.Index.{Index}

@@ -1,4 +1,4 @@
-use Rattle.std.proofs.Common.{◌≡◌, ℕ, ◌==◌, List, IsTrue, IsSome, position, slice_get, Some, sym, ap, subst, ◌∙◌}
+use Rattle.std.proofs.Common.{◌≡◌, ℕ, List, IsTrue, IsSome, slice_get, Some, sym, ap, subst, ◌∙◌}
 use Rattle.id_names.specs.declared.index.Row.{Row}
 use Rattle.id_names.specs.Index.{kept_lines, name_list}
 use Rattle.id_names.specs.NamesFile.{NameLine, is_name}
