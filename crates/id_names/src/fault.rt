@@ -1,7 +1,7 @@
-ghost use Rattle.id_names.specs.declared.fault.NamesFault.TheVariants.{Memory};
 ghost use Rattle.std.specs.Prelude.{◌≡◌};
+ghost use Rattle.id_names.specs.declared.fault.NamesFault.TheVariants.{Memory};
 
-use std::alloc::{AllocError, AllocFailed};
+use std::alloc::AllocError;
 
 /// Why a file of names was not read.
 #[derive(Clone, Copy, Debug, PartialEq, Eq)]

@@ -1,4 +1,4 @@
-ghost use Rattle.std.specs.Prelude.{◌≡◌, ℕ, ◌<◌, ◌∷◌, ◌++◌, ◌==◌, [], List, None, Some, IfOk, IfSome, IsTrue, OnOk, if◌then◌else◌, length, map, nat_eq, slice_get};
+ghost use Rattle.std.specs.Prelude.{◌≡◌, ℕ, ◌∷◌, ◌++◌, ◌==◌, [], List, None, Some, IfOk, IfSome, IsTrue, OnOk, if◌then◌else◌, nat_eq, slice_get};
 ghost use Rattle.id_names.specs.FirstMatch.{first_id, first_name};
 ghost use Rattle.id_names.specs.Index.{IsIndex, kept_lines, name_list};
 ghost use Rattle.id_names.specs.NamesFile.{is_name};

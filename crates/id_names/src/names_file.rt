@@ -1,4 +1,4 @@
-ghost use Rattle.std.specs.Prelude.{◌≡◌, ◌++◌, [], false, true, None, IfErr, IfOk, IfSome, IsTrue, OnOk};
+ghost use Rattle.std.specs.Prelude.{◌≡◌, ◌++◌, [], false, None, IfErr, IfOk, IfSome, IsTrue, OnOk};
 ghost use Rattle.id_names.specs.Fault.{IsBadLine, IsFaultOf};
 ghost use Rattle.id_names.specs.FirstMatch.{first_id, first_name};
 ghost use Rattle.id_names.specs.Index.{IsIndex, kept_lines};
