@@ -1,0 +1,4 @@
+pub mod Fault
+pub mod FirstMatch
+pub mod Index
+pub mod NamesFile

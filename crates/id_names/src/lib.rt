@@ -1,0 +1,17 @@
+//! Names of users and groups, from a file in the form of passwd(5) or group(5).
+//!
+//! The one promise: the lines that are read are those that the definitions in `specs/` find in the file's bytes, or the
+//! first line that breaks their rules is named; and a look-up, by a name or by an identifier, gives the first line that
+//! matches.
+#![tactic(auto)]
+
+mod fault;
+mod index;
+mod line;
+mod names_file;
+mod parts;
+#[cfg(test)]
+mod tests;
+
+pub use fault::NamesFault;
+pub use names_file::Names;
