@@ -1,12 +1,12 @@
 -- Replies and their units.
-use Rattle.std.proofs.Common.{◌≡◌, ◌≢◌, ℕ, ◌*◌, ◌/◌, List, length, get_or, Option, Some, None, refl, sym, ap, subst, ◌∙◌, arith}
+use Rattle.std.proofs.Common.{◌≡◌, ◌≢◌, ℕ, ◌*◌, ◌/◌, List, length, get_or, Option, Some, None, refl, sym, ap, ◌∙◌, arith}
 use Rattle.std.specs.Prelude.{◌==◌, ◌%◌, if◌then◌else◌, IfSome, IfNone}
 use Rattle.rquota_xdr.specs.Units.{units_from}
-use Rattle.rquota_xdr.specs.Reply.{AreNumbers, FitsUnits, bytes_of, spelling_of, units_of}
+use Rattle.rquota_xdr.specs.Reply.{FitsUnits, bytes_of, spelling_of, units_of}
 use Rattle.rquota_xdr.specs.declared.quota.Quota.{Quota}
 use Rattle.rquota_xdr.specs.declared.reply.Reply.{Reply}
 use Rattle.rquota_xdr.specs.declared.reply.Reply.TheVariants as reply
-use Rattle.rquota_xdr.proofs.SpellingLemmas.{AreBytes, length-bytes_of, units_again, bytes_again, units_from-numbers}
+use Rattle.rquota_xdr.proofs.SpellingLemmas.{AreBytes, length-bytes_of, units_again, bytes_again}
 
 -- the quota of the last ten units
 quota_in : List ℕ → Quota
@@ -79,11 +79,6 @@ pub is_spelling : (bytes units : List ℕ) (r : Option Reply) → AreRead bytes 
 is_spelling bytes units None all is = tt
 is_spelling bytes units (Some r) all is =
     sym (bytes_again (length bytes / 4) bytes (count_is bytes units all) all.are_bytes) ∙ ap bytes_of (sym all.units_are ∙ is)
-
-pub is_of_numbers : (bytes units : List ℕ) (r : Option Reply) → AreRead bytes units → IfSome r (λ reply. units ≡ units_of reply) → IfSome r FitsUnits
-is_of_numbers bytes units None all is = tt
-is_of_numbers bytes units (Some r) all is =
-    subst AreNumbers (sym all.units_are ∙ is) (units_from-numbers bytes 0 (length bytes / 4) all.are_bytes)
 
 -- the units of a spelling are those of its reply
 spelled_units : (bytes units : List ℕ) (r : Reply) → AreRead bytes units → FitsUnits r → bytes ≡ spelling_of r → units ≡ units_of r

@@ -63,12 +63,3 @@ bytes_again (suc count) (a ∷ b ∷ c ∷ d ∷ rest) size fits =
     four_bytes a b c d rest fits (suc (suc zero)) = fits 2
     four_bytes a b c d rest fits (suc (suc (suc zero))) = fits 3
     four_bytes a b c d rest fits (suc (suc (suc (suc at)))) = omega arith
-
-pub unit_at-lt : (bytes : List ℕ) (at : ℕ) → AreBytes bytes → unit_at bytes at < 2 ^ 32
-unit_at-lt bytes at fits = rw (← unit_at-bytes bytes at) (omega (arith, fits at, fits (at + 1), fits (at + 2), fits (at + 3)))
-
--- units that are read are numbers of 32 bits
-pub units_from-numbers : (bytes : List ℕ) (at count : ℕ) → AreBytes bytes → AreNumbers (units_from bytes at count)
-unfolding units_from
-units_from-numbers bytes at zero fits = tt
-units_from-numbers bytes at (suc count) fits = (unit_at-lt bytes at fits, units_from-numbers bytes (at + 4) count fits)

@@ -5,38 +5,42 @@ use Rattle.rquota_xdr.specs.Rows.{Row, ◌otherwise◌, first_failing}
 use Rattle.rquota_xdr.specs.declared.call.Call.{Call}
 use Rattle.rquota_xdr.specs.declared.call.Call.TheVariants.{Silent, OldRpc, NoProgram, NoVersion, NoProcedure, Auth, Garbage, Null, Get, Set}
 
--- the head, whose numbers are those of RFC 5531, section 9
+-- the head (RFC 5531, section 9)
 unfoldable pub head_rows : List ℕ → List Row
 head_rows datagram =
-    -- a whole head, of a call: msg_type CALL
+    -- the six units of `rpc_msg` and `call_body` up to the procedure stand there (section 9)
     (nat_le 24 (length datagram) otherwise Silent)
+    -- msg_type CALL, 0 (section 9)
     ∷ (message_type_of datagram == 0 otherwise Silent)
-    -- reject_stat RPC_MISMATCH
+    -- version 2 of RPC, else reject_stat RPC_MISMATCH (section 9)
     ∷ (rpc_version_of datagram == 2 otherwise OldRpc (xid_of datagram))
-    -- accept_stat PROG_UNAVAIL, PROG_MISMATCH and PROC_UNAVAIL
+    -- the program of rquota, else accept_stat PROG_UNAVAIL (section 9)
     ∷ (program_of datagram == 100011 otherwise NoProgram (xid_of datagram))
+    -- version 1 or 2 of it, else accept_stat PROG_MISMATCH (section 9)
     ∷ (version_of datagram == 1 || version_of datagram == 2 otherwise NoVersion (xid_of datagram))
+    -- a procedure up to 4, else accept_stat PROC_UNAVAIL (section 9)
     ∷ (nat_le (procedure_of datagram) 4 otherwise NoProcedure (xid_of datagram))
     -- procedure 0 needs no credential and has no arguments (section 12.1)
     ∷ (not (procedure_of datagram == 0) otherwise Null (xid_of datagram))
     ∷ []
 
--- the credential (RFC 5531, section 8.2), by the auth_stat of section 9
+-- the credential (RFC 5531)
 unfoldable pub credential_rows : List ℕ → List Row
 credential_rows datagram =
-    -- AUTH_BADCRED, AUTH_REJECTEDCRED
+    -- a flavor and at most 400 bytes (section 8.2, `opaque_auth`), else auth_stat AUTH_BADCRED, 1 (section 9)
     (is_credential datagram otherwise Auth (xid_of datagram) 1)
+    -- AUTH_NONE or AUTH_SYS (section 8.2, `auth_flavor`), else auth_stat AUTH_REJECTEDCRED, 2 (section 9)
     ∷ (flavor_of datagram == 0 || flavor_of datagram == 1 otherwise Auth (xid_of datagram) 2)
-    -- the fields of a caller of the system (appendix A)
+    -- the fields of a caller of the system (appendix A, `authsys_parms`), else auth_stat AUTH_BADCRED, 1 (section 9)
     ∷ (flavor_of datagram == 0 || is_system_credential datagram otherwise Auth (xid_of datagram) 1)
     ∷ []
 
--- the verifier (RFC 5531, section 8.2), by the auth_stat of section 9
+-- the verifier (RFC 5531), and that the credential names a caller
 unfoldable pub verifier_rows : List ℕ → List Row
 verifier_rows datagram =
-    -- AUTH_BADVERF
+    -- a flavor and at most 400 bytes (section 8.2, `opaque_auth`), else auth_stat AUTH_BADVERF, 3 (section 9)
     (is_verifier datagram otherwise Auth (xid_of datagram) 3)
-    -- AUTH_TOOWEAK: the credential names nobody
+    -- no AUTH_NONE, which names nobody (section 10.1), else auth_stat AUTH_TOOWEAK, 5 (section 9)
     ∷ (not (flavor_of datagram == 0) otherwise Auth (xid_of datagram) 5)
     ∷ []
 

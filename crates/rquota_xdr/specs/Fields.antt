@@ -94,7 +94,7 @@ is_verifier datagram = is_opaque datagram (verifier_at datagram + 4) 400 (length
 abbrev pub arguments_at : List ℕ → ℕ
 arguments_at datagram = opaque_end datagram (verifier_at datagram + 4)
 
--- the call sets limits, by procedure 3 or 4
+-- the call sets limits: its procedure is above 2, and so 3 or 4 where the head is accepted
 abbrev pub is_set : List ℕ → Bool
 is_set datagram = nat_lt 2 (procedure_of datagram)
 

@@ -1,4 +1,4 @@
-//! Laws of the codec: what was written is read again.
+//! Laws of the codec.
 
 ghost use Rattle.std.specs.Prelude.{◌≡◌, Some};
 ghost use Rattle.rquota_xdr.specs.Question.{Asks, IsQuestion, Question, question_bytes};
@@ -7,7 +7,8 @@ ghost use Rattle.rquota_xdr.specs.declared.reply.Reply.{Reply};
 
 use crate::{Reply, read_reply, write_reply};
 
-/// A reply that was written is read again.
+/// Writes a reply, reads the bytes, and answers what was read, which is the reply. The clause speaks of the answer
+/// alone: what the bytes in between are say the clauses `bytes` of `write_reply` and `found` of `read_reply`.
 pub fn a_reply_is_read_again(reply: &Reply, out: &mut [u8; 68]) -> Option<Reply>
     ensures { result ≡ Some reply.now }
 {

@@ -1,4 +1,5 @@
-ghost use Rattle.std.specs.Prelude.{◌≡◌, ◌≢◌, IfSome, IfNone, Some};
+ghost use Rattle.std.specs.Prelude.{◌≡◌, ◌≢◌, ◌==◌, ◌&&◌, ◌%◌, ◌/◌, nat_le, length, is_some, IfSome, IfNone, Some};
+ghost use Rattle.rquota_xdr.specs.Units.{units_from};
 ghost use Rattle.rquota_xdr.specs.Reply.{FitsUnits, quota_units, spelling_of, units_of};
 ghost use Rattle.rquota_xdr.specs.declared.quota.Quota.{Quota};
 ghost use Rattle.rquota_xdr.specs.declared.reply.Reply.{Reply};
@@ -66,6 +67,17 @@ fn reply_with(units: &[u32]) -> Option<Reply>
     }
 }
 
+/// The numbers of the units that the bytes are, where they are whole units and no more than a reply has.
+fn whole_units(bytes: &[u8]) -> Option<ArrayVec<u32, 17>>
+    ensures whole { is_some result ≡ (nat_le (length bytes.now) 68 && length bytes.now % 4 == 0) }
+    ensures units { IfSome result (λ units. units.items ≡ units_from bytes.now 0 (length bytes.now / 4)) }
+{
+    if bytes.len() > MOST_BYTES || bytes.len() % 4 != 0 {
+        return None;
+    }
+    Some(units_from(bytes, 0, bytes.len() / 4))
+}
+
 /// The reply that the bytes spell, where they are the whole spelling of one.
 pub fn read_reply(bytes: &[u8]) -> Option<Reply>
     ensures read { IfSome result (λ reply. bytes.now ≡ spelling_of reply) }
@@ -73,9 +85,6 @@ pub fn read_reply(bytes: &[u8]) -> Option<Reply>
     ensures none { IfNone result ((reply : Reply) → FitsUnits reply → bytes.now ≢ spelling_of reply) }
     ensures fits { IfSome result FitsUnits }
 {
-    if bytes.len() > MOST_BYTES || bytes.len() % 4 != 0 {
-        return None;
-    }
-    let units: ArrayVec<u32, 17> = units_from(bytes, 0, bytes.len() / 4);
+    let units = whole_units(bytes)?;
     reply_with(units.as_slice())
 }

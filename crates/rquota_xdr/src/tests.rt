@@ -12,10 +12,10 @@ const CALL: [u8; 80] = [
 ];
 
 /// A call that asks for limits: the numbers of its caller, where its path stands, the type and the identifier.
-type Get = (u32, u32, u32, Span, u32, u32);
+type Get<'a> = (u32, u32, u32, &'a [u32], Span, u32, u32);
 
 /// The fields of a call that asks for limits.
-fn get_of(call: &Call) -> Option<Get> {
+fn get_of(call: &Call) -> Option<Get<'_>> {
     match call {
         Call::Get {
             xid,
@@ -23,10 +23,21 @@ fn get_of(call: &Call) -> Option<Get> {
             path,
             kind,
             id,
-        } => Some((*xid, caller.uid, caller.gid, *path, *kind, *id)),
+        } => Some((
+            *xid,
+            caller.uid,
+            caller.gid,
+            caller.gids.as_slice(),
+            *path,
+            *kind,
+            *id,
+        )),
         _ => None,
     }
 }
+
+/// The numbers of no groups.
+const NO_GIDS: &[u32] = &[];
 
 /// Where the path of `CALL` stands.
 const PATH: Span = Span { start: 68, len: 5 };
@@ -43,13 +54,22 @@ fn changed(at: usize, unit: u32) -> [u8; 80]
 #[test]
 fn reads_the_fields_of_a_call(rt: HostRuntime) {
     let cases = [
-        (CALL, (1, 1000, 1000, PATH, 0, 1000)),
-        (changed(44, 1001), (1, 1001, 1000, PATH, 0, 1000)),
-        (changed(32, 7), (1, 1000, 1000, PATH, 0, 1000)),
-        (changed(40, 0x6863_6363), (1, 1000, 1000, PATH, 0, 1000)),
-        (changed(72, 0x6501_0203), (1, 1000, 1000, PATH, 0, 1000)),
-        (changed(20, 2), (1, 1000, 1000, PATH, 0, 1000)),
-        (changed(76, u32::MAX), (1, 1000, 1000, PATH, 0, u32::MAX)),
+        (CALL, (1, 1000, 1000, NO_GIDS, PATH, 0, 1000)),
+        (changed(44, 1001), (1, 1001, 1000, NO_GIDS, PATH, 0, 1000)),
+        (changed(32, 7), (1, 1000, 1000, NO_GIDS, PATH, 0, 1000)),
+        (
+            changed(40, 0x6863_6363),
+            (1, 1000, 1000, NO_GIDS, PATH, 0, 1000),
+        ),
+        (
+            changed(72, 0x6501_0203),
+            (1, 1000, 1000, NO_GIDS, PATH, 0, 1000),
+        ),
+        (changed(20, 2), (1, 1000, 1000, NO_GIDS, PATH, 0, 1000)),
+        (
+            changed(76, u32::MAX),
+            (1, 1000, 1000, NO_GIDS, PATH, 0, u32::MAX),
+        ),
     ];
     for (bytes, want) in cases {
         assert_eq!(rt; get_of(&read_call(&bytes)), Some(want), "{bytes:?}");
@@ -73,6 +93,7 @@ fn answers_the_first_field_that_is_refused(rt: HostRuntime) {
         (changed(28, u32::MAX), Call::Auth { xid: 1, stat: 1 }),
         (changed(36, u32::MAX), Call::Auth { xid: 1, stat: 1 }),
         (changed(52, 1), Call::Auth { xid: 1, stat: 1 }),
+        (changed(52, u32::MAX), Call::Auth { xid: 1, stat: 1 }),
         (changed(60, u32::MAX), Call::Auth { xid: 1, stat: 3 }),
         (changed(64, u32::MAX), Call::Garbage { xid: 1 }),
     ];
@@ -136,10 +157,10 @@ fn reads_both_versions_of_each_procedure(rt: HostRuntime) {
     let get = [5, HOME[0], HOME[1], 1, 1000];
     let set = [2, 5, HOME[0], HOME[1], 1000];
     let cases = [
-        (1, 1, get, 76, Some((1, 1000, 100, path, 0, 1))),
-        (1, 2, get, 76, Some((1, 1000, 100, path, 0, 1))),
-        (2, 1, get, 80, Some((1, 1000, 100, path, 1, 1000))),
-        (2, 2, get, 80, Some((1, 1000, 100, path, 1, 1000))),
+        (1, 1, get, 76, Some((1, 1000, 100, NO_GIDS, path, 0, 1))),
+        (1, 2, get, 76, Some((1, 1000, 100, NO_GIDS, path, 0, 1))),
+        (2, 1, get, 80, Some((1, 1000, 100, NO_GIDS, path, 1, 1000))),
+        (2, 2, get, 80, Some((1, 1000, 100, NO_GIDS, path, 1, 1000))),
         (1, 3, set, 112, None),
         (1, 4, set, 112, None),
         (2, 3, set, 116, None),
@@ -178,11 +199,17 @@ fn with_name(len: u32) -> [u8; 2048] {
     bytes
 }
 
-/// A call by a caller of so many further groups, in a credential with room for 17.
+/// The numbers of 17 further groups.
+const GIDS: [u32; 17] = [
+    31, 32, 33, 34, 35, 36, 37, 38, 39, 40, 41, 42, 43, 44, 45, 46, 47,
+];
+
+/// A call by a caller of so many of these groups, in a credential with room for all of them.
 fn with_gids(count: u32) -> [u8; 2048] {
     let mut bytes = [0; 2048];
     put(&mut bytes, 0, &[1, 0, 2, 100_011, 1, 1]);
-    put(&mut bytes, 24, &[1, 88, 0, 0, 1000, 100, count, 31, 32]);
+    put(&mut bytes, 24, &[1, 88, 0, 0, 1000, 100, count]);
+    put(&mut bytes, 52, &GIDS);
     put(&mut bytes, 132, &[7]);
     bytes
 }
@@ -207,17 +234,16 @@ fn with_path(len: u32) -> [u8; 2048] {
 #[test]
 fn takes_the_greatest_lengths(rt: HostRuntime) {
     let cases = [
-        (with_name(255), 320, 0),
-        (with_gids(16), 132, 0),
-        (with_bodies(400, 400), 844, 0),
-        (with_path(1024), 64, 1024),
+        (with_name(255), NO_GIDS, 320, 0),
+        (with_gids(3), &GIDS[..3], 132, 0),
+        (with_gids(16), &GIDS[..16], 132, 0),
+        (with_bodies(400, 400), NO_GIDS, 844, 0),
+        (with_path(1024), NO_GIDS, 64, 1024),
     ];
-    for (bytes, start, len) in cases {
+    for (bytes, gids, start, len) in cases {
         let path = Span { start, len };
-        assert_eq!(rt;
-            get_of(&read_call(&bytes)),
-            Some((1, 1000, 100, path, 0, 7))
-        );
+        let call = read_call(&bytes);
+        assert_eq!(rt; get_of(&call), Some((1, 1000, 100, gids, path, 0, 7)));
     }
 }
 
@@ -235,14 +261,20 @@ fn refuses_greater_lengths(rt: HostRuntime) {
     }
 }
 
+/// A call by nobody, whose verifier has so many bytes.
+fn by_nobody(verifier: u32) -> [u8; 2048] {
+    let mut bytes = [0; 2048];
+    put(&mut bytes, 0, &[1, 0, 2, 100_011, 1, 1, 0, 0]);
+    put(&mut bytes, 32, &[0, verifier, 5, HOME[0], HOME[1], 1000]);
+    bytes
+}
+
 #[test]
-fn reads_the_further_groups_of_a_caller(rt: HostRuntime) {
-    let call = read_call(&with_gids(3));
-    match call {
-        Call::Get { caller, .. } => {
-            assert_eq!(rt; caller.gids.as_slice(), [31, 32, 0].as_slice());
-        }
-        _ => assert!(rt; false, "the call asks for limits"),
+fn asks_nobody_for_a_verifier_and_then_for_a_name(rt: HostRuntime) {
+    for (verifier, stat) in [(0, 5), (401, 3), (u32::MAX, 3)] {
+        let bytes = by_nobody(verifier);
+        let call = read_call(front(&bytes, 56));
+        assert_eq!(rt; call, Call::Auth { xid: 1, stat }, "{verifier}");
     }
 }
 
@@ -283,30 +315,76 @@ fn writes_a_quota_and_reads_it_again(rt: HostRuntime) {
     assert_eq!(rt; read_reply(&longer[..67]), None);
 }
 
+/// The units of a reply with the quota of an identifier that keeps to its limits, so that no grace period runs.
+const PLAIN_UNITS: [u32; 17] = [
+    1, 1, 0, 0, 0, 0, 1, 0x400, 1, 0xc8, 0x64, 4, 0x14, 0xa, 1, 0, 0,
+];
+
+/// The quota of that reply.
+const PLAIN: Quota = Quota {
+    bsize: 0x400,
+    active: 1,
+    bhard: 0xc8,
+    bsoft: 0x64,
+    curblocks: 4,
+    fhard: 0x14,
+    fsoft: 0xa,
+    curfiles: 1,
+    btimeleft: 0,
+    ftimeleft: 0,
+};
+
+#[test]
+fn reads_a_quota_with_nothing_behind(rt: HostRuntime) {
+    let mut bytes = [0; 2048];
+    put(&mut bytes, 0, &PLAIN_UNITS);
+    let reply = Reply::Quota {
+        xid: 1,
+        quota: PLAIN,
+    };
+    for (len, want) in [(67, None), (68, Some(reply)), (69, None), (72, None)] {
+        assert_eq!(rt; read_reply(front(&bytes, len)), want, "{len}");
+    }
+}
+
+/// A unit of a buffer in which nothing was written.
+const FREE: u32 = 0xffff_ffff;
+
 #[test]
 fn writes_each_reply_in_front_and_reads_it_again(rt: HostRuntime) {
     let cases = [
-        (Reply::Null { xid: 1 }, 24, [0, 0, 0, 0, 0xffff_ffff]),
-        (Reply::NoProgram { xid: 1 }, 24, [0, 0, 0, 1, 0xffff_ffff]),
-        (Reply::NoVersion { xid: 1 }, 32, [0, 0, 0, 2, 1]),
-        (Reply::NoProcedure { xid: 1 }, 24, [0, 0, 0, 3, 0xffff_ffff]),
-        (Reply::Garbage { xid: 1 }, 24, [0, 0, 0, 4, 0xffff_ffff]),
-        (Reply::OldRpc { xid: 1 }, 24, [1, 0, 2, 2, 0xffff_ffff]),
+        (Reply::Null { xid: 1 }, 24, [1, 1, 0, 0, 0, 0, FREE, FREE]),
+        (
+            Reply::NoProgram { xid: 1 },
+            24,
+            [1, 1, 0, 0, 0, 1, FREE, FREE],
+        ),
+        (Reply::NoVersion { xid: 1 }, 32, [1, 1, 0, 0, 0, 2, 1, 2]),
+        (
+            Reply::NoProcedure { xid: 1 },
+            24,
+            [1, 1, 0, 0, 0, 3, FREE, FREE],
+        ),
+        (
+            Reply::Garbage { xid: 1 },
+            24,
+            [1, 1, 0, 0, 0, 4, FREE, FREE],
+        ),
+        (Reply::OldRpc { xid: 1 }, 24, [1, 1, 1, 0, 2, 2, FREE, FREE]),
         (
             Reply::Auth { xid: 1, stat: 5 },
             20,
-            [1, 1, 5, 0xffff_ffff, 0xffff_ffff],
+            [1, 1, 1, 1, 5, FREE, FREE, FREE],
         ),
-        (Reply::NoQuota { xid: 1 }, 28, [0, 0, 0, 0, 2]),
-        (Reply::Denied { xid: 1 }, 28, [0, 0, 0, 0, 3]),
+        (Reply::NoQuota { xid: 1 }, 28, [1, 1, 0, 0, 0, 0, 2, FREE]),
+        (Reply::Denied { xid: 1 }, 28, [1, 1, 0, 0, 0, 0, 3, FREE]),
     ];
-    for (reply, len, behind) in cases {
+    for (reply, len, units) in cases {
         let mut out = [0xff; 68];
         assert_eq!(rt; write_reply(&reply, &mut out), len, "{reply:?}");
-        let mut units = [0xff; 2048];
-        put(&mut units, 0, &[1, 1]);
-        put(&mut units, 8, &behind);
-        assert_eq!(rt; front(&out, 28), front(&units, 28), "{reply:?}");
+        let mut want = [0xff; 2048];
+        put(&mut want, 0, &units);
+        assert_eq!(rt; front(&out, 68), front(&want, 68), "{reply:?}");
         assert_eq!(rt; read_reply(front(&out, len)), Some(reply), "{reply:?}");
         assert_eq!(rt; read_reply(front(&out, len + 4)), None, "{reply:?}");
     }
