@@ -1,5 +1,5 @@
--- The fields of a call to rquota, each by its place in the whole datagram. Sources: RFC 5531 for the call, `rquota.x` of the
--- quota tools for the arguments.
+-- The fields of a call to rquota, each by its place in the whole datagram. Sources: RFC 5531 for the call, `rquota.x` of
+-- the quota tools for the arguments.
 use Rattle.std.specs.Prelude.{ℕ, ◌+◌, ◌*◌, Bool, ◌&&◌, ◌==◌, nat_lt, nat_le, if◌then◌else◌, List, length}
 use Rattle.rquota_xdr.specs.Units.{unit_at, units_from, opaque_end, is_opaque}
 use Rattle.rquota_xdr.specs.declared.span.Span.{Span}
@@ -45,8 +45,8 @@ is_credential datagram = is_opaque datagram 28 400 (length datagram)
 abbrev pub body_end_of : List ℕ → ℕ
 body_end_of datagram = 32 + unit_at datagram 28
 
--- ---- the body of a caller of the system (RFC 5531, appendix A, `struct authsys_parms`): a stamp, a machine's name, uid, gid,
--- ---- and the count and the numbers of further groups
+-- ---- the body of a caller of the system (RFC 5531, appendix A, `struct authsys_parms`): a stamp, a machine's name,
+-- ---- uid, gid, and the count and the numbers of further groups
 
 -- the place of the uid, behind the machine's name
 abbrev pub uid_at : List ℕ → ℕ
@@ -56,8 +56,8 @@ uid_at datagram = opaque_end datagram 36
 abbrev pub gid_count_of : List ℕ → ℕ
 gid_count_of datagram = unit_at datagram (uid_at datagram + 8)
 
--- All of it stands within the body, the name has at most 255 bytes, and there are at most 16 further groups. What stands
--- behind them in the body is not read.
+-- All of it stands within the body, the name has at most 255 bytes, and there are at most 16 further groups. What
+-- stands behind them in the body is not read.
 unfoldable pub is_system_credential : List ℕ → Bool
 is_system_credential datagram =
     is_opaque datagram 36 255 (body_end_of datagram)

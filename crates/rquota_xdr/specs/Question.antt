@@ -1,5 +1,5 @@
--- A call for limits as it is written, field behind field (RFC 5531, sections 8.2 and 9, and appendix A; `getquota_args` and
--- `ext_getquota_args` of `rquota.x`).
+-- A call for limits as it is written, field behind field (RFC 5531, sections 8.2 and 9, and appendix A; `getquota_args`
+-- and `ext_getquota_args` of `rquota.x`).
 use Rattle.std.specs.Prelude.{◌≡◌, ℕ, ◌+◌, ◌≤◌, List, [], ◌∷◌, ◌++◌, length, slice_range, Option, Some, None}
 use Rattle.std.specs.Int.{w32, to_be_bytes}
 use Rattle.rquota_xdr.specs.Units.{padded}
@@ -22,8 +22,8 @@ pub record IsPadded (most : ℕ) (field : Padded) : Type 0 where
 abbrev pub opaque : Padded → List ℕ
 opaque field = to_be_bytes w32 (length field.text) ++ (field.text ++ field.padding)
 
--- The fields of a call for limits by a caller of the system. The stamp, the machine's name, the verifier, all padding, and
--- what stands behind the fields of the credential and behind the call, may be anything.
+-- The fields of a call for limits by a caller of the system. The stamp, the machine's name, the verifier, all padding,
+-- and what stands behind the fields of the credential and behind the call, may be anything.
 pub record Question : Type 0 where
   pub xid : ℕ
   pub procedure : ℕ

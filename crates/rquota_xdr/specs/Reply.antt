@@ -13,13 +13,14 @@ quota_units quota =
     quota.bsize ∷ quota.active ∷ quota.bhard ∷ quota.bsoft ∷ quota.curblocks
     ∷ quota.fhard ∷ quota.fsoft ∷ quota.curfiles ∷ quota.btimeleft ∷ quota.ftimeleft ∷ []
 
--- The head of an accepted reply (RFC 5531, section 9, `accepted_reply`): the xid, message type 1, accepted, a verifier of
--- flavor 0 and length 0.
+-- The head of an accepted reply (RFC 5531, section 9, `accepted_reply`): the xid, message type 1, accepted, a verifier
+-- of flavor 0 and length 0.
 abbrev pub accepted_head : ℕ → List ℕ
 accepted_head xid = xid ∷ 1 ∷ 0 ∷ 0 ∷ 0 ∷ []
 
 -- The units of each reply, by the numbers of RFC 5531, section 9:
--- accept_stat    SUCCESS 0, PROG_UNAVAIL 1, PROG_MISMATCH 2 with the lowest and the highest version, PROC_UNAVAIL 3, GARBAGE_ARGS 4
+-- accept_stat    SUCCESS 0, PROG_UNAVAIL 1, PROG_MISMATCH 2 with the lowest and the highest version, PROC_UNAVAIL 3,
+--                GARBAGE_ARGS 4
 -- reject_stat    RPC_MISMATCH 0 with the lowest and the highest version of RPC, AUTH_ERROR 1 with an `auth_stat`
 -- and gqr_status of `rquota.x`    Q_OK 1 with the quota, Q_NOQUOTA 2, Q_EPERM 3
 abbrev pub units_of : Reply → List ℕ

@@ -34,8 +34,8 @@ pub enum Call {
     Null {
         xid: u32,
     },
-    /// It asks for limits and usage. `path` is where the path's bytes stand in the datagram, `kind` is 0 for a user and 1
-    /// for a group, and any other number is one that rquota does not name.
+    /// It asks for limits and usage. `path` is where the path's bytes stand in the datagram, `kind` is 0 for a user and
+    /// 1 for a group, and any other number is one that rquota does not name.
     Get {
         xid: u32,
         caller: Caller,

@@ -8,7 +8,7 @@ ghost use Rattle.rquota_xdr.specs.declared.reply.Reply.{Reply};
 use crate::{Reply, read_reply, write_reply};
 
 /// Writes a reply, reads the bytes, and answers what was read, which is the reply. The clause speaks of the answer
-/// alone: what the bytes in between are say the clauses `bytes` of `write_reply` and `found` of `read_reply`.
+/// alone; the clauses `bytes` of `write_reply` and `found` of `read_reply` say what the bytes in between are.
 pub fn a_reply_is_read_again(reply: &Reply, out: &mut [u8; 68]) -> Option<Reply>
     ensures { result ≡ Some reply.now }
 {

@@ -232,7 +232,7 @@ fn with_path(len: u32) -> [u8; 2048] {
 }
 
 #[test]
-fn takes_the_greatest_lengths(rt: HostRuntime) {
+fn takes_lengths_up_to_the_greatest(rt: HostRuntime) {
     let cases = [
         (with_name(255), NO_GIDS, 320, 0),
         (with_gids(3), &GIDS[..3], 132, 0),
@@ -270,7 +270,7 @@ fn by_nobody(verifier: u32) -> [u8; 2048] {
 }
 
 #[test]
-fn asks_nobody_for_a_verifier_and_then_for_a_name(rt: HostRuntime) {
+fn checks_the_verifier_of_a_call_by_nobody_first(rt: HostRuntime) {
     for (verifier, stat) in [(0, 5), (401, 3), (u32::MAX, 3)] {
         let bytes = by_nobody(verifier);
         let call = read_call(front(&bytes, 56));
