@@ -1,5 +1,5 @@
--- The fields of a call to rquota, each by its place in the whole datagram. Sources: RFC 5531 for the call, `rquota.x` of
--- the quota tools for the arguments.
+-- The fields of a call to rquota, each by its place in the whole datagram. Sources: RFC 5531 for the call, `rquota.x`
+-- of the quota tools for the arguments.
 use Rattle.std.specs.Prelude.{ℕ, ◌+◌, ◌*◌, Bool, ◌&&◌, ◌==◌, nat_lt, nat_le, if◌then◌else◌, List, length}
 use Rattle.rquota_xdr.specs.Units.{unit_at, units_from, opaque_end, is_opaque}
 use Rattle.rquota_xdr.specs.declared.span.Span.{Span}
