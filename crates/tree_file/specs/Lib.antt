@@ -1,5 +1,6 @@
 pub mod Block
 pub mod BlockSet
+pub mod Build
 pub mod Chain
 pub mod Check
 pub mod Compared
