@@ -2,6 +2,8 @@ pub mod BlockLemmas
 pub mod ChainLemmas
 pub mod CheckedLemmas
 pub mod CountLemmas
+pub mod DataAddedLemmas
+pub mod DataBlockLemmas
 pub mod DataLemmas
 pub mod DefectLemmas
 pub mod DownLemmas
@@ -10,6 +12,7 @@ pub mod FlagsLemmas
 pub mod FoundLemmas
 pub mod GroupLemmas
 pub mod LevelLemmas
+pub mod NewFileLemmas
 pub mod PathLemmas
 pub mod ReadLemmas
 pub mod RoleLemmas

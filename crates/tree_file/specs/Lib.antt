@@ -10,6 +10,7 @@ pub mod Entries
 pub mod Found
 pub mod Groups
 pub mod Levels
+pub mod NewFile
 pub mod Reads
 pub mod Roles
 pub mod Size

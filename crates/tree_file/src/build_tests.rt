@@ -26,13 +26,25 @@ fn spaced(alloc: Global, count: u32, step: u32) -> Result<Vec<Entry>, Fail> {
 }
 
 /// The file of so many identifiers.
-fn built(alloc: Global, format: Format, count: u32, step: u32, limit: u32) -> Result<Result<Vec<u8>, BuildFault>, Fail> {
+fn built(
+    alloc: Global,
+    format: Format,
+    count: u32,
+    step: u32,
+    limit: u32,
+) -> Result<Result<Vec<u8>, BuildFault>, Fail> {
     let list = spaced(alloc, count, step)?;
     Ok(build(alloc, format, Kind::User, WEEK, 0, list.as_slice(), limit))
 }
 
 /// How many blocks a file of so many identifiers has, after a check.
-fn blocks_of(rt: &impl Abort, alloc: Global, format: Format, count: u32, step: u32) -> Result<usize, Fail> {
+fn blocks_of(
+    rt: &impl Abort,
+    alloc: Global,
+    format: Format,
+    count: u32,
+    step: u32,
+) -> Result<usize, Fail> {
     let file = built(alloc, format, count, step, u32::MAX)??;
     let found = Checked {
         used: u64::from(count),
@@ -46,7 +58,10 @@ fn blocks_of(rt: &impl Abort, alloc: Global, format: Format, count: u32, step: u
 fn identifiers_far_apart_need_tree_blocks_of_their_own(rt: HostRuntime) -> Result<(), Fail> {
     let blocks = blocks_of(&rt, rt.alloc(), Format::V2R1, 2, u32::MAX)?;
     assert_eq!(rt; blocks, 9);
-    let full = Err(BuildFault::Full { blocks: 9, limit: 8 });
+    let full = Err(BuildFault::Full {
+        blocks: 9,
+        limit: 8,
+    });
     assert_eq!(rt; built(rt.alloc(), Format::V2R1, 2, u32::MAX, 8)?, full);
     assert!(rt; built(rt.alloc(), Format::V2R1, 2, u32::MAX, 9)?.is_ok());
     Ok(())

@@ -1,3 +1,12 @@
+ghost use Rattle.std.specs.Prelude.{◌≡◌, ◌≢◌, ◌*◌, ◌+◌, ◌/◌, ◌%◌, ◌<◌, ◌≤◌, ◌^◌, ◌==◌, if◌then◌else◌, None, All, length, vec_len, IfOk, IfErr, OnOk};
+ghost use Rattle.std.specs.List.Sorted.{IsStrictlyIncreasing};
+ghost use Rattle.quota_types.specs.Kept.{kept_of};
+ghost use Rattle.quota_types.specs.Range.{grace_unfit, unfit};
+ghost use Rattle.entry_codec.specs.Entry.{entries_per_block};
+ghost use Rattle.tree_file.specs.Build.{HasNoPadding, HasOneRoom, IsBuildFault, ids_of, value_of};
+ghost use Rattle.tree_file.specs.Size.{blocks_needed};
+ghost use Rattle.tree_file.specs.TreeFile.{TreeStandsFor};
+
 use crate::BuildFault;
 use crate::needed::{blocks_needed, first_with_room};
 use crate::new_data::add_data;
@@ -24,11 +33,25 @@ pub fn build(
     flags: u32,
     list: &[Entry],
     limit: u32,
-) -> Result<Vec<u8>, BuildFault> {
+) -> Result<Vec<u8>, BuildFault>
+    requires tree { format ≢ Format.V1 }
+    requires grace { grace_unfit format grace ≡ None }
+    requires ascending { IsStrictlyIncreasing (ids_of list.now) }
+    requires fits { All (λ entry. unfit format entry.id entry.rec ≡ None) list.now }
+    requires kept { All (λ entry. kept_of format entry.id entry.rec ≡ entry.rec) list.now }
+    ensures stands { IfOk result (λ file. TreeStandsFor file.items (value_of kind format grace flags list.now)) }
+    ensures size { IfOk result (λ file. vec_len file ≡ 1024 * blocks_needed format (ids_of list.now)) }
+    ensures one_room { IfOk result (λ file. HasOneRoom format file.items (blocks_needed format (ids_of list.now))) }
+    ensures no_padding { IfOk result (λ file. HasNoPadding format file.items (blocks_needed format (ids_of list.now))) }
+    ensures few { OnOk result (blocks_needed format (ids_of list.now) ≤ limit) }
+    ensures refused { IfErr result (IsBuildFault (blocks_needed format (ids_of list.now)) limit) }
+{
     let blocks = blocks_needed(format, list);
-    let limit = u64::from(limit);
-    if blocks > limit {
-        return Err(BuildFault::Full { blocks, limit });
+    if blocks > u64::from(limit) {
+        return Err(BuildFault::Full {
+            blocks,
+            limit: u64::from(limit),
+        });
     }
     let header = Header {
         kind,
@@ -44,7 +67,21 @@ pub fn build(
 
 /// The file of a header and its entries: header and root, the data blocks, and the tree blocks below the root, from the
 /// lowest level up.
-fn write_file(alloc: Global, header: &Header, list: &[Entry]) -> Result<Vec<u8>, AllocError> {
+fn write_file(alloc: Global, header: &Header, list: &[Entry]) -> Result<Vec<u8>, AllocError>
+    requires tree { header.now.format ≢ Format.V1 }
+    requires grace { grace_unfit header.now.format header.now.grace ≡ None }
+    requires ascending { IsStrictlyIncreasing (ids_of list.now) }
+    requires fits { All (λ entry. unfit header.now.format entry.id entry.rec ≡ None) list.now }
+    requires kept { All (λ entry. kept_of header.now.format entry.id entry.rec ≡ entry.rec) list.now }
+    requires blocks { header.now.blocks ≡ blocks_needed header.now.format (ids_of list.now) }
+    requires free { header.now.free ≡ 0 }
+    requires first { header.now.first ≡ (if length list.now % entries_per_block header.now.format == 0 then 0
+        else 2 + length list.now / entries_per_block header.now.format) }
+    ensures stands { IfOk result (λ file. TreeStandsFor file.items (value_of header.now.kind header.now.format header.now.grace header.now.flags list.now)) }
+    ensures size { IfOk result (λ file. vec_len file ≡ 1024 * blocks_needed header.now.format (ids_of list.now)) }
+    ensures one_room { IfOk result (λ file. HasOneRoom header.now.format file.items (blocks_needed header.now.format (ids_of list.now))) }
+    ensures no_padding { IfOk result (λ file. HasNoPadding header.now.format file.items (blocks_needed header.now.format (ids_of list.now))) }
+{
     let mut file = NewFile::new(alloc, header)?;
     let leaves = add_data(alloc, &mut file, header.format, list)?;
     let third = add_level(alloc, &mut file, leaves.as_slice())?;
