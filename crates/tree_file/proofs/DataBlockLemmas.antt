@@ -56,7 +56,7 @@ all_zero (x ∷ xs) h =
     let rest = all_zero xs (λ k. h (suc k)) in
     rw (byte, rest)
 
-zero_bytes : (at : ℕ) → byte_at (replicate 1024 0) at ≡ 0
+pub zero_bytes : (at : ℕ) → byte_at (replicate 1024 0) at ≡ 0
 zero_bytes at = elim (cases_lt at 1024) [
   | inl low ↦ get_or-replicate 1024 at 0 0 low
   | inr high ↦ get_or_past (replicate 1024 0) at 0 high

@@ -11,12 +11,16 @@ pub mod EntryLemmas
 pub mod FlagsLemmas
 pub mod FoundLemmas
 pub mod GroupLemmas
+pub mod LevelAddedLemmas
 pub mod LevelLemmas
 pub mod NewFileLemmas
+pub mod OnceLemmas
+pub mod OrderLemmas
 pub mod PathLemmas
 pub mod ReadLemmas
 pub mod RoleLemmas
 pub mod SoundLemmas
 pub mod StepLemmas
+pub mod TreeBlockLemmas
 pub mod ValueLemmas
 pub mod WalkLemmas
