@@ -13,6 +13,7 @@ pub mod FoundLemmas
 pub mod GroupLemmas
 pub mod LevelAddedLemmas
 pub mod LevelLemmas
+pub mod NeededLemmas
 pub mod NewFileLemmas
 pub mod OnceLemmas
 pub mod OrderLemmas
