@@ -8,10 +8,11 @@ use Rattle.std.specs.List.Sorted.{IsStrictlyIncreasing}
 use Rattle.tree_file.specs.declared.tree_path.TreePath.{TreePath}
 use Rattle.tree_file.specs.Block.{block_of, word_at}
 use Rattle.tree_file.specs.Levels.{blocks_of}
-use Rattle.tree_file.specs.NewFile.{AllLead, AreSiblings, IsLevel, KeepsBlocks, numbers_of, parents_of}
+use Rattle.tree_file.specs.NewFile.{AllLead, AreSiblings, IsFullTreeBlock, IsLevel, KeepsBlocks, numbers_of, parents_of}
 use Rattle.tree_file.specs.Roles.{IsEmpty}
 use Rattle.tree_file.specs.Size.{each_once}
 use Rattle.tree_file.specs.Tree.{leads, steps}
+use Rattle.tree_file.proofs.LevelLemmas.{leads_below}
 use Rattle.tree_file.proofs.NewFileLemmas.{appended, kept_again, kept_append, kept_first}
 use Rattle.tree_file.proofs.OnceLemmas.{once_run}
 use Rattle.tree_file.proofs.OrderLemmas.{Ascends, ascends_fewer, ascends_left, ascends_right, each_left, each_of_places, each_right, increasing_of, length_numbers}
@@ -44,19 +45,27 @@ blocks_between (p ∷ ps) first (suc count) is =
           (λ q between. (omega (arith, between), omega (arith, between))) (blocks_between ps (first + 1) count rest),
     )
 
--- a level whose blocks stay
-pub level_kept : (count blocks : ℕ) (old new : List ℕ) (parents children : List TreePath) → KeepsBlocks count old new → AllByRecursion (λ (p : TreePath). p.block < count) parents
-    → IsLevel old blocks parents children → IsLevel new blocks parents children
-level_kept count blocks old new parents children kept below level = record {
-  onward = flat_map_same (steps new blocks) (steps old blocks) parents
-      (each_weaker (λ (p : TreePath). p.block < count) (λ (p : TreePath). steps new blocks p ≡ steps old blocks p) parents (λ p low. steps_kept old new blocks p (kept p.block low)) below)
-      ∙ level.onward;
-  not_empty = still parents below level.not_empty;
+-- a full block that stays
+full_kept : (old new : List ℕ) (blocks block : ℕ) → block_of new block ≡ block_of old block → IsFullTreeBlock old blocks block → IsFullTreeBlock new blocks block
+full_kept old new blocks block same full = record {
+  references = λ digit low. subst (λ (bytes : List ℕ). word_in bytes digit < blocks) (sym same) (full.references digit low);
+  not_empty = λ empty. full.not_empty (empty_kept old new block same empty);
 }
-  where
-    still : (ps : List TreePath) → AllByRecursion (λ (p : TreePath). p.block < count) ps → AllByRecursion (λ (p : TreePath). ¬ IsEmpty old p.block) ps → AllByRecursion (λ (p : TreePath). ¬ IsEmpty new p.block) ps
-    still [] low full = tt
-    still (p ∷ ps) low full = ((λ empty. full.0 (empty_kept old new p.block (kept p.block low.0) empty)), still ps low.1 full.1)
+
+pub all_full_kept : (old new : List ℕ) (blocks : ℕ) (ps : List TreePath) → AllByRecursion (λ (p : TreePath). block_of new p.block ≡ block_of old p.block) ps
+    → AllByRecursion (λ (p : TreePath). IsFullTreeBlock old blocks p.block) ps → AllByRecursion (λ (p : TreePath). IsFullTreeBlock new blocks p.block) ps
+all_full_kept old new blocks [] same full = tt
+all_full_kept old new blocks (p ∷ ps) same full = (full_kept old new blocks p.block same.0 full.0, all_full_kept old new blocks ps same.1 full.1)
+
+-- a level whose blocks stay
+pub level_kept : (blocks : ℕ) (old new : List ℕ) (parents children : List TreePath) → AllByRecursion (λ (p : TreePath). block_of new p.block ≡ block_of old p.block) parents
+    → IsLevel old blocks parents children → IsLevel new blocks parents children
+level_kept blocks old new parents children same level = record {
+  onward = flat_map_same (steps new blocks) (steps old blocks) parents
+      (each_weaker (λ (p : TreePath). block_of new p.block ≡ block_of old p.block) (λ (p : TreePath). steps new blocks p ≡ steps old blocks p) parents (λ p is. steps_kept old new blocks p is) same)
+      ∙ level.onward;
+  full = all_full_kept old new blocks parents same level.full;
+}
 
 -- a file with the blocks of some parents of paths
 pub record HasLevel (children : List TreePath) (first : ℕ) (old file : List ℕ) (parents rest : List TreePath) : Type 0 where
@@ -65,7 +74,7 @@ pub record HasLevel (children : List TreePath) (first : ℕ) (old file : List �
   pub numbers_are : numbers_of parents ++ parents_of (numbers_of rest) ≡ parents_of (numbers_of children)
   pub ascends : Ascends 0 (numbers_of rest)
   pub onward : (blocks : ℕ) → AllLead blocks children → flat_map (steps file blocks) parents ++ rest ≡ children
-  pub not_empty : (blocks : ℕ) → AllLead blocks children → AllByRecursion (λ (p : TreePath). ¬ IsEmpty file p.block) parents
+  pub full : (blocks : ℕ) → AllLead blocks children → AllByRecursion (λ (p : TreePath). IsFullTreeBlock file blocks p.block) parents
 
 pub level_none : (children : List TreePath) (first : ℕ) (file : List ℕ) → Ascends 0 (numbers_of children) → HasLevel children first file file [] children
 level_none children first file rising = record {
@@ -74,7 +83,7 @@ level_none children first file rising = record {
   numbers_are = refl;
   ascends = rising;
   onward = λ blocks leading. refl;
-  not_empty = λ blocks leading. tt;
+  full = λ blocks leading. tt;
 }
 
 -- paths whose numbers are past those of a parent
@@ -150,8 +159,9 @@ pub level_more : (children : List TreePath) (first : ℕ) (old file new block : 
     → more ≡ parents ++ record { number = number; block = blocks } ∷ []
     → AreParted number rest siblings later
     → ((other : List ℕ) (all : ℕ) (path : TreePath) → block_of other path.block ≡ block → IsStrictlyIncreasing (numbers_of siblings) → AreSiblings path.number siblings → AllLead all siblings → steps other all path ≡ siblings)
+    → ((all digit : ℕ) → 1 ≤ all → AllLead all siblings → word_in block digit < all)
     → HasLevel children first old file parents rest → HasLevel children first old new more later
-level_more children first old file new block parents more rest siblings later number blocks long place size grown pushed is_parted filled so_far =
+level_more children first old file new block parents more rest siblings later number blocks long place size grown pushed is_parted filled inside so_far =
     let count : ℕ = length parents in
     let parent : TreePath = record { number = number; block = blocks } in
     let kept : KeepsBlocks blocks file new = subst (λ (bytes : List ℕ). KeepsBlocks blocks file bytes) (sym grown) (kept_append file block blocks long) in
@@ -186,19 +196,20 @@ level_more children first old file new block parents more rest siblings later nu
           ∙ ap (λ (ps : List TreePath). flat_map (steps new all) parents ++ ps) is_parted.joined
           ∙ ap (λ (ps : List TreePath). ps ++ rest) (same all)
           ∙ so_far.onward all lead;
-      not_empty = λ all lead.
-          subst (AllByRecursion (λ (p : TreePath). ¬ IsEmpty new p.block)) (sym pushed)
-          (each-append (λ (p : TreePath). ¬ IsEmpty new p.block) parents (parent ∷ [])
-          (still parents below (so_far.not_empty all lead)) ((not_empty_of new all parent siblings (on all lead) is_parted.some), tt))
-        ;
+      full = λ all lead.
+          let some : 1 ≤ all = lead_some all siblings is_parted.some (leading all lead) in
+          subst (AllByRecursion (λ (p : TreePath). IsFullTreeBlock new all p.block)) (sym pushed)
+          (each-append (λ (p : TreePath). IsFullTreeBlock new all p.block) parents (parent ∷ [])
+          (all_full_kept file new all parents (each_weaker (λ (p : TreePath). p.block < blocks) (λ (p : TreePath). block_of new p.block ≡ block_of file p.block) parents (λ p low. kept p.block low) below) (so_far.full all lead))
+          (record {
+            references = λ digit low. subst (λ (bytes : List ℕ). word_in bytes digit < all) (sym there) (inside all digit some (leading all lead));
+            not_empty = not_empty_of new all parent siblings (on all lead) is_parted.some;
+          }, tt));
     }
   where
-    still : (ps : List TreePath) → AllByRecursion (λ (p : TreePath). p.block < blocks) ps → AllByRecursion (λ (p : TreePath). ¬ IsEmpty file p.block) ps → AllByRecursion (λ (p : TreePath). ¬ IsEmpty new p.block) ps
-    still [] low full = tt
-    still (p ∷ ps) low full = (
-      (λ empty. full.0 (empty_kept file new p.block (subst (λ (bytes : List ℕ). KeepsBlocks blocks file bytes) (sym grown) (kept_append file block blocks long) p.block low.0) empty)),
-      still ps low.1 full.1,
-    )
+    lead_some : (all : ℕ) (ps : List TreePath) → 1 ≤ length ps → AllLead all ps → 1 ≤ all
+    lead_some all [] some lead = absurd (omega arith)
+    lead_some all (p ∷ ps) some lead = let low = leads_below all p.block lead.0 in omega arith
 
 -- how many parents there are still to be
 pub parents_left : (children : List TreePath) (first : ℕ) (old file : List ℕ) (parents rest : List TreePath) → HasLevel children first old file parents rest

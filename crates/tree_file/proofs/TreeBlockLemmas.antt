@@ -13,6 +13,7 @@ use Rattle.tree_file.specs.Block.{block_of}
 use Rattle.tree_file.specs.NewFile.{AllLead, AreSiblings, numbers_of}
 use Rattle.tree_file.specs.Tree.{leads, steps}
 use Rattle.tree_file.proofs.DataBlockLemmas.{number_same, zero_bytes}
+use Rattle.tree_file.proofs.LevelLemmas.{leads_below}
 use Rattle.tree_file.proofs.OrderLemmas.{Ascends, ascends_apart, ascends_of, each_at, each_both, each_of_places, length_numbers, number_at_place, rises_bound, rises_of}
 use Rattle.tree_file.proofs.PathLemmas.{Rises, each_weaker}
 use Rattle.tree_file.proofs.StepLemmas.{path_by, step_by, step_cases, steps_all, steps_from, word_in}
@@ -33,11 +34,13 @@ AreApart paths = (j k : ℕ) → j < k → k < length paths → digit_at paths j
 pub record HasReferences (block : List ℕ) (paths : List TreePath) (count : ℕ) : Type 0 where
   pub written : AreApart paths → (place : ℕ) → place < count → word_in block (digit_at paths place) ≡ (get_or paths place no_path).block
   pub zeros : (digit : ℕ) → ((place : ℕ) → place < count → digit_at paths place ≢ digit) → word_in block digit ≡ 0
+  pub known : (digit : ℕ) → (word_in block digit ≡ 0) ⊎ ((place : ℕ) × (place < count) × (word_in block digit ≡ (get_or paths place no_path).block))
 
 pub references_none : (paths : List TreePath) → HasReferences (replicate 1024 0) paths 0
 references_none paths = record {
   written = λ apart place low. absurd (omega arith);
   zeros = λ digit none. number_at-zeros 4 (replicate 1024 0) (4 * digit) zero_bytes;
+  known = λ digit. inl (number_at-zeros 4 (replicate 1024 0) (4 * digit) zero_bytes);
 }
 
 -- a write at one digit leaves the references at all others
@@ -60,7 +63,26 @@ references_more old new paths count digit is low written kept so_far = record {
   zeros = λ other none.
       other_word old new digit other kept (λ e. none count (omega arith) (sym is ∙ sym e))
       ∙ so_far.zeros other (λ place below. none place (omega arith));
+  known = λ other. elim (cases_eq other digit) [
+    | inl same ↦ inr (count, omega arith, ap (word_in new) same ∙ written)
+    | inr differs ↦
+        let stays = other_word old new digit other kept differs in
+        elim (so_far.known other) [
+          | inl none ↦ inl (stays ∙ none)
+          | inr there ↦ inr (there.0, omega (arith, there.1), stays ∙ there.2)
+        ]
+  ];
 }
+
+-- no reference is past the last block
+pub inside_of : (block : List ℕ) (paths : List TreePath) (count blocks digit : ℕ) → count ≤ length paths → 1 ≤ blocks → AllLead blocks paths → HasReferences block paths count → word_in block digit < blocks
+inside_of block paths count blocks digit under some leading has = elim (has.known digit) [
+  | inl none ↦ omega (arith, none)
+  | inr there ↦
+      let low : (get_or paths there.0 no_path).block < blocks =
+      leads_below blocks (get_or paths there.0 no_path).block (each_at (λ (p : TreePath). IsTrue (leads blocks p.block)) no_path paths leading there.0 (omega (arith, there.1))) in
+      omega (arith, there.2, low)
+]
 
 -- no digit of paths that come behind one
 behind : (number digit low high : ℕ) (paths : List TreePath) → Rises low paths high → 256 * number + digit < low → high ≤ 256 * number + 256

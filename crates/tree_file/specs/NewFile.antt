@@ -6,7 +6,7 @@ use Rattle.quota_types.specs.declared.file_kind.Format.{Format}
 use Rattle.quota_types.specs.declared.record.Entry.{Entry}
 use Rattle.entry_codec.specs.Entry.{entries_per_block, padding_of}
 use Rattle.tree_file.specs.declared.tree_path.TreePath.{TreePath}
-use Rattle.tree_file.specs.Block.{block_of}
+use Rattle.tree_file.specs.Block.{block_of, word_at}
 use Rattle.tree_file.specs.Entries.{entry_bytes, has_unused, used_entries}
 use Rattle.tree_file.specs.Roles.{IsEmpty}
 use Rattle.tree_file.specs.Size.{each_once, filled_blocks}
@@ -32,10 +32,20 @@ AllLead blocks paths = AllByRecursion (λ (path : TreePath). IsTrue (leads block
 abbrev pub AreSiblings : ℕ → List TreePath → Type 0
 AreSiblings number paths = AllByRecursion (λ (path : TreePath). path.number / 256 ≡ number) paths
 
--- The paths that go on from some are others, and no block to which one of the first comes is empty.
+-- a block has a reference, and none past the last block
+pub record IsFullTreeBlock (file : List ℕ) (blocks block : ℕ) : Type 0 where
+  pub references : (digit : ℕ) → digit < 256 → word_at file block digit < blocks
+  pub not_empty : ¬ IsEmpty file block
+
+-- each of some paths has a number below a bound
+abbrev pub AreBelow : ℕ → List TreePath → Type 0
+AreBelow bound paths = AllByRecursion (λ (path : TreePath). path.number < bound) paths
+
+-- The paths that go on from some are others, and each block to which one of the first comes has references, none past the
+-- last block.
 pub record IsLevel (file : List ℕ) (blocks : ℕ) (parents children : List TreePath) : Type 0 where
   pub onward : flat_map (steps file blocks) parents ≡ children
-  pub not_empty : AllByRecursion (λ (path : TreePath). ¬ IsEmpty file path.block) parents
+  pub full : AllByRecursion (λ (path : TreePath). IsFullTreeBlock file blocks path.block) parents
 
 -- a data block with its entries
 pub record Part : Type 0 where

@@ -5,7 +5,7 @@ ghost use Rattle.quota_types.specs.Kept.{kept_of};
 ghost use Rattle.quota_types.specs.Range.{unfit};
 ghost use Rattle.entry_codec.specs.Entry.{IsEntry, entries_per_block, entry_size, padding_of};
 ghost use Rattle.tree_file.specs.Entries.{entry_bytes};
-ghost use Rattle.tree_file.specs.NewFile.{AreDataBlocks, IsDataBlock, KeepsBlocks, leaves_in, parts_needed, parts_of};
+ghost use Rattle.tree_file.specs.NewFile.{AreBelow, AreDataBlocks, IsDataBlock, KeepsBlocks, leaves_in, parts_needed, parts_of};
 
 use crate::TreePath;
 use crate::new_file::NewFile;
@@ -26,6 +26,7 @@ pub(crate) fn add_data(
     requires kept { All (λ entry. kept_of format entry.id entry.rec ≡ entry.rec) list.now }
     requires room { file.old.blocks + parts_needed format list.now < 2 ^ 32 }
     ensures leaves { IfOk result (λ leaves. leaves.items ≡ flat_map leaves_in (parts_of format list.now file.old.blocks (parts_needed format list.now))) }
+    ensures below { IfOk result (λ leaves. AreBelow (2 ^ 32) leaves.items) }
     ensures data { OnOk result (AreDataBlocks format file.new.bytes.items (parts_of format list.now file.old.blocks (parts_needed format list.now))) }
     ensures kept_blocks { OnOk result (KeepsBlocks file.old.blocks file.old.bytes.items file.new.bytes.items) }
     ensures blocks { OnOk result (file.new.blocks ≡ file.old.blocks + parts_needed format list.now) }
@@ -44,15 +45,21 @@ pub(crate) fn add_data(
 
 /// Appends the leaves of entries that stand in a block.
 fn add_leaves(leaves: &mut Vec<TreePath>, block: u32, entries: &[Entry]) -> Result<(), AllocError>
-    ensures { OnOk result (leaves.new.items ≡ leaves.old.items ++ leaves_in (record { block = block; entries = entries.now })) }
+    ensures leaves { OnOk result (leaves.new.items ≡ leaves.old.items ++ leaves_in (record { block = block; entries = entries.now })) }
+    ensures below { OnOk result (AreBelow (2 ^ 32) leaves.old.items → AreBelow (2 ^ 32) leaves.new.items) }
 {
     for entry in entries {
-        leaves.push(TreePath {
-            number: entry.id,
-            block,
-        })?;
+        leaves.push(leaf(entry.id, block))?;
     }
     Ok(())
+}
+
+/// The leaf of an identifier.
+fn leaf(id: u32, block: u32) -> TreePath
+    ensures value { result ≡ record { number = id; block = block } }
+    ensures below { result.number < 2 ^ 32 }
+{
+    TreePath { number: id, block }
 }
 
 /// A data block that has these entries, in no list.

@@ -1,6 +1,7 @@
-ghost use Rattle.std.specs.Prelude.{◌≡◌, ◌≢◌, ℕ, ◌+◌, ◌/◌, ◌^◌, ◌<◌, ◌≤◌, All, List, length, take, IfOk, OnOk};
+ghost use Rattle.std.specs.Prelude.{◌≡◌, ◌≢◌, ℕ, ◌+◌, ◌*◌, ◌/◌, ◌^◌, ◌<◌, ◌≤◌, All, List, length, take, IfOk, OnOk};
 ghost use Rattle.std.specs.List.{range_with_len, slice_index_or};
 ghost use Rattle.std.specs.List.Sorted.{IsStrictlyIncreasing};
+ghost use Rattle.quota_types.specs.Bytes.{number_at};
 ghost use Rattle.tree_file.specs.declared.tree_path.TreePath.{TreePath};
 ghost use Rattle.tree_file.specs.Block.{block_of};
 ghost use Rattle.tree_file.specs.Levels.{blocks_of};
@@ -55,8 +56,9 @@ fn count_siblings(paths: &[TreePath], number: u32) -> usize
 
 /// A tree block from which these paths go on by their last digit.
 pub(crate) fn tree_block(paths: &[TreePath]) -> [u8; 1024]
-    ensures { (file : List ℕ) (blocks : ℕ) (path : TreePath) → block_of file path.block ≡ result → IsStrictlyIncreasing (numbers_of paths.now)
+    ensures onward { (file : List ℕ) (blocks : ℕ) (path : TreePath) → block_of file path.block ≡ result → IsStrictlyIncreasing (numbers_of paths.now)
         → AreSiblings path.number paths.now → AllLead blocks paths.now → steps file blocks path ≡ paths.now }
+    ensures inside { (blocks digit : ℕ) → 1 ≤ blocks → AllLead blocks paths.now → number_at 4 result (4 * digit) < blocks }
 {
     let mut block = [0; 1024];
     for path in paths {

@@ -33,11 +33,11 @@ loop-first-preserved c =
           c.loop-first.parents.items c.push.new.self.items rest siblings c.split_at.result.1.now number c.loop-first.file.blocks
           (omega arith) so_far.blocks (omega arith) c.in_ok-block.ensures.bytes
           (c.in_ok-push.ensures.items ∙ ap (λ (k : ℕ). c.loop-first.parents.items ++ record { number = number; block = k } ∷ []) c.in_ok-block.ensures.number)
-          is_parted c.tree_block.ensures so_far.level;
+          is_parted c.tree_block.ensures.onward c.tree_block.ensures.inside so_far.level;
     }
 
 pub returns-clause-level : goal.returns-clause-level
 returns-clause-level c = λ blocks lead.
     let none : length c.loop-first.rest.now ≡ 0 = omega (arith, c.in_default.ensures.item.3) in
     let so_far = level_all c.args.children.now c.args.file.now.blocks c.args.file.now.bytes.items c.loop-first.file.bytes.items c.loop-first.parents.items c.loop-first.rest.now none c.loop-first.invariant.level in
-    record { onward = sym (append-nil _) ∙ so_far.onward blocks lead; not_empty = so_far.not_empty blocks lead }
+    record { onward = sym (append-nil _) ∙ so_far.onward blocks lead; full = so_far.full blocks lead }
