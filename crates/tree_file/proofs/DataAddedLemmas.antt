@@ -40,7 +40,7 @@ filled_one_more V1 tree left now later some is rest = absurd (tree refl)
 filled_one_more V2R0 tree left now later some is rest = omega arith
 filled_one_more V2R1 tree left now later some is rest = omega arith
 
-parts_push : (format : Format) (list : List Entry) (first count : ℕ) → parts_of format list first (count + 1) ≡ parts_of format list first count ++ part_of format list first count ∷ []
+pub parts_push : (format : Format) (list : List Entry) (first count : ℕ) → parts_of format list first (count + 1) ≡ parts_of format list first count ++ part_of format list first count ∷ []
 parts_push format list first count = ap (map (part_of format list first)) (range-suc count) ∙ map-append (part_of format list first) (range_with_len 0 count) (count ∷ [])
 
 -- the parts of the first blocks stay

@@ -1,4 +1,5 @@
 pub mod BlockLemmas
+pub mod BuiltLemmas
 pub mod ChainLemmas
 pub mod CheckedLemmas
 pub mod CountLemmas
@@ -17,6 +18,7 @@ pub mod NeededLemmas
 pub mod NewFileLemmas
 pub mod OnceLemmas
 pub mod OrderLemmas
+pub mod PartsLemmas
 pub mod PathLemmas
 pub mod ReadLemmas
 pub mod RoleLemmas
