@@ -80,12 +80,6 @@ abbrev pub first_room : Format → List Entry → ℕ
 first_room format list = if length list % entries_per_block format == 0 then 0 else 2 + length list / entries_per_block format
 
 module _ (format : Format) (file : List ℕ) (blocks : ℕ) (list : List Entry) (first second third : List TreePath) (built : IsBuilt format file blocks list first second third) where
-  count : ℕ
-  count = parts_needed format list
-
-  part_at : ℕ → Part
-  part_at place = part_of format list 2 place
-
   -- a data block and its entries
   pub part_is : (place : ℕ) → place < parts_needed format list → IsDataBlock format (block_of file (2 + place)) (part_of format list 2 place).entries
   part_is place low =

@@ -27,3 +27,4 @@ pub mod StepLemmas
 pub mod TreeBlockLemmas
 pub mod ValueLemmas
 pub mod WalkLemmas
+pub mod WrittenLemmas

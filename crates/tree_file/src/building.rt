@@ -73,6 +73,7 @@ fn write_file(alloc: Global, header: &Header, list: &[Entry]) -> Result<Vec<u8>,
     requires ascending { IsStrictlyIncreasing (ids_of list.now) }
     requires fits { All (λ entry. unfit header.now.format entry.id entry.rec ≡ None) list.now }
     requires kept { All (λ entry. kept_of header.now.format entry.id entry.rec ≡ entry.rec) list.now }
+    requires small { header.now.blocks < 2 ^ 32 }
     requires blocks { header.now.blocks ≡ blocks_needed header.now.format (ids_of list.now) }
     requires free { header.now.free ≡ 0 }
     requires first { header.now.first ≡ (if length list.now % entries_per_block header.now.format == 0 then 0
