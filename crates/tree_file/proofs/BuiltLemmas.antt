@@ -286,6 +286,7 @@ module _ (format : Format) (file : List ℕ) (blocks : ℕ) (list : List Entry) 
     where
       leads_there : (blocks n : ℕ) → n < blocks → 0 < n → IsTrue (leads blocks n)
       leads_there blocks n low some = grind (arith, nat_tests)
+
       at_most_one : (x n : ℕ) → times (x ∷ []) n ≤ 1
       at_most_one x n = elim (cases_eq x n) [
         | inl same ↦ omega (arith, times-cons-same x [], ap (times (x ∷ [])) same)
@@ -300,6 +301,7 @@ module _ (format : Format) (file : List ℕ) (blocks : ℕ) (list : List Entry) 
     where
       room_none : (left last : ℕ) → left ≡ 0 → (if left == 0 then 0 else last) ≡ 0
       room_none left last e = grind (arith, nat_tests)
+
       room_some : (left last : ℕ) → left ≢ 0 → (if left == 0 then 0 else last) ≡ last
       room_some left last e = grind (arith, nat_tests)
 

@@ -85,6 +85,7 @@ part_added format tree list first old file new block leaves more rest now later 
       | inl short ↦ take_all n xs (omega arith) ∙ sym (take_all per xs (omega arith))
       | inr long ↦ ap (λ (k : ℕ). take k xs) (omega arith)
     ]
+
     drop_least : (n at per left : ℕ) (xs : List Entry) → n ≡ min left per → left ≡ length (drop at xs) → drop n (drop at xs) ≡ drop (at + per) xs
     drop_least n at per left xs is left_is = elim (cases_lt left per) [
       | inl short ↦ drop_all n (drop at xs) (omega arith) ∙ sym (drop_all (at + per) xs (omega (arith, length-drop at xs)))

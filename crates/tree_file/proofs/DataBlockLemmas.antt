@@ -38,9 +38,9 @@ same_part size at xs ys long same =
     same_number_lists (take size (drop at xs)) (take size (drop at ys))
     (omega (arith, length-take size (drop at xs), length-take size (drop at ys), length-drop at xs, length-drop at ys, long))
     (λ k lt.
-        let low : k < size = omega (arith, lt, length-take size (drop at xs)) in
-        get_or-take size (drop at xs) k 0 low ∙ get_or-drop at xs k 0 ∙ same (at + k) (omega arith) (omega arith)
-        ∙ sym (get_or-take size (drop at ys) k 0 low ∙ get_or-drop at ys k 0))
+    let low : k < size = omega (arith, lt, length-take size (drop at xs)) in
+    get_or-take size (drop at xs) k 0 low ∙ get_or-drop at xs k 0 ∙ same (at + k) (omega arith) (omega arith)
+    ∙ sym (get_or-take size (drop at ys) k 0 low ∙ get_or-drop at ys k 0))
 
 -- a part of a list in which all is 0
 zero_part : (size at : ℕ) (xs : List ℕ) → ((k : ℕ) → at ≤ k → byte_at xs k ≡ 0) → (k : ℕ) → get_or (take size (drop at xs)) k 0 ≡ 0
@@ -163,13 +163,13 @@ used_is V2R0 bytes id rec e =
     let found : ℕ → Rec → Option Entry = λ i r. Some (record { id = i; rec = r }) in (
       e.used,
       ap (λ (b : Bool). cond b None (found (stored_id bytes) (without_marker (stored_id bytes) (stored_record V2R0 bytes)))) e.used
-      ∙ ap (λ (i : ℕ). found i (without_marker (stored_id bytes) (stored_record V2R0 bytes))) (sym e.id_is) ∙ ap (found id) (sym e.rec_is),
+          ∙ ap (λ (i : ℕ). found i (without_marker (stored_id bytes) (stored_record V2R0 bytes))) (sym e.id_is) ∙ ap (found id) (sym e.rec_is),
     )
 used_is V2R1 bytes id rec e =
     let found : ℕ → Rec → Option Entry = λ i r. Some (record { id = i; rec = r }) in (
       e.used,
       ap (λ (b : Bool). cond b None (found (stored_id bytes) (without_marker (stored_id bytes) (stored_record V2R1 bytes)))) e.used
-      ∙ ap (λ (i : ℕ). found i (without_marker (stored_id bytes) (stored_record V2R1 bytes))) (sym e.id_is) ∙ ap (found id) (sym e.rec_is),
+          ∙ ap (λ (i : ℕ). found i (without_marker (stored_id bytes) (stored_record V2R1 bytes))) (sym e.id_is) ∙ ap (found id) (sym e.rec_is),
     )
 
 padding_zero : (format : Format) (bytes : List ℕ) → ((k : ℕ) → get_or bytes k 0 ≡ 0) → padding_of format bytes ≡ 0

@@ -200,11 +200,13 @@ level_more children first old file new block parents more rest siblings later nu
           let some : 1 ≤ all = lead_some all siblings is_parted.some (leading all lead) in
           subst (AllByRecursion (λ (p : TreePath). IsFullTreeBlock new all p.block)) (sym pushed)
           (each-append (λ (p : TreePath). IsFullTreeBlock new all p.block) parents (parent ∷ [])
-          (all_full_kept file new all parents (each_weaker (λ (p : TreePath). p.block < blocks) (λ (p : TreePath). block_of new p.block ≡ block_of file p.block) parents (λ p low. kept p.block low) below) (so_far.full all lead))
-          (record {
-            references = λ digit low. subst (λ (bytes : List ℕ). word_in bytes digit < all) (sym there) (inside all digit some (leading all lead));
-            not_empty = not_empty_of new all parent siblings (on all lead) is_parted.some;
-          }, tt));
+          (all_full_kept file new all parents (each_weaker (λ (p : TreePath). p.block < blocks) (λ (p : TreePath). block_of new p.block ≡ block_of file p.block) parents (λ p low. kept p.block low) below) (so_far.full all lead)) (
+            record {
+              references = λ digit low. subst (λ (bytes : List ℕ). word_in bytes digit < all) (sym there) (inside all digit some (leading all lead));
+              not_empty = not_empty_of new all parent siblings (on all lead) is_parted.some;
+            },
+            tt,
+          ));
     }
   where
     lead_some : (all : ℕ) (ps : List TreePath) → 1 ≤ length ps → AllLead all ps → 1 ≤ all

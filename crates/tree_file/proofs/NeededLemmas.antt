@@ -24,9 +24,9 @@ once_known (x ∷ xs) y stands = elim (times_cases x xs y) [
   | inl same ↦
       let gone : filter (is_not x) (y ∷ []) ≡ [] = ap (λ (b : Bool). cond (not b) (y ∷ []) []) (eq-eqb y x (sym same.0)) in
       ap (λ (zs : List ℕ). x ∷ zs) (
-        filter-each_once (is_not x) (xs ++ y ∷ [])
-        ∙ ap each_once (filter-append (is_not x) xs (y ∷ []) ∙ ap (λ (zs : List ℕ). filter (is_not x) xs ++ zs) gone ∙ append-nil (filter (is_not x) xs))
-        ∙ sym (filter-each_once (is_not x) xs)
+      filter-each_once (is_not x) (xs ++ y ∷ [])
+      ∙ ap each_once (filter-append (is_not x) xs (y ∷ []) ∙ ap (λ (zs : List ℕ). filter (is_not x) xs ++ zs) gone ∙ append-nil (filter (is_not x) xs))
+      ∙ sym (filter-each_once (is_not x) xs)
       )
   | inr other ↦ ap (λ (zs : List ℕ). x ∷ filter (is_not x) zs) (once_known xs y (omega (arith, stands, other.1)))
 ]
@@ -40,8 +40,8 @@ once_new (x ∷ xs) y new =
       | inr other ↦ ap (λ (b : Bool). cond (not b) (y ∷ []) []) other.0
     ] in
     ap (λ (zs : List ℕ). x ∷ zs) (
-      ap (filter (is_not x)) (once_new xs y new.1) ∙ filter-append (is_not x) (each_once xs) (y ∷ [])
-      ∙ ap (λ (zs : List ℕ). filter (is_not x) (each_once xs) ++ zs) there
+    ap (filter (is_not x)) (once_new xs y new.1) ∙ filter-append (is_not x) (each_once xs) (y ∷ [])
+    ∙ ap (λ (zs : List ℕ). filter (is_not x) (each_once xs) ++ zs) there
     )
 
 each_of_stands : (P : ℕ → Type 0) (xs : List ℕ) (n : ℕ) → AllByRecursion P xs → StandsIn xs n → P n

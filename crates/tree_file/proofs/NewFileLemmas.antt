@@ -80,11 +80,11 @@ root_keeps file root number size two low =
     let place : 2048 + (1024 * number - 2048) ≡ 1024 * number = omega arith in
     block_within (with_root file root) number (omega (arith, length-with_root file root (omega arith) size))
     ∙ ap (take 1024) (
-      ap (λ (k : ℕ). drop k (with_root file root)) (sym place)
-      ∙ sym (drop-drop (1024 * number - 2048) 2048 (with_root file root))
-      ∙ ap (drop (1024 * number - 2048)) (ap (drop 2048) (sym (append_assoc (take 1024 file) root (drop 2048 file))) ∙ drop_at (take 1024 file ++ root) (drop 2048 file) 2048 skip)
-      ∙ drop-drop (1024 * number - 2048) 2048 file
-      ∙ ap (λ (k : ℕ). drop k file) place
+    ap (λ (k : ℕ). drop k (with_root file root)) (sym place)
+    ∙ sym (drop-drop (1024 * number - 2048) 2048 (with_root file root))
+    ∙ ap (drop (1024 * number - 2048)) (ap (drop 2048) (sym (append_assoc (take 1024 file) root (drop 2048 file))) ∙ drop_at (take 1024 file ++ root) (drop 2048 file) 2048 skip)
+    ∙ drop-drop (1024 * number - 2048) 2048 file
+    ∙ ap (λ (k : ℕ). drop k file) place
     )
     ∙ sym (block_within file number low)
 

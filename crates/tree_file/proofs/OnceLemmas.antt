@@ -80,8 +80,8 @@ each_once-map f (x ∷ xs) =
     ∙ ap (map f) (filter_both (λ y. is_not (f x) (f y)) x others (ap not (eq-eqb (f x) (f x) refl)))
     ∙ sym (filter_of_map (is_not (f x)) f others) in
     ap (λ (ys : List ℕ). f x ∷ ys) (
-      filter-each_once (is_not (f x)) (map f (filter (is_not x) others)) ∙ ap each_once dropped ∙ sym (filter-each_once (is_not (f x)) (map f others))
-      ∙ ap (filter (is_not (f x))) (each_once-map f xs)
+    filter-each_once (is_not (f x)) (map f (filter (is_not x) others)) ∙ ap each_once dropped ∙ sym (filter-each_once (is_not (f x)) (map f others))
+    ∙ ap (filter (is_not (f x))) (each_once-map f xs)
     )
 
 filter_none : (x : ℕ) (xs : List ℕ) → AllByRecursion (λ n. n ≡ x) xs → filter (is_not x) xs ≡ []
@@ -96,8 +96,8 @@ filter_all x (y ∷ ys) all = ap (λ (b : Bool). cond (not b) (y ∷ filter (is_
 pub once_run : (x : ℕ) (xs ys : List ℕ) → AllByRecursion (λ n. n ≡ x) xs → AllByRecursion (λ n. n ≢ x) ys → each_once (x ∷ xs ++ ys) ≡ x ∷ each_once ys
 once_run x xs ys same other =
     ap (λ (zs : List ℕ). x ∷ zs) (
-      filter-each_once (is_not x) (xs ++ ys)
-      ∙ ap each_once (filter-append (is_not x) xs ys ∙ ap (λ (zs : List ℕ). zs ++ filter (is_not x) ys) (filter_none x xs same) ∙ filter_all x ys other)
+    filter-each_once (is_not x) (xs ++ ys)
+    ∙ ap each_once (filter-append (is_not x) xs ys ∙ ap (λ (zs : List ℕ). zs ++ filter (is_not x) ys) (filter_none x xs same) ∙ filter_all x ys other)
     )
 
 -- numbers that do not fall, from one on

@@ -296,7 +296,7 @@ module _ (header : Header) (list : List Entry) (zeroth data_file third_file seco
   number : (at : ℕ) → at + 4 ≤ 1024 → number_at 4 (with_root first_file root) at ≡ number_at 4 (take 1024 zeroth) at
   number at low = sym (number_at-take 4 1024 (with_root first_file root) at low) ∙ ap (λ (bytes : List ℕ). number_at 4 bytes at) front
 
-  are : AreOf header (header_of (with_root first_file root))
+  pub are : AreOf header (header_of (with_root first_file root))
   are =
       let head = w.head in
       record {
@@ -330,12 +330,12 @@ module _ (header : Header) (list : List Entry) (zeroth data_file third_file seco
             (filled header.format (with_root first_file root) header.blocks list first second third built);
         records = λ id.
             subst (λ (b : ℕ). get (records_of list) id ≡ tree_record header.format (with_root first_file root) b id) (sym are.blocks) (
-              get_record list id
-              ∙ sym (
-                ap (λ (ps : List TreePath). option_and_then (λ (leaf : TreePath). record_in header.format (block_of (with_root first_file root) leaf.block) id) (find (λ (leaf : TreePath). leaf.number == id) ps)) built.leaves_are
-                ∙ record_of_parts header.format (with_root first_file root) parts id used
-                ∙ ap (λ (es : List Entry). option_map (λ (entry : Entry). entry.rec) (find (λ (entry : Entry). entry.id == id) es)) (all_parts header.format w.tree list 2)
-              )
+            get_record list id
+            ∙ sym (
+            ap (λ (ps : List TreePath). option_and_then (λ (leaf : TreePath). record_in header.format (block_of (with_root first_file root) leaf.block) id) (find (λ (leaf : TreePath). leaf.number == id) ps)) built.leaves_are
+            ∙ record_of_parts header.format (with_root first_file root) parts id used
+            ∙ ap (λ (es : List Entry). option_map (λ (entry : Entry). entry.rec) (find (λ (entry : Entry). entry.id == id) es)) (all_parts header.format w.tree list 2)
+            )
             );
       }
 

@@ -1,3 +1,10 @@
+ghost use Rattle.std.specs.Prelude.{◌≡◌, ◌≢◌, ◌<◌, None, All, IfOk};
+ghost use Rattle.std.specs.List.Sorted.{IsStrictlyIncreasing};
+ghost use Rattle.quota_types.specs.Kept.{kept_of};
+ghost use Rattle.quota_types.specs.Range.{unfit};
+ghost use Rattle.quota_types.specs.declared.file_kind.Format.{Format};
+ghost use Rattle.tree_file.specs.Build.{ids_of};
+
 use crate::test_files::*;
 use crate::{BuildFault, Checked, build};
 use quota_types::{Entry, Format, Grace, Kind, Rec};
@@ -11,16 +18,29 @@ const WEEK: Grace = Grace {
     inode: 604_800,
 };
 
-/// Entries of so many identifiers, each `step` above the one before it, that use one inode each. The first is 0.
-fn spaced(alloc: Global, count: u32, step: u32) -> Result<Vec<Entry>, Fail> {
+/// The record of one inode.
+const ONE_INODE: Rec = Rec {
+    ihard: 0,
+    isoft: 0,
+    inodes: 1,
+    bhard: 0,
+    bsoft: 0,
+    space: 0,
+    btime: 0,
+    itime: 0,
+};
+
+/// Entries of so many identifiers from 0 on, each `step` above the one before it, that use one inode each.
+fn spaced(alloc: Global, count: u32, step: u32) -> Result<Vec<Entry>, Fail>
+    requires { 0 < step }
+    ensures ascending { IfOk result (λ list. IsStrictlyIncreasing (ids_of list.items)) }
+    ensures fits { IfOk result (λ list. (format : Format) → format ≢ Format.V1 → All (λ entry. unfit format entry.id entry.rec ≡ None) list.items) }
+    ensures kept { IfOk result (λ list. (format : Format) → format ≢ Format.V1 → All (λ entry. kept_of format entry.id entry.rec ≡ entry.rec) list.items) }
+{
     let mut list = Vec::new(alloc);
     for place in 0..count {
         let id = place.checked_mul(step).ok_or("too great")?;
-        let rec = Rec {
-            inodes: 1,
-            ..Rec::default()
-        };
-        list.push(Entry { id, rec })?;
+        list.push(Entry { id, rec: ONE_INODE })?;
     }
     Ok(list)
 }
@@ -32,7 +52,10 @@ fn built(
     count: u32,
     step: u32,
     limit: u32,
-) -> Result<Result<Vec<u8>, BuildFault>, Fail> {
+) -> Result<Result<Vec<u8>, BuildFault>, Fail>
+    requires tree { format ≢ Format.V1 }
+    requires step { 0 < step }
+{
     let list = spaced(alloc, count, step)?;
     Ok(build(alloc, format, Kind::User, WEEK, 0, list.as_slice(), limit))
 }
@@ -79,27 +102,31 @@ fn a_full_data_block_is_in_no_list(rt: HostRuntime) -> Result<(), Fail> {
     Ok(())
 }
 
-/// How many blocks files of so many identifiers need: by one each, and by 2^24 each.
-const NEEDED: [(Format, u32, usize, usize); 12] = [
-    (Format::V2R1, 0, 2, 2),
-    (Format::V2R1, 1, 6, 6),
-    (Format::V2R1, 14, 6, 45),
-    (Format::V2R1, 15, 7, 49),
-    (Format::V2R1, 21, 7, 67),
-    (Format::V2R1, 22, 7, 70),
-    (Format::V2R0, 0, 2, 2),
-    (Format::V2R0, 1, 6, 6),
-    (Format::V2R0, 14, 6, 45),
-    (Format::V2R0, 15, 6, 48),
-    (Format::V2R0, 21, 6, 66),
-    (Format::V2R0, 22, 7, 70),
+/// How many identifiers, and how many blocks their files need: in vfsv0 and in vfsv1, where they are 1 apart, and in both
+/// where they are 2^24 apart.
+const NEEDED: [(u32, [usize; 4]); 6] = [
+    (0, [2, 2, 2, 2]),
+    (1, [6, 6, 6, 6]),
+    (14, [6, 6, 45, 45]),
+    (15, [6, 7, 48, 49]),
+    (21, [6, 7, 66, 67]),
+    (22, [7, 7, 70, 70]),
 ];
 
 #[test]
 fn a_file_has_as_many_blocks_as_it_needs(rt: HostRuntime) -> Result<(), Fail> {
-    for (format, count, dense, spread) in NEEDED {
-        assert_eq!(rt; blocks_of(&rt, rt.alloc(), format, count, 1)?, dense);
-        assert_eq!(rt; blocks_of(&rt, rt.alloc(), format, count, 1 << 24)?, spread);
+    for (count, [v2r0, v2r1, far_v2r0, far_v2r1]) in NEEDED {
+        let alloc = rt.alloc();
+        assert_eq!(rt; blocks_of(&rt, alloc, Format::V2R0, count, 1)?, v2r0);
+        assert_eq!(rt; blocks_of(&rt, alloc, Format::V2R1, count, 1)?, v2r1);
+        assert_eq!(rt;
+            blocks_of(&rt, alloc, Format::V2R0, count, 1 << 24)?,
+            far_v2r0
+        );
+        assert_eq!(rt;
+            blocks_of(&rt, alloc, Format::V2R1, count, 1 << 24)?,
+            far_v2r1
+        );
     }
     Ok(())
 }

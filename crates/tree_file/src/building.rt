@@ -3,6 +3,7 @@ ghost use Rattle.std.specs.List.Sorted.{IsStrictlyIncreasing};
 ghost use Rattle.quota_types.specs.Kept.{kept_of};
 ghost use Rattle.quota_types.specs.Range.{grace_unfit, unfit};
 ghost use Rattle.entry_codec.specs.Entry.{entries_per_block};
+ghost use Rattle.entry_codec.specs.Header.{header_of};
 ghost use Rattle.tree_file.specs.Build.{HasNoPadding, HasOneRoom, IsBuildFault, ids_of, value_of};
 ghost use Rattle.tree_file.specs.Size.{blocks_needed};
 ghost use Rattle.tree_file.specs.TreeFile.{TreeStandsFor};
@@ -41,6 +42,7 @@ pub fn build(
     requires kept { All (λ entry. kept_of format entry.id entry.rec ≡ entry.rec) list.now }
     ensures stands { IfOk result (λ file. TreeStandsFor file.items (value_of kind format grace flags list.now)) }
     ensures size { IfOk result (λ file. vec_len file ≡ 1024 * blocks_needed format (ids_of list.now)) }
+    ensures blocks { IfOk result (λ file. (header_of file.items).blocks ≡ blocks_needed format (ids_of list.now)) }
     ensures one_room { IfOk result (λ file. HasOneRoom format file.items (blocks_needed format (ids_of list.now))) }
     ensures no_padding { IfOk result (λ file. HasNoPadding format file.items (blocks_needed format (ids_of list.now))) }
     ensures few { OnOk result (blocks_needed format (ids_of list.now) ≤ limit) }
@@ -80,6 +82,7 @@ fn write_file(alloc: Global, header: &Header, list: &[Entry]) -> Result<Vec<u8>,
         else 2 + length list.now / entries_per_block header.now.format) }
     ensures stands { IfOk result (λ file. TreeStandsFor file.items (value_of header.now.kind header.now.format header.now.grace header.now.flags list.now)) }
     ensures size { IfOk result (λ file. vec_len file ≡ 1024 * blocks_needed header.now.format (ids_of list.now)) }
+    ensures blocks { IfOk result (λ file. (header_of file.items).blocks ≡ blocks_needed header.now.format (ids_of list.now)) }
     ensures one_room { IfOk result (λ file. HasOneRoom header.now.format file.items (blocks_needed header.now.format (ids_of list.now))) }
     ensures no_padding { IfOk result (λ file. HasNoPadding header.now.format file.items (blocks_needed header.now.format (ids_of list.now))) }
 {

@@ -1,6 +1,7 @@
 use Rattle.std.proofs.Common.{◌≡◌, ◌≢◌, ℕ, ◌+◌, ◌*◌, ◌^◌, ◌<◌, ◌≤◌, List, length, take, sym, ap, subst, refl, ◌∙◌, arith}
 use Rattle.std.specs.List.{flat_map, range_with_len}
 use Rattle.std.specs.List.Sorted.{IsStrictlyIncreasing}
+use Rattle.entry_codec.specs.Header.{header_of}
 use Rattle.tree_file.specs.declared.tree_path.TreePath.{TreePath}
 use Rattle.tree_file.specs.Build.{HasNoPadding, HasOneRoom, ids_of, value_of}
 use Rattle.tree_file.specs.Levels.{blocks_of}
@@ -10,7 +11,7 @@ use Rattle.tree_file.specs.TreeFile.{TreeStandsFor}
 use Rattle.tree_file.proofs.NewFileLemmas.{with_root}
 use Rattle.tree_file.proofs.OnceLemmas.{ascends-parents_of}
 use Rattle.tree_file.proofs.OrderLemmas.{ascends_of}
-use Rattle.tree_file.proofs.WrittenLemmas.{IsWritten, has_no_padding, has_one_room, leaf_numbers, long, needed_by_levels, rising_parents, stands}
+use Rattle.tree_file.proofs.WrittenLemmas.{IsWritten, are, has_no_padding, has_one_room, leaf_numbers, long, needed_by_levels, rising_parents, stands}
 use Rattle.tree_file.proofs.building.write_file.Goals as goal
 
 pub add_data-requires-clause-room : goal.add_data-requires-clause-room
@@ -133,10 +134,12 @@ returns c =
     let is : c.set_root.new.self.bytes.items ≡ with_root c.add_level-3.new.file.bytes.items c.tree_block.result = c.set_root.ensures.bytes in
     let one = has_one_room _ _ _ _ _ _ _ _ _ _ _ _ w in
     let none = has_no_padding _ _ _ _ _ _ _ _ _ _ _ _ w in
+    let head = are _ _ _ _ _ _ _ _ _ _ _ _ w in
     let whole = long _ _ _ _ _ _ _ _ _ _ _ _ w in
     record {
       stands = subst (λ (bytes : List ℕ). TreeStandsFor bytes (value_of c.args.header.now.kind c.args.header.now.format c.args.header.now.grace c.args.header.now.flags c.args.list.now)) (sym is) (stands _ _ _ _ _ _ _ _ _ _ _ _ w);
       size = omega (arith, ap length is, whole, c.requires.blocks);
+      blocks = ap (λ (bytes : List ℕ). (header_of bytes).blocks) is ∙ head.blocks ∙ c.requires.blocks;
       one_room = subst (λ (bytes : List ℕ). HasOneRoom c.args.header.now.format bytes (blocks_needed c.args.header.now.format (ids_of c.args.list.now))) (sym is)
           (subst (HasOneRoom c.args.header.now.format (with_root c.add_level-3.new.file.bytes.items c.tree_block.result)) c.requires.blocks one);
       no_padding = subst (λ (bytes : List ℕ). HasNoPadding c.args.header.now.format bytes (blocks_needed c.args.header.now.format (ids_of c.args.list.now))) (sym is)
