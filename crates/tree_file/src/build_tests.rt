@@ -8,7 +8,7 @@ ghost use Rattle.tree_file.specs.Build.{ids_of};
 use crate::test_files::*;
 use crate::{BuildFault, Checked, build};
 use quota_types::{Entry, Format, Grace, Kind, Rec};
-use std::alloc::Global;
+use std::alloc::{AllocError, Global};
 use std::process::Abort;
 use std::test::Fail;
 
@@ -30,8 +30,9 @@ const ONE_INODE: Rec = Rec {
     itime: 0,
 };
 
-/// Entries of so many identifiers from 0 on, each `step` above the one before it, that use one inode each.
-fn spaced(alloc: Global, count: u32, step: u32) -> Result<Vec<Entry>, Fail>
+/// Entries of so many identifiers from 0 on, as far as there are any, each `step` above the one before it, that use one
+/// inode each.
+fn spaced(alloc: Global, count: u32, step: u32) -> Result<Vec<Entry>, AllocError>
     requires { 0 < step }
     ensures ascending { IfOk result (λ list. IsStrictlyIncreasing (ids_of list.items)) }
     ensures fits { IfOk result (λ list. (format : Format) → format ≢ Format.V1 → All (λ entry. unfit format entry.id entry.rec ≡ None) list.items) }
@@ -39,7 +40,9 @@ fn spaced(alloc: Global, count: u32, step: u32) -> Result<Vec<Entry>, Fail>
 {
     let mut list = Vec::new(alloc);
     for place in 0..count {
-        let id = place.checked_mul(step).ok_or("too great")?;
+        let Some(id) = place.checked_mul(step) else {
+            break;
+        };
         list.push(Entry { id, rec: ONE_INODE })?;
     }
     Ok(list)
