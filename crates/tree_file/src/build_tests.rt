@@ -70,7 +70,10 @@ fn blocks_of(
     format: Format,
     count: u32,
     step: u32,
-) -> Result<usize, Fail> {
+) -> Result<usize, Fail>
+    requires tree { format ≢ Format.V1 }
+    requires step { 0 < step }
+{
     let file = built(alloc, format, count, step, u32::MAX)??;
     let found = Checked {
         used: u64::from(count),
