@@ -1,6 +1,6 @@
 -- A file with the header, the data blocks and the levels of a list is a sound one.
-use Rattle.std.proofs.Common.{◌≡◌, ◌≢◌, ℕ, zero, suc, ◌+◌, ◌-◌, ◌*◌, ◌/◌, ◌%◌, ◌<◌, ◌≤◌, min, Bool, true, false, cond, ◌&&◌, ◌==◌, nat_lt, nat_le, if◌then◌else◌, IsTrue, List, [], ◌∷◌, ◌++◌, length, map, take, refl, sym, ap, subst, ◌∙◌, ◌⊎◌, inl, inr, arith, true≢false, zero-le, length-append}
-use Rattle.std.proofs.lemmas.Bool.{cases_Bool, cases_lt, cases_eq, le-leb, leb-true, le-ltb, lt-ltb}
+use Rattle.std.proofs.Common.{◌≡◌, ◌≢◌, ℕ, ◌+◌, ◌-◌, ◌*◌, ◌/◌, ◌%◌, ◌<◌, ◌≤◌, min, Bool, true, false, ◌&&◌, ◌==◌, nat_lt, nat_le, if◌then◌else◌, IsTrue, List, [], ◌∷◌, ◌++◌, length, refl, sym, ap, subst, ◌∙◌, inl, inr, arith, true≢false, zero-le}
+use Rattle.std.proofs.lemmas.Bool.{cases_Bool, cases_lt, cases_eq, le-leb, le-ltb, lt-ltb}
 use Rattle.std.proofs.lemmas.Bool.Decides.{nat_tests}
 use Rattle.std.proofs.lemmas.List.{length-map}
 use Rattle.std.specs.List.{AllByRecursion, flat_map, range_with_len}
@@ -10,17 +10,16 @@ use Rattle.quota_types.specs.declared.file_kind.Format.TheVariants.{V1, V2R0, V2
 use Rattle.quota_types.specs.declared.record.Entry.{Entry}
 use Rattle.entry_codec.specs.Entry.{entries_per_block, padding_of}
 use Rattle.tree_file.specs.declared.tree_path.TreePath.{TreePath}
-use Rattle.tree_file.specs.Block.{block_of, next_of, previous_of, stated_count, word_at}
+use Rattle.tree_file.specs.Block.{block_of, stated_count, word_at}
 use Rattle.tree_file.specs.Build.{HasNoPadding, HasOneRoom, ids_of}
-use Rattle.tree_file.specs.Chain.{IsChain}
 use Rattle.tree_file.specs.Count.{StandsIn, times}
 use Rattle.tree_file.specs.Entries.{entry_bytes, has_unused, used_entries, used_ids}
 use Rattle.tree_file.specs.Levels.{blocks_of}
 use Rattle.tree_file.specs.NewFile.{AreDataBlocks, IsDataBlock, IsFullTreeBlock, Part, leaves_in, part_of, parts_needed, parts_of}
-use Rattle.tree_file.specs.Roles.{Chained, Filled, IsEmpty, OneRole, has_room, roles}
+use Rattle.tree_file.specs.Roles.{Chained, Filled, OneRole, has_room, roles}
 use Rattle.tree_file.specs.Size.{filled_blocks}
 use Rattle.tree_file.specs.Tree.{data_blocks, ids_at, is_data, leads, leaves, level, lower_blocks, paths, tree_blocks}
-use Rattle.tree_file.proofs.CountLemmas.{stands_either, times-append, times-cons, times-cons-other, times-cons-same, times-range-high, times-range-low, times-range-within}
+use Rattle.tree_file.proofs.CountLemmas.{stands_either, times-append, times-cons-other, times-cons-same, times-range-high, times-range-low, times-range-within}
 use Rattle.tree_file.proofs.DataBlockLemmas.{range_parted}
 use Rattle.tree_file.proofs.FoundLemmas.{length_ids}
 use Rattle.tree_file.proofs.LevelLemmas.{only_one}

@@ -1,12 +1,12 @@
 -- A level of a new file's tree, as its blocks are appended one after another.
-use Rattle.std.proofs.Common.{length-drop, ◌≡◌, ◌≢◌, ℕ, zero, suc, ◌+◌, ◌-◌, ◌*◌, ◌/◌, ◌<◌, ◌≤◌, IsTrue, List, [], ◌∷◌, ◌++◌, length, map, get_or, take, drop, refl, sym, ap, subst, ◌∙◌, ◌⊎◌, inl, inr, arith, length-append}
+use Rattle.std.proofs.Common.{length-drop, ◌≡◌, ◌≢◌, ℕ, zero, suc, ◌+◌, ◌*◌, ◌/◌, ◌<◌, ◌≤◌, IsTrue, List, [], ◌∷◌, ◌++◌, length, map, get_or, take, drop, refl, sym, ap, subst, ◌∙◌, arith, length-append}
 use Rattle.std.proofs.lemmas.List.{append_assoc, get_or-drop, append-nil, map-append, take-append-drop}
 use Rattle.std.proofs.lemmas.List.Concat.{flat_map-append}
 use Rattle.std.specs.Prelude.{All}
 use Rattle.std.specs.List.{AllByRecursion, flat_map, range_with_len}
 use Rattle.std.specs.List.Sorted.{IsStrictlyIncreasing}
 use Rattle.tree_file.specs.declared.tree_path.TreePath.{TreePath}
-use Rattle.tree_file.specs.Block.{block_of, word_at}
+use Rattle.tree_file.specs.Block.{block_of}
 use Rattle.tree_file.specs.Levels.{blocks_of}
 use Rattle.tree_file.specs.NewFile.{AllLead, AreSiblings, IsFullTreeBlock, IsLevel, KeepsBlocks, numbers_of, parents_of}
 use Rattle.tree_file.specs.Roles.{IsEmpty}
@@ -15,7 +15,7 @@ use Rattle.tree_file.specs.Tree.{leads, steps}
 use Rattle.tree_file.proofs.LevelLemmas.{leads_below}
 use Rattle.tree_file.proofs.NewFileLemmas.{appended, kept_again, kept_append, kept_first}
 use Rattle.tree_file.proofs.OnceLemmas.{once_run}
-use Rattle.tree_file.proofs.OrderLemmas.{Ascends, ascends_fewer, ascends_left, ascends_right, each_left, each_of_places, each_right, increasing_of, length_numbers}
+use Rattle.tree_file.proofs.OrderLemmas.{Ascends, ascends_left, ascends_right, each_left, each_of_places, each_right, increasing_of, length_numbers}
 use Rattle.tree_file.proofs.PathLemmas.{each-append, each_weaker}
 use Rattle.tree_file.proofs.StepLemmas.{none_of_zeros, range_push, steps_all, word_in}
 use Rattle.tree_file.proofs.TreeBlockLemmas.{no_path}

@@ -1,13 +1,13 @@
 -- The data blocks of a new file, with their leaves, as parts of its list.
-use Rattle.std.proofs.Common.{◌≡◌, ◌≢◌, ℕ, zero, suc, ◌+◌, ◌-◌, ◌*◌, ◌/◌, ◌%◌, ◌<◌, ◌≤◌, min, Bool, true, false, cond, ◌==◌, List, [], ◌∷◌, ◌++◌, length, map, filter, find, take, drop, Option, Some, None, option_and_then, option_map, nat_cmp, refl, sym, ap, subst, ◌∙◌, ◌⊎◌, inl, inr, arith, length-take, length-drop, eq-eqb, ne_eqb, add-one}
+use Rattle.std.proofs.Common.{◌≡◌, ◌≢◌, ℕ, zero, suc, ◌+◌, ◌-◌, ◌*◌, ◌<◌, ◌≤◌, min, Bool, true, false, cond, ◌==◌, List, [], ◌∷◌, ◌++◌, length, map, filter, find, take, drop, Option, Some, None, option_and_then, option_map, nat_cmp, refl, sym, ap, subst, ◌∙◌, ◌⊎◌, inl, inr, arith, length-take, length-drop, eq-eqb, ne_eqb, add-one}
 use Rattle.std.proofs.Math.Seq.{take-add}
-use Rattle.std.proofs.lemmas.Bool.{cases_lt, cases_eq}
+use Rattle.std.proofs.lemmas.Bool.{cases_eq}
 use Rattle.std.proofs.lemmas.Bool.Decides.{eqb_tells}
-use Rattle.std.proofs.lemmas.List.{append-nil, length-map, map-append, take_all}
+use Rattle.std.proofs.lemmas.List.{append-nil, map-append, take_all}
 use Rattle.std.proofs.lemmas.List.Concat.{flat_map-append}
 use Rattle.std.proofs.lemmas.List.Elements.{filter-append}
 use Rattle.std.specs.Cmp.{nat_cmp_total, unsigned_tied}
-use Rattle.std.specs.FinMap.{get, get-from_entries, from_entries}
+use Rattle.std.specs.FinMap.{get, get-from_entries}
 use Rattle.std.specs.FinMap.Entries.{find as find_key}
 use Rattle.std.specs.List.{AllByRecursion, flat_map, range_with_len}
 use Rattle.quota_types.specs.declared.file_kind.Format.{Format}

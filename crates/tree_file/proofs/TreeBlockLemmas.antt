@@ -1,12 +1,10 @@
 -- A tree block that is filled reference by reference.
-use Rattle.std.proofs.Common.{◌≡◌, ◌≢◌, ℕ, zero, suc, ◌+◌, ◌-◌, ◌*◌, ◌/◌, ◌%◌, ◌<◌, ◌≤◌, Bool, false, IsTrue, List, [], ◌∷◌, ◌++◌, length, map, get_or, replicate, Option, Some, None, refl, sym, ap, subst, ◌∙◌, ◌⊎◌, inl, inr, arith}
-use Rattle.std.proofs.lemmas.Bool.{cases_lt, cases_eq, cases_Bool}
+use Rattle.std.proofs.Common.{◌≡◌, ◌≢◌, ℕ, zero, suc, ◌+◌, ◌*◌, ◌/◌, ◌%◌, ◌<◌, ◌≤◌, Bool, false, IsTrue, List, [], ◌∷◌, length, get_or, replicate, Option, refl, sym, ap, subst, ◌∙◌, ◌⊎◌, inl, inr, arith}
+use Rattle.std.proofs.lemmas.Bool.{cases_lt, cases_eq}
 use Rattle.std.proofs.lemmas.Bool.Decides.{nat_tests}
-use Rattle.std.proofs.lemmas.List.{get_or_past, get_or-replicate}
-use Rattle.std.specs.List.{AllByRecursion, cons_option, range_with_len}
+use Rattle.std.specs.List.{AllByRecursion, cons_option}
 use Rattle.std.specs.List.Sorted.{IsStrictlyIncreasing}
 use Rattle.quota_blocks.specs.Span.{KeepsOutside}
-use Rattle.quota_types.specs.Bytes.{byte_at, number_at}
 use Rattle.entry_codec.proofs.NumberLemmas.{number_at-zeros}
 use Rattle.tree_file.specs.declared.tree_path.TreePath.{TreePath}
 use Rattle.tree_file.specs.Block.{block_of}
@@ -16,7 +14,7 @@ use Rattle.tree_file.proofs.DataBlockLemmas.{number_same, zero_bytes}
 use Rattle.tree_file.proofs.LevelLemmas.{leads_below}
 use Rattle.tree_file.proofs.OrderLemmas.{Ascends, ascends_apart, ascends_of, each_at, each_both, each_of_places, length_numbers, number_at_place, rises_bound, rises_of}
 use Rattle.tree_file.proofs.PathLemmas.{Rises, each_weaker}
-use Rattle.tree_file.proofs.StepLemmas.{path_by, step_by, step_cases, steps_all, steps_from, word_in}
+use Rattle.tree_file.proofs.StepLemmas.{path_by, step_cases, steps_all, steps_from, word_in}
 
 -- a path in the place of one that is not there
 abbrev pub no_path : TreePath

@@ -1,5 +1,5 @@
 -- A file that was written block by block, from what each step says of it.
-use Rattle.std.proofs.Common.{◌≡◌, ◌≢◌, ℕ, zero, suc, ◌+◌, ◌-◌, ◌*◌, ◌/◌, ◌^◌, ◌<◌, ◌≤◌, Bool, cond, true, false, ◌==◌, IsTrue, List, [], ◌∷◌, ◌++◌, length, map, filter, find, take, drop, option_and_then, option_map, refl, sym, ap, subst, ◌∙◌, ◌⊎◌, inl, inr, arith, zero-le}
+use Rattle.std.proofs.Common.{◌≡◌, ◌≢◌, ℕ, zero, suc, ◌+◌, ◌*◌, ◌/◌, ◌^◌, ◌<◌, ◌≤◌, Bool, cond, true, false, ◌==◌, IsTrue, List, [], ◌∷◌, length, map, filter, find, take, option_and_then, option_map, refl, sym, ap, subst, ◌∙◌, arith}
 use Rattle.std.proofs.lemmas.Bool.Decides.{nat_tests}
 use Rattle.std.proofs.lemmas.List.{append-nil, get_or-take, length-map}
 use Rattle.std.specs.FinMap.{get}
@@ -10,15 +10,14 @@ use Rattle.quota_types.proofs.BytesLemmas.{number_at-take}
 use Rattle.quota_types.specs.declared.file_kind.Format.{Format}
 use Rattle.quota_types.specs.declared.file_kind.Format.TheVariants.{V1, V2R0, V2R1}
 use Rattle.quota_types.specs.declared.record.Entry.{Entry}
-use Rattle.entry_codec.specs.Entry.{entries_per_block}
-use Rattle.entry_codec.specs.Header.{AreOf, HeaderNumbers, format_of, header_of}
+use Rattle.entry_codec.specs.Header.{AreOf, format_of, header_of}
 use Rattle.entry_codec.specs.declared.header.Header.{Header}
 use Rattle.tree_file.specs.declared.tree_path.TreePath.{TreePath}
-use Rattle.tree_file.specs.Block.{block_of, word_at}
+use Rattle.tree_file.specs.Block.{block_of}
 use Rattle.tree_file.specs.Build.{HasNoPadding, HasOneRoom, ids_of, records_of, value_of}
 use Rattle.tree_file.specs.Entries.{used_entries}
 use Rattle.tree_file.specs.Levels.{blocks_of}
-use Rattle.tree_file.specs.NewFile.{AllLead, AreBelow, AreDataBlocks, AreSiblings, IsDataBlock, IsFullTreeBlock, IsLevel, KeepsBlocks, Part, leaves_in, numbers_of, parents_of, part_of, parts_needed, parts_of}
+use Rattle.tree_file.specs.NewFile.{AllLead, AreBelow, AreDataBlocks, AreSiblings, IsDataBlock, IsLevel, KeepsBlocks, Part, leaves_in, numbers_of, parents_of, part_of, parts_needed, parts_of}
 use Rattle.tree_file.specs.Roles.{Chained, OneRole}
 use Rattle.tree_file.specs.Size.{beginnings, blocks_needed, each_once}
 use Rattle.tree_file.specs.Tree.{leads, leaves, paths, steps}

@@ -1,4 +1,4 @@
-use Rattle.std.proofs.Common.{◌≡◌, ◌≢◌, ℕ, ◌+◌, ◌/◌, Bool, true, false, not, ◌==◌, get_or, Option, Some, None, refl, sym, ap, subst, ◌∙◌, arith, true≢false, eqb, eq-eqb, inl, inr}
+use Rattle.std.proofs.Common.{◌≡◌, ◌≢◌, ℕ, ◌+◌, ◌/◌, Bool, true, false, not, get_or, Option, Some, None, refl, sym, ap, subst, ◌∙◌, true≢false, eqb, eq-eqb, inl, inr}
 use Rattle.std.proofs.lemmas.Bool.Decides.{eqb_tells}
 use Rattle.std.specs.Option.{option_eq}
 use Rattle.tree_file.proofs.DataBlockLemmas.{no_entry}

@@ -1,4 +1,4 @@
-use Rattle.std.proofs.Common.{Bool, false, zero, suc, ◌==◌, true≢false, ◌≡◌, ◌+◌, ◌*◌, ◌≤◌, ◌++◌, ◌∙◌, min, length, List, ℕ, sym, ap, refl, arith}
+use Rattle.std.proofs.Common.{Bool, false, zero, suc, ◌==◌, true≢false, ◌≡◌, ◌+◌, ◌≤◌, ◌++◌, ◌∙◌, min, length, ℕ, sym, ap, arith}
 use Rattle.tree_file.specs.NewFile.{leaves_in}
 use Rattle.tree_file.proofs.DataAddedLemmas.{part_added}
 use Rattle.tree_file.proofs.new_data.add_data.Goals as goal

@@ -1,4 +1,4 @@
-use Rattle.std.proofs.Common.{◌≡◌, ℕ, ◌+◌, ◌^◌, ◌<◌, ◌++◌, ◌∷◌, [], ◌∙◌, List, take, get_or, sym, ap, subst, append_assoc, arith}
+use Rattle.std.proofs.Common.{ℕ, ◌^◌, ◌<◌, ◌++◌, ◌∷◌, [], ◌∙◌, List, take, get_or, sym, ap, subst, append_assoc}
 use Rattle.std.proofs.lemmas.List.{map_more}
 use Rattle.quota_types.specs.declared.record.Entry.{Entry}
 use Rattle.tree_file.specs.declared.tree_path.TreePath.{TreePath}

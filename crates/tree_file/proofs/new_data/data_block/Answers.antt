@@ -1,4 +1,4 @@
-use Rattle.std.proofs.Common.{◌≡◌, length, refl, arith}
+use Rattle.std.proofs.Common.{arith}
 use Rattle.tree_file.proofs.DataBlockLemmas.{filled_all, filled_more, filled_none}
 use Rattle.tree_file.proofs.new_data.data_block.Goals as goal
 

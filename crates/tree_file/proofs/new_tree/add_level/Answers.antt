@@ -1,8 +1,8 @@
-use Rattle.std.proofs.Common.{◌≡◌, ◌+◌, ◌*◌, ◌/◌, ◌≤◌, ◌<◌, ◌++◌, ◌∙◌, [], ◌∷◌, length, take, drop, List, ℕ, sym, ap, subst, refl, arith}
+use Rattle.std.proofs.Common.{◌≡◌, ◌/◌, ◌++◌, ◌∙◌, [], ◌∷◌, length, take, drop, List, ℕ, sym, ap, subst, arith}
 use Rattle.std.proofs.lemmas.List.{append-nil}
 use Rattle.tree_file.specs.declared.tree_path.TreePath.{TreePath}
 use Rattle.tree_file.specs.NewFile.{numbers_of}
-use Rattle.tree_file.proofs.LevelAddedLemmas.{AreParted, HasLevel, level_all, level_more, level_none, parted, parents_left, some_parent}
+use Rattle.tree_file.proofs.LevelAddedLemmas.{AreParted, HasLevel, level_all, level_more, level_none, parted}
 use Rattle.tree_file.proofs.OrderLemmas.{ascends_of}
 use Rattle.tree_file.proofs.TreeBlockLemmas.{no_path}
 use Rattle.tree_file.proofs.new_tree.add_level.Goals as goal
