@@ -7,6 +7,7 @@ pub mod DataAddedLemmas
 pub mod DataBlockLemmas
 pub mod DataLemmas
 pub mod DefectLemmas
+pub mod DescentLemmas
 pub mod DownLemmas
 pub mod EntryLemmas
 pub mod FlagsLemmas

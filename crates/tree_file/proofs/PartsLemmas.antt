@@ -135,7 +135,7 @@ ids_there format list first low (suc count) place from to =
     ]
 
 -- what is found in a joined list
-find_first : {X : Type 0} (test : X → Bool) (xs ys : List X) (x : X) → find test xs ≡ Some x → find test (xs ++ ys) ≡ Some x
+pub find_first : {X : Type 0} (test : X → Bool) (xs ys : List X) (x : X) → find test xs ≡ Some x → find test (xs ++ ys) ≡ Some x
 find_first test [] ys x found = absurd cc
 find_first {X} test (y ∷ xs) ys x found = elim (cases test y) [
   | inl passes ↦ ap (λ (b : Bool). cond b (Some y) (find test (xs ++ ys))) passes ∙ sym (ap (λ (b : Bool). cond b (Some y) (find test xs)) passes) ∙ found
@@ -146,7 +146,7 @@ find_first {X} test (y ∷ xs) ys x found = elim (cases test y) [
     cases : {X : Type 0} (test : X → Bool) (y : X) → (test y ≡ true) ⊎ (test y ≡ false)
     cases test y = elim (test y) as (λ (b : Bool). (b ≡ true) ⊎ (b ≡ false)) [ true ↦ inl refl | false ↦ inr refl ]
 
-find_later : {X : Type 0} (test : X → Bool) (xs ys : List X) → find test xs ≡ None → find test (xs ++ ys) ≡ find test ys
+pub find_later : {X : Type 0} (test : X → Bool) (xs ys : List X) → find test xs ≡ None → find test (xs ++ ys) ≡ find test ys
 find_later test [] ys none = refl
 find_later {X} test (y ∷ xs) ys none = elim (cases test y) [
   | inl passes ↦ absurd (let some : Some y ≡ None = sym (ap (λ (b : Bool). cond b (Some y) (find test xs)) passes) ∙ none in cc)

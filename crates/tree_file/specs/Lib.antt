@@ -6,6 +6,7 @@ pub mod Check
 pub mod Compared
 pub mod Count
 pub mod Defect
+pub mod Descent
 pub mod Entries
 pub mod Found
 pub mod Groups

@@ -1,7 +1,7 @@
 //! Tree quota files, vfsv0 and vfsv1: blocks of 1,024 bytes in a tree by which each identifier's entry is found.
 //!
-//! The one promise: a file that is checked stands for a map from identifiers to records, with every block in one role;
-//! and what is said to be wrong with a file is wrong with it.
+//! The one promise: a file that is checked or built stands for a map from identifiers to records, with every block in one
+//! role; and what is said to be wrong with a file is wrong with it.
 #![tactic(auto)]
 
 mod block;
