@@ -77,7 +77,7 @@ only_damaged before now tells file header (Err (Damaged damage)) is = λ named s
 only_damaged before now tells file header (Err Store) is = λ named same. absurd cc
 only_damaged before now tells file header (Err Memory) is = λ named same. absurd cc
 
-sound : (file : List ℕ) (header : Header) → AreOf header (header_of file) → 2 ≤ header.blocks → (2 < header.blocks → 1024 * header.blocks ≤ length file)
+pub sound : (file : List ℕ) (header : Header) → AreOf header (header_of file) → 2 ≤ header.blocks → (2 < header.blocks → 1024 * header.blocks ≤ length file)
     → OneRole file header.blocks header.free → Chained header.format file header.blocks header.first → Filled header.format file header.blocks
     → IsSound header.format file (header_of file)
 sound file header are two long roles chained filled = record {

@@ -30,7 +30,7 @@ use Rattle.tree_file.proofs.CountLemmas.{length_same_times, times-cons-same, tim
 use Rattle.tree_file.proofs.PathLemmas.{data_block_of_id, data_within, ids_distinct, times-data_blocks}
 
 -- as many identifiers lead to a block as paths come to it
-length_ids : (ps : List TreePath) (block : ℕ) → length (ids_at ps block) ≡ times (map (λ path. path.block) ps) block
+pub length_ids : (ps : List TreePath) (block : ℕ) → length (ids_at ps block) ≡ times (map (λ path. path.block) ps) block
 length_ids [] block = refl
 length_ids (p ∷ ps) block = elim (eqb_tells p.block block) [
   | inl same ↦

@@ -82,7 +82,7 @@ below_rising low high (p ∷ ps) n r stands = elim (times_cases p.number (map (�
         let rest = rising_bound (suc p.number) high ps r.1 in
         omega arith
 
-rising_steps : (file : List ℕ) (blocks : ℕ) (path : TreePath) (digit count : ℕ)
+pub rising_steps : (file : List ℕ) (blocks : ℕ) (path : TreePath) (digit count : ℕ)
     → Rises (256 * path.number + digit) (filter_map (step file blocks path) (range_with_len digit count)) (256 * path.number + (digit + count))
 rising_steps file blocks path digit zero = omega arith
 rising_steps file blocks path digit (suc count) =
@@ -99,7 +99,7 @@ pub Rises-steps : (file : List ℕ) (blocks : ℕ) (path : TreePath) → Rises (
 unfolding steps
 Rises-steps file blocks path = Rises_wider (256 * path.number + 0) (256 * path.number) _ (256 * path.number + (0 + 256)) (256 * suc path.number) (omega arith) (omega arith) (rising_steps file blocks path 0 256)
 
-Rises-flat_map : (file : List ℕ) (blocks low high : ℕ) (ps : List TreePath) → Rises low ps high → Rises (256 * low) (flat_map (steps file blocks) ps) (256 * high)
+pub Rises-flat_map : (file : List ℕ) (blocks low high : ℕ) (ps : List TreePath) → Rises low ps high → Rises (256 * low) (flat_map (steps file blocks) ps) (256 * high)
 Rises-flat_map file blocks low high [] r = omega arith
 Rises-flat_map file blocks low high (p ∷ ps) r =
     let from : low ≤ p.number = r.0 in

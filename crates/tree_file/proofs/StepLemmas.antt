@@ -60,7 +60,7 @@ steps_more words blocks path count low =
     zero_plus = omega arith
 
 -- a step by a digit is there or not
-step_cases : (words : ℕ → ℕ) (blocks : ℕ) (path : TreePath) (digit : ℕ)
+pub step_cases : (words : ℕ → ℕ) (blocks : ℕ) (path : TreePath) (digit : ℕ)
     → (IsTrue (leads blocks (words digit)) × (step_by words blocks path digit ≡ Some (path_by (words digit) path digit)))
     ⊎ ((leads blocks (words digit) ≡ false) × (step_by words blocks path digit ≡ None))
 step_cases words blocks path digit = elim (cases_Bool (leads blocks (words digit))) [

@@ -1,14 +1,17 @@
 pub mod Block
 pub mod BlockSet
+pub mod Build
 pub mod Chain
 pub mod Check
 pub mod Compared
 pub mod Count
 pub mod Defect
+pub mod Descent
 pub mod Entries
 pub mod Found
 pub mod Groups
 pub mod Levels
+pub mod NewFile
 pub mod Reads
 pub mod Roles
 pub mod Size
