@@ -6,3 +6,6 @@ pub mod NamedFilesLemmas
 pub mod OverwriteLemmas
 pub mod WorldLemmas
 pub mod ReplaceLemmas
+pub mod FrameLemmas
+pub mod UnsyncedLemmas
+pub mod TakenLemmas

@@ -6,7 +6,8 @@ use Rattle.std.proofs.Math.Seq.{take-add}
 use Rattle.std.proofs.lemmas.List.{take_all, drop_all}
 use Rattle.quota_blocks.specs.Replace.{replacement_name}
 use Rattle.quota_blocks.specs.World.{World, KeepsOthers, overwritten, with_bytes, with_file, with_new_name}
-use Rattle.quota_blocks.proofs.WorldLemmas.{bytes_eq-ne, with_file-at, with_file-again, KeepsOthers-with_file, KeepsOthers-then}
+use Rattle.quota_blocks.proofs.FrameLemmas.{keeps_others-then}
+use Rattle.quota_blocks.proofs.WorldLemmas.{bytes_eq-ne, with_file-at, with_file-again, KeepsOthers-with_file}
 
 -- a piece written behind the pieces before it
 overwritten-piece : (bytes : List ℕ) (at end : ℕ) → at ≤ end → end ≤ length bytes → overwritten (take at bytes) at (take (end - at) (drop at bytes)) ≡ take end bytes
@@ -39,16 +40,12 @@ KeepsOthers-changed files now name file is = subst (λ (f : World). KeepsOthers 
 -- all files but one stay where a call may have changed that one
 pub KeepsOthers-either : (files now new : World) (name : List ℕ) (file : Option (List ℕ)) → (new ≡ now) ⊎ (new ≡ with_file now name file) → KeepsOthers name files now → KeepsOthers name files new
 KeepsOthers-either files now new name file (inl same) kept = subst (λ (f : World). KeepsOthers name files f) (sym same) kept
-KeepsOthers-either files now new name file (inr changed) kept = KeepsOthers-then name files now new kept (KeepsOthers-changed now new name file changed)
+KeepsOthers-either files now new name file (inr changed) kept = keeps_others-then name files now new kept (KeepsOthers-changed now new name file changed)
 
 -- the added part makes another name
 pub replacement_name-ne : (name : List ℕ) → replacement_name name ≢ name
 unfolding replacement_name
 replacement_name-ne name same = omega (arith, ap length same, length-append name (codes ".new"))
-
--- the old file stays where only the new one was changed
-pub keeps_named : (name new_name : List ℕ) (old new : World) → KeepsOthers new_name old new → new_name ≡ replacement_name name → new name ≡ old name
-keeps_named name new_name old new kept is = kept name (λ same. replacement_name-ne name (sym (same ∙ is)))
 
 -- the new file in the place of the old one
 pub with_new_name-replaced : (files now : World) (from to bytes : List ℕ) → now ≡ with_file files from (Some bytes) → with_new_name now from to ≡ with_file (with_file files from None) to (Some bytes)

@@ -4,7 +4,7 @@ use Rattle.std.specs.Option.{option_map_or, unwrap_or}
 use Rattle.std.specs.Str.{bytes_eq}
 use Rattle.std.proofs.lemmas.Bool.{cases_Bool, cond-true, cond-false, false_from_ne_true}
 use Rattle.std.proofs.lemmas.Slice.Eq.{bytes_eq-Decides}
-use Rattle.quota_blocks.specs.World.{World, KeepsOthers, overwritten, with_bytes, with_file, with_new_name}
+use Rattle.quota_blocks.specs.World.{World, KeepsOthers, KeepsOtherTwo, overwritten, with_bytes, with_file, with_new_name}
 
 -- two worlds with the same file under each name
 pub same_world : (one other : World) → ((name : List ℕ) → one name ≡ other name) → one ≡ other
@@ -79,6 +79,11 @@ with_file-again files name one other = same_world _ _ (λ n. cond-again (bytes_e
 pub KeepsOthers-with_file : (files : World) (name : List ℕ) (file : Option (List ℕ)) → KeepsOthers name files (with_file files name file)
 KeepsOthers-with_file files name file other differ = cond-false _ _ _ (bytes_eq-ne name other (λ same. differ (sym same)))
 
--- all other files stay in two steps
-pub KeepsOthers-then : (name : List ℕ) (old between new : World) → KeepsOthers name old between → KeepsOthers name between new → KeepsOthers name old new
-KeepsOthers-then name old between new first second other differ = second other differ ∙ first other differ
+new_name-others : (files : World) (from to : List ℕ) (file : Option (List ℕ)) → KeepsOtherTwo from to files (option_map_or (λ (bytes : List ℕ). with_file (with_file files from None) to (Some bytes)) file files)
+new_name-others files from to None other differ differs = refl
+new_name-others files from to (Some bytes) other differ differs =
+    KeepsOthers-with_file (with_file files from None) to (Some bytes) other differs ∙ KeepsOthers-with_file files from None other differ
+
+-- all files but two stay where one is given another name
+pub with_new_name-others : (files : World) (from to : List ℕ) → KeepsOtherTwo from to files (with_new_name files from to)
+with_new_name-others files from to = new_name-others files from to (files from)

@@ -1,46 +1,71 @@
--- What is seen of a store and of a sink in memory.
-use Rattle.std.specs.Prelude.{ℕ, List}
+-- What is seen of the objects in memory.
+use Rattle.std.specs.Prelude.{ℕ, List, map, drop, Vec}
+use Rattle.std.specs.declared.alloc.Global.{Global}
 use Rattle.quota_blocks.specs.MemStore.{file_named}
-use Rattle.quota_blocks.specs.World.{World}
+use Rattle.quota_blocks.specs.NameSet.{names_in}
+use Rattle.quota_blocks.specs.Seen.{Datagram, LinkSeen, SinkSeen, SourceSeen, StoreSeen}
+use Rattle.quota_blocks.specs.declared.failures.Failures.{Failures}
+use Rattle.quota_blocks.specs.declared.mem_link.MemLink.{MemLink}
 use Rattle.quota_blocks.specs.declared.mem_sink.MemSink.{MemSink}
+use Rattle.quota_blocks.specs.declared.mem_source.MemSource.{MemSource}
 use Rattle.quota_blocks.specs.declared.mem_store.MemStore.{MemStore}
 
--- the files of a store, by the bytes of their names
-abbrev pub mem_store_files : MemStore → World
-mem_store_files store = file_named store.files.entries.items
+-- Which calls of an object in memory are to fail, by their numbers from 1, and how many calls there were, up to the last
+-- value of a counter of 64 bits.
+pub record Plan : Type 0 where
+  pub failing : List ℕ
+  pub calls : ℕ
 
--- how many calls of a store have failed, up to the last value of a counter of 64 bits
-abbrev pub mem_store_faults : MemStore → ℕ
-mem_store_faults store = store.failures.faults
+-- the plan of an object's failures
+abbrev pub plan_in : Failures → Plan
+plan_in failures = record { failing = failures.failing.items; calls = failures.calls }
 
--- how many calls of `read` there were, up to the last value of a counter of 64 bits
-abbrev pub mem_store_reads : MemStore → ℕ
-mem_store_reads store = store.reads
+-- a plan of which no call was made yet
+abbrev pub new_plan : List ℕ → Plan
+new_plan failing = record { failing = failing; calls = 0 }
 
--- how many calls of `write` there were, up to the last value of a counter of 64 bits
-abbrev pub mem_store_writes : MemStore → ℕ
-mem_store_writes store = store.writes
+abbrev pub mem_store_seen : MemStore → StoreSeen
+mem_store_seen store = record {
+  files = file_named store.files.entries.items;
+  unsynced = names_in store.unsynced.names.items;
+  faults = store.failures.faults;
+  reads = store.reads;
+  writes = store.writes;
+}
 
--- how many calls of a store there were in all, up to the last value of a counter of 64 bits
-abbrev pub mem_store_calls : MemStore → ℕ
-mem_store_calls store = store.failures.calls
+abbrev pub mem_store_plan : MemStore → Plan
+mem_store_plan store = plan_in store.failures
 
--- the numbers of the calls of a store that are to fail, counted from 1
-abbrev pub mem_store_failing : MemStore → List ℕ
-mem_store_failing store = store.failures.failing.items
+abbrev pub mem_sink_seen : MemSink → SinkSeen
+mem_sink_seen sink = record { written = sink.bytes.items; faults = sink.failures.faults }
 
--- the bytes that were written to a sink
-abbrev pub mem_sink_written : MemSink → List ℕ
-mem_sink_written sink = sink.bytes.items
+abbrev pub mem_sink_plan : MemSink → Plan
+mem_sink_plan sink = plan_in sink.failures
 
--- how many calls of a sink have failed, up to the last value of a counter of 64 bits
-abbrev pub mem_sink_faults : MemSink → ℕ
-mem_sink_faults sink = sink.failures.faults
+abbrev pub mem_source_seen : MemSource → SourceSeen
+mem_source_seen source = record { left = drop source.at source.bytes.items; faults = source.failures.faults }
 
--- how many calls of a sink there were, up to the last value of a counter of 64 bits
-abbrev pub mem_sink_calls : MemSink → ℕ
-mem_sink_calls sink = sink.failures.calls
+abbrev pub mem_source_plan : MemSource → Plan
+mem_source_plan source = plan_in source.failures
 
--- the numbers of the calls of a sink that are to fail, counted from 1
-abbrev pub mem_sink_failing : MemSink → List ℕ
-mem_sink_failing sink = sink.failures.failing.items
+-- a datagram as it was given, with its moment
+abbrev pub datagram_in : Vec ℕ Global × ℕ → Datagram
+datagram_in given = record { bytes = given.0.items; moment = given.1 }
+
+-- datagrams as they were given
+abbrev pub datagrams_of : List (Vec ℕ Global × ℕ) → List Datagram
+datagrams_of given = map datagram_in given
+
+-- answers as lists of bytes
+abbrev pub answers_in : List (Vec ℕ Global) → List (List ℕ)
+answers_in answers = map (λ (answer : Vec ℕ Global). answer.items) answers
+
+abbrev pub mem_link_seen : MemLink → LinkSeen
+mem_link_seen link = record {
+  left = drop link.taken (datagrams_of link.datagrams.items);
+  answers = answers_in link.answers.items;
+  faults = link.failures.faults;
+}
+
+abbrev pub mem_link_plan : MemLink → Plan
+mem_link_plan link = plan_in link.failures

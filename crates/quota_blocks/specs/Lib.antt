@@ -1,12 +1,17 @@
 pub mod Count
+pub mod FileChange
+pub mod Frame
 pub mod InMemory
 pub mod Load
 pub mod MemStore
+pub mod NameSet
 pub mod QuotaFile
 pub mod QuotaValue
 pub mod Replace
+pub mod Seen
 pub mod Span
 pub mod Text
+pub mod Unsynced
 pub mod World
 pub use Rattle.quota_types.specs.Bytes
 pub use Rattle.quota_types.specs.Kept

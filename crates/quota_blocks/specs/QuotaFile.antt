@@ -1,9 +1,27 @@
--- Why a call on an opened quota file may be refused.
-use Rattle.std.specs.Prelude.{ℕ, Bool, true, false, ⊤}
-use Rattle.quota_blocks.specs.Count.{Rose}
+-- What is seen of an opened quota file, and why a call on it may be refused.
+use Rattle.std.specs.Prelude.{◌≡◌, ℕ, Bool, true, false, List, ⊤}
+use Rattle.quota_types.specs.declared.file_kind.Format.{Format}
+use Rattle.quota_blocks.specs.Count.{Rose, counted}
 use Rattle.quota_blocks.specs.QuotaValue.{QuotaValue}
 use Rattle.quota_blocks.specs.declared.quota_file.FileFault.{FileFault}
 use Rattle.quota_blocks.specs.declared.quota_file.FileFault.TheVariants.{Store, Damage, Full, Memory}
+
+-- An opened quota file: its name, its format, whether it may still be used, how many blocks it may have (0 where its
+-- format has none), and how many of its calls were refused, up to the last value of a counter of 64 bits.
+pub record FileSeen : Type 0 where
+  pub name : List ℕ
+  pub format : Format
+  pub usable : Bool
+  pub limit : ℕ
+  pub refusals : ℕ
+
+-- A refused call counts once, and leaves the name, the format and the limit; it tells whether the file may still be used.
+pub record CountsRefusal (still_usable : Bool) (old new : FileSeen) : Type 0 where
+  pub name : new.name ≡ old.name
+  pub format : new.format ≡ old.format
+  pub limit : new.limit ≡ old.limit
+  pub usable : new.usable ≡ still_usable
+  pub once : new.refusals ≡ counted old.refusals
 
 -- A lookup is refused where the store's count of faults rose, or where the opened file with its store holds no value.
 -- It needs no room and takes no memory.
@@ -34,6 +52,13 @@ OnWant Store P = ⊤
 OnWant (Damage _) P = ⊤
 OnWant (Full _ _) P = P
 OnWant Memory P = P
+
+-- a fact where the store failed
+abbrev pub OnStore : FileFault → Type 0 → Type 0
+OnStore Store P = P
+OnStore (Damage _) P = ⊤
+OnStore (Full _ _) P = ⊤
+OnStore Memory P = ⊤
 
 -- the store failed
 abbrev pub is_store_fault : FileFault → Bool

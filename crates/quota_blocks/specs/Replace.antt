@@ -1,7 +1,7 @@
 -- A file that is written under another name first, and then takes the place of the old one.
-use Rattle.std.specs.Prelude.{◌≡◌, ◌≢◌, ℕ, List, ◌++◌, codes, ⊤}
+use Rattle.std.specs.Prelude.{ℕ, List, ◌++◌, None, Some, codes, ⊤}
 use Rattle.quota_blocks.specs.Count.{Rose}
-use Rattle.quota_blocks.specs.World.{World}
+use Rattle.quota_blocks.specs.World.{KeepsOtherTwo, World, with_file}
 use Rattle.quota_blocks.specs.declared.replacement.ReplaceFault.{ReplaceFault}
 use Rattle.quota_blocks.specs.declared.replacement.ReplaceFault.TheVariants.{Store, Full, Memory}
 
@@ -9,9 +9,13 @@ use Rattle.quota_blocks.specs.declared.replacement.ReplaceFault.TheVariants.{Sto
 unfoldable pub replacement_name : List ℕ → List ℕ
 replacement_name name = name ++ codes ".new"
 
--- all files are as before but the one of this name, and the one under which a new one is written
-abbrev pub ReplacesOnly : List ℕ → World → World → Type 0
-ReplacesOnly name old new = (other : List ℕ) → other ≢ name → other ≢ replacement_name name → new other ≡ old other
+-- the files once the one of this name was replaced by these bytes, with none left under the name of the new file
+abbrev pub replaced_files : World → List ℕ → List ℕ → World
+replaced_files files name bytes = with_file (with_file files (replacement_name name) None) name (Some bytes)
+
+-- what each name has is as before, but for this name, and the one under which a new file is written
+abbrev pub ReplacesOnly : {T : Type 0} → List ℕ → (List ℕ → T) → (List ℕ → T) → Type 0
+ReplacesOnly name = KeepsOtherTwo name (replacement_name name)
 
 -- A replacement by given bytes is refused where the store's count of faults rose, or memory was wanting. It needs no
 -- room in blocks.

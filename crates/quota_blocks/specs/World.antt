@@ -30,6 +30,10 @@ abbrev pub with_new_name : World → List ℕ → List ℕ → World
 with_new_name files from to =
     option_map_or (λ (bytes : List ℕ). with_file (with_file files from None) to (Some bytes)) (files from) files
 
--- all files are as before but the one of this name
-abbrev pub KeepsOthers : List ℕ → World → World → Type 0
+-- what each name but this one has is as before
+abbrev pub KeepsOthers : {T : Type 0} → List ℕ → (List ℕ → T) → (List ℕ → T) → Type 0
 KeepsOthers name old new = (other : List ℕ) → other ≢ name → new other ≡ old other
+
+-- what each name but these two has is as before
+abbrev pub KeepsOtherTwo : {T : Type 0} → (one two : List ℕ) → (List ℕ → T) → (List ℕ → T) → Type 0
+KeepsOtherTwo one two old new = (other : List ℕ) → other ≢ one → other ≢ two → new other ≡ old other

@@ -1,9 +1,10 @@
 //! What a quota program meets outside itself, and how it sees an opened quota file.
 //!
-//! A `Store` holds named files, and a `Sink` takes text. Each has a count of faults that never falls, and may tell
-//! its contents: an object in memory does, and an adapter over the real thing does not. `load` reads a whole file and
-//! `replace` puts one in the place of another, `TextBuffer` gathers text in front of a sink, and `QuotaFile` is what
-//! every format of quota file offers. `le16` to `set_le64` read and write the numbers in a block.
+//! A `Store` holds named files, a `Source` gives bytes, a `Sink` takes text, and a `Link` gives datagrams and takes
+//! answers. Each has a count of faults that never falls, and may tell its contents: an object in memory does, and an
+//! adapter over the real thing does not. `load` reads a whole file and `replace` puts one in the place of another,
+//! `TextBuffer` gathers text in front of a sink, and `QuotaFile` is what every format of quota file offers. `le16` to
+//! `set_le64` read and write the numbers in a block.
 //!
 //! The one promise: every answer has a cause that the caller can see, and what is told of the outside stays in step
 //! with what was done.
@@ -11,12 +12,17 @@
 
 mod block_number;
 mod failures;
+mod link;
+mod mem_link;
 mod mem_sink;
+mod mem_source;
 mod mem_store;
+mod name_set;
 mod named_files;
 mod quota_file;
 mod replacement;
 mod sink;
+mod source;
 mod store;
 #[cfg(test)]
 mod tests;
@@ -24,11 +30,15 @@ mod text_buffer;
 mod whole_file;
 
 pub use block_number::{le16, le32, le64, set_le16, set_le32, set_le64};
+pub use link::{Got, Link, LinkFault};
+pub use mem_link::MemLink;
 pub use mem_sink::MemSink;
+pub use mem_source::MemSource;
 pub use mem_store::MemStore;
 pub use quota_file::{FileFault, OpenFault, QuotaFile};
 pub use replacement::{ReplaceFault, replace};
 pub use sink::{Sink, SinkFault};
+pub use source::{Source, SourceFault};
 pub use store::{Store, StoreFault};
 pub use text_buffer::TextBuffer;
 pub use whole_file::{LoadFault, load};

@@ -1,6 +1,6 @@
-ghost use Rattle.std.specs.Prelude.{◌≡◌, ◌≤◌, ◌++◌, true, Contains, IsErr, OnOk, OnErr};
+ghost use Rattle.std.specs.Prelude.{◌≡◌, ◌≤◌, ◌++◌, Contains, IsErr, OnOk, OnErr};
 ghost use Rattle.quota_blocks.specs.Count.{Rose, counted};
-ghost use Rattle.quota_blocks.specs.InMemory.{mem_sink_calls, mem_sink_failing, mem_sink_faults, mem_sink_written};
+ghost use Rattle.quota_blocks.specs.InMemory.{mem_sink_plan, mem_sink_seen, new_plan};
 
 use crate::failures::Failures;
 use crate::{Sink, SinkFault};
@@ -13,13 +13,10 @@ pub struct MemSink {
 }
 
 impl MemSink {
-    /// A sink that `bytes` were written to already, whose calls fail that `failing` names, counted from 1.
+    /// A sink that `bytes` were written to already. The calls whose numbers, from 1 on, stand in `failing` fail.
     pub fn new(bytes: Vec<u8>, failing: Vec<u64>) -> Self
-        ensures bytes { ⟦<MemSink as Sink>⟧.written result ≡ bytes.items }
-        ensures told { ⟦<MemSink as Sink>⟧.tells result ≡ true }
-        ensures faults { ⟦<MemSink as Sink>⟧.faults result ≡ 0 }
-        ensures failing { mem_sink_failing result ≡ failing.items }
-        ensures calls { mem_sink_calls result ≡ 0 }
+        ensures seen { ⟦<MemSink as Sink>⟧.seen result ≡ record { written = bytes.items; faults = 0 } }
+        ensures plan { mem_sink_plan result ≡ new_plan failing.items }
     {
         MemSink {
             bytes,
@@ -29,27 +26,28 @@ impl MemSink {
 
     /// The bytes written so far, those of `new` first.
     pub fn bytes(&self) -> &[u8]
-        ensures { result.now ≡ ⟦<MemSink as Sink>⟧.written self.now }
+        ensures { result.now ≡ (⟦<MemSink as Sink>⟧.seen self.now).written }
     {
         &self.bytes
     }
 }
 
 impl Sink for MemSink {
-    ghost tells = { λ _. true };
+    ghost use Rattle.std.specs.Prelude.{true};
 
-    ghost written = { mem_sink_written };
+    ghost tells = { true };
 
-    ghost faults = { mem_sink_faults };
+    ghost seen = { mem_sink_seen };
 
     fn write(&mut self, bytes: &[u8]) -> Result<(), SinkFault>
-        ensures planned { Contains (mem_sink_failing self.old) (counted (mem_sink_calls self.old)) → IsErr result }
-        ensures ok { OnOk result (mem_sink_written self.new ≡ mem_sink_written self.old ++ bytes.now) }
-        ensures fault { OnErr result (mem_sink_written self.new ≡ mem_sink_written self.old) }
-        ensures failing { mem_sink_failing self.new ≡ mem_sink_failing self.old }
-        ensures calls { mem_sink_calls self.new ≡ counted (mem_sink_calls self.old) }
-        ensures cause { OnErr result (Rose (mem_sink_faults self.old) (mem_sink_faults self.new)) }
-        ensures later { mem_sink_faults self.old ≤ mem_sink_faults self.new }
+        ensures planned { Contains (mem_sink_plan self.old).failing (counted (mem_sink_plan self.old).calls)
+            → IsErr result }
+        ensures plan { mem_sink_plan self.new
+            ≡ record (mem_sink_plan self.old) { calls = counted (mem_sink_plan self.old).calls } }
+        ensures ok { OnOk result ((mem_sink_seen self.new).written ≡ (mem_sink_seen self.old).written ++ bytes.now) }
+        ensures fault { OnErr result ((mem_sink_seen self.new).written ≡ (mem_sink_seen self.old).written) }
+        ensures cause { OnErr result (Rose (mem_sink_seen self.old).faults (mem_sink_seen self.new).faults) }
+        ensures later { (mem_sink_seen self.old).faults ≤ (mem_sink_seen self.new).faults }
     {
         if self.failures.next_fails() {
             return Err(SinkFault);

@@ -1,12 +1,15 @@
-ghost use Rattle.std.specs.Prelude.{◌≡◌, ◌<◌, ◌≤◌, ◌↔◌, ℕ, Bool, List, None, not, IsTrue, IsSome, IfOk, IfErr, IfSome, OnOk, OnErr};
+ghost use Rattle.std.specs.Prelude.{◌≡◌, ◌^◌, ◌<◌, ◌≤◌, ◌+◌, ℕ, List, Option, None, true, not, IsTrue, IsSome, IfOk, IfErr, IfSome, OnOk, OnErr};
 ghost use Rattle.std.specs.FinMap.{get};
 ghost use Rattle.quota_types.specs.declared.file_kind.Format.{Format};
-ghost use Rattle.quota_types.specs.Kept.{kept_of};
-ghost use Rattle.quota_types.specs.Range.{grace_unfit, unfit};
+ghost use Rattle.quota_types.specs.Kept.{IsKept};
+ghost use Rattle.quota_types.specs.Range.{grace_unfit};
 ghost use Rattle.quota_types.specs.Rec.{IsNull};
+ghost use Rattle.quota_blocks.specs.FileChange.{FileChange, IsLeft, Put, Remove, SetGrace};
+ghost use Rattle.quota_blocks.specs.Frame.{IsSynced, OnlyReads, ReplacesOne};
+ghost use Rattle.quota_blocks.specs.QuotaFile.{CountsRefusal, FileSeen, IfFull, IsChangeFault, IsLookupFault, OnStore, OnWant, is_store_fault};
 ghost use Rattle.quota_blocks.specs.QuotaValue.{QuotaValue, IsAfter, IsNextAfter, with_grace, with_record, without_record};
-ghost use Rattle.quota_blocks.specs.QuotaFile.{IfFull, IsChangeFault, IsLookupFault, OnWant, is_store_fault};
-ghost use Rattle.quota_blocks.specs.Replace.{ReplacesOnly};
+ghost use Rattle.quota_blocks.specs.Unsynced.{AddsNone};
+ghost use Rattle.quota_blocks.specs.World.{World};
 ghost use Rattle.quota_blocks.specs.declared.quota_file.FileFault.{FileFault};
 
 use crate::Store;
@@ -67,182 +70,207 @@ pub enum OpenFault {
 ///
 /// What a change needs of memory is taken from the allocator that the opened file keeps. After a change for which there
 /// is no room, or no memory, nothing has changed. After one in which the store failed the opened file is not used again.
-/// What the named file holds then rests on how the type writes, which `replaces` says: a type that writes the whole file
-/// anew and then renames it leaves the old one, and one that writes in place may have written some blocks.
+/// What the named file is left as then rests on how the type writes, which `may_leave` says: a type that writes the whole
+/// file anew and then renames it leaves the old one, and one that writes in place may have written some blocks.
+///
+/// No refusal is lost: `seen` has a count of them, which each refused call raises and no other call changes.
 pub trait QuotaFile<S: Store> {
     /// The opened file with the store holds this value: the store tells its files, the named file stands for the
     /// value, and what the opened file keeps agrees with that file.
     ghost holds: { Self → S → QuotaValue → Type 0 };
 
-    /// Whether the opened file may still be used.
-    ghost is_usable: { Self → Bool };
+    /// Its name, its format, whether it may still be used, how many blocks it may have, and how many calls were refused.
+    ghost seen: { Self → FileSeen };
 
-    /// The file's format, whatever the store tells.
-    ghost format_of: { Self → Format };
+    /// The faults that a call on a file of this format may answer, whatever the store tells.
+    ghost may_refuse: { Format → FileFault → Type 0 };
 
-    /// The bytes of the file's name.
-    ghost name_of: { Self → List ℕ };
+    /// The named file, as it is, has no room for the value: it would need so many blocks, and may have only so many.
+    ghost lacks_room: { FileSeen → Option (List ℕ) → QuotaValue → ℕ → ℕ → Type 0 };
 
-    /// The opened file with the store has no room for this value: it would need so many blocks, and may have only so
-    /// many.
-    ghost lacks_room: { Self → S → QuotaValue → ℕ → ℕ → Type 0 };
+    /// What a change of the file of this name makes of the files, as far as the format says more than which value the
+    /// file stands for.
+    ghost makes: { FileChange → List ℕ → World → World → Type 0 };
 
-    /// Whether a change writes the whole file anew under another name first, so that one that fails leaves the named
-    /// file as it was.
-    ghost replaces: { Self → Bool };
+    /// What a change that failed may leave the file as, between the bytes before and those that it would have made.
+    ghost may_leave: { Format → Option (List ℕ) → Option (List ℕ) → Option (List ℕ) → Type 0 };
 
-    /// The faults that a call on the opened file may answer, whatever the store tells.
-    ghost may_refuse: { Self → FileFault → Type 0 };
+    /// How many calls of `read` one call of `get` makes at most.
+    ghost get_reads: { Format → ℕ };
 
-    /// The file's format.
+    /// How many calls of `read` one call of `next_after` makes at most, on a file of these bytes.
+    ghost next_reads: { FileSeen → Option (List ℕ) → ℕ };
+
+    /// The format of the file.
     fn format(&self) -> Format
-        ensures kept { result ≡ format_of self.now }
+        ensures kept { result ≡ (seen self.now).format }
         ensures value { (store : S) (value : QuotaValue) → holds self.now store value → result ≡ value.format };
 
     /// Whether the opened file may still be used. It may not after a change that failed: open it again then.
     fn usable(&self) -> bool
-        ensures { result ≡ is_usable self.now };
+        ensures { result ≡ (seen self.now).usable };
 
     /// The grace periods. Whatever the store tells, the format has room for them.
     fn grace(&self) -> Grace
         ensures value { (store : S) (value : QuotaValue) → holds self.now store value → result ≡ value.grace }
-        ensures fits { grace_unfit (format_of self.now) result ≡ None };
+        ensures fits { grace_unfit (seen self.now).format result ≡ None };
 
-    /// The record of an identifier, or `None` where it has none.
+    /// The record of an identifier, or `None` where it has none. Whatever the store tells, the format has room for the
+    /// record, and keeps it as it is.
+    ///
+    /// # Errors
+    ///
+    /// The store failed, or the file is damaged.
     fn get(&mut self, store: &mut S, id: u32) -> Result<Option<Rec>, FileFault>
-        requires { IsTrue (is_usable self.old) }
+        requires { IsTrue (seen self.old).usable }
         ensures found { IfOk result (λ found. (value : QuotaValue) → holds self.old store.old value
             → found ≡ get value.records id) }
-        ensures refused { IfErr result (IsLookupFault (S.faults store.old) (S.faults store.new) (holds self.old store.old)) }
-        ensures may { IfErr result (may_refuse self.old) }
+        ensures kept { IfOk result (λ found. IfSome found (IsKept (seen self.old).format id)) }
+        ensures refused { IfErr result (IsLookupFault (S.seen store.old).faults (S.seen store.new).faults
+            (holds self.old store.old)) }
+        ensures may { IfErr result (may_refuse (seen self.old).format) }
         ensures stays { (value : QuotaValue) → holds self.old store.old value → holds self.new store.new value }
-        ensures same_name { name_of self.new ≡ name_of self.old }
-        ensures same_format { format_of self.new ≡ format_of self.old }
-        ensures same_way { replaces self.new ≡ replaces self.old }
-        ensures same_faults { (fault : FileFault) → may_refuse self.new fault → may_refuse self.old fault }
-        ensures usable { is_usable self.new ≡ is_usable self.old }
-        ensures same_room { (held value : QuotaValue) (blocks limit : ℕ) → holds self.old store.old held
-            → lacks_room self.new store.new value blocks limit ↔ lacks_room self.old store.old value blocks limit }
-        ensures later { S.faults store.old ≤ S.faults store.new }
-        ensures writes { S.writes store.new ≡ S.writes store.old }
-        ensures same_files { S.files store.new ≡ S.files store.old }
-        ensures same_telling { S.tells store.new ≡ S.tells store.old };
+        ensures leaves { OnlyReads (seen self.old).name (S.seen store.old) (S.seen store.new) }
+        ensures synced { OnOk result (AddsNone (S.seen store.old).unsynced (S.seen store.new).unsynced) }
+        ensures reads { (S.seen store.new).reads ≤ (S.seen store.old).reads + get_reads (seen self.old).format }
+        ensures same { OnOk result (seen self.new ≡ seen self.old) }
+        ensures counted { OnErr result (CountsRefusal true (seen self.old) (seen self.new)) };
 
     /// The least identifier after another one, or the least of all, with its record; `None` where there is none.
-    /// Whatever the store tells, an identifier that is answered comes after the one that was given.
+    /// Whatever the store tells, an identifier that is answered comes after the one that was given and is below 2^32,
+    /// and the format has room for its record, and keeps it as it is.
+    ///
+    /// # Errors
+    ///
+    /// The store failed, or the file is damaged.
     fn next_after(&mut self, store: &mut S, after: Option<u32>) -> Result<Option<Entry>, FileFault>
-        requires { IsTrue (is_usable self.old) }
+        requires { IsTrue (seen self.old).usable }
         ensures found { IfOk result (λ found. (value : QuotaValue) → holds self.old store.old value
             → IsNextAfter after value.records found) }
         ensures ascends { IfOk result (λ found. IfSome found (λ entry. IsAfter after entry.id)) }
-        ensures refused { IfErr result (IsLookupFault (S.faults store.old) (S.faults store.new) (holds self.old store.old)) }
-        ensures may { IfErr result (may_refuse self.old) }
+        ensures narrow { IfOk result (λ found. IfSome found (λ entry. entry.id < 2 ^ 32)) }
+        ensures kept { IfOk result (λ found. IfSome found (λ entry. IsKept (seen self.old).format entry.id entry.rec)) }
+        ensures refused { IfErr result (IsLookupFault (S.seen store.old).faults (S.seen store.new).faults
+            (holds self.old store.old)) }
+        ensures may { IfErr result (may_refuse (seen self.old).format) }
         ensures stays { (value : QuotaValue) → holds self.old store.old value → holds self.new store.new value }
-        ensures same_name { name_of self.new ≡ name_of self.old }
-        ensures same_format { format_of self.new ≡ format_of self.old }
-        ensures same_way { replaces self.new ≡ replaces self.old }
-        ensures same_faults { (fault : FileFault) → may_refuse self.new fault → may_refuse self.old fault }
-        ensures usable { is_usable self.new ≡ is_usable self.old }
-        ensures later { S.faults store.old ≤ S.faults store.new }
-        ensures writes { S.writes store.new ≡ S.writes store.old }
-        ensures same_files { S.files store.new ≡ S.files store.old }
-        ensures same_telling { S.tells store.new ≡ S.tells store.old };
+        ensures leaves { OnlyReads (seen self.old).name (S.seen store.old) (S.seen store.new) }
+        ensures synced { OnOk result (AddsNone (S.seen store.old).unsynced (S.seen store.new).unsynced) }
+        ensures reads { (S.seen store.new).reads
+            ≤ (S.seen store.old).reads + next_reads (seen self.old) ((S.seen store.old).files (seen self.old).name) }
+        ensures same { OnOk result (seen self.new ≡ seen self.old) }
+        ensures counted { OnErr result (CountsRefusal true (seen self.old) (seen self.new)) };
 
     /// Gives an identifier this record, in place of the one that it may have. All other records stay. The record limits
-    /// or counts something, and the format keeps it as it is.
+    /// or counts something, and the format keeps it as it is. What was written is synced then.
+    ///
+    /// # Errors
+    ///
+    /// The store failed, the file is damaged or full, or there is not enough memory.
     fn put(&mut self, store: &mut S, id: u32, rec: Rec) -> Result<(), FileFault>
-        requires usable { IsTrue (is_usable self.old) }
+        requires usable { IsTrue (seen self.old).usable }
         requires not_null { ¬ (IsNull rec) }
-        requires fits { unfit (format_of self.old) id rec ≡ None }
-        requires kept { kept_of (format_of self.old) id rec ≡ rec }
+        requires kept { IsKept (seen self.old).format id rec }
         ensures put { OnOk result ((value : QuotaValue) → holds self.old store.old value
             → holds self.new store.new (with_record value id rec)) }
+        ensures makes { OnOk result ((value : QuotaValue) → holds self.old store.old value
+            → makes (Put id rec) (seen self.old).name (S.seen store.old).files (S.seen store.new).files) }
         ensures room { OnOk result ((value : QuotaValue) (blocks limit : ℕ) → holds self.old store.old value
-            → ¬ (lacks_room self.old store.old (with_record value id rec) blocks limit)) }
-        ensures refused { IfErr result (IsChangeFault (S.faults store.old) (S.faults store.new) (holds self.old store.old)
-            (λ blocks limit. (value : QuotaValue) → holds self.old store.old value
-            → lacks_room self.old store.old (with_record value id rec) blocks limit)) }
-        ensures may { IfErr result (may_refuse self.old) }
+            → ¬ (lacks_room (seen self.old) ((S.seen store.old).files (seen self.old).name) (with_record value id rec) blocks limit)) }
         ensures passes { IfErr result (λ fault. IfFull fault (λ blocks limit. limit < blocks)) }
+        ensures refused { IfErr result (IsChangeFault (S.seen store.old).faults (S.seen store.new).faults
+            (holds self.old store.old) (λ blocks limit. (value : QuotaValue) → holds self.old store.old value
+            → lacks_room (seen self.old) ((S.seen store.old).files (seen self.old).name) (with_record value id rec) blocks limit)) }
+        ensures may { IfErr result (may_refuse (seen self.old).format) }
         ensures stays { IfErr result (λ fault. OnWant fault ((value : QuotaValue) → holds self.old store.old value
             → holds self.new store.new value)) }
-        ensures same_files { IfErr result (λ fault. OnWant fault (S.files store.new ≡ S.files store.old)) }
-        ensures writes { IfErr result (λ fault. OnWant fault (S.writes store.new ≡ S.writes store.old)) }
-        ensures unchanged { OnErr result (IsTrue (S.tells store.old) → IsTrue (replaces self.old)
-            → S.files store.new (name_of self.old) ≡ S.files store.old (name_of self.old)) }
-        ensures others { IsTrue (S.tells store.old)
-            → ReplacesOnly (name_of self.old) (S.files store.old) (S.files store.new) }
-        ensures usable { OnOk result (is_usable self.new ≡ is_usable self.old) }
-        ensures unusable { IfErr result (λ fault. is_usable self.new ≡ not (is_store_fault fault)) }
-        ensures same_name { name_of self.new ≡ name_of self.old }
-        ensures same_format { format_of self.new ≡ format_of self.old }
-        ensures same_way { replaces self.new ≡ replaces self.old }
-        ensures same_faults { (fault : FileFault) → may_refuse self.new fault → may_refuse self.old fault }
-        ensures later { S.faults store.old ≤ S.faults store.new }
-        ensures same_telling { S.tells store.new ≡ S.tells store.old };
+        ensures unwritten { IfErr result (λ fault. OnWant fault
+            (OnlyReads (seen self.old).name (S.seen store.old) (S.seen store.new))) }
+        ensures left { IfErr result (λ fault. OnStore fault ((value : QuotaValue) → holds self.old store.old value
+            → IsLeft (makes (Put id rec) (seen self.old).name) (may_leave (seen self.old).format) (seen self.old).name
+            (S.seen store.old).files (S.seen store.new).files)) }
+        ensures between { OnErr result (IsTrue S.tells → (after : Option (List ℕ))
+            × may_leave (seen self.old).format ((S.seen store.old).files (seen self.old).name) after
+            ((S.seen store.new).files (seen self.old).name)) }
+        ensures leaves { ReplacesOne (seen self.old).name (S.seen store.old) (S.seen store.new) }
+        ensures synced { OnOk result (IsTrue S.tells
+            → IsSynced (seen self.old).name (S.seen store.old) (S.seen store.new)) }
+        ensures same { OnOk result (seen self.new ≡ seen self.old) }
+        ensures counted { IfErr result (λ fault. CountsRefusal (not (is_store_fault fault)) (seen self.old) (seen self.new)) };
 
-    /// Takes an identifier's record away. All other records stay. Where it has none nothing changes.
+    /// Takes an identifier's record away. All other records stay. Where it has none nothing changes. What was written
+    /// is synced then.
+    ///
+    /// # Errors
+    ///
+    /// The store failed, the file is damaged or full, or there is not enough memory.
     fn remove(&mut self, store: &mut S, id: u32) -> Result<(), FileFault>
-        requires { IsTrue (is_usable self.old) }
+        requires { IsTrue (seen self.old).usable }
         ensures removed { OnOk result ((value : QuotaValue) → holds self.old store.old value
             → holds self.new store.new (without_record value id)) }
-        ensures room { OnOk result ((value : QuotaValue) (blocks limit : ℕ) → holds self.old store.old value
-            → ¬ (lacks_room self.old store.old (without_record value id) blocks limit)) }
         ensures absent { (value : QuotaValue) → holds self.old store.old value → get value.records id ≡ None
-            → S.files store.new ≡ S.files store.old }
-        ensures absent_writes { (value : QuotaValue) → holds self.old store.old value → get value.records id ≡ None
-            → S.writes store.new ≡ S.writes store.old }
-        ensures refused { IfErr result (IsChangeFault (S.faults store.old) (S.faults store.new) (holds self.old store.old)
-            (λ blocks limit. (value : QuotaValue) → holds self.old store.old value
-            → lacks_room self.old store.old (without_record value id) blocks limit)) }
-        ensures present { IfErr result (λ fault. IfFull fault (λ _ _. (value : QuotaValue) → holds self.old store.old value
-            → IsSome (get value.records id))) }
-        ensures may { IfErr result (may_refuse self.old) }
+            → OnlyReads (seen self.old).name (S.seen store.old) (S.seen store.new) }
+        ensures present { IfErr result (λ fault. IfFull fault (λ _ _. (value : QuotaValue)
+            → holds self.old store.old value → IsSome (get value.records id))) }
+        ensures makes { OnOk result ((value : QuotaValue) → holds self.old store.old value
+            → makes (Remove id) (seen self.old).name (S.seen store.old).files (S.seen store.new).files) }
+        ensures room { OnOk result ((value : QuotaValue) (blocks limit : ℕ) → holds self.old store.old value
+            → ¬ (lacks_room (seen self.old) ((S.seen store.old).files (seen self.old).name) (without_record value id) blocks limit)) }
         ensures passes { IfErr result (λ fault. IfFull fault (λ blocks limit. limit < blocks)) }
+        ensures refused { IfErr result (IsChangeFault (S.seen store.old).faults (S.seen store.new).faults
+            (holds self.old store.old) (λ blocks limit. (value : QuotaValue) → holds self.old store.old value
+            → lacks_room (seen self.old) ((S.seen store.old).files (seen self.old).name) (without_record value id) blocks limit)) }
+        ensures may { IfErr result (may_refuse (seen self.old).format) }
         ensures stays { IfErr result (λ fault. OnWant fault ((value : QuotaValue) → holds self.old store.old value
             → holds self.new store.new value)) }
-        ensures same_files { IfErr result (λ fault. OnWant fault (S.files store.new ≡ S.files store.old)) }
-        ensures writes { IfErr result (λ fault. OnWant fault (S.writes store.new ≡ S.writes store.old)) }
-        ensures unchanged { OnErr result (IsTrue (S.tells store.old) → IsTrue (replaces self.old)
-            → S.files store.new (name_of self.old) ≡ S.files store.old (name_of self.old)) }
-        ensures others { IsTrue (S.tells store.old)
-            → ReplacesOnly (name_of self.old) (S.files store.old) (S.files store.new) }
-        ensures usable { OnOk result (is_usable self.new ≡ is_usable self.old) }
-        ensures unusable { IfErr result (λ fault. is_usable self.new ≡ not (is_store_fault fault)) }
-        ensures same_name { name_of self.new ≡ name_of self.old }
-        ensures same_format { format_of self.new ≡ format_of self.old }
-        ensures same_way { replaces self.new ≡ replaces self.old }
-        ensures same_faults { (fault : FileFault) → may_refuse self.new fault → may_refuse self.old fault }
-        ensures later { S.faults store.old ≤ S.faults store.new }
-        ensures same_telling { S.tells store.new ≡ S.tells store.old };
+        ensures unwritten { IfErr result (λ fault. OnWant fault
+            (OnlyReads (seen self.old).name (S.seen store.old) (S.seen store.new))) }
+        ensures left { IfErr result (λ fault. OnStore fault ((value : QuotaValue) → holds self.old store.old value
+            → IsLeft (makes (Remove id) (seen self.old).name) (may_leave (seen self.old).format) (seen self.old).name
+            (S.seen store.old).files (S.seen store.new).files)) }
+        ensures between { OnErr result (IsTrue S.tells → (after : Option (List ℕ))
+            × may_leave (seen self.old).format ((S.seen store.old).files (seen self.old).name) after
+            ((S.seen store.new).files (seen self.old).name)) }
+        ensures leaves { ReplacesOne (seen self.old).name (S.seen store.old) (S.seen store.new) }
+        ensures synced { OnOk result (IsTrue S.tells
+            → IsSynced (seen self.old).name (S.seen store.old) (S.seen store.new)) }
+        ensures same { OnOk result (seen self.new ≡ seen self.old) }
+        ensures counted { IfErr result (λ fault. CountsRefusal (not (is_store_fault fault)) (seen self.old) (seen self.new)) };
 
-    /// Sets both grace periods, for which the format has room. All records stay. `Full` never comes.
+    /// Sets both grace periods, for which the format has room. All records stay. What was written is synced then.
+    /// `Full` never comes.
+    ///
+    /// # Errors
+    ///
+    /// The store failed, the file is damaged, or there is not enough memory.
     fn set_grace(&mut self, store: &mut S, grace: Grace) -> Result<(), FileFault>
-        requires usable { IsTrue (is_usable self.old) }
-        requires fits { grace_unfit (format_of self.old) grace ≡ None }
+        requires usable { IsTrue (seen self.old).usable }
+        requires fits { grace_unfit (seen self.old).format grace ≡ None }
         ensures set { OnOk result ((value : QuotaValue) → holds self.old store.old value
             → holds self.new store.new (with_grace value grace)) }
-        ensures refused { IfErr result (IsChangeFault (S.faults store.old) (S.faults store.new) (holds self.old store.old)
-            (λ _ _. ⊥)) }
-        ensures may { IfErr result (may_refuse self.old) }
+        ensures makes { OnOk result ((value : QuotaValue) → holds self.old store.old value
+            → makes (SetGrace grace) (seen self.old).name (S.seen store.old).files (S.seen store.new).files) }
+        ensures refused { IfErr result (IsChangeFault (S.seen store.old).faults (S.seen store.new).faults
+            (holds self.old store.old) (λ _ _. ⊥)) }
+        ensures may { IfErr result (may_refuse (seen self.old).format) }
         ensures stays { IfErr result (λ fault. OnWant fault ((value : QuotaValue) → holds self.old store.old value
             → holds self.new store.new value)) }
-        ensures same_files { IfErr result (λ fault. OnWant fault (S.files store.new ≡ S.files store.old)) }
-        ensures writes { IfErr result (λ fault. OnWant fault (S.writes store.new ≡ S.writes store.old)) }
-        ensures unchanged { OnErr result (IsTrue (S.tells store.old) → IsTrue (replaces self.old)
-            → S.files store.new (name_of self.old) ≡ S.files store.old (name_of self.old)) }
-        ensures others { IsTrue (S.tells store.old)
-            → ReplacesOnly (name_of self.old) (S.files store.old) (S.files store.new) }
-        ensures usable { OnOk result (is_usable self.new ≡ is_usable self.old) }
-        ensures unusable { IfErr result (λ fault. is_usable self.new ≡ not (is_store_fault fault)) }
-        ensures same_name { name_of self.new ≡ name_of self.old }
-        ensures same_format { format_of self.new ≡ format_of self.old }
-        ensures same_way { replaces self.new ≡ replaces self.old }
-        ensures same_faults { (fault : FileFault) → may_refuse self.new fault → may_refuse self.old fault }
-        ensures later { S.faults store.old ≤ S.faults store.new }
-        ensures same_telling { S.tells store.new ≡ S.tells store.old };
+        ensures unwritten { IfErr result (λ fault. OnWant fault
+            (OnlyReads (seen self.old).name (S.seen store.old) (S.seen store.new))) }
+        ensures left { IfErr result (λ fault. OnStore fault ((value : QuotaValue) → holds self.old store.old value
+            → IsLeft (makes (SetGrace grace) (seen self.old).name) (may_leave (seen self.old).format) (seen self.old).name
+            (S.seen store.old).files (S.seen store.new).files)) }
+        ensures between { OnErr result (IsTrue S.tells → (after : Option (List ℕ))
+            × may_leave (seen self.old).format ((S.seen store.old).files (seen self.old).name) after
+            ((S.seen store.new).files (seen self.old).name)) }
+        ensures leaves { ReplacesOne (seen self.old).name (S.seen store.old) (S.seen store.new) }
+        ensures synced { OnOk result (IsTrue S.tells
+            → IsSynced (seen self.old).name (S.seen store.old) (S.seen store.new)) }
+        ensures same { OnOk result (seen self.new ≡ seen self.old) }
+        ensures counted { IfErr result (λ fault. CountsRefusal (not (is_store_fault fault)) (seen self.old) (seen self.new)) };
 
     /// What an opened file with its store holds rests on the named file, and on no other file of the store.
-    ghost rests_on_named: { (file : Self) (one other : S) (value : QuotaValue) → S.tells other ≡ S.tells one
-        → S.files other (name_of file) ≡ S.files one (name_of file) → holds file one value → holds file other value };
+    ghost rests_on_named: { (file : Self) (one other : S) (value : QuotaValue)
+        → (S.seen other).files (seen file).name ≡ (S.seen one).files (seen file).name
+        → holds file one value → holds file other value };
 }

@@ -1,7 +1,9 @@
-ghost use Rattle.std.specs.Prelude.{◌≡◌, ◌^◌, ◌≤◌, length, None, Some, IsTrue, IfOk, IfErr, OnOk, OnErr};
+ghost use Rattle.std.specs.Prelude.{◌≡◌, ◌^◌, ◌≤◌, length, false, None, Some, IsTrue, IfOk, IfErr, OnOk, OnErr};
 ghost use Rattle.std.specs.String.{string_bytes};
 ghost use Rattle.quota_blocks.specs.Count.{Rose};
-ghost use Rattle.quota_blocks.specs.Replace.{IsReplaceFault, OnNoMemory, replacement_name};
+ghost use Rattle.quota_blocks.specs.Frame.{ChangesOne, ReplacesOne, replaced_names};
+ghost use Rattle.quota_blocks.specs.Replace.{IsReplaceFault, OnNoMemory, replaced_files, replacement_name};
+ghost use Rattle.quota_blocks.specs.Unsynced.{with_name};
 ghost use Rattle.quota_blocks.specs.World.{KeepsOthers, with_file};
 ghost use Rattle.quota_blocks.specs.declared.replacement.ReplaceFault.TheVariants.{Store as StoreFailed, Memory};
 
@@ -44,8 +46,11 @@ impl From<AllocError> for ReplaceFault {
 }
 
 /// Puts a file of these bytes in the place of the one of this name, or makes it. The bytes are written and synced
-/// under the name with `.new` added, and that file is then renamed. So after a fault the old file is as before, and
-/// the one with `.new` may hold anything. `Full` never comes.
+/// under the name with `.new` added, and that file is then renamed. `Full` never comes.
+///
+/// # Errors
+///
+/// The store failed, or there is not enough memory. The old file is as before, and the one with `.new` may hold anything.
 pub fn replace<S: Store>(
     alloc: Global,
     store: &mut S,
@@ -53,18 +58,16 @@ pub fn replace<S: Store>(
     bytes: &[u8],
 ) -> Result<(), ReplaceFault>
     requires { length bytes.now ≤ 2 ^ 42 }
-    ensures replaced { OnOk result (IsTrue (S.tells store.old) → S.files store.new
-        ≡ with_file (with_file (S.files store.old) (replacement_name name.now) None) name.now (Some bytes.now)) }
-    ensures refused { IfErr result (IsReplaceFault (S.faults store.old) (S.faults store.new)) }
-    ensures unchanged { OnErr result (IsTrue (S.tells store.old)
-        → S.files store.new name.now ≡ S.files store.old name.now) }
-    ensures others { OnErr result (IsTrue (S.tells store.old)
-        → KeepsOthers (replacement_name name.now) (S.files store.old) (S.files store.new)) }
-    ensures memory_files { IfErr result (λ fault. OnNoMemory fault (S.files store.new ≡ S.files store.old)) }
-    ensures memory_writes { IfErr result (λ fault. OnNoMemory fault (S.writes store.new ≡ S.writes store.old)) }
-    ensures later { S.faults store.old ≤ S.faults store.new }
-    ensures reads { S.reads store.new ≡ S.reads store.old }
-    ensures same_telling { S.tells store.new ≡ S.tells store.old }
+    ensures replaced { OnOk result (IsTrue S.tells
+        → (S.seen store.new).files ≡ replaced_files (S.seen store.old).files name.now bytes.now) }
+    ensures synced { OnOk result (IsTrue S.tells
+        → (S.seen store.new).unsynced ≡ replaced_names (S.seen store.old).unsynced name.now) }
+    ensures refused { IfErr result (IsReplaceFault (S.seen store.old).faults (S.seen store.new).faults) }
+    ensures unchanged { OnErr result (KeepsOthers (replacement_name name.now) (S.seen store.old).files
+        (S.seen store.new).files) }
+    ensures memory { IfErr result (λ fault. OnNoMemory fault (S.seen store.new ≡ S.seen store.old)) }
+    ensures leaves { ReplacesOne name.now (S.seen store.old) (S.seen store.new) }
+    ensures reads { (S.seen store.new).reads ≡ (S.seen store.old).reads }
 {
     let new_name = name_of_new(alloc, name)?;
     write_new(store, new_name.as_str(), bytes)?;
@@ -84,13 +87,12 @@ fn name_of_new(alloc: Global, name: &str) -> Result<String, AllocError>
 /// Makes a file of these bytes, and waits until it is kept safe.
 fn write_new<S: Store>(store: &mut S, name: &str, bytes: &[u8]) -> Result<(), StoreFault>
     requires { length bytes.now ≤ 2 ^ 42 }
-    ensures ok { OnOk result (IsTrue (S.tells store.old)
-        → S.files store.new ≡ with_file (S.files store.old) name.now (Some bytes.now)) }
-    ensures others { IsTrue (S.tells store.old) → KeepsOthers name.now (S.files store.old) (S.files store.new) }
-    ensures cause { OnErr result (Rose (S.faults store.old) (S.faults store.new)) }
-    ensures later { S.faults store.old ≤ S.faults store.new }
-    ensures reads { S.reads store.new ≡ S.reads store.old }
-    ensures same_telling { S.tells store.new ≡ S.tells store.old }
+    ensures ok { OnOk result (IsTrue S.tells
+        → (S.seen store.new).files ≡ with_file (S.seen store.old).files name.now (Some bytes.now)) }
+    ensures synced { OnOk result (IsTrue S.tells
+        → (S.seen store.new).unsynced ≡ with_name (S.seen store.old).unsynced name.now false) }
+    ensures cause { OnErr result (Rose (S.seen store.old).faults (S.seen store.new).faults) }
+    ensures leaves { ChangesOne name.now (S.seen store.old) (S.seen store.new) }
 {
     store.create(name)?;
     let mut at = 0;

@@ -1,5 +1,6 @@
-ghost use Rattle.std.specs.Prelude.{◌≡◌, ◌≤◌, ◌++◌, ℕ, Bool, List, IsTrue, OnOk, OnErr};
+ghost use Rattle.std.specs.Prelude.{◌≡◌, ◌≤◌, ◌++◌, Bool, IsTrue, OnOk, OnErr};
 ghost use Rattle.quota_blocks.specs.Count.{Rose};
+ghost use Rattle.quota_blocks.specs.Seen.{SinkSeen};
 ghost use Rattle.quota_blocks.specs.Text.{AppendsPrefix};
 
 /// A call on a sink failed.
@@ -7,21 +8,24 @@ ghost use Rattle.quota_blocks.specs.Text.{AppendsPrefix};
 pub struct SinkFault;
 
 /// Something that text is written to, such as a standard stream.
+///
+/// Whatever a sink tells, a call fails only where its count of faults rose in that call.
 pub trait Sink {
-    /// Whether the sink tells what was written to it.
-    ghost tells: { Self → Bool };
+    /// Whether sinks of this type tell what was written to them.
+    ghost tells: { Bool };
 
-    /// The bytes written so far; they count only where the sink tells them.
-    ghost written: { Self → List ℕ };
+    /// The bytes written so far, which count only where the sink tells them, and the count of faults.
+    ghost seen: { Self → SinkSeen };
 
-    /// How many calls have failed, up to the last value of a counter of 64 bits.
-    ghost faults: { Self → ℕ };
-
-    /// Appends all the bytes; a fault appends a prefix of them.
+    /// Appends all the bytes.
+    ///
+    /// # Errors
+    ///
+    /// The sink failed. A prefix of the bytes was appended.
     fn write(&mut self, bytes: &[u8]) -> Result<(), SinkFault>
-        ensures ok { OnOk result (IsTrue (tells self.old) → written self.new ≡ written self.old ++ bytes.now) }
-        ensures fault { OnErr result (IsTrue (tells self.old) → AppendsPrefix (written self.old) (written self.new) bytes.now) }
-        ensures cause { OnErr result (Rose (faults self.old) (faults self.new)) }
-        ensures later { faults self.old ≤ faults self.new }
-        ensures same_telling { tells self.new ≡ tells self.old };
+        ensures ok { OnOk result (IsTrue tells → (seen self.new).written ≡ (seen self.old).written ++ bytes.now) }
+        ensures fault { OnErr result (IsTrue tells
+            → AppendsPrefix (seen self.old).written (seen self.new).written bytes.now) }
+        ensures cause { OnErr result (Rose (seen self.old).faults (seen self.new).faults) }
+        ensures later { (seen self.old).faults ≤ (seen self.new).faults };
 }

@@ -1,6 +1,7 @@
 use crate::{
-    LoadFault, MemSink, MemStore, ReplaceFault, Sink, SinkFault, Store, StoreFault, TextBuffer,
-    le16, le32, le64, load, replace, set_le16, set_le32, set_le64,
+    Got, Link, LinkFault, LoadFault, MemLink, MemSink, MemSource, MemStore, ReplaceFault, Sink,
+    SinkFault, Source, SourceFault, Store, StoreFault, TextBuffer, le16, le32, le64, load, replace,
+    set_le16, set_le32, set_le64,
 };
 use std::alloc::Global;
 use std::test::Fail;
@@ -81,6 +82,73 @@ fn a_replacement_takes_the_place_of_the_old_file_or_leaves_it(rt: HostRuntime) -
             assert_eq!(rt; store.writes(), 5);
         }
     }
+    Ok(())
+}
+
+#[test]
+fn a_name_is_unsynced_from_its_change_to_its_sync(rt: HostRuntime) -> Result<(), Fail> {
+    let mut store = empty_store(rt.alloc(), Vec::new(rt.alloc()));
+    assert!(rt; !store.is_unsynced("q"));
+    store.create("q")?;
+    assert!(rt; store.is_unsynced("q"));
+    store.rename("absent", "r")?;
+    assert!(rt; !store.is_unsynced("r"));
+    store.rename("q", "r")?;
+    assert!(rt; !store.is_unsynced("q") && store.is_unsynced("r"));
+    store.sync("r")?;
+    assert!(rt; !store.is_unsynced("r"));
+    store.write("r", 0, b"x")?;
+    store.write("s", 0, b"y")?;
+    store.sync("s")?;
+    assert!(rt; store.is_unsynced("r") && !store.is_unsynced("s"));
+    store.rename("s", "r")?;
+    assert!(rt; !store.is_unsynced("r"));
+    replace(rt.alloc(), &mut store, "t", b"new")?;
+    assert!(rt; !store.is_unsynced("t") && !store.is_unsynced("t.new"));
+    Ok(())
+}
+
+#[test]
+fn a_source_gives_its_bytes_in_order(rt: HostRuntime) -> Result<(), Fail> {
+    let mut source = MemSource::new(
+        Vec::from_slice(rt.alloc(), b"abcde")?,
+        vec![in rt.alloc(); 2]?,
+    );
+    let mut buf = [b'-'; 3];
+    assert_eq!(rt; source.read(&mut [])?, 0);
+    assert_eq!(rt; source.read(&mut buf), Err(SourceFault));
+    assert_eq!(rt; source.left(), b"abcde".as_slice());
+    assert_eq!(rt; source.read(&mut buf)?, 3);
+    assert_eq!(rt; buf, *b"abc");
+    assert_eq!(rt; source.read(&mut buf)?, 2);
+    assert_eq!(rt; buf, *b"dec");
+    assert_eq!(rt; source.left(), b"".as_slice());
+    assert_eq!(rt; source.read(&mut buf)?, 0);
+    Ok(())
+}
+
+#[test]
+fn a_link_gives_the_front_of_each_datagram(rt: HostRuntime) -> Result<(), Fail> {
+    let mut datagrams = Vec::new(rt.alloc());
+    datagrams.push((Vec::from_slice(rt.alloc(), b"ask")?, 7))?;
+    datagrams.push((vec![in rt.alloc(); 1u8; 5000]?, 9))?;
+    let mut link = MemLink::new(datagrams, vec![in rt.alloc(); 2, 4]?);
+    let mut buf = [0; 4096];
+    link.start(0)?;
+    assert_eq!(rt; link.next(&mut buf), Err(LinkFault));
+    assert_eq!(rt; link.next(&mut buf)?, Got { len: 3, now: 7 });
+    assert_eq!(rt; &buf[..4], b"ask\0".as_slice());
+    assert_eq!(rt; link.answer(b"lost"), Err(LinkFault));
+    link.answer(b"sent")?;
+    assert_eq!(rt; link.next(&mut buf)?, Got { len: 4096, now: 9 });
+    assert_eq!(rt; buf, [1; 4096]);
+    assert_eq!(rt; link.next(&mut buf), Err(LinkFault));
+    assert_eq!(rt; link.answers().len(), 1);
+    assert!(rt;
+        link.answers()
+            .iter()
+            .all(|answer| answer.as_slice() == b"sent".as_slice())
+    );
     Ok(())
 }
 

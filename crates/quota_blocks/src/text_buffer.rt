@@ -1,6 +1,6 @@
 ghost use Rattle.std.specs.Prelude.{◌≡◌, ◌+◌, ◌≤◌, ◌++◌, ℕ, List, [], length, IsTrue, OnOk, OnErr};
 ghost use Rattle.quota_blocks.specs.Count.{Rose};
-ghost use Rattle.quota_blocks.specs.Text.{AppendsPrefix, IsGathered};
+ghost use Rattle.quota_blocks.specs.Text.{AppendsPrefix, Gathers, WritesPrefix};
 
 use crate::{Sink, SinkFault};
 use arrayvec::ArrayVec;
@@ -36,16 +36,17 @@ impl TextBuffer {
 
     #[tactic(auto, using(crate::proofs::TextLemmas::appends_at_flush, crate::proofs::TextLemmas::appends_at_write))]
     /// Gathers more text. The sink gets what was gathered before where the buffer has no room for it.
+    ///
+    /// # Errors
+    ///
+    /// The sink failed.
     pub fn put<O: Sink>(&mut self, sink: &mut O, text: &[u8]) -> Result<(), SinkFault>
-        ensures ok { OnOk result (IsTrue (O.tells sink.old) → (start before : List ℕ)
-            → IsGathered start before (O.written sink.old) self.old
-            → IsGathered start (before ++ text.now) (O.written sink.new) self.new) }
-        ensures fault { OnErr result (IsTrue (O.tells sink.old) → (start before : List ℕ)
-            → IsGathered start before (O.written sink.old) self.old
-            → AppendsPrefix start (O.written sink.new) (before ++ text.now)) }
-        ensures cause { OnErr result (Rose (O.faults sink.old) (O.faults sink.new)) }
-        ensures later { O.faults sink.old ≤ O.faults sink.new }
-        ensures same_telling { O.tells sink.new ≡ O.tells sink.old }
+        ensures ok { OnOk result (Gathers O.tells (O.seen sink.old).written self.old (O.seen sink.new).written self.new
+            text.now) }
+        ensures fault { OnErr result (WritesPrefix O.tells (O.seen sink.old).written self.old (O.seen sink.new).written
+            text.now) }
+        ensures cause { OnErr result (Rose (O.seen sink.old).faults (O.seen sink.new).faults) }
+        ensures later { (O.seen sink.old).faults ≤ (O.seen sink.new).faults }
     {
         if text.len() <= self.bytes.remaining_capacity() {
             self.push(text);
@@ -67,14 +68,17 @@ impl TextBuffer {
     }
 
     /// Writes what is gathered.
+    ///
+    /// # Errors
+    ///
+    /// The sink failed.
     pub fn flush<O: Sink>(&mut self, sink: &mut O) -> Result<(), SinkFault>
-        ensures ok { OnOk result (IsTrue (O.tells sink.old) → O.written sink.new ≡ O.written sink.old ++ self.old) }
-        ensures fault { OnErr result (IsTrue (O.tells sink.old)
-            → AppendsPrefix (O.written sink.old) (O.written sink.new) self.old) }
+        ensures ok { OnOk result (IsTrue O.tells → (O.seen sink.new).written ≡ (O.seen sink.old).written ++ self.old) }
+        ensures fault { OnErr result (IsTrue O.tells
+            → AppendsPrefix (O.seen sink.old).written (O.seen sink.new).written self.old) }
         ensures empty { OnOk result (self.new ≡ []) }
-        ensures cause { OnErr result (Rose (O.faults sink.old) (O.faults sink.new)) }
-        ensures later { O.faults sink.old ≤ O.faults sink.new }
-        ensures same_telling { O.tells sink.new ≡ O.tells sink.old }
+        ensures cause { OnErr result (Rose (O.seen sink.old).faults (O.seen sink.new).faults) }
+        ensures later { (O.seen sink.old).faults ≤ (O.seen sink.new).faults }
     {
         if !self.bytes.is_empty() {
             sink.write(self.bytes.as_slice())?;

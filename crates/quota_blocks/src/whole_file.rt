@@ -1,6 +1,8 @@
 ghost use Rattle.std.specs.Prelude.{◌≡◌, ◌+◌, ◌≤◌, ◌++◌, length, min, vec_len, Some, IsTrue, IfOk, IfErr, OnOk};
 ghost use Rattle.quota_blocks.specs.Count.{Rose};
+ghost use Rattle.quota_blocks.specs.Frame.{OnlyReads};
 ghost use Rattle.quota_blocks.specs.Load.{IsLoadFault, IsReadFault};
+ghost use Rattle.quota_blocks.specs.Unsynced.{AddsNone};
 ghost use Rattle.quota_blocks.specs.World.{bytes_from};
 ghost use Rattle.quota_blocks.specs.declared.whole_file.LoadFault.TheVariants.{Store as StoreFailed, Memory};
 
@@ -37,20 +39,22 @@ impl From<AllocError> for LoadFault {
 }
 
 /// Reads a whole file, of at most `most` bytes.
+///
+/// # Errors
+///
+/// There is no such file, it is larger, the store failed, or there is not enough memory.
 pub fn load<S: Store>(
     alloc: Global,
     store: &mut S,
     name: &str,
     most: u64,
 ) -> Result<Vec<u8>, LoadFault>
-    ensures whole { IfOk result (λ bytes. IsTrue (S.tells store.old) → S.files store.old name.now ≡ Some bytes.items) }
+    ensures whole { IfOk result (λ bytes. IsTrue S.tells → (S.seen store.old).files name.now ≡ Some bytes.items) }
     ensures within { IfOk result (λ bytes. length bytes.items ≤ most) }
-    ensures refused { IfErr result (IsLoadFault (S.faults store.old) (S.faults store.new) (S.tells store.old)
-        (S.files store.old name.now) most) }
-    ensures later { S.faults store.old ≤ S.faults store.new }
-    ensures writes { S.writes store.new ≡ S.writes store.old }
-    ensures same_files { S.files store.new ≡ S.files store.old }
-    ensures same_telling { S.tells store.new ≡ S.tells store.old }
+    ensures refused { IfErr result (IsLoadFault (S.seen store.old).faults (S.seen store.new).faults S.tells
+        ((S.seen store.old).files name.now) most) }
+    ensures leaves { OnlyReads name.now (S.seen store.old) (S.seen store.new) }
+    ensures synced { OnOk result (AddsNone (S.seen store.old).unsynced (S.seen store.new).unsynced) }
 {
     let Some(size) = store.size(name)? else {
         return Err(LoadFault::NoFile);
@@ -77,15 +81,13 @@ fn append_block<S: Store>(
     bytes: &mut Vec<u8>,
     most: usize,
 ) -> Result<usize, LoadFault>
-    ensures appended { OnOk result (IsTrue (S.tells store.old) → bytes.new.items ≡ bytes.old.items
-        ++ bytes_from (S.files store.old name.now) (vec_len bytes.old) (min most 1024)) }
+    ensures appended { OnOk result (IsTrue S.tells → bytes.new.items ≡ bytes.old.items
+        ++ bytes_from ((S.seen store.old).files name.now) (vec_len bytes.old) (min most 1024)) }
     ensures count { IfOk result (λ count. vec_len bytes.new ≡ vec_len bytes.old + count) }
     ensures within { IfOk result (λ count. count ≤ most) }
-    ensures refused { IfErr result (IsReadFault (S.faults store.old) (S.faults store.new)) }
-    ensures later { S.faults store.old ≤ S.faults store.new }
-    ensures writes { S.writes store.new ≡ S.writes store.old }
-    ensures same_files { S.files store.new ≡ S.files store.old }
-    ensures same_telling { S.tells store.new ≡ S.tells store.old }
+    ensures refused { IfErr result (IsReadFault (S.seen store.old).faults (S.seen store.new).faults) }
+    ensures leaves { OnlyReads name.now (S.seen store.old) (S.seen store.new) }
+    ensures synced { OnOk result (AddsNone (S.seen store.old).unsynced (S.seen store.new).unsynced) }
 {
     let mut block = [0u8; 1024];
     let wanted = most.min(1024);

@@ -9,9 +9,9 @@ use Rattle.std.proofs.lemmas.List.{take_all}
 use Rattle.std.proofs.lemmas.Str.Parse.{IsNumeralModel, numerals_by_weight, tells_all_ascii_digits, digit_at}
 use Rattle.std.proofs.lemmas.Int.Digits.{digits_value_more, digits_more}
 use Rattle.set_edit.specs.Number.{value_of}
-use Rattle.quota_cli.specs.declared.refusal.Cause.TheVariants.{UnknownName, BadNumber}
-use Rattle.quota_cli.specs.LimitsCommand.{identifier_of}
-use Rattle.quota_cli.specs.Step.{Passed, Refused}
+use Rattle.quota_cli.specs.declared.refusal.cause.Cause.TheVariants.{UnknownName, BadNumber}
+use Rattle.quota_cli.specs.words.Numbers.{identifier_of}
+use Rattle.quota_cli.specs.Outcome.{Passed, Refused}
 
 -- `value_of` is the value of decimal digits as std has it
 own : IsNumeralModel (λ ds. all_ascii_digits ds ≡ true) value_of
@@ -67,13 +67,13 @@ not_digits word at in_word other all =
     grind (arith, nat_tests)
 
 -- a byte that is no digit makes the word a name
-pub identifier_of-spoilt : (word : List ℕ) (at : ℕ) → at < length word → is_ascii_digit (get_or word at 0) ≡ false → identifier_of word ≡ Refused UnknownName word
+pub identifier_of-spoilt : (word : List ℕ) (at : ℕ) → at < length word → is_ascii_digit (get_or word at 0) ≡ false → identifier_of word ≡ Refused (record { cause = UnknownName; name = word })
 identifier_of-spoilt word at in_word other =
     let no : all_ascii_digits word ≡ false = false_from_ne_true _ (not_digits word at in_word other) in
     grind arith
 
 -- the empty word is a name
-pub identifier_of-empty : (word : List ℕ) → length word ≡ 0 → identifier_of word ≡ Refused UnknownName word
+pub identifier_of-empty : (word : List ℕ) → length word ≡ 0 → identifier_of word ≡ Refused (record { cause = UnknownName; name = word })
 identifier_of-empty word none = grind (arith, nat_tests)
 
 -- all digits are read
@@ -93,7 +93,7 @@ identifier_of-read word number read some few =
     grind (arith, nat_tests)
 
 -- all is read, and is too large
-pub identifier_of-past : (word : List ℕ) (number : ℕ) → IsReadUpTo word (length word) number → 0 < length word → 2 ^ 32 ≤ number → identifier_of word ≡ Refused BadNumber word
+pub identifier_of-past : (word : List ℕ) (number : ℕ) → IsReadUpTo word (length word) number → 0 < length word → 2 ^ 32 ≤ number → identifier_of word ≡ Refused (record { cause = BadNumber; name = word })
 identifier_of-past word number read some past =
     let so = read_all word number read in
     let all : all_ascii_digits word ≡ true = so.0 in

@@ -1,8 +1,11 @@
-pub mod PieceLemmas
-pub mod LineLemmas
-pub mod WordLemmas
-pub mod ValueLemmas
-pub mod IdentifierLemmas
-pub mod ReasonLemmas
-pub mod LimitsLemmas
-pub mod RunLemmas
+mod ActLemmas
+mod CommandLemmas
+mod IdentifierLemmas
+mod LimitsLemmas
+mod OpeningLemmas
+mod PieceLemmas
+mod ReasonLemmas
+mod ReportLemmas
+mod RunLemmas
+mod ValueLemmas
+mod WordLemmas

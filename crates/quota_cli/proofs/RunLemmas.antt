@@ -1,376 +1,312 @@
 -- From what a command did to the effect of the words.
-use Rattle.std.proofs.Common.{◌≡◌, ℕ, Bool, true, false, if◌then◌else◌, IsTrue, List, [], ◌∷◌, ◌++◌, Option, None, Some, Ok, Err, Result, ◌⊎◌, inl, inr, refl, sym, ap, subst, ◌∙◌}
-use Rattle.std.proofs.lemmas.List.{append-nil}
-use Rattle.std.specs.Prelude.{IsErr, ◌↔◌, ◌&&◌, is_none}
-use Rattle.quota_types.specs.declared.file_kind.Kind.{Kind}
-use Rattle.quota_types.specs.declared.file_kind.Kind.TheVariants.{User}
-use Rattle.quota_types.specs.declared.file_kind.Format.{Format}
-use Rattle.quota_types.specs.declared.file_kind.Format.TheVariants.{V1, V2R0, V2R1}
-use Rattle.quota_blocks.specs.World.{World}
-use Rattle.quota_blocks.specs.QuotaValue.{QuotaValue}
-use Rattle.quota_blocks.specs.Text.{AppendsPrefix}
-use Rattle.quota_blocks.specs.declared.quota_file.OpenFault.{OpenFault}
-use Rattle.quota_v1.proofs.ViewLemmas.{seen_or_refused}
-use Rattle.report_text.specs.Report.{report_of, no_names}
-use Rattle.quota_cli.specs.declared.refusal.Cause.{Cause}
-use Rattle.quota_cli.specs.declared.refusal.Cause.TheVariants.{StoreFault, SinkFault, Memory}
-use Rattle.quota_cli.specs.Refusal.{error_line, status_of}
-use Rattle.quota_cli.specs.Request.{Request, Report, SetLimits, LimitWords, request_of, verbose}
-use Rattle.quota_cli.specs.Act.{Act, ToOut, ToErr, Change, IsView, out_bytes, err_bytes}
-use Rattle.quota_cli.specs.Effect.{Setting, Effect, AskedEffect, LimitsEffect, ReportEffect, RequestEffect, report_step}
-use Rattle.quota_cli.specs.LimitsCommand.{changed, edit_read, limits_step}
-use Rattle.set_edit.specs.Edited.{limits_set}
-use Rattle.quota_types.specs.declared.field.Field.{Field}
-use Rattle.std.specs.FinMap.{get}
-use Rattle.quota_cli.specs.Step.{Outcome, Passed, Refused, AndThen, IsEnd, Opening, opened, opening_cause, and_then}
-use Rattle.quota_cli.specs.declared.limit_edit.LimitEdit.{LimitEdit}
-use Rattle.quota_cli.proofs.ValueLemmas.{one_value}
-use Rattle.quota_cli.specs.ReportCommand.{IsRefusedView, report_of_view}
-use Rattle.quota_cli.specs.Run.{HasEffect, HasEffectUpToErr, HasOutEffect, HasSilentEffect, MayRefuse, MayRefuseRequest, HasReason, IsEffectOf, IsStopped, AppendsUnless}
-use Rattle.quota_cli.proofs.ReasonLemmas.{ByStore, ByOut, ByMemory, ByEffect, no_status_0, reason_case, reason_within}
+use Rattle.std.proofs.Common.{◌≡◌, ◌≢◌, ℕ, ◌≤◌, false, IsTrue, List, [], ◌++◌, Option, None, Some, Ok, Err, Result, ◌⊎◌, inl, inr, refl, sym, ap, subst, ◌∙◌, arith, append-nil}
+use Rattle.std.specs.Prelude.{⊤, ◌↔◌, IfErr, IfSome, IsErrAnd, OnErr, OnOk}
+use Rattle.std.proofs.lemmas.Bool.{false≢true}
+use Rattle.std.specs.Result.{result_err}
+use Rattle.quota_blocks.specs.Count.{Rose}
+use Rattle.quota_blocks.specs.Seen.{SinkSeen}
+use Rattle.quota_cli.specs.declared.refusal.cause.Cause.{Cause}
+use Rattle.quota_cli.specs.declared.refusal.cause.Cause.TheVariants.{StoreFault, SourceFault, SinkFault, LinkFault, Memory, NoFile, TooLarge, NotQuota, WrongKind, UnknownVersion, BadBlockCount, OtherFormat, Damaged, Full, NoRoom, UnknownName, BadNumber, Usage}
+use Rattle.quota_cli.specs.declared.refusal.reason.Refusal.{Refusal}
+use Rattle.quota_cli.specs.refusal.Line.{closing_line, error_line}
+use Rattle.quota_cli.specs.refusal.Status.{end_status, status_of}
+use Rattle.quota_cli.specs.Act.{Act}
+use Rattle.quota_cli.specs.Done.{AppendsUnless, AreDoneInPart, IsAllTold, IsLater, IsUnwritten, IsWorldTold, NoFault, Outside, RunSeen, RunTells, outside_of}
+use Rattle.quota_cli.specs.Headline.{Effect, HasEffect, HasEffectUpToErr, HasSaid, IsRefusedWord, IsStopped, Setting}
+use Rattle.quota_cli.specs.Run.{CarriesOut, HasReason, HasSteps, IsFault, Uses}
+use Rattle.quota_cli.specs.Steps.{closing}
+use Rattle.quota_cli.specs.commands.Table.{AskedSteps, MayRefuseAsked, asked_uses}
+use Rattle.quota_cli.specs.words.Asked.{command_of}
+use Rattle.quota_cli.proofs.ActLemmas.{done_and_said, nothing_before, part_but_err, part_of_more, said_after}
+use Rattle.quota_cli.proofs.ReasonLemmas.{ByFault, ByMemory, ByStep, CauseCase, cause_case, reason_within}
 
--- bytes with nothing behind them
-nothing_behind : (old new bytes : List ℕ) → new ≡ old ++ bytes → new ≡ old ++ (bytes ++ [])
-nothing_behind old new bytes e = e ∙ ap (λ (b : List ℕ). old ++ b) (sym (append-nil bytes))
+-- what the words of a setting ask for was carried out
+abbrev pub IsCarriedOut : Setting → RunTells → RunSeen → RunSeen → Result (Unit {0}) Refusal → Type 0
+IsCarriedOut setting =
+    CarriesOut (AskedSteps (command_of setting.words) setting.occasion) (asked_uses (command_of setting.words)) (MayRefuseAsked (command_of setting.words))
 
--- the effect of new limits whose words were read
-read_so : (word name : List ℕ) (words : LimitWords) (world : World) (now : ℕ) (edit : LimitEdit) (acts : List Act) (status : ℕ)
-    → edit_read word words ≡ Passed edit → Opening User (Some V1) name world (limits_step name edit now) acts status
-    → LimitsEffect User (Some V1) word words name world now acts status
-read_so word name words world now edit acts status read effect =
-    subst (λ (o : Outcome LimitEdit). AndThen o (λ (e : LimitEdit). Opening User (Some V1) name world (limits_step name e now)) acts status) (sym read) effect
+-- A run ended: the status is that of what was carried out, and the error line of a refusal was written, up to a fault of
+-- the error output.
+pub record IsFinished (line : Option ℕ) (tells : RunTells) (silent said : SinkSeen) (result : Result (Unit {0}) Refusal) (status : ℕ) : Type 0 where
+  pub status_is : status ≡ end_status (result_err result)
+  pub written : IsTrue tells.err → AppendsUnless (Rose silent.faults said.faults) silent.written said.written (closing_line line (result_err result))
+  pub later : silent.faults ≤ said.faults
 
--- the effect of new limits is that of the file once their words were read
-pub so_read : (word name : List ℕ) (words : LimitWords) (world : World) (now : ℕ) (edit : LimitEdit) (acts : List Act) (status : ℕ)
-    → edit_read word words ≡ Passed edit → LimitsEffect User (Some V1) word words name world now acts status
-    → Opening User (Some V1) name world (limits_step name edit now) acts status
-so_read word name words world now edit acts status read effect =
-    subst (λ (o : Outcome LimitEdit). AndThen o (λ (e : LimitEdit). Opening User (Some V1) name world (limits_step name e now)) acts status) read effect
+-- what is seen once the error line was written
+abbrev pub once_said : RunSeen → SinkSeen → RunSeen
+once_said seen said = record seen { err = said }
 
--- the report of a file that is seen as a value is the effect
-pub report_effect : (name out_old out_new : List ℕ) (world new : World) (now : ℕ) (value : QuotaValue) → new ≡ world
-    → IsView (world name) User (Some V1) (Ok value) → out_new ≡ out_old ++ report_of value no_names name now verbose
-    → HasOutEffect (ReportEffect User (Some V1) verbose name world now) world new out_old out_new
-report_effect name out_old out_new world new now value same view written = record {
-  acts = ToOut (report_of value no_names name now verbose) ∷ [];
-  effect = (Ok value, view, record { acts = refl; status = refl });
-  out = nothing_behind out_old out_new _ written;
-  err = refl;
-  files = (new, same, refl);
+-- nothing was written
+nothing_said : (new said : SinkSeen) → AppendsUnless (Rose new.faults said.faults) new.written said.written [] → said.written ≡ new.written
+nothing_said new said written =
+    written.prefix.appended ∙ ap (λ (b : List ℕ). new.written ++ b) (nothing_before written.prefix.done written.prefix.rest written.prefix.prefix) ∙ append-nil new.written
+
+zero_not_2 : (status : ℕ) → status ≡ 0 → status ≡ 2 → ⊥
+zero_not_2 status is two = omega (arith, is, two)
+
+-- acts that end a command are the effect of its words
+effect_by : (setting : Setting) (old new : RunSeen) (said : SinkSeen) (acts : List Act) (refusal : Option Refusal) (status : ℕ)
+    → AskedSteps (command_of setting.words) setting.occasion (outside_of old) acts (outside_of new) refusal → status ≡ end_status refusal
+    → Effect setting (outside_of old) (acts ++ closing setting.occasion.line refusal) (outside_of (once_said new said)) status
+effect_by setting old new said acts refusal status steps is =
+    record { own = acts; refusal = refusal; by_steps = steps; acts_all = refl; ended = is }
+
+-- what was done and said, where the error output may have failed
+up_to_err : (setting : Setting) (tells : RunTells) (old new : RunSeen) (said : SinkSeen) (refusal : Option Refusal) (status : ℕ) → new.err ≡ old.err
+    → HasSteps (AskedSteps (command_of setting.words) setting.occasion) tells refusal old new → status ≡ end_status refusal
+    → (IsTrue tells.err → AppendsUnless (Rose new.err.faults said.faults) new.err.written said.written (closing_line setting.occasion.line refusal))
+    → HasEffectUpToErr setting tells old (once_said new said) status
+up_to_err setting tells old new said refusal status silent has is written = record {
+  acts = has.acts ++ closing setting.occasion.line refusal;
+  effect = effect_by setting old new said has.acts refusal status has.by_steps is;
+  done = done_and_said tells setting.occasion.line refusal has.acts old new said false has.done (λ told. absurd (false≢true told));
+  err = λ told. said_after setting.occasion.line refusal has.acts old.err new.err said (ap (λ (s : SinkSeen). s.faults) silent) (has.done.err told) (written told);
 }
 
--- a file that is seen as refused is the effect
-refused_effect : (name out_old out_new : List ℕ) (world : World) (now : ℕ) (cause : Cause)
-    → IsRefusedView (world name) cause → out_new ≡ out_old
-    → IsEffectOf (ReportEffect User (Some V1) verbose name world now) cause name out_old out_new
-refused_effect name out_old out_new world now cause view same = record {
-  effect = (
-    Err view.0,
-    view.1,
-    record {
-      acts = ap (λ (c : Cause). ToErr (error_line c name) ∷ []) view.2;
-      status = ap (λ (c : Cause). status_of c) view.2;
-    },
-  );
-  out = same;
+-- where the error output did not fail, all was done
+whole_effect : (setting : Setting) (tells : RunTells) (old new : RunSeen) (status : ℕ) → IsTrue tells.err → ¬ Rose old.err.faults new.err.faults
+    → HasEffectUpToErr setting tells old new status → HasEffect setting tells old new status
+whole_effect setting tells old new status told none has = record {
+  acts = has.acts;
+  effect = has.effect;
+  done = record {
+    files = has.done.files;
+    out = has.done.out;
+    err = λ _. (has.err told).whole none;
+    answered = has.done.answered;
+    writes = has.done.writes;
+  };
 }
 
--- why a report was refused
-pub report_refused : (store_rose out_rose : Type 0) (tells : Bool) (name out_old out_new : List ℕ) (world : World) (now : ℕ) (cause : Cause)
-    → HasReason store_rose out_rose (IsTrue tells → IsRefusedView (world name) cause × (out_new ≡ out_old)) cause
-    → HasReason store_rose out_rose (IsTrue tells → IsEffectOf (ReportEffect User (Some V1) verbose name world now) cause name out_old out_new) cause
-report_refused store_rose out_rose tells name out_old out_new world now cause reason =
-    reason_within store_rose store_rose out_rose out_rose
-    (IsTrue tells → IsRefusedView (world name) cause × (out_new ≡ out_old))
-    (IsTrue tells → IsEffectOf (ReportEffect User (Some V1) verbose name world now) cause name out_old out_new)
-    cause (λ (rose : store_rose). rose) (λ (rose : out_rose). rose)
-    (λ stated told. let so = stated told in refused_effect name out_old out_new world now cause so.0 so.1)
-    reason
+-- a fault of an object outside needs a count that rose
+no_reason : (old new : RunSeen) (said : SinkSeen) (cause : Cause) → status_of cause ≡ 4 → HasReason old new ⊥ cause → NoFault old (once_said new said) → ⊥
+no_reason old new said StoreFault is reason none = none.store reason
+no_reason old new said SourceFault is reason none = none.input reason
+no_reason old new said SinkFault is reason none = none.out reason
+no_reason old new said LinkFault is reason none = none.link reason
+no_reason old new said Memory is reason none = omega (arith, is)
+no_reason old new said NoFile is reason none = reason
+no_reason old new said TooLarge is reason none = reason
+no_reason old new said NotQuota is reason none = reason
+no_reason old new said WrongKind is reason none = reason
+no_reason old new said UnknownVersion is reason none = reason
+no_reason old new said BadBlockCount is reason none = reason
+no_reason old new said OtherFormat is reason none = reason
+no_reason old new said (Damaged damage) is reason none = reason
+no_reason old new said (Full blocks limit) is reason none = reason
+no_reason old new said (NoRoom out) is reason none = reason
+no_reason old new said UnknownName is reason none = reason
+no_reason old new said BadNumber is reason none = reason
+no_reason old new said (Usage kind word) is reason none = reason
 
--- limits that were set are the effect
-pub limits_effect : (word name out : List ℕ) (words : LimitWords) (world new : World) (now : ℕ) (edit : LimitEdit)
-    → edit_read word words ≡ Passed edit
-    → HasSilentEffect (Opening User (Some V1) name world (limits_step name edit now)) world new
-    → HasOutEffect (LimitsEffect User (Some V1) word words name world now) world new out out
-limits_effect word name out words world new now edit read done = record {
-  acts = done.acts;
-  effect = read_so word name words world now edit done.acts 0 read done.effect;
-  out = sym (append-nil out) ∙ ap (λ (b : List ℕ). out ++ b) (sym done.out);
-  err = done.err;
-  files = done.files;
+-- no refusal has status 0
+no_status_0 : (cause : Cause) → status_of cause ≡ 0 → ⊥
+no_status_0 StoreFault is = omega (arith, is)
+no_status_0 SourceFault is = omega (arith, is)
+no_status_0 SinkFault is = omega (arith, is)
+no_status_0 LinkFault is = omega (arith, is)
+no_status_0 Memory is = omega (arith, is)
+no_status_0 NoFile is = omega (arith, is)
+no_status_0 TooLarge is = omega (arith, is)
+no_status_0 NotQuota is = omega (arith, is)
+no_status_0 WrongKind is = omega (arith, is)
+no_status_0 UnknownVersion is = omega (arith, is)
+no_status_0 BadBlockCount is = omega (arith, is)
+no_status_0 OtherFormat is = omega (arith, is)
+no_status_0 (Damaged damage) is = omega (arith, is)
+no_status_0 (Full blocks limit) is = omega (arith, is)
+no_status_0 (NoRoom out) is = omega (arith, is)
+no_status_0 UnknownName is = omega (arith, is)
+no_status_0 BadNumber is = omega (arith, is)
+no_status_0 (Usage kind word) is = omega (arith, is)
+
+refused_up_to_err : (setting : Setting) (tells : RunTells) (old new : RunSeen) (said : SinkSeen) (refusal : Refusal) (status : ℕ) → new.err ≡ old.err → IsWorldTold tells
+    → CauseCase old new (IsWorldTold tells → HasSteps (AskedSteps (command_of setting.words) setting.occasion) tells (Some refusal) old new) refusal.cause
+    → status ≡ status_of refusal.cause → status ≢ 4 → status ≢ 5
+    → (IsTrue tells.err → AppendsUnless (Rose new.err.faults said.faults) new.err.written said.written (error_line setting.occasion.line refusal))
+    → HasEffectUpToErr setting tells old (once_said new said) status
+refused_up_to_err setting tells old new said refusal status silent told (ByFault fault reason is_fault) is four five written = absurd (four (is ∙ fault))
+refused_up_to_err setting tells old new said refusal status silent told (ByMemory memory) is four five written = absurd (five (is ∙ ap status_of memory))
+refused_up_to_err setting tells old new said refusal status silent told (ByStep a b c d stated) is four five written =
+    up_to_err setting tells old new said (Some refusal) status silent (stated told) is written
+
+pub run_done : (setting : Setting) (tells : RunTells) (old new : RunSeen) (said : SinkSeen) (result : Result (Unit {0}) Refusal) (status : ℕ)
+    → IsCarriedOut setting tells old new result → IsFinished setting.occasion.line tells new.err said result status
+    → IsWorldTold tells → status ≢ 4 → status ≢ 5 → HasEffectUpToErr setting tells old (once_said new said) status
+run_done setting tells old new said (Ok value) status carries finished told four five =
+    up_to_err setting tells old new said None status carries.silent (carries.done told) finished.status_is finished.written
+run_done setting tells old new said (Err refusal) status carries finished told four five =
+    refused_up_to_err setting tells old new said refusal status carries.silent told (cause_case old new _ refusal.cause carries.refused) finished.status_is four five finished.written
+
+not_4 : (setting : Setting) (tells : RunTells) (old new : RunSeen) (said : SinkSeen) (stated : Type 0) (cause : Cause) (status : ℕ)
+    → CauseCase old new stated cause → status ≡ status_of cause → NoFault old (once_said new said) → status ≢ 4
+not_4 setting tells old new said stated cause status (ByFault fault reason is_fault) is none four = no_reason old new said cause fault reason none
+not_4 setting tells old new said stated cause status (ByMemory memory) is none four = omega (arith, four, is ∙ ap status_of memory)
+not_4 setting tells old new said stated cause status (ByStep a b c d stated_is) is none four = a (sym is ∙ four)
+
+ok_not_4 : (status : ℕ) → status ≡ 0 → status ≢ 4
+ok_not_4 status is four = omega (arith, is, four)
+
+pub run_headline : (setting : Setting) (tells : RunTells) (old new : RunSeen) (said : SinkSeen) (result : Result (Unit {0}) Refusal) (status : ℕ)
+    → IsCarriedOut setting tells old new result → IsFinished setting.occasion.line tells new.err said result status
+    → IsAllTold tells → NoFault old (once_said new said) → status ≢ 5 → HasEffect setting tells old (once_said new said) status
+run_headline setting tells old new said (Ok value) status carries finished told none five =
+    whole_effect setting tells old (once_said new said) status told.err none.err
+    (run_done setting tells old new said (Ok value) status carries finished told.world (ok_not_4 status finished.status_is) five)
+run_headline setting tells old new said (Err refusal) status carries finished told none five =
+    whole_effect setting tells old (once_said new said) status told.err none.err
+    (run_done setting tells old new said (Err refusal) status carries finished told.world
+    (not_4 setting tells old new said _ refusal.cause status (cause_case old new _ refusal.cause carries.refused) finished.status_is none) five)
+
+-- acts that were done in part are those of every effect
+part_of_effect : (setting : Setting) (tells : RunTells) (old new : RunSeen) (result : Result (Unit {0}) Refusal) → IsCarriedOut setting tells old new result
+    → IsWorldTold tells → (acts : List Act) (to : Outside) (ended : ℕ) → Effect setting (outside_of old) acts to ended → AreDoneInPart tells acts old new
+part_of_effect setting tells old new result carries told acts to ended effect =
+    subst (λ (a : List Act). AreDoneInPart tells a old new) (sym effect.acts_all)
+    (part_of_more tells effect.own (closing setting.occasion.line effect.refusal) old new (carries.part told effect.own to effect.refusal effect.by_steps))
+
+pub run_part : (setting : Setting) (tells : RunTells) (old new : RunSeen) (said : SinkSeen) (result : Result (Unit {0}) Refusal) → IsCarriedOut setting tells old new result
+    → IsWorldTold tells → (acts : List Act) (to : Outside) (ended : ℕ) → Effect setting (outside_of old) acts to ended
+    → AreDoneInPart (record tells { err = false }) acts old (once_said new said)
+run_part setting tells old new said result carries told acts to ended effect =
+    part_but_err tells acts old new said (part_of_effect setting tells old new result carries told acts to ended effect)
+
+-- a line that was written, of an error output that had got nothing before
+line_since : (old new said : SinkSeen) (bytes : List ℕ) → new ≡ old → AppendsUnless (Rose new.faults said.faults) new.written said.written bytes
+    → AppendsUnless (Rose old.faults said.faults) old.written said.written bytes
+line_since old new said bytes same written = subst (λ (s : SinkSeen). AppendsUnless (Rose s.faults said.faults) s.written said.written bytes) same written
+
+reason_said : (old new : RunSeen) (said : SinkSeen) (stated stated' : Type 0) (cause : Cause) → (stated → stated') → HasReason old new stated cause → HasReason old (once_said new said) stated' cause
+reason_said old new said p p' cause h reason =
+    reason_within old new old (once_said new said) p p' cause (λ r. r) (λ r. r) (λ r. r) (λ r. r) h reason
+
+stopped_by : (setting : Setting) (tells : RunTells) (old new : RunSeen) (said : SinkSeen) (refusal : Refusal) (status : ℕ)
+    → IsCarriedOut setting tells old new (Err refusal) → IsFinished setting.occasion.line tells new.err said (Err refusal) status
+    → HasReason old new ⊥ refusal.cause → IsStopped setting tells old (once_said new said) status
+stopped_by setting tells old new said refusal status carries finished reason = record {
+  refusal = refusal;
+  before = new;
+  reason = reason_said old new said ⊥ ⊥ refusal.cause (λ r. r) reason;
+  status_is = finished.status_is;
+  line = λ told. subst (λ (s : SinkSeen). AppendsUnless (Rose s.faults said.faults) new.err.written said.written (error_line setting.occasion.line refusal)) carries.silent (finished.written told);
+  all_else = refl;
+  part = λ told acts to ended effect. part_of_effect setting tells old new (Err refusal) carries told acts to ended effect;
 }
 
--- why new limits were refused after their words were read
-pub limits_refused : (store_rose out_rose : Type 0) (tells : Bool) (word name out : List ℕ) (words : LimitWords) (world : World) (now : ℕ) (edit : LimitEdit) (cause : Cause)
-    → edit_read word words ≡ Passed edit
-    → HasReason store_rose ⊥ (IsTrue tells → Opening User (Some V1) name world (limits_step name edit now) (ToErr (error_line cause name) ∷ []) (status_of cause)) cause
-    → HasReason store_rose out_rose (IsTrue tells → IsEffectOf (LimitsEffect User (Some V1) word words name world now) cause name out out) cause
-limits_refused store_rose out_rose tells word name out words world now edit cause read reason =
-    reason_within store_rose store_rose ⊥ out_rose
-    (IsTrue tells → Opening User (Some V1) name world (limits_step name edit now) (ToErr (error_line cause name) ∷ []) (status_of cause))
-    (IsTrue tells → IsEffectOf (LimitsEffect User (Some V1) word words name world now) cause name out out)
-    cause (λ (rose : store_rose). rose) (λ (rose : ⊥). absurd rose)
-    (λ stated told. record { effect = read_so word name words world now edit _ _ read (stated told); out = refl })
-    reason
+stopped_case : (setting : Setting) (tells : RunTells) (old new : RunSeen) (said : SinkSeen) (refusal : Refusal) (status : ℕ)
+    → IsCarriedOut setting tells old new (Err refusal) → IsFinished setting.occasion.line tells new.err said (Err refusal) status
+    → CauseCase old new (IsWorldTold tells → HasSteps (AskedSteps (command_of setting.words) setting.occasion) tells (Some refusal) old new) refusal.cause
+    → (status ≡ 4) ⊎ (status ≡ 5) → IsStopped setting tells old (once_said new said) status
+stopped_case setting tells old new said refusal status carries finished (ByFault fault reason is_fault) ends =
+    stopped_by setting tells old new said refusal status carries finished reason
+stopped_case setting tells old new said refusal status carries finished (ByMemory memory) ends =
+    stopped_by setting tells old new said refusal status carries finished (subst (λ (c : Cause). HasReason old new ⊥ c) (sym memory) tt)
+stopped_case setting tells old new said refusal status carries finished (ByStep a b c d stated) (inl four) = absurd (a (sym finished.status_is ∙ four))
+stopped_case setting tells old new said refusal status carries finished (ByStep a b c d stated) (inr five) = absurd (b (sym finished.status_is ∙ five))
 
--- the effect of new limits of which a word is refused
-pub word_effect : (word name out refused : List ℕ) (words : LimitWords) (world : World) (now : ℕ) (cause : Cause)
-    → edit_read word words ≡ Refused cause refused
-    → IsEffectOf (LimitsEffect User (Some V1) word words name world now) cause refused out out
-word_effect word name out refused words world now cause is = record {
-  effect = subst (λ (o : Outcome LimitEdit). AndThen o (λ (edit : LimitEdit). Opening User (Some V1) name world (limits_step name edit now)) (ToErr (error_line cause refused) ∷ []) (status_of cause))
-      (sym is) (record { acts = refl; status = refl });
-  out = refl;
+ends_not : (status : ℕ) → status ≡ 0 → (status ≡ 4) ⊎ (status ≡ 5) → ⊥
+ends_not status is (inl four) = omega (arith, is, four)
+ends_not status is (inr five) = omega (arith, is, five)
+
+pub run_stopped : (setting : Setting) (tells : RunTells) (old new : RunSeen) (said : SinkSeen) (result : Result (Unit {0}) Refusal) (status : ℕ)
+    → IsCarriedOut setting tells old new result → IsFinished setting.occasion.line tells new.err said result status
+    → (status ≡ 4) ⊎ (status ≡ 5) → IsStopped setting tells old (once_said new said) status
+run_stopped setting tells old new said (Ok value) status carries finished ends = absurd (ends_not status finished.status_is ends)
+run_stopped setting tells old new said (Err refusal) status carries finished ends =
+    stopped_case setting tells old new said refusal status carries finished (cause_case old new _ refusal.cause carries.refused) ends
+
+complete_case : (old new : RunSeen) (said : SinkSeen) (stated : Type 0) (cause : Cause) (status : ℕ) → CauseCase old new stated cause → IsFault cause → status ≡ status_of cause
+    → NoFault old (once_said new said) → (status ≡ 0) ⊎ (status ≡ 5)
+complete_case old new said stated cause status (ByFault fault reason is_fault) f is none = absurd (no_reason old new said cause fault reason none)
+complete_case old new said stated cause status (ByMemory memory) f is none = inr (is ∙ ap status_of memory)
+complete_case old new said stated cause status (ByStep a b c d stated_is) f is none = absurd (d f)
+
+complete_by : (setting : Setting) (tells : RunTells) (old new : RunSeen) (said : SinkSeen) (result : Result (Unit {0}) Refusal) (status : ℕ)
+    → IsCarriedOut setting tells old new result → IsFinished setting.occasion.line tells new.err said result status
+    → IfErr result (λ (refusal : Refusal). IsFault refusal.cause) → NoFault old (once_said new said) → (status ≡ 0) ⊎ (status ≡ 5)
+complete_by setting tells old new said (Ok value) status carries finished only none = inl finished.status_is
+complete_by setting tells old new said (Err refusal) status carries finished only none =
+    complete_case old new said _ refusal.cause status (cause_case old new _ refusal.cause carries.refused) only finished.status_is none
+
+complete_end : (setting : Setting) (tells : RunTells) (old new : RunSeen) (said : SinkSeen) (result : Result (Unit {0}) Refusal) (status : ℕ) (ended : Option Refusal) (own : List Act) (to : Outside)
+    → IsCarriedOut setting tells old new result → IsFinished setting.occasion.line tells new.err said result status
+    → IsWorldTold tells → AskedSteps (command_of setting.words) setting.occasion (outside_of old) own to ended → 0 ≡ end_status ended
+    → NoFault old (once_said new said) → (status ≡ 0) ⊎ (status ≡ 5)
+complete_end setting tells old new said result status None own to carries finished told steps is none =
+    complete_by setting tells old new said result status carries finished (carries.complete told own to steps) none
+complete_end setting tells old new said result status (Some refusal) own to carries finished told steps is none = absurd (no_status_0 refusal.cause (sym is))
+
+pub run_complete : (setting : Setting) (tells : RunTells) (old new : RunSeen) (said : SinkSeen) (result : Result (Unit {0}) Refusal) (status : ℕ)
+    → IsCarriedOut setting tells old new result → IsFinished setting.occasion.line tells new.err said result status
+    → IsWorldTold tells → (acts : List Act) (to : Outside) → Effect setting (outside_of old) acts to 0 → NoFault old (once_said new said) → (status ≡ 0) ⊎ (status ≡ 5)
+run_complete setting tells old new said result status carries finished told acts to effect none =
+    complete_end setting tells old new said result status effect.refusal effect.own to carries finished told effect.by_steps effect.ended none
+
+pub run_says : (setting : Setting) (tells : RunTells) (old new : RunSeen) (said : SinkSeen) (result : Result (Unit {0}) Refusal) (status : ℕ)
+    → IsCarriedOut setting tells old new result → IsFinished setting.occasion.line tells new.err said result status
+    → HasSaid setting tells old (once_said new said) status
+run_says setting tells old new said (Ok value) status carries finished =
+    inl (finished.status_is, λ told. nothing_said new.err said (finished.written told) ∙ ap (λ (s : SinkSeen). s.written) carries.silent)
+run_says setting tells old new said (Err refusal) status carries finished = inr (record {
+  refusal = refusal;
+  may = carries.may_refuse;
+  reason = reason_said old new said _ ⊤ refusal.cause (λ _. tt) carries.refused;
+  status_is = finished.status_is;
+  line = λ told. line_since old.err new.err said (error_line setting.occasion.line refusal) carries.silent (finished.written told);
+})
+
+ended_unwritten : (uses : Uses) (result : Result (Unit {0}) Refusal) (status : ℕ) (same : Type 0)
+    → (uses.changes ≡ false → same) → (IsTrue uses.all_or_nothing → IfErr result (λ (refusal : Refusal). status_of refusal.cause ≢ 4 → same))
+    → status ≡ end_status (result_err result)
+    → (uses.changes ≡ false) ⊎ (IsTrue uses.all_or_nothing × (status ≢ 0) × (status ≢ 4)) → same
+ended_unwritten uses result status same reads whole is (inl only) = reads only
+ended_unwritten uses (Ok value) status same reads whole is (inr w) = absurd (w.1 is)
+ended_unwritten uses (Err refusal) status same reads whole is (inr w) = whole w.0 (λ four. w.2 (is ∙ four))
+
+pub run_writes : (setting : Setting) (tells : RunTells) (old new : RunSeen) (said : SinkSeen) (result : Result (Unit {0}) Refusal) (status : ℕ)
+    → IsCarriedOut setting tells old new result → IsFinished setting.occasion.line tells new.err said result status
+    → ((asked_uses (command_of setting.words)).changes ≡ false)
+    ⊎ (IsTrue (asked_uses (command_of setting.words)).all_or_nothing × (status ≢ 0) × (status ≢ 4)) → IsUnwritten old.store new.store
+run_writes setting tells old new said result status carries finished case =
+    ended_unwritten (asked_uses (command_of setting.words)) result status (IsUnwritten old.store new.store) carries.only_reads carries.all_or_nothing finished.status_is case
+
+pub run_later : (setting : Setting) (tells : RunTells) (old new : RunSeen) (said : SinkSeen) (result : Result (Unit {0}) Refusal) (status : ℕ)
+    → IsCarriedOut setting tells old new result → IsFinished setting.occasion.line tells new.err said result status → IsLater old (once_said new said)
+run_later setting tells old new said result status carries finished = record {
+  store = carries.later.store;
+  input = carries.later.input;
+  out = carries.later.out;
+  err = omega (arith, carries.later.err, finished.later);
+  link = carries.later.link;
 }
 
-prefix_of_effect : (name out_old out_new : List ℕ) (now : ℕ) (acts : List Act) (status : ℕ) (seen : Result QuotaValue OpenFault)
-    → AppendsPrefix out_old out_new (report_of_view seen name now verbose)
-    → IsEnd (and_then (opened name seen) (report_step verbose name now)) acts status
-    → AppendsPrefix out_old out_new (out_bytes acts)
-prefix_of_effect name out_old out_new now acts status (Ok value) prefix done =
-    subst (λ (a : List Act). AppendsPrefix out_old out_new (out_bytes a)) (sym done.acts)
-    (subst (λ (b : List ℕ). AppendsPrefix out_old out_new b) (sym (append-nil (report_of value no_names name now verbose))) prefix)
-prefix_of_effect name out_old out_new now acts status (Err fault) prefix refused =
-    subst (λ (a : List Act). AppendsPrefix out_old out_new (out_bytes a)) (sym refused.acts) prefix
+-- the refusal of a faulty word, or want of memory
+pub run_words : (setting : Setting) (tells : RunTells) (old new : RunSeen) (said : SinkSeen) (result : Result (Unit {0}) Refusal) (status : ℕ) (refusal : Refusal)
+    → IsCarriedOut setting tells old new result → IsFinished setting.occasion.line tells new.err said result status
+    → IsErrAnd result (λ (answered : Refusal). (answered ≡ refusal) ⊎ (answered.cause ≡ Memory))
+    → IsRefusedWord setting tells old (once_said new said) status refusal ⊎ (status ≡ 5)
+run_words setting tells old new said (Ok value) status refusal carries finished is = absurd is
+run_words setting tells old new said (Err answered) status refusal carries finished (inl same) = inl (record {
+  status_is = finished.status_is ∙ ap (λ (r : Refusal). status_of r.cause) same;
+  line = λ told. subst (λ (r : Refusal). AppendsUnless (Rose old.err.faults said.faults) old.err.written said.written (error_line setting.occasion.line r)) same
+      (line_since old.err new.err said (error_line setting.occasion.line answered) carries.silent (finished.written told));
+})
+run_words setting tells old new said (Err answered) status refusal carries finished (inr memory) = inr (finished.status_is ∙ ap status_of memory)
 
--- the output has a prefix of what any effect of a report states
-pub report_prefix : (name out_old out_new : List ℕ) (world : World) (now : ℕ)
-    → ((seen : Result QuotaValue OpenFault) → IsView (world name) User (Some V1) seen → AppendsPrefix out_old out_new (report_of_view seen name now verbose))
-    → (acts : List Act) (status : ℕ) → ReportEffect User (Some V1) verbose name world now acts status → AppendsPrefix out_old out_new (out_bytes acts)
-report_prefix name out_old out_new world now prefix acts status effect =
-    prefix_of_effect name out_old out_new now acts status effect.0 (prefix effect.0 effect.1) effect.2
+-- status 2 is that of a refusal with status 2
+pub status_2 : (result : Result (Unit {0}) Refusal) (status : ℕ) → status ≡ end_status (result_err result)
+    → (status ≡ 2) ↔ IsErrAnd result (λ (refusal : Refusal). status_of refusal.cause ≡ 2)
+status_2 (Ok value) status is = (λ two. absurd (zero_not_2 status is two), λ none. absurd none)
+status_2 (Err refusal) status is = (λ two. sym is ∙ two, λ two. is ∙ two)
 
--- what was not written to is a prefix of nothing
-pub unwritten : (out : List ℕ) → AppendsPrefix out out []
-unwritten out = record { done = []; rest = []; appended = sym (append-nil out); prefix = refl }
+-- a file that is replaced as a whole stays with every status but 0
+pub run_named : (replaced : Option (List ℕ)) (same : List ℕ → Type 0) (result : Result (Unit {0}) Refusal) (status : ℕ) → status ≡ end_status (result_err result)
+    → IfSome replaced (λ (file : List ℕ). OnErr result (same file)) → IfSome replaced (λ (file : List ℕ). status ≢ 0 → same file)
+run_named None same result status is kept = tt
+run_named (Some file) same (Ok value) status is kept = λ other. absurd (other is)
+run_named (Some file) same (Err refusal) status is kept = λ other. kept
 
-no_bytes : (nothing : Bool) (name : List ℕ) (value : QuotaValue) → out_bytes (if nothing then [] else Change name value ∷ []) ≡ []
-no_bytes true name value = refl
-no_bytes false name value = refl
-
-changed_silent : (name : List ℕ) (id : ℕ) (value : QuotaValue) (edited : Result QuotaValue (Field × ℕ)) (acts : List Act) (status : ℕ) → IsEnd (changed name id value edited) acts status → out_bytes acts ≡ []
-changed_silent name id value (Ok new) acts status done = ap (λ (a : List Act). out_bytes a) done.acts ∙ no_bytes (is_none (get value.records id) && is_none (get new.records id)) name new
-changed_silent name id value (Err out) acts status refused = ap (λ (a : List Act). out_bytes a) refused.acts
-
-opened_silent : (name : List ℕ) (edit : LimitEdit) (now : ℕ) (seen : Result QuotaValue OpenFault) (acts : List Act) (status : ℕ) → IsEnd (and_then (opened name seen) (limits_step name edit now)) acts status → out_bytes acts ≡ []
-opened_silent name edit now (Ok value) acts status done = changed_silent name edit.id value (limits_set value edit.id edit.limits now) acts status done
-opened_silent name edit now (Err fault) acts status refused = ap (λ (a : List Act). out_bytes a) refused.acts
-
-read_silent : (read : Outcome LimitEdit) (name : List ℕ) (world : World) (now : ℕ) (acts : List Act) (status : ℕ)
-    → AndThen read (λ (edit : LimitEdit). Opening User (Some V1) name world (limits_step name edit now)) acts status → out_bytes acts ≡ []
-read_silent (Passed edit) name world now acts status effect = opened_silent name edit now effect.0 acts status effect.2
-read_silent (Refused cause word) name world now acts status refused = ap (λ (a : List Act). out_bytes a) refused.acts
-
--- nothing is stated for the output where limits are set
-pub limits_prefix : (word name out : List ℕ) (words : LimitWords) (world : World) (now : ℕ) (acts : List Act) (status : ℕ)
-    → LimitsEffect User (Some V1) word words name world now acts status → AppendsPrefix out out (out_bytes acts)
-limits_prefix word name out words world now acts status effect =
-    subst (λ (b : List ℕ). AppendsPrefix out out b) (sym (read_silent (edit_read word words) name world now acts status effect)) (unwritten out)
-
--- nothing is stated for the output where the words ask for nothing
-pub nothing_prefix : (setting : Setting) (cause : Cause) (out : List ℕ) → request_of setting.words ≡ Err cause
-    → (acts : List Act) (status : ℕ) → Effect setting acts status → AppendsPrefix out out (out_bytes acts)
-nothing_prefix setting cause out asks acts status effect =
-    let so = subst (λ (r : Result Request Cause). RequestEffect r setting.world setting.now acts status) asks effect in
-    subst (λ (a : List Act). AppendsPrefix out out (out_bytes a)) (sym so.acts) (unwritten out)
-
--- the effect of what the words ask for is that of the command
-pub asked_effect : (setting : Setting) (request : Request) (acts : List Act) (status : ℕ) → request_of setting.words ≡ Ok request
-    → AskedEffect request setting.world setting.now acts status → Effect setting acts status
-asked_effect setting request acts status asks effect =
-    subst (λ (r : Result Request Cause). RequestEffect r setting.world setting.now acts status) (sym asks) effect
-
--- and the other way round
-pub effect_asked : (setting : Setting) (request : Request) (acts : List Act) (status : ℕ) → request_of setting.words ≡ Ok request
-    → Effect setting acts status → AskedEffect request setting.world setting.now acts status
-effect_asked setting request acts status asks effect =
-    subst (λ (r : Result Request Cause). RequestEffect r setting.world setting.now acts status) asks effect
-
--- a refusal of a command is one of the words
-pub refusal_as : (setting : Setting) (request : Request) (cause : Cause) (name out_old out_new : List ℕ) → request_of setting.words ≡ Ok request
-    → IsEffectOf (AskedEffect request setting.world setting.now) cause name out_old out_new → IsEffectOf (Effect setting) cause name out_old out_new
-refusal_as setting request cause name out_old out_new asks h = record { effect = asked_effect setting request _ _ asks h.effect; out = h.out }
-
--- the refusal of words that ask for nothing
-pub nothing_effect : (setting : Setting) (cause : Cause) (out : List ℕ) → request_of setting.words ≡ Err cause → IsEffectOf (Effect setting) cause [] out out
-nothing_effect setting cause out asks = record {
-  effect = subst (λ (r : Result Request Cause). RequestEffect r setting.world setting.now (ToErr (error_line cause []) ∷ []) (status_of cause)) (sym asks)
-      (record { acts = refl; status = refl });
-  out = refl;
-}
-
--- a cause for which a request may be refused is one for which the words may be
-pub may_as : (asked : Result Request Cause) (request : Request) (cause : Cause) (name : List ℕ) → asked ≡ Ok request → MayRefuseRequest request cause name → MayRefuse asked cause name
-may_as asked request cause name is may = subst (λ (r : Result Request Cause). MayRefuse r cause name) (sym is) may
-
-pub may_nothing : (asked : Result Request Cause) (cause : Cause) (name : List ℕ) → asked ≡ Err cause → MayRefuse asked cause name
-may_nothing asked cause name is = subst (λ (r : Result Request Cause). MayRefuse r cause name) (sym is) refl
-
--- the effect of a run that was done
-pub done_effect : (setting : Setting) (request : Request) (old new : World) (out_old out_new err : List ℕ) (err_rose : Type 0)
-    → request_of setting.words ≡ Ok request → HasOutEffect (AskedEffect request setting.world setting.now) old new out_old out_new
-    → HasEffectUpToErr setting 0 old new out_old out_new err err err_rose
-done_effect setting request old new out_old out_new err err_rose asks h =
-    let err_same : err ≡ err ++ err_bytes h.acts = sym (append-nil err) ∙ ap (λ (b : List ℕ). err ++ b) (sym h.err) in
-    record {
-      acts = h.acts;
-      effect = asked_effect setting request h.acts 0 asks h.effect;
-      out = h.out;
-      err = record { done = []; rest = err_bytes h.acts; appended = sym (append-nil err); prefix = refl };
-      err_whole = λ _. err_same;
-      files = h.files;
-    }
-
--- the effect of a refusal whose error line was written
-refused_run : (setting : Setting) (cause : Cause) (old new : World) (name out_old out_new err_old err_new : List ℕ) (err_rose : Type 0) → new ≡ old → IsEffectOf (Effect setting) cause name out_old out_new → AppendsUnless err_rose err_old err_new (error_line cause name) → HasEffectUpToErr setting (status_of cause) old new out_old out_new err_old err_new err_rose
-refused_run setting cause old new name out_old out_new err_old err_new err_rose same h line = record {
-  acts = ToErr (error_line cause name) ∷ [];
-  effect = h.effect;
-  out = h.out ∙ sym (append-nil out_old);
-  err = subst (λ (b : List ℕ). AppendsPrefix err_old err_new b) (sym (append-nil (error_line cause name))) line.prefix;
-  err_whole = λ none. nothing_behind err_old err_new _ (line.whole none);
-  files = (new, same, refl);
-}
-
--- a refusal with a status other than 4 and 5 has its effect
-pub refusal_done : (setting : Setting) (cause : Cause) (status : ℕ) (old new : World) (name out_old out_new err_old err_new : List ℕ) (store_rose out_rose err_rose stated : Type 0)
-    → ((status_of cause ≡ 4 → ⊥) → new ≡ old) → HasReason store_rose out_rose stated cause → (stated → IsEffectOf (Effect setting) cause name out_old out_new)
-    → AppendsUnless err_rose err_old err_new (error_line cause name) → status ≡ status_of cause → (status ≡ 4 → ⊥) → (status ≡ 5 → ⊥)
-    → HasEffectUpToErr setting status old new out_old out_new err_old err_new err_rose
-refusal_done setting cause status old new name out_old out_new err_old err_new s o e p same reason so line ended no_fault no_memory =
-    elim (reason_case s o p cause reason) [
-      | ByStore is _ ↦ absurd (no_fault (ended ∙ ap (λ (c : Cause). status_of c) is))
-      | ByOut is _ ↦ absurd (no_fault (ended ∙ ap (λ (c : Cause). status_of c) is))
-      | ByMemory is ↦ absurd (no_memory (ended ∙ ap (λ (c : Cause). status_of c) is))
-      | ByEffect other _ stated ↦ subst (λ (n : ℕ). HasEffectUpToErr setting n old new out_old out_new err_old err_new e) (sym ended)
-          (refused_run setting cause old new name out_old out_new err_old err_new e (same other) (so stated) line)
-    ]
-
--- where the error output did not fail it got all its bytes
-whole_effect : (setting : Setting) (status : ℕ) (old new : World) (out_old out_new err_old err_new : List ℕ) (err_rose : Type 0) → ¬ err_rose → HasEffectUpToErr setting status old new out_old out_new err_old err_new err_rose → HasEffect setting status old new out_old out_new err_old err_new
-whole_effect setting status old new out_old out_new err_old err_new err_rose none h = record { acts = h.acts; effect = h.effect; out = h.out; err = h.err_whole none; files = h.files }
-
--- a refusal where nothing outside failed and memory sufficed has its effect
-pub refusal_headline : (setting : Setting) (cause : Cause) (status : ℕ) (old new : World) (name out_old out_new err_old err_new : List ℕ) (store_rose out_rose err_rose stated : Type 0)
-    → ((status_of cause ≡ 4 → ⊥) → new ≡ old) → HasReason store_rose out_rose stated cause → (stated → IsEffectOf (Effect setting) cause name out_old out_new)
-    → AppendsUnless err_rose err_old err_new (error_line cause name) → status ≡ status_of cause
-    → ¬ store_rose → ¬ out_rose → ¬ err_rose → (status ≡ 5 → ⊥)
-    → HasEffect setting status old new out_old out_new err_old err_new
-refusal_headline setting cause status old new name out_old out_new err_old err_new s o e p same reason so line ended no_store no_out no_err no_memory =
-    elim (reason_case s o p cause reason) [
-      | ByStore _ rose ↦ absurd (no_store rose)
-      | ByOut _ rose ↦ absurd (no_out rose)
-      | ByMemory is ↦ absurd (no_memory (ended ∙ ap (λ (c : Cause). status_of c) is))
-      | ByEffect other _ stated ↦ whole_effect setting status old new out_old out_new err_old err_new e no_err
-          (subst (λ (n : ℕ). HasEffectUpToErr setting n old new out_old out_new err_old err_new e) (sym ended)
-          (refused_run setting cause old new name out_old out_new err_old err_new e (same other) (so stated) line))
-    ]
-
--- the lines of what stops a run name no file
-store_line : (name : List ℕ) → error_line StoreFault name ≡ error_line StoreFault []
-unfolding error_line
-store_line name = refl
-
-out_line : (name : List ℕ) → error_line SinkFault name ≡ error_line SinkFault []
-unfolding error_line
-out_line name = refl
-
-memory_line : (name : List ℕ) → error_line Memory name ≡ error_line Memory []
-unfolding error_line
-memory_line name = refl
-
-line_as : (cause known : Cause) (name err_old err_new : List ℕ) (err_rose : Type 0) → cause ≡ known → error_line known name ≡ error_line known [] → AppendsUnless err_rose err_old err_new (error_line cause name) → AppendsUnless err_rose err_old err_new (error_line known [])
-line_as cause known name err_old err_new err_rose is same line =
-    subst (λ (b : List ℕ). AppendsUnless err_rose err_old err_new b) (ap (λ (c : Cause). error_line c name) is ∙ same) line
-
--- a refusal with status 4 or 5 was stopped
-pub refusal_stopped : (cause : Cause) (status : ℕ) (name err_old err_new : List ℕ) (store_rose out_rose err_rose stated : Type 0) (tells : Bool)
-    → HasReason store_rose out_rose stated cause → (IsTrue tells → AppendsUnless err_rose err_old err_new (error_line cause name)) → status ≡ status_of cause
-    → (status ≡ 4) ⊎ (status ≡ 5)
-    → IsStopped status store_rose out_rose err_rose tells err_old err_new
-refusal_stopped cause status name err_old err_new s o e p tells reason line ended ends =
-    elim (reason_case s o p cause reason) [
-      | ByStore is rose ↦ record { cause = StoreFault; reason = rose; status = ended ∙ ap (λ (c : Cause). status_of c) is; line = λ told. line_as cause StoreFault name err_old err_new e is (store_line name) (line told) }
-      | ByOut is rose ↦ record { cause = SinkFault; reason = rose; status = ended ∙ ap (λ (c : Cause). status_of c) is; line = λ told. line_as cause SinkFault name err_old err_new e is (out_line name) (line told) }
-      | ByMemory is ↦ record { cause = Memory; reason = tt; status = ended ∙ ap (λ (c : Cause). status_of c) is; line = λ told. line_as cause Memory name err_old err_new e is (memory_line name) (line told) }
-      | ByEffect no_fault no_memory _ ↦ absurd (elim ends [ inl four ↦ no_fault (sym ended ∙ four) | inr five ↦ no_memory (sym ended ∙ five) ])
-    ]
-
--- steps that end with status 0 end so in every way
-ends_agree : (end : Outcome (List Act)) (acts acts' : List Act) (status : ℕ) → IsEnd end acts 0 → IsEnd end acts' status → status ≡ 0
-ends_agree (Passed stated) acts acts' status one other = other.status
-ends_agree (Refused cause name) acts acts' status one other = absurd (no_status_0 cause (sym one.status))
-
--- two views of a file lead to the same status, where one leads to status 0
-views_agree : (name : List ℕ) (named : Option (List ℕ)) (kind : Kind) (format : Option Format) (next : QuotaValue → Outcome (List Act)) (one other : Result QuotaValue OpenFault)
-    → IsView named kind format one → IsView named kind format other → (acts acts' : List Act) (status : ℕ)
-    → IsEnd (and_then (opened name one) next) acts 0 → IsEnd (and_then (opened name other) next) acts' status → status ≡ 0
-views_agree name named kind (Some V1) next (Ok value) (Ok value') view view' acts acts' status done done' =
-    ends_agree (next value) acts acts' status done (subst (λ (v : QuotaValue). IsEnd (next v) acts' status) (one_value named kind value' value view' view) done')
-views_agree name named kind (Some V1) next (Ok value) (Err fault) view view' acts acts' status done done' = absurd (seen_or_refused named kind value fault view view')
-views_agree name named kind (Some V1) next (Err fault) other view view' acts acts' status done done' = absurd (no_status_0 (opening_cause fault) (sym done.status))
-views_agree name named kind (Some V2R0) next one other view view' acts acts' status done done' = absurd view
-views_agree name named kind (Some V2R1) next one other view view' acts acts' status done done' = absurd view
-views_agree name named kind None next one other view view' acts acts' status done done' = absurd view
-
-openings_agree : (kind : Kind) (format : Option Format) (name : List ℕ) (world : World) (next : QuotaValue → Outcome (List Act)) (acts acts' : List Act) (status : ℕ)
-    → Opening kind format name world next acts 0 → Opening kind format name world next acts' status → status ≡ 0
-openings_agree kind format name world next acts acts' status one other =
-    views_agree name (world name) kind format next one.0 other.0 one.1 other.1 acts acts' status one.2 other.2
-
-limits_agree : (read : Outcome LimitEdit) (kind : Kind) (format : Option Format) (name : List ℕ) (world : World) (next : LimitEdit → QuotaValue → Outcome (List Act)) (acts acts' : List Act) (status : ℕ)
-    → AndThen read (λ (edit : LimitEdit). Opening kind format name world (next edit)) acts 0
-    → AndThen read (λ (edit : LimitEdit). Opening kind format name world (next edit)) acts' status → status ≡ 0
-limits_agree (Passed edit) kind format name world next acts acts' status one other = openings_agree kind format name world (next edit) acts acts' status one other
-limits_agree (Refused cause word) kind format name world next acts acts' status one other = absurd (no_status_0 cause (sym one.status))
-
-requests_agree : (request : Result Request Cause) (world : World) (now : ℕ) (acts acts' : List Act) (status : ℕ)
-    → RequestEffect request world now acts 0 → RequestEffect request world now acts' status → status ≡ 0
-requests_agree (Ok (Report kind format options name)) world now acts acts' status one other =
-    openings_agree kind format name world (report_step options name now) acts acts' status one other
-requests_agree (Ok (SetLimits kind format word limits name)) world now acts acts' status one other =
-    limits_agree (edit_read word limits) kind format name world (λ (edit : LimitEdit). limits_step name edit now) acts acts' status one other
-requests_agree (Err cause) world now acts acts' status one other = absurd (no_status_0 cause (sym one.status))
-
--- where an effect has status 0, every effect has
-pub effects_agree : (setting : Setting) (acts acts' : List Act) (status : ℕ) → Effect setting acts 0 → Effect setting acts' status → status ≡ 0
-effects_agree setting acts acts' status one other = requests_agree (request_of setting.words) setting.world setting.now acts acts' status one other
-
--- a refusal where an effect has status 0 and nothing outside failed is for want of memory
-pub refusal_complete : (setting : Setting) (cause : Cause) (status : ℕ) (name out_old out_new : List ℕ) (acts : List Act) (store_rose out_rose stated : Type 0)
-    → HasReason store_rose out_rose stated cause → (stated → IsEffectOf (Effect setting) cause name out_old out_new) → Effect setting acts 0
-    → status ≡ status_of cause → ¬ store_rose → ¬ out_rose → (status ≡ 0) ⊎ (status ≡ 5)
-refusal_complete setting cause status name out_old out_new acts s o p reason so effect ended no_store no_out =
-    elim (reason_case s o p cause reason) [
-      | ByStore _ rose ↦ absurd (no_store rose)
-      | ByOut _ rose ↦ absurd (no_out rose)
-      | ByMemory is ↦ inr (ended ∙ ap (λ (c : Cause). status_of c) is)
-      | ByEffect _ _ stated ↦ inl (ended ∙ effects_agree setting acts _ _ effect (so stated).effect)
-    ]
-
--- a refusal with a status other than 4 and 5 has the status of the effect
-pub refusal_status : (setting : Setting) (cause : Cause) (status : ℕ) (name out_old out_new : List ℕ) (store_rose out_rose stated : Type 0)
-    → HasReason store_rose out_rose stated cause → (stated → IsEffectOf (Effect setting) cause name out_old out_new)
-    → status ≡ status_of cause → (status ≡ 4 → ⊥) → (status ≡ 5 → ⊥) → (acts : List Act) × Effect setting acts status
-refusal_status setting cause status name out_old out_new s o p reason so ended no_fault no_memory =
-    elim (reason_case s o p cause reason) [
-      | ByStore is _ ↦ absurd (no_fault (ended ∙ ap (λ (c : Cause). status_of c) is))
-      | ByOut is _ ↦ absurd (no_fault (ended ∙ ap (λ (c : Cause). status_of c) is))
-      | ByMemory is ↦ absurd (no_memory (ended ∙ ap (λ (c : Cause). status_of c) is))
-      | ByEffect _ _ stated ↦ (_, subst (λ (n : ℕ). Effect setting (ToErr (error_line cause name) ∷ []) n) (sym ended) (so stated).effect)
-    ]
-
--- the effect of a report of a file that is seen as a value
-pub report_status : (name : List ℕ) (world : World) (now : ℕ) (value : QuotaValue) → IsView (world name) User (Some V1) (Ok value)
-    → (acts : List Act) × ReportEffect User (Some V1) verbose name world now acts 0
-report_status name world now value view =
-    let done = report_effect name [] (report_of value no_names name now verbose) world world now value refl view refl in
-    (done.acts, done.effect)
-
-no_error : (request : Request) → IsErr {T = Request} {E = Cause} (Ok request) → ⊥
-no_error request h = cc
-
--- words that ask for something are in the grammar
-pub asks_no_usage : (words : List (List ℕ)) (request : Request) (cause : Cause) → request_of words ≡ Ok request → (status_of cause ≡ 2 → ⊥) → (status_of cause ≡ 2) ↔ IsErr (request_of words)
-asks_no_usage words request cause asks other =
-    (λ e. absurd (other e), λ h. absurd (no_error request (subst (λ (r : Result Request Cause). IsErr r) asks h)))
+-- what was written has been synced with status 0
+pub run_synced : (synced : Type 0) (result : Result (Unit {0}) Refusal) (status : ℕ) → status ≡ end_status (result_err result) → OnOk result synced → status ≡ 0 → synced
+run_synced synced (Ok value) status is done = λ zero. done
+run_synced synced (Err refusal) status is done = λ zero. absurd (no_status_0 refusal.cause (sym is ∙ zero))

@@ -1,5 +1,5 @@
 -- What a command does to what is outside, act by act, and how the files follow.
-use Rattle.std.specs.Prelude.{◌≡◌, ℕ, List, [], ◌∷◌, ◌++◌, Option, Some, None, Result, Ok}
+use Rattle.std.specs.Prelude.{◌≡◌, ℕ, List, [], ◌∷◌, ◌++◌, Option, Some, None, Result, Ok, ⊤}
 use Rattle.quota_types.specs.declared.file_kind.Kind.{Kind}
 use Rattle.quota_types.specs.declared.file_kind.Format.{Format}
 use Rattle.quota_types.specs.declared.file_kind.Format.TheVariants.{V1, V2R0, V2R1}
@@ -43,6 +43,12 @@ answers [] = []
 answers (Answer bytes ∷ acts) = bytes ∷ answers acts
 answers (_ ∷ acts) = answers acts
 
+-- no file is changed
+abbrev pub ChangesNone : List Act → Type 0
+ChangesNone [] = ⊤
+ChangesNone (Change name value ∷ acts) = ⊥
+ChangesNone (_ ∷ acts) = ChangesNone acts
+
 -- Files follow one act. After a change the named file is seen as the new value, and all other files are the same but
 -- for the one with `.new` added to the name. The other acts leave all files.
 abbrev pub FollowsAct : Act → World → World → Type 0
@@ -55,3 +61,10 @@ FollowsAct _ old new = new ≡ old
 abbrev pub Follows : List Act → World → World → Type 0
 Follows [] old new = new ≡ old
 Follows (act ∷ acts) old new = (middle : World) × FollowsAct act old middle × Follows acts middle new
+
+-- Files after acts of which at most the first was begun. A change leaves the named file as it was, since each file is
+-- written anew so far, and all other files but the one with `.new` added to the name.
+abbrev pub FollowsInPart : List Act → World → World → Type 0
+FollowsInPart [] old new = new ≡ old
+FollowsInPart (Change name value ∷ _) old new = (new name ≡ old name) × ReplacesOnly name old new
+FollowsInPart (_ ∷ _) old new = new ≡ old

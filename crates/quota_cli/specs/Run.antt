@@ -1,137 +1,58 @@
--- What a run of the program does to what is outside.
-use Rattle.std.specs.Prelude.{◌≡◌, ◌⊎◌, ℕ, Bool, IsTrue, List, [], ◌∷◌, ◌++◌, Result, Ok, Err, IsOkAnd, ⊤}
-use Rattle.quota_types.specs.declared.damage.DamageKind.TheVariants.{PartialRecord}
-use Rattle.quota_blocks.specs.World.{World}
-use Rattle.quota_blocks.specs.Text.{AppendsPrefix}
-use Rattle.quota_cli.specs.declared.refusal.Cause.{Cause}
-use Rattle.quota_cli.specs.declared.refusal.Cause.TheVariants.{StoreFault, SinkFault, Memory, NoFile, TooLarge, Damaged, NoRoom, UnknownName, BadNumber}
-use Rattle.quota_cli.specs.Refusal.{error_line, status_of}
-use Rattle.quota_cli.specs.declared.limit_edit.LimitEdit.{LimitEdit}
-use Rattle.quota_cli.specs.Request.{Request, Report, SetLimits}
-use Rattle.quota_cli.specs.LimitsCommand.{edit_read}
-use Rattle.quota_cli.specs.Act.{Act, ToErr, out_bytes, err_bytes, Follows}
-use Rattle.quota_cli.specs.Effect.{Setting, Effect}
-use Rattle.quota_cli.specs.Step.{Passed, Refused}
+-- How a command is carried out, whichever it is.
+use Rattle.std.specs.Prelude.{◌≡◌, ◌≢◌, ℕ, Bool, false, IsTrue, List, Option, Some, None, Result, OnOk, IfErr, ⊤}
+use Rattle.quota_blocks.specs.Count.{Rose}
+use Rattle.quota_cli.specs.declared.refusal.cause.Cause.{Cause}
+use Rattle.quota_cli.specs.declared.refusal.cause.Cause.TheVariants.{StoreFault, SourceFault, SinkFault, LinkFault, Memory}
+use Rattle.quota_cli.specs.declared.refusal.reason.Refusal.{Refusal}
+use Rattle.quota_cli.specs.refusal.Status.{status_of}
+use Rattle.quota_cli.specs.Act.{Act}
+use Rattle.quota_cli.specs.Done.{AreDone, AreDoneInPart, IsLater, IsUnwritten, IsWorldTold, Outside, RunSeen, RunTells, outside_of}
+use Rattle.quota_cli.specs.Steps.{Steps}
 
--- The headline: there are acts that with the status are the effect of the words; the output and the error output got
--- exactly their bytes, and the files follow.
-pub record HasEffect (setting : Setting) (status : ℕ) (old new : World) (out_old out_new err_old err_new : List ℕ) : Type 0 where
+-- Which objects a command uses. A command that changes no file only reads the store; one that is all or nothing has
+-- written nothing where it was refused, unless something outside failed.
+pub record Uses : Type 0 where
+  pub input : Bool
+  pub out : Bool
+  pub link : Bool
+  pub changes : Bool
+  pub all_or_nothing : Bool
+
+-- A cause that stops a command before its effect is whole is a fault of an object outside or want of memory. Every other
+-- cause belongs to the effect, and then `stated` holds.
+abbrev pub HasReason : RunSeen → RunSeen → Type 0 → Cause → Type 0
+HasReason old new stated StoreFault = Rose old.store.faults new.store.faults
+HasReason old new stated SourceFault = Rose old.input.faults new.input.faults
+HasReason old new stated SinkFault = Rose old.out.faults new.out.faults
+HasReason old new stated LinkFault = Rose old.link.faults new.link.faults
+HasReason old new stated Memory = ⊤
+HasReason old new stated _ = stated
+
+-- the acts by which the steps of a command end with this refusal, or with none; they were done
+pub record HasSteps (steps : Steps) (tells : RunTells) (refusal : Option Refusal) (old new : RunSeen) : Type 0 where
   pub acts : List Act
-  pub effect : Effect setting acts status
-  pub out : out_new ≡ out_old ++ out_bytes acts
-  pub err : err_new ≡ err_old ++ err_bytes acts
-  pub files : Follows acts old new
+  pub by_steps : steps (outside_of old) acts (outside_of new) refusal
+  pub done : AreDone tells acts old new
 
--- The same where the error output may have failed: it then got a prefix of its bytes.
-pub record HasEffectUpToErr (setting : Setting) (status : ℕ) (old new : World) (out_old out_new err_old err_new : List ℕ) (err_rose : Type 0) : Type 0 where
-  pub acts : List Act
-  pub effect : Effect setting acts status
-  pub out : out_new ≡ out_old ++ out_bytes acts
-  pub err : AppendsPrefix err_old err_new (err_bytes acts)
-  pub err_whole : ¬ err_rose → err_new ≡ err_old ++ err_bytes acts
-  pub files : Follows acts old new
+-- a cause that is no refusal of a step
+abbrev pub IsFault : Cause → Type 0
+IsFault StoreFault = ⊤
+IsFault SourceFault = ⊤
+IsFault SinkFault = ⊤
+IsFault LinkFault = ⊤
+IsFault Memory = ⊤
+IsFault _ = ⊥
 
--- the bytes are appended, or, where the sink failed, a prefix of them
-pub record AppendsUnless (rose : Type 0) (old new bytes : List ℕ) : Type 0 where
-  pub prefix : AppendsPrefix old new bytes
-  pub whole : ¬ rose → new ≡ old ++ bytes
-
--- A cause that stops a command before its effect is whole is a fault of the store, a fault of the output, or want of
--- memory; every other cause belongs to the effect, and then the last fact holds.
-abbrev pub HasReason : (store_rose out_rose stated : Type 0) → Cause → Type 0
-HasReason store_rose out_rose stated StoreFault = store_rose
-HasReason store_rose out_rose stated SinkFault = out_rose
-HasReason store_rose out_rose stated Memory = ⊤
-HasReason store_rose out_rose stated _ = stated
-
--- the request is for a report
-abbrev pub IsReport : Request → Type 0
-IsReport (Report _ _ _ _) = ⊤
-IsReport (SetLimits _ _ _ _ _) = ⊥
-
--- the file that a request is about
-abbrev pub file_of : Request → List ℕ
-file_of (Report kind format options file) = file
-file_of (SetLimits kind format word limits file) = file
-
--- the words of a request that stand for numbers are refused for this cause, the first of them that is faulty being this
--- word
-abbrev pub RefusesWord : Request → Cause → List ℕ → Type 0
-RefusesWord (Report _ _ _ _) cause word = ⊥
-RefusesWord (SetLimits kind format name limits file) cause word = edit_read name limits ≡ Refused cause word
-
--- the words of a request name this identifier
-abbrev pub NamesIdentifier : Request → ℕ → Type 0
-NamesIdentifier (Report _ _ _ _) id = ⊥
-NamesIdentifier (SetLimits kind format name limits file) id = (edit : LimitEdit) × (edit_read name limits ≡ Passed edit) × (edit.id ≡ id)
-
--- The causes for which a request may be refused so far, whatever is told, with the name that the error line is about. No
--- file is opened as a tree; a flat file is never full, and of its damages there is but one kind.
-abbrev pub MayRefuseRequest : Request → Cause → List ℕ → Type 0
-MayRefuseRequest request StoreFault name = ⊤
-MayRefuseRequest request Memory name = ⊤
-MayRefuseRequest request SinkFault name = IsReport request
-MayRefuseRequest request NoFile name = name ≡ file_of request
-MayRefuseRequest request TooLarge name = name ≡ file_of request
-MayRefuseRequest request (Damaged damage) name = (damage.kind ≡ PartialRecord) × (damage.id ≡ 0) × (name ≡ file_of request)
-MayRefuseRequest request (NoRoom out) name = (name ≡ file_of request) × NamesIdentifier request out.id
-MayRefuseRequest request UnknownName name = RefusesWord request UnknownName name
-MayRefuseRequest request BadNumber name = RefusesWord request BadNumber name
-MayRefuseRequest request _ name = ⊥
-
--- The causes for which words may be refused so far, whatever is told. Where they ask for nothing, the first one is no
--- command, and nothing else is said.
-abbrev pub MayRefuse : Result Request Cause → Cause → List ℕ → Type 0
-MayRefuse (Ok request) cause name = MayRefuseRequest request cause name
-MayRefuse (Err refused) cause name = cause ≡ refused
-
--- the words ask for something, of which this word is the first that is refused, for this cause
-abbrev pub RefusesFirst : Result Request Cause → Cause → List ℕ → Type 0
-RefusesFirst asked cause word = IsOkAnd asked (λ request. RefusesWord request cause word)
-
--- The run ended for a cause: the status is the cause's, and its error line went to the error output, and nothing else.
-pub record EndsBy (cause : Cause) (name : List ℕ) (ended : ℕ) (err_rose : Type 0) (err_tells : Bool) (err_old err_new : List ℕ) : Type 0 where
-  pub status : ended ≡ status_of cause
-  pub line : IsTrue err_tells → AppendsUnless err_rose err_old err_new (error_line cause name)
-
--- A run that was refused: the status is the cause's, and its error line went to the error output, and nothing else.
-pub record IsRefusedRun (asked : Result Request Cause) (ended : ℕ) (store_rose out_rose err_rose : Type 0) (err_tells : Bool) (err_old err_new : List ℕ) : Type 0 where
-  pub cause : Cause
-  pub name : List ℕ
-  pub may : MayRefuse asked cause name
-  pub reason : HasReason store_rose out_rose ⊤ cause
-  pub status : ended ≡ status_of cause
-  pub line : IsTrue err_tells → AppendsUnless err_rose err_old err_new (error_line cause name)
-
--- What the program says, whatever is told of the store and the output: nothing with status 0, and else one error line.
-abbrev pub HasSaid : (asked : Result Request Cause) (ended : ℕ) (store_rose out_rose err_rose : Type 0) (err_tells : Bool) (err_old err_new : List ℕ) → Type 0
-HasSaid asked ended store_rose out_rose err_rose err_tells err_old err_new =
-    ((ended ≡ 0) × (IsTrue err_tells → err_new ≡ err_old)) ⊎ IsRefusedRun asked ended store_rose out_rose err_rose err_tells err_old err_new
-
--- The run was stopped before its effect was whole, for a reason, and said so on the error output.
-pub record IsStopped (ended : ℕ) (store_rose out_rose err_rose : Type 0) (err_tells : Bool) (err_old err_new : List ℕ) : Type 0 where
-  pub cause : Cause
-  pub reason : HasReason store_rose out_rose ⊥ cause
-  pub status : ended ≡ status_of cause
-  pub line : IsTrue err_tells → AppendsUnless err_rose err_old err_new (error_line cause [])
-
--- A refusal that belongs to the effect: its error line is the one act, and nothing went to the output.
-pub record IsEffectOf (effect_is : List Act → ℕ → Type 0) (cause : Cause) (name out_old out_new : List ℕ) : Type 0 where
-  pub effect : effect_is (ToErr (error_line cause name) ∷ []) (status_of cause)
-  pub out : out_new ≡ out_old
-
--- The effect has status 0 and writes nothing, and the files follow.
-pub record HasSilentEffect (effect_is : List Act → ℕ → Type 0) (old new : World) : Type 0 where
-  pub acts : List Act
-  pub effect : effect_is acts 0
-  pub out : out_bytes acts ≡ []
-  pub err : err_bytes acts ≡ []
-  pub files : Follows acts old new
-
--- The effect has status 0 and no error line, the output got exactly its bytes, and the files follow.
-pub record HasOutEffect (effect_is : List Act → ℕ → Type 0) (old new : World) (out_old out_new : List ℕ) : Type 0 where
-  pub acts : List Act
-  pub effect : effect_is acts 0
-  pub out : out_new ≡ out_old ++ out_bytes acts
-  pub err : err_bytes acts ≡ []
-  pub files : Follows acts old new
+-- A command was carried out but for the error line. Where it ended well or was refused by a step, its steps say so and
+-- its acts were done. Where it was stopped, there is a reason. In every case the acts of all its steps were done in part at
+-- most, and steps that may pass were refused only by a fault or for want of memory. Nothing was said.
+pub record CarriesOut (steps : Steps) (uses : Uses) (may : Cause → List ℕ → Type 0) (tells : RunTells) (old new : RunSeen) (result : Result (Unit {0}) Refusal) : Type 0 where
+  pub done : OnOk result (IsWorldTold tells → HasSteps steps tells None old new)
+  pub refused : IfErr result (λ (refusal : Refusal). HasReason old new (IsWorldTold tells → HasSteps steps tells (Some refusal) old new) refusal.cause)
+  pub part : IsWorldTold tells → (acts : List Act) (to : Outside) (ended : Option Refusal) → steps (outside_of old) acts to ended → AreDoneInPart tells acts old new
+  pub complete : IsWorldTold tells → (acts : List Act) (to : Outside) → steps (outside_of old) acts to None → IfErr result (λ (refusal : Refusal). IsFault refusal.cause)
+  pub may_refuse : IfErr result (λ (refusal : Refusal). may refusal.cause refusal.name)
+  pub only_reads : uses.changes ≡ false → IsUnwritten old.store new.store
+  pub all_or_nothing : IsTrue uses.all_or_nothing → IfErr result (λ (refusal : Refusal). status_of refusal.cause ≢ 4 → IsUnwritten old.store new.store)
+  pub silent : new.err ≡ old.err
+  pub later : IsLater old new

@@ -2,32 +2,19 @@
 //! promises.
 #![tactic(auto)]
 
-use file_store::FileStore;
-use refusal::Cause;
+use adapters::{FileStore, StreamSink, StreamSource, UdpLink, moment};
+use refusal::{Cause, Refusal};
 use std::io::ErrorKind;
 use std::process::ExitCode;
-use std::time::{Clock, SystemTime};
 use std::{env, io};
-use stream_sink::StreamSink;
+use words::Word;
 
-mod command;
-mod edit_words;
-mod error_line;
-mod file_name;
-mod file_store;
-mod limit_edit;
-mod limit_operands;
-mod limits_command;
-#[cfg(test)]
-mod limits_tests;
+mod adapters;
+mod commands;
 mod refusal;
-mod report_command;
-#[cfg(test)]
-mod report_tests;
 mod run;
-mod stream_sink;
 #[cfg(test)]
-mod test_runs;
+mod tests;
 mod words;
 
 /// The words of the command line without the program's own name. Words that are no text are no words of any command.
@@ -36,14 +23,6 @@ fn given_words<R: env::Env + AllocGlobal>(rt: &R) -> io::Result<Vec<String>> {
         Ok(words) => Ok(words.skip(1).collect(rt.alloc())?),
         Err(error) if error.kind() == ErrorKind::InvalidData => Ok(Vec::new(rt.alloc())),
         Err(error) => Err(error),
-    }
-}
-
-/// The moment, in seconds since 1970.
-fn given_moment(clock: &impl Clock) -> io::Result<u64> {
-    match SystemTime::now(clock)?.duration_since(SystemTime::UNIX_EPOCH) {
-        Ok(since) => Ok(since.as_secs()),
-        Err(_) => Err(io::Error::from(ErrorKind::InvalidData)),
     }
 }
 
@@ -57,14 +36,29 @@ fn starting_cause(kind: ErrorKind) -> Cause {
 
 fn main(rt: HostRuntime) -> ExitCode {
     let mut err = StreamSink::new(rt.stderr());
-    let status = match (given_words(&rt), given_moment(&rt)) {
+    let status = match (given_words(&rt), moment(&rt)) {
         (Ok(words), Ok(now)) => {
             let mut store = FileStore::new(rt.alloc(), &rt);
+            let mut input = StreamSource::new(rt.stdin());
             let mut out = StreamSink::new(rt.stdout());
-            run::run(rt.alloc(), &words, &mut store, &mut out, &mut err, now)
+            let mut link = UdpLink::new(&rt);
+            run::run(
+                rt.alloc(),
+                &words,
+                &mut store,
+                &mut input,
+                &mut out,
+                &mut err,
+                &mut link,
+                now,
+            )
         }
         (Err(error), _) | (_, Err(error)) => {
-            run::refuse(&mut err, starting_cause(error.kind()), "")
+            let refusal = Refusal {
+                cause: starting_cause(error.kind()),
+                name: Word::empty(rt.alloc()),
+            };
+            run::refuse(&mut err, &refusal)
         }
     };
     ExitCode::from(status)

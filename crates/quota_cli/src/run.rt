@@ -1,207 +1,179 @@
-ghost use Rattle.std.specs.Prelude.{◌≡◌, ◌≢◌, ◌≤◌, ◌↔◌, ◌⊎◌, List, ℕ, [], IsTrue, IfErr, IfOk, IsErr, IsErrAnd, IsOkAnd, OnErr, OnOk};
+ghost use Rattle.std.specs.Prelude.{◌≡◌, ◌≢◌, ◌≤◌, ◌⊎◌, ◌↔◌, Bool, ℕ, Option, List, false, true, None, Some, Err, Ok, IsTrue, IsErr, IsErrAnd, IfSome, OnOk, OnErr};
+ghost use Rattle.std.specs.Result.{result_err};
 ghost use Rattle.quota_blocks.specs.Count.{Rose};
-ghost use Rattle.quota_blocks.specs.Replace.{ReplacesOnly};
-ghost use Rattle.quota_blocks.specs.Text.{AppendsPrefix};
-ghost use Rattle.quota_cli.specs.Act.{Act, out_bytes};
-ghost use Rattle.quota_cli.specs.Command.{request_in};
-ghost use Rattle.quota_cli.specs.Effect.{AskedEffect, Effect, setting_of, texts_of};
-ghost use Rattle.quota_cli.specs.Refusal.{error_line, status_of};
-ghost use Rattle.quota_cli.specs.Request.{request_of};
-ghost use Rattle.quota_cli.specs.Run.{AppendsUnless, EndsBy, file_of, HasEffect, HasEffectUpToErr, HasOutEffect, HasReason, HasSaid, IsEffectOf, IsReport, IsStopped, MayRefuseRequest, RefusesFirst, RefusesWord};
-ghost use Rattle.quota_cli.specs.declared.refusal.Cause.{Cause};
+ghost use Rattle.quota_blocks.specs.Unsynced.{AddsNone};
+ghost use Rattle.quota_cli.specs.Act.{Act};
+ghost use Rattle.quota_cli.specs.Done.{AppendsUnless, AreDoneInPart, IsAllTold, IsLater, IsUnwritten, IsWorldTold, NoFault, Outside, outside_of, seen_of, tells_of};
+ghost use Rattle.quota_cli.specs.Headline.{Effect, HasEffect, HasEffectUpToErr, HasSaid, IsRefusedWord, IsStopped, setting_of};
+ghost use Rattle.quota_cli.specs.Run.{CarriesOut};
+ghost use Rattle.quota_cli.specs.commands.Table.{AskedSteps, MayRefuseAsked, asked_replaced, asked_uses, faulty_asked};
+ghost use Rattle.quota_cli.specs.declared.refusal.cause.Cause.TheVariants.{Memory};
+ghost use Rattle.quota_cli.specs.declared.refusal.reason.Refusal.{Refusal};
+ghost use Rattle.quota_cli.specs.refusal.Line.{closing_line, error_line};
+ghost use Rattle.quota_cli.specs.refusal.Status.{end_status, status_of};
+ghost use Rattle.quota_cli.specs.words.Asked.{command_of, texts_of};
+ghost use Rattle.quota_cli.specs.words.Usage.{usage_refusal};
 
-use crate::command::Command;
-use crate::edit_words::read_edit;
-use crate::error_line::write_error_line;
-use crate::limits_command::set_flat_limits;
-use crate::refusal::{Cause, Refusal, UsageKind};
-use crate::report_command::report_flat_file;
-use crate::words::read_words;
-use quota_blocks::{Sink, Store};
+use crate::commands::carry_out;
+use crate::refusal::{Cause, Refusal, write_error_line};
+use crate::words::{UsageFault, Word, read_words};
+use quota_blocks::{Link, Sink, Source, Store};
 use std::alloc::Global;
 
-/// What is said of words that ask for nothing.
-const UNKNOWN_COMMAND: Cause = Cause::Usage {
-    kind: UsageKind::UnknownCommand,
-    word: 0,
-};
-
 /// Carries out the command that the words ask for, and answers the status with which the program ends: 0 done,
-/// 1 refused by the command, 2 the words are outside the grammar, 3 the file is damaged, 4 a fault of the store or the
-/// output, 5 want of memory. With a status other than 0 one error line goes to `err`.
+/// 1 refused by the command, 2 the words are outside the grammar, 3 the file is no quota file of the kind and format, or
+/// damaged, 4 a fault of the store, the input, the output or the link, 5 want of memory. With a status other than 0 one
+/// error line goes to `err`.
 ///
 /// `words` are the words of the command line without the program's own name, and `now` is in seconds since 1970.
-pub fn run<S: Store, O: Sink, E: Sink>(
+pub fn run<S: Store, I: Source, O: Sink, E: Sink, L: Link>(
     alloc: Global,
     words: &[String],
     store: &mut S,
+    input: &mut I,
     out: &mut O,
     err: &mut E,
+    link: &mut L,
     now: u64,
 ) -> u8
     // Where nothing outside failed and memory sufficed, the run has the effect of the words and no other.
-    ensures headline { IsTrue (S.tells store.old) → IsTrue (O.tells out.old) → IsTrue (E.tells err.old)
-        → ¬ Rose (S.faults store.old) (S.faults store.new) → ¬ Rose (O.faults out.old) (O.faults out.new)
-        → ¬ Rose (E.faults err.old) (E.faults err.new) → result ≢ 5
-        → HasEffect (setting_of words.now (S.files store.old) now) result (S.files store.old) (S.files store.new)
-        (O.written out.old) (O.written out.new) (E.written err.old) (E.written err.new) }
-
-    // A status other than 4 and 5 is that of the effect, of which everything was done, but that the error output may
+    ensures headline { IsAllTold (tells_of S.tells I.tells O.tells E.tells L.tells)
+        → NoFault (seen_of (S.seen store.old) (I.seen input.old) (O.seen out.old) (E.seen err.old) (L.seen link.old))
+        (seen_of (S.seen store.new) (I.seen input.new) (O.seen out.new) (E.seen err.new) (L.seen link.new))
+        → result ≢ 5 → HasEffect (setting_of (texts_of words.now) now) (tells_of S.tells I.tells O.tells E.tells L.tells)
+        (seen_of (S.seen store.old) (I.seen input.old) (O.seen out.old) (E.seen err.old) (L.seen link.old))
+        (seen_of (S.seen store.new) (I.seen input.new) (O.seen out.new) (E.seen err.new) (L.seen link.new)) result }
+    // A status other than 4 and 5 is that of the effect, of which everything was done, except that the error output may
     // have failed while the error line was written.
-    ensures done { IsTrue (S.tells store.old) → IsTrue (O.tells out.old) → IsTrue (E.tells err.old)
-        → result ≢ 4 → result ≢ 5
-        → HasEffectUpToErr (setting_of words.now (S.files store.old) now) result (S.files store.old) (S.files store.new)
-        (O.written out.old) (O.written out.new) (E.written err.old) (E.written err.new)
-        (Rose (E.faults err.old) (E.faults err.new)) }
-
-    // With status 4 or 5 the run was stopped for its reason, and says so.
-    ensures stopped { (result ≡ 4) ⊎ (result ≡ 5) → IsStopped result (Rose (S.faults store.old) (S.faults store.new))
-        (Rose (O.faults out.old) (O.faults out.new)) (Rose (E.faults err.old) (E.faults err.new)) (E.tells err.old)
-        (E.written err.old) (E.written err.new) }
-
-    // In every case the output has a prefix of what is stated.
-    ensures out_prefix { IsTrue (S.tells store.old) → IsTrue (O.tells out.old) → (acts : List Act) → (status : ℕ)
-        → Effect (setting_of words.now (S.files store.old) now) acts status
-        → AppendsPrefix (O.written out.old) (O.written out.new) (out_bytes acts) }
-
-    // Status 2 comes exactly where the words ask for nothing.
-    ensures usage { (result ≡ 2) ↔ IsErr (request_of (texts_of words.now)) }
-
-    // Where the store is told, a status other than 4 and 5 is that of the effect.
-    ensures status { IsTrue (S.tells store.old) → result ≢ 4 → result ≢ 5
-        → (acts : List Act) × Effect (setting_of words.now (S.files store.old) now) acts result }
-
-    // Whatever is told, status 0 says nothing, and any other one is that of a cause whose error line went out.
-    ensures says { HasSaid (request_of (texts_of words.now)) result (Rose (S.faults store.old) (S.faults store.new))
-        (Rose (O.faults out.old) (O.faults out.new)) (Rose (E.faults err.old) (E.faults err.new)) (E.tells err.old)
-        (E.written err.old) (E.written err.new) }
-
+    ensures done { IsWorldTold (tells_of S.tells I.tells O.tells E.tells L.tells) → result ≢ 4 → result ≢ 5
+        → HasEffectUpToErr (setting_of (texts_of words.now) now) (tells_of S.tells I.tells O.tells E.tells L.tells)
+        (seen_of (S.seen store.old) (I.seen input.old) (O.seen out.old) (E.seen err.old) (L.seen link.old))
+        (seen_of (S.seen store.new) (I.seen input.new) (O.seen out.new) (E.seen err.new) (L.seen link.new)) result }
+    // With status 4 or 5 the run was stopped by a fault or for want of memory, and says which. What it did before is a
+    // first part of the acts of every effect; the last of them may have been done in part.
+    ensures stopped { (result ≡ 4) ⊎ (result ≡ 5) → IsStopped (setting_of (texts_of words.now) now) (tells_of S.tells I.tells O.tells E.tells L.tells)
+        (seen_of (S.seen store.old) (I.seen input.old) (O.seen out.old) (E.seen err.old) (L.seen link.old))
+        (seen_of (S.seen store.new) (I.seen input.new) (O.seen out.new) (E.seen err.new) (L.seen link.new)) result }
+    // Whatever the status, what was done, the error output left aside, is a first part of the acts of every effect; the
+    // last of them may have been done in part.
+    ensures part { IsWorldTold (tells_of S.tells I.tells O.tells E.tells L.tells) → (acts : List Act) (to : Outside) (ended : ℕ)
+        → Effect (setting_of (texts_of words.now) now)
+        (outside_of (seen_of (S.seen store.old) (I.seen input.old) (O.seen out.old) (E.seen err.old) (L.seen link.old))) acts to ended
+        → AreDoneInPart (record (tells_of S.tells I.tells O.tells E.tells L.tells) { err = false }) acts
+        (seen_of (S.seen store.old) (I.seen input.old) (O.seen out.old) (E.seen err.old) (L.seen link.old))
+        (seen_of (S.seen store.new) (I.seen input.new) (O.seen out.new) (E.seen err.new) (L.seen link.new)) }
     // An effect with status 0 and no fault give status 0, unless memory is wanting.
-    ensures complete { (acts : List Act) → IsTrue (S.tells store.old)
-        → Effect (setting_of words.now (S.files store.old) now) acts 0
-        → ¬ Rose (S.faults store.old) (S.faults store.new) → ¬ Rose (O.faults out.old) (O.faults out.new)
+    ensures complete { IsWorldTold (tells_of S.tells I.tells O.tells E.tells L.tells) → (acts : List Act) (to : Outside)
+        → Effect (setting_of (texts_of words.now) now)
+        (outside_of (seen_of (S.seen store.old) (I.seen input.old) (O.seen out.old) (E.seen err.old) (L.seen link.old))) acts to 0
+        → NoFault (seen_of (S.seen store.old) (I.seen input.old) (O.seen out.old) (E.seen err.old) (L.seen link.old))
+        (seen_of (S.seen store.new) (I.seen input.new) (O.seen out.new) (E.seen err.new) (L.seen link.new))
         → (result ≡ 0) ⊎ (result ≡ 5) }
-
-    // Where a word of a command in the grammar is faulty, the first such word is refused, whatever is told.
-    ensures words { (cause : Cause) (word : List ℕ) → RefusesFirst (request_of (texts_of words.now)) cause word
-        → EndsBy cause word result (Rose (E.faults err.old) (E.faults err.new)) (E.tells err.old)
-        (E.written err.old) (E.written err.new) }
-
-    // A report changes no file and writes none, whatever is told.
-    ensures report_files { IsOkAnd (request_of (texts_of words.now)) IsReport → S.files store.new ≡ S.files store.old }
-    ensures report_writes { IsOkAnd (request_of (texts_of words.now)) IsReport → S.writes store.new ≡ S.writes store.old }
-
-    // A command that was refused changed no file and wrote none.
-    ensures refused_files { result ≢ 0 → result ≢ 4 → S.files store.new ≡ S.files store.old }
-    ensures refused_writes { result ≢ 0 → result ≢ 4 → S.writes store.new ≡ S.writes store.old }
-
-    // Words that are refused leave the store alone, whatever it tells.
-    ensures unasked { IsErr (request_of (texts_of words.now)) → store.new ≡ store.old }
-    ensures unread { (cause : Cause) (word : List ℕ) → RefusesFirst (request_of (texts_of words.now)) cause word
+    // Status 2 comes exactly where the words ask for nothing.
+    ensures usage { (result ≡ 2) ↔ IsErr (command_of (texts_of words.now)) }
+    // Where a word is faulty, the first such word is refused, whatever is told, unless memory is wanting.
+    ensures words { (refusal : Refusal) → faulty_asked (command_of (texts_of words.now)) ≡ Some refusal
+        → IsRefusedWord (setting_of (texts_of words.now) now) (tells_of S.tells I.tells O.tells E.tells L.tells)
+        (seen_of (S.seen store.old) (I.seen input.old) (O.seen out.old) (E.seen err.old) (L.seen link.old))
+        (seen_of (S.seen store.new) (I.seen input.new) (O.seen out.new) (E.seen err.new) (L.seen link.new)) result refusal ⊎ (result ≡ 5) }
+    // Whatever is told, status 0 says nothing, and any other one is that of a cause whose error line went out.
+    ensures says { HasSaid (setting_of (texts_of words.now) now) (tells_of S.tells I.tells O.tells E.tells L.tells)
+        (seen_of (S.seen store.old) (I.seen input.old) (O.seen out.old) (E.seen err.old) (L.seen link.old))
+        (seen_of (S.seen store.new) (I.seen input.new) (O.seen out.new) (E.seen err.new) (L.seen link.new)) result }
+    // A command that only reads changes no file and writes none, and neither does one that is all or nothing where it was
+    // refused by anything but a fault of something outside, whatever is told.
+    ensures writes { ((asked_uses (command_of (texts_of words.now))).changes ≡ false)
+        ⊎ (IsTrue (asked_uses (command_of (texts_of words.now))).all_or_nothing × (result ≢ 0) × (result ≢ 4))
+        → IsUnwritten (S.seen store.old) (S.seen store.new) }
+    // With any status but 0 a file that the command replaces as a whole is as it was, after a fault of the store too.
+    ensures named { IfSome (asked_replaced (command_of (texts_of words.now))) (λ file. result ≢ 0 → IsTrue S.tells
+        → (S.seen store.new).files file ≡ (S.seen store.old).files file) }
+    // With status 0 what was written has been synced: no name is unsynced that was not.
+    ensures synced { result ≡ 0 → IsTrue S.tells
+        → AddsNone (S.seen store.old).unsynced (S.seen store.new).unsynced }
+    // Refused words leave the store alone, and a command leaves alone what it does not use, whatever is told.
+    ensures store { (refusal : Refusal) → faulty_asked (command_of (texts_of words.now)) ≡ Some refusal
         → store.new ≡ store.old }
-
-    // Only a report touches the output.
-    ensures no_out { ¬ (IsOkAnd (request_of (texts_of words.now)) IsReport) → out.new ≡ out.old }
-
-    // With any status but 0 the named file is as before, after a fault of the store too.
-    ensures named { IfOk (request_of (texts_of words.now)) (λ request. IsTrue (S.tells store.old) → result ≢ 0
-        → S.files store.new (file_of request) ≡ S.files store.old (file_of request)) }
-
-    // An effect without an act changes no file and writes none, however the run ends.
-    ensures idle_files { IsTrue (S.tells store.old) → Effect (setting_of words.now (S.files store.old) now) [] 0
-        → S.files store.new ≡ S.files store.old }
-    ensures idle_writes { IsTrue (S.tells store.old) → Effect (setting_of words.now (S.files store.old) now) [] 0
-        → S.writes store.new ≡ S.writes store.old }
-
-    // In every case all files stay but the named one and the one with `.new` added to the name.
-    ensures others { IfOk (request_of (texts_of words.now)) (λ request. IsTrue (S.tells store.old)
-        → ReplacesOnly (file_of request) (S.files store.old) (S.files store.new)) }
-
-    ensures store_later { S.faults store.old ≤ S.faults store.new }
-    ensures out_later { O.faults out.old ≤ O.faults out.new }
-    ensures err_later { E.faults err.old ≤ E.faults err.new }
-    ensures store_telling { S.tells store.new ≡ S.tells store.old }
-    ensures out_telling { O.tells out.new ≡ O.tells out.old }
-    ensures err_telling { E.tells err.new ≡ E.tells err.old }
+    ensures input { (asked_uses (command_of (texts_of words.now))).input ≡ false → input.new ≡ input.old }
+    ensures out { (asked_uses (command_of (texts_of words.now))).out ≡ false → out.new ≡ out.old }
+    ensures link { (asked_uses (command_of (texts_of words.now))).link ≡ false → link.new ≡ link.old }
+    // No count of faults falls.
+    ensures later { IsLater (seen_of (S.seen store.old) (I.seen input.old) (O.seen out.old) (E.seen err.old) (L.seen link.old))
+        (seen_of (S.seen store.new) (I.seen input.new) (O.seen out.new) (E.seen err.new) (L.seen link.new)) }
 {
-    match read_words(words) {
-        Some(command) => match carry_out(alloc, &command, store, out, now) {
-            Ok(()) => 0,
-            Err(refusal) => refuse(err, refusal.cause, refusal.name),
-        },
-        None => refuse(err, UNKNOWN_COMMAND, ""),
+    let done = carry_out_words(alloc, words, store, input, out, err, link, now);
+    finish(err, done)
+}
+
+/// Reads the words, and carries out the command that they ask for, but for its error line.
+fn carry_out_words<S: Store, I: Source, O: Sink, E: Sink, L: Link>(
+    alloc: Global,
+    words: &[String],
+    store: &mut S,
+    input: &mut I,
+    out: &mut O,
+    err: &mut E,
+    link: &mut L,
+    now: u64,
+) -> Result<(), Refusal>
+    ensures carries { (line : Option ℕ) → CarriesOut (AskedSteps (command_of (texts_of words.now)) (record { now = now; line = line })) (asked_uses (command_of (texts_of words.now)))
+        (MayRefuseAsked (command_of (texts_of words.now))) (tells_of S.tells I.tells O.tells E.tells L.tells)
+        (seen_of (S.seen store.old) (I.seen input.old) (O.seen out.old) (E.seen err.old) (L.seen link.old))
+        (seen_of (S.seen store.new) (I.seen input.new) (O.seen out.new) (E.seen err.new) (L.seen link.new)) result }
+    ensures word { (refusal : Refusal) → faulty_asked (command_of (texts_of words.now)) ≡ Some refusal
+        → IsErrAnd result (λ said. (said ≡ refusal) ⊎ (said.cause ≡ Memory)) }
+    ensures usage { IsErrAnd result (λ said. status_of said.cause ≡ 2) ↔ IsErr (command_of (texts_of words.now)) }
+    ensures named { IfSome (asked_replaced (command_of (texts_of words.now))) (λ file. OnErr result (IsTrue S.tells
+        → (S.seen store.new).files file ≡ (S.seen store.old).files file)) }
+    ensures synced { OnOk result (IsTrue S.tells
+        → AddsNone (S.seen store.old).unsynced (S.seen store.new).unsynced) }
+    ensures store { (refusal : Refusal) → faulty_asked (command_of (texts_of words.now)) ≡ Some refusal
+        → store.new ≡ store.old }
+    ensures input { (asked_uses (command_of (texts_of words.now))).input ≡ false → input.new ≡ input.old }
+    ensures out { (asked_uses (command_of (texts_of words.now))).out ≡ false → out.new ≡ out.old }
+    ensures link { (asked_uses (command_of (texts_of words.now))).link ≡ false → link.new ≡ link.old }
+{
+    match read_words(alloc, words) {
+        Ok(command) => carry_out(alloc, command, store, input, out, err, link, now),
+        Err(fault) => Err(usage_refusal(alloc, fault)),
     }
 }
 
-/// Carries out what is asked for but for the error line.
-fn carry_out<'a, S: Store, O: Sink>(
-    alloc: Global,
-    command: &Command<'a>,
-    store: &mut S,
-    out: &mut O,
-    now: u64,
-) -> Result<(), Refusal<'a>>
-    ensures done { OnOk result (IsTrue (S.tells store.old) → IsTrue (O.tells out.old)
-        → HasOutEffect (AskedEffect (request_in command.now) (S.files store.old) now) (S.files store.old) (S.files store.new)
-        (O.written out.old) (O.written out.new)) }
-    ensures refused { IfErr result (λ refusal. HasReason (Rose (S.faults store.old) (S.faults store.new))
-        (Rose (O.faults out.old) (O.faults out.new)) (IsTrue (S.tells store.old)
-        → IsEffectOf (AskedEffect (request_in command.now) (S.files store.old) now) refusal.cause refusal.name.now
-        (O.written out.old) (O.written out.new)) refusal.cause) }
-    ensures prefix { IsTrue (S.tells store.old) → IsTrue (O.tells out.old) → (acts : List Act) → (status : ℕ)
-        → AskedEffect (request_in command.now) (S.files store.old) now acts status
-        → AppendsPrefix (O.written out.old) (O.written out.new) (out_bytes acts) }
-    ensures status { OnOk result (IsTrue (S.tells store.old) → (acts : List Act)
-        × AskedEffect (request_in command.now) (S.files store.old) now acts 0) }
-    ensures may { IfErr result (λ refusal. MayRefuseRequest (request_in command.now) refusal.cause refusal.name.now) }
-    ensures about_file { IfErr result (λ refusal. status_of refusal.cause ≢ 2) }
-    ensures words { (cause : Cause) (word : List ℕ) → RefusesWord (request_in command.now) cause word
-        → IsErrAnd result (λ refusal. (refusal.cause ≡ cause) × (refusal.name.now ≡ word)) }
-    ensures report_files { IsReport (request_in command.now) → S.files store.new ≡ S.files store.old }
-    ensures report_writes { IsReport (request_in command.now) → S.writes store.new ≡ S.writes store.old }
-    ensures refused_files { IfErr result (λ refusal. status_of refusal.cause ≢ 4
-        → S.files store.new ≡ S.files store.old) }
-    ensures refused_writes { IfErr result (λ refusal. status_of refusal.cause ≢ 4
-        → S.writes store.new ≡ S.writes store.old) }
-    ensures unread { (cause : Cause) (word : List ℕ) → RefusesWord (request_in command.now) cause word
-        → store.new ≡ store.old }
-    ensures no_out { ¬ (IsReport (request_in command.now)) → out.new ≡ out.old }
-    ensures named { OnErr result (IsTrue (S.tells store.old)
-        → S.files store.new (file_of (request_in command.now)) ≡ S.files store.old (file_of (request_in command.now))) }
-    ensures idle_files { IsTrue (S.tells store.old)
-        → AskedEffect (request_in command.now) (S.files store.old) now [] 0 → S.files store.new ≡ S.files store.old }
-    ensures idle_writes { IsTrue (S.tells store.old)
-        → AskedEffect (request_in command.now) (S.files store.old) now [] 0 → S.writes store.new ≡ S.writes store.old }
-    ensures others { IsTrue (S.tells store.old)
-        → ReplacesOnly (file_of (request_in command.now)) (S.files store.old) (S.files store.new) }
-    ensures store_later { S.faults store.old ≤ S.faults store.new }
-    ensures out_later { O.faults out.old ≤ O.faults out.new }
-    ensures store_telling { S.tells store.new ≡ S.tells store.old }
-    ensures out_telling { O.tells out.new ≡ O.tells out.old }
+/// What is said of words that were not read.
+fn usage_refusal(alloc: Global, fault: UsageFault) -> Refusal
+    ensures { result ≡ usage_refusal fault }
 {
-    match *command {
-        Command::Report { file } => match report_flat_file(alloc, store, file, now, out) {
-            Ok(()) => Ok(()),
-            Err(cause) => Err(Refusal { cause, name: file }),
-        },
-        Command::SetLimits { name, limits, file } => match read_edit(name, &limits) {
-            Ok(edit) => match set_flat_limits(alloc, store, file, &edit, now) {
-                Ok(()) => Ok(()),
-                Err(cause) => Err(Refusal { cause, name: file }),
-            },
-            Err(refusal) => Err(refusal),
-        },
+    let cause = match fault {
+        UsageFault::Usage { kind, word } => Cause::Usage { kind, word },
+        UsageFault::Memory => Cause::Memory,
+    };
+    Refusal {
+        cause,
+        name: Word::empty(alloc),
+    }
+}
+
+/// Writes the error line of a command that was refused, and answers the status with which the program ends. The status
+/// stays where the error output fails.
+fn finish<E: Sink>(err: &mut E, done: Result<(), Refusal>) -> u8
+    ensures status { result ≡ end_status (result_err done) }
+    ensures line { IsTrue E.tells → AppendsUnless (Rose (E.seen err.old).faults (E.seen err.new).faults)
+        (E.seen err.old).written (E.seen err.new).written (closing_line None (result_err done)) }
+    ensures later { (E.seen err.old).faults ≤ (E.seen err.new).faults }
+{
+    match done {
+        Ok(()) => 0,
+        Err(refusal) => refuse(err, &refusal),
     }
 }
 
 /// Writes the error line of a refusal, and answers its status, which stays where the error output fails.
-pub fn refuse<E: Sink>(err: &mut E, cause: Cause, name: &str) -> u8
-    ensures status { result ≡ status_of cause }
-    ensures line { IsTrue (E.tells err.old) → AppendsUnless (Rose (E.faults err.old) (E.faults err.new))
-        (E.written err.old) (E.written err.new) (error_line cause name.now) }
-    ensures later { E.faults err.old ≤ E.faults err.new }
-    ensures same_telling { E.tells err.new ≡ E.tells err.old }
+pub fn refuse<E: Sink>(err: &mut E, refusal: &Refusal) -> u8
+    ensures status { result ≡ status_of refusal.now.cause }
+    ensures line { IsTrue E.tells → AppendsUnless (Rose (E.seen err.old).faults (E.seen err.new).faults)
+        (E.seen err.old).written (E.seen err.new).written (error_line None refusal.now) }
+    ensures later { (E.seen err.old).faults ≤ (E.seen err.new).faults }
 {
-    let _ = write_error_line(err, cause, name);
-    cause.status()
+    let _ = write_error_line(err, None, refusal);
+    refusal.cause.status()
 }

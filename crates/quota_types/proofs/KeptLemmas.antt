@@ -1,11 +1,11 @@
 -- What a format keeps of a record: it fits, is kept again as it is, and is null where the record is.
-use Rattle.std.proofs.Common.{◌≡◌, ℕ, ◌*◌, None, ◌↔◌, ◌⊎◌, refl, arith}
+use Rattle.std.proofs.Common.{◌≡◌, ℕ, ◌*◌, None, ◌⊎◌, arith}
 use Rattle.quota_types.specs.declared.file_kind.Format.{Format}
 use Rattle.quota_types.specs.declared.file_kind.Format.TheVariants.{V1, V2R0, V2R1}
 use Rattle.quota_types.specs.declared.record.Rec.{Rec}
-use Rattle.quota_types.specs.Kept.{kept_of, without_marker}
+use Rattle.quota_types.specs.Kept.{IsKept, kept_of, without_marker}
 use Rattle.quota_types.specs.Range.{unfit}
-use Rattle.quota_types.specs.Rec.{IsNull, kib_of}
+use Rattle.quota_types.specs.Rec.{is_null_of, kib_of}
 
 -- whole KiB are rounded up to themselves
 pub kib_of-whole : (kib : ℕ) → kib_of (1024 * kib) ≡ kib
@@ -21,25 +21,15 @@ kept_fits V1 id rec e = grind (arith, kib_of-whole)
 kept_fits V2R0 id rec e = grind arith
 kept_fits V2R1 id rec e = grind arith
 
-pub kept_null : (format : Format) (id : ℕ) (rec : Rec) → IsNull (kept_of format id rec) ↔ IsNull rec
+pub kept_null : (format : Format) (id : ℕ) (rec : Rec) → is_null_of (kept_of format id rec) ≡ is_null_of rec
 kept_null V1 id rec = grind arith
 kept_null V2R0 id rec = grind arith
 kept_null V2R1 id rec = grind arith
 
--- a record that is kept fits, is kept again as it is, and is null where the record is
-pub record IsKept (format : Format) (id : ℕ) (rec kept : Rec) : Type 0 where
-  pub kept_is : kept ≡ kept_of format id rec
-  pub fits : unfit format id kept ≡ None
-  pub again : kept_of format id kept ≡ kept
-  pub null : IsNull kept ↔ IsNull rec
+-- what is kept of a record that fits is kept as it is
+pub kept_is_kept : (format : Format) (id : ℕ) (rec : Rec) → unfit format id rec ≡ None → IsKept format id (kept_of format id rec)
+kept_is_kept format id rec fits = record { fits = kept_fits format id rec fits; again = kept_again format id rec }
 
-tree_keeps : (format : Format) → (format ≡ V2R0) ⊎ (format ≡ V2R1) → (id : ℕ) (rec : Rec) → without_marker id rec ≡ kept_of format id rec
+-- a tree file keeps a record without the marker
+pub tree_keeps : (format : Format) → (format ≡ V2R0) ⊎ (format ≡ V2R1) → (id : ℕ) (rec : Rec) → without_marker id rec ≡ kept_of format id rec
 tree_keeps format tree id rec = grind arith
-
-pub tree_kept : (format : Format) → (format ≡ V2R0) ⊎ (format ≡ V2R1) → (id : ℕ) (rec : Rec) → unfit format id rec ≡ None → IsKept format id rec (without_marker id rec)
-tree_kept format tree id rec fits = rw (tree_keeps format tree id rec) record {
-  kept_is = refl;
-  fits = kept_fits format id rec fits;
-  again = kept_again format id rec;
-  null = kept_null format id rec;
-}

@@ -1,7 +1,8 @@
 -- What a format keeps of a record that it has room for. Source: the records on disk, `struct v1_disk_dqblk` and
 -- `struct v2r0_disk_dqblk` and `struct v2r1_disk_dqblk` of the quota tools.
-use Rattle.std.specs.Prelude.{ℕ, ◌*◌, Bool, ◌&&◌, ◌==◌, if◌then◌else◌}
-use Rattle.quota_types.specs.Rec.{kib_of}
+use Rattle.std.specs.Prelude.{◌≡◌, ℕ, ◌*◌, None, Bool, ◌&&◌, ◌==◌, if◌then◌else◌}
+use Rattle.quota_types.specs.Range.{unfit}
+use Rattle.quota_types.specs.Rec.{is_null_of, kib_of}
 use Rattle.quota_types.specs.declared.file_kind.Format.{Format}
 use Rattle.quota_types.specs.declared.file_kind.Format.TheVariants.{V1, V2R0, V2R1}
 use Rattle.quota_types.specs.declared.record.Rec.{Rec}
@@ -13,9 +14,7 @@ without_timers_of_zero id rec = if id == 0 then record rec { btime = 0; itime = 
 
 -- the eight fields are 0 but for an itime of 1
 abbrev pub is_marker : Rec → Bool
-is_marker rec =
-    rec.ihard == 0 && rec.isoft == 0 && rec.inodes == 0 && rec.bhard == 0 && rec.bsoft == 0 && rec.space == 0
-    && rec.btime == 0 && rec.itime == 1
+is_marker rec = is_null_of rec && rec.btime == 0 && rec.itime == 1
 
 -- the record of an identifier, which is all 0 where it was the marker of identifier 0: a tree file has the marker in
 -- place of a record of zeros of identifier 0, since an entry of zeros is an unused one
@@ -28,3 +27,8 @@ abbrev pub kept_of : Format → ℕ → Rec → Rec
 kept_of V1 id rec = without_timers_of_zero id (record rec { space = 1024 * kib_of rec.space })
 kept_of V2R0 id rec = without_marker id rec
 kept_of V2R1 id rec = without_marker id rec
+
+-- the format has room for an identifier's record, and keeps it as it is
+pub record IsKept (format : Format) (id : ℕ) (rec : Rec) : Type 0 where
+  pub fits : unfit format id rec ≡ None
+  pub again : kept_of format id rec ≡ rec

@@ -1,4 +1,6 @@
 pub mod Bytes
+pub mod Damage
+pub mod Field
 pub mod Kept
 pub mod Range
 pub mod Rec

@@ -1,3 +1,6 @@
+ghost use Rattle.std.specs.Prelude.{◌≡◌};
+ghost use Rattle.quota_types.specs.Damage.{damage_name, names_identifier};
+
 /// What is wrong with a damaged quota file.
 #[derive(Clone, Copy, Debug, PartialEq, Eq)]
 pub enum DamageKind {
@@ -31,6 +34,41 @@ pub enum DamageKind {
     DoubleEntry,
     /// A flat file ends inside a record.
     PartialRecord,
+}
+
+impl DamageKind {
+    /// Its name, as error lines print it.
+    pub fn name(self) -> &'static str
+        ensures { result.now ≡ damage_name self }
+    {
+        match self {
+            DamageKind::Short => "Short",
+            DamageKind::RefOut => "RefOut",
+            DamageKind::TwoRoles => "TwoRoles",
+            DamageKind::NoRole => "NoRole",
+            DamageKind::EmptyTree => "EmptyTree",
+            DamageKind::ChainOut => "ChainOut",
+            DamageKind::ChainLoop => "ChainLoop",
+            DamageKind::ForeignInChain => "ForeignInChain",
+            DamageKind::MissingInChain => "MissingInChain",
+            DamageKind::BadPrev => "BadPrev",
+            DamageKind::BadCount => "BadCount",
+            DamageKind::MissingEntry => "MissingEntry",
+            DamageKind::StrayEntry => "StrayEntry",
+            DamageKind::DoubleEntry => "DoubleEntry",
+            DamageKind::PartialRecord => "PartialRecord",
+        }
+    }
+
+    /// Whether the damage is about one identifier.
+    pub fn names_identifier(self) -> bool
+        ensures { result ≡ names_identifier self }
+    {
+        matches!(
+            self,
+            DamageKind::MissingEntry | DamageKind::StrayEntry | DamageKind::DoubleEntry
+        )
+    }
 }
 
 /// One thing that is wrong with a quota file, and where.

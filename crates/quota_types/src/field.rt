@@ -1,3 +1,6 @@
+ghost use Rattle.std.specs.Prelude.{◌≡◌};
+ghost use Rattle.quota_types.specs.Field.{field_name, is_of_identifier};
+
 /// A field of a quota file that has a range.
 #[derive(Clone, Copy, Debug, PartialEq, Eq)]
 pub enum Field {
@@ -23,6 +26,34 @@ pub enum Field {
     Btime,
     /// The end of the inode grace period, in seconds since 1970.
     Itime,
+}
+
+impl Field {
+    /// Its name, as error lines print it.
+    pub fn name(self) -> &'static str
+        ensures { result.now ≡ field_name self }
+    {
+        match self {
+            Field::BlockGrace => "bgrace",
+            Field::InodeGrace => "igrace",
+            Field::Id => "id",
+            Field::Ihard => "ihard",
+            Field::Isoft => "isoft",
+            Field::Inodes => "inodes",
+            Field::Bhard => "bhard",
+            Field::Bsoft => "bsoft",
+            Field::Space => "space",
+            Field::Btime => "btime",
+            Field::Itime => "itime",
+        }
+    }
+
+    /// Whether the field is one of an identifier's record, and none of the whole file.
+    pub fn is_of_identifier(self) -> bool
+        ensures { result ≡ is_of_identifier self }
+    {
+        !matches!(self, Field::BlockGrace | Field::InodeGrace)
+    }
 }
 
 /// A value for which a format has no room.

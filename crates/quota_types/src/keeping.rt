@@ -1,7 +1,7 @@
-ghost use Rattle.std.specs.Prelude.{◌≡◌, ◌^◌, ◌<◌, ◌↔◌, None};
-ghost use Rattle.quota_types.specs.Kept.{kept_of, without_marker};
+ghost use Rattle.std.specs.Prelude.{◌≡◌, ◌^◌, ◌<◌, None};
+ghost use Rattle.quota_types.specs.Kept.{IsKept, kept_of, without_marker};
 ghost use Rattle.quota_types.specs.Range.{unfit};
-ghost use Rattle.quota_types.specs.Rec.{IsNull, kib_of};
+ghost use Rattle.quota_types.specs.Rec.{is_null_of, kib_of};
 
 use crate::{Format, Rec};
 
@@ -47,14 +47,14 @@ fn kept_tree(id: u32, rec: Rec) -> Rec
 }
 
 /// What the format keeps of an identifier's record for which it has room. A flat file keeps the space in whole KiB,
-/// rounded up, and no timers of identifier 0. A tree file keeps a record as it is, but for an itime of 1 and else zeros
-/// of identifier 0, by which it marks a record of zeros, and which becomes one.
+/// rounded up, and no timers of identifier 0. A tree file keeps a record as it is; only for identifier 0 an `itime` of 1
+/// and else zeros, by which it marks a record of zeros, is kept as zeros.
+#[tactic(auto, using(crate::proofs::KeptLemmas::kept_is_kept, crate::proofs::KeptLemmas::kept_null, crate::proofs::KeptLemmas::tree_keeps))]
 pub fn kept(format: Format, id: u32, rec: Rec) -> Rec
     requires { unfit format id rec ≡ None }
     ensures kept { result ≡ kept_of format id rec }
-    ensures fits { unfit format id result ≡ None }
-    ensures again { kept_of format id result ≡ result }
-    ensures null { IsNull result ↔ IsNull rec }
+    ensures again { IsKept format id result }
+    ensures null { is_null_of result ≡ is_null_of rec }
 {
     match format {
         Format::V1 => kept_flat(id, rec),

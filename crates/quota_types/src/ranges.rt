@@ -63,8 +63,12 @@ fn check(fits: bool, id: u32, field: Field, value: u64) -> Result<(), NoRoom>
     }
 }
 
-/// Refuses an identifier's record for which the format has no room, by the first such field in the order of `Field`,
-/// with its value; that of the space is in bytes.
+/// Refuses an identifier's record for which the format has no room.
+///
+/// # Errors
+///
+/// The first field for which the format has no room, in the order of `Field`, with its value; that of the space is in
+/// bytes.
 pub fn check_record(format: Format, id: u32, rec: &Rec) -> Result<(), NoRoom>
     ensures fits { OnOk result (unfit format id rec.now ≡ None) }
     ensures refused { IfErr result (λ out. unfit format id rec.now ≡ Some (out.field, out.value)) }
@@ -87,8 +91,11 @@ pub fn check_record(format: Format, id: u32, rec: &Rec) -> Result<(), NoRoom>
     Ok(())
 }
 
-/// Refuses grace periods for which the format has no room, by the first of the two, that for blocks before that for
-/// inodes, with its value.
+/// Refuses grace periods for which the format has no room.
+///
+/// # Errors
+///
+/// The first period for which the format has no room, that for blocks before that for inodes, with its value.
 pub fn check_grace(format: Format, grace: &Grace) -> Result<(), NoRoom>
     ensures fits { OnOk result (grace_unfit format grace.now ≡ None) }
     ensures refused { IfErr result (λ out. grace_unfit format grace.now ≡ Some (out.field, out.value)) }

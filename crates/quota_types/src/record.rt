@@ -1,5 +1,5 @@
-ghost use Rattle.std.specs.Prelude.{◌≡◌, ◌↔◌, IsTrue};
-ghost use Rattle.quota_types.specs.Rec.{IsNull, kib_of};
+ghost use Rattle.std.specs.Prelude.{◌≡◌};
+ghost use Rattle.quota_types.specs.Rec.{is_null_of, kib_of};
 
 /// What a quota file keeps for one identifier (the kernel's `struct if_dqblk`, with the space in bytes).
 #[derive(Clone, Copy, Debug, Default, PartialEq, Eq)]
@@ -25,7 +25,7 @@ pub struct Rec {
 impl Rec {
     /// Whether the record limits nothing and counts nothing: all four limits and both usage numbers are 0.
     pub fn is_null(&self) -> bool
-        ensures { IsTrue result ↔ IsNull self.now }
+        ensures { result ≡ is_null_of self.now }
     {
         self.ihard == 0
             && self.isoft == 0

@@ -28,7 +28,9 @@ fn next_timer(soft: u64, used: u64, timer: u64, grace: u64, now: u64) -> Option<
 /// exceeded, a timer that does not run starts and ends a grace period from now, and one that runs stays; otherwise the
 /// timer is 0.
 ///
-/// An error names the first timer, that of blocks before that of inodes, that starts and whose end does not fit 64 bits.
+/// # Errors
+///
+/// The first timer, that of blocks before that of inodes, that starts and whose end does not fit 64 bits.
 pub fn next_timers(rec: Rec, grace: Grace, now: u64) -> Result<Rec, Field>
     ensures timers { IfOk result (λ next. next ≡ timers_of rec grace now) }
     ensures refused { result_err result ≡ timer_past_64_bits rec grace now }

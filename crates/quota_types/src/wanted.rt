@@ -1,7 +1,7 @@
-ghost use Rattle.std.specs.Prelude.{◌≡◌, ◌↔◌, None, Some, IfOk, IfErr, OnOk};
-ghost use Rattle.quota_types.specs.Kept.{kept_of};
+ghost use Rattle.std.specs.Prelude.{◌≡◌, None, Some, IfOk, IfErr, OnOk};
+ghost use Rattle.quota_types.specs.Kept.{IsKept, kept_of};
 ghost use Rattle.quota_types.specs.Range.{unfit};
-ghost use Rattle.quota_types.specs.Rec.{IsNull};
+ghost use Rattle.quota_types.specs.Rec.{is_null_of};
 ghost use Rattle.quota_types.specs.Timers.{timers_of};
 
 use crate::{Field, Format, Grace, NoRoom, Rec, check_record, kept, next_timers};
@@ -17,14 +17,16 @@ fn period_of(timer: Field, grace: Grace) -> u64
     }
 }
 
-/// What the format keeps of an identifier's record with the timers that `next_timers` tells. It is refused by the first
-/// field for which the format has no room, in the order of `Field`, with its value; that of a timer may be a sum beyond
-/// 64 bits.
+/// What the format keeps of an identifier's record with the timers that `next_timers` tells.
+///
+/// # Errors
+///
+/// The first field for which the format has no room, in the order of `Field`, with its value; that of a timer may be a sum
+/// beyond 64 bits.
 pub fn next_kept(format: Format, id: u32, rec: Rec, grace: Grace, now: u64) -> Result<Rec, NoRoom>
     ensures kept { IfOk result (λ next. next ≡ kept_of format id (timers_of rec grace now)) }
-    ensures fits { IfOk result (λ next. unfit format id next ≡ None) }
-    ensures again { IfOk result (λ next. kept_of format id next ≡ next) }
-    ensures null { IfOk result (λ next. IsNull next ↔ IsNull rec) }
+    ensures again { IfOk result (IsKept format id) }
+    ensures null { IfOk result (λ next. is_null_of next ≡ is_null_of rec) }
     ensures wanted { OnOk result (unfit format id (timers_of rec grace now) ≡ None) }
     ensures refused { IfErr result (λ out. unfit format id (timers_of rec grace now) ≡ Some (out.field, out.value)) }
     ensures id { IfErr result (λ out. out.id ≡ id) }

@@ -3,3 +3,4 @@ pub mod FlatLemmas
 pub mod ViewLemmas
 pub mod ChangeLemmas
 pub mod RecordLemmas
+pub mod MakesLemmas

@@ -1,5 +1,5 @@
 -- Records of a flat file of which a part was written over.
-use Rattle.std.proofs.Common.{◌≡◌, ◌≢◌, ℕ, zero, suc, ◌+◌, ◌*◌, ◌%◌, ◌<◌, ◌≤◌, Bool, true, false, cond, nat_le, ◌==◌, IsTrue, List, length, Option, Some, None, Result, Ok, Err, OnOk, refl, sym, ap, subst, ◌∙◌, inl, inr, arith}
+use Rattle.std.proofs.Common.{◌≡◌, ◌≢◌, ℕ, zero, suc, ◌+◌, ◌*◌, ◌%◌, ◌<◌, ◌≤◌, Bool, true, false, cond, nat_le, ◌==◌, IsTrue, List, length, Option, Some, None, refl, sym, ap, subst, ◌∙◌, inl, inr, arith}
 use Rattle.std.specs.Option.{is_some}
 use Rattle.std.proofs.lemmas.Bool.{cases_lt, lt-leb, cases_Bool, true≢false}
 use Rattle.std.proofs.lemmas.Bool.Decides.{nat_tests, eqb_tells}
@@ -11,17 +11,17 @@ use Rattle.quota_types.specs.declared.record.Grace.{Grace}
 use Rattle.quota_types.specs.Bytes.{byte_at, number_at}
 use Rattle.quota_types.specs.Kept.{kept_of}
 use Rattle.quota_types.specs.Range.{grace_unfit}
-use Rattle.quota_types.specs.Rec.{IsNull, kib_of}
+use Rattle.quota_types.specs.Rec.{IsNull, is_zeros, kib_of}
 use Rattle.quota_blocks.specs.QuotaValue.{QuotaValue, with_record, without_record, with_grace}
 use Rattle.quota_blocks.specs.Span.{KeepsOutside}
 use Rattle.quota_v1.specs.Opened.{HoldsFlat}
-use Rattle.quota_v1.specs.FlatFile.{FlatStandsFor, flat_record, flat_grace, is_zeros, or_week, stored_record, timed_record, unless_zeros}
+use Rattle.quota_v1.specs.FlatFile.{FlatStandsFor, flat_record, flat_grace, or_week, stored_record, timed_record, unless_zeros}
 use Rattle.quota_v1.proofs.ChangeLemmas.{number_at-same, number_before, number_behind}
 use Rattle.quota_v1.proofs.NumberLemmas.{number_at-past}
 
 -- an identifier above 0 has timers
 timed_record-other : (file : List ℕ) (id : ℕ) → (id == 0) ≡ false → timed_record file id ≡ stored_record file id
-timed_record-other file id other = ap (λ (b : Bool). cond b (record (stored_record file 0) { btime = 0; itime = 0 }) (stored_record file id)) other
+timed_record-other file id other = ap (λ (b : Bool). cond b (record (stored_record file id) { btime = 0; itime = 0 }) (stored_record file id)) other
 
 not_zero : (n : ℕ) → (suc n == 0) ≡ false
 not_zero n = grind (arith, nat_tests)
@@ -90,14 +90,7 @@ flat_record-read file q whole = elim (cases_lt (length file) (40 * q + 40)) [
 ]
 
 null_of_zeros : (rec : Rec) → is_zeros rec ≡ true → IsNull rec
-null_of_zeros rec zeros = record {
-  ihard = grind (arith, nat_tests);
-  isoft = grind (arith, nat_tests);
-  inodes = grind (arith, nat_tests);
-  bhard = grind (arith, nat_tests);
-  bsoft = grind (arith, nat_tests);
-  space = grind (arith, nat_tests);
-}
+null_of_zeros rec zeros = grind (arith, nat_tests)
 
 -- a record that limits or counts something is not all zero
 pub unless_zeros-some : (rec : Rec) → ¬ IsNull rec → unless_zeros rec ≡ Some rec
@@ -174,6 +167,17 @@ stands_absent old value id s none = record {
   ];
 }
 
+-- an option that is not some
+none_of : {X : Type 0} (found : Option X) → is_some found ≡ false → found ≡ None
+none_of None e = refl
+none_of (Some x) e = absurd (true≢false e)
+
+-- so an opened file holds it as it is
+pub holds_absent : (tells : Bool) (named : Option (List ℕ)) (old : List ℕ) (value : QuotaValue) (id : ℕ) (found : Option Rec) → found ≡ flat_record old id → is_some found ≡ false
+    → HoldsFlat tells named old value → HoldsFlat tells named old (without_record value id)
+holds_absent tells named old value id found is none held =
+    record { told = held.told; same = held.same; stands = stands_absent old value id held.stands (sym is ∙ none_of found none) }
+
 grace_not_zero : (grace : Grace) → grace_unfit V1 grace ≡ None → (0 < grace.block) × (0 < grace.inode)
 grace_not_zero grace fits = grind (arith, nat_tests)
 
@@ -203,28 +207,18 @@ stands_graced old new value grace s whole block inode keeps fits = record {
 }
 
 -- what the file that was written anew holds, where its bytes stand for a value
-pub holds_rewritten : (tells tells' : Bool) (named named' : Option (List ℕ)) (old loaded new : List ℕ) (value value' : QuotaValue) → tells' ≡ tells
-    → (IsTrue tells → named' ≡ Some new) → loaded ≡ new → (FlatStandsFor old value → FlatStandsFor new value') → HoldsFlat tells named old value → HoldsFlat tells' named' loaded value'
-holds_rewritten tells tells' named named' old loaded new value value' t is l stands held = record {
-  told = subst IsTrue (sym t) held.told;
+pub holds_rewritten : (tells : Bool) (named named' : Option (List ℕ)) (old loaded new : List ℕ) (value value' : QuotaValue)
+    → (IsTrue tells → named' ≡ Some new) → loaded ≡ new → (FlatStandsFor old value → FlatStandsFor new value') → HoldsFlat tells named old value → HoldsFlat tells named' loaded value'
+holds_rewritten tells named named' old loaded new value value' is l stands held = record {
+  told = held.told;
   same = is held.told ∙ ap (λ (file : List ℕ). Some file) (sym l);
   stands = subst (λ (file : List ℕ). FlatStandsFor file value') (sym l) (stands held.stands);
 }
 
--- a fact of two facts after an Ok
-pub on_ok_both : {T E P Q R : Type 0} (r : Result T E) → (P → Q → R) → OnOk r P → OnOk r Q → OnOk r R
-on_ok_both (Ok x) both p q = both p q
-on_ok_both (Err e) both p q = tt
-
-pub none_of : {X : Type 0} (found : Option X) → is_some found ≡ false → found ≡ None
-none_of None e = refl
-none_of (Some x) e = absurd (true≢false e)
-
 -- a time of record 0 stays
-pub stored_time-kept : (old new loaded : List ℕ) (id at : ℕ) → loaded ≡ new → 24 ≤ at → at + 8 ≤ 40 → KeepsOutside (40 * id) (40 * id + 40) old new → (id ≡ 0 → KeepsOutside 0 24 old new) → number_at 8 loaded at ≡ number_at 8 old at
-stored_time-kept old new loaded zero at l low high keeps times = ap (λ (file : List ℕ). number_at 8 file at) l ∙ number_behind 8 at 0 24 old new (times refl) low
-stored_time-kept old new loaded (suc n) at l low high keeps times =
-    ap (λ (file : List ℕ). number_at 8 file at) l ∙ number_before 8 at (40 * suc n) (40 * suc n + 40) old new keeps (omega arith)
+pub stored_time-kept : (old new : List ℕ) (id at : ℕ) → 24 ≤ at → at + 8 ≤ 40 → KeepsOutside (40 * id) (40 * id + 40) old new → (id ≡ 0 → KeepsOutside 0 24 old new) → number_at 8 new at ≡ number_at 8 old at
+stored_time-kept old new zero at low high keeps times = number_behind 8 at 0 24 old new (times refl) low
+stored_time-kept old new (suc n) at low high keeps times = number_before 8 at (40 * suc n) (40 * suc n + 40) old new keeps (omega arith)
 
 -- a record that is there lies within the file
 pub within_of_found : (file : List ℕ) (id : ℕ) (found : Option Rec) → found ≡ flat_record file id → is_some found ≡ true → 40 * id + 40 ≤ length file

@@ -41,19 +41,19 @@ fault_of_loaded before now tells named file (Damage damage) is seen =
     (((seen User).1.kind, (seen User).1.id), λ told. said_so named (Some file) (λ f. (length f ≤ flat_limit) × IsFlatDefect f damage) (sym (is told)) (seen User))
 
 -- a cause that comes later in a call is a cause of the call
-pub fault_since : (first before now : ℕ) (tells tells' : Bool) (named named' : Option (List ℕ)) (fault : OpenFault) → first ≤ before → tells' ≡ tells → named' ≡ named → IsFlatFault before now tells' named' fault → IsFlatFault first now tells named fault
-fault_since first before now tells tells' named named' Store le t n cause = omega arith
-fault_since first before now tells tells' named named' NoFile le t n cause = λ told. sym n ∙ cause (subst IsTrue (sym t) told)
-fault_since first before now tells tells' named named' (TooLarge number limit) le t n cause =
-    (cause.0, λ told. said_so named named' (λ f. (flat_limit < length f) × (number ≡ length f)) n (cause.1 (subst IsTrue (sym t) told)))
-fault_since first before now tells tells' named named' Memory le t n cause = tt
-fault_since first before now tells tells' named named' NotQuota le t n cause = cause
-fault_since first before now tells tells' named named' WrongKind le t n cause = cause
-fault_since first before now tells tells' named named' UnknownVersion le t n cause = cause
-fault_since first before now tells tells' named named' BadBlockCount le t n cause = cause
-fault_since first before now tells tells' named named' (FormatMismatch found) le t n cause = cause
-fault_since first before now tells tells' named named' (Damage damage) le t n cause =
-    (cause.0, λ told. said_so named named' (λ f. (length f ≤ flat_limit) × IsFlatDefect f damage) n (cause.1 (subst IsTrue (sym t) told)))
+pub fault_since : (first before now : ℕ) (tells : Bool) (named named' : Option (List ℕ)) (fault : OpenFault) → first ≤ before → named' ≡ named → IsFlatFault before now tells named' fault → IsFlatFault first now tells named fault
+fault_since first before now tells named named' Store le n cause = omega arith
+fault_since first before now tells named named' NoFile le n cause = λ told. sym n ∙ cause told
+fault_since first before now tells named named' (TooLarge number limit) le n cause =
+    (cause.0, λ told. said_so named named' (λ f. (flat_limit < length f) × (number ≡ length f)) n (cause.1 told))
+fault_since first before now tells named named' Memory le n cause = tt
+fault_since first before now tells named named' NotQuota le n cause = cause
+fault_since first before now tells named named' WrongKind le n cause = cause
+fault_since first before now tells named named' UnknownVersion le n cause = cause
+fault_since first before now tells named named' BadBlockCount le n cause = cause
+fault_since first before now tells named named' (FormatMismatch found) le n cause = cause
+fault_since first before now tells named named' (Damage damage) le n cause =
+    (cause.0, λ told. said_so named named' (λ f. (length f ≤ flat_limit) × IsFlatDefect f damage) n (cause.1 told))
 
 -- a file is not both seen as a value and refused
 pub seen_or_refused : (named : Option (List ℕ)) (kind : Kind) (value : QuotaValue) (fault : OpenFault) → IsFlatView named kind (Ok value) → IsFlatView named kind (Err fault) → ⊥

@@ -1,12 +1,14 @@
 -- What a flat quota file stands for. Source: the table of vfsold, `struct v1_disk_dqblk` of the quota tools, as they
 -- write it on 64-bit x86.
-use Rattle.std.specs.Prelude.{◌≡◌, ℕ, ◌+◌, ◌*◌, ◌%◌, ◌<◌, Bool, ◌&&◌, ◌==◌, nat_le, if◌then◌else◌, List, length, Option, Some, None}
+use Rattle.std.specs.Prelude.{◌≡◌, ℕ, ◌+◌, ◌*◌, ◌%◌, ◌<◌, ◌==◌, nat_le, if◌then◌else◌, List, length, Option, Some, None}
 use Rattle.std.specs.FinMap.{get}
 use Rattle.quota_types.specs.declared.file_kind.Format.TheVariants.{V1}
 use Rattle.quota_types.specs.declared.record.Rec.{Rec}
 use Rattle.quota_types.specs.declared.record.Grace.{Grace}
 use Rattle.quota_types.specs.declared.record.Entry.{Entry}
 use Rattle.quota_types.specs.Bytes.{number_at}
+use Rattle.quota_types.specs.Kept.{without_timers_of_zero}
+use Rattle.quota_types.specs.Rec.{is_zeros}
 use Rattle.quota_blocks.specs.QuotaValue.{QuotaValue, IsAfter}
 
 -- the 40 bytes of an identifier, as a record; the space is in KiB on disk
@@ -24,12 +26,7 @@ stored_record file id = record {
 
 -- the same, but identifier 0 has no timers, since the times of record 0 are the grace periods
 abbrev pub timed_record : List ℕ → ℕ → Rec
-timed_record file id = if id == 0 then record (stored_record file 0) { btime = 0; itime = 0 } else stored_record file id
-
--- all eight values are 0
-abbrev pub is_zeros : Rec → Bool
-is_zeros rec = rec.ihard == 0 && rec.isoft == 0 && rec.inodes == 0 && rec.bhard == 0 && rec.bsoft == 0 && rec.space == 0
-    && rec.btime == 0 && rec.itime == 0
+timed_record file id = without_timers_of_zero id (stored_record file id)
 
 -- none where all is zero
 abbrev pub unless_zeros : Rec → Option Rec

@@ -8,8 +8,12 @@ pub use Rattle.quota_types.specs.Kept
 pub use Rattle.quota_types.specs.Range
 pub use Rattle.quota_types.specs.Rec
 pub use Rattle.quota_blocks.specs.Count
+pub use Rattle.quota_blocks.specs.FileChange
+pub use Rattle.quota_blocks.specs.Frame
 pub use Rattle.quota_blocks.specs.QuotaFile
 pub use Rattle.quota_blocks.specs.QuotaValue
 pub use Rattle.quota_blocks.specs.Replace
+pub use Rattle.quota_blocks.specs.Seen
 pub use Rattle.quota_blocks.specs.Span
+pub use Rattle.quota_blocks.specs.Unsynced
 pub use Rattle.quota_blocks.specs.World

@@ -1,5 +1,7 @@
--- What an opened flat file holds.
+-- What an opened flat file holds, and what is seen of it.
 use Rattle.std.specs.Prelude.{◌≡◌, ℕ, Bool, IsTrue, List, Option, Some}
+use Rattle.quota_types.specs.declared.file_kind.Format.TheVariants.{V1}
+use Rattle.quota_blocks.specs.QuotaFile.{FileSeen}
 use Rattle.quota_blocks.specs.QuotaValue.{QuotaValue}
 use Rattle.quota_v1.specs.FlatFile.{FlatStandsFor}
 
@@ -8,3 +10,7 @@ pub record HoldsFlat (tells : Bool) (named : Option (List ℕ)) (loaded : List �
   pub told : IsTrue tells
   pub same : named ≡ Some loaded
   pub stands : FlatStandsFor loaded value
+
+-- what is seen of one with this name, which has no number of blocks
+abbrev pub flat_seen : (name : List ℕ) (usable : Bool) (refusals : ℕ) → FileSeen
+flat_seen name usable refusals = record { name = name; format = V1; usable = usable; limit = 0; refusals = refusals }

@@ -1,7 +1,7 @@
 ghost use Rattle.std.specs.Prelude.{◌≡◌, ◌+◌, ◌-◌, ◌*◌, ◌^◌, ◌<◌, ◌≤◌, ◌++◌, length, max, replicate, vec_len, None, IfOk};
 ghost use Rattle.quota_types.specs.Bytes.{number_at};
 ghost use Rattle.quota_types.specs.declared.file_kind.Format.TheVariants.{V1};
-ghost use Rattle.quota_types.specs.Kept.{kept_of};
+ghost use Rattle.quota_types.specs.Kept.{IsKept};
 ghost use Rattle.quota_types.specs.Range.{unfit};
 ghost use Rattle.quota_types.specs.Rec.{kib_of};
 ghost use Rattle.quota_blocks.specs.Span.{KeepsOutside};
@@ -78,8 +78,7 @@ fn write_numbers(bytes: &mut [u8], at: usize, rec: &Rec)
 /// Writes the record of an identifier. The times of record 0 stay.
 fn write_record(bytes: &mut [u8], id: usize, rec: &Rec)
     requires within { 40 * id + 40 ≤ length bytes.old }
-    requires fits { unfit V1 id rec.now ≡ None }
-    requires kept { kept_of V1 id rec.now ≡ rec.now }
+    requires kept { IsKept V1 id rec.now }
     ensures written { timed_record bytes.new id ≡ rec.now }
     ensures others { KeepsOutside (40 * id) (40 * id + 40) bytes.old bytes.new }
     ensures times { id ≡ 0 → KeepsOutside 0 24 bytes.old bytes.new }
@@ -110,9 +109,8 @@ pub(crate) fn with_record(
     id: u32,
     rec: &Rec,
 ) -> Result<Vec<u8>, AllocError>
-    requires fits { unfit V1 id rec.now ≡ None }
-    requires kept { kept_of V1 id rec.now ≡ rec.now }
-    ensures length { IfOk result (λ new. vec_len new ≡ max (length bytes.now) (40 * (id + 1))) }
+    requires { IsKept V1 id rec.now }
+    ensures long { IfOk result (λ new. length new.items ≡ max (length bytes.now) (40 * (id + 1))) }
     ensures written { IfOk result (λ new. timed_record new.items id ≡ rec.now) }
     ensures others { IfOk result (λ new. KeepsOutside (40 * id) (40 * id + 40) bytes.now new.items) }
     ensures times { IfOk result (λ new. id ≡ 0 → KeepsOutside 0 24 bytes.now new.items) }
@@ -125,7 +123,7 @@ pub(crate) fn with_record(
 
 /// The bytes with these grace periods, which are the times of record 0. Where there is no record 0, there is one then.
 pub(crate) fn with_grace(alloc: Global, bytes: &[u8], grace: Grace) -> Result<Vec<u8>, AllocError>
-    ensures length { IfOk result (λ new. vec_len new ≡ max (length bytes.now) 40) }
+    ensures long { IfOk result (λ new. length new.items ≡ max (length bytes.now) 40) }
     ensures block { IfOk result (λ new. number_at 8 new.items 24 ≡ grace.block) }
     ensures inode { IfOk result (λ new. number_at 8 new.items 32 ≡ grace.inode) }
     ensures others { IfOk result (λ new. KeepsOutside 24 40 bytes.now new.items) }

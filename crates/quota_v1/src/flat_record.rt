@@ -1,7 +1,11 @@
-ghost use Rattle.std.specs.Prelude.{◌≡◌, ℕ, ◌+◌, ◌*◌, ◌%◌, ◌^◌, ◌<◌, ◌≤◌, length};
+ghost use Rattle.std.specs.Prelude.{◌≡◌, ℕ, ◌+◌, ◌*◌, ◌%◌, ◌^◌, ◌<◌, ◌≤◌, length, None, IfSome};
+ghost use Rattle.quota_types.specs.declared.file_kind.Format.TheVariants.{V1};
 ghost use Rattle.quota_types.specs.Bytes.{number_at};
+ghost use Rattle.quota_types.specs.Kept.{IsKept};
+ghost use Rattle.quota_types.specs.Range.{unfit};
+ghost use Rattle.quota_types.specs.Rec.{is_zeros, kib_of};
 ghost use Rattle.quota_blocks.specs.QuotaValue.{IsAfter};
-ghost use Rattle.quota_v1.specs.FlatFile.{flat_grace, flat_record, is_zeros, IsNextRecord, or_week, stored_record, timed_record};
+ghost use Rattle.quota_v1.specs.FlatFile.{flat_grace, flat_record, IsNextRecord, or_week, stored_record, timed_record};
 ghost use Rattle.quota_v1.specs.View.{flat_limit};
 
 use byteorder::{ByteOrder, LittleEndian};
@@ -38,7 +42,9 @@ fn number8(bytes: &[u8], at: usize) -> u64
 /// The bytes of an identifier, as a record.
 fn stored_record(bytes: &[u8], id: usize) -> Rec
     requires { 40 * id + 40 ≤ length bytes.now }
-    ensures { result ≡ stored_record bytes.now id }
+    ensures value { result ≡ stored_record bytes.now id }
+    ensures fits { unfit V1 0 result ≡ None }
+    ensures whole { 1024 * kib_of result.space ≡ result.space }
 {
     let start = RECORD * id;
     Rec {
@@ -55,8 +61,10 @@ fn stored_record(bytes: &[u8], id: usize) -> Rec
 
 /// The same, but identifier 0 has no timers.
 fn timed_record(bytes: &[u8], id: usize) -> Rec
-    requires { 40 * id + 40 ≤ length bytes.now }
-    ensures { result ≡ timed_record bytes.now id }
+    requires within { 40 * id + 40 ≤ length bytes.now }
+    requires limited { length bytes.now ≤ flat_limit }
+    ensures value { result ≡ timed_record bytes.now id }
+    ensures kept { IsKept V1 id result }
 {
     let rec = stored_record(bytes, id);
     if id == 0 {
@@ -79,7 +87,9 @@ fn is_zeros(rec: &Rec) -> bool
 
 /// The record of an identifier, where the table has one that is not all zero.
 pub(crate) fn record_of(bytes: &[u8], id: u32) -> Option<Rec>
-    ensures { result ≡ flat_record bytes.now id }
+    requires { length bytes.now ≤ flat_limit }
+    ensures value { result ≡ flat_record bytes.now id }
+    ensures kept { IfSome result (IsKept V1 id) }
 {
     let id = id as usize;
     if bytes.len() < RECORD * id + RECORD {
@@ -103,7 +113,8 @@ fn first_after(after: Option<u32>) -> usize
 /// The first identifier after another one that has a record, with it.
 pub(crate) fn next_record(bytes: &[u8], after: Option<u32>) -> Option<Entry>
     requires { length bytes.now ≤ flat_limit }
-    ensures { IsNextRecord bytes.now after result }
+    ensures next { IsNextRecord bytes.now after result }
+    ensures kept { IfSome result (λ entry. IsKept V1 entry.id entry.rec) }
 {
     let first = first_after(after);
     for id in first..bytes.len() / RECORD {

@@ -1,6 +1,9 @@
 ghost use Rattle.std.specs.Prelude.{◌≡◌, ◌%◌, ◌<◌, ◌≤◌, true, Ok, Err, Some, IsTrue, IfOk, IfErr, OnOk, IsSomeAnd, length, vec_len};
 ghost use Rattle.quota_types.specs.declared.file_kind.Kind.{Kind};
+ghost use Rattle.quota_types.specs.declared.file_kind.Format.TheVariants.{V1};
+ghost use Rattle.quota_blocks.specs.Frame.{OnlyReads};
 ghost use Rattle.quota_blocks.specs.QuotaValue.{QuotaValue};
+ghost use Rattle.quota_blocks.specs.Unsynced.{AddsNone};
 ghost use Rattle.quota_v1.specs.View.{IsFlatView, IsFlatFault, flat_limit};
 
 use crate::V1File;
@@ -14,22 +17,22 @@ pub(crate) const LIMIT: u64 = 41_943_040;
 
 /// Opens a flat file, which is loaded whole.
 ///
+/// # Errors
+///
 /// It is refused where there is no such file, where it has more than 41,943,040 bytes, and where it does not consist
-/// of whole records, in this order.
+/// of whole records, in this order; and where the store failed or memory was wanting.
 pub fn open_v1<S: Store>(alloc: Global, store: &mut S, name: &str) -> Result<V1File, OpenFault>
-    ensures seen { IfOk result (λ file. IsTrue (S.tells store.old) → (kind : Kind) → (value : QuotaValue)
-        × IsFlatView (S.files store.old name.now) kind (Ok value)) }
-    ensures held { IfOk result (λ file. IsTrue (S.tells store.old) → (kind : Kind) → (value : QuotaValue)
-        → IsFlatView (S.files store.old name.now) kind (Ok value)
+    ensures seen { IfOk result (λ file. IsTrue S.tells → (kind : Kind) → (value : QuotaValue)
+        × IsFlatView ((S.seen store.old).files name.now) kind (Ok value)) }
+    ensures held { IfOk result (λ file. IsTrue S.tells → (kind : Kind) → (value : QuotaValue)
+        → IsFlatView ((S.seen store.old).files name.now) kind (Ok value)
         → ⟦<V1File as QuotaFile<S>>⟧.holds file store.new value) }
-    ensures usable { IfOk result (λ file. ⟦<V1File as QuotaFile<S>>⟧.is_usable file ≡ true) }
-    ensures named { IfOk result (λ file. ⟦<V1File as QuotaFile<S>>⟧.name_of file ≡ name.now) }
-    ensures refused { IfErr result (IsFlatFault (S.faults store.old) (S.faults store.new) (S.tells store.old)
-        (S.files store.old name.now)) }
-    ensures later { S.faults store.old ≤ S.faults store.new }
-    ensures writes { S.writes store.new ≡ S.writes store.old }
-    ensures same_files { S.files store.new ≡ S.files store.old }
-    ensures same_telling { S.tells store.new ≡ S.tells store.old }
+    ensures fresh { IfOk result (λ file. ⟦<V1File as QuotaFile<S>>⟧.seen file
+        ≡ record { name = name.now; format = V1; usable = true; limit = 0; refusals = 0 }) }
+    ensures refused { IfErr result (IsFlatFault (S.seen store.old).faults (S.seen store.new).faults S.tells
+        ((S.seen store.old).files name.now)) }
+    ensures leaves { OnlyReads name.now (S.seen store.old) (S.seen store.new) }
+    ensures synced { OnOk result (AddsNone (S.seen store.old).unsynced (S.seen store.new).unsynced) }
 {
     let own_name = match String::from_str(alloc, name) {
         Ok(own_name) => own_name,
@@ -49,6 +52,7 @@ fn opened(name: String, bytes: Vec<u8>) -> Result<V1File, OpenFault>
     requires { vec_len bytes ≤ flat_limit }
     ensures ok { IfOk result (λ file. (file.name ≡ name) × (file.bytes ≡ bytes)) }
     ensures usable { IfOk result (λ file. file.usable ≡ true) }
+    ensures refusals { IfOk result (λ file. file.refusals ≡ 0) }
     ensures whole { OnOk result (length bytes.items % 40 ≡ 0) }
     ensures refused { IfErr result (λ fault. (kind : Kind) → IsFlatView (Some bytes.items) kind (Err fault)) }
 {
@@ -63,17 +67,16 @@ fn opened(name: String, bytes: Vec<u8>) -> Result<V1File, OpenFault>
         name,
         bytes,
         usable: true,
+        refusals: 0,
     })
 }
 
 /// Why a file is refused that was found to have too many bytes, with their number.
 fn too_large<S: Store>(store: &mut S, name: &str) -> OpenFault
-    requires { IsTrue (S.tells store.old) → IsSomeAnd (S.files store.old name.now) (λ bytes. flat_limit < length bytes) }
-    ensures refused { IsFlatFault (S.faults store.old) (S.faults store.new) (S.tells store.old) (S.files store.old name.now) result }
-    ensures later { S.faults store.old ≤ S.faults store.new }
-    ensures writes { S.writes store.new ≡ S.writes store.old }
-    ensures same_files { S.files store.new ≡ S.files store.old }
-    ensures same_telling { S.tells store.new ≡ S.tells store.old }
+    requires { IsTrue S.tells → IsSomeAnd ((S.seen store.old).files name.now) (λ bytes. flat_limit < length bytes) }
+    ensures refused { IsFlatFault (S.seen store.old).faults (S.seen store.new).faults S.tells
+        ((S.seen store.old).files name.now) result }
+    ensures leaves { OnlyReads name.now (S.seen store.old) (S.seen store.new) }
 {
     match store.size(name) {
         Ok(Some(number)) => OpenFault::TooLarge {

@@ -108,6 +108,7 @@ fn a_change_that_fails_leaves_the_file_and_ends_its_use(rt: HostRuntime) -> Resu
     let mut file = open_v1(rt.alloc(), &mut store, "q")?;
     assert_eq!(rt; file.put(&mut store, 3, LIMITS), Err(FileFault::Store));
     assert!(rt; !QuotaFile::<MemStore>::usable(&file));
+    assert_eq!(rt; file.refusals, 1);
     assert_eq!(rt; store.file("q"), Some(TIMES_BYTES));
     Ok(())
 }

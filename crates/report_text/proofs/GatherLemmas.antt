@@ -1,17 +1,16 @@
 -- Texts that are put one after another.
 use Rattle.std.proofs.Common.{◌≡◌, ℕ, Bool, List, [], ◌++◌, IsTrue, sym, ap, subst, ◌∙◌, append_assoc, append-nil}
-use Rattle.quota_blocks.specs.Text.{AppendsPrefix, IsGathered}
+use Rattle.quota_blocks.specs.Text.{AppendsPrefix, Gathers, IsGathered, WritesPrefix}
 use Rattle.quota_blocks.proofs.TextLemmas.{appends_more, appends_at_flush}
-use Rattle.report_text.specs.Gather.{Gathers, WritesPrefix}
 
 -- a text is put, and then more
-pub gathers_then : (tells next : Bool) (written buffered written_1 buffered_1 written_2 buffered_2 text more whole : List ℕ)
-    → Gathers tells written buffered written_1 buffered_1 text → next ≡ tells → Gathers next written_1 buffered_1 written_2 buffered_2 more
+pub gathers_then : (tells : Bool) (written buffered written_1 buffered_1 written_2 buffered_2 text more whole : List ℕ)
+    → Gathers tells written buffered written_1 buffered_1 text → Gathers tells written_1 buffered_1 written_2 buffered_2 more
     → whole ≡ text ++ more → Gathers tells written buffered written_2 buffered_2 whole
-gathers_then tells next written buffered written_1 buffered_1 written_2 buffered_2 text more whole one same two is =
+gathers_then tells written buffered written_1 buffered_1 written_2 buffered_2 text more whole one two is =
     λ told start before gathered.
     subst (λ (t : List ℕ). IsGathered start t written_2 buffered_2) (append_assoc before text more ∙ ap (λ (t : List ℕ). before ++ t) (sym is))
-    (two (subst IsTrue (sym same) told) start (before ++ text) (one told start before gathered))
+    (two told start (before ++ text) (one told start before gathered))
 
 -- a prefix of a text is one of more
 pub writes_more : (tells : Bool) (written buffered now text more whole : List ℕ) → WritesPrefix tells written buffered now text
@@ -22,13 +21,13 @@ writes_more tells written buffered now text more whole p is =
     (appends_more start now (before ++ text) more (p told start before gathered))
 
 -- a text is put, and then a prefix of more
-pub writes_then : (tells next : Bool) (written buffered written_1 buffered_1 now text more whole : List ℕ)
-    → Gathers tells written buffered written_1 buffered_1 text → next ≡ tells → WritesPrefix next written_1 buffered_1 now more
+pub writes_then : (tells : Bool) (written buffered written_1 buffered_1 now text more whole : List ℕ)
+    → Gathers tells written buffered written_1 buffered_1 text → WritesPrefix tells written_1 buffered_1 now more
     → whole ≡ text ++ more → WritesPrefix tells written buffered now whole
-writes_then tells next written buffered written_1 buffered_1 now text more whole one same two is =
+writes_then tells written buffered written_1 buffered_1 now text more whole one two is =
     λ told start before gathered.
     subst (λ (t : List ℕ). AppendsPrefix start now t) (append_assoc before text more ∙ ap (λ (t : List ℕ). before ++ t) (sym is))
-    (two (subst IsTrue (sym same) told) start (before ++ text) (one told start before gathered))
+    (two told start (before ++ text) (one told start before gathered))
 
 -- nothing is put
 pub gathers_none : (tells : Bool) (written buffered : List ℕ) → Gathers tells written buffered written buffered []

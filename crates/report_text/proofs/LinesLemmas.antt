@@ -8,7 +8,7 @@ use Rattle.quota_types.specs.declared.record.Entry.{Entry}
 use Rattle.quota_blocks.specs.QuotaValue.{QuotaValue, Records, IsAfter, IsNextAfter}
 use Rattle.quota_blocks.proofs.EntriesLemmas.{entries_after, entries_after-all, entries_after-next, entries_after-end}
 use Rattle.report_text.specs.declared.options.Options.{Options}
-use Rattle.report_text.specs.Gather.{Gathers, WritesPrefix}
+use Rattle.quota_blocks.specs.Text.{Gathers, WritesPrefix}
 use Rattle.report_text.specs.Report.{report_of, head_of, lines_of, shown_line}
 use Rattle.report_text.proofs.GatherLemmas.{gathers_none, gathers_then, writes_more, writes_then, writes_gathered}
 
@@ -60,12 +60,12 @@ module _ (names : ℕ → Option (List ℕ)) (now : ℕ) (options : Options) whe
   module _ (tells : Bool) (written buffered written_1 buffered_1 : List ℕ) (records : Records) (after : Option ℕ)
       (put : IsPutUpTo tells written buffered written_1 buffered_1 records after) where
     -- one more
-    pub put_more : (next : Bool) (written_2 buffered_2 : List ℕ) (entry : Entry) → IsNextAfter after records (Some entry) → next ≡ tells
-        → Gathers next written_1 buffered_1 written_2 buffered_2 (shown_line names now options (entry.id, entry.rec))
+    pub put_more : (written_2 buffered_2 : List ℕ) (entry : Entry) → IsNextAfter after records (Some entry)
+        → Gathers tells written_1 buffered_1 written_2 buffered_2 (shown_line names now options (entry.id, entry.rec))
         → IsPutUpTo tells written buffered written_2 buffered_2 records (Some entry.id)
-    put_more next written_2 buffered_2 entry is same more = record {
+    put_more written_2 buffered_2 entry is more = record {
       lines = put.lines ++ shown_line names now options (entry.id, entry.rec);
-      gathers = gathers_then _ _ _ _ _ _ _ _ _ _ _ put.gathers same more refl;
+      gathers = gathers_then _ _ _ _ _ _ _ _ _ _ put.gathers more refl;
       whole = left put.lines records after entry is ∙ put.whole;
     }
 
@@ -77,11 +77,11 @@ module _ (names : ℕ → Option (List ℕ)) (now : ℕ) (options : Options) whe
         subst (λ (t : List ℕ). Gathers tells written buffered written_1 buffered_1 t) all put.gathers
 
     -- a fault while the line of the next one is put
-    pub put_fault : (next : Bool) (written_2 : List ℕ) (entry : Entry) → IsNextAfter after records (Some entry) → next ≡ tells
-        → WritesPrefix next written_1 buffered_1 written_2 (shown_line names now options (entry.id, entry.rec))
+    pub put_fault : (written_2 : List ℕ) (entry : Entry) → IsNextAfter after records (Some entry)
+        → WritesPrefix tells written_1 buffered_1 written_2 (shown_line names now options (entry.id, entry.rec))
         → WritesPrefix tells written buffered written_2 (lines_of names now options (entries records))
-    put_fault next written_2 entry is same fault =
-        writes_more _ _ _ _ _ _ _ (writes_then _ _ _ _ _ _ _ _ _ _ put.gathers same fault refl)
+    put_fault written_2 entry is fault =
+        writes_more _ _ _ _ _ _ _ (writes_then _ _ _ _ _ _ _ _ _ put.gathers fault refl)
         (sym (left put.lines records after entry is ∙ put.whole))
 
     -- a fault while the next one is looked up

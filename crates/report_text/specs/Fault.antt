@@ -1,5 +1,5 @@
 -- Why a report was refused.
-use Rattle.std.specs.Prelude.{ℕ, ⊤}
+use Rattle.std.specs.Prelude.{ℕ, Option, None, Some, ⊤}
 use Rattle.quota_blocks.specs.Count.{Rose}
 use Rattle.quota_blocks.specs.QuotaValue.{QuotaValue}
 use Rattle.quota_blocks.specs.QuotaFile.{IsLookupFault}
@@ -13,7 +13,12 @@ abbrev pub IsReportFault : (sink_before sink_now store_before store_now : ℕ) �
 IsReportFault sink_before sink_now store_before store_now holds Sink = Rose sink_before sink_now
 IsReportFault sink_before sink_now store_before store_now holds (File fault) = IsLookupFault store_before store_now holds fault
 
--- a fact of the fault of a lookup, where a report was refused by one
-abbrev pub IfFile : ReportFault → (FileFault → Type 0) → Type 0
-IfFile Sink P = ⊤
-IfFile (File fault) P = P fault
+-- the fault of a lookup, where a report was refused by one
+abbrev pub file_fault : ReportFault → Option FileFault
+file_fault Sink = None
+file_fault (File fault) = Some fault
+
+-- a fact where the sink failed
+abbrev pub OnSink : ReportFault → Type 0 → Type 0
+OnSink Sink P = P
+OnSink (File _) P = ⊤

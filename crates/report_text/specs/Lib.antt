@@ -1,6 +1,9 @@
 pub mod Period
 pub mod Fault
 pub mod Report
-pub mod Gather
+pub use Rattle.quota_blocks.specs.Frame
+pub use Rattle.quota_blocks.specs.QuotaFile
 pub use Rattle.quota_blocks.specs.QuotaValue
+pub use Rattle.quota_blocks.specs.Seen
 pub use Rattle.quota_blocks.specs.Text
+pub use Rattle.quota_blocks.specs.Unsynced

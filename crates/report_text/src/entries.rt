@@ -1,6 +1,6 @@
 ghost use Rattle.std.specs.Prelude.{◌≡◌, ◌+◌, ◌≤◌, ◌++◌, length, OnOk, OnErr};
 ghost use Rattle.quota_blocks.specs.Count.{Rose};
-ghost use Rattle.report_text.specs.Gather.{Gathers, WritesPrefix};
+ghost use Rattle.quota_blocks.specs.Text.{Gathers, WritesPrefix};
 ghost use Rattle.report_text.specs.Report.{left_in, no_names, numbered, columns_in, columns_of, entry_line, is_shown, shown_line};
 
 use crate::Options;
@@ -19,13 +19,12 @@ pub(crate) fn put_entry<O: Sink>(
     text: &mut TextBuffer,
     sink: &mut O,
 ) -> Result<(), SinkFault>
-    ensures ok { OnOk result (Gathers (O.tells sink.old) (O.written sink.old) text.old (O.written sink.new) text.new
+    ensures ok { OnOk result (Gathers O.tells (O.seen sink.old).written text.old (O.seen sink.new).written text.new
         (shown_line no_names now options.now (entry.now.id, entry.now.rec))) }
-    ensures fault { OnErr result (WritesPrefix (O.tells sink.old) (O.written sink.old) text.old (O.written sink.new)
+    ensures fault { OnErr result (WritesPrefix O.tells (O.seen sink.old).written text.old (O.seen sink.new).written
         (shown_line no_names now options.now (entry.now.id, entry.now.rec))) }
-    ensures cause { OnErr result (Rose (O.faults sink.old) (O.faults sink.new)) }
-    ensures later { O.faults sink.old ≤ O.faults sink.new }
-    ensures same_telling { O.tells sink.new ≡ O.tells sink.old }
+    ensures cause { OnErr result (Rose (O.seen sink.old).faults (O.seen sink.new).faults) }
+    ensures later { (O.seen sink.old).faults ≤ (O.seen sink.new).faults }
 {
     if !is_shown(entry, options) {
         return Ok(());

@@ -1,10 +1,11 @@
-ghost use Rattle.std.specs.Prelude.{◌≡◌, ◌≤◌, ◌++◌, IsTrue, OnOk, OnErr, IfErr};
+ghost use Rattle.std.specs.Prelude.{◌≡◌, ◌≤◌, ◌++◌, true, IsTrue, OnOk, OnErr, IfErr, IfSome};
 ghost use Rattle.std.specs.FinMap.{entries};
+ghost use Rattle.quota_blocks.specs.Frame.{OnlyReads};
+ghost use Rattle.quota_blocks.specs.QuotaFile.{CountsRefusal};
 ghost use Rattle.quota_blocks.specs.QuotaValue.{QuotaValue};
-ghost use Rattle.quota_blocks.specs.Text.{AppendsPrefix};
-ghost use Rattle.quota_blocks.specs.declared.quota_file.FileFault.{FileFault};
-ghost use Rattle.report_text.specs.Fault.{IfFile, IsReportFault};
-ghost use Rattle.report_text.specs.Gather.{Gathers, WritesPrefix};
+ghost use Rattle.quota_blocks.specs.Text.{AppendsPrefix, Gathers, WritesPrefix};
+ghost use Rattle.quota_blocks.specs.Unsynced.{AddsNone};
+ghost use Rattle.report_text.specs.Fault.{IsReportFault, OnSink, file_fault};
 ghost use Rattle.report_text.specs.Report.{report_of, lines_of, no_names};
 
 use crate::entries::put_entry;
@@ -15,7 +16,12 @@ use quota_types::Kind;
 
 /// Writes the report of an opened quota file: a head with `title`, which is usually the file's name, and a line for
 /// each identifier that is shown, ascending. Each name is `#` and the identifier. `now` is in seconds since 1970.
-/// After a refusal the sink has a prefix of the report. It takes no memory of the heap.
+/// It takes no memory of the heap.
+///
+/// # Errors
+///
+/// After a refusal the sink has a prefix of the report. Each fault of a lookup in the file is answered as it is, and
+/// raises the file's count of refusals.
 pub fn report<S: Store, F: QuotaFile<S>, O: Sink>(
     file: &mut F,
     store: &mut S,
@@ -25,28 +31,25 @@ pub fn report<S: Store, F: QuotaFile<S>, O: Sink>(
     options: &Options,
     sink: &mut O,
 ) -> Result<(), ReportFault>
-    requires { IsTrue (F.is_usable file.old) }
-    ensures ok { OnOk result (IsTrue (O.tells sink.old)
+    requires { IsTrue (F.seen file.old).usable }
+    ensures ok { OnOk result (IsTrue O.tells
         → (value : QuotaValue) → F.holds file.old store.old value → value.kind ≡ kind
-        → O.written sink.new ≡ O.written sink.old ++ report_of value no_names title.now now options.now) }
-    ensures fault { OnErr result (IsTrue (O.tells sink.old)
+        → (O.seen sink.new).written ≡ (O.seen sink.old).written ++ report_of value no_names title.now now options.now) }
+    ensures fault { OnErr result (IsTrue O.tells
         → (value : QuotaValue) → F.holds file.old store.old value → value.kind ≡ kind
-        → AppendsPrefix (O.written sink.old) (O.written sink.new) (report_of value no_names title.now now options.now)) }
-    ensures refused { IfErr result (IsReportFault (O.faults sink.old) (O.faults sink.new)
-        (S.faults store.old) (S.faults store.new) (F.holds file.old store.old)) }
-    ensures may { IfErr result (λ fault. IfFile fault (F.may_refuse file.old)) }
+        → AppendsPrefix (O.seen sink.old).written (O.seen sink.new).written
+        (report_of value no_names title.now now options.now)) }
+    ensures refused { IfErr result (IsReportFault (O.seen sink.old).faults (O.seen sink.new).faults
+        (S.seen store.old).faults (S.seen store.new).faults (F.holds file.old store.old)) }
+    ensures may { IfErr result (λ fault. IfSome (file_fault fault) (F.may_refuse (F.seen file.old).format)) }
     ensures stays { (value : QuotaValue) → F.holds file.old store.old value → F.holds file.new store.new value }
-    ensures same_format { F.format_of file.new ≡ F.format_of file.old }
-    ensures same_name { F.name_of file.new ≡ F.name_of file.old }
-    ensures same_way { F.replaces file.new ≡ F.replaces file.old }
-    ensures same_faults { (fault : FileFault) → F.may_refuse file.new fault → F.may_refuse file.old fault }
-    ensures usable { F.is_usable file.new ≡ F.is_usable file.old }
-    ensures store_later { S.faults store.old ≤ S.faults store.new }
-    ensures sink_later { O.faults sink.old ≤ O.faults sink.new }
-    ensures writes { S.writes store.new ≡ S.writes store.old }
-    ensures same_files { S.files store.new ≡ S.files store.old }
-    ensures store_telling { S.tells store.new ≡ S.tells store.old }
-    ensures sink_telling { O.tells sink.new ≡ O.tells sink.old }
+    ensures leaves { OnlyReads (F.seen file.old).name (S.seen store.old) (S.seen store.new) }
+    ensures synced { OnOk result (AddsNone (S.seen store.old).unsynced (S.seen store.new).unsynced) }
+    ensures same { OnOk result (F.seen file.new ≡ F.seen file.old) }
+    ensures counted { IfErr result (λ fault. IfSome (file_fault fault) (λ _.
+        CountsRefusal true (F.seen file.old) (F.seen file.new))) }
+    ensures uncounted { IfErr result (λ fault. OnSink fault (F.seen file.new ≡ F.seen file.old)) }
+    ensures sink_later { (O.seen sink.old).faults ≤ (O.seen sink.new).faults }
 {
     let mut text = TextBuffer::new();
     put_head(kind, title, file.grace(), &mut text, sink)?;
@@ -64,28 +67,24 @@ fn put_entries<S: Store, F: QuotaFile<S>, O: Sink>(
     text: &mut TextBuffer,
     sink: &mut O,
 ) -> Result<(), ReportFault>
-    requires { IsTrue (F.is_usable file.old) }
+    requires { IsTrue (F.seen file.old).usable }
     ensures ok { OnOk result ((value : QuotaValue) → F.holds file.old store.old value
-        → Gathers (O.tells sink.old) (O.written sink.old) text.old (O.written sink.new) text.new
+        → Gathers O.tells (O.seen sink.old).written text.old (O.seen sink.new).written text.new
         (lines_of no_names now options.now (entries value.records))) }
     ensures fault { OnErr result ((value : QuotaValue) → F.holds file.old store.old value
-        → WritesPrefix (O.tells sink.old) (O.written sink.old) text.old (O.written sink.new)
+        → WritesPrefix O.tells (O.seen sink.old).written text.old (O.seen sink.new).written
         (lines_of no_names now options.now (entries value.records))) }
-    ensures refused { IfErr result (IsReportFault (O.faults sink.old) (O.faults sink.new)
-        (S.faults store.old) (S.faults store.new) (F.holds file.old store.old)) }
-    ensures may { IfErr result (λ fault. IfFile fault (F.may_refuse file.old)) }
+    ensures refused { IfErr result (IsReportFault (O.seen sink.old).faults (O.seen sink.new).faults
+        (S.seen store.old).faults (S.seen store.new).faults (F.holds file.old store.old)) }
+    ensures may { IfErr result (λ fault. IfSome (file_fault fault) (F.may_refuse (F.seen file.old).format)) }
     ensures stays { (value : QuotaValue) → F.holds file.old store.old value → F.holds file.new store.new value }
-    ensures same_format { F.format_of file.new ≡ F.format_of file.old }
-    ensures same_name { F.name_of file.new ≡ F.name_of file.old }
-    ensures same_way { F.replaces file.new ≡ F.replaces file.old }
-    ensures same_faults { (fault : FileFault) → F.may_refuse file.new fault → F.may_refuse file.old fault }
-    ensures usable { F.is_usable file.new ≡ F.is_usable file.old }
-    ensures store_later { S.faults store.old ≤ S.faults store.new }
-    ensures sink_later { O.faults sink.old ≤ O.faults sink.new }
-    ensures writes { S.writes store.new ≡ S.writes store.old }
-    ensures same_files { S.files store.new ≡ S.files store.old }
-    ensures store_telling { S.tells store.new ≡ S.tells store.old }
-    ensures sink_telling { O.tells sink.new ≡ O.tells sink.old }
+    ensures leaves { OnlyReads (F.seen file.old).name (S.seen store.old) (S.seen store.new) }
+    ensures synced { OnOk result (AddsNone (S.seen store.old).unsynced (S.seen store.new).unsynced) }
+    ensures same { OnOk result (F.seen file.new ≡ F.seen file.old) }
+    ensures counted { IfErr result (λ fault. IfSome (file_fault fault) (λ _.
+        CountsRefusal true (F.seen file.old) (F.seen file.new))) }
+    ensures uncounted { IfErr result (λ fault. OnSink fault (F.seen file.new ≡ F.seen file.old)) }
+    ensures sink_later { (O.seen sink.old).faults ≤ (O.seen sink.new).faults }
 {
     let mut after = None;
     while let Some(entry) = file.next_after(store, after)? {

@@ -1,6 +1,6 @@
 ghost use Rattle.std.specs.Prelude.{◌≡◌, ◌≤◌, ◌++◌, length, OnOk, OnErr};
 ghost use Rattle.quota_blocks.specs.Count.{Rose};
-ghost use Rattle.report_text.specs.Gather.{Gathers, WritesPrefix};
+ghost use Rattle.quota_blocks.specs.Text.{Gathers, WritesPrefix};
 ghost use Rattle.report_text.specs.Report.{head_of, title_front, title_line, grace_line, heading_line, hyphen_line};
 
 use crate::line::Line;
@@ -17,13 +17,12 @@ pub(crate) fn put_head<O: Sink>(
     text: &mut TextBuffer,
     sink: &mut O,
 ) -> Result<(), SinkFault>
-    ensures ok { OnOk result (Gathers (O.tells sink.old) (O.written sink.old) text.old (O.written sink.new) text.new
+    ensures ok { OnOk result (Gathers O.tells (O.seen sink.old).written text.old (O.seen sink.new).written text.new
         (head_of kind title.now grace)) }
-    ensures fault { OnErr result (WritesPrefix (O.tells sink.old) (O.written sink.old) text.old (O.written sink.new)
+    ensures fault { OnErr result (WritesPrefix O.tells (O.seen sink.old).written text.old (O.seen sink.new).written
         (head_of kind title.now grace)) }
-    ensures cause { OnErr result (Rose (O.faults sink.old) (O.faults sink.new)) }
-    ensures later { O.faults sink.old ≤ O.faults sink.new }
-    ensures same_telling { O.tells sink.new ≡ O.tells sink.old }
+    ensures cause { OnErr result (Rose (O.seen sink.old).faults (O.seen sink.new).faults) }
+    ensures later { (O.seen sink.old).faults ≤ (O.seen sink.new).faults }
 {
     put_title(kind, title, text, sink)?;
     text.put(sink, lines_below(kind, grace).as_slice())
@@ -36,13 +35,12 @@ fn put_title<O: Sink>(
     text: &mut TextBuffer,
     sink: &mut O,
 ) -> Result<(), SinkFault>
-    ensures ok { OnOk result (Gathers (O.tells sink.old) (O.written sink.old) text.old (O.written sink.new) text.new
+    ensures ok { OnOk result (Gathers O.tells (O.seen sink.old).written text.old (O.seen sink.new).written text.new
         (title_line kind title.now)) }
-    ensures fault { OnErr result (WritesPrefix (O.tells sink.old) (O.written sink.old) text.old (O.written sink.new)
+    ensures fault { OnErr result (WritesPrefix O.tells (O.seen sink.old).written text.old (O.seen sink.new).written
         (title_line kind title.now)) }
-    ensures cause { OnErr result (Rose (O.faults sink.old) (O.faults sink.new)) }
-    ensures later { O.faults sink.old ≤ O.faults sink.new }
-    ensures same_telling { O.tells sink.new ≡ O.tells sink.old }
+    ensures cause { OnErr result (Rose (O.seen sink.old).faults (O.seen sink.new).faults) }
+    ensures later { (O.seen sink.old).faults ≤ (O.seen sink.new).faults }
 {
     text.put(sink, title_front(kind))?;
     text.put(sink, title.as_bytes())?;

@@ -1,9 +1,9 @@
 use crate::entries::entry_line;
 use crate::one_entry::OneEntry;
-use crate::{Options, period_text, report};
+use crate::{Options, ReportFault, period_text, report};
 use arrayvec::ArrayVec;
-use quota_blocks::{MemSink, MemStore};
-use quota_types::{Entry, Kind, Rec};
+use quota_blocks::{FileFault, MemSink, MemStore};
+use quota_types::{Damage, DamageKind, Entry, Kind, Rec};
 use std::alloc::{AllocError, Global};
 use std::test::Fail;
 
@@ -125,6 +125,8 @@ fn line_of(
     };
     let mut file = OneEntry {
         entry: Entry { id: u32::MAX, rec },
+        damage: None,
+        refusals: 0,
     };
     let mut store = MemStore::new(Vec::new(alloc), Vec::new(alloc));
     let mut sink = MemSink::new(Vec::new(alloc), Vec::new(alloc));
@@ -152,7 +154,7 @@ fn line_of(
 fn options_and_the_least_and_greatest_space(rt: HostRuntime) -> Result<(), Fail> {
     let alloc = rt.alloc();
     let head = "*** Report for group quotas on g
-Block grace time: 213503982334601days; Inode grace time: 00:01
+Block grace time: 49710days; Inode grace time: 00:01
 Group                 used       soft       hard  grace    files     soft     hard  grace
 -----------------------------------------------------------------------------------------
 ";
@@ -196,4 +198,47 @@ Group                 used       soft       hard  grace    files     soft     ha
         );
     }
     Ok(())
+}
+
+/// What a report of users answers and writes, and how many calls the file has refused then. A lookup behind the one entry
+/// is refused with this damage, where there is one.
+fn report_with(alloc: Global, damage: Option<Damage>) -> (Result<(), ReportFault>, MemSink, u64) {
+    let mut file = OneEntry {
+        entry: Entry { id: 7, rec: NONE },
+        damage,
+        refusals: 0,
+    };
+    let mut store = MemStore::new(Vec::new(alloc), Vec::new(alloc));
+    let mut sink = MemSink::new(Vec::new(alloc), Vec::new(alloc));
+    let options = Options {
+        verbose: true,
+        ..PLAIN
+    };
+    let done = report(
+        &mut file,
+        &mut store,
+        Kind::User,
+        "a",
+        0,
+        &options,
+        &mut sink,
+    );
+    (done, sink, file.refusals)
+}
+
+#[test]
+fn a_damage_is_answered_after_a_prefix_of_the_report(rt: HostRuntime) {
+    let alloc = rt.alloc();
+    let damage = Damage {
+        kind: DamageKind::EmptyTree,
+        block: 5,
+        id: 0,
+    };
+    let (done, sink, refusals) = report_with(alloc, Some(damage));
+    assert_eq!(rt; done, Err(ReportFault::File(FileFault::Damage(damage))));
+    assert_eq!(rt; refusals, 1);
+    let (whole, all, none) = report_with(alloc, None);
+    assert_eq!(rt; whole, Ok(()));
+    assert_eq!(rt; none, 0);
+    assert!(rt; all.bytes().starts_with(sink.bytes()));
 }

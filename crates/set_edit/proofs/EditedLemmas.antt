@@ -1,40 +1,37 @@
 -- An edit of a quota value, from what is looked up and what the format keeps.
-use Rattle.std.proofs.Common.{◌≡◌, ℕ, ◌≤◌, Bool, if◌then◌else◌, Option, None, unwrap_or, Result, Ok, sym, ap, subst, ◌∙◌, arith}
+use Rattle.std.proofs.Common.{◌≡◌, ℕ, ◌≤◌, Bool, if◌then◌else◌, List, Option, None, unwrap_or, Result, Ok, sym, ap, subst, ◌∙◌, arith}
 use Rattle.std.specs.FinMap.{get}
 use Rattle.quota_types.specs.declared.field.Field.{Field}
 use Rattle.quota_types.specs.declared.file_kind.Format.{Format}
-use Rattle.quota_types.specs.declared.file_kind.Format.TheVariants.{V1, V2R0, V2R1}
 use Rattle.quota_types.specs.declared.record.Grace.{Grace}
 use Rattle.quota_types.specs.declared.record.Rec.{Rec}
 use Rattle.quota_types.specs.Kept.{kept_of}
 use Rattle.quota_types.specs.Range.{unfit}
+use Rattle.quota_types.specs.Rec.{zero_record}
 use Rattle.quota_types.specs.Timers.{timers_of}
+use Rattle.quota_types.proofs.KeptLemmas.{kept_null}
 use Rattle.quota_blocks.specs.declared.quota_file.FileFault.{FileFault}
 use Rattle.quota_blocks.specs.declared.quota_file.FileFault.TheVariants.{Store, Damage, Full, Memory}
-use Rattle.quota_blocks.specs.QuotaFile.{IsChangeFault}
-use Rattle.quota_blocks.specs.QuotaValue.{QuotaValue, with_record, without_record}
+use Rattle.quota_blocks.specs.QuotaFile.{FileSeen, IsChangeFault}
+use Rattle.quota_blocks.specs.FileChange.{FileChange, Put, Remove, changed_value}
+use Rattle.quota_blocks.specs.QuotaValue.{QuotaValue}
+use Rattle.quota_blocks.specs.World.{World}
 use Rattle.set_edit.specs.declared.limits.Limits.{Limits}
-use Rattle.set_edit.specs.Edited.{edited, is_null_of, limits_set, unless_unfit, with_kept, with_limits, with_or_without, zero_record}
+use Rattle.set_edit.specs.Edited.{change_to, edited, kept_change, limits_set, unless_unfit, with_kept, with_limits, with_or_without}
 
--- what a format keeps of a record is null exactly where the record is
-pub is_null_of-kept : (format : Format) (id : ℕ) (rec : Rec) → is_null_of (kept_of format id rec) ≡ is_null_of rec
-is_null_of-kept V1 id rec = grind arith
-is_null_of-kept V2R0 id rec = grind arith
-is_null_of-kept V2R1 id rec = grind arith
-
-with_kept-is : (value : QuotaValue) (id : ℕ) (rec next : Rec) → next ≡ kept_of value.format id rec
-    → with_kept value id rec ≡ with_or_without value id next
-with_kept-is value id rec next kept =
-    let P : Rec → Type 0 = λ r. with_kept value id rec ≡ with_or_without value id r in
+-- the change to what the format keeps is the one that is made of it
+change_to-is : (format : Format) (id : ℕ) (rec next : Rec) → next ≡ kept_of format id rec → kept_change format id rec ≡ change_to id next
+change_to-is format id rec next kept =
+    let P : Rec → Type 0 = λ r. kept_change format id rec ≡ change_to id r in
     subst P (sym kept)
-    (ap (λ (b : Bool). if b then without_record value id else with_record value id (kept_of value.format id rec))
-    (sym (is_null_of-kept value.format id rec)))
+    (ap (λ (b : Bool). if b then Remove id else Put id (kept_of format id rec)) (sym (kept_null format id rec)))
 
 edited-fits : (value : QuotaValue) (id : ℕ) (rec next : Rec) → unfit value.format id rec ≡ None
     → next ≡ kept_of value.format id rec → edited value id rec ≡ Ok (with_or_without value id next)
 edited-fits value id rec next fits kept =
     ap (λ (o : Option (Field × ℕ)). unless_unfit o (with_kept value id rec)) fits
-    ∙ ap (λ (v : QuotaValue). let r : Result QuotaValue (Field × ℕ) = Ok v in r) (with_kept-is value id rec next kept)
+    ∙ ap (λ (change : FileChange). let r : Result QuotaValue (Field × ℕ) = Ok (changed_value change value) in r)
+    (change_to-is value.format id rec next kept)
 
 -- the value that is put is the edited one, where all that it was made of was looked up in the old one
 pub limits_set-fits : (value : QuotaValue) (id : ℕ) (limits : Limits) (now : ℕ)
@@ -52,6 +49,13 @@ limits_set-fits value id limits now old format grace rec next found same_format 
     edited-fits value id (timers_of r value.grace now) next
     (subst (λ f. P f value.grace r) same_format (subst (λ g. P format g r) same_grace (subst (λ r. P format grace r) wanted fits)))
     (subst (λ f. Q f value.grace r) same_format (subst (λ g. Q format g r) same_grace (subst (λ r. Q format grace r) wanted kept)))
+
+-- a fact of an opened file and of its named file, after a call that left both as they were
+pub after_same : (fact : FileSeen → Option (List ℕ) → Type 0) (seen seen_now : FileSeen) (files files_now : World)
+    → seen_now ≡ seen → files_now ≡ files → fact seen (files seen.name) → fact seen_now (files_now seen_now.name)
+after_same fact seen seen_now files files_now same_seen same_files is =
+    subst (λ (f : World). fact seen_now (f seen_now.name)) (sym same_files)
+    (subst (λ (s : FileSeen). fact s (files s.name)) (sym same_seen) is)
 
 -- a change that is refused after a lookup is refused by what held before the lookup
 pub change_fault-after : (before between now : ℕ) (held held_between : QuotaValue → Type 0) (lacks lacks_between : ℕ → ℕ → Type 0)

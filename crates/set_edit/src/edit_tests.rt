@@ -1,7 +1,7 @@
 use crate::one_record::OneRecord;
 use crate::{EditFault, Limits, set_limits};
-use quota_blocks::MemStore;
-use quota_types::{Field, NoRoom, Rec};
+use quota_blocks::{FileFault, MemStore};
+use quota_types::{Damage, DamageKind, Field, NoRoom, Rec};
 use std::alloc::Global;
 
 /// 4 KiB and one inode in use, and no limits.
@@ -33,6 +33,8 @@ fn set(
         id: 1000,
         rec,
         changes: 0,
+        damage: None,
+        refusals: 0,
     };
     let mut store = MemStore::new(Vec::new(alloc), Vec::new(alloc));
     let result = set_limits(&mut file, &mut store, 1000, limits, now);
@@ -94,4 +96,28 @@ fn what_does_not_fit_is_told_and_changes_nothing(rt: HostRuntime) {
     };
     let refused = set(alloc, None, &wide, 0);
     assert_eq!(rt; refused, (Err(EditFault::NoRoom(no_room)), None, 0));
+}
+
+#[test]
+fn a_damage_is_answered_and_nothing_is_changed(rt: HostRuntime) {
+    let alloc = rt.alloc();
+    let damage = Damage {
+        kind: DamageKind::Short,
+        block: 1,
+        id: 0,
+    };
+    let mut file = OneRecord {
+        id: 1000,
+        rec: Some(USED),
+        changes: 0,
+        damage: Some(damage),
+        refusals: 0,
+    };
+    let mut store = MemStore::new(Vec::new(alloc), Vec::new(alloc));
+    let result = set_limits(&mut file, &mut store, 1000, &LIMITS, 1_700_000_000);
+    let refused = Err(EditFault::File(FileFault::Damage(damage)));
+    assert_eq!(rt; result, refused);
+    assert_eq!(rt; file.rec, Some(USED));
+    assert_eq!(rt; file.changes, 0);
+    assert_eq!(rt; file.refusals, 1);
 }

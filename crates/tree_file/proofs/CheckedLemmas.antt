@@ -29,36 +29,36 @@ length_refused before now tells file header (Damaged damage) is = (is.0, λ told
 length_refused before now tells file header Memory is = tt
 
 -- what the check of the roles was refused for
-pub roles_refused : (before between now : ℕ) (tells there_tells : Bool) (file there : List ℕ) (header : Header) (fault : CheckFault)
-    → before ≤ between → there_tells ≡ tells → there ≡ file
-    → IsCheckFault between now (λ damage. IsTrue there_tells → IsRoleDefect there header.blocks header.free damage) fault
+pub roles_refused : (before between now : ℕ) (tells : Bool) (file there : List ℕ) (header : Header) (fault : CheckFault)
+    → before ≤ between → there ≡ file
+    → IsCheckFault between now (λ damage. IsTrue tells → IsRoleDefect there header.blocks header.free damage) fault
     → IsCheckFault before now (λ damage. IsTrue tells → AreOf header (header_of file) → IsTreeDefect header.format file (header_of file) damage) fault
-roles_refused before between now tells there_tells file there header Store later same_telling same_file is = omega (arith, is)
-roles_refused before between now tells there_tells file there header (Damaged damage) later same_telling same_file is = (
+roles_refused before between now tells file there header Store later same_file is = omega (arith, is)
+roles_refused before between now tells file there header (Damaged damage) later same_file is = (
   is.0,
   λ told are.
       let found : IsRoleDefect file header.blocks header.free damage =
-      subst (λ (f : List ℕ). IsRoleDefect f header.blocks header.free damage) same_file (is.1 (subst IsTrue (sym same_telling) told)) in
+      subst (λ (f : List ℕ). IsRoleDefect f header.blocks header.free damage) same_file (is.1 told) in
       found header.format (header_of file) are.blocks are.free,
 )
-roles_refused before between now tells there_tells file there header Memory later same_telling same_file is = tt
+roles_refused before between now tells file there header Memory later same_file is = tt
 
 -- what the check of the lists was refused for
-pub lists_refused : (before between now : ℕ) (tells there_tells : Bool) (file there : List ℕ) (header : Header) (groups : List (List ℕ)) (fault : CheckFault)
-    → before ≤ between → there_tells ≡ tells → there ≡ file → (IsTrue tells → AreGroupsOf header.blocks (leaves file header.blocks) groups)
-    → IsCheckFault between now (λ damage. IsTrue there_tells → AreGroupsOf header.blocks (leaves there header.blocks) groups
+pub lists_refused : (before between now : ℕ) (tells : Bool) (file there : List ℕ) (header : Header) (groups : List (List ℕ)) (fault : CheckFault)
+    → before ≤ between → there ≡ file → (IsTrue tells → AreGroupsOf header.blocks (leaves file header.blocks) groups)
+    → IsCheckFault between now (λ damage. IsTrue tells → AreGroupsOf header.blocks (leaves there header.blocks) groups
     → IsListedDefect header.format there header.blocks header.first damage) fault
     → IsCheckFault before now (λ damage. IsTrue tells → AreOf header (header_of file) → IsTreeDefect header.format file (header_of file) damage) fault
-lists_refused before between now tells there_tells file there header groups Store later same_telling same_file grouped is = omega (arith, is)
-lists_refused before between now tells there_tells file there header groups (Damaged damage) later same_telling same_file grouped is = (
+lists_refused before between now tells file there header groups Store later same_file grouped is = omega (arith, is)
+lists_refused before between now tells file there header groups (Damaged damage) later same_file grouped is = (
   is.0,
   λ told are.
       let found : IsListedDefect header.format file header.blocks header.first damage =
       subst (λ (f : List ℕ). AreGroupsOf header.blocks (leaves f header.blocks) groups → IsListedDefect header.format f header.blocks header.first damage)
-      same_file (is.1 (subst IsTrue (sym same_telling) told)) (grouped told) in
+      same_file (is.1 told) (grouped told) in
       found (header_of file) are.blocks are.first,
 )
-lists_refused before between now tells there_tells file there header groups Memory later same_telling same_file grouped is = tt
+lists_refused before between now tells file there header groups Memory later same_file grouped is = tt
 
 -- a file with a damage stands for no value
 stands_for_none : (file : List ℕ) (header : Header) → AreOf header (header_of file) → (damage : Damage) → IsTreeDefect header.format file (header_of file) damage

@@ -9,7 +9,7 @@ use Rattle.quota_types.specs.declared.file_kind.Format.{Format}
 use Rattle.tree_file.specs.declared.link.Link.{Link}
 use Rattle.tree_file.specs.Block.{block_of}
 use Rattle.tree_file.specs.BlockSet.{AreFlagsOf}
-use Rattle.tree_file.specs.Compared.{HasEntriesOf, ids_of, is_room, rooms}
+use Rattle.tree_file.specs.Compared.{HasEntriesOf, leading_ids, is_room, rooms}
 use Rattle.tree_file.specs.Entries.{has_unused}
 use Rattle.tree_file.specs.Count.{StandsIn, times}
 use Rattle.tree_file.specs.Walk.{AreListed, NamesOther, linked_blocks, previous_in}
@@ -127,15 +127,15 @@ no_room_added blocks number flags numbers true false h are = subst (λ (ns : Lis
 no_room_added blocks number flags numbers true true h are = elim h [ inl e ↦ absurd (true≢false e) | inr e ↦ absurd (true≢false e) ]
 
 -- the blocks that were compared, with one more
-pub entries_more : (format : Format) (file now : List ℕ) (groups : List (List ℕ)) (block : ℕ) (ids : List ℕ) → now ≡ file → ids_of groups block ≡ ids
-    → ((b : ℕ) → b < block → HasEntriesOf format file b (ids_of groups b)) → HasEntriesOf format now block ids
-    → (b : ℕ) → b < block + 1 → HasEntriesOf format file b (ids_of groups b)
+pub entries_more : (format : Format) (file now : List ℕ) (groups : List (List ℕ)) (block : ℕ) (ids : List ℕ) → now ≡ file → leading_ids groups block ≡ ids
+    → ((b : ℕ) → b < block → HasEntriesOf format file b (leading_ids groups b)) → HasEntriesOf format now block ids
+    → (b : ℕ) → b < block + 1 → HasEntriesOf format file b (leading_ids groups b)
 entries_more format file now groups block ids same group before here =
-    below_more (λ (b : ℕ). HasEntriesOf format file b (ids_of groups b)) block before
-    (subst (λ (f : List ℕ). HasEntriesOf format f block (ids_of groups block)) same (subst (λ (i : List ℕ). HasEntriesOf format now block i) (sym group) here))
+    below_more (λ (b : ℕ). HasEntriesOf format file b (leading_ids groups b)) block before
+    (subst (λ (f : List ℕ). HasEntriesOf format f block (leading_ids groups block)) same (subst (λ (i : List ℕ). HasEntriesOf format now block i) (sym group) here))
 
 -- the set of those with room, with one more
-pub room_more : (format : Format) (file now : List ℕ) (groups : List (List ℕ)) (block blocks : ℕ) (ids : List ℕ) (flags new : List Bool) → now ≡ file → ids_of groups block ≡ ids
+pub room_more : (format : Format) (file now : List ℕ) (groups : List (List ℕ)) (block blocks : ℕ) (ids : List ℕ) (flags new : List Bool) → now ≡ file → leading_ids groups block ≡ ids
     → block < blocks → AreFlagsOf blocks flags (rooms format file groups block)
     → ((all : ℕ) (numbers : List ℕ) → AreFlagsOf all flags numbers → block < all → times numbers block ≡ 0
     → AreFlagsOf all new (numbers ++ cond (nat_le 1 (length ids) && has_unused format (block_of now block)) (block ∷ []) []))
@@ -145,6 +145,6 @@ room_more format file now groups block blocks ids flags new same group low are a
     added blocks (rooms format file groups block) are low (not_before (is_room format file groups) block) in
     let here : (nat_le 1 (length ids) && has_unused format (block_of now block)) ≡ is_room format file groups block =
     ap (λ (i : List ℕ). nat_le 1 (length i) && has_unused format (block_of now block)) (sym group)
-    ∙ ap (λ (f : List ℕ). nat_le 1 (length (ids_of groups block)) && has_unused format (block_of f block)) same in
+    ∙ ap (λ (f : List ℕ). nat_le 1 (length (leading_ids groups block)) && has_unused format (block_of f block)) same in
     subst (λ (ns : List ℕ). AreFlagsOf blocks new ns)
     (ap (λ (b : Bool). rooms format file groups block ++ cond b (block ∷ []) []) here ∙ sym (rooms_more format file groups block)) more

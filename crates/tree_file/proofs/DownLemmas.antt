@@ -175,32 +175,32 @@ down_fault file blocks digits flags now found few down numbers damage (inr defec
 )
 
 -- a refusal on the way down is one of the whole way
-pub down_refused : (before between now blocks digits : ℕ) (tells tells_there : Bool) (file file_there : List ℕ) (flags flags_there : List Bool) (level : List TreePath)
-    → before ≤ between → tells_there ≡ tells → file_there ≡ file → digits < 4 → (IsTrue tells → IsDown file blocks digits flags flags_there level)
+pub down_refused : (before between now blocks digits : ℕ) (tells : Bool) (file file_there : List ℕ) (flags flags_there : List Bool) (level : List TreePath)
+    → before ≤ between → file_there ≡ file → digits < 4 → (IsTrue tells → IsDown file blocks digits flags flags_there level)
     → (fault : CheckFault)
-    → IsCheckFault between now (λ damage. IsTrue tells_there → (numbers : List ℕ) → AreFlagsOf blocks flags_there numbers
+    → IsCheckFault between now (λ damage. IsTrue tells → (numbers : List ℕ) → AreFlagsOf blocks flags_there numbers
     → (IsSecondRole (numbers ++ blocks_of level) damage ⊎ IsLevelDefect file_there blocks (blocks_of level) damage)) fault
     → IsCheckFault before now (λ damage. IsTrue tells → (numbers : List ℕ) → AreFlagsOf blocks flags numbers → IsTreeFault file blocks numbers damage) fault
-down_refused before between now blocks digits tells tells_there file file_there flags flags_there found later same_telling same_file few down Store refused = omega (arith, later, refused)
-down_refused before between now blocks digits tells tells_there file file_there flags flags_there found later same_telling same_file few down (Damaged damage) refused = (
+down_refused before between now blocks digits tells file file_there flags flags_there found later same_file few down Store refused = omega (arith, later, refused)
+down_refused before between now blocks digits tells file file_there flags flags_there found later same_file few down (Damaged damage) refused = (
   refused.0,
   λ told numbers are.
       down_fault file blocks digits flags flags_there found few (down told) numbers damage
       (subst (λ (f : List ℕ). IsSecondRole ((numbers ++ blocks_above file blocks digits) ++ blocks_of found) damage ⊎ IsLevelDefect f blocks (blocks_of found) damage) same_file
-      (refused.1 (subst IsTrue (sym same_telling) told) (numbers ++ blocks_above file blocks digits) ((down told).marked numbers are))),
+      (refused.1 told (numbers ++ blocks_above file blocks digits) ((down told).marked numbers are))),
 )
-down_refused before between now blocks digits tells tells_there file file_there flags flags_there found later same_telling same_file few down Memory refused = tt
+down_refused before between now blocks digits tells file file_there flags flags_there found later same_file few down Memory refused = tt
 
 -- the same of what a call answers
-pub down_refused_at : {T : Type 0} (before between now blocks digits : ℕ) (tells tells_there : Bool) (file file_there : List ℕ) (flags flags_there : List Bool) (level : List TreePath)
-    → before ≤ between → tells_there ≡ tells → file_there ≡ file → digits < 4 → (IsTrue tells → IsDown file blocks digits flags flags_there level)
+pub down_refused_at : {T : Type 0} (before between now blocks digits : ℕ) (tells : Bool) (file file_there : List ℕ) (flags flags_there : List Bool) (level : List TreePath)
+    → before ≤ between → file_there ≡ file → digits < 4 → (IsTrue tells → IsDown file blocks digits flags flags_there level)
     → (result : Result T CheckFault)
-    → IfErr result (IsCheckFault between now (λ damage. IsTrue tells_there → (numbers : List ℕ) → AreFlagsOf blocks flags_there numbers
+    → IfErr result (IsCheckFault between now (λ damage. IsTrue tells → (numbers : List ℕ) → AreFlagsOf blocks flags_there numbers
     → (IsSecondRole (numbers ++ blocks_of level) damage ⊎ IsLevelDefect file_there blocks (blocks_of level) damage)))
     → IfErr result (IsCheckFault before now (λ damage. IsTrue tells → (numbers : List ℕ) → AreFlagsOf blocks flags numbers → IsTreeFault file blocks numbers damage))
-down_refused_at before between now blocks digits tells tells_there file file_there flags flags_there found later same_telling same_file few down (Ok value) refused = tt
-down_refused_at before between now blocks digits tells tells_there file file_there flags flags_there found later same_telling same_file few down (Err fault) refused =
-    down_refused before between now blocks digits tells tells_there file file_there flags flags_there found later same_telling same_file few down fault refused
+down_refused_at before between now blocks digits tells file file_there flags flags_there found later same_file few down (Ok value) refused = tt
+down_refused_at before between now blocks digits tells file file_there flags flags_there found later same_file few down (Err fault) refused =
+    down_refused before between now blocks digits tells file file_there flags flags_there found later same_file few down fault refused
 
 -- the whole way down
 pub down_whole : (file : List ℕ) (blocks : ℕ) (flags now : List Bool) (found : List TreePath) → IsDown file blocks 4 flags now found
@@ -234,34 +234,33 @@ within_root blocks two =
     (omega arith, lt-ltb 1 blocks (omega arith)) (All-nil (λ (path : TreePath). (path.number < 1) × IsTrue (leads blocks path.block)))
 
 -- one level down, by what a call tells of a store whose files stay
-pub down_on : (file file_there : List ℕ) (blocks digits : ℕ) (tells tells_there : Bool) (flags now next : List Bool) (level items found : List TreePath)
-    → tells_there ≡ tells → file_there ≡ file → (IsTrue tells → IsDown file blocks digits flags now level)
-    → (IsTrue tells_there → items ≡ flat_map (steps file_there blocks) level) → found ≡ items
+pub down_on : (file file_there : List ℕ) (blocks digits : ℕ) (tells : Bool) (flags now next : List Bool) (level items found : List TreePath)
+    → file_there ≡ file → (IsTrue tells → IsDown file blocks digits flags now level)
+    → (IsTrue tells → items ≡ flat_map (steps file_there blocks) level) → found ≡ items
     → ((numbers : List ℕ) → AreFlagsOf blocks now numbers → AreFlagsOf blocks next (numbers ++ blocks_of level))
-    → (IsTrue tells_there → All (λ (path : TreePath). IsWhole file_there blocks path.block) level)
+    → (IsTrue tells → All (λ (path : TreePath). IsWhole file_there blocks path.block) level)
     → IsTrue tells → IsDown file blocks (suc digits) flags next found
-down_on file file_there blocks digits tells tells_there flags now next found items below same_telling same_file down is same marks all told =
-    let there : IsTrue tells_there = subst IsTrue (sym same_telling) told in
+down_on file file_there blocks digits tells flags now next found items below same_file down is same marks all told =
     down_more file blocks digits flags now next found below (down told)
-    (same ∙ is there ∙ ap (λ (f : List ℕ). flat_map (steps f blocks) found) same_file)
+    (same ∙ is told ∙ ap (λ (f : List ℕ). flat_map (steps f blocks) found) same_file)
     marks
-    (subst (λ (f : List ℕ). All (λ (path : TreePath). IsWhole f blocks path.block) found) same_file (all there))
+    (subst (λ (f : List ℕ). All (λ (path : TreePath). IsWhole f blocks path.block) found) same_file (all told))
 
 -- the file of one name, of files that stay
 pub file_same : (name : List ℕ) (files now : List ℕ → Option (List ℕ)) → now ≡ files → bytes_of (now name) ≡ bytes_of (files name)
 file_same name files now same = ap (λ (fs : List ℕ → Option (List ℕ)). bytes_of (fs name)) same
 
 -- the last level down, of what a call answers
-pub down_end : {T : Type 0} (items : T → List TreePath) (file file_there : List ℕ) (blocks digits : ℕ) (tells tells_there : Bool) (flags now next : List Bool) (level : List TreePath)
-    → tells_there ≡ tells → file_there ≡ file → (IsTrue tells → IsDown file blocks digits flags now level)
+pub down_end : {T : Type 0} (items : T → List TreePath) (file file_there : List ℕ) (blocks digits : ℕ) (tells : Bool) (flags now next : List Bool) (level : List TreePath)
+    → file_there ≡ file → (IsTrue tells → IsDown file blocks digits flags now level)
     → (result : Result T CheckFault)
-    → IfOk result (λ found. IsTrue tells_there → items found ≡ flat_map (steps file_there blocks) level)
+    → IfOk result (λ found. IsTrue tells → items found ≡ flat_map (steps file_there blocks) level)
     → OnOk result ((numbers : List ℕ) → AreFlagsOf blocks now numbers → AreFlagsOf blocks next (numbers ++ blocks_of level))
-    → OnOk result (IsTrue tells_there → All (λ (path : TreePath). IsWhole file_there blocks path.block) level)
+    → OnOk result (IsTrue tells → All (λ (path : TreePath). IsWhole file_there blocks path.block) level)
     → IfOk result (λ found. IsTrue tells → IsDown file blocks (suc digits) flags next (items found))
-down_end items file file_there blocks digits tells tells_there flags now next below same_telling same_file down (Ok found) is marks all =
-    down_on file file_there blocks digits tells tells_there flags now next below (items found) (items found) same_telling same_file down is refl marks all
-down_end items file file_there blocks digits tells tells_there flags now next below same_telling same_file down (Err fault) is marks all = tt
+down_end items file file_there blocks digits tells flags now next below same_file down (Ok found) is marks all =
+    down_on file file_there blocks digits tells flags now next below (items found) (items found) same_file down is refl marks all
+down_end items file file_there blocks digits tells flags now next below same_file down (Err fault) is marks all = tt
 
 pub down_end_marked : {T : Type 0} (items : T → List TreePath) (file : List ℕ) (blocks : ℕ) (tells : Bool) (flags now : List Bool) (result : Result T CheckFault)
     → IfOk result (λ found. IsTrue tells → IsDown file blocks 4 flags now (items found))

@@ -17,7 +17,7 @@ use Rattle.tree_file.specs.declared.tree_path.TreePath.{TreePath}
 use Rattle.tree_file.specs.Block.{block_of, previous_of, stated_count}
 use Rattle.tree_file.specs.Chain.{IsChain}
 use Rattle.tree_file.specs.Check.{IsCheckFault, bytes_of}
-use Rattle.tree_file.specs.Compared.{AreEntriesOf, HasEntriesOf, IsDataDefect, IsEntryDefect, ids_of, is_room, rooms}
+use Rattle.tree_file.specs.Compared.{AreEntriesOf, HasEntriesOf, IsDataDefect, IsEntryDefect, leading_ids, is_room, rooms}
 use Rattle.tree_file.specs.Count.{StandsIn, times}
 use Rattle.tree_file.specs.Defect.{IsDefectOf, IsLoop, IsOut, IsTreeDefect, NamesItsId}
 use Rattle.tree_file.specs.Entries.{has_unused, used_ids}
@@ -43,12 +43,12 @@ length_ids (p ∷ ps) block = elim (eqb_tells p.block block) [
       ∙ sym (times-cons-other p.block (map (λ path. path.block) ps) block other.1)
 ]
 
-ids_there : (blocks : ℕ) (ps : List TreePath) (groups : List (List ℕ)) (block : ℕ) → AreGroupsOf blocks ps groups → block < blocks → ids_of groups block ≡ ids_at ps block
+ids_there : (blocks : ℕ) (ps : List TreePath) (groups : List (List ℕ)) (block : ℕ) → AreGroupsOf blocks ps groups → block < blocks → leading_ids groups block ≡ ids_at ps block
 ids_there blocks ps groups block are low =
     ap (λ (g : List (List ℕ)). get_or g block []) are ∙ get_or-map-range_with_len (ids_at ps) 0 blocks block block [] low (omega arith)
 
 -- a block to which identifiers lead is a block
-led_within : (blocks : ℕ) (ps : List TreePath) (groups : List (List ℕ)) (block : ℕ) → AreGroupsOf blocks ps groups → 1 ≤ length (ids_of groups block) → block < blocks
+led_within : (blocks : ℕ) (ps : List TreePath) (groups : List (List ℕ)) (block : ℕ) → AreGroupsOf blocks ps groups → 1 ≤ length (leading_ids groups block) → block < blocks
 led_within blocks ps groups block are led = elim (cases_lt block blocks) [
   | inl low ↦ low
   | inr high ↦
@@ -116,12 +116,12 @@ chained format file blocks first groups links are is_chain linked listed = recor
 }
 
 pub filled : (format : Format) (file : List ℕ) (blocks : ℕ) (groups : List (List ℕ)) → AreGroupsOf blocks (leaves file blocks) groups
-    → ((block : ℕ) → block < blocks → HasEntriesOf format file block (ids_of groups block)) → HasNoEmptyBlock file blocks → Filled format file blocks
+    → ((block : ℕ) → block < blocks → HasEntriesOf format file block (leading_ids groups block)) → HasNoEmptyBlock file blocks → Filled format file blocks
 filled format file blocks groups are entries not_empty =
     let here : (block : ℕ) → is_data file blocks block ≡ true → AreEntriesOf (stated_count file block) (used_ids format (block_of file block)) (ids_at (leaves file blocks) block) = λ block is.
     let low = data_within file blocks block is in
     let same = ids_there blocks (leaves file blocks) groups block are low in
-    let led : 1 ≤ length (ids_of groups block) = omega (arith, ap length same, length_ids (leaves file blocks) block, leb-true 1 (times (level file blocks 4) block) is) in
+    let led : 1 ≤ length (leading_ids groups block) = omega (arith, ap length same, length_ids (leaves file blocks) block, leb-true 1 (times (level file blocks 4) block) is) in
     subst (λ (ids : List ℕ). AreEntriesOf (stated_count file block) (used_ids format (block_of file block)) ids) same (entries block low led) in
     let data_of : (block : ℕ) → StandsIn (data_blocks file blocks) block → is_data file blocks block ≡ true = λ block stands. elim (cases_Bool (is_data file blocks block)) [
       | inl is ↦ is
@@ -159,7 +159,7 @@ entry_defect format file numbers block id BadPrev is_data is = absurd is
 entry_defect format file numbers block id PartialRecord is_data is = absurd is
 
 data_defect_there : (format : Format) (file : List ℕ) (numbers : HeaderNumbers) (groups : List (List ℕ)) (damage : Damage)
-    → AreGroupsOf numbers.blocks (leaves file numbers.blocks) groups → IsDataDefect format file (ids_of groups damage.block) damage.block damage → IsTreeDefect format file numbers damage
+    → AreGroupsOf numbers.blocks (leaves file numbers.blocks) groups → IsDataDefect format file (leading_ids groups damage.block) damage.block damage → IsTreeDefect format file numbers damage
 data_defect_there format file numbers groups damage are is =
     let low = led_within numbers.blocks (leaves file numbers.blocks) groups damage.block are is.led in
     let same = ids_there numbers.blocks (leaves file numbers.blocks) groups damage.block are low in
@@ -168,10 +168,10 @@ data_defect_there format file numbers groups damage are is =
     (subst (λ (ids : List ℕ). IsEntryDefect (stated_count file damage.block) (used_ids format (block_of file damage.block)) ids damage.kind damage.id) same is.defect.defect)
 
 pub data_defect : (format : Format) (file there : List ℕ) (numbers : HeaderNumbers) (blocks : ℕ) (groups : List (List ℕ)) (damage : Damage) → there ≡ file → numbers.blocks ≡ blocks
-    → AreGroupsOf blocks (leaves file blocks) groups → IsDataDefect format there (ids_of groups damage.block) damage.block damage → IsTreeDefect format file numbers damage
+    → AreGroupsOf blocks (leaves file blocks) groups → IsDataDefect format there (leading_ids groups damage.block) damage.block damage → IsTreeDefect format file numbers damage
 data_defect format file there numbers blocks groups damage same_file same are is =
     data_defect_there format file numbers groups damage (subst (λ (b : ℕ). AreGroupsOf b (leaves file b) groups) (sym same) are)
-    (subst (λ (f : List ℕ). IsDataDefect format f (ids_of groups damage.block) damage.block damage) same_file is)
+    (subst (λ (f : List ℕ). IsDataDefect format f (leading_ids groups damage.block) damage.block damage) same_file is)
 
 -- the damages of the two lists
 abbrev IsEither : List ℕ → HeaderNumbers → ℕ → Type 0
@@ -273,17 +273,17 @@ list_defect format file numbers blocks first groups links damage same same_first
     (subst (λ (b : ℕ). IsListDefectOf (rooms format file groups b) (linked_blocks links) (previous_in links) damage.kind damage.block) (sym same) is.defect)
 
 -- what the check of the data blocks was refused for
-pub data_refused : (before between now : ℕ) (tells there_tells : Bool) (format : Format) (file there : List ℕ) (blocks first : ℕ) (groups : List (List ℕ)) (fault : CheckFault)
-    → before ≤ between → there_tells ≡ tells → there ≡ file
-    → IsCheckFault between now (λ damage. IsTrue there_tells → IsDataDefect format there (ids_of groups damage.block) damage.block damage) fault
+pub data_refused : (before between now : ℕ) (tells : Bool) (format : Format) (file there : List ℕ) (blocks first : ℕ) (groups : List (List ℕ)) (fault : CheckFault)
+    → before ≤ between → there ≡ file
+    → IsCheckFault between now (λ damage. IsTrue tells → IsDataDefect format there (leading_ids groups damage.block) damage.block damage) fault
     → IsCheckFault before now (λ damage. IsTrue tells → AreGroupsOf blocks (leaves file blocks) groups → IsListedDefect format file blocks first damage) fault
-data_refused before between now tells there_tells format file there blocks first groups Store later same_telling same_file is = omega (arith, is)
-data_refused before between now tells there_tells format file there blocks first groups (Damaged damage) later same_telling same_file is = (
+data_refused before between now tells format file there blocks first groups Store later same_file is = omega (arith, is)
+data_refused before between now tells format file there blocks first groups (Damaged damage) later same_file is = (
   is.0,
   λ told are numbers same same_first.
-      data_defect format file there numbers blocks groups damage same_file same are (is.1 (subst IsTrue (sym same_telling) told)),
+      data_defect format file there numbers blocks groups damage same_file same are (is.1 told),
 )
-data_refused before between now tells there_tells format file there blocks first groups Memory later same_telling same_file is = tt
+data_refused before between now tells format file there blocks first groups Memory later same_file is = tt
 
 -- the file of a name, in two stores with the same files
 pub same_bytes : (files now : List ℕ → Option (List ℕ)) (name : List ℕ) → now ≡ files → bytes_of (now name) ≡ bytes_of (files name)

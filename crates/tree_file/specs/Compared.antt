@@ -34,12 +34,12 @@ pub record IsEntryDefectAt (block stated : ℕ) (used ids : List ℕ) (damage : 
   pub defect : IsEntryDefect stated used ids damage.kind damage.id
 
 -- the identifiers that lead to a block
-abbrev pub ids_of : List (List ℕ) → ℕ → List ℕ
-ids_of groups block = slice_index_or groups block []
+abbrev pub leading_ids : List (List ℕ) → ℕ → List ℕ
+leading_ids groups block = slice_index_or groups block []
 
 -- an identifier leads to a block, which has an unused entry
 abbrev pub is_room : Format → List ℕ → List (List ℕ) → ℕ → Bool
-is_room format file groups block = nat_le 1 (length (ids_of groups block)) && has_unused format (block_of file block)
+is_room format file groups block = nat_le 1 (length (leading_ids groups block)) && has_unused format (block_of file block)
 
 -- the data blocks with room, of so many blocks
 abbrev pub rooms : Format → List ℕ → List (List ℕ) → ℕ → List ℕ

@@ -2,7 +2,8 @@
 -- rules of `fs/quota/quota_tree.c`, each turned round.
 use Rattle.std.specs.Prelude.{◌≡◌, ◌≢◌, ◌⊎◌, ℕ, ◌*◌, ◌/◌, ◌<◌, ◌≤◌, IsTrue, false, List, ◌∷◌, ◌++◌, length}
 use Rattle.std.specs.List.{last_or}
-use Rattle.std.specs.Prelude.{Some, unwrap_or}
+use Rattle.std.specs.Prelude.{MatchBool, Some, unwrap_or, ⊤}
+use Rattle.quota_types.specs.Damage.{names_identifier}
 use Rattle.quota_types.specs.declared.damage.Damage.{Damage}
 use Rattle.quota_types.specs.declared.damage.DamageKind.{DamageKind}
 use Rattle.quota_types.specs.declared.damage.DamageKind.TheVariants.{Short, RefOut, TwoRoles, NoRole, EmptyTree, ChainOut, ChainLoop, ForeignInChain, MissingInChain, BadPrev, BadCount, MissingEntry, StrayEntry, DoubleEntry, PartialRecord}
@@ -123,14 +124,11 @@ IsDefectOf format file numbers StrayEntry block id = HasStrayEntry format file n
 IsDefectOf format file numbers DoubleEntry block id = HasDoubleEntry format file numbers.blocks block id
 IsDefectOf format file numbers PartialRecord block id = ⊥
 
--- The kinds that are about an entry of an identifier name it, and the others of a tree file name 0. A record cut off is no
--- damage of a tree file.
+-- A damage that is in an entry of an identifier names it, and any other damage of a tree file names 0. A record cut off
+-- is no damage of a tree file.
 abbrev pub NamesItsId : DamageKind → ℕ → Type 0
 NamesItsId PartialRecord id = ⊥
-NamesItsId MissingEntry id = Unit {0}
-NamesItsId StrayEntry id = Unit {0}
-NamesItsId DoubleEntry id = Unit {0}
-NamesItsId _ id = id ≡ 0
+NamesItsId kind id = MatchBool (names_identifier kind) ⊤ (id ≡ 0)
 
 -- a damage is one of a tree file of this format with these numbers in its header
 abbrev pub IsTreeDefect : Format → List ℕ → HeaderNumbers → Damage → Type 0

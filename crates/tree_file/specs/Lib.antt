@@ -19,5 +19,8 @@ pub mod Tree
 pub mod TreeFile
 pub mod Walk
 pub use Rattle.quota_types.specs.Bytes
+pub use Rattle.quota_blocks.specs.Frame
+pub use Rattle.quota_blocks.specs.Seen
+pub use Rattle.quota_blocks.specs.Unsynced
 pub use Rattle.entry_codec.specs.Entry
 pub use Rattle.entry_codec.specs.Header

@@ -1,5 +1,7 @@
 ghost use Rattle.std.specs.Prelude.{◌≡◌, ◌+◌, ◌≤◌, IsTrue, OnOk, OnErr};
 ghost use Rattle.quota_blocks.specs.Count.{Rose};
+ghost use Rattle.quota_blocks.specs.Frame.{OnlyReads};
+ghost use Rattle.quota_blocks.specs.Unsynced.{AddsNone};
 ghost use Rattle.tree_file.specs.Block.{block_of};
 ghost use Rattle.tree_file.specs.Check.{bytes_of};
 
@@ -15,13 +17,12 @@ pub(crate) fn read_block<S: Store>(
     number: u32,
     block: &mut [u8; 1024],
 ) -> Result<(), StoreFault>
-    ensures bytes { OnOk result (IsTrue (S.tells store.old) → block.new ≡ block_of (bytes_of (S.files store.old name.now)) number) }
-    ensures cause { OnErr result (Rose (S.faults store.old) (S.faults store.new)) }
-    ensures later { S.faults store.old ≤ S.faults store.new }
-    ensures reads { S.reads store.new ≤ S.reads store.old + 1 }
-    ensures writes { S.writes store.new ≡ S.writes store.old }
-    ensures same_files { S.files store.new ≡ S.files store.old }
-    ensures same_telling { S.tells store.new ≡ S.tells store.old }
+    ensures bytes { OnOk result (IsTrue S.tells
+        → block.new ≡ block_of (bytes_of ((S.seen store.old).files name.now)) number) }
+    ensures cause { OnErr result (Rose (S.seen store.old).faults (S.seen store.new).faults) }
+    ensures leaves { OnlyReads name.now (S.seen store.old) (S.seen store.new) }
+    ensures synced { OnOk result (AddsNone (S.seen store.old).unsynced (S.seen store.new).unsynced) }
+    ensures reads { (S.seen store.new).reads ≤ (S.seen store.old).reads + 1 }
 {
     let count = store.read(name, 1024 * u64::from(number), block)?;
     block[count..].fill(0);

@@ -22,8 +22,10 @@ impl BlockSet {
 
     /// Adds a block, and answers whether it is new.
     pub(crate) fn insert(&mut self, block: u32) -> bool
-        ensures added { (blocks : ℕ) → (numbers : List ℕ) → AreFlagsOf blocks self.old.flags.items numbers → block < blocks
-            → MatchBool result (AreFlagsOf blocks self.new.flags.items (numbers ++ block ∷ []) × (times numbers block ≡ 0))
+        ensures added { (blocks : ℕ) → (numbers : List ℕ) → AreFlagsOf blocks self.old.flags.items numbers
+            → block < blocks
+            → MatchBool result (AreFlagsOf blocks self.new.flags.items (numbers ++ block ∷ [])
+            × (times numbers block ≡ 0))
             (1 ≤ times numbers block) }
     {
         let Some(flag) = self.flags.get_mut(block as usize) else {
@@ -36,7 +38,8 @@ impl BlockSet {
 
     /// Whether the set has a block.
     pub(crate) fn contains(&self, block: u32) -> bool
-        ensures found { (blocks : ℕ) → (numbers : List ℕ) → AreFlagsOf blocks self.now.flags.items numbers → block < blocks
+        ensures found { (blocks : ℕ) → (numbers : List ℕ) → AreFlagsOf blocks self.now.flags.items numbers
+            → block < blocks
             → MatchBool result (1 ≤ times numbers block) (times numbers block ≡ 0) }
     {
         self.flags.get(block as usize) == Some(&true)

@@ -35,8 +35,10 @@ const ONE_INODE: Rec = Rec {
 fn spaced(alloc: Global, count: u32, step: u32) -> Result<Vec<Entry>, AllocError>
     requires { 0 < step }
     ensures ascending { IfOk result (λ list. IsStrictlyIncreasing (ids_of list.items)) }
-    ensures fits { IfOk result (λ list. (format : Format) → format ≢ Format.V1 → All (λ entry. unfit format entry.id entry.rec ≡ None) list.items) }
-    ensures kept { IfOk result (λ list. (format : Format) → format ≢ Format.V1 → All (λ entry. kept_of format entry.id entry.rec ≡ entry.rec) list.items) }
+    ensures fits { IfOk result (λ list. (format : Format) → format ≢ Format.V1
+        → All (λ entry. unfit format entry.id entry.rec ≡ None) list.items) }
+    ensures kept { IfOk result (λ list. (format : Format) → format ≢ Format.V1
+        → All (λ entry. kept_of format entry.id entry.rec ≡ entry.rec) list.items) }
 {
     let mut list = Vec::new(alloc);
     for place in 0..count {

@@ -80,11 +80,15 @@ fn write_file(alloc: Global, header: &Header, list: &[Entry]) -> Result<Vec<u8>,
     requires free { header.now.free ≡ 0 }
     requires first { header.now.first ≡ (if length list.now % entries_per_block header.now.format == 0 then 0
         else 2 + length list.now / entries_per_block header.now.format) }
-    ensures stands { IfOk result (λ file. TreeStandsFor file.items (value_of header.now.kind header.now.format header.now.grace header.now.flags list.now)) }
+    ensures stands { IfOk result (λ file. TreeStandsFor file.items
+        (value_of header.now.kind header.now.format header.now.grace header.now.flags list.now)) }
     ensures size { IfOk result (λ file. vec_len file ≡ 1024 * blocks_needed header.now.format (ids_of list.now)) }
-    ensures blocks { IfOk result (λ file. (header_of file.items).blocks ≡ blocks_needed header.now.format (ids_of list.now)) }
-    ensures one_room { IfOk result (λ file. HasOneRoom header.now.format file.items (blocks_needed header.now.format (ids_of list.now))) }
-    ensures no_padding { IfOk result (λ file. HasNoPadding header.now.format file.items (blocks_needed header.now.format (ids_of list.now))) }
+    ensures blocks { IfOk result (λ file. (header_of file.items).blocks
+        ≡ blocks_needed header.now.format (ids_of list.now)) }
+    ensures one_room { IfOk result (λ file. HasOneRoom header.now.format file.items
+        (blocks_needed header.now.format (ids_of list.now))) }
+    ensures no_padding { IfOk result (λ file. HasNoPadding header.now.format file.items
+        (blocks_needed header.now.format (ids_of list.now))) }
 {
     let mut file = NewFile::new(alloc, header)?;
     let leaves = add_data(alloc, &mut file, header.format, list)?;

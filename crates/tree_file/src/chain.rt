@@ -1,4 +1,6 @@
 ghost use Rattle.std.specs.Prelude.{◌≡◌, ◌≢◌, ℕ, List, ◌+◌, ◌<◌, ◌≤◌, ◌++◌, [], vec_len, IsTrue, IfOk, OnOk, IfErr, MatchOption};
+ghost use Rattle.quota_blocks.specs.Frame.{OnlyReads};
+ghost use Rattle.quota_blocks.specs.Unsynced.{AddsNone};
 ghost use Rattle.tree_file.specs.BlockSet.{AreFlagsOf};
 ghost use Rattle.tree_file.specs.Check.{IsCheckFault, bytes_of};
 ghost use Rattle.tree_file.specs.Count.{StandsIn, times};
@@ -47,18 +49,19 @@ impl Walk {
         requires { at ≢ 0 }
         ensures longer { OnOk result (vec_len self.new.links ≡ vec_len self.old.links + 1) }
         ensures walk { OnOk result (IsWalk blocks self.old → IsWalk blocks self.new) }
-        ensures links { IfOk result (λ next. IsTrue (S.tells store.old) → (head : ℕ)
-            → AreLinksTo (bytes_of (S.files store.old name.now)) head self.old.links.items at
-            → AreLinksTo (bytes_of (S.files store.old name.now)) head self.new.links.items next) }
-        ensures refused { IfErr result (IsCheckFault (S.faults store.old) (S.faults store.new) (λ damage. IsTrue (S.tells store.old) → (head : ℕ)
-            → IsWalk blocks self.old → AreLinksTo (bytes_of (S.files store.old name.now)) head self.old.links.items at
-            → IsWalkDefect (bytes_of (S.files store.old name.now)) blocks head damage)) }
-        ensures later { S.faults store.old ≤ S.faults store.new }
-        ensures reads { S.reads store.new ≤ S.reads store.old + 1 }
-        ensures few_reads { IsWalk blocks self.old → S.reads store.new + vec_len self.old.links ≤ S.reads store.old + blocks }
-        ensures writes { S.writes store.new ≡ S.writes store.old }
-        ensures same_files { S.files store.new ≡ S.files store.old }
-        ensures same_telling { S.tells store.new ≡ S.tells store.old }
+        ensures links { IfOk result (λ next. IsTrue S.tells → (head : ℕ)
+            → AreLinksTo (bytes_of ((S.seen store.old).files name.now)) head self.old.links.items at
+            → AreLinksTo (bytes_of ((S.seen store.old).files name.now)) head self.new.links.items next) }
+        ensures refused { IfErr result (IsCheckFault (S.seen store.old).faults (S.seen store.new).faults
+            (λ damage. IsTrue S.tells → (head : ℕ)
+            → IsWalk blocks self.old
+            → AreLinksTo (bytes_of ((S.seen store.old).files name.now)) head self.old.links.items at
+            → IsWalkDefect (bytes_of ((S.seen store.old).files name.now)) blocks head damage)) }
+        ensures leaves { OnlyReads name.now (S.seen store.old) (S.seen store.new) }
+        ensures synced { OnOk result (AddsNone (S.seen store.old).unsynced (S.seen store.new).unsynced) }
+        ensures reads { (S.seen store.new).reads ≤ (S.seen store.old).reads + 1 }
+        ensures few_reads { IsWalk blocks self.old → (S.seen store.new).reads + vec_len self.old.links
+            ≤ (S.seen store.old).reads + blocks }
     {
         if at >= blocks {
             return Err(CheckFault::Damage(damage_at(DamageKind::ChainOut, at)));
@@ -86,16 +89,15 @@ pub(crate) fn walk_chain<S: Store>(
     head: u32,
 ) -> Result<Walk, CheckFault>
     ensures walk { IfOk result (IsWalk blocks) }
-    ensures links { IfOk result (λ walk. IsTrue (S.tells store.old)
-        → AreLinksTo (bytes_of (S.files store.old name.now)) head walk.links.items 0) }
-    ensures refused { IfErr result (IsCheckFault (S.faults store.old) (S.faults store.new) (λ damage. IsTrue (S.tells store.old)
-        → IsWalkDefect (bytes_of (S.files store.old name.now)) blocks head damage)) }
-    ensures later { S.faults store.old ≤ S.faults store.new }
-    ensures reads { IfOk result (λ walk. S.reads store.new ≤ S.reads store.old + vec_len walk.links) }
-    ensures few_reads { S.reads store.new ≤ S.reads store.old + blocks }
-    ensures writes { S.writes store.new ≡ S.writes store.old }
-    ensures same_files { S.files store.new ≡ S.files store.old }
-    ensures same_telling { S.tells store.new ≡ S.tells store.old }
+    ensures links { IfOk result (λ walk. IsTrue S.tells
+        → AreLinksTo (bytes_of ((S.seen store.old).files name.now)) head walk.links.items 0) }
+    ensures refused { IfErr result (IsCheckFault (S.seen store.old).faults (S.seen store.new).faults
+        (λ damage. IsTrue S.tells
+        → IsWalkDefect (bytes_of ((S.seen store.old).files name.now)) blocks head damage)) }
+    ensures leaves { OnlyReads name.now (S.seen store.old) (S.seen store.new) }
+    ensures synced { OnOk result (AddsNone (S.seen store.old).unsynced (S.seen store.new).unsynced) }
+    ensures reads { IfOk result (λ walk. (S.seen store.new).reads ≤ (S.seen store.old).reads + vec_len walk.links) }
+    ensures few_reads { (S.seen store.new).reads ≤ (S.seen store.old).reads + blocks }
 {
     let mut walk = Walk::new(alloc, blocks)?;
     let mut at = head;
@@ -110,7 +112,8 @@ pub(crate) fn mark_links(met: &mut BlockSet, links: &[Link]) -> Result<(), Damag
     ensures marked { OnOk result ((blocks : ℕ) → (numbers : List ℕ) → AreFlagsOf blocks met.old.flags.items numbers
         → ((number : ℕ) → StandsIn (linked_blocks links.now) number → number < blocks)
         → AreFlagsOf blocks met.new.flags.items (numbers ++ linked_blocks links.now)) }
-    ensures refused { IfErr result (λ damage. (blocks : ℕ) → (numbers : List ℕ) → AreFlagsOf blocks met.old.flags.items numbers
+    ensures refused { IfErr result (λ damage. (blocks : ℕ) → (numbers : List ℕ)
+        → AreFlagsOf blocks met.old.flags.items numbers
         → ((number : ℕ) → StandsIn (linked_blocks links.now) number → number < blocks)
         → IsSecondRole (numbers ++ linked_blocks links.now) damage) }
     ensures names_id { IfErr result (λ damage. NamesItsId damage.kind damage.id) }

@@ -2,8 +2,9 @@ ghost use Rattle.std.specs.Prelude.{◌≡◌, ◌≢◌, ◌+◌, ◌*◌, ◌<
 ghost use Rattle.entry_codec.specs.Header.{AreOf, header_of};
 ghost use Rattle.quota_types.specs.declared.damage.Damage.{Damage};
 ghost use Rattle.quota_types.specs.declared.file_kind.Format.TheVariants.{V1};
-ghost use Rattle.quota_blocks.specs.Count.{Rose};
+ghost use Rattle.quota_blocks.specs.Frame.{OnlyReads};
 ghost use Rattle.quota_blocks.specs.QuotaValue.{QuotaValue};
+ghost use Rattle.quota_blocks.specs.Unsynced.{AddsNone};
 ghost use Rattle.tree_file.specs.declared.checked.CheckFault.TheVariants.{Damage as Damaged};
 ghost use Rattle.tree_file.specs.Check.{IsChecked, IsCheckFault, bytes_of};
 ghost use Rattle.tree_file.specs.Defect.{IsTreeDefect};
@@ -35,19 +36,20 @@ pub fn check<S: Store>(
 ) -> Result<Checked, CheckFault>
     requires tree { header.now.format ≢ V1 }
     requires two { 2 ≤ header.now.blocks }
-    ensures checked { IfOk result (λ checked. IsTrue (S.tells store.old) → AreOf header.now (header_of (bytes_of (S.files store.old name.now)))
-        → IsChecked (bytes_of (S.files store.old name.now)) checked) }
-    ensures refused { IfErr result (IsCheckFault (S.faults store.old) (S.faults store.new) (λ damage. IsTrue (S.tells store.old)
-        → AreOf header.now (header_of (bytes_of (S.files store.old name.now)))
-        → IsTreeDefect header.now.format (bytes_of (S.files store.old name.now)) (header_of (bytes_of (S.files store.old name.now))) damage)) }
-    ensures only_damaged { IfErr result (λ fault. (damage : Damage) → fault ≡ Damaged damage → IsTrue (S.tells store.old)
-        → AreOf header.now (header_of (bytes_of (S.files store.old name.now)))
-        → (value : QuotaValue) → ¬ TreeStandsFor (bytes_of (S.files store.old name.now)) value) }
-    ensures later { S.faults store.old ≤ S.faults store.new }
-    ensures reads { S.reads store.new ≤ S.reads store.old + 2 * header.now.blocks }
-    ensures writes { S.writes store.new ≡ S.writes store.old }
-    ensures same_files { S.files store.new ≡ S.files store.old }
-    ensures same_telling { S.tells store.new ≡ S.tells store.old }
+    ensures checked { IfOk result (λ checked. IsTrue S.tells
+        → AreOf header.now (header_of (bytes_of ((S.seen store.old).files name.now)))
+        → IsChecked (bytes_of ((S.seen store.old).files name.now)) checked) }
+    ensures refused { IfErr result (IsCheckFault (S.seen store.old).faults (S.seen store.new).faults
+        (λ damage. IsTrue S.tells
+        → AreOf header.now (header_of (bytes_of ((S.seen store.old).files name.now)))
+        → IsTreeDefect header.now.format (bytes_of ((S.seen store.old).files name.now))
+        (header_of (bytes_of ((S.seen store.old).files name.now))) damage)) }
+    ensures only_damaged { IfErr result (λ fault. (damage : Damage) → fault ≡ Damaged damage → IsTrue S.tells
+        → AreOf header.now (header_of (bytes_of ((S.seen store.old).files name.now)))
+        → (value : QuotaValue) → ¬ TreeStandsFor (bytes_of ((S.seen store.old).files name.now)) value) }
+    ensures leaves { OnlyReads name.now (S.seen store.old) (S.seen store.new) }
+    ensures synced { OnOk result (AddsNone (S.seen store.old).unsynced (S.seen store.new).unsynced) }
+    ensures reads { (S.seen store.new).reads ≤ (S.seen store.old).reads + 2 * header.now.blocks }
 {
     check_length(store, name, header.blocks)?;
     let roles = check_roles(alloc, store, name, header.blocks, header.free)?;
@@ -61,15 +63,14 @@ pub fn check<S: Store>(
 
 /// Checks that a file of more blocks than header and root is as long as they.
 fn check_length<S: Store>(store: &mut S, name: &str, blocks: u32) -> Result<(), CheckFault>
-    ensures long { OnOk result (IsTrue (S.tells store.old) → 2 < blocks
-        → 1024 * blocks ≤ length (bytes_of (S.files store.old name.now))) }
-    ensures refused { IfErr result (IsCheckFault (S.faults store.old) (S.faults store.new) (λ damage. IsTrue (S.tells store.old)
-        → IsLengthDefect (bytes_of (S.files store.old name.now)) blocks damage)) }
-    ensures later { S.faults store.old ≤ S.faults store.new }
-    ensures reads { S.reads store.new ≡ S.reads store.old }
-    ensures writes { S.writes store.new ≡ S.writes store.old }
-    ensures same_files { S.files store.new ≡ S.files store.old }
-    ensures same_telling { S.tells store.new ≡ S.tells store.old }
+    ensures long { OnOk result (IsTrue S.tells → 2 < blocks
+        → 1024 * blocks ≤ length (bytes_of ((S.seen store.old).files name.now))) }
+    ensures refused { IfErr result (IsCheckFault (S.seen store.old).faults (S.seen store.new).faults
+        (λ damage. IsTrue S.tells
+        → IsLengthDefect (bytes_of ((S.seen store.old).files name.now)) blocks damage)) }
+    ensures leaves { OnlyReads name.now (S.seen store.old) (S.seen store.new) }
+    ensures synced { OnOk result (AddsNone (S.seen store.old).unsynced (S.seen store.new).unsynced) }
+    ensures reads { (S.seen store.new).reads ≡ (S.seen store.old).reads }
 {
     let size = store.size(name)?.unwrap_or(0);
     if blocks > 2 && size < 1024 * u64::from(blocks) {

@@ -1,8 +1,10 @@
 ghost use Rattle.std.specs.Prelude.{◌≡◌, ◌≢◌, ℕ, List, ◌+◌, ◌<◌, ◌≤◌, ◌++◌, ◌∷◌, [], ◌&&◌, nat_le, if◌then◌else◌, map, take, length, IsTrue, IfOk, OnOk, IfErr, MatchOption};
+ghost use Rattle.quota_blocks.specs.Frame.{OnlyReads};
+ghost use Rattle.quota_blocks.specs.Unsynced.{AddsNone};
 ghost use Rattle.tree_file.specs.Block.{block_of, stated_count};
 ghost use Rattle.tree_file.specs.BlockSet.{AreFlagsOf};
 ghost use Rattle.tree_file.specs.Check.{IsCheckFault, bytes_of};
-ghost use Rattle.tree_file.specs.Compared.{AreEntriesOf, HasEntriesOf, IsDataDefect, IsEntryDefectAt, ids_of, rooms};
+ghost use Rattle.tree_file.specs.Compared.{AreEntriesOf, HasEntriesOf, IsDataDefect, IsEntryDefectAt, leading_ids, rooms};
 ghost use Rattle.tree_file.specs.Count.{StandsIn, times};
 ghost use Rattle.tree_file.specs.Defect.{NamesItsId};
 ghost use Rattle.tree_file.specs.Entries.{has_unused, used_ids};
@@ -28,19 +30,18 @@ fn check_block<S: Store>(
     ids: &[u32],
 ) -> Result<bool, CheckFault>
     requires tree { format ≢ Format.V1 }
-    ensures entries { OnOk result (IsTrue (S.tells store.old)
-        → AreEntriesOf (stated_count (bytes_of (S.files store.old name.now)) number)
-        (used_ids format (block_of (bytes_of (S.files store.old name.now)) number)) ids.now) }
-    ensures room { IfOk result (λ has_room. IsTrue (S.tells store.old)
-        → has_room ≡ has_unused format (block_of (bytes_of (S.files store.old name.now)) number)) }
-    ensures refused { IfErr result (IsCheckFault (S.faults store.old) (S.faults store.new) (λ damage. IsTrue (S.tells store.old)
-        → IsEntryDefectAt number (stated_count (bytes_of (S.files store.old name.now)) number)
-        (used_ids format (block_of (bytes_of (S.files store.old name.now)) number)) ids.now damage)) }
-    ensures later { S.faults store.old ≤ S.faults store.new }
-    ensures reads { S.reads store.new ≤ S.reads store.old + 1 }
-    ensures writes { S.writes store.new ≡ S.writes store.old }
-    ensures same_files { S.files store.new ≡ S.files store.old }
-    ensures same_telling { S.tells store.new ≡ S.tells store.old }
+    ensures entries { OnOk result (IsTrue S.tells
+        → AreEntriesOf (stated_count (bytes_of ((S.seen store.old).files name.now)) number)
+        (used_ids format (block_of (bytes_of ((S.seen store.old).files name.now)) number)) ids.now) }
+    ensures room { IfOk result (λ has_room. IsTrue S.tells
+        → has_room ≡ has_unused format (block_of (bytes_of ((S.seen store.old).files name.now)) number)) }
+    ensures refused { IfErr result (IsCheckFault (S.seen store.old).faults (S.seen store.new).faults
+        (λ damage. IsTrue S.tells
+        → IsEntryDefectAt number (stated_count (bytes_of ((S.seen store.old).files name.now)) number)
+        (used_ids format (block_of (bytes_of ((S.seen store.old).files name.now)) number)) ids.now damage)) }
+    ensures leaves { OnlyReads name.now (S.seen store.old) (S.seen store.new) }
+    ensures synced { OnOk result (AddsNone (S.seen store.old).unsynced (S.seen store.new).unsynced) }
+    ensures reads { (S.seen store.new).reads ≤ (S.seen store.old).reads + 1 }
 {
     let mut block = [0; 1024];
     read_block(store, name, number, &mut block)?;
@@ -58,17 +59,19 @@ pub(crate) fn check_data<S: Store>(
 ) -> Result<BlockSet, CheckFault>
     requires tree { format ≢ Format.V1 }
     requires groups { length groups.now ≡ blocks }
-    ensures entries { OnOk result (IsTrue (S.tells store.old) → (block : ℕ) → block < blocks
-        → HasEntriesOf format (bytes_of (S.files store.old name.now)) block (ids_of (map (λ ids. ids.items) groups.now) block)) }
-    ensures room { IfOk result (λ room. IsTrue (S.tells store.old)
-        → AreFlagsOf blocks room.flags.items (rooms format (bytes_of (S.files store.old name.now)) (map (λ ids. ids.items) groups.now) blocks)) }
-    ensures refused { IfErr result (IsCheckFault (S.faults store.old) (S.faults store.new) (λ damage. IsTrue (S.tells store.old)
-        → IsDataDefect format (bytes_of (S.files store.old name.now)) (ids_of (map (λ ids. ids.items) groups.now) damage.block) damage.block damage)) }
-    ensures later { S.faults store.old ≤ S.faults store.new }
-    ensures reads { S.reads store.new ≤ S.reads store.old + led_blocks (map (λ ids. ids.items) groups.now) }
-    ensures writes { S.writes store.new ≡ S.writes store.old }
-    ensures same_files { S.files store.new ≡ S.files store.old }
-    ensures same_telling { S.tells store.new ≡ S.tells store.old }
+    ensures entries { OnOk result (IsTrue S.tells → (block : ℕ) → block < blocks
+        → HasEntriesOf format (bytes_of ((S.seen store.old).files name.now)) block
+        (leading_ids (map (λ ids. ids.items) groups.now) block)) }
+    ensures room { IfOk result (λ room. IsTrue S.tells
+        → AreFlagsOf blocks room.flags.items (rooms format (bytes_of ((S.seen store.old).files name.now))
+        (map (λ ids. ids.items) groups.now) blocks)) }
+    ensures refused { IfErr result (IsCheckFault (S.seen store.old).faults (S.seen store.new).faults
+        (λ damage. IsTrue S.tells
+        → IsDataDefect format (bytes_of ((S.seen store.old).files name.now))
+        (leading_ids (map (λ ids. ids.items) groups.now) damage.block) damage.block damage)) }
+    ensures leaves { OnlyReads name.now (S.seen store.old) (S.seen store.new) }
+    ensures synced { OnOk result (AddsNone (S.seen store.old).unsynced (S.seen store.new).unsynced) }
+    ensures reads { (S.seen store.new).reads ≤ (S.seen store.old).reads + led_blocks (map (λ ids. ids.items) groups.now) }
 {
     let mut room = BlockSet::new(alloc, blocks)?;
     for (block, ids) in groups.iter().enumerate() {
@@ -89,18 +92,20 @@ fn check_group<S: Store>(
     room: &mut BlockSet,
 ) -> Result<(), CheckFault>
     requires tree { format ≢ Format.V1 }
-    ensures entries { OnOk result (IsTrue (S.tells store.old) → HasEntriesOf format (bytes_of (S.files store.old name.now)) number ids.now) }
-    ensures room { OnOk result (IsTrue (S.tells store.old) → (blocks : ℕ) → (numbers : List ℕ) → AreFlagsOf blocks room.old.flags.items numbers
+    ensures entries { OnOk result (IsTrue S.tells
+        → HasEntriesOf format (bytes_of ((S.seen store.old).files name.now)) number ids.now) }
+    ensures room { OnOk result (IsTrue S.tells → (blocks : ℕ) → (numbers : List ℕ)
+        → AreFlagsOf blocks room.old.flags.items numbers
         → number < blocks → times numbers number ≡ 0
         → AreFlagsOf blocks room.new.flags.items (numbers ++ (if nat_le 1 (length ids.now)
-        && has_unused format (block_of (bytes_of (S.files store.old name.now)) number) then number ∷ [] else []))) }
-    ensures refused { IfErr result (IsCheckFault (S.faults store.old) (S.faults store.new) (λ damage. IsTrue (S.tells store.old)
-        → IsDataDefect format (bytes_of (S.files store.old name.now)) ids.now number damage)) }
-    ensures later { S.faults store.old ≤ S.faults store.new }
-    ensures reads { S.reads store.new ≤ S.reads store.old + (if nat_le 1 (length ids.now) then 1 else 0) }
-    ensures writes { S.writes store.new ≡ S.writes store.old }
-    ensures same_files { S.files store.new ≡ S.files store.old }
-    ensures same_telling { S.tells store.new ≡ S.tells store.old }
+        && has_unused format (block_of (bytes_of ((S.seen store.old).files name.now)) number)
+        then number ∷ [] else []))) }
+    ensures refused { IfErr result (IsCheckFault (S.seen store.old).faults (S.seen store.new).faults
+        (λ damage. IsTrue S.tells
+        → IsDataDefect format (bytes_of ((S.seen store.old).files name.now)) ids.now number damage)) }
+    ensures leaves { OnlyReads name.now (S.seen store.old) (S.seen store.new) }
+    ensures synced { OnOk result (AddsNone (S.seen store.old).unsynced (S.seen store.new).unsynced) }
+    ensures reads { (S.seen store.new).reads ≤ (S.seen store.old).reads + (if nat_le 1 (length ids.now) then 1 else 0) }
 {
     if ids.is_empty() {
         return Ok(());
@@ -159,9 +164,11 @@ fn first_missing(room: &BlockSet, met: &BlockSet, blocks: u32) -> Option<u32>
 
 /// Checks that the entry list has the data blocks with room and no other, each with its previous field.
 pub(crate) fn check_listed(walk: &Walk, room: &BlockSet, blocks: u32) -> Result<(), Damage>
-    ensures listed { OnOk result ((numbers : List ℕ) → IsWalk blocks walk.now → AreFlagsOf blocks room.now.flags.items numbers
+    ensures listed { OnOk result ((numbers : List ℕ) → IsWalk blocks walk.now
+        → AreFlagsOf blocks room.now.flags.items numbers
         → AreListed numbers (linked_blocks walk.now.links.items) (previous_in walk.now.links.items)) }
-    ensures refused { IfErr result (λ damage. (numbers : List ℕ) → IsWalk blocks walk.now → AreFlagsOf blocks room.now.flags.items numbers
+    ensures refused { IfErr result (λ damage. (numbers : List ℕ) → IsWalk blocks walk.now
+        → AreFlagsOf blocks room.now.flags.items numbers
         → IsListDefect numbers (linked_blocks walk.now.links.items) (previous_in walk.now.links.items) damage) }
     ensures names_id { IfErr result (λ damage. NamesItsId damage.kind damage.id) }
 {

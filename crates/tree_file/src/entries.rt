@@ -82,7 +82,8 @@ fn first_not_in(numbers: &[u32], others: &[u32]) -> Option<u32>
 
 /// The first of some numbers that stands among them twice.
 fn first_double(numbers: &[u32]) -> Option<u32>
-    ensures { MatchOption result ((number : ℕ) → times numbers.now number ≤ 1) (λ number. StandsTwiceIn numbers.now number) }
+    ensures { MatchOption result ((number : ℕ) → times numbers.now number ≤ 1)
+        (λ number. StandsTwiceIn numbers.now number) }
 {
     for number in numbers {
         if count(numbers, *number) > 1 {
@@ -109,7 +110,8 @@ pub(crate) fn compare_entries(
     requires tree { format ≢ Format.V1 }
     ensures entries { OnOk result (AreEntriesOf (number_at 2 block.now 8) (used_ids format block.now) ids.now) }
     ensures room { IfOk result (λ has_room. has_room ≡ has_unused format block.now) }
-    ensures refused { IfErr result (IsEntryDefectAt number (number_at 2 block.now 8) (used_ids format block.now) ids.now) }
+    ensures refused { IfErr result (IsEntryDefectAt number (number_at 2 block.now 8)
+        (used_ids format block.now) ids.now) }
     ensures names_id { IfErr result (λ damage. NamesItsId damage.kind damage.id) }
 {
     let used = read_used(format, block);

@@ -1,4 +1,4 @@
-ghost use Rattle.std.specs.Prelude.{◌≡◌, ◌<◌, ◌++◌, [], ◌^◌, ℕ, List, length, map, OnOk, IfOk, IfErr};
+ghost use Rattle.std.specs.Prelude.{◌<◌, ◌++◌, [], ◌^◌, ℕ, List, length, map, OnOk, IfOk, IfErr};
 ghost use Rattle.tree_file.specs.declared.tree_path.TreePath.{TreePath};
 ghost use Rattle.tree_file.specs.BlockSet.{AreFlagsOf};
 ghost use Rattle.tree_file.specs.Groups.{AreGroupsOf, named_blocks};

@@ -9,7 +9,6 @@ ghost use Rattle.quota_types.specs.declared.damage.Damage.{Damage};
 ghost use Rattle.quota_types.specs.declared.file_kind.Format.{Format};
 ghost use Rattle.quota_types.specs.declared.file_kind.Format.TheVariants.{V1, V2R0, V2R1};
 ghost use Rattle.quota_types.specs.declared.file_kind.Kind.{Kind};
-ghost use Rattle.quota_types.specs.declared.record.Entry.{Entry};
 ghost use Rattle.quota_types.specs.declared.record.Rec.{Rec};
 ghost use Rattle.tree_file.specs.Defect.{IsTreeDefect};
 ghost use Rattle.tree_file.specs.Entries.{entry_of};
@@ -18,7 +17,8 @@ ghost use Rattle.tree_file.specs.TreeFile.{TreeStandsFor};
 
 /// A tree file stands for one value at most.
 pub fn a_file_has_one_meaning()
-    ensures { (file : List ℕ) (value other : QuotaValue) → TreeStandsFor file value → TreeStandsFor file other → value ≡ other }
+    ensures { (file : List ℕ) (value other : QuotaValue) → TreeStandsFor file value → TreeStandsFor file other
+        → value ≡ other }
 {}
 
 /// A file whose header is one of the kind stands for a value of the kind exactly where nothing is wrong with it, however
@@ -26,7 +26,8 @@ pub fn a_file_has_one_meaning()
 pub fn a_file_has_a_meaning_where_nothing_is_wrong()
     ensures { (file : List ℕ) (kind : Kind) (format : Format) → header_fault kind (header_of file) ≡ None
         → format_of (header_of file).version ≡ Some format
-        → ((value : QuotaValue) × (value.kind ≡ kind) × TreeStandsFor file value) ↔ ((damage : Damage) → ¬ IsTreeDefect format file (header_of file) damage) }
+        → ((value : QuotaValue) × (value.kind ≡ kind) × TreeStandsFor file value)
+        ↔ ((damage : Damage) → ¬ IsTreeDefect format file (header_of file) damage) }
 {}
 
 /// The entry of some bytes is the one that they spell.

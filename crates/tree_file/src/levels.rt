@@ -1,5 +1,7 @@
 ghost use Rattle.std.specs.Prelude.{◌≡◌, ◌<◌, ◌≤◌, ◌+◌, ◌*◌, ◌==◌, if◌then◌else◌, ◌^◌, ◌++◌, ◌∷◌, [], ℕ, List, length, All, IsTrue, OnOk, IfOk, IfErr};
 ghost use Rattle.std.specs.List.{flat_map};
+ghost use Rattle.quota_blocks.specs.Frame.{OnlyReads};
+ghost use Rattle.quota_blocks.specs.Unsynced.{AddsNone};
 ghost use Rattle.tree_file.specs.declared.tree_path.TreePath.{TreePath};
 ghost use Rattle.tree_file.specs.Block.{block_of};
 ghost use Rattle.tree_file.specs.Check.{IsCheckFault, bytes_of};
@@ -26,18 +28,18 @@ pub(crate) fn next_level<S: Store>(
     level: &[TreePath],
 ) -> Result<Vec<TreePath>, CheckFault>
     requires small { AreWithin blocks (2 ^ 24) level.now }
-    ensures next { IfOk result (λ next. IsTrue (S.tells store.old)
-        → next.items ≡ flat_map (steps (bytes_of (S.files store.old name.now)) blocks) level.now) }
-    ensures whole { OnOk result (IsTrue (S.tells store.old)
-        → All (λ path. IsWhole (bytes_of (S.files store.old name.now)) blocks path.block) level.now) }
-    ensures within { IfOk result (λ next. (bound : ℕ) → AreWithin blocks bound level.now → AreWithin blocks (256 * bound) next.items) }
-    ensures refused { IfErr result (IsCheckFault (S.faults store.old) (S.faults store.new) (λ damage. IsTrue (S.tells store.old)
-        → IsLevelDefect (bytes_of (S.files store.old name.now)) blocks (blocks_of level.now) damage)) }
-    ensures later { S.faults store.old ≤ S.faults store.new }
-    ensures reads { S.reads store.new ≤ S.reads store.old + length level.now }
-    ensures writes { S.writes store.new ≡ S.writes store.old }
-    ensures same_files { S.files store.new ≡ S.files store.old }
-    ensures same_telling { S.tells store.new ≡ S.tells store.old }
+    ensures next { IfOk result (λ next. IsTrue S.tells
+        → next.items ≡ flat_map (steps (bytes_of ((S.seen store.old).files name.now)) blocks) level.now) }
+    ensures whole { OnOk result (IsTrue S.tells
+        → All (λ path. IsWhole (bytes_of ((S.seen store.old).files name.now)) blocks path.block) level.now) }
+    ensures within { IfOk result (λ next. (bound : ℕ) → AreWithin blocks bound level.now
+        → AreWithin blocks (256 * bound) next.items) }
+    ensures refused { IfErr result (IsCheckFault (S.seen store.old).faults (S.seen store.new).faults
+        (λ damage. IsTrue S.tells
+        → IsLevelDefect (bytes_of ((S.seen store.old).files name.now)) blocks (blocks_of level.now) damage)) }
+    ensures leaves { OnlyReads name.now (S.seen store.old) (S.seen store.new) }
+    ensures synced { OnOk result (AddsNone (S.seen store.old).unsynced (S.seen store.new).unsynced) }
+    ensures reads { (S.seen store.new).reads ≤ (S.seen store.old).reads + length level.now }
 {
     let mut next = Vec::new(alloc);
     let mut block = [0u8; 1024];
@@ -58,7 +60,8 @@ fn add_steps(
     requires small { path.number < 2 ^ 24 }
     ensures added { OnOk result ((file : List ℕ) → block.now ≡ block_of file path.block
         → next.new.items ≡ next.old.items ++ steps file blocks path) }
-    ensures whole { OnOk result ((file : List ℕ) → block.now ≡ block_of file path.block → IsWhole file blocks path.block) }
+    ensures whole { OnOk result ((file : List ℕ) → block.now ≡ block_of file path.block
+        → IsWhole file blocks path.block) }
     ensures within { OnOk result ((bound : ℕ) → path.number < bound
         → AreWithin blocks (256 * bound) next.old.items → AreWithin blocks (256 * bound) next.new.items) }
     ensures refused { IfErr result (IsStepFault (λ damage. (file : List ℕ) → block.now ≡ block_of file path.block

@@ -1,5 +1,7 @@
 ghost use Rattle.std.specs.Prelude.{◌≡◌, ◌≢◌, ◌+◌, ◌≤◌, length, map, IsTrue, OnOk, IfErr};
 ghost use Rattle.quota_types.specs.declared.file_kind.Format.TheVariants.{V1};
+ghost use Rattle.quota_blocks.specs.Frame.{OnlyReads};
+ghost use Rattle.quota_blocks.specs.Unsynced.{AddsNone};
 ghost use Rattle.tree_file.specs.Check.{IsCheckFault, bytes_of};
 ghost use Rattle.tree_file.specs.Found.{HasNoEmptyBlock, IsListedDefect};
 ghost use Rattle.tree_file.specs.Groups.{AreGroupsOf};
@@ -24,21 +26,25 @@ pub(crate) fn check_lists<S: Store>(
 ) -> Result<(), CheckFault>
     requires tree { header.now.format ≢ V1 }
     requires groups { length groups.now ≡ header.now.blocks }
-    ensures chained { OnOk result (IsTrue (S.tells store.old)
-        → AreGroupsOf header.now.blocks (leaves (bytes_of (S.files store.old name.now)) header.now.blocks) (map (λ ids. ids.items) groups.now)
-        → Chained header.now.format (bytes_of (S.files store.old name.now)) header.now.blocks header.now.first) }
-    ensures filled { OnOk result (IsTrue (S.tells store.old)
-        → AreGroupsOf header.now.blocks (leaves (bytes_of (S.files store.old name.now)) header.now.blocks) (map (λ ids. ids.items) groups.now)
-        → HasNoEmptyBlock (bytes_of (S.files store.old name.now)) header.now.blocks
-        → Filled header.now.format (bytes_of (S.files store.old name.now)) header.now.blocks) }
-    ensures refused { IfErr result (IsCheckFault (S.faults store.old) (S.faults store.new) (λ damage. IsTrue (S.tells store.old)
-        → AreGroupsOf header.now.blocks (leaves (bytes_of (S.files store.old name.now)) header.now.blocks) (map (λ ids. ids.items) groups.now)
-        → IsListedDefect header.now.format (bytes_of (S.files store.old name.now)) header.now.blocks header.now.first damage)) }
-    ensures later { S.faults store.old ≤ S.faults store.new }
-    ensures reads { S.reads store.new ≤ S.reads store.old + header.now.blocks + led_blocks (map (λ ids. ids.items) groups.now) }
-    ensures writes { S.writes store.new ≡ S.writes store.old }
-    ensures same_files { S.files store.new ≡ S.files store.old }
-    ensures same_telling { S.tells store.new ≡ S.tells store.old }
+    ensures chained { OnOk result (IsTrue S.tells
+        → AreGroupsOf header.now.blocks (leaves (bytes_of ((S.seen store.old).files name.now)) header.now.blocks)
+        (map (λ ids. ids.items) groups.now)
+        → Chained header.now.format (bytes_of ((S.seen store.old).files name.now)) header.now.blocks header.now.first) }
+    ensures filled { OnOk result (IsTrue S.tells
+        → AreGroupsOf header.now.blocks (leaves (bytes_of ((S.seen store.old).files name.now)) header.now.blocks)
+        (map (λ ids. ids.items) groups.now)
+        → HasNoEmptyBlock (bytes_of ((S.seen store.old).files name.now)) header.now.blocks
+        → Filled header.now.format (bytes_of ((S.seen store.old).files name.now)) header.now.blocks) }
+    ensures refused { IfErr result (IsCheckFault (S.seen store.old).faults (S.seen store.new).faults
+        (λ damage. IsTrue S.tells
+        → AreGroupsOf header.now.blocks (leaves (bytes_of ((S.seen store.old).files name.now)) header.now.blocks)
+        (map (λ ids. ids.items) groups.now)
+        → IsListedDefect header.now.format (bytes_of ((S.seen store.old).files name.now)) header.now.blocks
+        header.now.first damage)) }
+    ensures leaves { OnlyReads name.now (S.seen store.old) (S.seen store.new) }
+    ensures synced { OnOk result (AddsNone (S.seen store.old).unsynced (S.seen store.new).unsynced) }
+    ensures reads { (S.seen store.new).reads ≤ (S.seen store.old).reads + header.now.blocks
+        + led_blocks (map (λ ids. ids.items) groups.now) }
 {
     let blocks = header.blocks;
     let listed = walk_chain(alloc, store, name, blocks, header.first)?;

@@ -25,9 +25,11 @@ pub(crate) fn add_data(
     requires fits { All (λ entry. unfit format entry.id entry.rec ≡ None) list.now }
     requires kept { All (λ entry. kept_of format entry.id entry.rec ≡ entry.rec) list.now }
     requires room { file.old.blocks + parts_needed format list.now < 2 ^ 32 }
-    ensures leaves { IfOk result (λ leaves. leaves.items ≡ flat_map leaves_in (parts_of format list.now file.old.blocks (parts_needed format list.now))) }
+    ensures leaves { IfOk result (λ leaves. leaves.items
+        ≡ flat_map leaves_in (parts_of format list.now file.old.blocks (parts_needed format list.now))) }
     ensures below { IfOk result (λ leaves. AreBelow (2 ^ 32) leaves.items) }
-    ensures data { OnOk result (AreDataBlocks format file.new.bytes.items (parts_of format list.now file.old.blocks (parts_needed format list.now))) }
+    ensures data { OnOk result (AreDataBlocks format file.new.bytes.items
+        (parts_of format list.now file.old.blocks (parts_needed format list.now))) }
     ensures kept_blocks { OnOk result (KeepsBlocks file.old.blocks file.old.bytes.items file.new.bytes.items) }
     ensures blocks { OnOk result (file.new.blocks ≡ file.old.blocks + parts_needed format list.now) }
 {
@@ -45,7 +47,8 @@ pub(crate) fn add_data(
 
 /// Appends the leaves of entries that stand in a block.
 fn add_leaves(leaves: &mut Vec<TreePath>, block: u32, entries: &[Entry]) -> Result<(), AllocError>
-    ensures leaves { OnOk result (leaves.new.items ≡ leaves.old.items ++ leaves_in (record { block = block; entries = entries.now })) }
+    ensures leaves { OnOk result (leaves.new.items
+        ≡ leaves.old.items ++ leaves_in (record { block = block; entries = entries.now })) }
     ensures below { OnOk result (AreBelow (2 ^ 32) leaves.old.items → AreBelow (2 ^ 32) leaves.new.items) }
 {
     for entry in entries {
@@ -86,7 +89,8 @@ fn put_entry(format: Format, block: &mut [u8; 1024], place: usize, entry: &Entry
     requires kept { kept_of format entry.now.id entry.now.rec ≡ entry.now.rec }
     ensures entry { IsEntry format (entry_bytes format block.new place) entry.now.id entry.now.rec }
     ensures padding { padding_of format (entry_bytes format block.new place) ≡ 0 }
-    ensures others { KeepsOutside (16 + entry_size format * place) (16 + entry_size format * place + entry_size format) block.old block.new }
+    ensures others { KeepsOutside (16 + entry_size format * place)
+        (16 + entry_size format * place + entry_size format) block.old block.new }
 {
     let size = entry_size(format);
     let start = 16 + size * place;

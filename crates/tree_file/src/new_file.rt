@@ -1,4 +1,4 @@
-ghost use Rattle.std.specs.Prelude.{◌≡◌, ◌≢◌, ◌+◌, ◌*◌, ◌^◌, ◌<◌, ◌≤◌, ◌++◌, ℕ, vec_len, length, take, drop, IfOk, OnOk, replicate};
+ghost use Rattle.std.specs.Prelude.{◌≡◌, ◌≢◌, ◌+◌, ◌*◌, ◌^◌, ◌<◌, ◌≤◌, ◌++◌, ℕ, vec_len, take, drop, IfOk, OnOk};
 ghost use Rattle.entry_codec.specs.Header.{AreOf, header_of};
 ghost use Rattle.quota_types.specs.Bytes.{byte_at};
 
@@ -25,7 +25,8 @@ impl NewFile {
         requires inode_grace { header.now.grace.inode < 2 ^ 32 }
         ensures blocks { IfOk result (λ file. file.blocks ≡ 2) }
         ensures header { IfOk result (λ file. AreOf header.now (header_of (take 1024 file.bytes.items))) }
-        ensures rest { IfOk result (λ file. (at : ℕ) → 32 ≤ at → at < 1024 → byte_at (take 1024 file.bytes.items) at ≡ 0) }
+        ensures rest { IfOk result (λ file. (at : ℕ) → 32 ≤ at → at < 1024
+            → byte_at (take 1024 file.bytes.items) at ≡ 0) }
     {
         let mut block = [0; 1024];
         write_header(header, &mut block);
@@ -50,7 +51,8 @@ impl NewFile {
     /// Writes the block of the root.
     pub(crate) fn set_root(&mut self, root: &[u8; 1024])
         requires { 2 ≤ self.old.blocks }
-        ensures bytes { self.new.bytes.items ≡ take 1024 self.old.bytes.items ++ (root.now ++ drop 2048 self.old.bytes.items) }
+        ensures bytes { self.new.bytes.items ≡ take 1024 self.old.bytes.items
+            ++ (root.now ++ drop 2048 self.old.bytes.items) }
         ensures blocks { self.new.blocks ≡ self.old.blocks }
     {
         self.bytes[1024..2048].copy_from_slice(root);

@@ -22,7 +22,8 @@ pub(crate) fn add_level(
     requires ascending { IsStrictlyIncreasing (numbers_of children.now) }
     requires room { file.old.blocks + length (parents_of (numbers_of children.now)) < 2 ^ 32 }
     ensures numbers { IfOk result (λ parents. numbers_of parents.items ≡ parents_of (numbers_of children.now)) }
-    ensures new_blocks { IfOk result (λ parents. blocks_of parents.items ≡ range_with_len file.old.blocks (length (parents_of (numbers_of children.now)))) }
+    ensures new_blocks { IfOk result (λ parents. blocks_of parents.items
+        ≡ range_with_len file.old.blocks (length (parents_of (numbers_of children.now)))) }
     ensures level { IfOk result (λ parents. (blocks : ℕ) → AllLead blocks children.now
         → IsLevel file.new.bytes.items blocks parents.items children.now) }
     ensures kept_blocks { OnOk result (KeepsBlocks file.old.blocks file.old.bytes.items file.new.bytes.items) }
@@ -44,7 +45,8 @@ pub(crate) fn add_level(
 fn count_siblings(paths: &[TreePath], number: u32) -> usize
     ensures within { result ≤ length paths.now }
     ensures same { All (λ path. path.number / 256 ≡ number) (take result paths.now) }
-    ensures other { (absent : TreePath) → result < length paths.now → (slice_index_or paths.now result absent).number / 256 ≢ number }
+    ensures other { (absent : TreePath) → result < length paths.now
+        → (slice_index_or paths.now result absent).number / 256 ≢ number }
 {
     for (count, path) in paths.iter().enumerate() {
         if path.number / 256 != number {
@@ -56,9 +58,11 @@ fn count_siblings(paths: &[TreePath], number: u32) -> usize
 
 /// A tree block from which these paths go on by their last digit.
 pub(crate) fn tree_block(paths: &[TreePath]) -> [u8; 1024]
-    ensures onward { (file : List ℕ) (blocks : ℕ) (path : TreePath) → block_of file path.block ≡ result → IsStrictlyIncreasing (numbers_of paths.now)
+    ensures onward { (file : List ℕ) (blocks : ℕ) (path : TreePath) → block_of file path.block ≡ result
+        → IsStrictlyIncreasing (numbers_of paths.now)
         → AreSiblings path.number paths.now → AllLead blocks paths.now → steps file blocks path ≡ paths.now }
-    ensures inside { (blocks digit : ℕ) → 1 ≤ blocks → AllLead blocks paths.now → number_at 4 result (4 * digit) < blocks }
+    ensures inside { (blocks digit : ℕ) → 1 ≤ blocks → AllLead blocks paths.now
+        → number_at 4 result (4 * digit) < blocks }
 {
     let mut block = [0; 1024];
     for path in paths {

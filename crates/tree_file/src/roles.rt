@@ -1,4 +1,6 @@
-ghost use Rattle.std.specs.Prelude.{◌≡◌, ◌+◌, ◌*◌, ◌≤◌, map, IsTrue, IfOk, IfErr, vec_len};
+ghost use Rattle.std.specs.Prelude.{◌≡◌, ◌+◌, ◌*◌, ◌≤◌, map, IsTrue, IfOk, IfErr, vec_len, OnOk};
+ghost use Rattle.quota_blocks.specs.Frame.{OnlyReads};
+ghost use Rattle.quota_blocks.specs.Unsynced.{AddsNone};
 ghost use Rattle.tree_file.specs.Check.{IsCheckFault, bytes_of};
 ghost use Rattle.tree_file.specs.Found.{AreRoles, IsRoleDefect};
 ghost use Rattle.tree_file.specs.Reads.{led_blocks};
@@ -35,16 +37,17 @@ pub(crate) fn check_roles<S: Store>(
     free_head: u32,
 ) -> Result<Roles, CheckFault>
     requires two { 2 ≤ blocks }
-    ensures roles { IfOk result (λ roles. IsTrue (S.tells store.old) → AreRoles (bytes_of (S.files store.old name.now)) blocks free_head roles) }
+    ensures roles { IfOk result (λ roles. IsTrue S.tells
+        → AreRoles (bytes_of ((S.seen store.old).files name.now)) blocks free_head roles) }
     ensures groups { IfOk result (λ roles. vec_len roles.groups ≡ blocks) }
-    ensures refused { IfErr result (IsCheckFault (S.faults store.old) (S.faults store.new) (λ damage. IsTrue (S.tells store.old)
-        → IsRoleDefect (bytes_of (S.files store.old name.now)) blocks free_head damage)) }
-    ensures later { S.faults store.old ≤ S.faults store.new }
-    ensures reads { IfOk result (λ roles. S.reads store.new + led_blocks (map (λ ids. ids.items) roles.groups.items) ≤ S.reads store.old + blocks) }
-    ensures few_reads { S.reads store.new ≤ S.reads store.old + 2 * blocks }
-    ensures writes { S.writes store.new ≡ S.writes store.old }
-    ensures same_files { S.files store.new ≡ S.files store.old }
-    ensures same_telling { S.tells store.new ≡ S.tells store.old }
+    ensures refused { IfErr result (IsCheckFault (S.seen store.old).faults (S.seen store.new).faults
+        (λ damage. IsTrue S.tells
+        → IsRoleDefect (bytes_of ((S.seen store.old).files name.now)) blocks free_head damage)) }
+    ensures leaves { OnlyReads name.now (S.seen store.old) (S.seen store.new) }
+    ensures synced { OnOk result (AddsNone (S.seen store.old).unsynced (S.seen store.new).unsynced) }
+    ensures reads { IfOk result (λ roles. (S.seen store.new).reads
+        + led_blocks (map (λ ids. ids.items) roles.groups.items) ≤ (S.seen store.old).reads + blocks) }
+    ensures few_reads { (S.seen store.new).reads ≤ (S.seen store.old).reads + 2 * blocks }
 {
     let mut met = BlockSet::new(alloc, blocks)?;
     met.insert(HEADER);

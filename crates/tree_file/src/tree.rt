@@ -1,5 +1,7 @@
 ghost use Rattle.std.specs.Prelude.{◌≡◌, ◌≤◌, ◌+◌, ◌*◌, ◌^◌, ◌⊎◌, ◌++◌, ℕ, List, length, All, IsTrue, OnOk, IfOk, IfErr};
 ghost use Rattle.std.specs.List.{flat_map};
+ghost use Rattle.quota_blocks.specs.Frame.{OnlyReads};
+ghost use Rattle.quota_blocks.specs.Unsynced.{AddsNone};
 ghost use Rattle.tree_file.specs.BlockSet.{AreFlagsOf};
 ghost use Rattle.tree_file.specs.Check.{IsCheckFault, bytes_of};
 ghost use Rattle.tree_file.specs.Levels.{AreTreeBlocksWhole, AreWithin, IsLevelDefect, IsSecondRole, IsStepFault, IsTreeFault, IsWhole, blocks_of};
@@ -23,24 +25,24 @@ pub(crate) fn find_leaves<S: Store>(
     met: &mut BlockSet,
 ) -> Result<Vec<TreePath>, CheckFault>
     requires two { 2 ≤ blocks }
-    ensures leaves { IfOk result (λ found. IsTrue (S.tells store.old)
-        → found.items ≡ leaves (bytes_of (S.files store.old name.now)) blocks) }
-    ensures marked { OnOk result (IsTrue (S.tells store.old) → (numbers : List ℕ) → AreFlagsOf blocks met.old.flags.items numbers
-        → AreFlagsOf blocks met.new.flags.items (numbers ++ tree_blocks (bytes_of (S.files store.old name.now)) blocks)) }
-    ensures whole { OnOk result (IsTrue (S.tells store.old)
-        → AreTreeBlocksWhole (bytes_of (S.files store.old name.now)) blocks) }
+    ensures found { IfOk result (λ found. IsTrue S.tells
+        → found.items ≡ leaves (bytes_of ((S.seen store.old).files name.now)) blocks) }
+    ensures marked { OnOk result (IsTrue S.tells → (numbers : List ℕ) → AreFlagsOf blocks met.old.flags.items numbers
+        → AreFlagsOf blocks met.new.flags.items
+        (numbers ++ tree_blocks (bytes_of ((S.seen store.old).files name.now)) blocks)) }
+    ensures whole { OnOk result (IsTrue S.tells
+        → AreTreeBlocksWhole (bytes_of ((S.seen store.old).files name.now)) blocks) }
     ensures within { IfOk result (λ found. AreWithin blocks (2 ^ 32) found.items) }
-    ensures refused { IfErr result (IsCheckFault (S.faults store.old) (S.faults store.new) (λ damage. IsTrue (S.tells store.old)
+    ensures refused { IfErr result (IsCheckFault (S.seen store.old).faults (S.seen store.new).faults
+        (λ damage. IsTrue S.tells
         → (numbers : List ℕ) → AreFlagsOf blocks met.old.flags.items numbers
-        → IsTreeFault (bytes_of (S.files store.old name.now)) blocks numbers damage)) }
-    ensures later { S.faults store.old ≤ S.faults store.new }
+        → IsTreeFault (bytes_of ((S.seen store.old).files name.now)) blocks numbers damage)) }
+    ensures leaves { OnlyReads name.now (S.seen store.old) (S.seen store.new) }
+    ensures synced { OnOk result (AddsNone (S.seen store.old).unsynced (S.seen store.new).unsynced) }
     ensures reads { OnOk result ((numbers : List ℕ) → AreFlagsOf blocks met.old.flags.items numbers
-        → AreMarkedReads blocks met.new.flags.items numbers (S.reads store.old) (S.reads store.new)) }
+        → AreMarkedReads blocks met.new.flags.items numbers (S.seen store.old).reads (S.seen store.new).reads) }
     ensures few_reads { (numbers : List ℕ) → AreFlagsOf blocks met.old.flags.items numbers
-        → S.reads store.new + length numbers ≤ S.reads store.old + blocks }
-    ensures writes { S.writes store.new ≡ S.writes store.old }
-    ensures same_files { S.files store.new ≡ S.files store.old }
-    ensures same_telling { S.tells store.new ≡ S.tells store.old }
+        → (S.seen store.new).reads + length numbers ≤ (S.seen store.old).reads + blocks }
 {
     let root = [TreePath {
         number: 0,
@@ -62,24 +64,24 @@ fn go_down<S: Store>(
     level: &[TreePath],
 ) -> Result<Vec<TreePath>, CheckFault>
     requires small { AreWithin blocks (2 ^ 24) level.now }
-    ensures next { IfOk result (λ next. IsTrue (S.tells store.old)
-        → next.items ≡ flat_map (steps (bytes_of (S.files store.old name.now)) blocks) level.now) }
+    ensures next { IfOk result (λ next. IsTrue S.tells
+        → next.items ≡ flat_map (steps (bytes_of ((S.seen store.old).files name.now)) blocks) level.now) }
     ensures marked { OnOk result ((numbers : List ℕ) → AreFlagsOf blocks met.old.flags.items numbers
         → AreFlagsOf blocks met.new.flags.items (numbers ++ blocks_of level.now)) }
-    ensures whole { OnOk result (IsTrue (S.tells store.old)
-        → All (λ path. IsWhole (bytes_of (S.files store.old name.now)) blocks path.block) level.now) }
-    ensures within { IfOk result (λ next. (bound : ℕ) → AreWithin blocks bound level.now → AreWithin blocks (256 * bound) next.items) }
-    ensures refused { IfErr result (IsCheckFault (S.faults store.old) (S.faults store.new) (λ damage. IsTrue (S.tells store.old)
+    ensures whole { OnOk result (IsTrue S.tells
+        → All (λ path. IsWhole (bytes_of ((S.seen store.old).files name.now)) blocks path.block) level.now) }
+    ensures within { IfOk result (λ next. (bound : ℕ) → AreWithin blocks bound level.now
+        → AreWithin blocks (256 * bound) next.items) }
+    ensures refused { IfErr result (IsCheckFault (S.seen store.old).faults (S.seen store.new).faults
+        (λ damage. IsTrue S.tells
         → (numbers : List ℕ) → AreFlagsOf blocks met.old.flags.items numbers
         → (IsSecondRole (numbers ++ blocks_of level.now) damage
-        ⊎ IsLevelDefect (bytes_of (S.files store.old name.now)) blocks (blocks_of level.now) damage))) }
-    ensures later { S.faults store.old ≤ S.faults store.new }
-    ensures reads { S.reads store.new ≤ S.reads store.old + length level.now }
+        ⊎ IsLevelDefect (bytes_of ((S.seen store.old).files name.now)) blocks (blocks_of level.now) damage))) }
+    ensures leaves { OnlyReads name.now (S.seen store.old) (S.seen store.new) }
+    ensures synced { OnOk result (AddsNone (S.seen store.old).unsynced (S.seen store.new).unsynced) }
+    ensures reads { (S.seen store.new).reads ≤ (S.seen store.old).reads + length level.now }
     ensures few_reads { (numbers : List ℕ) → AreFlagsOf blocks met.old.flags.items numbers
-        → S.reads store.new + length numbers ≤ S.reads store.old + blocks }
-    ensures writes { S.writes store.new ≡ S.writes store.old }
-    ensures same_files { S.files store.new ≡ S.files store.old }
-    ensures same_telling { S.tells store.new ≡ S.tells store.old }
+        → (S.seen store.new).reads + length numbers ≤ (S.seen store.old).reads + blocks }
 {
     mark_all(met, level)?;
     next_level(alloc, store, name, blocks, level)
@@ -89,7 +91,8 @@ fn go_down<S: Store>(
 fn mark_all(met: &mut BlockSet, paths: &[TreePath]) -> Result<(), CheckFault>
     ensures marked { OnOk result ((blocks bound : ℕ) → (numbers : List ℕ) → AreFlagsOf blocks met.old.flags.items numbers
         → AreWithin blocks bound paths.now → AreFlagsOf blocks met.new.flags.items (numbers ++ blocks_of paths.now)) }
-    ensures refused { IfErr result (IsStepFault (λ damage. (blocks bound : ℕ) → (numbers : List ℕ) → AreFlagsOf blocks met.old.flags.items numbers
+    ensures refused { IfErr result (IsStepFault (λ damage. (blocks bound : ℕ) → (numbers : List ℕ)
+        → AreFlagsOf blocks met.old.flags.items numbers
         → AreWithin blocks bound paths.now → IsSecondRole (numbers ++ blocks_of paths.now) damage)) }
 {
     for path in paths {

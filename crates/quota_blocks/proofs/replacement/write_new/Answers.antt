@@ -1,5 +1,7 @@
-use Rattle.std.proofs.Common.{sym, subst, ◌∙◌, IsTrue, arith}
+use Rattle.std.proofs.Common.{IsTrue, ◌∙◌, arith}
+use Rattle.quota_blocks.proofs.FrameLemmas.{changes_one-then}
 use Rattle.quota_blocks.proofs.ReplaceLemmas.{with_bytes-piece}
+use Rattle.quota_blocks.proofs.UnsyncedLemmas.{synced_on_ok, with_name-more}
 use Rattle.quota_blocks.proofs.replacement.write_new.Goals as goal
 
 pub loop-at-preserved : goal.loop-at-preserved
@@ -7,10 +9,12 @@ loop-at-preserved g c =
     let kept = c.loop-at.invariant in
     let wrote = c.in_ok-write.ensures in
     record {
-      written = λ told. wrote.ok (subst IsTrue (sym kept.same_telling) told)
+      written = λ told. wrote.ok told
           ∙ with_bytes-piece _ _ c.args.name.now c.args.bytes.now c.loop-at.at c.min-end.result (omega arith) (omega arith) (kept.written told);
+      unsynced = λ told. with_name-more _ _ _ _ (kept.unsynced told) (wrote.unsynced told);
       within = omega arith;
-      later = omega (arith, wrote.later, kept.later);
-      reads = wrote.reads ∙ kept.reads;
-      same_telling = wrote.same_telling ∙ kept.same_telling;
+      leaves = changes_one-then _ _ _ _ kept.leaves wrote.leaves;
     }
+
+pub returns-clause-synced : goal.returns-clause-synced
+returns-clause-synced g c = synced_on_ok c.sync.result (IsTrue g.S.Store.tells) _ _ _ _ c.loop-at.invariant.unsynced c.sync.ensures.unsynced

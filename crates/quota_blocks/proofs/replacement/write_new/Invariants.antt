@@ -1,4 +1,6 @@
-use Rattle.std.proofs.Common.{◌≡◌, ◌-◌, ◌≤◌, length, take, Some, IsTrue}
+use Rattle.std.proofs.Common.{◌≡◌, ◌-◌, ◌≤◌, length, take, true, Some, IsTrue}
+use Rattle.quota_blocks.specs.Frame.{ChangesOne}
+use Rattle.quota_blocks.specs.Unsynced.{with_name}
 use Rattle.quota_blocks.specs.World.{with_file}
 use Rattle.quota_blocks.proofs.replacement.write_new.Given as goal
 
@@ -9,9 +11,8 @@ abbrev pub invariant-loop-at : goal.invariant-loop-at
 invariant-loop-at g l =
     let S = g.S.Store in
     record {
-      written : IsTrue (S.tells l.fn.store) → S.files l.store ≡ with_file (S.files l.fn.store) l.name (Some (take l.at l.bytes));
+      written : IsTrue S.tells → (S.seen l.store).files ≡ with_file (S.seen l.fn.store).files l.name (Some (take l.at l.bytes));
+      unsynced : IsTrue S.tells → (S.seen l.store).unsynced ≡ with_name (S.seen l.fn.store).unsynced l.name true;
       within : l.at ≤ length l.bytes;
-      later : S.faults l.fn.store ≤ S.faults l.store;
-      reads : S.reads l.store ≡ S.reads l.fn.store;
-      same_telling : S.tells l.store ≡ S.tells l.fn.store;
+      leaves : ChangesOne l.name (S.seen l.fn.store) (S.seen l.store);
     }

@@ -1,4 +1,5 @@
-use Rattle.std.proofs.Common.{sym, subst, ap, List, ℕ, Option, IsTrue, ◌∙◌, arith}
+use Rattle.std.proofs.Common.{ap, List, ℕ, Option, arith}
+use Rattle.quota_blocks.proofs.FrameLemmas.{adds_none-then, only_reads-then}
 use Rattle.quota_blocks.proofs.LoadLemmas.{begun_step}
 use Rattle.quota_blocks.proofs.whole_file.load.Goals as goal
 
@@ -7,11 +8,9 @@ loop-bytes-preserved g c =
     let kept = c.loop-bytes.invariant in
     let appends = c.in_ok-append_block.ensures in
     record {
-      begun = λ told. begun_step _ _ _ _ _ _ _ (kept.begun told) (ap (λ (files : List ℕ → Option (List ℕ)). files c.args.name.now) kept.same_files) c.loop-bytes.bytes.ok.0
-          (appends.appended (subst IsTrue (sym kept.same_telling) told));
+      begun = λ told. begun_step _ _ _ _ _ _ _ (kept.begun told) (ap (λ (files : List ℕ → Option (List ℕ)). files c.args.name.now) kept.leaves.files) c.loop-bytes.bytes.ok.0
+          (appends.appended told);
       within = omega (arith, appends.count, appends.within, c.len-in-loop-bytes.ensures);
-      later = omega (arith, appends.later, kept.later);
-      writes = appends.writes ∙ kept.writes;
-      same_files = appends.same_files ∙ kept.same_files;
-      same_telling = appends.same_telling ∙ kept.same_telling;
+      leaves = only_reads-then _ _ _ _ kept.leaves appends.leaves;
+      synced = adds_none-then _ _ _ kept.synced appends.synced;
     }

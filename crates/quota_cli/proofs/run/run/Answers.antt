@@ -1,103 +1,133 @@
-use Rattle.std.proofs.Common.{[], inr, refl}
-use Rattle.std.specs.Prelude.{⊤}
-use Rattle.quota_cli.specs.Command.{request_in}
-use Rattle.quota_cli.specs.Effect.{setting_of}
-use Rattle.quota_cli.specs.Request.{unknown_command}
-use Rattle.quota_cli.proofs.ReasonLemmas.{reason_within}
-use Rattle.quota_cli.proofs.RunLemmas.{done_effect, effect_asked, may_as, may_nothing, nothing_effect, refusal_as, refusal_complete, refusal_done, refusal_headline, refusal_status, refusal_stopped}
+use Rattle.std.proofs.Common.{◌≡◌, None, List, ℕ, IsTrue}
+use Rattle.quota_blocks.specs.Unsynced.{AddsNone}
+use Rattle.quota_cli.specs.commands.Table.{asked_replaced}
+use Rattle.quota_cli.specs.Done.{seen_of, tells_of}
+use Rattle.quota_cli.specs.Headline.{setting_of}
+use Rattle.quota_cli.specs.words.Asked.{command_of, texts_of}
+use Rattle.quota_cli.proofs.RunLemmas.{IsFinished, run_complete, run_done, run_headline, run_later, run_named, run_part, run_says, run_stopped, run_synced, run_words, run_writes, status_2}
 use Rattle.quota_cli.proofs.run.run.Goals as goal
 
-pub returns-in-Ok-clause-done : goal.returns-in-Ok-clause-done
-returns-in-Ok-clause-done g c = λ told out_told err_told no_fault no_memory.
-    done_effect (setting_of c.args.words.now (g.S.Store.files c.args.store.now) c.args.now) (request_in c.in-Some.command) _ _ _ _ _ _
-    c.in-Some.ensures (c.in-Ok.ensures.done told out_told)
+pub returns-clause-headline : goal.returns-clause-headline
+returns-clause-headline g c =
+    let done = c.carry_out_words-done in
+    let setting = setting_of (texts_of c.args.words.now) c.args.now in
+    let tells = tells_of g.S.Store.tells g.I.Source.tells g.O.Sink.tells g.E.Sink.tells g.L.Link.tells in
+    let old = seen_of (g.S.Store.seen c.args.store.now) (g.I.Source.seen c.args.input.now) (g.O.Sink.seen c.args.out.now) (g.E.Sink.seen c.args.err.now) (g.L.Link.seen c.args.link.now) in
+    let new = seen_of (g.S.Store.seen done.new.store) (g.I.Source.seen done.new.input) (g.O.Sink.seen done.new.out) (g.E.Sink.seen done.new.err) (g.L.Link.seen done.new.link) in
+    let said = g.E.Sink.seen c.finish.new.err in
+    let finished : IsFinished None tells new.err said done.result c.finish.result =
+    record { status_is = c.finish.ensures.status; written = c.finish.ensures.line; later = c.finish.ensures.later } in
+    run_headline setting tells old new said done.result c.finish.result (done.ensures.carries None) finished
 
-pub returns-in-Ok-clause-out_prefix : goal.returns-in-Ok-clause-out_prefix
-returns-in-Ok-clause-out_prefix g c = λ told out_told acts status effect.
-    c.in-Ok.ensures.prefix told out_told acts status
-    (effect_asked (setting_of c.args.words.now (g.S.Store.files c.args.store.now) c.args.now) (request_in c.in-Some.command) acts status c.in-Some.ensures effect)
+pub returns-clause-done : goal.returns-clause-done
+returns-clause-done g c =
+    let done = c.carry_out_words-done in
+    let setting = setting_of (texts_of c.args.words.now) c.args.now in
+    let tells = tells_of g.S.Store.tells g.I.Source.tells g.O.Sink.tells g.E.Sink.tells g.L.Link.tells in
+    let old = seen_of (g.S.Store.seen c.args.store.now) (g.I.Source.seen c.args.input.now) (g.O.Sink.seen c.args.out.now) (g.E.Sink.seen c.args.err.now) (g.L.Link.seen c.args.link.now) in
+    let new = seen_of (g.S.Store.seen done.new.store) (g.I.Source.seen done.new.input) (g.O.Sink.seen done.new.out) (g.E.Sink.seen done.new.err) (g.L.Link.seen done.new.link) in
+    let said = g.E.Sink.seen c.finish.new.err in
+    let finished : IsFinished None tells new.err said done.result c.finish.result =
+    record { status_is = c.finish.ensures.status; written = c.finish.ensures.line; later = c.finish.ensures.later } in
+    run_done setting tells old new said done.result c.finish.result (done.ensures.carries None) finished
 
-pub returns-in-Err-clause-headline : goal.returns-in-Err-clause-headline
-returns-in-Err-clause-headline g c = λ told out_told err_told store out err no_memory.
-    let setting = setting_of c.args.words.now (g.S.Store.files c.args.store.now) c.args.now in
-    refusal_headline setting c.in-Err.refusal.cause c.refuse.result _ _ _ _ _ _ _ _ _ _ _ c.in-Err.ensures.refused_files c.in-Err.ensures.refused
-    (λ stated. refusal_as setting (request_in c.in-Some.command) _ _ _ _ c.in-Some.ensures (stated told))
-    (c.refuse.ensures.line err_told) c.refuse.ensures.status store out err no_memory
+pub returns-clause-stopped : goal.returns-clause-stopped
+returns-clause-stopped g c =
+    let done = c.carry_out_words-done in
+    let setting = setting_of (texts_of c.args.words.now) c.args.now in
+    let tells = tells_of g.S.Store.tells g.I.Source.tells g.O.Sink.tells g.E.Sink.tells g.L.Link.tells in
+    let old = seen_of (g.S.Store.seen c.args.store.now) (g.I.Source.seen c.args.input.now) (g.O.Sink.seen c.args.out.now) (g.E.Sink.seen c.args.err.now) (g.L.Link.seen c.args.link.now) in
+    let new = seen_of (g.S.Store.seen done.new.store) (g.I.Source.seen done.new.input) (g.O.Sink.seen done.new.out) (g.E.Sink.seen done.new.err) (g.L.Link.seen done.new.link) in
+    let said = g.E.Sink.seen c.finish.new.err in
+    let finished : IsFinished None tells new.err said done.result c.finish.result =
+    record { status_is = c.finish.ensures.status; written = c.finish.ensures.line; later = c.finish.ensures.later } in
+    run_stopped setting tells old new said done.result c.finish.result (done.ensures.carries None) finished
 
-pub returns-in-Err-clause-done : goal.returns-in-Err-clause-done
-returns-in-Err-clause-done g c = λ told out_told err_told no_fault no_memory.
-    let setting = setting_of c.args.words.now (g.S.Store.files c.args.store.now) c.args.now in
-    refusal_done setting c.in-Err.refusal.cause c.refuse.result _ _ _ _ _ _ _ _ _ _ _ c.in-Err.ensures.refused_files c.in-Err.ensures.refused
-    (λ stated. refusal_as setting (request_in c.in-Some.command) _ _ _ _ c.in-Some.ensures (stated told))
-    (c.refuse.ensures.line err_told) c.refuse.ensures.status no_fault no_memory
+pub returns-clause-complete : goal.returns-clause-complete
+returns-clause-complete g c =
+    let done = c.carry_out_words-done in
+    let setting = setting_of (texts_of c.args.words.now) c.args.now in
+    let tells = tells_of g.S.Store.tells g.I.Source.tells g.O.Sink.tells g.E.Sink.tells g.L.Link.tells in
+    let old = seen_of (g.S.Store.seen c.args.store.now) (g.I.Source.seen c.args.input.now) (g.O.Sink.seen c.args.out.now) (g.E.Sink.seen c.args.err.now) (g.L.Link.seen c.args.link.now) in
+    let new = seen_of (g.S.Store.seen done.new.store) (g.I.Source.seen done.new.input) (g.O.Sink.seen done.new.out) (g.E.Sink.seen done.new.err) (g.L.Link.seen done.new.link) in
+    let said = g.E.Sink.seen c.finish.new.err in
+    let finished : IsFinished None tells new.err said done.result c.finish.result =
+    record { status_is = c.finish.ensures.status; written = c.finish.ensures.line; later = c.finish.ensures.later } in
+    run_complete setting tells old new said done.result c.finish.result (done.ensures.carries None) finished
 
-pub returns-in-Err-clause-stopped : goal.returns-in-Err-clause-stopped
-returns-in-Err-clause-stopped g c = λ ends.
-    refusal_stopped c.in-Err.refusal.cause c.refuse.result _ _ _ _ _ _ _ _ c.in-Err.ensures.refused c.refuse.ensures.line c.refuse.ensures.status ends
+pub returns-clause-says : goal.returns-clause-says
+returns-clause-says g c =
+    let done = c.carry_out_words-done in
+    let setting = setting_of (texts_of c.args.words.now) c.args.now in
+    let tells = tells_of g.S.Store.tells g.I.Source.tells g.O.Sink.tells g.E.Sink.tells g.L.Link.tells in
+    let old = seen_of (g.S.Store.seen c.args.store.now) (g.I.Source.seen c.args.input.now) (g.O.Sink.seen c.args.out.now) (g.E.Sink.seen c.args.err.now) (g.L.Link.seen c.args.link.now) in
+    let new = seen_of (g.S.Store.seen done.new.store) (g.I.Source.seen done.new.input) (g.O.Sink.seen done.new.out) (g.E.Sink.seen done.new.err) (g.L.Link.seen done.new.link) in
+    let said = g.E.Sink.seen c.finish.new.err in
+    let finished : IsFinished None tells new.err said done.result c.finish.result =
+    record { status_is = c.finish.ensures.status; written = c.finish.ensures.line; later = c.finish.ensures.later } in
+    run_says setting tells old new said done.result c.finish.result (done.ensures.carries None) finished
 
-pub returns-in-Err-clause-out_prefix : goal.returns-in-Err-clause-out_prefix
-returns-in-Err-clause-out_prefix g c = λ told out_told acts status effect.
-    c.in-Err.ensures.prefix told out_told acts status
-    (effect_asked (setting_of c.args.words.now (g.S.Store.files c.args.store.now) c.args.now) (request_in c.in-Some.command) acts status c.in-Some.ensures effect)
+pub returns-clause-writes : goal.returns-clause-writes
+returns-clause-writes g c =
+    let done = c.carry_out_words-done in
+    let setting = setting_of (texts_of c.args.words.now) c.args.now in
+    let tells = tells_of g.S.Store.tells g.I.Source.tells g.O.Sink.tells g.E.Sink.tells g.L.Link.tells in
+    let old = seen_of (g.S.Store.seen c.args.store.now) (g.I.Source.seen c.args.input.now) (g.O.Sink.seen c.args.out.now) (g.E.Sink.seen c.args.err.now) (g.L.Link.seen c.args.link.now) in
+    let new = seen_of (g.S.Store.seen done.new.store) (g.I.Source.seen done.new.input) (g.O.Sink.seen done.new.out) (g.E.Sink.seen done.new.err) (g.L.Link.seen done.new.link) in
+    let said = g.E.Sink.seen c.finish.new.err in
+    let finished : IsFinished None tells new.err said done.result c.finish.result =
+    record { status_is = c.finish.ensures.status; written = c.finish.ensures.line; later = c.finish.ensures.later } in
+    run_writes setting tells old new said done.result c.finish.result (done.ensures.carries None) finished
 
-pub returns-in-Err-clause-status : goal.returns-in-Err-clause-status
-returns-in-Err-clause-status g c = λ told no_fault no_memory.
-    let setting = setting_of c.args.words.now (g.S.Store.files c.args.store.now) c.args.now in
-    refusal_status setting c.in-Err.refusal.cause c.refuse.result _ _ _ _ _ _ c.in-Err.ensures.refused
-    (λ stated. refusal_as setting (request_in c.in-Some.command) _ _ _ _ c.in-Some.ensures (stated told))
-    c.refuse.ensures.status no_fault no_memory
+pub returns-clause-later : goal.returns-clause-later
+returns-clause-later g c =
+    let done = c.carry_out_words-done in
+    let setting = setting_of (texts_of c.args.words.now) c.args.now in
+    let tells = tells_of g.S.Store.tells g.I.Source.tells g.O.Sink.tells g.E.Sink.tells g.L.Link.tells in
+    let old = seen_of (g.S.Store.seen c.args.store.now) (g.I.Source.seen c.args.input.now) (g.O.Sink.seen c.args.out.now) (g.E.Sink.seen c.args.err.now) (g.L.Link.seen c.args.link.now) in
+    let new = seen_of (g.S.Store.seen done.new.store) (g.I.Source.seen done.new.input) (g.O.Sink.seen done.new.out) (g.E.Sink.seen done.new.err) (g.L.Link.seen done.new.link) in
+    let said = g.E.Sink.seen c.finish.new.err in
+    let finished : IsFinished None tells new.err said done.result c.finish.result =
+    record { status_is = c.finish.ensures.status; written = c.finish.ensures.line; later = c.finish.ensures.later } in
+    run_later setting tells old new said done.result c.finish.result (done.ensures.carries None) finished
 
-pub returns-in-Err-clause-says : goal.returns-in-Err-clause-says
-returns-in-Err-clause-says g c = inr (record {
-  cause = c.in-Err.refusal.cause;
-  name = c.in-Err.refusal.name.now;
-  may = may_as _ (request_in c.in-Some.command) c.in-Err.refusal.cause c.in-Err.refusal.name.now c.in-Some.ensures c.in-Err.ensures.may;
-  reason = reason_within _ _ _ _ _ _ c.in-Err.refusal.cause (λ rose. rose) (λ rose. rose) (λ _. tt) c.in-Err.ensures.refused;
-  status = c.refuse.ensures.status;
-  line = c.refuse.ensures.line;
-})
+pub returns-clause-part : goal.returns-clause-part
+returns-clause-part g c =
+    let done = c.carry_out_words-done in
+    let setting = setting_of (texts_of c.args.words.now) c.args.now in
+    let tells = tells_of g.S.Store.tells g.I.Source.tells g.O.Sink.tells g.E.Sink.tells g.L.Link.tells in
+    let old = seen_of (g.S.Store.seen c.args.store.now) (g.I.Source.seen c.args.input.now) (g.O.Sink.seen c.args.out.now) (g.E.Sink.seen c.args.err.now) (g.L.Link.seen c.args.link.now) in
+    let new = seen_of (g.S.Store.seen done.new.store) (g.I.Source.seen done.new.input) (g.O.Sink.seen done.new.out) (g.E.Sink.seen done.new.err) (g.L.Link.seen done.new.link) in
+    let said = g.E.Sink.seen c.finish.new.err in
+    run_part setting tells old new said done.result (done.ensures.carries None)
 
-pub returns-in-Err-clause-complete : goal.returns-in-Err-clause-complete
-returns-in-Err-clause-complete g c = λ acts told effect no_store no_out.
-    let setting = setting_of c.args.words.now (g.S.Store.files c.args.store.now) c.args.now in
-    refusal_complete setting c.in-Err.refusal.cause c.refuse.result _ _ _ acts _ _ _ c.in-Err.ensures.refused
-    (λ stated. refusal_as setting (request_in c.in-Some.command) _ _ _ _ c.in-Some.ensures (stated told))
-    effect c.refuse.ensures.status no_store no_out
+pub returns-clause-words : goal.returns-clause-words
+returns-clause-words g c = λ refusal faulty.
+    let done = c.carry_out_words-done in
+    let setting = setting_of (texts_of c.args.words.now) c.args.now in
+    let tells = tells_of g.S.Store.tells g.I.Source.tells g.O.Sink.tells g.E.Sink.tells g.L.Link.tells in
+    let old = seen_of (g.S.Store.seen c.args.store.now) (g.I.Source.seen c.args.input.now) (g.O.Sink.seen c.args.out.now) (g.E.Sink.seen c.args.err.now) (g.L.Link.seen c.args.link.now) in
+    let new = seen_of (g.S.Store.seen done.new.store) (g.I.Source.seen done.new.input) (g.O.Sink.seen done.new.out) (g.E.Sink.seen done.new.err) (g.L.Link.seen done.new.link) in
+    let said = g.E.Sink.seen c.finish.new.err in
+    let finished : IsFinished None tells new.err said done.result c.finish.result =
+    record { status_is = c.finish.ensures.status; written = c.finish.ensures.line; later = c.finish.ensures.later } in
+    run_words setting tells old new said done.result c.finish.result refusal (done.ensures.carries None) finished (done.ensures.word refusal faulty)
 
-pub returns-in-None-clause-headline : goal.returns-in-None-clause-headline
-returns-in-None-clause-headline g c = λ told out_told err_told store out err no_memory.
-    let setting = setting_of c.args.words.now (g.S.Store.files c.args.store.now) c.args.now in
-    refusal_headline setting unknown_command c.refuse-in-None.result _ _ [] _ _ _ _ _ _ _ ⊤ (λ _. refl) tt
-    (λ _. nothing_effect setting unknown_command _ c.in-None.ensures)
-    (c.refuse-in-None.ensures.line err_told) c.refuse-in-None.ensures.status store out err no_memory
+pub returns-clause-usage : goal.returns-clause-usage
+returns-clause-usage g c =
+    let two = status_2 c.carry_out_words-done.result c.finish.result c.finish.ensures.status in
+    let usage = c.carry_out_words-done.ensures.usage in
+    (λ is. usage.0 (two.0 is), λ err. two.1 (usage.1 err))
 
-pub returns-in-None-clause-done : goal.returns-in-None-clause-done
-returns-in-None-clause-done g c = λ told out_told err_told no_fault no_memory.
-    let setting = setting_of c.args.words.now (g.S.Store.files c.args.store.now) c.args.now in
-    refusal_done setting unknown_command c.refuse-in-None.result _ _ [] _ _ _ _ ⊤ ⊤ _ ⊤ (λ _. refl) tt
-    (λ _. nothing_effect setting unknown_command _ c.in-None.ensures)
-    (c.refuse-in-None.ensures.line err_told) c.refuse-in-None.ensures.status no_fault no_memory
+pub returns-clause-named : goal.returns-clause-named
+returns-clause-named g c =
+    let S = g.S.Store in
+    run_named (asked_replaced (command_of (texts_of c.args.words.now)))
+    (λ (file : List ℕ). IsTrue S.tells → (S.seen c.carry_out_words-done.new.store).files file ≡ (S.seen c.args.store.now).files file)
+    c.carry_out_words-done.result c.finish.result c.finish.ensures.status c.carry_out_words-done.ensures.named
 
-pub returns-in-None-clause-status : goal.returns-in-None-clause-status
-returns-in-None-clause-status g c = λ told no_fault no_memory.
-    let setting = setting_of c.args.words.now (g.S.Store.files c.args.store.now) c.args.now in
-    refusal_status setting unknown_command c.refuse-in-None.result [] [] [] ⊤ ⊤ ⊤ tt
-    (λ _. nothing_effect setting unknown_command [] c.in-None.ensures)
-    c.refuse-in-None.ensures.status no_fault no_memory
-
-pub returns-in-None-clause-says : goal.returns-in-None-clause-says
-returns-in-None-clause-says g c = inr (record {
-  cause = unknown_command;
-  name = [];
-  may = may_nothing _ unknown_command [] c.in-None.ensures;
-  reason = tt;
-  status = c.refuse-in-None.ensures.status;
-  line = c.refuse-in-None.ensures.line;
-})
-
-pub returns-in-None-clause-complete : goal.returns-in-None-clause-complete
-returns-in-None-clause-complete g c = λ acts told effect no_store no_out.
-    let setting = setting_of c.args.words.now (g.S.Store.files c.args.store.now) c.args.now in
-    refusal_complete setting unknown_command c.refuse-in-None.result [] [] [] acts _ _ ⊤ tt
-    (λ _. nothing_effect setting unknown_command [] c.in-None.ensures)
-    effect c.refuse-in-None.ensures.status no_store no_out
+pub returns-clause-synced : goal.returns-clause-synced
+returns-clause-synced g c =
+    let S = g.S.Store in
+    run_synced (IsTrue S.tells → AddsNone (S.seen c.args.store.now).unsynced (S.seen c.carry_out_words-done.new.store).unsynced)
+    c.carry_out_words-done.result c.finish.result c.finish.ensures.status c.carry_out_words-done.ensures.synced

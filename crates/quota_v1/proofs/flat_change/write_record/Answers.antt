@@ -9,7 +9,7 @@ pub returns-clause-written : goal.returns-clause-written
 returns-clause-written c =
     let numbers = c.write_numbers.ensures in
     let times = c.write_times.ensures in
-    written_record c.write_times.new.bytes c.args.id c.args.rec.now (grind (arith, nat_tests)) c.requires.kept
+    written_record c.write_times.new.bytes c.args.id c.args.rec.now (grind (arith, nat_tests)) c.requires.kept.again
     (number_before 4 _ _ _ _ _ times.kept (omega arith) ∙ numbers.bhard)
     (number_before 4 _ _ _ _ _ times.kept (omega arith) ∙ numbers.bsoft)
     (number_before 4 _ _ _ _ _ times.kept (omega arith) ∙ numbers.space)

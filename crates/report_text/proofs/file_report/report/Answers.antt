@@ -1,4 +1,3 @@
-use Rattle.std.proofs.Common.{◌∙◌, sym, subst, IsTrue}
 use Rattle.std.proofs.lemmas.Result.{err_from_is_err_and}
 use Rattle.report_text.proofs.GatherLemmas.{gathers_then, writes_more, writes_then, prefix_written, prefix_flushed, all_written}
 use Rattle.report_text.proofs.LinesLemmas.{report_is}
@@ -18,7 +17,7 @@ returns-in_err-put_entries-clause-fault g c =
     let p = err_from_is_err_and c.from_residual-in_err-put_entries.result c.from_residual-in_err-put_entries.ensures.1 in
     rw p.1 (λ told value holds kind.
     prefix_written _ _ _ _ _ c.new-text.ensures
-    (writes_then _ _ _ _ _ _ _ _ _ _ c.in_ok-put_head.ensures.ok c.put_head.ensures.same_telling
+    (writes_then _ _ _ _ _ _ _ _ _ c.in_ok-put_head.ensures.ok
     (c.in_err-put_entries.ensures.fault value holds)
     (report_is _ _ _ value _ _ _ kind (c.grace.ensures.value c.args.store.now value holds)))
     told)
@@ -28,18 +27,18 @@ returns-in_err-flush-clause-fault g c =
     let p = err_from_is_err_and c.from_residual-in_err-flush.result c.from_residual-in_err-flush.ensures.1 in
     rw p.1 (λ told value holds kind.
     prefix_flushed _ _ _ _ _ _ _ c.new-text.ensures
-    (gathers_then _ _ _ _ _ _ _ _ _ _ _ c.in_ok-put_head.ensures.ok c.put_head.ensures.same_telling
+    (gathers_then _ _ _ _ _ _ _ _ _ _ c.in_ok-put_head.ensures.ok
     (c.in_ok-put_entries.ensures.ok value holds)
     (report_is _ _ _ value _ _ _ kind (c.grace.ensures.value c.args.store.now value holds)))
-    (c.in_err-flush.ensures.fault (subst IsTrue (sym (c.put_entries.ensures.sink_telling ∙ c.put_head.ensures.same_telling)) told))
+    (c.in_err-flush.ensures.fault told)
     told)
 
 pub returns-clause-ok : goal.returns-clause-ok
 returns-clause-ok g c =
     λ told value holds kind.
     all_written _ _ _ _ _ _ _ c.new-text.ensures
-    (gathers_then _ _ _ _ _ _ _ _ _ _ _ c.in_ok-put_head.ensures.ok c.put_head.ensures.same_telling
+    (gathers_then _ _ _ _ _ _ _ _ _ _ c.in_ok-put_head.ensures.ok
     (c.in_ok-put_entries.ensures.ok value holds)
     (report_is _ _ _ value _ _ _ kind (c.grace.ensures.value c.args.store.now value holds)))
-    (c.in_ok-flush.ensures.ok (subst IsTrue (sym (c.put_entries.ensures.sink_telling ∙ c.put_head.ensures.same_telling)) told))
+    (c.in_ok-flush.ensures.ok told)
     told

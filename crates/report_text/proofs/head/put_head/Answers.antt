@@ -14,12 +14,12 @@ pub returns-clause-ok : goal.returns-clause-ok
 unfolding head_of
 returns-clause-ok g c =
     on_ok_weaker c.put.result
-    (λ ok. gathers_then _ _ _ _ _ _ _ _ _ _ _ c.in_ok-put_title.ensures.ok c.put_title.ensures.same_telling ok (grind (arith, append_assoc)))
+    (λ ok. gathers_then _ _ _ _ _ _ _ _ _ _ c.in_ok-put_title.ensures.ok ok (grind (arith, append_assoc)))
     c.put.ensures.ok
 
 pub returns-clause-fault : goal.returns-clause-fault
 unfolding head_of
 returns-clause-fault g c =
     on_err_weaker c.put.result
-    (λ fault. writes_then _ _ _ _ _ _ _ _ _ _ c.in_ok-put_title.ensures.ok c.put_title.ensures.same_telling fault (grind (arith, append_assoc)))
+    (λ fault. writes_then _ _ _ _ _ _ _ _ _ c.in_ok-put_title.ensures.ok fault (grind (arith, append_assoc)))
     c.put.ensures.fault

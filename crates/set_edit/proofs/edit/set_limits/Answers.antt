@@ -1,8 +1,10 @@
-use Rattle.std.proofs.Common.{IsOkAnd}
+use Rattle.std.proofs.Common.{ℕ, IsOkAnd, List, Option, sym}
 use Rattle.std.proofs.lemmas.Result.{err_from_is_err_and}
+use Rattle.quota_blocks.specs.QuotaFile.{FileSeen}
 use Rattle.quota_blocks.specs.QuotaValue.{QuotaValue}
+use Rattle.quota_blocks.specs.World.{World}
 use Rattle.set_edit.specs.Edited.{limits_set, with_or_without}
-use Rattle.set_edit.proofs.EditedLemmas.{limits_set-fits, change_fault-after}
+use Rattle.set_edit.proofs.EditedLemmas.{after_same, limits_set-fits, change_fault-after}
 use Rattle.set_edit.proofs.edit.set_limits.Goals as goal
 
 pub returns-clause-set : goal.returns-clause-set
@@ -22,7 +24,8 @@ returns-clause-room g c = λ value blocks limit holds.
     (c.in_ok-old.ensures.found value holds) (c.format.ensures.value _ value held) (c.grace.ensures.value _ value held)
     c.limited-rec.ensures next.wanted next.kept in
     rw made (λ lacks. c.in_ok-put_or_remove.ensures.room value blocks limit held
-    ((c.in_ok-old.ensures.same_room value _ blocks limit holds).1 lacks))
+    (after_same (λ (seen : FileSeen) (file : Option (List ℕ)). g.F.QuotaFile.lacks_room seen file (with_or_without value c.args.id c.in_ok-next.next) blocks limit)
+    _ _ _ _ c.in_ok-old.ensures.same c.in_ok-old.ensures.leaves.files lacks))
 
 pub returns-in_err-put_or_remove-clause-refused : goal.returns-in_err-put_or_remove-clause-refused
 returns-in_err-put_or_remove-clause-refused g c =
@@ -31,18 +34,22 @@ returns-in_err-put_or_remove-clause-refused g c =
     let p = err_from_is_err_and c.from_residual-in_err-put_or_remove.result c.from_residual-in_err-put_or_remove.ensures.1 in
     let looked_up = c.in_ok-old.ensures in
     let next = c.in_ok-next.ensures in
-    rw (p.1, p.2) (change_fault-after (S.faults c.args.store.now) (S.faults c.get.new.store) (S.faults c.put_or_remove.new.store)
+    let lacks : FileSeen → World → QuotaValue → ℕ → ℕ → Type 0 =
+    λ seen files value blocks limit. F.lacks_room seen (files seen.name) value blocks limit in
+    rw (p.1, p.2) (change_fault-after (S.seen c.args.store.now).faults (S.seen c.get.new.store).faults (S.seen c.put_or_remove.new.store).faults
     (F.holds c.args.file.now c.args.store.now) (F.holds c.get.new.self c.get.new.store)
     (λ blocks limit. (value : QuotaValue) → F.holds c.args.file.now c.args.store.now value
     → IsOkAnd (limits_set value c.args.id c.args.limits.now c.args.now)
-    (λ edited. F.lacks_room c.args.file.now c.args.store.now edited blocks limit))
+    (λ edited. lacks (F.seen c.args.file.now) (S.seen c.args.store.now).files edited blocks limit))
     (λ blocks limit. (value : QuotaValue) → F.holds c.get.new.self c.get.new.store value
-    → F.lacks_room c.get.new.self c.get.new.store (with_or_without value c.args.id c.in_ok-next.next) blocks limit)
-    c.in_err-put_or_remove.field-0.0 looked_up.later looked_up.stays
-    (λ blocks limit lacks value holds.
+    → lacks (F.seen c.get.new.self) (S.seen c.get.new.store).files (with_or_without value c.args.id c.in_ok-next.next) blocks limit)
+    c.in_err-put_or_remove.field-0.0 looked_up.leaves.later looked_up.stays
+    (λ blocks limit lacking value holds.
     let held = looked_up.stays value holds in
     let made = limits_set-fits value c.args.id c.args.limits.now c.args.now _ _ _ _ _
     (looked_up.found value holds) (c.format.ensures.value _ value held) (c.grace.ensures.value _ value held)
     c.limited-rec.ensures next.wanted next.kept in
-    rw made ((looked_up.same_room value _ blocks limit holds).0 (lacks value held)))
+    rw made
+    (after_same (λ (seen : FileSeen) (file : Option (List ℕ)). F.lacks_room seen file (with_or_without value c.args.id c.in_ok-next.next) blocks limit)
+    _ _ _ _ (sym looked_up.same) (sym looked_up.leaves.files) (lacking value held)))
     c.in_err-put_or_remove.ensures.refused)

@@ -1,4 +1,6 @@
-use Rattle.std.proofs.Common.{◌≡◌, ◌+◌, ◌-◌, ◌≤◌, vec_len, IsTrue}
+use Rattle.std.proofs.Common.{◌+◌, ◌-◌, ◌≤◌, vec_len, IsTrue}
+use Rattle.quota_blocks.specs.Frame.{OnlyReads}
+use Rattle.quota_blocks.specs.Unsynced.{AddsNone}
 use Rattle.tree_file.specs.Check.{bytes_of}
 use Rattle.tree_file.specs.Walk.{AreLinksTo, IsWalk}
 use Rattle.tree_file.proofs.chain.walk_chain.Given as goal
@@ -11,10 +13,8 @@ invariant-loop-at g l =
     let S = g.S.Store in
     record {
       is_walk : IsWalk l.blocks l.walk;
-      links : IsTrue (S.tells l.fn.store) → AreLinksTo (bytes_of (S.files l.fn.store l.name)) l.head l.walk.links.items l.at;
-      later : S.faults l.fn.store ≤ S.faults l.store;
-      reads : S.reads l.store ≤ S.reads l.fn.store + vec_len l.walk.links;
-      writes : S.writes l.store ≡ S.writes l.fn.store;
-      same_files : S.files l.store ≡ S.files l.fn.store;
-      same_telling : S.tells l.store ≡ S.tells l.fn.store;
+      links : IsTrue S.tells → AreLinksTo (bytes_of ((S.seen l.fn.store).files l.name)) l.head l.walk.links.items l.at;
+      leaves : OnlyReads l.name (S.seen l.fn.store) (S.seen l.store);
+      synced : AddsNone (S.seen l.fn.store).unsynced (S.seen l.store).unsynced;
+      reads : (S.seen l.store).reads ≤ (S.seen l.fn.store).reads + vec_len l.walk.links;
     }

@@ -1,7 +1,9 @@
-use Rattle.std.proofs.Common.{◌≡◌, ℕ, ◌+◌, ◌<◌, ◌≤◌, map, take, IsTrue}
+use Rattle.std.proofs.Common.{ℕ, ◌+◌, ◌<◌, ◌≤◌, map, take, IsTrue}
+use Rattle.quota_blocks.specs.Frame.{OnlyReads}
+use Rattle.quota_blocks.specs.Unsynced.{AddsNone}
 use Rattle.tree_file.specs.BlockSet.{AreFlagsOf}
 use Rattle.tree_file.specs.Check.{bytes_of}
-use Rattle.tree_file.specs.Compared.{HasEntriesOf, ids_of, rooms}
+use Rattle.tree_file.specs.Compared.{HasEntriesOf, leading_ids, rooms}
 use Rattle.tree_file.specs.Reads.{led_blocks}
 use Rattle.tree_file.proofs.data.check_data.Given as goal
 
@@ -9,13 +11,11 @@ abbrev pub invariant-loop-block : goal.invariant-loop-block
 invariant-loop-block g l =
     let S = g.S.Store in
     record {
-      entries : IsTrue (S.tells l.fn.store) → (block : ℕ) → block < l.block
-          → HasEntriesOf l.format (bytes_of (S.files l.fn.store l.name)) block (ids_of (map (λ ids. ids.items) l.groups) block);
-      room : IsTrue (S.tells l.fn.store)
-          → AreFlagsOf l.blocks l.room.flags.items (rooms l.format (bytes_of (S.files l.fn.store l.name)) (map (λ ids. ids.items) l.groups) l.block);
-      later : S.faults l.fn.store ≤ S.faults l.store;
-      reads : S.reads l.store ≤ S.reads l.fn.store + led_blocks (take l.block (map (λ ids. ids.items) l.groups));
-      writes : S.writes l.store ≡ S.writes l.fn.store;
-      same_files : S.files l.store ≡ S.files l.fn.store;
-      same_telling : S.tells l.store ≡ S.tells l.fn.store;
+      entries : IsTrue S.tells → (block : ℕ) → block < l.block
+          → HasEntriesOf l.format (bytes_of ((S.seen l.fn.store).files l.name)) block (leading_ids (map (λ ids. ids.items) l.groups) block);
+      room : IsTrue S.tells
+          → AreFlagsOf l.blocks l.room.flags.items (rooms l.format (bytes_of ((S.seen l.fn.store).files l.name)) (map (λ ids. ids.items) l.groups) l.block);
+      leaves : OnlyReads l.name (S.seen l.fn.store) (S.seen l.store);
+      synced : AddsNone (S.seen l.fn.store).unsynced (S.seen l.store).unsynced;
+      reads : (S.seen l.store).reads ≤ (S.seen l.fn.store).reads + led_blocks (take l.block (map (λ ids. ids.items) l.groups));
     }

@@ -1,6 +1,7 @@
-use Rattle.std.proofs.Common.{ℕ, IsTrue, List, subst, sym, ◌∙◌, arith}
+use Rattle.std.proofs.Common.{ℕ, List, arith}
 use Rattle.std.proofs.lemmas.Result.{err_from_is_err_and}
 use Rattle.std.proofs.lemmas.List.Elements.{All-more}
+use Rattle.quota_blocks.proofs.FrameLemmas.{adds_none-then, only_reads-then}
 use Rattle.tree_file.specs.declared.tree_path.TreePath.{TreePath}
 use Rattle.tree_file.specs.Check.{bytes_of}
 use Rattle.tree_file.specs.Levels.{IsWhole}
@@ -12,7 +13,7 @@ returns-in_err-add_steps-clause-refused g c =
     let p = err_from_is_err_and c.from_residual-in_err-add_steps.result c.from_residual-in_err-add_steps.ensures.1 in
     let kept = c.loop-path.invariant in
     rw (p.1, p.2) (level_refused _ _ c.args.blocks _ _ c.read_block.new.block c.args.level.now c.loop-path.path-index _ c.loop-path-test.true
-    (λ told. read_of_same c.args.name.now _ _ _ _ kept.same_files (c.in_ok-read_block.ensures.bytes (subst IsTrue (sym kept.same_telling) told)))
+    (λ told. read_of_same c.args.name.now _ _ _ _ kept.leaves.files (c.in_ok-read_block.ensures.bytes told))
     _ c.in_err-add_steps.ensures.refused)
 
 pub loop-path-preserved : goal.loop-path-preserved
@@ -20,16 +21,14 @@ loop-path-preserved g c =
     let kept = c.loop-path.invariant in
     let read = c.in_ok-read_block.ensures in
     let adds = c.in_ok-add_steps.ensures in
-    let file : List ℕ = bytes_of (g.S.Store.files c.args.store.now c.args.name.now) in
+    let file : List ℕ = bytes_of ((g.S.Store.seen c.args.store.now).files c.args.name.now) in
     record {
       next = λ told. paths_more _ _ c.args.level.now c.loop-path.next.items _ c.loop-path.path-index _ c.loop-path-test.true (kept.next told)
-          (adds.added file (read_of_same c.args.name.now _ _ _ _ kept.same_files (read.bytes (subst IsTrue (sym kept.same_telling) told))));
+          (adds.added file (read_of_same c.args.name.now _ _ _ _ kept.leaves.files (read.bytes told)));
       whole = λ told. All-more (λ (path : TreePath). IsWhole file c.args.blocks path.block) c.args.level.now c.loop-path.path-index _ c.loop-path-test.true (kept.whole told)
-          (adds.whole file (read_of_same c.args.name.now _ _ _ _ kept.same_files (read.bytes (subst IsTrue (sym kept.same_telling) told))));
+          (adds.whole file (read_of_same c.args.name.now _ _ _ _ kept.leaves.files (read.bytes told)));
       within = λ bound within. adds.within bound (within c.loop-path.path-index _ c.loop-path-test.true).0 (kept.within bound within);
-      later = omega (arith, read.later, kept.later);
+      leaves = only_reads-then _ _ _ _ kept.leaves read.leaves;
+      synced = adds_none-then _ _ _ kept.synced read.synced;
       reads = omega (arith, read.reads, kept.reads);
-      writes = read.writes ∙ kept.writes;
-      same_files = read.same_files ∙ kept.same_files;
-      same_telling = read.same_telling ∙ kept.same_telling;
     }

@@ -1,8 +1,8 @@
-use Rattle.std.proofs.Common.{ℕ, List, Vec, Global, IsTrue, map, sym, subst}
+use Rattle.std.proofs.Common.{ℕ, List, Vec, Global, map, subst}
 use Rattle.std.proofs.lemmas.Result.{err_from_is_err_and}
 use Rattle.tree_file.specs.BlockSet.{AreFlagsOf}
 use Rattle.tree_file.specs.Check.{bytes_of}
-use Rattle.tree_file.specs.Compared.{HasEntriesOf, ids_of, rooms}
+use Rattle.tree_file.specs.Compared.{HasEntriesOf, leading_ids, rooms}
 use Rattle.tree_file.proofs.FoundLemmas.{chained, data_refused, filled, list_defect, same_bytes, walked}
 use Rattle.tree_file.proofs.lists.check_lists.Goals as goal
 
@@ -11,11 +11,11 @@ returns-in_err-room-clause-refused g c =
     let p = err_from_is_err_and c.from_residual-in_err-room.result c.from_residual-in_err-room.ensures.1 in
     let walk = c.in_ok-listed.ensures in
     let groups : List (List ℕ) = map (λ (ids : Vec ℕ Global). ids.items) c.args.groups.now in
-    let file : List ℕ = bytes_of (g.S.Store.files c.args.store.now c.args.name.now) in
-    let there : List ℕ = bytes_of (g.S.Store.files c.walk_chain.new.store c.args.name.now) in
-    rw (p.1, p.2) (data_refused (g.S.Store.faults c.args.store.now) (g.S.Store.faults c.walk_chain.new.store) (g.S.Store.faults c.check_data.new.store)
-    (g.S.Store.tells c.args.store.now) (g.S.Store.tells c.walk_chain.new.store) c.args.header.now.format file there c.args.header.now.blocks c.args.header.now.first groups _
-    walk.later walk.same_telling (same_bytes _ _ c.args.name.now walk.same_files) c.in_err-room.ensures.refused)
+    let file : List ℕ = bytes_of ((g.S.Store.seen c.args.store.now).files c.args.name.now) in
+    let there : List ℕ = bytes_of ((g.S.Store.seen c.walk_chain.new.store).files c.args.name.now) in
+    rw (p.1, p.2) (data_refused (g.S.Store.seen c.args.store.now).faults (g.S.Store.seen c.walk_chain.new.store).faults (g.S.Store.seen c.check_data.new.store).faults
+    g.S.Store.tells c.args.header.now.format file there c.args.header.now.blocks c.args.header.now.first groups _
+    walk.leaves.later (same_bytes _ _ c.args.name.now walk.leaves.files) c.in_err-room.ensures.refused)
 
 pub returns-in_err-check_listed-clause-refused : goal.returns-in_err-check_listed-clause-refused
 returns-in_err-check_listed-clause-refused g c =
@@ -23,12 +23,12 @@ returns-in_err-check_listed-clause-refused g c =
     let walk = c.in_ok-listed.ensures in
     let blocks = c.args.header.now.blocks in
     let groups : List (List ℕ) = map (λ (ids : Vec ℕ Global). ids.items) c.args.groups.now in
-    let same = same_bytes (g.S.Store.files c.args.store.now) _ c.args.name.now walk.same_files in
+    let same = same_bytes ((g.S.Store.seen c.args.store.now).files) _ c.args.name.now walk.leaves.files in
     rw (p.1, p.2) (
       c.in_err-check_listed.ensures.names_id,
       λ told are numbers same_blocks same_first.
           let room = subst (λ (f : List ℕ). AreFlagsOf blocks c.in_ok-room.room.flags.items (rooms c.args.header.now.format f groups blocks)) same
-          (c.in_ok-room.ensures.room (subst IsTrue (sym walk.same_telling) told)) in
+          (c.in_ok-room.ensures.room told) in
           let linked = walk.links told in
           list_defect c.args.header.now.format _ numbers blocks c.args.header.now.first groups c.in_ok-listed.listed.links.items _ same_blocks same_first are
           (walked _ blocks c.args.header.now.first c.in_ok-listed.listed.links.items linked walk.walk.marked.distinct walk.walk.inside) linked
@@ -40,9 +40,9 @@ returns-clause-chained g c = λ told are.
     let walk = c.in_ok-listed.ensures in
     let blocks = c.args.header.now.blocks in
     let groups : List (List ℕ) = map (λ (ids : Vec ℕ Global). ids.items) c.args.groups.now in
-    let same = same_bytes (g.S.Store.files c.args.store.now) _ c.args.name.now walk.same_files in
+    let same = same_bytes ((g.S.Store.seen c.args.store.now).files) _ c.args.name.now walk.leaves.files in
     let room = subst (λ (f : List ℕ). AreFlagsOf blocks c.in_ok-room.room.flags.items (rooms c.args.header.now.format f groups blocks)) same
-    (c.in_ok-room.ensures.room (subst IsTrue (sym walk.same_telling) told)) in
+    (c.in_ok-room.ensures.room told) in
     let linked = walk.links told in
     chained c.args.header.now.format _ blocks c.args.header.now.first groups c.in_ok-listed.listed.links.items are
     (walked _ blocks c.args.header.now.first c.in_ok-listed.listed.links.items linked walk.walk.marked.distinct walk.walk.inside) linked
@@ -53,8 +53,8 @@ returns-clause-filled g c = λ told are not_empty.
     let walk = c.in_ok-listed.ensures in
     let blocks = c.args.header.now.blocks in
     let groups : List (List ℕ) = map (λ (ids : Vec ℕ Global). ids.items) c.args.groups.now in
-    let same = same_bytes (g.S.Store.files c.args.store.now) _ c.args.name.now walk.same_files in
+    let same = same_bytes ((g.S.Store.seen c.args.store.now).files) _ c.args.name.now walk.leaves.files in
     filled c.args.header.now.format _ blocks groups are
-    (λ block low. subst (λ (f : List ℕ). HasEntriesOf c.args.header.now.format f block (ids_of groups block)) same
-    (c.in_ok-room.ensures.entries (subst IsTrue (sym walk.same_telling) told) block low))
+    (λ block low. subst (λ (f : List ℕ). HasEntriesOf c.args.header.now.format f block (leading_ids groups block)) same
+    (c.in_ok-room.ensures.entries told block low))
     not_empty

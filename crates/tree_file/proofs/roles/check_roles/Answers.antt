@@ -1,4 +1,4 @@
-use Rattle.std.proofs.Common.{ℕ, List, [], ◌∷◌, ◌++◌, length, Vec, Global, IsTrue, map, refl, sym, ap, subst, arith, append-nil}
+use Rattle.std.proofs.Common.{ℕ, List, [], ◌∷◌, ◌++◌, length, Vec, Global, map, refl, sym, ap, subst, arith, append-nil}
 use Rattle.std.proofs.lemmas.List.{length-map}
 use Rattle.std.proofs.lemmas.Result.{err_from_is_err_and}
 use Rattle.tree_file.specs.declared.link.Link.{Link}
@@ -19,8 +19,8 @@ use Rattle.tree_file.proofs.roles.check_roles.Goals as goal
 pub returns-in_err-leaves-clause-refused : goal.returns-in_err-leaves-clause-refused
 returns-in_err-leaves-clause-refused g c =
     let p = err_from_is_err_and c.from_residual-in_err-leaves.result c.from_residual-in_err-leaves.ensures.1 in
-    rw (p.1, p.2) (tree_refused (g.S.Store.faults c.args.store.now) (g.S.Store.faults c.find_leaves.new.store) (g.S.Store.tells c.args.store.now)
-    (bytes_of (g.S.Store.files c.args.store.now c.args.name.now)) c.args.blocks c.args.free_head c.insert.new.self.flags.items _
+    rw (p.1, p.2) (tree_refused (g.S.Store.seen c.args.store.now).faults (g.S.Store.seen c.find_leaves.new.store).faults g.S.Store.tells
+    (bytes_of ((g.S.Store.seen c.args.store.now).files c.args.name.now)) c.args.blocks c.args.free_head c.insert.new.self.flags.items _
     (header_marked c.args.blocks c.insert.new.self.flags.items c.insert.result (c.insert.ensures.added c.args.blocks [] c.in_ok-met.ensures (omega (arith, c.requires.two))))
     c.in_err-leaves.ensures.refused)
 
@@ -36,7 +36,7 @@ mark_data-requires g c =
 pub returns-in_err-mark_data-clause-refused : goal.returns-in_err-mark_data-clause-refused
 returns-in_err-mark_data-clause-refused g c =
     let p = err_from_is_err_and c.from_residual-in_err-mark_data.result c.from_residual-in_err-mark_data.ensures.1 in
-    let file : List ℕ = bytes_of (g.S.Store.files c.args.store.now c.args.name.now) in
+    let file : List ℕ = bytes_of ((g.S.Store.seen c.args.store.now).files c.args.name.now) in
     let header : AreFlagsOf c.args.blocks c.insert.new.self.flags.items (0 ∷ []) =
     header_marked c.args.blocks c.insert.new.self.flags.items c.insert.result (c.insert.ensures.added c.args.blocks [] c.in_ok-met.ensures (omega (arith, c.requires.two))) in
     let found : List TreePath = c.in_ok-leaves.leaves.items in
@@ -45,14 +45,14 @@ returns-in_err-mark_data-clause-refused g c =
     let given : List (List ℕ) = map (λ (ids : Vec ℕ Global). ids.items) c.as_slice-2.result.now in
     let are : AreGroupsOf c.args.blocks found given =
     subst (λ (all : List (Vec ℕ Global)). AreGroupsOf c.args.blocks found (map (λ (ids : Vec ℕ Global). ids.items) all)) (sym c.as_slice-2.ensures.value) groups in
-    rw (p.1, p.2) (data_marked_refused (g.S.Store.faults c.args.store.now) (g.S.Store.faults c.find_leaves.new.store) (g.S.Store.tells c.args.store.now)
+    rw (p.1, p.2) (data_marked_refused (g.S.Store.seen c.args.store.now).faults (g.S.Store.seen c.find_leaves.new.store).faults g.S.Store.tells
     file c.args.blocks c.args.free_head c.find_leaves.new.met.flags.items found given _
-    c.in_ok-leaves.ensures.leaves (λ told. c.in_ok-leaves.ensures.marked told (0 ∷ []) header) are c.in_err-mark_data.ensures.refused)
+    c.in_ok-leaves.ensures.found (λ told. c.in_ok-leaves.ensures.marked told (0 ∷ []) header) are c.in_err-mark_data.ensures.refused)
 
 pub returns-in_err-mark_links-clause-refused : goal.returns-in_err-mark_links-clause-refused
 returns-in_err-mark_links-clause-refused g c =
     let p = err_from_is_err_and c.from_residual-in_err-mark_links.result c.from_residual-in_err-mark_links.ensures.1 in
-    let file : List ℕ = bytes_of (g.S.Store.files c.args.store.now c.args.name.now) in
+    let file : List ℕ = bytes_of ((g.S.Store.seen c.args.store.now).files c.args.name.now) in
     let header : AreFlagsOf c.args.blocks c.insert.new.self.flags.items (0 ∷ []) =
     header_marked c.args.blocks c.insert.new.self.flags.items c.insert.result (c.insert.ensures.added c.args.blocks [] c.in_ok-met.ensures (omega (arith, c.requires.two))) in
     let found : List TreePath = c.in_ok-leaves.leaves.items in
@@ -65,12 +65,12 @@ returns-in_err-mark_links-clause-refused g c =
       c.in_err-mark_links.ensures.names_id,
       λ told.
           let marked : AreFlagsOf c.args.blocks c.mark_data.new.met.flags.items ((0 ∷ tree_blocks file c.args.blocks) ++ data_blocks file c.args.blocks) =
-          data_marked file c.args.blocks c.find_leaves.new.met.flags.items c.mark_data.new.met.flags.items found given (c.in_ok-leaves.ensures.leaves told)
+          data_marked file c.args.blocks c.find_leaves.new.met.flags.items c.mark_data.new.met.flags.items found given (c.in_ok-leaves.ensures.found told)
           (c.in_ok-leaves.ensures.marked told (0 ∷ []) header) are c.in_ok-mark_data.ensures.marked in
           let walk = c.in_ok-free.ensures in
           let links : List Link = c.in_ok-free.free.links.items in
-          let linked : AreLinksTo file c.args.free_head links 0 = subst (λ (f : List ℕ). AreLinksTo f c.args.free_head links 0) (same_bytes _ _ c.args.name.now c.in_ok-leaves.ensures.same_files)
-          (walk.links (subst IsTrue (sym c.in_ok-leaves.ensures.same_telling) told)) in
+          let linked : AreLinksTo file c.args.free_head links 0 = subst (λ (f : List ℕ). AreLinksTo f c.args.free_head links 0) (same_bytes _ _ c.args.name.now c.in_ok-leaves.ensures.leaves.files)
+          (walk.links told) in
           let is_free = walked file c.args.blocks c.args.free_head links linked walk.walk.marked.distinct walk.walk.inside in
           second_role file c.args.blocks c.args.free_head (linked_blocks links) 0 (roles file c.args.blocks (linked_blocks links)) [] _ is_free
           (append-nil (roles file c.args.blocks (linked_blocks links)))
@@ -81,7 +81,7 @@ returns-in_err-mark_links-clause-refused g c =
 
 pub returns-in-Some-clause-refused : goal.returns-in-Some-clause-refused
 returns-in-Some-clause-refused g c =
-    let file : List ℕ = bytes_of (g.S.Store.files c.args.store.now c.args.name.now) in
+    let file : List ℕ = bytes_of ((g.S.Store.seen c.args.store.now).files c.args.name.now) in
     let header : AreFlagsOf c.args.blocks c.insert.new.self.flags.items (0 ∷ []) =
     header_marked c.args.blocks c.insert.new.self.flags.items c.insert.result (c.insert.ensures.added c.args.blocks [] c.in_ok-met.ensures (omega (arith, c.requires.two))) in
     let found : List TreePath = c.in_ok-leaves.leaves.items in
@@ -94,12 +94,12 @@ returns-in-Some-clause-refused g c =
       refl,
       λ told.
           let marked : AreFlagsOf c.args.blocks c.mark_data.new.met.flags.items ((0 ∷ tree_blocks file c.args.blocks) ++ data_blocks file c.args.blocks) =
-          data_marked file c.args.blocks c.find_leaves.new.met.flags.items c.mark_data.new.met.flags.items found given (c.in_ok-leaves.ensures.leaves told)
+          data_marked file c.args.blocks c.find_leaves.new.met.flags.items c.mark_data.new.met.flags.items found given (c.in_ok-leaves.ensures.found told)
           (c.in_ok-leaves.ensures.marked told (0 ∷ []) header) are c.in_ok-mark_data.ensures.marked in
           let walk = c.in_ok-free.ensures in
           let links : List Link = c.in_ok-free.free.links.items in
-          let linked : AreLinksTo file c.args.free_head links 0 = subst (λ (f : List ℕ). AreLinksTo f c.args.free_head links 0) (same_bytes _ _ c.args.name.now c.in_ok-leaves.ensures.same_files)
-          (walk.links (subst IsTrue (sym c.in_ok-leaves.ensures.same_telling) told)) in
+          let linked : AreLinksTo file c.args.free_head links 0 = subst (λ (f : List ℕ). AreLinksTo f c.args.free_head links 0) (same_bytes _ _ c.args.name.now c.in_ok-leaves.ensures.leaves.files)
+          (walk.links told) in
           let is_free = walked file c.args.blocks c.args.free_head links linked walk.walk.marked.distinct walk.walk.inside in
           let all : AreFlagsOf c.args.blocks c.mark_links.new.met.flags.items (roles file c.args.blocks (linked_blocks links)) =
           links_marked (λ (n : ℕ) (ns : List ℕ). AreFlagsOf n c.mark_links.new.met.flags.items ns) c.args.blocks c.mark_data.new.met.flags.items
@@ -116,7 +116,7 @@ overflow_cast-result g c =
 
 pub returns-clause-roles : goal.returns-clause-roles
 returns-clause-roles g c =
-    let file : List ℕ = bytes_of (g.S.Store.files c.args.store.now c.args.name.now) in
+    let file : List ℕ = bytes_of ((g.S.Store.seen c.args.store.now).files c.args.name.now) in
     let header : AreFlagsOf c.args.blocks c.insert.new.self.flags.items (0 ∷ []) =
     header_marked c.args.blocks c.insert.new.self.flags.items c.insert.result (c.insert.ensures.added c.args.blocks [] c.in_ok-met.ensures (omega (arith, c.requires.two))) in
     let found : List TreePath = c.in_ok-leaves.leaves.items in
@@ -127,18 +127,18 @@ returns-clause-roles g c =
     subst (λ (all : List (Vec ℕ Global)). AreGroupsOf c.args.blocks found (map (λ (ids : Vec ℕ Global). ids.items) all)) (sym c.as_slice-2.ensures.value) groups in
     λ told.
     let marked : AreFlagsOf c.args.blocks c.mark_data.new.met.flags.items ((0 ∷ tree_blocks file c.args.blocks) ++ data_blocks file c.args.blocks) =
-    data_marked file c.args.blocks c.find_leaves.new.met.flags.items c.mark_data.new.met.flags.items found given (c.in_ok-leaves.ensures.leaves told)
+    data_marked file c.args.blocks c.find_leaves.new.met.flags.items c.mark_data.new.met.flags.items found given (c.in_ok-leaves.ensures.found told)
     (c.in_ok-leaves.ensures.marked told (0 ∷ []) header) are c.in_ok-mark_data.ensures.marked in
     let walk = c.in_ok-free.ensures in
     let links : List Link = c.in_ok-free.free.links.items in
-    let linked : AreLinksTo file c.args.free_head links 0 = subst (λ (f : List ℕ). AreLinksTo f c.args.free_head links 0) (same_bytes _ _ c.args.name.now c.in_ok-leaves.ensures.same_files)
-    (walk.links (subst IsTrue (sym c.in_ok-leaves.ensures.same_telling) told)) in
+    let linked : AreLinksTo file c.args.free_head links 0 = subst (λ (f : List ℕ). AreLinksTo f c.args.free_head links 0) (same_bytes _ _ c.args.name.now c.in_ok-leaves.ensures.leaves.files)
+    (walk.links told) in
     let is_free = walked file c.args.blocks c.args.free_head links linked walk.walk.marked.distinct walk.walk.inside in
     let all : AreFlagsOf c.args.blocks c.mark_links.new.met.flags.items (roles file c.args.blocks (linked_blocks links)) =
     links_marked (λ (n : ℕ) (ns : List ℕ). AreFlagsOf n c.mark_links.new.met.flags.items ns) c.args.blocks c.mark_data.new.met.flags.items
     ((0 ∷ tree_blocks file c.args.blocks) ++ data_blocks file c.args.blocks) links c.as_slice-3.result.now c.as_slice-3.ensures.value walk.walk.inside marked
     c.in_ok-mark_links.ensures.marked in
-    let are_leaves = c.in_ok-leaves.ensures.leaves told in
+    let are_leaves = c.in_ok-leaves.ensures.found told in
     record {
       one_role = one_role file c.args.blocks c.args.free_head (linked_blocks links) c.mark_links.new.met.flags.items (c.in_ok-leaves.ensures.whole told) is_free all
           (c.in_default.ensures (roles file c.args.blocks (linked_blocks links)) all);
@@ -223,5 +223,5 @@ returns-clause-reads g c =
     links_marked (λ (n : ℕ) (ns : List ℕ). AreFlagsOf n c.mark_links.new.met.flags.items ns) c.args.blocks c.mark_data.new.met.flags.items
     led links c.as_slice-3.result.now c.as_slice-3.ensures.value walk.walk.inside (c.in_ok-mark_data.ensures.marked c.args.blocks found tree are read.marked)
     c.in_ok-mark_links.ensures.marked in
-    roles_few c.args.blocks c.find_leaves.new.met.flags.items c.mark_links.new.met.flags.items found _ links (g.S.Store.reads c.args.store.now) (g.S.Store.reads c.find_leaves.new.store)
-    (g.S.Store.reads c.walk_chain.new.store) read (omega (arith, walk.reads, c.in_ok-free.free.links.ok.0)) groups all
+    roles_few c.args.blocks c.find_leaves.new.met.flags.items c.mark_links.new.met.flags.items found _ links (g.S.Store.seen c.args.store.now).reads (g.S.Store.seen c.find_leaves.new.store).reads
+    (g.S.Store.seen c.walk_chain.new.store).reads read (omega (arith, walk.reads, c.in_ok-free.free.links.ok.0)) groups all

@@ -11,8 +11,8 @@ use Rattle.tree_file.proofs.tree.find_leaves.Goals as goal
 pub returns-in_err-second-clause-refused : goal.returns-in_err-second-clause-refused
 returns-in_err-second-clause-refused g c =
     let p = err_from_is_err_and c.from_residual.result c.from_residual.ensures.1 in
-    rw (p.1, p.2) (down_refused (g.S.Store.faults c.args.store.now) (g.S.Store.faults c.args.store.now) _ c.args.blocks 0 _ _ _ _ c.args.met.now.flags.items _ _
-    (omega arith) refl refl (omega arith) (λ told. down_none _ c.args.blocks c.args.met.now.flags.items) _ c.in_err-second.ensures.refused)
+    rw (p.1, p.2) (down_refused (g.S.Store.seen c.args.store.now).faults (g.S.Store.seen c.args.store.now).faults _ c.args.blocks 0 _ _ _ c.args.met.now.flags.items _ _
+    (omega arith) refl (omega arith) (λ told. down_none _ c.args.blocks c.args.met.now.flags.items) _ c.in_err-second.ensures.refused)
 
 pub go_down-requires-2 : goal.go_down-requires-2
 go_down-requires-2 g c = record {
@@ -22,13 +22,13 @@ go_down-requires-2 g c = record {
 pub returns-in_err-third-clause-refused : goal.returns-in_err-third-clause-refused
 returns-in_err-third-clause-refused g c =
     let p = err_from_is_err_and c.from_residual-in_err-third.result c.from_residual-in_err-third.ensures.1 in
-    let file : List ℕ = bytes_of (g.S.Store.files c.args.store.now c.args.name.now) in
+    let file : List ℕ = bytes_of ((g.S.Store.seen c.args.store.now).files c.args.name.now) in
     let flags = c.args.met.now.flags.items in
     let second = c.in_ok-second.ensures in
-    let down = down_on file file c.args.blocks 0 _ _ flags flags c.go_down.new.met.flags.items _ _ c.deref.result.now refl refl
+    let down = down_on file file c.args.blocks 0 _ flags flags c.go_down.new.met.flags.items _ _ c.deref.result.now refl
     (λ told. down_none file c.args.blocks flags) second.next c.deref.ensures.value second.marked second.whole in
-    rw (p.1, p.2) (down_refused (g.S.Store.faults c.args.store.now) (g.S.Store.faults c.go_down.new.store) _ c.args.blocks 1 _ _ file _ flags _ _
-    second.later second.same_telling (file_same c.args.name.now _ _ second.same_files) (omega arith) down _ c.in_err-third.ensures.refused)
+    rw (p.1, p.2) (down_refused (g.S.Store.seen c.args.store.now).faults (g.S.Store.seen c.go_down.new.store).faults _ c.args.blocks 1 _ file _ flags _ _
+    second.leaves.later (file_same c.args.name.now _ _ second.leaves.files) (omega arith) down _ c.in_err-third.ensures.refused)
 
 pub go_down-requires-3 : goal.go_down-requires-3
 go_down-requires-3 g c = record {
@@ -38,16 +38,16 @@ go_down-requires-3 g c = record {
 pub returns-in_err-fourth-clause-refused : goal.returns-in_err-fourth-clause-refused
 returns-in_err-fourth-clause-refused g c =
     let p = err_from_is_err_and c.from_residual-in_err-fourth.result c.from_residual-in_err-fourth.ensures.1 in
-    let file : List ℕ = bytes_of (g.S.Store.files c.args.store.now c.args.name.now) in
+    let file : List ℕ = bytes_of ((g.S.Store.seen c.args.store.now).files c.args.name.now) in
     let flags = c.args.met.now.flags.items in
     let second = c.in_ok-second.ensures in
-    let down = down_on file file c.args.blocks 0 _ _ flags flags c.go_down.new.met.flags.items _ _ c.deref.result.now refl refl
+    let down = down_on file file c.args.blocks 0 _ flags flags c.go_down.new.met.flags.items _ _ c.deref.result.now refl
     (λ told. down_none file c.args.blocks flags) second.next c.deref.ensures.value second.marked second.whole in
     let third = c.in_ok-third.ensures in
-    let down_2 = down_on file _ c.args.blocks 1 _ _ flags _ c.go_down-2.new.met.flags.items c.deref.result.now _ c.deref-2.result.now
-    second.same_telling (file_same c.args.name.now _ _ second.same_files) down third.next c.deref-2.ensures.value third.marked third.whole in
-    rw (p.1, p.2) (down_refused (g.S.Store.faults c.args.store.now) (g.S.Store.faults c.go_down-2.new.store) _ c.args.blocks 2 _ _ file _ flags _ _
-    (omega (arith, second.later, third.later)) (third.same_telling ∙ second.same_telling) (file_same c.args.name.now _ _ (third.same_files ∙ second.same_files))
+    let down_2 = down_on file _ c.args.blocks 1 _ flags _ c.go_down-2.new.met.flags.items c.deref.result.now _ c.deref-2.result.now
+    (file_same c.args.name.now _ _ second.leaves.files) down third.next c.deref-2.ensures.value third.marked third.whole in
+    rw (p.1, p.2) (down_refused (g.S.Store.seen c.args.store.now).faults (g.S.Store.seen c.go_down-2.new.store).faults _ c.args.blocks 2 _ file _ flags _ _
+    (omega (arith, second.leaves.later, third.leaves.later)) (file_same c.args.name.now _ _ (third.leaves.files ∙ second.leaves.files))
     (omega arith) down_2 _ c.in_err-fourth.ensures.refused)
 
 pub go_down-requires-4 : goal.go_down-requires-4
@@ -56,32 +56,31 @@ go_down-requires-4 g c = record {
 }
 
 -- what the blocks of the fourth level are, once they were found
-down_to_fourth : (g : Over) (c : goal.After-drop-second-2 g) → IsTrue (g.S.Store.tells c.args.store.now)
-    → IsDown (bytes_of (g.S.Store.files c.args.store.now c.args.name.now)) c.args.blocks 3 c.args.met.now.flags.items c.go_down-3.new.met.flags.items c.deref-3.result.now
+down_to_fourth : (g : Over) (c : goal.After-drop-second-2 g) → IsTrue g.S.Store.tells
+    → IsDown (bytes_of ((g.S.Store.seen c.args.store.now).files c.args.name.now)) c.args.blocks 3 c.args.met.now.flags.items c.go_down-3.new.met.flags.items c.deref-3.result.now
 down_to_fourth g c =
-    let file : List ℕ = bytes_of (g.S.Store.files c.args.store.now c.args.name.now) in
+    let file : List ℕ = bytes_of ((g.S.Store.seen c.args.store.now).files c.args.name.now) in
     let flags = c.args.met.now.flags.items in
     let second = c.in_ok-second.ensures in
-    let down = down_on file file c.args.blocks 0 _ _ flags flags c.go_down.new.met.flags.items _ _ c.deref.result.now refl refl
+    let down = down_on file file c.args.blocks 0 _ flags flags c.go_down.new.met.flags.items _ _ c.deref.result.now refl
     (λ told. down_none file c.args.blocks flags) second.next c.deref.ensures.value second.marked second.whole in
     let third = c.in_ok-third.ensures in
-    let down_2 = down_on file _ c.args.blocks 1 _ _ flags _ c.go_down-2.new.met.flags.items c.deref.result.now _ c.deref-2.result.now
-    second.same_telling (file_same c.args.name.now _ _ second.same_files) down third.next c.deref-2.ensures.value third.marked third.whole in
+    let down_2 = down_on file _ c.args.blocks 1 _ flags _ c.go_down-2.new.met.flags.items c.deref.result.now _ c.deref-2.result.now
+    (file_same c.args.name.now _ _ second.leaves.files) down third.next c.deref-2.ensures.value third.marked third.whole in
     let fourth = c.in_ok-fourth.ensures in
-    down_on file _ c.args.blocks 2 _ _ flags _ c.go_down-3.new.met.flags.items c.deref-2.result.now _ c.deref-3.result.now
-    (third.same_telling ∙ second.same_telling) (file_same c.args.name.now _ _ (third.same_files ∙ second.same_files)) down_2 fourth.next
+    down_on file _ c.args.blocks 2 _ flags _ c.go_down-3.new.met.flags.items c.deref-2.result.now _ c.deref-3.result.now
+    (file_same c.args.name.now _ _ (third.leaves.files ∙ second.leaves.files)) down_2 fourth.next
     c.deref-3.ensures.value fourth.marked fourth.whole
 
 -- and what the leaves are
-down_to_leaves : (g : Over) (c : goal.After-drop-second-2 g) → IfOk c.go_down-4.result (λ found. IsTrue (g.S.Store.tells c.args.store.now)
-    → IsDown (bytes_of (g.S.Store.files c.args.store.now c.args.name.now)) c.args.blocks 4 c.args.met.now.flags.items c.go_down-4.new.met.flags.items found.items)
+down_to_leaves : (g : Over) (c : goal.After-drop-second-2 g) → IfOk c.go_down-4.result (λ found. IsTrue g.S.Store.tells
+    → IsDown (bytes_of ((g.S.Store.seen c.args.store.now).files c.args.name.now)) c.args.blocks 4 c.args.met.now.flags.items c.go_down-4.new.met.flags.items found.items)
 down_to_leaves g c =
     let second = c.in_ok-second.ensures in
     let third = c.in_ok-third.ensures in
     let fourth = c.in_ok-fourth.ensures in
-    down_end (λ found. found.items) _ _ c.args.blocks 3 _ _ c.args.met.now.flags.items c.go_down-3.new.met.flags.items c.go_down-4.new.met.flags.items c.deref-3.result.now
-    (fourth.same_telling ∙ third.same_telling ∙ second.same_telling)
-    (file_same c.args.name.now _ _ (fourth.same_files ∙ third.same_files ∙ second.same_files)) (down_to_fourth g c) c.go_down-4.result
+    down_end (λ found. found.items) _ _ c.args.blocks 3 _ c.args.met.now.flags.items c.go_down-3.new.met.flags.items c.go_down-4.new.met.flags.items c.deref-3.result.now
+    (file_same c.args.name.now _ _ (fourth.leaves.files ∙ third.leaves.files ∙ second.leaves.files)) (down_to_fourth g c) c.go_down-4.result
     c.go_down-4.ensures.next c.go_down-4.ensures.marked c.go_down-4.ensures.whole
 
 pub returns-clause-refused : goal.returns-clause-refused
@@ -89,9 +88,9 @@ returns-clause-refused g c =
     let second = c.in_ok-second.ensures in
     let third = c.in_ok-third.ensures in
     let fourth = c.in_ok-fourth.ensures in
-    down_refused_at (g.S.Store.faults c.args.store.now) (g.S.Store.faults c.go_down-3.new.store) _ c.args.blocks 3 _ _ _ _ c.args.met.now.flags.items _ _
-    (omega (arith, second.later, third.later, fourth.later)) (fourth.same_telling ∙ third.same_telling ∙ second.same_telling)
-    (file_same c.args.name.now _ _ (fourth.same_files ∙ third.same_files ∙ second.same_files)) (omega arith) (down_to_fourth g c)
+    down_refused_at (g.S.Store.seen c.args.store.now).faults (g.S.Store.seen c.go_down-3.new.store).faults _ c.args.blocks 3 _ _ _ c.args.met.now.flags.items _ _
+    (omega (arith, second.leaves.later, third.leaves.later, fourth.leaves.later))
+    (file_same c.args.name.now _ _ (fourth.leaves.files ∙ third.leaves.files ∙ second.leaves.files)) (omega arith) (down_to_fourth g c)
     c.go_down-4.result c.go_down-4.ensures.refused
 
 pub returns-clause-marked : goal.returns-clause-marked
@@ -127,7 +126,7 @@ returns-in_err-fourth-clause-few_reads g c = λ numbers are.
 
 -- what was marked and read down to the blocks of the fourth level
 marked_to_fourth : (g : Over) (c : goal.After-drop-second-2 g) → (numbers : List ℕ) → AreFlagsOf c.args.blocks c.args.met.now.flags.items numbers
-    → AreMarkedReads c.args.blocks c.go_down-3.new.met.flags.items numbers (g.S.Store.reads c.args.store.now) (g.S.Store.reads c.go_down-3.new.store)
+    → AreMarkedReads c.args.blocks c.go_down-3.new.met.flags.items numbers (g.S.Store.seen c.args.store.now).reads (g.S.Store.seen c.go_down-3.new.store).reads
 marked_to_fourth g c numbers are =
     let second = c.in_ok-second.ensures in
     let third = c.in_ok-third.ensures in
@@ -140,7 +139,7 @@ marked_to_fourth g c numbers are =
 
 pub returns-clause-reads : goal.returns-clause-reads
 returns-clause-reads g c =
-    marked_end c.args.blocks c.args.met.now.flags.items _ _ _ (g.S.Store.reads c.args.store.now) _ _ (marked_to_fourth g c) c.go_down-4.result
+    marked_end c.args.blocks c.args.met.now.flags.items _ _ _ (g.S.Store.seen c.args.store.now).reads _ _ (marked_to_fourth g c) c.go_down-4.result
     c.go_down-4.ensures.marked c.go_down-4.ensures.reads
 
 pub returns-clause-few_reads : goal.returns-clause-few_reads

@@ -1,4 +1,3 @@
-use Rattle.std.proofs.Common.{sym, subst, IsTrue}
 use Rattle.std.proofs.lemmas.Result.{err_from_is_err_and, on_err_weaker}
 use Rattle.quota_blocks.proofs.TextLemmas.{appends_at_flush, appends_at_write}
 use Rattle.quota_blocks.proofs.text_buffer.TextBuffer.put.Goals as goal
@@ -12,5 +11,5 @@ pub returns-clause-fault : goal.returns-clause-fault
 returns-clause-fault g c =
     on_err_weaker c.write.result
     (λ fault told start before gathered. appends_at_write start before _ _ _ _ _ gathered (c.in_ok-flush.ensures.ok told)
-    (fault (subst IsTrue (sym c.flush.ensures.same_telling) told)))
+    (fault told))
     c.write.ensures.fault

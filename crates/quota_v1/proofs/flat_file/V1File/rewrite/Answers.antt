@@ -1,11 +1,11 @@
-use Rattle.std.proofs.Common.{List, ℕ, ap, ◌∙◌, sym}
-use Rattle.quota_blocks.specs.Replace.{replacement_name}
-use Rattle.quota_blocks.specs.World.{World}
-use Rattle.quota_blocks.proofs.ReplaceLemmas.{replaced-cleared}
+use Rattle.std.specs.String.{string_bytes}
+use Rattle.quota_v1.proofs.MakesLemmas.{rewritten-at}
 use Rattle.quota_v1.proofs.flat_file.V1File.rewrite.Goals as goal
 
-pub returns-in-Ok-clause-cleared : goal.returns-in-Ok-clause-cleared
-returns-in-Ok-clause-cleared g c told =
-    ap (λ (name : List ℕ). g.S.Store.files c.replace.new.store (replacement_name name)) (sym c.as_str.ensures.value)
-    ∙ ap (λ (files : World). files (replacement_name c.as_str.result.now)) (c.in-Ok.ensures.replaced told)
-    ∙ replaced-cleared (g.S.Store.files c.args.store.now) c.as_str.result.now c.deref.result.now
+pub returns-in-Ok-clause-holds : goal.returns-in-Ok-clause-holds
+returns-in-Ok-clause-holds g c = λ value value' stands held. record {
+  told = held.told;
+  same = rewritten-at (g.S.Store.seen c.args.store.now).files _ (string_bytes c.args.self.now.name) c.args.bytes.items
+      (rw (c.as_str.ensures.value, c.deref.ensures.value) at (c.in-Ok.ensures.replaced held.told));
+  stands = stands held.stands;
+}

@@ -1,27 +1,47 @@
-use Rattle.std.proofs.Common.{◌≡◌, ◌%◌, List, ℕ, length, ap, ◌∙◌, arith}
+use Rattle.std.proofs.Common.{◌≡◌, ◌%◌, length, refl, arith}
 use Rattle.std.proofs.lemmas.Result.{on_ok_weaker}
-use Rattle.quota_types.specs.Bytes.{number_at}
-use Rattle.quota_v1.proofs.RecordLemmas.{holds_rewritten, on_ok_both, stands_graced}
+use Rattle.std.specs.String.{string_bytes}
+use Rattle.quota_v1.specs.Change.{FlatGraced}
+use Rattle.quota_blocks.specs.Replace.{replaced_files}
+use Rattle.quota_v1.proofs.MakesLemmas.{anew_rewritten, left_as_before, left_between, on_store_fault}
+use Rattle.quota_v1.proofs.RecordLemmas.{stands_graced}
 use Rattle.quota_v1.proofs.flat_file.V1FileQuotaFile.set_grace.Goals as goal
 
 pub returns-in-Ok-clause-set : goal.returns-in-Ok-clause-set
 returns-in-Ok-clause-set g c =
-    let wrote = c.rewrite.ensures in
-    let whole : length c.in-Ok.bytes.items % 40 ≡ 0 = omega (arith, c.in-Ok.ensures.length, c.deref.ensures.len) in
-    on_ok_both c.rewrite.result
-    (λ named loaded value held.
-    holds_rewritten _ _ _ _ _ _ c.in-Ok.bytes.items value _ wrote.same_telling
-    (λ told. ap (λ (name : List ℕ). g.S.Store.files c.rewrite.new.store name) wrote.same_name ∙ named told)
-    loaded
-    (λ stands. stands_graced c.args.self.now.bytes.items _ value c.args.grace stands whole c.in-Ok.ensures.block c.in-Ok.ensures.inode
-    (rw c.deref.ensures.value at c.in-Ok.ensures.others) c.requires.fits)
-    held)
-    wrote.named wrote.loaded
+    let whole : length c.in-Ok.bytes.items % 40 ≡ 0 = omega (arith, rw c.deref.ensures.value at c.in-Ok.ensures.long, c.args.self.now.bytes.ok.0) in
+    on_ok_weaker c.rewrite.result
+    (λ holds value. holds value _ (λ stands. stands_graced c.args.self.now.bytes.items _ value c.args.grace stands whole c.in-Ok.ensures.block c.in-Ok.ensures.inode
+    (rw c.deref.ensures.value at c.in-Ok.ensures.others) c.requires.fits))
+    c.rewrite.ensures.holds
 
-pub returns-in-Ok-clause-block_time : goal.returns-in-Ok-clause-block_time
-returns-in-Ok-clause-block_time g c =
-    on_ok_weaker c.rewrite.result (λ loaded. ap (λ (file : List ℕ). number_at 8 file 24) loaded ∙ c.in-Ok.ensures.block) c.rewrite.ensures.loaded
+pub returns-in-Ok-clause-makes : goal.returns-in-Ok-clause-makes
+returns-in-Ok-clause-makes g c =
+    let graced : FlatGraced c.args.grace c.args.self.now.bytes.items c.in-Ok.bytes.items =
+    record {
+      long = rw c.deref.ensures.value at c.in-Ok.ensures.long;
+      others = rw c.deref.ensures.value at c.in-Ok.ensures.others;
+      block_time = c.in-Ok.ensures.block;
+      inode_time = c.in-Ok.ensures.inode;
+    } in
+    on_ok_weaker c.rewrite.result
+    (λ wrote value held. anew_rewritten (FlatGraced c.args.grace) _ _ _ _ _ held.same (wrote held.told) graced)
+    c.rewrite.ensures.ok
 
-pub returns-in-Ok-clause-inode_time : goal.returns-in-Ok-clause-inode_time
-returns-in-Ok-clause-inode_time g c =
-    on_ok_weaker c.rewrite.result (λ loaded. ap (λ (file : List ℕ). number_at 8 file 32) loaded ∙ c.in-Ok.ensures.inode) c.rewrite.ensures.loaded
+pub returns-in-Ok-clause-left : goal.returns-in-Ok-clause-left
+returns-in-Ok-clause-left g c =
+    let files = (g.S.Store.seen c.args.store.now).files in
+    let after = replaced_files files (string_bytes c.args.self.now.name) c.in-Ok.bytes.items in
+    let graced : FlatGraced c.args.grace c.args.self.now.bytes.items c.in-Ok.bytes.items =
+    record {
+      long = rw c.deref.ensures.value at c.in-Ok.ensures.long;
+      others = rw c.deref.ensures.value at c.in-Ok.ensures.others;
+      block_time = c.in-Ok.ensures.block;
+      inode_time = c.in-Ok.ensures.inode;
+    } in
+    on_store_fault c.rewrite.result
+    (λ kept value held. left_as_before _ files _ after _ (anew_rewritten (FlatGraced c.args.grace) files after _ _ _ held.same refl graced) kept)
+    c.rewrite.ensures.unchanged
+
+pub returns-in-Ok-clause-between : goal.returns-in-Ok-clause-between
+returns-in-Ok-clause-between g c = left_between c.rewrite.result _ _ _ (string_bytes c.args.self.now.name) c.rewrite.ensures.unchanged

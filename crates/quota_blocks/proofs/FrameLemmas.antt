@@ -1,0 +1,137 @@
+-- What calls on a store leave, for no call and for two in a row.
+use Rattle.std.proofs.Common.{◌≡◌, inl, inr, ℕ, false, IsTrue, List, refl, sym, subst, ◌∙◌, arith}
+use Rattle.std.proofs.lemmas.Bool.{cases_Bool, false≢true}
+use Rattle.quota_blocks.specs.Frame.{ChangesOne, ChangesTwo, IsSynced, OnlyReads, ReplacesOne}
+use Rattle.quota_blocks.specs.Replace.{replacement_name}
+use Rattle.quota_blocks.specs.Seen.{StoreSeen}
+use Rattle.quota_blocks.specs.Unsynced.{AddsNone, Names}
+use Rattle.quota_blocks.specs.World.{KeepsOthers, KeepsOtherTwo}
+
+-- where nothing changed all others are as they were
+pub keeps_others-same : {T : Type 0} (name : List ℕ) (old new : List ℕ → T) → new ≡ old → KeepsOthers name old new
+keeps_others-same name old new same other differ i = same i other
+
+pub keeps_others-then : {T : Type 0} (name : List ℕ) (old between new : List ℕ → T) → KeepsOthers name old between → KeepsOthers name between new → KeepsOthers name old new
+keeps_others-then name old between new first second other differ = second other differ ∙ first other differ
+
+pub keeps_other_two-then : {T : Type 0} (one two : List ℕ) (old between new : List ℕ → T) → KeepsOtherTwo one two old between → KeepsOtherTwo one two between new → KeepsOtherTwo one two old new
+keeps_other_two-then one two old between new first second other differ differs = second other differ differs ∙ first other differ differs
+
+-- a call that was not made reads only
+pub only_reads-none : (name : List ℕ) (seen : StoreSeen) → OnlyReads name seen seen
+only_reads-none name seen = record { files = refl; unsynced = λ other differ. refl; later = omega arith; writes = refl }
+
+pub only_reads-then : (name : List ℕ) (old between new : StoreSeen) → OnlyReads name old between → OnlyReads name between new → OnlyReads name old new
+only_reads-then name old between new first second = record {
+  files = second.files ∙ first.files;
+  unsynced = keeps_others-then name _ _ _ first.unsynced second.unsynced;
+  later = omega (arith, first.later, second.later);
+  writes = second.writes ∙ first.writes;
+}
+
+pub changes_one-none : (name : List ℕ) (seen : StoreSeen) → ChangesOne name seen seen
+changes_one-none name seen = record { files = λ other differ. refl; unsynced = λ other differ. refl; later = omega arith; reads = refl }
+
+pub changes_one-then : (name : List ℕ) (old between new : StoreSeen) → ChangesOne name old between → ChangesOne name between new → ChangesOne name old new
+changes_one-then name old between new first second = record {
+  files = keeps_others-then name _ _ _ first.files second.files;
+  unsynced = keeps_others-then name _ _ _ first.unsynced second.unsynced;
+  later = omega (arith, first.later, second.later);
+  reads = second.reads ∙ first.reads;
+}
+
+-- a call that only reads or syncs one name, after a change of it
+pub changes_one-synced : (name : List ℕ) (old between new : StoreSeen) → ChangesOne name old between → OnlyReads name between new → new.reads ≡ between.reads → ChangesOne name old new
+changes_one-synced name old between new first second reads = record {
+  files = keeps_others-then name _ _ _ first.files (keeps_others-same name _ _ second.files);
+  unsynced = keeps_others-then name _ _ _ first.unsynced second.unsynced;
+  later = omega (arith, first.later, second.later);
+  reads = reads ∙ first.reads;
+}
+
+pub changes_two-none : (one two : List ℕ) (seen : StoreSeen) → ChangesTwo one two seen seen
+changes_two-none one two seen = record {
+  files = λ other differ differs. refl;
+  unsynced = λ other differ differs. refl;
+  later = omega arith;
+  reads = refl;
+}
+
+pub changes_two-then : (one two : List ℕ) (old between new : StoreSeen) → ChangesTwo one two old between → ChangesTwo one two between new → ChangesTwo one two old new
+changes_two-then one two old between new first second = record {
+  files = keeps_other_two-then one two _ _ _ first.files second.files;
+  unsynced = keeps_other_two-then one two _ _ _ first.unsynced second.unsynced;
+  later = omega (arith, first.later, second.later);
+  reads = second.reads ∙ first.reads;
+}
+
+pub replaces_one-none : (name : List ℕ) (seen : StoreSeen) → ReplacesOne name seen seen
+replaces_one-none name seen = record { files = λ other differ differs. refl; unsynced = λ other differ differs. refl; later = omega arith }
+
+pub replaces_one-then : (name : List ℕ) (old between new : StoreSeen) → ReplacesOne name old between → ReplacesOne name between new → ReplacesOne name old new
+replaces_one-then name old between new first second = record {
+  files = keeps_other_two-then name (replacement_name name) _ _ _ first.files second.files;
+  unsynced = keeps_other_two-then name (replacement_name name) _ _ _ first.unsynced second.unsynced;
+  later = omega (arith, first.later, second.later);
+}
+
+-- a call that only reads replaces nothing
+pub replaces_one-read : (name : List ℕ) (old new : StoreSeen) → OnlyReads name old new → ReplacesOne name old new
+replaces_one-read name old new read = record {
+  files = λ other differ differs. keeps_others-same name _ _ read.files other differ;
+  unsynced = λ other differ differs. read.unsynced other differ;
+  later = read.later;
+}
+
+-- a change after a call that only reads
+pub replaces_one-after_read : (name : List ℕ) (old between new : StoreSeen) → OnlyReads name old between → ReplacesOne name between new → ReplacesOne name old new
+replaces_one-after_read name old between new first second =
+    replaces_one-then name old between new (replaces_one-read name old between first) second
+
+-- a change of the file that is written under the added name alone
+pub replaces_one-new : (name new_name : List ℕ) (old new : StoreSeen) → new_name ≡ replacement_name name → ChangesOne new_name old new → ReplacesOne name old new
+replaces_one-new name new_name old new is changed = record {
+  files = λ other differ differs. changed.files other (λ same. differs (same ∙ is));
+  unsynced = λ other differ differs. changed.unsynced other (λ same. differs (same ∙ is));
+  later = changed.later;
+}
+
+-- that file is written, and takes the place of the named one
+pub replaces_one-renamed : (name new_name : List ℕ) (old between new : StoreSeen) → new_name ≡ replacement_name name → ChangesOne new_name old between → ChangesTwo new_name name between new → ReplacesOne name old new
+replaces_one-renamed name new_name old between new is changed renamed =
+    replaces_one-then name old between new (replaces_one-new name new_name old between is changed) record {
+      files = λ other differ differs. renamed.files other (λ same. differs (same ∙ is)) differ;
+      unsynced = λ other differ differs. renamed.unsynced other (λ same. differs (same ∙ is)) differ;
+      later = renamed.later;
+    }
+
+-- names that are the same add none
+pub adds_none-same : (old new : Names) → new ≡ old → AddsNone old new
+adds_none-same old new same name is = subst (λ (n : Names). IsTrue (n name)) same is
+
+pub adds_none-then : (old between new : Names) → AddsNone old between → AddsNone between new → AddsNone old new
+adds_none-then old between new first second name is = first name (second name is)
+
+-- a name that was synced is synced after a call that made no name unsynced
+still_synced : (name : List ℕ) (old new : Names) → AddsNone old new → old name ≡ false → new name ≡ false
+still_synced name old new adds was =
+    elim (cases_Bool (new name)) [
+      | inl is ↦ absurd (false≢true (sym was ∙ adds name is))
+      | inr is ↦ is
+    ]
+
+pub is_synced-none : (name : List ℕ) (seen : StoreSeen) → IsSynced name seen seen
+is_synced-none name seen = record { none = λ other is. is; named = inr refl }
+
+pub is_synced-then : (name : List ℕ) (old between new : StoreSeen) → IsSynced name old between → IsSynced name between new → IsSynced name old new
+is_synced-then name old between new first second = record {
+  none = adds_none-then old.unsynced between.unsynced new.unsynced first.none second.none;
+  named =
+      elim second.named [
+        | inl synced ↦ inl synced
+        | inr unwritten ↦ elim first.named [
+          | inl synced ↦ inl (still_synced name between.unsynced new.unsynced second.none synced)
+          | inr none ↦ inr (unwritten ∙ none)
+        ]
+      ];
+}

@@ -1,0 +1,46 @@
+-- What a call on a store leaves as it was.
+use Rattle.std.specs.Prelude.{◌≡◌, ◌≤◌, ◌⊎◌, ℕ, false, List}
+use Rattle.quota_blocks.specs.Replace.{ReplacesOnly, replacement_name}
+use Rattle.quota_blocks.specs.Seen.{StoreSeen}
+use Rattle.quota_blocks.specs.Unsynced.{AddsNone, Names, with_name}
+use Rattle.quota_blocks.specs.World.{KeepsOthers, KeepsOtherTwo}
+
+-- A call that only reads or syncs one name leaves all files and makes no call of `write`; of the other names all are as
+-- unsynced as they were.
+pub record OnlyReads (name : List ℕ) (old new : StoreSeen) : Type 0 where
+  pub files : new.files ≡ old.files
+  pub unsynced : KeepsOthers name old.unsynced new.unsynced
+  pub later : old.faults ≤ new.faults
+  pub writes : new.writes ≡ old.writes
+
+-- A change of one name leaves all other files, and all other names as unsynced as they were. It reads nothing.
+pub record ChangesOne (name : List ℕ) (old new : StoreSeen) : Type 0 where
+  pub files : KeepsOthers name old.files new.files
+  pub unsynced : KeepsOthers name old.unsynced new.unsynced
+  pub later : old.faults ≤ new.faults
+  pub reads : new.reads ≡ old.reads
+
+-- A change of two names leaves all other files, and all other names as unsynced as they were. It reads nothing.
+pub record ChangesTwo (one two : List ℕ) (old new : StoreSeen) : Type 0 where
+  pub files : KeepsOtherTwo one two old.files new.files
+  pub unsynced : KeepsOtherTwo one two old.unsynced new.unsynced
+  pub later : old.faults ≤ new.faults
+  pub reads : new.reads ≡ old.reads
+
+-- A change of a file that may be written anew leaves all files but the named one and the one with `.new` added to its
+-- name, and all other names as unsynced as they were.
+pub record ReplacesOne (name : List ℕ) (old new : StoreSeen) : Type 0 where
+  pub files : ReplacesOnly name old.files new.files
+  pub unsynced : ReplacesOnly name old.unsynced new.unsynced
+  pub later : old.faults ≤ new.faults
+
+-- A change that was done has been synced: no name is unsynced that was not, and the named one is not, unless nothing was
+-- written.
+pub record IsSynced (name : List ℕ) (old new : StoreSeen) : Type 0 where
+  pub none : AddsNone old.unsynced new.unsynced
+  pub named : (new.unsynced name ≡ false) ⊎ (new.writes ≡ old.writes)
+
+-- the names that are unsynced once a file was replaced: neither the one of the file nor the one that the new file was
+-- written under
+abbrev pub replaced_names : Names → List ℕ → Names
+replaced_names names name = with_name (with_name names (replacement_name name) false) name false

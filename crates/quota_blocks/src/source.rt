@@ -1,0 +1,45 @@
+ghost use Rattle.std.specs.Prelude.{◌≡◌, ◌≤◌, ◌++◌, ◌⊎◌, Bool, [], length, take, IsTrue, IfOk, OnErr};
+ghost use Rattle.quota_blocks.specs.Count.{Rose};
+ghost use Rattle.quota_blocks.specs.Seen.{SourceSeen};
+
+/// A call on a source failed.
+#[derive(Clone, Copy, Debug, PartialEq, Eq)]
+pub struct SourceFault;
+
+/// Something that bytes are read from, from its beginning to its end, such as standard input.
+///
+/// Whatever a source tells, a call fails only where its count of faults rose in that call, and a number of bytes that a
+/// call answers fits the buffer.
+pub trait Source {
+    /// Whether sources of this type tell what is left in them.
+    ghost tells: { Bool };
+
+    /// The bytes that are left, which count only where the source tells them, and the count of faults.
+    ghost seen: { Self → SourceSeen };
+
+    /// What a source keeps along its calls, such as the files of the store that it reads from.
+    ghost keeps: { Self → Self → Type 0 };
+
+    /// Takes bytes from the front into `buf`, and answers how many: at least one where `buf` has room for one and bytes
+    /// are left.
+    ///
+    /// # Errors
+    ///
+    /// The source failed. No byte was taken, but `buf` may hold anything.
+    fn read(&mut self, buf: &mut [u8]) -> Result<usize, SourceFault>
+        ensures fits { IfOk result (λ count. count ≤ length buf.new) }
+        ensures taken { IfOk result (λ count. IsTrue tells
+            → (seen self.old).left ≡ take count buf.new ++ (seen self.new).left) }
+        ensures end { IfOk result (λ count. IsTrue tells → count ≡ 0
+            → (length buf.old ≡ 0) ⊎ ((seen self.old).left ≡ [])) }
+        ensures fault { OnErr result (IsTrue tells → (seen self.new).left ≡ (seen self.old).left) }
+        ensures cause { OnErr result (Rose (seen self.old).faults (seen self.new).faults) }
+        ensures later { (seen self.old).faults ≤ (seen self.new).faults }
+        ensures keeps { keeps self.old self.new };
+
+    /// A source keeps along with itself what it keeps.
+    ghost keeps_itself: { (source : Self) → keeps source source };
+
+    /// What is kept along two stretches is kept along both in a row.
+    ghost keeps_on: { (first between last : Self) → keeps first between → keeps between last → keeps first last };
+}

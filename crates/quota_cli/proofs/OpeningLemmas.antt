@@ -1,0 +1,148 @@
+-- Commands that open a file: what was done where it was not opened, and where its report was written.
+use Rattle.std.proofs.Common.{◌≡◌, ℕ, ◌≤◌, Bool, IsTrue, List, [], Option, None, Some, Ok, Err, Result, refl, sym, ap, arith, append-nil}
+use Rattle.std.proofs.lemmas.Option.{none-some}
+use Rattle.quota_types.specs.declared.file_kind.Kind.{Kind}
+use Rattle.quota_types.specs.declared.file_kind.Format.TheVariants.{V1}
+use Rattle.quota_blocks.specs.Frame.{OnlyReads}
+use Rattle.quota_blocks.specs.QuotaValue.{QuotaValue}
+use Rattle.quota_blocks.specs.Seen.{SinkSeen, StoreSeen}
+use Rattle.quota_blocks.specs.World.{World}
+use Rattle.quota_blocks.specs.declared.quota_file.OpenFault.{OpenFault}
+use Rattle.quota_blocks.specs.declared.quota_file.OpenFault.TheVariants.{Store, NoFile, TooLarge, Memory, NotQuota, WrongKind, UnknownVersion, BadBlockCount, FormatMismatch, Damage}
+use Rattle.quota_v1.specs.View.{IsFlatFault, IsFlatView}
+use Rattle.quota_v1.proofs.ViewLemmas.{seen_or_refused}
+use Rattle.quota_cli.specs.declared.refusal.cause.Cause.{Cause}
+use Rattle.quota_cli.specs.declared.refusal.reason.Refusal.{Refusal}
+use Rattle.quota_cli.specs.Act.{Act, IsView}
+use Rattle.quota_cli.specs.Done.{AreDoneInPart, IsLater, IsUnwritten, IsWorldTold, Outside, RunSeen, RunTells, outside_of}
+use Rattle.quota_cli.specs.Opening.{MayRefuseOpening, opened, opening_cause}
+use Rattle.quota_cli.specs.Run.{CarriesOut, HasReason, HasSteps, IsFault, Uses}
+use Rattle.quota_cli.specs.Steps.{Opening, Steps, Then}
+use Rattle.quota_cli.proofs.ActLemmas.{nothing_done}
+
+-- what is seen once the store was used, and once the output was used too
+abbrev pub with_store : RunSeen → StoreSeen → RunSeen
+with_store seen store = record seen { store = store }
+
+abbrev pub with_out : RunSeen → StoreSeen → SinkSeen → RunSeen
+with_out seen store out = record seen { store = store; out = out }
+
+-- the files of what is met outside, alone
+abbrev outside_with : RunSeen → World → Outside
+outside_with seen files = record { files = files; input = seen.input.left; datagrams = seen.link.left }
+
+-- where files were only read, what is met outside is as it was
+pub outside_same : (seen : RunSeen) (store : StoreSeen) → store.files ≡ seen.store.files → outside_of (with_store seen store) ≡ outside_of seen
+outside_same seen store same = ap (λ (files : World). outside_with seen files) same
+
+-- a call that only read wrote nothing
+pub unwritten : (name : List ℕ) (old new : StoreSeen) → OnlyReads name old new → IsUnwritten old new
+unwritten name old new reads = record { files = reads.files; writes = reads.writes }
+
+-- nothing was done where the store was only read
+pub nothing_read : (name : List ℕ) (tells : RunTells) (acts : List Act) (old : RunSeen) (store : StoreSeen) → OnlyReads name old.store store → AreDoneInPart tells acts old (with_store old store)
+nothing_read name tells acts old store reads =
+    nothing_done tells acts old (with_store old store) reads.files (λ told. refl) (λ told. refl) refl reads.writes
+
+-- no act, and a refusal
+pub refused_steps : (name : List ℕ) (steps : Steps) (tells : RunTells) (old : RunSeen) (store : StoreSeen) (refusal : Refusal) → OnlyReads name old.store store
+    → ((new : Outside) → new ≡ outside_of old → steps (outside_of old) [] new (Some refusal)) → HasSteps steps tells (Some refusal) old (with_store old store)
+refused_steps name steps tells old store refusal reads by = record {
+  acts = [];
+  by_steps = by (outside_of (with_store old store)) (outside_same old store reads.files);
+  done = record {
+    files = reads.files;
+    out = λ told. sym (append-nil old.out.written);
+    err = λ told. sym (append-nil old.err.written);
+    answered = sym (append-nil old.link.answers);
+    writes = λ none. reads.writes;
+  };
+}
+
+-- nothing faded while the store was used
+pub store_later : (old : RunSeen) (store : StoreSeen) → old.store.faults ≤ store.faults → IsLater old (with_store old store)
+store_later old store later = record { store = later; input = omega arith; out = omega arith; err = omega arith; link = omega arith }
+
+-- a file that is seen as refused
+not_opened_steps : (kind : Kind) (name : List ℕ) (next : QuotaValue → Steps) (old new : Outside) (fault : OpenFault) → IsFlatView (old.files name) kind (Err fault) → new ≡ old
+    → Opening kind (Some V1) name next old [] new (Some (record { cause = opening_cause fault; name = name }))
+not_opened_steps kind name next old new fault view same = (Err fault, view, record { acts_none = refl; same = same; ends = refl })
+
+-- steps that may pass see the file as a value
+passes_seen : (kind : Kind) (name : List ℕ) (next : QuotaValue → Steps) (old new : Outside) (acts : List Act) (seen : Result QuotaValue OpenFault)
+    → IsView (old.files name) kind (Some V1) seen → Then (opened name seen) next old acts new None → (value : QuotaValue) × IsFlatView (old.files name) kind (Ok value)
+passes_seen kind name next old new acts (Ok value) view then = (value, view)
+passes_seen kind name next old new acts (Err fault) view then = absurd (none-some _ then.ends)
+
+pub passes_open : (kind : Kind) (name : List ℕ) (next : QuotaValue → Steps) (old new : Outside) (acts : List Act)
+    → Opening kind (Some V1) name next old acts new None → (value : QuotaValue) × IsFlatView (old.files name) kind (Ok value)
+passes_open kind name next old new acts opening = passes_seen kind name next old new acts opening.0 opening.1 opening.2
+
+no_pass : (kind : Kind) (name : List ℕ) (next : QuotaValue → Steps) (old new : Outside) (acts : List Act) (fault : OpenFault)
+    → IsFlatView (old.files name) kind (Err fault) → Opening kind (Some V1) name next old acts new None → ⊥
+no_pass kind name next old new acts fault view opening =
+    let passes = passes_open kind name next old new acts opening in seen_or_refused (old.files name) kind passes.0 fault passes.1 view
+
+-- the reason for which a file was not opened
+open_reason : (name : List ℕ) (kind : Kind) (next : QuotaValue → Steps) (tells : RunTells) (old : RunSeen) (store : StoreSeen) (fault : OpenFault)
+    → OnlyReads name old.store store → IsFlatFault old.store.faults store.faults tells.store (old.store.files name) fault
+    → HasReason old (with_store old store)
+    (IsWorldTold tells → HasSteps (Opening kind (Some V1) name next) tells (Some (record { cause = opening_cause fault; name = name })) old (with_store old store)) (opening_cause fault)
+open_reason name kind next tells old store Store reads cause = cause
+open_reason name kind next tells old store NoFile reads cause = λ told.
+    refused_steps name (Opening kind (Some V1) name next) tells old store _ reads (λ new same. not_opened_steps kind name next (outside_of old) new NoFile (cause told.store) same)
+open_reason name kind next tells old store (TooLarge number limit) reads cause = λ told.
+    refused_steps name (Opening kind (Some V1) name next) tells old store _ reads (λ new same. not_opened_steps kind name next (outside_of old) new (TooLarge number limit) (cause.1 told.store, cause.0) same)
+open_reason name kind next tells old store Memory reads cause = tt
+open_reason name kind next tells old store NotQuota reads cause = absurd cause
+open_reason name kind next tells old store WrongKind reads cause = absurd cause
+open_reason name kind next tells old store UnknownVersion reads cause = absurd cause
+open_reason name kind next tells old store BadBlockCount reads cause = absurd cause
+open_reason name kind next tells old store (FormatMismatch found) reads cause = absurd cause
+open_reason name kind next tells old store (Damage damage) reads cause = λ told.
+    refused_steps name (Opening kind (Some V1) name next) tells old store _ reads (λ new same. not_opened_steps kind name next (outside_of old) new (Damage damage) (cause.1 told.store) same)
+
+-- a file that may be opened is not opened only by a fault, or for want of memory
+open_complete : (name : List ℕ) (kind : Kind) (next : QuotaValue → Steps) (tells : RunTells) (old : RunSeen) (before now : ℕ) (fault : OpenFault) (acts : List Act) (to : Outside)
+    → IsFlatFault before now tells.store (old.store.files name) fault → IsTrue tells.store → Opening kind (Some V1) name next (outside_of old) acts to None → IsFault (opening_cause fault)
+open_complete name kind next tells old before now Store acts to cause told steps = tt
+open_complete name kind next tells old before now NoFile acts to cause told steps = absurd (no_pass kind name next (outside_of old) to acts NoFile (cause told) steps)
+open_complete name kind next tells old before now (TooLarge number limit) acts to cause told steps =
+    absurd (no_pass kind name next (outside_of old) to acts (TooLarge number limit) (cause.1 told, cause.0) steps)
+open_complete name kind next tells old before now Memory acts to cause told steps = tt
+open_complete name kind next tells old before now NotQuota acts to cause told steps = absurd cause
+open_complete name kind next tells old before now WrongKind acts to cause told steps = absurd cause
+open_complete name kind next tells old before now UnknownVersion acts to cause told steps = absurd cause
+open_complete name kind next tells old before now BadBlockCount acts to cause told steps = absurd cause
+open_complete name kind next tells old before now (FormatMismatch found) acts to cause told steps = absurd cause
+open_complete name kind next tells old before now (Damage damage) acts to cause told steps =
+    absurd (no_pass kind name next (outside_of old) to acts (Damage damage) (cause.1 told) steps)
+
+open_may : (name : List ℕ) (before now : ℕ) (tells : Bool) (named : Option (List ℕ)) (fault : OpenFault) → IsFlatFault before now tells named fault → MayRefuseOpening name (opening_cause fault) name
+open_may name before now tells named Store cause = tt
+open_may name before now tells named NoFile cause = refl
+open_may name before now tells named (TooLarge number limit) cause = refl
+open_may name before now tells named Memory cause = tt
+open_may name before now tells named NotQuota cause = absurd cause
+open_may name before now tells named WrongKind cause = absurd cause
+open_may name before now tells named UnknownVersion cause = absurd cause
+open_may name before now tells named BadBlockCount cause = absurd cause
+open_may name before now tells named (FormatMismatch found) cause = absurd cause
+open_may name before now tells named (Damage damage) cause = (cause.0.0, cause.0.1, refl)
+
+-- A command that opens a file was carried out where that file was not opened.
+pub not_opened : (kind : Kind) (name : List ℕ) (next : QuotaValue → Steps) (uses : Uses) (may : Cause → List ℕ → Type 0) (tells : RunTells) (old : RunSeen) (store : StoreSeen) (fault : OpenFault)
+    → IsFlatFault old.store.faults store.faults tells.store (old.store.files name) fault → OnlyReads name old.store store
+    → ((cause : Cause) → MayRefuseOpening name cause name → may cause name)
+    → CarriesOut (Opening kind (Some V1) name next) uses may tells old (with_store old store) (Err (record { cause = opening_cause fault; name = name }))
+not_opened kind name next uses may tells old store fault cause reads allowed = record {
+  done = tt;
+  refused = open_reason name kind next tells old store fault reads cause;
+  part = λ told acts to ended steps. nothing_read name tells acts old store reads;
+  complete = λ told acts to steps. open_complete name kind next tells old old.store.faults store.faults fault acts to cause told.store steps;
+  may_refuse = allowed (opening_cause fault) (open_may name old.store.faults store.faults tells.store (old.store.files name) fault cause);
+  only_reads = λ only. unwritten name old.store store reads;
+  all_or_nothing = λ whole other. unwritten name old.store store reads;
+  silent = refl;
+  later = store_later old store reads.later;
+}

@@ -1,0 +1,4 @@
+-- The commands, one module each, and the tables over all of them.
+pub mod Report
+pub mod Limits
+pub mod Table

@@ -1,0 +1,37 @@
+ghost use Rattle.std.specs.Prelude.{◌≡◌};
+
+use quota_blocks::{Sink, SinkFault};
+use std::io::Write;
+
+/// A stream of the system as a sink, such as standard output. It tells nothing of what was written.
+#[derive(Drop)]
+pub struct StreamSink<W> {
+    stream: W,
+    faults: u64,
+}
+
+impl<W> StreamSink<W> {
+    /// The stream, which has not failed yet.
+    pub fn new(stream: W) -> Self
+        ensures { result.faults ≡ 0 }
+    {
+        StreamSink { stream, faults: 0 }
+    }
+}
+
+impl<W: Write> Sink for StreamSink<W> {
+    ghost use Rattle.std.specs.Prelude.{false, []};
+
+    ghost tells = { false };
+
+    ghost seen = { λ s. record { written = []; faults = s.faults } };
+
+    /// Writes all the bytes, in as many calls of the system as it takes.
+    fn write(&mut self, bytes: &[u8]) -> Result<(), SinkFault> {
+        if self.stream.write_all(bytes).is_err() {
+            self.faults = self.faults.saturating_add(1);
+            return Err(SinkFault);
+        }
+        Ok(())
+    }
+}

@@ -1,0 +1,64 @@
+//! The commands, one module each, behind one contract that all of them share.
+ghost use Rattle.std.specs.Prelude.{ℕ, Option, ◌≡◌, ◌⊎◌, Bool, false, None, Some, Err, IsErrAnd, IsTrue, IfSome, OnOk, OnErr};
+ghost use Rattle.quota_blocks.specs.Unsynced.{AddsNone};
+ghost use Rattle.quota_cli.specs.Done.{seen_of, tells_of};
+ghost use Rattle.quota_cli.specs.Run.{CarriesOut};
+ghost use Rattle.quota_cli.specs.commands.Table.{MayRefuseCommand, StepsOf, faulty_word, replaced_file, uses_of};
+ghost use Rattle.quota_cli.specs.declared.refusal.reason.Refusal.{Refusal};
+
+mod limits;
+mod opening;
+mod report;
+
+use crate::refusal::Refusal;
+use crate::words::{Command, read_edit};
+use quota_blocks::{Link, Sink, Source, Store};
+use std::alloc::Global;
+
+/// Carries out a command, but for its error line.
+///
+/// # Errors
+///
+/// The command is refused at one of its steps, an object outside fails, or there is not enough memory.
+pub fn carry_out<S: Store, I: Source, O: Sink, E: Sink, L: Link>(
+    alloc: Global,
+    command: Command,
+    store: &mut S,
+    input: &mut I,
+    out: &mut O,
+    err: &mut E,
+    link: &mut L,
+    now: u64,
+) -> Result<(), Refusal>
+    ensures carries { (line : Option ℕ) → CarriesOut (StepsOf command (record { now = now; line = line })) (uses_of command) (MayRefuseCommand command)
+        (tells_of S.tells I.tells O.tells E.tells L.tells)
+        (seen_of (S.seen store.old) (I.seen input.old) (O.seen out.old) (E.seen err.old) (L.seen link.old))
+        (seen_of (S.seen store.new) (I.seen input.new) (O.seen out.new) (E.seen err.new) (L.seen link.new)) result }
+    ensures word { (refusal : Refusal) → faulty_word command ≡ Some refusal → result ≡ Err refusal }
+    ensures named { IfSome (replaced_file command) (λ file. OnErr result (IsTrue S.tells
+        → (S.seen store.new).files file ≡ (S.seen store.old).files file)) }
+    ensures synced { OnOk result (IsTrue S.tells
+        → AddsNone (S.seen store.old).unsynced (S.seen store.new).unsynced) }
+    ensures store { (refusal : Refusal) → faulty_word command ≡ Some refusal → store.new ≡ store.old }
+    ensures input { (uses_of command).input ≡ false → input.new ≡ input.old }
+    ensures out { (uses_of command).out ≡ false → out.new ≡ out.old }
+    ensures err { err.new ≡ err.old }
+    ensures link { (uses_of command).link ≡ false → link.new ≡ link.old }
+{
+    match command {
+        Command::Report {
+            common,
+            options,
+            file,
+        } => report::report_file(alloc, common, &options, file, store, out, now),
+        Command::SetLimits {
+            common,
+            name,
+            limits,
+            file,
+        } => match read_edit(alloc, name, limits) {
+            Ok(edit) => limits::edit_limits(alloc, common, &edit, file, store, now),
+            Err(refusal) => Err(refusal),
+        },
+    }
+}

@@ -1,0 +1,70 @@
+ghost use Rattle.std.specs.Prelude.{ℕ, Option, ◌≡◌, Bool, OnOk};
+ghost use Rattle.quota_blocks.specs.Seen.{LinkSeen, SinkSeen, SourceSeen};
+ghost use Rattle.quota_blocks.specs.Unsynced.{AddsNone};
+ghost use Rattle.quota_cli.specs.Done.{seen_of, tells_of};
+ghost use Rattle.quota_cli.specs.Run.{CarriesOut};
+ghost use Rattle.quota_cli.specs.commands.Report.{ReportMayRefuse, ReportSteps, report_cause, report_uses};
+
+use super::opening::{file_cause, opening_cause};
+use crate::refusal::{Cause, Refusal};
+use crate::words::{Common, Word};
+use quota_blocks::{Sink, Store};
+use quota_v1::open_v1;
+use report_text::{Options, ReportFault, report};
+use std::alloc::Global;
+
+/// Writes the report of a flat file to the output.
+///
+/// # Errors
+///
+/// The file is not opened, a lookup in it is refused, or the output fails.
+pub fn report_file<S: Store, O: Sink>(
+    alloc: Global,
+    common: Common,
+    options: &Options,
+    file: Word,
+    store: &mut S,
+    out: &mut O,
+    now: u64,
+) -> Result<(), Refusal>
+    ensures carries { (input : SourceSeen) (err : SinkSeen) (link : LinkSeen) (input_tells err_tells link_tells : Bool) (line : Option ℕ)
+        → CarriesOut (ReportSteps common options.now file (record { now = now; line = line })) report_uses (ReportMayRefuse file)
+        (tells_of S.tells input_tells O.tells err_tells link_tells)
+        (seen_of (S.seen store.old) input (O.seen out.old) err link)
+        (seen_of (S.seen store.new) input (O.seen out.new) err link) result }
+    ensures synced { OnOk result (AddsNone (S.seen store.old).unsynced (S.seen store.new).unsynced) }
+{
+    match open_v1(alloc, store, file.as_str()) {
+        Ok(mut opened) => {
+            match report(
+                &mut opened,
+                store,
+                common.kind,
+                file.as_str(),
+                now,
+                options,
+                out,
+            ) {
+                Ok(()) => Ok(()),
+                Err(fault) => Err(Refusal {
+                    cause: report_cause(fault),
+                    name: file,
+                }),
+            }
+        }
+        Err(fault) => Err(Refusal {
+            cause: opening_cause(fault),
+            name: file,
+        }),
+    }
+}
+
+/// What is said where a report was not written whole.
+fn report_cause(fault: ReportFault) -> Cause
+    ensures { result ≡ report_cause fault }
+{
+    match fault {
+        ReportFault::Sink => Cause::SinkFault,
+        ReportFault::File(fault) => file_cause(fault),
+    }
+}

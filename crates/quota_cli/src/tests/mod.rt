@@ -1,0 +1,7 @@
+//! Whole runs over objects in memory, each row of a table one run, and the link over a socket of the system.
+
+mod calls;
+mod limits;
+mod report;
+mod runs;
+mod udp;

@@ -1,0 +1,116 @@
+use crate::run::run;
+use quota_blocks::{Link, LinkFault, MemLink, MemSink, MemSource, MemStore, Source, SourceFault};
+use std::alloc::{AllocError, Global};
+use std::process::Abort;
+
+/// The moment of a run, in seconds since 1970.
+pub(crate) const NOW: u64 = 1_700_000_000;
+
+/// The calls of the store, the output and the error output that are to fail, by their numbers; 0 is none.
+#[derive(Clone, Copy)]
+pub(crate) struct Failing {
+    pub store: u64,
+    pub out: u64,
+    pub err: u64,
+}
+
+pub(crate) const NONE: Failing = Failing {
+    store: 0,
+    out: 0,
+    err: 0,
+};
+
+/// What a run left: the status, the files, and what went to the output and to the error output.
+#[derive(Drop)]
+pub(crate) struct Ran {
+    pub status: u8,
+    pub store: MemStore,
+    pub out: MemSink,
+    pub err: MemSink,
+}
+
+impl Ran {
+    /// What went to the output from a place on.
+    pub(crate) fn out_from(&self, place: usize) -> &[u8] {
+        self.out.bytes().get(place..).unwrap_or(b"")
+    }
+
+    /// The bytes of a file, where there is one.
+    pub(crate) fn file(&self, name: &str) -> Option<&[u8]> {
+        self.store.file(name)
+    }
+}
+
+/// The words of a line.
+pub(crate) fn words_of(alloc: Global, line: &str) -> Result<Vec<String>, AllocError> {
+    let mut words = Vec::new(alloc);
+    for word in line.split(' ') {
+        words.push(String::from_str(alloc, word)?)?;
+    }
+    Ok(words)
+}
+
+/// A store with a file named `q`, and one named `other` of the bytes `other`, of which one call is to fail.
+pub(crate) fn store_of(alloc: Global, bytes: &[u8], failing: u64) -> Result<MemStore, AllocError> {
+    let mut files = Vec::new(alloc);
+    files.push((
+        String::from_str(alloc, "q")?,
+        Vec::from_slice(alloc, bytes)?,
+    ))?;
+    files.push((
+        String::from_str(alloc, "other")?,
+        Vec::from_slice(alloc, b"other")?,
+    ))?;
+    Ok(MemStore::new(files, Vec::from_slice(alloc, &[failing])?))
+}
+
+/// An output to which nothing was written, of which one call is to fail.
+pub(crate) fn sink_of(alloc: Global, failing: u64) -> Result<MemSink, AllocError> {
+    Ok(MemSink::new(Vec::new(alloc), Vec::from_slice(alloc, &[failing])?))
+}
+
+/// Runs the words of a line over the store of [`store_of`], and asserts that the run made no call of its input and of
+/// its link.
+pub(crate) fn run_over(
+    rt: &impl Abort,
+    alloc: Global,
+    line: &str,
+    bytes: &[u8],
+    now: u64,
+    failing: Failing,
+) -> Result<Ran, AllocError> {
+    let words = words_of(alloc, line)?;
+    let mut store = store_of(alloc, bytes, failing.store)?;
+    let mut out = sink_of(alloc, failing.out)?;
+    let mut err = sink_of(alloc, failing.err)?;
+    // the first call of each fails, and no other one
+    let mut input = MemSource::new(Vec::from_slice(alloc, b"input")?, vec![in alloc; 1]?);
+    let mut link = MemLink::new(Vec::new(alloc), vec![in alloc; 1]?);
+    let status = run(
+        alloc, &words, &mut store, &mut input, &mut out, &mut err, &mut link, now,
+    );
+    assert_eq!(rt; input.left(), b"input".as_slice(), "{line}");
+    assert!(rt; link.answers().is_empty(), "{line}");
+    assert_eq!(rt; input.read(&mut [0]), Err(SourceFault), "{line}");
+    assert_eq!(rt; link.start(0), Err(LinkFault), "{line}");
+    Ok(Ran {
+        status,
+        store,
+        out,
+        err,
+    })
+}
+
+/// Appends a record of a flat file, from its numbers in their order on disk: hard limit, soft limit and use of blocks,
+/// the same of inodes, and the two times. The first six have 32 bits.
+pub(crate) fn push_record(bytes: &mut Vec<u8>, numbers: &str) -> Result<(), AllocError> {
+    for (place, word) in numbers.split(' ').enumerate() {
+        let Ok(number) = word.parse::<u64>() else {
+            // a misspelt number leaves a cut record, with which no report is made
+            break;
+        };
+        let width = if place < 6 { 4 } else { 8 };
+        bytes.extend_from_slice(&number.to_le_bytes()[..width])?;
+    }
+    Ok(())
+}
