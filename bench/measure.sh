@@ -1,6 +1,6 @@
 # What the benchmarks share; each of them sources this file. It makes a folder, which is removed when the script ends, and
-# in it a full flat file `q` and a text dump of it. `top` is the top of the repository, and `program` the built program.
-# A command that fails ends the benchmark with its status.
+# in it a file `q` and a text dump of it, by the script that `maker` names (a full flat file where it names none). `top` is
+# the top of the repository, and `program` the built program. A command that fails ends the benchmark with its status.
 set -euo pipefail
 shopt -s inherit_errexit
 top=$(cd "$(dirname "${BASH_SOURCE[0]}")/.." && pwd)
@@ -8,7 +8,7 @@ program=$top/crates/quota_cli/out/quota_cli
 folder=$(mktemp -d)
 trap 'rm -rf "$folder"' EXIT
 cd "$folder"
-python3 "$top/bench/make_flat_file.py" q dump
+python3 "$top/bench/${maker:-make_flat_file.py}" q dump
 
 # best WORD..: the least of three times, in seconds, of a command.
 best() {

@@ -79,8 +79,15 @@ expect 'a pipe in place of a file' 4 '' 'quota: store fault' repquota -F vfsold 
 rm q
 : >q
 expect 'a path through a file' 1 '' 'quota: q/x: no such file' repquota -F vfsold -u -v q/x
-expect 'other words' 2 '' "$usage" repquota -u q
-expect 'no words' 2 '' "$usage"
+expect 'a file that is no tree file' 3 '' 'quota: q: not a quota file' repquota -u q
+expect 'other words' 2 '' 'quota: usage: UnknownOption at word 2' repquota -u -x q
+expect 'a command that is not built' 2 '' "$usage" quotacheck q
+expect 'no words' 2 '' 'quota: usage: NoCommand at word 0'
+expect 'the version' 0 'quota_cli 0.1.0 (vfsold, vfsv0, vfsv1)' '' --version
+same 'the help' "$("$run" --help | head -n 1)" 'Usage: quota_cli COMMAND [OPTION]... [OPERAND]...'
+got=0
+"$run" --help >/dev/full 2>err.txt || got=$?
+same 'help to a full output' "$got $(cat err.txt)" '4 quota: output fault'
 expect 'a word that is no text' 2 '' "$usage" repquota -F vfsold -u -v $'q\xff'
 
 expect 'the sample' 0 '*** Report for user quotas on quota.user
@@ -155,6 +162,44 @@ ln -s kept q.new
 expect 'a link in place of the new file' 0 '' '' setquota -F vfsold -u 1 1 1 0 0 q
 same 'what the link led to' "$(cat kept)" keep
 same 'the file is no link' "$(stat -c %F q)" 'regular file'
+
+# Each command on each format and kind. A tree file begins with its header alone, which is a file of no records.
+week='\x80\x3a\x09\x00\x80\x3a\x09\x00'
+tail='\x00\x00\x00\x00\x02\x00\x00\x00\x00\x00\x00\x00\x00\x00\x00\x00'
+for row in 'user -u vfsv1 \x11\x1f \x01 User' 'user -u vfsv0 \x11\x1f \x00 User' \
+    'group -g vfsv1 \x27\x19 \x01 Group' 'group -g vfsv0 \x27\x19 \x00 Group' 'group -g vfsold - - Group'; do
+    read -r kind letter format magic version title <<<"$row"
+    if [ "$format" = vfsold ]; then : >t; else printf "$magic\\xc0\\xd9$version\\x00\\x00\\x00$week$tail" >t; fi
+    expect "new limits in $format of a $kind" 0 '' '' setquota "$letter" -F "$format" 1000 100 200 10 20 t
+    expect "a second identifier in $format of a $kind" 0 '' '' setquota "$letter" -F "$format" 70000 1 2 3 4 t
+    expect "the report of $format of a $kind" 0 "*** Report for $kind quotas on t
+Block grace time: 7days; Inode grace time: 7days
+$(printf '%-13s' "$title")         used       soft       hard  grace    files     soft     hard  grace
+-----------------------------------------------------------------------------------------
+#1000        --          0        100        200      -        0       10       20      -
+#70000       --          0          1          2      -        0        3        4      -" '' repquota "$letter" -v -F "$format" t
+    same "nothing is left beside $format of a $kind" "$(echo t.*)" ''
+done
+expect 'a flat file that is not asked for as one' 3 '' 'quota: t: not a quota file' repquota -u t
+
+# The program killed at many moments of a change leaves the old file or the new one.
+printf '\x11\x1f\xc0\xd9\x01\x00\x00\x00'"$week$tail" >tree
+for id in 1 2 3 1000 70000 16777216 4294967295; do "$run" setquota "$id" 1 2 3 4 tree; done
+truncate -s 41943040 flat
+for case in 'tree vfsv1 0.0' 'flat vfsold 0.'; do
+    read -r name format point <<<"$case"
+    cp "$name" old
+    cp "$name" new
+    "$run" setquota -F "$format" 5 1 2 3 4 new
+    kept=0
+    for step in $(seq 10 99); do
+        cp old killed
+        timeout -s KILL "${point}0$step" "$folder/program" setquota -F "$format" 5 1 2 3 4 killed 2>err.txt || true
+        if cmp -s killed old || cmp -s killed new; then kept=$((kept + 1)); fi
+        rm -f killed.new
+    done
+    same "a $format file after a kill is the old or the new one" "$kept" 90
+done
 
 # Another user than root: a file that was left behind and may not be written is not in the way. A permission that is
 # denied, to write in the folder or to read the file, is a fault.

@@ -24,6 +24,7 @@ plan_in failures = record { failing = failures.failing.items; calls = failures.c
 abbrev pub new_plan : List ℕ → Plan
 new_plan failing = record { failing = failing; calls = 0 }
 
+-- what is seen of a store in memory
 abbrev pub mem_store_seen : MemStore → StoreSeen
 mem_store_seen store = record {
   files = file_named store.files.entries.items;
@@ -33,18 +34,23 @@ mem_store_seen store = record {
   writes = store.writes;
 }
 
+-- the plan of a store in memory
 abbrev pub mem_store_plan : MemStore → Plan
 mem_store_plan store = plan_in store.failures
 
+-- what is seen of a sink in memory
 abbrev pub mem_sink_seen : MemSink → SinkSeen
 mem_sink_seen sink = record { written = sink.bytes.items; faults = sink.failures.faults }
 
+-- the plan of a sink in memory
 abbrev pub mem_sink_plan : MemSink → Plan
 mem_sink_plan sink = plan_in sink.failures
 
+-- what is seen of a source in memory: what was not yet taken is left
 abbrev pub mem_source_seen : MemSource → SourceSeen
 mem_source_seen source = record { left = drop source.at source.bytes.items; faults = source.failures.faults }
 
+-- the plan of a source in memory
 abbrev pub mem_source_plan : MemSource → Plan
 mem_source_plan source = plan_in source.failures
 
@@ -60,6 +66,7 @@ datagrams_of given = map datagram_in given
 abbrev pub answers_in : List (Vec ℕ Global) → List (List ℕ)
 answers_in answers = map (λ (answer : Vec ℕ Global). answer.items) answers
 
+-- what is seen of a link in memory: the datagrams that were not yet taken are left
 abbrev pub mem_link_seen : MemLink → LinkSeen
 mem_link_seen link = record {
   left = drop link.taken (datagrams_of link.datagrams.items);
@@ -67,5 +74,6 @@ mem_link_seen link = record {
   faults = link.failures.faults;
 }
 
+-- the plan of a link in memory
 abbrev pub mem_link_plan : MemLink → Plan
 mem_link_plan link = plan_in link.failures

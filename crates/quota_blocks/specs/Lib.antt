@@ -2,6 +2,7 @@ pub mod Count
 pub mod FileChange
 pub mod Frame
 pub mod InMemory
+pub mod Listed
 pub mod Load
 pub mod MemStore
 pub mod NameSet

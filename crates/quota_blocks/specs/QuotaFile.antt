@@ -46,12 +46,12 @@ IfFull (Damage _) P = ⊤
 IfFull (Full blocks limit) P = P blocks limit
 IfFull Memory P = ⊤
 
--- a fact where room or memory was wanting
-abbrev pub OnWant : FileFault → Type 0 → Type 0
-OnWant Store P = ⊤
-OnWant (Damage _) P = ⊤
-OnWant (Full _ _) P = P
-OnWant Memory P = P
+-- a fact where a call was refused, but for a fault of the store
+abbrev pub UnlessStoreFailed : FileFault → Type 0 → Type 0
+UnlessStoreFailed Store P = ⊤
+UnlessStoreFailed (Damage _) P = P
+UnlessStoreFailed (Full _ _) P = P
+UnlessStoreFailed Memory P = P
 
 -- a fact where the store failed
 abbrev pub OnStore : FileFault → Type 0 → Type 0

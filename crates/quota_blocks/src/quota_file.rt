@@ -6,7 +6,7 @@ ghost use Rattle.quota_types.specs.Range.{grace_unfit};
 ghost use Rattle.quota_types.specs.Rec.{IsNull};
 ghost use Rattle.quota_blocks.specs.FileChange.{FileChange, IsLeft, Put, Remove, SetGrace};
 ghost use Rattle.quota_blocks.specs.Frame.{IsSynced, OnlyReads, ReplacesOne};
-ghost use Rattle.quota_blocks.specs.QuotaFile.{CountsRefusal, FileSeen, IfFull, IsChangeFault, IsLookupFault, OnStore, OnWant, is_store_fault};
+ghost use Rattle.quota_blocks.specs.QuotaFile.{CountsRefusal, FileSeen, IfFull, IsChangeFault, IsLookupFault, OnStore, UnlessStoreFailed, is_store_fault};
 ghost use Rattle.quota_blocks.specs.QuotaValue.{QuotaValue, IsAfter, IsNextAfter, with_grace, with_record, without_record};
 ghost use Rattle.quota_blocks.specs.Unsynced.{AddsNone};
 ghost use Rattle.quota_blocks.specs.World.{World};
@@ -68,8 +68,8 @@ pub enum OpenFault {
 
 /// An opened quota file, whatever its format. Each call is given the store that the file was opened from.
 ///
-/// What a change needs of memory is taken from the allocator that the opened file keeps. After a change for which there
-/// is no room, or no memory, nothing has changed. After one in which the store failed the opened file is not used again.
+/// What a change needs of memory is taken from the allocator that the opened file keeps. A change for which there is no
+/// room writes nothing, whatever else fails, and one that is refused for anything but a fault of the store has changed nothing. After one in which the store failed the opened file is not used again.
 /// What the named file is left as then rests on how the type writes, which `may_leave` says: a type that writes the whole
 /// file anew and then renames it leaves the old one, and one that writes in place may have written some blocks.
 ///
@@ -177,14 +177,17 @@ pub trait QuotaFile<S: Store> {
             → makes (Put id rec) (seen self.old).name (S.seen store.old).files (S.seen store.new).files) }
         ensures room { OnOk result ((value : QuotaValue) (blocks limit : ℕ) → holds self.old store.old value
             → ¬ (lacks_room (seen self.old) ((S.seen store.old).files (seen self.old).name) (with_record value id rec) blocks limit)) }
+        ensures full { (value : QuotaValue) (blocks limit : ℕ) → holds self.old store.old value
+            → lacks_room (seen self.old) ((S.seen store.old).files (seen self.old).name) (with_record value id rec) blocks limit
+            → OnlyReads (seen self.old).name (S.seen store.old) (S.seen store.new) }
         ensures passes { IfErr result (λ fault. IfFull fault (λ blocks limit. limit < blocks)) }
         ensures refused { IfErr result (IsChangeFault (S.seen store.old).faults (S.seen store.new).faults
             (holds self.old store.old) (λ blocks limit. (value : QuotaValue) → holds self.old store.old value
             → lacks_room (seen self.old) ((S.seen store.old).files (seen self.old).name) (with_record value id rec) blocks limit)) }
         ensures may { IfErr result (may_refuse (seen self.old).format) }
-        ensures stays { IfErr result (λ fault. OnWant fault ((value : QuotaValue) → holds self.old store.old value
+        ensures stays { IfErr result (λ fault. UnlessStoreFailed fault ((value : QuotaValue) → holds self.old store.old value
             → holds self.new store.new value)) }
-        ensures unwritten { IfErr result (λ fault. OnWant fault
+        ensures unwritten { IfErr result (λ fault. UnlessStoreFailed fault
             (OnlyReads (seen self.old).name (S.seen store.old) (S.seen store.new))) }
         ensures left { IfErr result (λ fault. OnStore fault ((value : QuotaValue) → holds self.old store.old value
             → IsLeft (makes (Put id rec) (seen self.old).name) (may_leave (seen self.old).format) (seen self.old).name
@@ -216,14 +219,17 @@ pub trait QuotaFile<S: Store> {
             → makes (Remove id) (seen self.old).name (S.seen store.old).files (S.seen store.new).files) }
         ensures room { OnOk result ((value : QuotaValue) (blocks limit : ℕ) → holds self.old store.old value
             → ¬ (lacks_room (seen self.old) ((S.seen store.old).files (seen self.old).name) (without_record value id) blocks limit)) }
+        ensures full { (value : QuotaValue) (blocks limit : ℕ) → holds self.old store.old value
+            → lacks_room (seen self.old) ((S.seen store.old).files (seen self.old).name) (without_record value id) blocks limit
+            → OnlyReads (seen self.old).name (S.seen store.old) (S.seen store.new) }
         ensures passes { IfErr result (λ fault. IfFull fault (λ blocks limit. limit < blocks)) }
         ensures refused { IfErr result (IsChangeFault (S.seen store.old).faults (S.seen store.new).faults
             (holds self.old store.old) (λ blocks limit. (value : QuotaValue) → holds self.old store.old value
             → lacks_room (seen self.old) ((S.seen store.old).files (seen self.old).name) (without_record value id) blocks limit)) }
         ensures may { IfErr result (may_refuse (seen self.old).format) }
-        ensures stays { IfErr result (λ fault. OnWant fault ((value : QuotaValue) → holds self.old store.old value
+        ensures stays { IfErr result (λ fault. UnlessStoreFailed fault ((value : QuotaValue) → holds self.old store.old value
             → holds self.new store.new value)) }
-        ensures unwritten { IfErr result (λ fault. OnWant fault
+        ensures unwritten { IfErr result (λ fault. UnlessStoreFailed fault
             (OnlyReads (seen self.old).name (S.seen store.old) (S.seen store.new))) }
         ensures left { IfErr result (λ fault. OnStore fault ((value : QuotaValue) → holds self.old store.old value
             → IsLeft (makes (Remove id) (seen self.old).name) (may_leave (seen self.old).format) (seen self.old).name
@@ -253,9 +259,9 @@ pub trait QuotaFile<S: Store> {
         ensures refused { IfErr result (IsChangeFault (S.seen store.old).faults (S.seen store.new).faults
             (holds self.old store.old) (λ _ _. ⊥)) }
         ensures may { IfErr result (may_refuse (seen self.old).format) }
-        ensures stays { IfErr result (λ fault. OnWant fault ((value : QuotaValue) → holds self.old store.old value
+        ensures stays { IfErr result (λ fault. UnlessStoreFailed fault ((value : QuotaValue) → holds self.old store.old value
             → holds self.new store.new value)) }
-        ensures unwritten { IfErr result (λ fault. OnWant fault
+        ensures unwritten { IfErr result (λ fault. UnlessStoreFailed fault
             (OnlyReads (seen self.old).name (S.seen store.old) (S.seen store.new))) }
         ensures left { IfErr result (λ fault. OnStore fault ((value : QuotaValue) → holds self.old store.old value
             → IsLeft (makes (SetGrace grace) (seen self.old).name) (may_leave (seen self.old).format) (seen self.old).name

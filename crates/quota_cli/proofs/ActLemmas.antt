@@ -1,15 +1,13 @@
 -- Acts in a row, and acts that were done in part.
 use Rattle.std.proofs.Common.{◌≡◌, ℕ, Bool, false, IsTrue, List, [], ◌∷◌, ◌++◌, take, Option, None, Some, refl, sym, ap, subst, ◌∙◌, append_assoc, append-nil}
 use Rattle.std.proofs.lemmas.Bool.{false≢true}
-use Rattle.quota_blocks.specs.Count.{Rose}
 use Rattle.quota_blocks.specs.Seen.{SinkSeen}
 use Rattle.quota_blocks.specs.Text.{AppendsPrefix}
 use Rattle.quota_blocks.specs.World.{World}
-use Rattle.quota_blocks.proofs.TextLemmas.{appends_front}
 use Rattle.quota_cli.specs.declared.refusal.reason.Refusal.{Refusal}
 use Rattle.quota_cli.specs.refusal.Line.{closing_line, error_line}
 use Rattle.quota_cli.specs.Act.{Act, ToOut, ToErr, Answer, Change, ChangesNone, Follows, FollowsInPart, answers, err_bytes, out_bytes}
-use Rattle.quota_cli.specs.Done.{AppendsUnless, AreDone, AreDoneInPart, RunSeen, RunTells}
+use Rattle.quota_cli.specs.Done.{AreDone, AreDoneInPart, RunSeen, RunTells}
 use Rattle.quota_cli.specs.Steps.{closing}
 
 pub out_bytes-append : (acts more : List Act) → out_bytes (acts ++ more) ≡ out_bytes acts ++ out_bytes more
@@ -47,21 +45,21 @@ follows-append [] more old middle new same then = subst (λ (w : World). Follows
 follows-append (act ∷ acts) more old middle new first then = (first.0, first.1, follows-append acts more first.0 middle new first.2 then)
 
 -- an error line leaves the files
-pub follows_closing : (line : Option ℕ) (refusal : Option Refusal) (files : World) → Follows (closing line refusal) files files
-follows_closing line None files = refl
-follows_closing line (Some refusal) files = (files, refl, refl)
+pub follows_closing : (refusal : Option Refusal) (files : World) → Follows (closing refusal) files files
+follows_closing None files = refl
+follows_closing (Some refusal) files = (files, refl, refl)
 
-pub out_bytes-closing : (line : Option ℕ) (refusal : Option Refusal) → out_bytes (closing line refusal) ≡ []
-out_bytes-closing line None = refl
-out_bytes-closing line (Some refusal) = refl
+pub out_bytes-closing : (refusal : Option Refusal) → out_bytes (closing refusal) ≡ []
+out_bytes-closing None = refl
+out_bytes-closing (Some refusal) = refl
 
-pub err_bytes-closing : (line : Option ℕ) (refusal : Option Refusal) → err_bytes (closing line refusal) ≡ closing_line line refusal
-err_bytes-closing line None = refl
-err_bytes-closing line (Some refusal) = append-nil (error_line line refusal)
+pub err_bytes-closing : (refusal : Option Refusal) → err_bytes (closing refusal) ≡ closing_line refusal
+err_bytes-closing None = refl
+err_bytes-closing (Some refusal) = append-nil (error_line refusal)
 
-pub answers-closing : (line : Option ℕ) (refusal : Option Refusal) → answers (closing line refusal) ≡ []
-answers-closing line None = refl
-answers-closing line (Some refusal) = refl
+pub answers-closing : (refusal : Option Refusal) → answers (closing refusal) ≡ []
+answers-closing None = refl
+answers-closing (Some refusal) = refl
 
 -- files that are as they were follow any acts of which none was begun
 pub none_in_part : (acts : List Act) (old new : World) → new ≡ old → FollowsInPart acts old new
@@ -157,40 +155,26 @@ part_but_err tells acts old new said part = record {
   writes = part.writes;
 }
 
-pub more_out : (line : Option ℕ) (refusal : Option Refusal) (acts : List Act) → out_bytes (acts ++ closing line refusal) ≡ out_bytes acts
-more_out line refusal acts =
-    out_bytes-append acts (closing line refusal) ∙ ap (λ (b : List ℕ). out_bytes acts ++ b) (out_bytes-closing line refusal) ∙ append-nil (out_bytes acts)
+pub more_out : (refusal : Option Refusal) (acts : List Act) → out_bytes (acts ++ closing refusal) ≡ out_bytes acts
+more_out refusal acts =
+    out_bytes-append acts (closing refusal) ∙ ap (λ (b : List ℕ). out_bytes acts ++ b) (out_bytes-closing refusal) ∙ append-nil (out_bytes acts)
 
-pub more_err : (line : Option ℕ) (refusal : Option Refusal) (acts : List Act) → err_bytes (acts ++ closing line refusal) ≡ err_bytes acts ++ closing_line line refusal
-more_err line refusal acts =
-    err_bytes-append acts (closing line refusal) ∙ ap (λ (b : List ℕ). err_bytes acts ++ b) (err_bytes-closing line refusal)
+pub more_err : (refusal : Option Refusal) (acts : List Act) → err_bytes (acts ++ closing refusal) ≡ err_bytes acts ++ closing_line refusal
+more_err refusal acts =
+    err_bytes-append acts (closing refusal) ∙ ap (λ (b : List ℕ). err_bytes acts ++ b) (err_bytes-closing refusal)
 
-pub more_answers : (line : Option ℕ) (refusal : Option Refusal) (acts : List Act) → answers (acts ++ closing line refusal) ≡ answers acts
-more_answers line refusal acts =
-    answers-append acts (closing line refusal) ∙ ap (λ (b : List (List ℕ)). answers acts ++ b) (answers-closing line refusal) ∙ append-nil (answers acts)
+pub more_answers : (refusal : Option Refusal) (acts : List Act) → answers (acts ++ closing refusal) ≡ answers acts
+more_answers refusal acts =
+    answers-append acts (closing refusal) ∙ ap (λ (b : List (List ℕ)). answers acts ++ b) (answers-closing refusal) ∙ append-nil (answers acts)
 
 -- Acts were done, and then the error line of a refusal was written, where there is one.
-pub done_and_said : (tells : RunTells) (line : Option ℕ) (refusal : Option Refusal) (acts : List Act) (old new : RunSeen) (said : SinkSeen) (err_tells : Bool)
-    → AreDone tells acts old new → (IsTrue err_tells → said.written ≡ old.err.written ++ err_bytes (acts ++ closing line refusal))
-    → AreDone (record tells { err = err_tells }) (acts ++ closing line refusal) old (record new { err = said })
-done_and_said tells line refusal acts old new said err_tells are whole = record {
-  files = follows-append acts (closing line refusal) old.store.files new.store.files new.store.files are.files (follows_closing line refusal new.store.files);
-  out = λ told. are.out told ∙ ap (λ (b : List ℕ). old.out.written ++ b) (sym (more_out line refusal acts));
+pub done_and_said : (tells : RunTells) (refusal : Option Refusal) (acts : List Act) (old new : RunSeen) (said : SinkSeen) (err_tells : Bool)
+    → AreDone tells acts old new → (IsTrue err_tells → said.written ≡ old.err.written ++ err_bytes (acts ++ closing refusal))
+    → AreDone (record tells { err = err_tells }) (acts ++ closing refusal) old (record new { err = said })
+done_and_said tells refusal acts old new said err_tells are whole = record {
+  files = follows-append acts (closing refusal) old.store.files new.store.files new.store.files are.files (follows_closing refusal new.store.files);
+  out = λ told. are.out told ∙ ap (λ (b : List ℕ). old.out.written ++ b) (sym (more_out refusal acts));
   err = whole;
-  answered = are.answered ∙ ap (λ (b : List (List ℕ)). old.link.answers ++ b) (sym (more_answers line refusal acts));
-  writes = λ none. are.writes (changes_none_before acts (closing line refusal) none);
+  answered = are.answered ∙ ap (λ (b : List (List ℕ)). old.link.answers ++ b) (sym (more_answers refusal acts));
+  writes = λ none. are.writes (changes_none_before acts (closing refusal) none);
 }
-
--- what was said after acts, where the error output got the bytes of the acts before
-pub said_after : (line : Option ℕ) (refusal : Option Refusal) (acts : List Act) (old new said : SinkSeen) → new.faults ≡ old.faults → new.written ≡ old.written ++ err_bytes acts
-    → AppendsUnless (Rose new.faults said.faults) new.written said.written (closing_line line refusal)
-    → AppendsUnless (Rose old.faults said.faults) old.written said.written (err_bytes (acts ++ closing line refusal))
-said_after line refusal acts old new said same wrote then =
-    let closing_bytes = closing_line line refusal in
-    subst (λ (b : List ℕ). AppendsUnless (Rose old.faults said.faults) old.written said.written b) (sym (more_err line refusal acts)) (record {
-      prefix = appends_front old.written (err_bytes acts) said.written closing_bytes
-          (subst (λ (b : List ℕ). AppendsPrefix b said.written closing_bytes) wrote then.prefix);
-      whole = λ none. then.whole (λ rose. none (subst (λ (n : ℕ). Rose n said.faults) same rose))
-          ∙ ap (λ (b : List ℕ). b ++ closing_bytes) wrote
-          ∙ append_assoc old.written (err_bytes acts) closing_bytes;
-    })

@@ -1,5 +1,5 @@
 -- The identifier that a word names, digit by digit from the left.
-use Rattle.std.proofs.Common.{◌≡◌, ℕ, ◌+◌, ◌-◌, ◌*◌, ◌^◌, ◌<◌, ◌≤◌, true, false, List, length, take, get_or, inl, inr, sym, ap, ◌∙◌, subst, arith, rules}
+use Rattle.std.proofs.Common.{None, ◌≡◌, ℕ, ◌+◌, ◌-◌, ◌*◌, ◌^◌, ◌<◌, ◌≤◌, true, false, List, length, take, get_or, inl, inr, sym, ap, ◌∙◌, subst, arith, rules}
 use Rattle.std.specs.Char.{digit_value, is_ascii_digit}
 use Rattle.std.specs.Str.{all_ascii_digits}
 use Rattle.std.specs.Str.Parse.{AllDigits, digits_value}
@@ -67,13 +67,13 @@ not_digits word at in_word other all =
     grind (arith, nat_tests)
 
 -- a byte that is no digit makes the word a name
-pub identifier_of-spoilt : (word : List ℕ) (at : ℕ) → at < length word → is_ascii_digit (get_or word at 0) ≡ false → identifier_of word ≡ Refused (record { cause = UnknownName; name = word })
+pub identifier_of-spoilt : (word : List ℕ) (at : ℕ) → at < length word → is_ascii_digit (get_or word at 0) ≡ false → identifier_of word ≡ Refused (record { cause = UnknownName; name = word; line = None })
 identifier_of-spoilt word at in_word other =
     let no : all_ascii_digits word ≡ false = false_from_ne_true _ (not_digits word at in_word other) in
     grind arith
 
 -- the empty word is a name
-pub identifier_of-empty : (word : List ℕ) → length word ≡ 0 → identifier_of word ≡ Refused (record { cause = UnknownName; name = word })
+pub identifier_of-empty : (word : List ℕ) → length word ≡ 0 → identifier_of word ≡ Refused (record { cause = UnknownName; name = word; line = None })
 identifier_of-empty word none = grind (arith, nat_tests)
 
 -- all digits are read
@@ -93,7 +93,7 @@ identifier_of-read word number read some few =
     grind (arith, nat_tests)
 
 -- all is read, and is too large
-pub identifier_of-past : (word : List ℕ) (number : ℕ) → IsReadUpTo word (length word) number → 0 < length word → 2 ^ 32 ≤ number → identifier_of word ≡ Refused (record { cause = BadNumber; name = word })
+pub identifier_of-past : (word : List ℕ) (number : ℕ) → IsReadUpTo word (length word) number → 0 < length word → 2 ^ 32 ≤ number → identifier_of word ≡ Refused (record { cause = BadNumber; name = word; line = None })
 identifier_of-past word number read some past =
     let so = read_all word number read in
     let all : all_ascii_digits word ≡ true = so.0 in

@@ -8,4 +8,8 @@ mod ReasonLemmas
 mod ReportLemmas
 mod RunLemmas
 mod ValueLemmas
-mod WordLemmas
+mod TableLemmas
+mod ItemLemmas
+mod LetterLemmas
+mod OperandLemmas
+mod BuiltLemmas

@@ -1,16 +1,19 @@
 -- From the report of an opened file to what `repquota` does.
-use Rattle.std.proofs.Common.{◌≡◌, ℕ, ◌≤◌, IsTrue, List, [], ◌∷◌, ◌++◌, Option, Ok, Err, Result, refl, sym, ap, subst, ◌∙◌, arith, append-nil}
+use Rattle.std.proofs.Common.{None, Some, ◌≡◌, ℕ, ◌≤◌, false, inl, IsTrue, List, [], ◌∷◌, ◌++◌, Option, Ok, Err, Result, refl, sym, ap, subst, ◌∙◌, arith, append-nil}
 use Rattle.std.specs.Prelude.{IfSome}
+use Rattle.quota_types.specs.declared.damage.Damage.{Damage}
 use Rattle.quota_types.specs.declared.file_kind.Kind.{Kind}
+use Rattle.quota_types.specs.declared.file_kind.Format.{Format}
+use Rattle.quota_types.specs.declared.file_kind.Format.TheVariants.{V1, V2R0, V2R1}
 use Rattle.quota_blocks.specs.Frame.{OnlyReads}
 use Rattle.quota_blocks.specs.QuotaValue.{QuotaValue}
 use Rattle.quota_blocks.specs.Seen.{SinkSeen, StoreSeen}
 use Rattle.quota_blocks.specs.Text.{AppendsPrefix}
 use Rattle.quota_blocks.specs.declared.quota_file.FileFault.TheVariants.{Store as StoreFailed, Damage as FileDamaged, Full as NoBlocks, Memory as NoMemory}
 use Rattle.quota_blocks.specs.declared.quota_file.OpenFault.{OpenFault}
-use Rattle.quota_v1.specs.Change.{MayRefuse}
-use Rattle.quota_v1.specs.View.{IsFlatView}
-use Rattle.quota_v1.proofs.ViewLemmas.{seen_or_refused}
+use Rattle.quota_map.specs.AnyFile.{MayRefuse}
+use Rattle.quota_map.specs.View.{IsOpenedAs, IsView}
+use Rattle.quota_map.proofs.SeenLemmas.{view_or_refused}
 use Rattle.report_text.specs.Fault.{IsReportFault, file_fault}
 use Rattle.report_text.specs.Report.{report_of, no_names}
 use Rattle.report_text.specs.declared.fault.ReportFault.{ReportFault}
@@ -22,19 +25,20 @@ use Rattle.quota_cli.specs.declared.refusal.reason.Refusal.{Refusal}
 use Rattle.quota_cli.specs.declared.words.command.Common.{Common}
 use Rattle.quota_cli.specs.Act.{Act, ToOut}
 use Rattle.quota_cli.specs.Done.{AreDoneInPart, IsWorldTold, Outside, RunSeen, RunTells, outside_of}
-use Rattle.quota_cli.specs.Opening.{MayRefuseOpening, opened}
+use Rattle.quota_cli.specs.Opening.{IsDamageAs, MayRefuseOpening, opened}
 use Rattle.quota_cli.specs.Run.{CarriesOut, HasReason, IsFault}
-use Rattle.quota_cli.specs.Steps.{Doing, Finish, Occasion, Then}
+use Rattle.quota_cli.specs.Steps.{Doing, Finish, Then}
+use Rattle.quota_cli.specs.declared.commands.occasion.Occasion.{Occasion}
 use Rattle.quota_cli.specs.commands.Report.{ReportMayRefuse, ReportSteps, report_cause, report_uses}
 use Rattle.quota_cli.proofs.ActLemmas.{appends_nothing}
 use Rattle.quota_cli.proofs.OpeningLemmas.{outside_same, unwritten, with_out}
 
 -- What was done while a report was written: the store was only read, and the output got the report of each value that the
 -- file is seen as, or a prefix of it.
-pub record IsReporting (kind : Kind) (name : List ℕ) (now : ℕ) (options : Options) (tells : RunTells) (old : RunSeen) (store : StoreSeen) (out : SinkSeen) : Type 0 where
-  pub seen : IsTrue tells.store → (value : QuotaValue) × IsFlatView (old.store.files name) kind (Ok value)
+pub record IsReporting (kind : Kind) (asked : Option Format) (name : List ℕ) (now : ℕ) (options : Options) (tells : RunTells) (old : RunSeen) (store : StoreSeen) (out : SinkSeen) : Type 0 where
+  pub seen : IsTrue tells.store → (value : QuotaValue) × IsView (old.store.files name) kind asked (Ok value)
   pub reads : OnlyReads name old.store store
-  pub prefix : IsTrue tells.store → IsTrue tells.out → (value : QuotaValue) → IsFlatView (old.store.files name) kind (Ok value)
+  pub prefix : IsTrue tells.store → IsTrue tells.out → (value : QuotaValue) → IsView (old.store.files name) kind asked (Ok value)
       → AppendsPrefix old.out.written out.written (report_of value no_names name now options)
   pub later : old.out.faults ≤ out.faults
 
@@ -44,10 +48,10 @@ report_acts : (name : List ℕ) (now : ℕ) (options : Options) (value : QuotaVa
 report_acts name now options value old new acts ended doing =
     doing.2 ∙ ap (λ (rest : List Act). ToOut (report_of value no_names name now options) ∷ rest) doing.4.acts_none
 
-part_of_report : (kind : Kind) (name : List ℕ) (now : ℕ) (options : Options) (tells : RunTells) (old : RunSeen) (store : StoreSeen) (out : SinkSeen)
-    → IsReporting kind name now options tells old store out → IsTrue tells.store → (value : QuotaValue) → IsFlatView (old.store.files name) kind (Ok value)
+part_of_report : (kind : Kind) (asked : Option Format) (name : List ℕ) (now : ℕ) (options : Options) (tells : RunTells) (old : RunSeen) (store : StoreSeen) (out : SinkSeen)
+    → IsReporting kind asked name now options tells old store out → IsTrue tells.store → (value : QuotaValue) → IsView (old.store.files name) kind asked (Ok value)
     → (acts : List Act) → acts ≡ ToOut (report_of value no_names name now options) ∷ [] → AreDoneInPart tells acts old (with_out old store out)
-part_of_report kind name now options tells old store out reporting told value view acts is =
+part_of_report kind asked name now options tells old store out reporting told value view acts is =
     let text = report_of value no_names name now options in
     subst (λ (a : List Act). AreDoneInPart tells a old (with_out old store out)) (sym is) (record {
       done = [];
@@ -62,20 +66,20 @@ part_of_report kind name now options tells old store out reporting told value vi
       writes = λ none. reporting.reads.writes;
     })
 
-part_seen : (kind : Kind) (name : List ℕ) (now : ℕ) (options : Options) (tells : RunTells) (old : RunSeen) (store : StoreSeen) (out : SinkSeen)
-    → IsReporting kind name now options tells old store out → IsTrue tells.store → (acts : List Act) (to : Outside) (ended : Option Refusal) (seen : Result QuotaValue OpenFault)
-    → IsFlatView (old.store.files name) kind seen
+part_seen : (kind : Kind) (asked : Option Format) (name : List ℕ) (now : ℕ) (options : Options) (tells : RunTells) (old : RunSeen) (store : StoreSeen) (out : SinkSeen)
+    → IsReporting kind asked name now options tells old store out → IsTrue tells.store → (acts : List Act) (to : Outside) (ended : Option Refusal) (seen : Result QuotaValue OpenFault)
+    → IsView (old.store.files name) kind asked seen
     → Then (opened name seen) (λ (value : QuotaValue). Doing (ToOut (report_of value no_names name now options)) Finish) (outside_of old) acts to ended
     → AreDoneInPart tells acts old (with_out old store out)
-part_seen kind name now options tells old store out reporting told acts to ended (Ok value) view doing =
-    part_of_report kind name now options tells old store out reporting told value view acts (report_acts name now options value (outside_of old) to acts ended doing)
-part_seen kind name now options tells old store out reporting told acts to ended (Err fault) view doing =
-    let good = reporting.seen told in absurd (seen_or_refused (old.store.files name) kind good.0 fault good.1 view)
+part_seen kind asked name now options tells old store out reporting told acts to ended (Ok value) view doing =
+    part_of_report kind asked name now options tells old store out reporting told value view acts (report_acts name now options value (outside_of old) to acts ended doing)
+part_seen kind asked name now options tells old store out reporting told acts to ended (Err fault) view doing =
+    let good = reporting.seen told in absurd (view_or_refused (old.store.files name) kind asked good.0 fault good.1 view)
 
 -- a report was written whole
 pub report_done : (common : Common) (name : List ℕ) (options : Options) (occasion : Occasion) (may : Cause → List ℕ → Type 0) (tells : RunTells) (old : RunSeen) (store : StoreSeen) (out : SinkSeen)
-    → IsReporting common.kind name occasion.now options tells old store out
-    → (IsTrue tells.store → IsTrue tells.out → (value : QuotaValue) → IsFlatView (old.store.files name) common.kind (Ok value)
+    → IsReporting common.kind common.format name occasion.now options tells old store out
+    → (IsTrue tells.store → IsTrue tells.out → (value : QuotaValue) → IsView (old.store.files name) common.kind common.format (Ok value)
     → out.written ≡ old.out.written ++ report_of value no_names name occasion.now options)
     → CarriesOut (ReportSteps common options name occasion) report_uses may tells old (with_out old store out) (Ok tt)
 report_done common name options occasion may tells old store out reporting written = record {
@@ -94,20 +98,21 @@ report_done common name options occasion may tells old store out reporting writt
         };
       };
   refused = tt;
-  part = λ told acts to ended steps. part_seen common.kind name occasion.now options tells old store out reporting told.store acts to ended steps.0 steps.1 steps.2;
+  part = λ told acts to ended steps. part_seen common.kind common.format name occasion.now options tells old store out reporting told.store acts to ended steps.0 steps.1 steps.2;
   complete = λ told acts to steps. tt;
   may_refuse = tt;
+  placed = λ no. tt;
   only_reads = λ only. unwritten name old.store store reporting.reads;
   all_or_nothing = λ whole. tt;
-  silent = refl;
+  quiet = λ no. refl;
   later = record { store = reporting.reads.later; input = omega arith; out = reporting.later; err = omega arith; link = omega arith };
 }
 
 report_reason : (tells : RunTells) (old : RunSeen) (store : StoreSeen) (out : SinkSeen) (stated : Type 0) (before : ℕ) (holds : QuotaValue → Type 0) (fault : ReportFault)
     → old.store.faults ≤ before → (IsWorldTold tells → ((value : QuotaValue) → holds value → ⊥) → ⊥)
     → IsReportFault old.out.faults out.faults before store.faults holds fault
-    → HasReason old (with_out old store out) (IsWorldTold tells → stated) (report_cause fault)
-report_reason tells old store out stated before holds Sink le seen cause = cause
+    → HasReason false old (with_out old store out) (IsWorldTold tells → stated) (report_cause fault)
+report_reason tells old store out stated before holds Sink le seen cause = inl cause
 report_reason tells old store out stated before holds (File StoreFailed) le seen cause = omega (arith, cause)
 report_reason tells old store out stated before holds (File (FileDamaged damage)) le seen cause = λ told. absurd (seen told cause)
 report_reason tells old store out stated before holds (File (NoBlocks blocks limit)) le seen cause = absurd cause
@@ -121,51 +126,60 @@ report_complete tells out_before out_now before now holds (File (FileDamaged dam
 report_complete tells out_before out_now before now holds (File (NoBlocks blocks limit)) seen cause = absurd cause
 report_complete tells out_before out_now before now holds (File NoMemory) seen cause = absurd cause
 
-report_may : (name : List ℕ) (fault : ReportFault) → IfSome (file_fault fault) MayRefuse → ReportMayRefuse name (report_cause fault) name
-report_may name Sink may = tt
-report_may name (File StoreFailed) may = tt
-report_may name (File (FileDamaged damage)) may = absurd may
-report_may name (File (NoBlocks blocks limit)) may = absurd may
-report_may name (File NoMemory) may = tt
+-- a damage that a call on an opened file answers is one of the format that was asked for
+pub damage_may : (asked : Option Format) (format : Format) (damage : Damage) → IsOpenedAs asked format → MayRefuse format (FileDamaged damage) → IsDamageAs asked damage
+damage_may None format damage asks may = may.tree asks
+damage_may (Some V1) format damage asks may = absurd (may.flat asks)
+damage_may (Some V2R0) format damage asks may = may.tree (λ flat. cc)
+damage_may (Some V2R1) format damage asks may = may.tree (λ flat. cc)
+
+report_may : (common : Common) (name : List ℕ) (format : Format) (out_before out_now before now : ℕ) (holds : QuotaValue → Type 0) (fault : ReportFault) → IsOpenedAs common.format format
+    → IsReportFault out_before out_now before now holds fault → IfSome (file_fault fault) (MayRefuse format) → ReportMayRefuse common name (report_cause fault) name
+report_may common name format out_before out_now before now holds Sink asks cause may = tt
+report_may common name format out_before out_now before now holds (File StoreFailed) asks cause may = tt
+report_may common name format out_before out_now before now holds (File (FileDamaged damage)) asks cause may = (damage_may common.format format damage asks may, refl)
+report_may common name format out_before out_now before now holds (File (NoBlocks blocks limit)) asks cause may = absurd cause
+report_may common name format out_before out_now before now holds (File NoMemory) asks cause may = tt
 
 -- a report was not written whole
 pub report_refused : (common : Common) (name : List ℕ) (options : Options) (occasion : Occasion) (tells : RunTells) (old : RunSeen) (store : StoreSeen) (out : SinkSeen)
-    (before : ℕ) (holds : QuotaValue → Type 0) (fault : ReportFault)
-    → IsReporting common.kind name occasion.now options tells old store out
-    → old.store.faults ≤ before → (IsTrue tells.store → (value : QuotaValue) → IsFlatView (old.store.files name) common.kind (Ok value) → holds value)
-    → IsReportFault old.out.faults out.faults before store.faults holds fault → IfSome (file_fault fault) MayRefuse
-    → CarriesOut (ReportSteps common options name occasion) report_uses (ReportMayRefuse name) tells old (with_out old store out) (Err (record { cause = report_cause fault; name = name }))
-report_refused common name options occasion tells old store out before holds fault reporting le held cause may =
+    (format : Format) (before : ℕ) (holds : QuotaValue → Type 0) (fault : ReportFault)
+    → IsOpenedAs common.format format → IsReporting common.kind common.format name occasion.now options tells old store out
+    → old.store.faults ≤ before → (IsTrue tells.store → (value : QuotaValue) → IsView (old.store.files name) common.kind common.format (Ok value) → holds value)
+    → IsReportFault old.out.faults out.faults before store.faults holds fault → IfSome (file_fault fault) (MayRefuse format)
+    → CarriesOut (ReportSteps common options name occasion) report_uses (ReportMayRefuse common name) tells old (with_out old store out) (Err (record { cause = report_cause fault; name = name; line = None }))
+report_refused common name options occasion tells old store out format before holds fault asks reporting le held cause may =
     let seen : IsTrue tells.store → ((value : QuotaValue) → holds value → ⊥) → ⊥ = λ told none. let good = reporting.seen told in none good.0 (held told good.0 good.1) in
     record {
       done = tt;
       refused = report_reason tells old store out _ before holds fault le (λ told. seen told.store) cause;
-      part = λ told acts to ended steps. part_seen common.kind name occasion.now options tells old store out reporting told.store acts to ended steps.0 steps.1 steps.2;
+      part = λ told acts to ended steps. part_seen common.kind common.format name occasion.now options tells old store out reporting told.store acts to ended steps.0 steps.1 steps.2;
       complete = λ told acts to steps. report_complete tells old.out.faults out.faults before store.faults holds fault (seen told.store) cause;
-      may_refuse = report_may name fault may;
+      may_refuse = report_may common name format old.out.faults out.faults before store.faults holds fault asks cause may;
+      placed = λ no. refl;
       only_reads = λ only. unwritten name old.store store reporting.reads;
       all_or_nothing = λ whole other. unwritten name old.store store reporting.reads;
-      silent = refl;
+      quiet = λ no. refl;
       later = record { store = reporting.reads.later; input = omega arith; out = reporting.later; err = omega arith; link = omega arith };
     }
 
 -- a report may be refused for each cause of a file that is not opened
-pub report_allowed : (file : List ℕ) (cause : Cause) → MayRefuseOpening file cause file → ReportMayRefuse file cause file
-report_allowed file StoreFault may = may
-report_allowed file SourceFault may = may
-report_allowed file SinkFault may = tt
-report_allowed file LinkFault may = may
-report_allowed file Memory may = may
-report_allowed file NoFile may = may
-report_allowed file TooLarge may = may
-report_allowed file NotQuota may = may
-report_allowed file WrongKind may = may
-report_allowed file UnknownVersion may = may
-report_allowed file BadBlockCount may = may
-report_allowed file OtherFormat may = may
-report_allowed file (Damaged damage) may = may
-report_allowed file (Full blocks limit) may = may
-report_allowed file (NoRoom out) may = may
-report_allowed file UnknownName may = may
-report_allowed file BadNumber may = may
-report_allowed file (Usage kind word) may = may
+pub report_allowed : (common : Common) (file : List ℕ) (cause : Cause) → MayRefuseOpening common.format file cause file → ReportMayRefuse common file cause file
+report_allowed common file StoreFault may = may
+report_allowed common file SourceFault may = may
+report_allowed common file SinkFault may = tt
+report_allowed common file LinkFault may = may
+report_allowed common file Memory may = may
+report_allowed common file NoFile may = may
+report_allowed common file TooLarge may = may
+report_allowed common file NotQuota may = may
+report_allowed common file WrongKind may = may
+report_allowed common file UnknownVersion may = may
+report_allowed common file BadBlockCount may = may
+report_allowed common file OtherFormat may = may
+report_allowed common file (Damaged damage) may = may
+report_allowed common file (Full blocks limit) may = may
+report_allowed common file (NoRoom out) may = may
+report_allowed common file UnknownName may = may
+report_allowed common file BadNumber may = may
+report_allowed common file (Usage kind word) may = may

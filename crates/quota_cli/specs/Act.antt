@@ -1,21 +1,9 @@
 -- What a command does to what is outside, act by act, and how the files follow.
-use Rattle.std.specs.Prelude.{◌≡◌, ℕ, List, [], ◌∷◌, ◌++◌, Option, Some, None, Result, Ok, ⊤}
-use Rattle.quota_types.specs.declared.file_kind.Kind.{Kind}
-use Rattle.quota_types.specs.declared.file_kind.Format.{Format}
-use Rattle.quota_types.specs.declared.file_kind.Format.TheVariants.{V1, V2R0, V2R1}
+use Rattle.std.specs.Prelude.{◌≡◌, ℕ, List, [], ◌∷◌, ◌++◌, Some, Ok, ⊤}
 use Rattle.quota_blocks.specs.Replace.{ReplacesOnly}
 use Rattle.quota_blocks.specs.World.{World}
 use Rattle.quota_blocks.specs.QuotaValue.{QuotaValue}
-use Rattle.quota_blocks.specs.declared.quota_file.OpenFault.{OpenFault}
-use Rattle.quota_v1.specs.View.{IsFlatView}
-
--- What is seen of a file that is opened as one of a kind, in the format that is asked for: the value that it stands
--- for, or the first refusal that holds. No file is opened as a tree so far.
-abbrev pub IsView : Option (List ℕ) → Kind → Option Format → Result QuotaValue OpenFault → Type 0
-IsView named kind (Some V1) seen = IsFlatView named kind seen
-IsView named kind (Some V2R0) seen = ⊥
-IsView named kind (Some V2R1) seen = ⊥
-IsView named kind None seen = ⊥
+use Rattle.quota_map.specs.View.{IsView}
 
 -- One act: bytes to the output, bytes to the error output, an answer to a datagram, or a file that from then on stands
 -- for another value.

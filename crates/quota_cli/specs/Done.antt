@@ -22,9 +22,11 @@ pub record RunSeen : Type 0 where
   pub err : SinkSeen
   pub link : LinkSeen
 
+-- what is seen of these five
 abbrev pub seen_of : StoreSeen → SourceSeen → SinkSeen → SinkSeen → LinkSeen → RunSeen
 seen_of store input out err link = record { store = store; input = input; out = out; err = err; link = link }
 
+-- whether these five tell
 abbrev pub tells_of : (store input out err link : Bool) → RunTells
 tells_of store input out err link = record { store = store; input = input; out = out; err = err; link = link }
 

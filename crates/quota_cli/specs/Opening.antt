@@ -1,11 +1,15 @@
 -- What is said where a file is not opened, or where a call on an opened file was refused.
-use Rattle.std.specs.Prelude.{◌≡◌, ℕ, List, Result, Ok, Err, ⊤}
+use Rattle.std.specs.Prelude.{◌≡◌, ℕ, Bool, true, false, IsTrue, IsSome, List, Option, Some, None, Result, Ok, Err, ⊤}
+use Rattle.quota_types.specs.declared.damage.Damage.{Damage}
 use Rattle.quota_types.specs.declared.damage.DamageKind.TheVariants.{PartialRecord}
+use Rattle.quota_types.specs.declared.file_kind.Format.{Format}
+use Rattle.quota_types.specs.declared.file_kind.Format.TheVariants.{V1}
 use Rattle.quota_blocks.specs.QuotaValue.{QuotaValue}
 use Rattle.quota_blocks.specs.declared.quota_file.FileFault.{FileFault}
 use Rattle.quota_blocks.specs.declared.quota_file.FileFault.TheVariants.{Store as StoreFailed, Damage as FileDamaged, Full as NoBlocks, Memory as NoMemory}
 use Rattle.quota_blocks.specs.declared.quota_file.OpenFault.{OpenFault}
-use Rattle.quota_blocks.specs.declared.quota_file.OpenFault.TheVariants.{Store, NoFile, TooLarge, Memory, NotQuota, WrongKind, UnknownVersion, BadBlockCount, FormatMismatch, Damage}
+use Rattle.quota_blocks.specs.declared.quota_file.OpenFault.TheVariants.{Store, NoFile, TooLarge, Memory, NotQuota, WrongKind, UnknownVersion, BadBlockCount, FormatMismatch, Damage as NotWhole}
+use Rattle.tree_file.specs.Defect.{NamesItsId}
 use Rattle.quota_cli.specs.declared.refusal.cause.Cause.{Cause}
 use Rattle.quota_cli.specs.declared.refusal.cause.Cause.TheVariants.{StoreFault, NoFile as NoSuchFile, TooLarge as FileTooLarge, Memory as WantOfMemory, NotQuota as NoQuotaFile, WrongKind as OtherKind, UnknownVersion as OtherVersion, BadBlockCount as TooFewBlocks, OtherFormat, Damaged, Full}
 use Rattle.quota_cli.specs.Outcome.{Outcome, Passed, Refused}
@@ -21,7 +25,7 @@ opening_cause WrongKind = OtherKind
 opening_cause UnknownVersion = OtherVersion
 opening_cause BadBlockCount = TooFewBlocks
 opening_cause (FormatMismatch found) = OtherFormat
-opening_cause (Damage damage) = Damaged damage
+opening_cause (NotWhole damage) = Damaged damage
 
 -- what is said where a call on an opened file was refused
 abbrev pub file_cause : FileFault → Cause
@@ -33,14 +37,30 @@ file_cause NoMemory = WantOfMemory
 -- the step that opens a file that is seen so
 abbrev pub opened : List ℕ → Result QuotaValue OpenFault → Outcome QuotaValue
 opened name (Ok value) = Passed value
-opened name (Err fault) = Refused (record { cause = opening_cause fault; name = name })
+opened name (Err fault) = Refused (record { cause = opening_cause fault; name = name; line = None })
 
--- The causes for which the opening of a flat file of this name may be refused, whatever is told, with the name that is
--- said. There is but one kind of damage of a flat file.
-abbrev pub MayRefuseOpening : List ℕ → Cause → List ℕ → Type 0
-MayRefuseOpening file StoreFault name = ⊤
-MayRefuseOpening file WantOfMemory name = ⊤
-MayRefuseOpening file NoSuchFile name = name ≡ file
-MayRefuseOpening file FileTooLarge name = name ≡ file
-MayRefuseOpening file (Damaged damage) name = (damage.kind ≡ PartialRecord) × (damage.id ≡ 0) × (name ≡ file)
-MayRefuseOpening file _ name = ⊥
+-- A damage of a flat file is a record that is cut off, which names no identifier, and one of a tree file names an
+-- identifier where its kind does.
+abbrev pub IsDamageAs : Option Format → Damage → Type 0
+IsDamageAs (Some V1) damage = (damage.kind ≡ PartialRecord) × (damage.id ≡ 0)
+IsDamageAs _ damage = NamesItsId damage.kind damage.id
+
+-- a file that is no flat file is asked for
+abbrev pub asks_tree : Option Format → Bool
+asks_tree (Some V1) = false
+asks_tree _ = true
+
+-- The causes for which the opening of a file of this name, in the format that is asked for, may be refused, whatever is
+-- told, with the name that is said. A header is read of a tree file alone.
+abbrev pub MayRefuseOpening : Option Format → List ℕ → Cause → List ℕ → Type 0
+MayRefuseOpening asked file StoreFault name = ⊤
+MayRefuseOpening asked file WantOfMemory name = ⊤
+MayRefuseOpening asked file NoSuchFile name = name ≡ file
+MayRefuseOpening asked file FileTooLarge name = name ≡ file
+MayRefuseOpening asked file NoQuotaFile name = IsTrue (asks_tree asked) × (name ≡ file)
+MayRefuseOpening asked file OtherKind name = IsTrue (asks_tree asked) × (name ≡ file)
+MayRefuseOpening asked file OtherVersion name = IsTrue (asks_tree asked) × (name ≡ file)
+MayRefuseOpening asked file TooFewBlocks name = IsTrue (asks_tree asked) × (name ≡ file)
+MayRefuseOpening asked file OtherFormat name = IsTrue (asks_tree asked) × IsSome asked × (name ≡ file)
+MayRefuseOpening asked file (Damaged damage) name = IsDamageAs asked damage × (name ≡ file)
+MayRefuseOpening asked file _ name = ⊥

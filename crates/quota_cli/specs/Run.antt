@@ -1,5 +1,5 @@
 -- How a command is carried out, whichever it is.
-use Rattle.std.specs.Prelude.{◌≡◌, ◌≢◌, ℕ, Bool, false, IsTrue, List, Option, Some, None, Result, OnOk, IfErr, ⊤}
+use Rattle.std.specs.Prelude.{◌≡◌, ◌≢◌, ◌⊎◌, ℕ, Bool, false, IsTrue, List, Option, Some, None, Result, OnOk, IfErr, ⊤}
 use Rattle.quota_blocks.specs.Count.{Rose}
 use Rattle.quota_cli.specs.declared.refusal.cause.Cause.{Cause}
 use Rattle.quota_cli.specs.declared.refusal.cause.Cause.TheVariants.{StoreFault, SourceFault, SinkFault, LinkFault, Memory}
@@ -10,23 +10,26 @@ use Rattle.quota_cli.specs.Done.{AreDone, AreDoneInPart, IsLater, IsUnwritten, I
 use Rattle.quota_cli.specs.Steps.{Steps}
 
 -- Which objects a command uses. A command that changes no file only reads the store; one that is all or nothing has
--- written nothing where it was refused, unless something outside failed.
+-- written nothing where it was refused, unless something outside failed. One that warns writes more to the error output
+-- than the line of its refusal, and one that reads commands may be refused in one of their lines.
 pub record Uses : Type 0 where
   pub input : Bool
   pub out : Bool
   pub link : Bool
   pub changes : Bool
   pub all_or_nothing : Bool
+  pub warns : Bool
+  pub reads_commands : Bool
 
--- A cause that stops a command before its effect is whole is a fault of an object outside or want of memory. Every other
--- cause belongs to the effect, and then `stated` holds.
-abbrev pub HasReason : RunSeen → RunSeen → Type 0 → Cause → Type 0
-HasReason old new stated StoreFault = Rose old.store.faults new.store.faults
-HasReason old new stated SourceFault = Rose old.input.faults new.input.faults
-HasReason old new stated SinkFault = Rose old.out.faults new.out.faults
-HasReason old new stated LinkFault = Rose old.link.faults new.link.faults
-HasReason old new stated Memory = ⊤
-HasReason old new stated _ = stated
+-- A cause that stops a command before its effect is whole is a fault of an object outside or want of memory; the error
+-- output counts as one where the command warns. Every other cause belongs to the effect, and then `stated` holds.
+abbrev pub HasReason : Bool → RunSeen → RunSeen → Type 0 → Cause → Type 0
+HasReason warns old new stated StoreFault = Rose old.store.faults new.store.faults
+HasReason warns old new stated SourceFault = Rose old.input.faults new.input.faults
+HasReason warns old new stated SinkFault = Rose old.out.faults new.out.faults ⊎ (IsTrue warns × Rose old.err.faults new.err.faults)
+HasReason warns old new stated LinkFault = Rose old.link.faults new.link.faults
+HasReason warns old new stated Memory = ⊤
+HasReason warns old new stated _ = stated
 
 -- the acts by which the steps of a command end with this refusal, or with none; they were done
 pub record HasSteps (steps : Steps) (tells : RunTells) (refusal : Option Refusal) (old new : RunSeen) : Type 0 where
@@ -45,14 +48,16 @@ IsFault _ = ⊥
 
 -- A command was carried out but for the error line. Where it ended well or was refused by a step, its steps say so and
 -- its acts were done. Where it was stopped, there is a reason. In every case the acts of all its steps were done in part at
--- most, and steps that may pass were refused only by a fault or for want of memory. Nothing was said.
+-- most, and steps that may pass were refused only by a fault or for want of memory. Nothing was said, unless it warns, and
+-- the refusal is in no line of a script, unless it reads commands.
 pub record CarriesOut (steps : Steps) (uses : Uses) (may : Cause → List ℕ → Type 0) (tells : RunTells) (old new : RunSeen) (result : Result (Unit {0}) Refusal) : Type 0 where
   pub done : OnOk result (IsWorldTold tells → HasSteps steps tells None old new)
-  pub refused : IfErr result (λ (refusal : Refusal). HasReason old new (IsWorldTold tells → HasSteps steps tells (Some refusal) old new) refusal.cause)
+  pub refused : IfErr result (λ (refusal : Refusal). HasReason uses.warns old new (IsWorldTold tells → HasSteps steps tells (Some refusal) old new) refusal.cause)
   pub part : IsWorldTold tells → (acts : List Act) (to : Outside) (ended : Option Refusal) → steps (outside_of old) acts to ended → AreDoneInPart tells acts old new
   pub complete : IsWorldTold tells → (acts : List Act) (to : Outside) → steps (outside_of old) acts to None → IfErr result (λ (refusal : Refusal). IsFault refusal.cause)
   pub may_refuse : IfErr result (λ (refusal : Refusal). may refusal.cause refusal.name)
+  pub placed : uses.reads_commands ≡ false → IfErr result (λ (refusal : Refusal). refusal.line ≡ None)
   pub only_reads : uses.changes ≡ false → IsUnwritten old.store new.store
   pub all_or_nothing : IsTrue uses.all_or_nothing → IfErr result (λ (refusal : Refusal). status_of refusal.cause ≢ 4 → IsUnwritten old.store new.store)
-  pub silent : new.err ≡ old.err
+  pub quiet : uses.warns ≡ false → new.err ≡ old.err
   pub later : IsLater old new

@@ -7,10 +7,11 @@ use Rattle.quota_types.specs.declared.file_kind.Format.{Format}
 use Rattle.quota_blocks.specs.World.{World}
 use Rattle.quota_blocks.specs.QuotaValue.{QuotaValue}
 use Rattle.quota_blocks.specs.declared.quota_file.OpenFault.{OpenFault}
+use Rattle.quota_map.specs.View.{IsView}
 use Rattle.quota_cli.specs.declared.refusal.reason.Refusal.{Refusal}
 use Rattle.quota_cli.specs.refusal.Line.{error_line}
 use Rattle.quota_cli.specs.refusal.Status.{end_status}
-use Rattle.quota_cli.specs.Act.{Act, FollowsAct, IsView, ToErr}
+use Rattle.quota_cli.specs.Act.{Act, FollowsAct, ToErr}
 use Rattle.quota_cli.specs.Done.{Outside}
 use Rattle.quota_cli.specs.Opening.{opened}
 use Rattle.quota_cli.specs.Outcome.{Outcome, Passed, Refused}
@@ -54,20 +55,15 @@ abbrev pub DoingAll : List Act → Steps → Steps
 DoingAll [] next = next
 DoingAll (act ∷ acts) next = Doing act (DoingAll acts next)
 
--- when a command is carried out, in seconds since 1970, and in which line of a script, if in one
-pub record Occasion : Type 0 where
-  pub now : ℕ
-  pub line : Option ℕ
-
 -- the last act of a command that was refused is its error line
-abbrev pub closing : Option ℕ → Option Refusal → List Act
-closing line None = []
-closing line (Some refusal) = ToErr (error_line line refusal) ∷ []
+abbrev pub closing : Option Refusal → List Act
+closing None = []
+closing (Some refusal) = ToErr (error_line refusal) ∷ []
 
 -- The effect of steps: their acts, and for a refusal its error line; and the status.
-pub record HasEffectOf (steps : Steps) (line : Option ℕ) (old : Outside) (acts : List Act) (new : Outside) (status : ℕ) : Type 0 where
+pub record HasEffectOf (steps : Steps) (old : Outside) (acts : List Act) (new : Outside) (status : ℕ) : Type 0 where
   pub own : List Act
   pub refusal : Option Refusal
   pub by_steps : steps old own new refusal
-  pub acts_all : acts ≡ own ++ closing line refusal
+  pub acts_all : acts ≡ own ++ closing refusal
   pub ended : status ≡ end_status refusal

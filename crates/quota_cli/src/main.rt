@@ -3,7 +3,9 @@
 #![tactic(auto)]
 
 use adapters::{FileStore, StreamSink, StreamSource, UdpLink, moment};
-use refusal::{Cause, Refusal};
+use quota_blocks::Sink;
+use refusal::{Cause, Refusal, UsageKind};
+use std::alloc::Global;
 use std::io::ErrorKind;
 use std::process::ExitCode;
 use std::{env, io};
@@ -11,22 +13,30 @@ use words::Word;
 
 mod adapters;
 mod commands;
+mod help;
 mod refusal;
 mod run;
 #[cfg(test)]
 mod tests;
 mod words;
 
-/// The words of the command line without the program's own name. Words that are no text are no words of any command.
+/// The words of the command line without the program's own name.
 fn given_words<R: env::Env + AllocGlobal>(rt: &R) -> io::Result<Vec<String>> {
-    match env::args(rt) {
-        Ok(words) => Ok(words.skip(1).collect(rt.alloc())?),
-        Err(error) if error.kind() == ErrorKind::InvalidData => Ok(Vec::new(rt.alloc())),
-        Err(error) => Err(error),
+    Ok(env::args(rt)?.skip(1).collect(rt.alloc())?)
+}
+
+/// Why the program stops where the system does not give it its words. Words that are not all UTF-8 are no command.
+fn words_cause(kind: ErrorKind) -> Cause {
+    match kind {
+        ErrorKind::InvalidData => Cause::Usage {
+            kind: UsageKind::UnknownCommand,
+            word: 0,
+        },
+        kind => starting_cause(kind),
     }
 }
 
-/// Why a program stops to which the system gives no words or no moment.
+/// Why the program stops where the system fails to give it its words or the moment.
 fn starting_cause(kind: ErrorKind) -> Cause {
     match kind {
         ErrorKind::OutOfMemory => Cause::Memory,
@@ -34,13 +44,21 @@ fn starting_cause(kind: ErrorKind) -> Cause {
     }
 }
 
+/// Says why the program stops before it has begun, and answers its status.
+fn stop<E: Sink>(err: &mut E, cause: Cause, alloc: Global) -> u8 {
+    run::refuse(err, &Refusal::of(cause, Word::empty(alloc)))
+}
+
 fn main(rt: HostRuntime) -> ExitCode {
     let mut err = StreamSink::new(rt.stderr());
     let status = match (given_words(&rt), moment(&rt)) {
         (Ok(words), Ok(now)) => {
+            let mut out = StreamSink::new(rt.stdout());
+            if let Some(text) = help::text_for(&words) {
+                return ExitCode::from(help::tell(&mut out, &mut err, text, rt.alloc()));
+            }
             let mut store = FileStore::new(rt.alloc(), &rt);
             let mut input = StreamSource::new(rt.stdin());
-            let mut out = StreamSink::new(rt.stdout());
             let mut link = UdpLink::new(&rt);
             run::run(
                 rt.alloc(),
@@ -53,13 +71,8 @@ fn main(rt: HostRuntime) -> ExitCode {
                 now,
             )
         }
-        (Err(error), _) | (_, Err(error)) => {
-            let refusal = Refusal {
-                cause: starting_cause(error.kind()),
-                name: Word::empty(rt.alloc()),
-            };
-            run::refuse(&mut err, &refusal)
-        }
+        (Err(error), _) => stop(&mut err, words_cause(error.kind()), rt.alloc()),
+        (_, Err(error)) => stop(&mut err, starting_cause(error.kind()), rt.alloc()),
     };
     ExitCode::from(status)
 }

@@ -4,3 +4,4 @@ pub mod ViewLemmas
 pub mod ChangeLemmas
 pub mod RecordLemmas
 pub mod MakesLemmas
+pub mod BuildLemmas

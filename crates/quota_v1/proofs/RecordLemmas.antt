@@ -1,5 +1,5 @@
 -- Records of a flat file of which a part was written over.
-use Rattle.std.proofs.Common.{◌≡◌, ◌≢◌, ℕ, zero, suc, ◌+◌, ◌*◌, ◌%◌, ◌<◌, ◌≤◌, Bool, true, false, cond, nat_le, ◌==◌, IsTrue, List, length, Option, Some, None, refl, sym, ap, subst, ◌∙◌, inl, inr, arith}
+use Rattle.std.proofs.Common.{◌≡◌, ◌≢◌, ℕ, zero, suc, ◌+◌, ◌*◌, ◌%◌, ◌<◌, ◌≤◌, Bool, true, false, cond, nat_le, ◌==◌, List, length, Option, Some, None, refl, sym, ap, ◌∙◌, inl, inr, arith}
 use Rattle.std.specs.Option.{is_some}
 use Rattle.std.proofs.lemmas.Bool.{cases_lt, lt-leb, cases_Bool, true≢false}
 use Rattle.std.proofs.lemmas.Bool.Decides.{nat_tests, eqb_tells}
@@ -60,7 +60,7 @@ timed_record-same old new (suc n) numbers times =
     timed_record-other new (suc n) (not_zero n) ∙ stored ∙ sym (timed_record-other old (suc n) (not_zero n))
 
 -- past the end there are zeros
-unless_zeros-past : (file : List ℕ) (q : ℕ) → length file ≤ 40 * q → unless_zeros (timed_record file q) ≡ None
+pub unless_zeros-past : (file : List ℕ) (q : ℕ) → length file ≤ 40 * q → unless_zeros (timed_record file q) ≡ None
 unless_zeros-past file zero h =
     let past : (width at : ℕ) → number_at width file at ≡ 0 = λ width at. number_at-past width at file (omega arith) in
     rw (past 4 0, past 4 4, past 4 8, past 4 12, past 4 16, past 4 20)
@@ -176,7 +176,7 @@ none_of (Some x) e = absurd (true≢false e)
 pub holds_absent : (tells : Bool) (named : Option (List ℕ)) (old : List ℕ) (value : QuotaValue) (id : ℕ) (found : Option Rec) → found ≡ flat_record old id → is_some found ≡ false
     → HoldsFlat tells named old value → HoldsFlat tells named old (without_record value id)
 holds_absent tells named old value id found is none held =
-    record { told = held.told; same = held.same; stands = stands_absent old value id held.stands (sym is ∙ none_of found none) }
+    record { told = held.told; same = held.same; few = held.few; stands = stands_absent old value id held.stands (sym is ∙ none_of found none) }
 
 grace_not_zero : (grace : Grace) → grace_unfit V1 grace ≡ None → (0 < grace.block) × (0 < grace.inode)
 grace_not_zero grace fits = grind (arith, nat_tests)
@@ -187,15 +187,19 @@ or_week-some seconds some = grind (arith, nat_tests)
 same_grace : (grace : Grace) (block inode : ℕ) → block ≡ grace.block → inode ≡ grace.inode → grace ≡ record { block = block; inode = inode }
 same_grace grace block inode b i = rw (b, i)
 
+-- the grace periods of a file whose times of record 0 are those
+pub stored_grace : (file : List ℕ) (grace : Grace) → number_at 8 file 24 ≡ grace.block → number_at 8 file 32 ≡ grace.inode → grace_unfit V1 grace ≡ None → grace ≡ flat_grace file
+stored_grace file grace block inode fits =
+    let some = grace_not_zero grace fits in
+    same_grace grace (or_week (number_at 8 file 24)) (or_week (number_at 8 file 32)) (ap or_week block ∙ or_week-some grace.block some.0) (ap or_week inode ∙ or_week-some grace.inode some.1)
+
 pub stands_graced : (old new : List ℕ) (value : QuotaValue) (grace : Grace) → FlatStandsFor old value → length new % 40 ≡ 0 → number_at 8 new 24 ≡ grace.block
     → number_at 8 new 32 ≡ grace.inode → KeepsOutside 24 40 old new → grace_unfit V1 grace ≡ None → FlatStandsFor new (with_grace value grace)
 stands_graced old new value grace s whole block inode keeps fits = record {
   whole = whole;
   format = s.format;
   flags = s.flags;
-  grace =
-      let some = grace_not_zero grace fits in
-      same_grace grace (or_week (number_at 8 new 24)) (or_week (number_at 8 new 32)) (ap or_week block ∙ or_week-some grace.block some.0) (ap or_week inode ∙ or_week-some grace.inode some.1);
+  grace = stored_grace new grace block inode fits;
   records = λ q.
       let outside : (k : ℕ) → 40 * q ≤ k → k < 40 * q + 24 → byte_at new k ≡ byte_at old k = λ k a b. elim (cases_lt k 24) [
         | inl low ↦ keeps.before k low
@@ -204,15 +208,6 @@ stands_graced old new value grace s whole block inode keeps fits = record {
       s.records q ∙ flat_record-read old q s.whole
       ∙ sym (ap unless_zeros (timed_record-same old new q outside (λ some k a b. keeps.behind k (omega arith))))
       ∙ sym (flat_record-read new q whole);
-}
-
--- what the file that was written anew holds, where its bytes stand for a value
-pub holds_rewritten : (tells : Bool) (named named' : Option (List ℕ)) (old loaded new : List ℕ) (value value' : QuotaValue)
-    → (IsTrue tells → named' ≡ Some new) → loaded ≡ new → (FlatStandsFor old value → FlatStandsFor new value') → HoldsFlat tells named old value → HoldsFlat tells named' loaded value'
-holds_rewritten tells named named' old loaded new value value' is l stands held = record {
-  told = held.told;
-  same = is held.told ∙ ap (λ (file : List ℕ). Some file) (sym l);
-  stands = subst (λ (file : List ℕ). FlatStandsFor file value') (sym l) (stands held.stands);
 }
 
 -- a time of record 0 stays

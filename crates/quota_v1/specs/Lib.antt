@@ -1,3 +1,4 @@
+pub mod Build
 pub mod Change
 pub mod FlatFile
 pub mod Opened
@@ -10,6 +11,7 @@ pub use Rattle.quota_types.specs.Rec
 pub use Rattle.quota_blocks.specs.Count
 pub use Rattle.quota_blocks.specs.FileChange
 pub use Rattle.quota_blocks.specs.Frame
+pub use Rattle.quota_blocks.specs.Listed
 pub use Rattle.quota_blocks.specs.QuotaFile
 pub use Rattle.quota_blocks.specs.QuotaValue
 pub use Rattle.quota_blocks.specs.Replace

@@ -13,7 +13,7 @@ use quota_types::{Grace, Rec};
 use std::alloc::{AllocError, Global};
 
 /// Where the two times of a record begin.
-const TIMES: usize = 24;
+pub(crate) const TIMES: usize = 24;
 
 fn write4(bytes: &mut [u8], at: usize, number: u64)
     requires within { at + 4 ≤ length bytes.old }
@@ -49,7 +49,7 @@ fn write_limits(bytes: &mut [u8], at: usize, hard: u64, soft: u64, used: u64)
 }
 
 /// Writes the two times of a record, which in record 0 are the grace periods.
-fn write_times(bytes: &mut [u8], at: usize, block: u64, inode: u64)
+pub(crate) fn write_times(bytes: &mut [u8], at: usize, block: u64, inode: u64)
     requires { at + 16 ≤ length bytes.old }
     ensures block { number_at 8 bytes.new at ≡ block }
     ensures inode { number_at 8 bytes.new (at + 8) ≡ inode }
@@ -76,7 +76,7 @@ fn write_numbers(bytes: &mut [u8], at: usize, rec: &Rec)
 }
 
 /// Writes the record of an identifier. The times of record 0 stay.
-fn write_record(bytes: &mut [u8], id: usize, rec: &Rec)
+pub(crate) fn write_record(bytes: &mut [u8], id: usize, rec: &Rec)
     requires within { 40 * id + 40 ≤ length bytes.old }
     requires kept { IsKept V1 id rec.now }
     ensures written { timed_record bytes.new id ≡ rec.now }

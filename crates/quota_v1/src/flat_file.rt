@@ -1,7 +1,7 @@
 ghost use Rattle.std.specs.Prelude.{◌≡◌, ◌%◌, ◌≤◌, not, vec_len, IsTrue, IfErr, OnOk, OnErr};
 ghost use Rattle.std.specs.String.{string_bytes};
 ghost use Rattle.quota_blocks.specs.Frame.{IsSynced, OnlyReads, ReplacesOne};
-ghost use Rattle.quota_blocks.specs.QuotaFile.{CountsRefusal, OnWant, is_store_fault};
+ghost use Rattle.quota_blocks.specs.QuotaFile.{CountsRefusal, UnlessStoreFailed, is_store_fault};
 ghost use Rattle.quota_blocks.specs.QuotaValue.{QuotaValue};
 ghost use Rattle.quota_blocks.specs.Replace.{replaced_files, replacement_name};
 ghost use Rattle.quota_blocks.specs.World.{KeepsOthers};
@@ -58,7 +58,7 @@ impl V1File {
         ensures unchanged { OnErr result (KeepsOthers (replacement_name (string_bytes self.old.name))
             (S.seen store.old).files (S.seen store.new).files) }
         ensures refused { IfErr result (IsRewriteFault (S.seen store.old).faults (S.seen store.new).faults) }
-        ensures unwritten { IfErr result (λ fault. OnWant fault
+        ensures unwritten { IfErr result (λ fault. UnlessStoreFailed fault
             (OnlyReads (string_bytes self.old.name) (S.seen store.old) (S.seen store.new))) }
         ensures leaves { ReplacesOne (string_bytes self.old.name) (S.seen store.old) (S.seen store.new) }
         ensures synced { OnOk result (IsTrue S.tells

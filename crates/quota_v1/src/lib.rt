@@ -4,15 +4,18 @@
 //! times are the file's grace periods, and the rest of it is the record of identifier 0, which has no timers.
 //!
 //! The one promise: an opened flat file is the map that its bytes stand for, is opened exactly where they stand for
-//! one, and after a change the named file stands for the changed map.
+//! one, and after a change the named file stands for the changed map; a file that is built stands for the map of its list.
 #![tactic(auto)]
 
+mod building;
 mod flat_change;
 mod flat_file;
 mod flat_record;
+pub mod laws;
 mod opening;
 #[cfg(test)]
 mod tests;
 
+pub use building::build_v1;
 pub use flat_file::V1File;
 pub use opening::open_v1;

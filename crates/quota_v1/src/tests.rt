@@ -1,8 +1,8 @@
 ghost use Rattle.std.specs.Prelude.{IsTrue};
 
-use crate::{V1File, open_v1};
-use quota_blocks::{FileFault, MemStore, QuotaFile, Store};
-use quota_types::{Grace, Rec};
+use crate::{V1File, build_v1, open_v1};
+use quota_blocks::{FileFault, MemStore, QuotaFile, Store, replace};
+use quota_types::{Entry, Grace, Rec};
 use std::alloc::Global;
 use std::process::Abort;
 use std::test::Fail;
@@ -24,6 +24,9 @@ const LIMITS_BYTES: &[u8] = b"\xc8\0\0\0\x64\0\0\0\0\0\0\0\x14\0\0\0\x0a\0\0\0\0
 /// A record 0 that has nothing but its times, 7 and 9 seconds.
 const TIMES_BYTES: &[u8] =
     b"\0\0\0\0\0\0\0\0\0\0\0\0\0\0\0\0\0\0\0\0\0\0\0\0\x07\0\0\0\0\0\0\0\x09\0\0\0\0\0\0\0";
+
+/// The periods of `TIMES_BYTES`.
+const TIMES: Grace = Grace { block: 7, inode: 9 };
 
 fn empty_store(alloc: Global, failing: Vec<u64>) -> MemStore {
     MemStore::new(Vec::new(alloc), failing)
@@ -95,8 +98,7 @@ fn set_grace_makes_one_record_of_an_empty_file(rt: HostRuntime) -> Result<(), Fa
     let mut store = empty_store(rt.alloc(), Vec::new(rt.alloc()));
     store.create("q")?;
     let mut file = open_v1(rt.alloc(), &mut store, "q")?;
-    let grace = Grace { block: 7, inode: 9 };
-    assert_eq!(rt; file.set_grace(&mut store, grace), Ok(()));
+    assert_eq!(rt; file.set_grace(&mut store, TIMES), Ok(()));
     assert_eq!(rt; store.file("q"), Some(TIMES_BYTES));
     Ok(())
 }
@@ -110,5 +112,44 @@ fn a_change_that_fails_leaves_the_file_and_ends_its_use(rt: HostRuntime) -> Resu
     assert!(rt; !QuotaFile::<MemStore>::usable(&file));
     assert_eq!(rt; file.refusals, 1);
     assert_eq!(rt; store.file("q"), Some(TIMES_BYTES));
+    Ok(())
+}
+
+#[test]
+fn a_built_file_has_the_periods_and_the_records_of_its_list(rt: HostRuntime) -> Result<(), Fail> {
+    let timed = Rec {
+        btime: 7,
+        itime: 9,
+        ..LIMITS
+    };
+    let of_zero = Entry { id: 0, rec: LIMITS };
+    let of_two = Entry { id: 2, rec: timed };
+    let none = build_v1(rt.alloc(), TIMES, &[])?;
+    assert_eq!(rt; none.as_slice(), TIMES_BYTES);
+    let two = build_v1(rt.alloc(), TIMES, &[of_zero, of_two])?;
+    assert_eq!(rt; two.len(), 120);
+    for (start, with_record) in [(0, true), (40, false), (80, true)] {
+        let bytes = two.get(start..start + 40).unwrap_or(b"");
+        let times = bytes.get(24..).unwrap_or(b"");
+        assert_eq!(rt; bytes.starts_with(LIMITS_BYTES), with_record);
+        assert_eq!(rt; Some(times) == TIMES_BYTES.get(24..), with_record);
+        assert_eq!(rt; is_zeros(bytes), !with_record);
+    }
+    Ok(())
+}
+
+#[test]
+fn a_built_file_is_read_back(rt: HostRuntime) -> Result<(), Fail> {
+    let mut store = empty_store(rt.alloc(), Vec::new(rt.alloc()));
+    let last = Entry {
+        id: 1_048_575,
+        rec: LIMITS,
+    };
+    let bytes = build_v1(rt.alloc(), TIMES, &[last])?;
+    assert_eq!(rt; bytes.len(), 41_943_040);
+    replace(rt.alloc(), &mut store, "q", &bytes)?;
+    let mut file = open_v1(rt.alloc(), &mut store, "q")?;
+    assert_eq!(rt; QuotaFile::<MemStore>::grace(&file), TIMES);
+    assert_eq!(rt; file.next_after(&mut store, None), Ok(Some(last)));
     Ok(())
 }

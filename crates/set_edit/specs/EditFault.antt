@@ -22,15 +22,15 @@ abbrev pub is_store_failure : EditFault → Bool
 is_store_failure (File fault) = is_store_fault fault
 is_store_failure (Unfit _) = false
 
--- a fact where the file had no room or there was no memory, or where the store failed and the file may still be used
+-- a fact where a call on the file was refused, unless the store failed and the file may no longer be used
 abbrev pub OnUnwritten : FileFault → Bool → Type 0 → Type 0
 OnUnwritten Store usable P = IsTrue usable → P
-OnUnwritten (Damage _) usable P = ⊤
+OnUnwritten (Damage _) usable P = P
 OnUnwritten (Full _ _) usable P = P
 OnUnwritten Memory usable P = P
 
--- a fact where an edit changed nothing: the value did not fit, the file had no room, there was no memory, or the store
--- failed and the file may still be used
+-- a fact where an edit changed nothing: the value did not fit, or a call on the file was refused, unless the store failed and
+-- the file may no longer be used
 abbrev pub OnUnchanged : EditFault → Bool → Type 0 → Type 0
 OnUnchanged (File fault) usable P = OnUnwritten fault usable P
 OnUnchanged (Unfit _) usable P = P

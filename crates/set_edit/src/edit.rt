@@ -8,7 +8,7 @@ ghost use Rattle.quota_types.specs.declared.record.Grace.{Grace};
 ghost use Rattle.quota_types.specs.declared.record.Rec.{Rec};
 ghost use Rattle.quota_blocks.specs.FileChange.{IsLeft};
 ghost use Rattle.quota_blocks.specs.Frame.{IsSynced, OnlyReads, ReplacesOne};
-ghost use Rattle.quota_blocks.specs.QuotaFile.{CountsRefusal, IfFull, IsChangeFault, OnStore, OnWant, is_store_fault};
+ghost use Rattle.quota_blocks.specs.QuotaFile.{CountsRefusal, IfFull, IsChangeFault, OnStore, UnlessStoreFailed, is_store_fault};
 ghost use Rattle.quota_blocks.specs.QuotaValue.{QuotaValue};
 ghost use Rattle.set_edit.specs.EditFault.{IfNoRoom, LeavesOld, OnBroken, OnUnchanged, file_fault, is_store_failure};
 ghost use Rattle.set_edit.specs.Edited.{change_to, limits_change, limits_set, wanted_limits, with_limits, with_or_without};
@@ -23,7 +23,8 @@ use quota_types::{Rec, next_kept};
 /// # Errors
 ///
 /// It is refused with `NoRoom` by the first field of the record for which the format has no room, in the order of
-/// `Field`, with its value. Then, and where the file has no room or there is no memory, nothing has changed. Where the
+/// `Field`, with its value. Then, and where the file has no room or there is no memory, nothing has changed; where there is
+/// no room nothing is written whatever fails besides. Where the
 /// store failed and the file may still be used, nothing has changed either; where it may not, what is left of the named
 /// file lies between the old one and what the change would have made of it. A file that is replaced by each change is as
 /// before after any refusal. Each fault of the opened file is answered as it is, and raises its count of refusals.
@@ -43,6 +44,10 @@ pub fn set_limits<S: Store, F: QuotaFile<S>>(
     ensures room { OnOk result ((value : QuotaValue) (blocks limit : ℕ) → F.holds file.old store.old value
         → IfOk (limits_set value id limits.now now) (λ edited. ¬ (F.lacks_room (F.seen file.old)
         ((S.seen store.old).files (F.seen file.old).name) edited blocks limit))) }
+    ensures full { (value : QuotaValue) (blocks limit : ℕ) → F.holds file.old store.old value
+        → IfOk (limits_set value id limits.now now) (λ edited. F.lacks_room (F.seen file.old)
+        ((S.seen store.old).files (F.seen file.old).name) edited blocks limit
+        → OnlyReads (F.seen file.old).name (S.seen store.old) (S.seen store.new)) }
     ensures absent { (value : QuotaValue) → F.holds file.old store.old value → get value.records id ≡ None
         → IsNull (wanted_limits None limits.now value.grace now)
         → OnlyReads (F.seen file.old).name (S.seen store.old) (S.seen store.new) }
@@ -121,6 +126,10 @@ fn put_or_remove<S: Store, F: QuotaFile<S>>(
     ensures room { OnOk result ((value : QuotaValue) (blocks limit : ℕ) → F.holds file.old store.old value
         → ¬ (F.lacks_room (F.seen file.old) ((S.seen store.old).files (F.seen file.old).name)
         (with_or_without value id rec) blocks limit)) }
+    ensures full { (value : QuotaValue) (blocks limit : ℕ) → F.holds file.old store.old value
+        → F.lacks_room (F.seen file.old) ((S.seen store.old).files (F.seen file.old).name)
+        (with_or_without value id rec) blocks limit
+        → OnlyReads (F.seen file.old).name (S.seen store.old) (S.seen store.new) }
     ensures absent { (value : QuotaValue) → F.holds file.old store.old value → get value.records id ≡ None
         → IsNull rec → OnlyReads (F.seen file.old).name (S.seen store.old) (S.seen store.new) }
     ensures refused { IfErr result (IsChangeFault (S.seen store.old).faults (S.seen store.new).faults
@@ -131,9 +140,9 @@ fn put_or_remove<S: Store, F: QuotaFile<S>>(
         → F.holds file.old store.old value → get value.records id ≡ None → ¬ (IsNull rec))) }
     ensures may { IfErr result (F.may_refuse (F.seen file.old).format) }
     ensures passes { IfErr result (λ fault. IfFull fault (λ blocks limit. limit < blocks)) }
-    ensures stays { IfErr result (λ fault. OnWant fault ((value : QuotaValue) → F.holds file.old store.old value
+    ensures stays { IfErr result (λ fault. UnlessStoreFailed fault ((value : QuotaValue) → F.holds file.old store.old value
         → F.holds file.new store.new value)) }
-    ensures unwritten { IfErr result (λ fault. OnWant fault
+    ensures unwritten { IfErr result (λ fault. UnlessStoreFailed fault
         (OnlyReads (F.seen file.old).name (S.seen store.old) (S.seen store.new))) }
     ensures left { IfErr result (λ fault. OnStore fault ((value : QuotaValue) → F.holds file.old store.old value
         → IsLeft (F.makes (change_to id rec) (F.seen file.old).name) (F.may_leave (F.seen file.old).format)

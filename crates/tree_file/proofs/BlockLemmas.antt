@@ -1,11 +1,12 @@
 -- A block that is read: what the file has of it, and zeros behind that.
-use Rattle.std.proofs.Common.{◌≡◌, ℕ, zero, suc, ◌-◌, ◌*◌, ◌≤◌, List, [], ◌∷◌, ◌++◌, length, take, drop, replicate, refl, sym, ap, ◌∙◌, arith, length-take, length-drop}
-use Rattle.std.proofs.lemmas.List.{append-nil, take-replicate, drop_all}
+use Rattle.std.proofs.Common.{◌≡◌, ℕ, zero, suc, ◌-◌, ◌*◌, ◌≤◌, min, inl, inr, List, [], ◌∷◌, ◌++◌, length, take, drop, replicate, refl, sym, ap, ◌∙◌, arith, length-take, length-drop}
+use Rattle.std.proofs.lemmas.Bool.{cases_lt}
+use Rattle.std.proofs.lemmas.List.{append-nil, take-replicate, drop-replicate, drop_all, take_all}
 use borrow.Rule.Slice.PartMut.{mid_of, post_of, put_mid}
 use Rattle.tree_file.specs.Block.{block_of}
 
 -- the beginning of a list with zeros behind it is that of the list, with as many zeros as are missing
-zeros_behind : (n m : ℕ) (xs : List ℕ) → n ≤ m → take n (xs ++ replicate m 0) ≡ take n xs ++ replicate (n - length (take n xs)) 0
+pub zeros_behind : (n m : ℕ) (xs : List ℕ) → n ≤ m → take n (xs ++ replicate m 0) ≡ take n xs ++ replicate (n - length (take n xs)) 0
 zeros_behind zero m xs le = refl
 zeros_behind (suc n) m [] le =
     let whole : suc n ≡ suc n - 0 = omega arith in
@@ -36,3 +37,34 @@ read_whole file number at room count buffer filled place whole long few counted_
     ∙ ap (λ (ys : List ℕ). ys ++ replicate (1024 - length front) 0) is
     ∙ sym (zeros_behind 1024 1024 (drop at file) (omega arith))
     ∙ ap (λ (k : ℕ). take 1024 (drop k file ++ replicate 1024 0)) place
+
+-- the bytes from a place on, or none where it is past the end
+rest_from : (file : List ℕ) (at : ℕ) → drop (min (length file) at) file ≡ drop at file
+rest_from file at = elim (cases_lt (length file) at) [
+  | inl past ↦
+      let end : min (length file) at ≡ length file = omega arith in
+      ap (λ (k : ℕ). drop k file) end ∙ drop_all (length file) file (omega arith) ∙ sym (drop_all at file (omega arith))
+  | inr within ↦ let there : min (length file) at ≡ at = omega arith in ap (λ (k : ℕ). drop k file) there
+]
+
+-- what the file has of a block, copied over the beginning of zeros, is the block
+pub copied_block : (file part front zeros : List ℕ) (number start count : ℕ) → start ≡ min (length file) (1024 * number) → part ≡ take (length file - start) (drop start file)
+    → count ≡ min (length part) 1024 → front ≡ take count part → zeros ≡ replicate 1024 0 → front ++ drop count zeros ≡ block_of file number
+unfolding block_of
+copied_block file part front zeros number start count from behind few is none =
+    let rest : List ℕ = drop (1024 * number) file in
+    let same : part ≡ rest =
+    behind ∙ take_all (length file - start) (drop start file) (omega (arith, length-drop start file)) ∙ ap (λ (k : ℕ). drop k file) from ∙ rest_from file (1024 * number) in
+    let counted : count ≡ length (take 1024 rest) = omega (arith, few, ap length same, length-take 1024 rest) in
+    let whole : take count rest ≡ take 1024 rest = take_counted rest count (omega (arith, few, ap length same)) in
+    ap (λ (ys : List ℕ). ys ++ drop count zeros) (is ∙ ap (take count) same ∙ whole)
+    ∙ ap (λ (ys : List ℕ). take 1024 rest ++ ys) (ap (drop count) none ∙ drop-replicate count 1024 0 ∙ ap (λ (k : ℕ). replicate (1024 - k) 0) counted)
+    ∙ sym (zeros_behind 1024 1024 rest (omega arith))
+  where
+    take_counted : (xs : List ℕ) (n : ℕ) → n ≡ min (length xs) 1024 → take n xs ≡ take 1024 xs
+    take_counted xs n is = elim (cases_lt (length xs) 1024) [
+      | inl low ↦
+          let all : n ≡ length xs = omega arith in
+          take_all n xs (omega arith) ∙ sym (take_all 1024 xs (omega arith))
+      | inr high ↦ let all : n ≡ 1024 = omega arith in ap (λ (k : ℕ). take k xs) all
+    ]

@@ -11,7 +11,8 @@ use Rattle.quota_types.specs.declared.record.Entry.{Entry}
 use Rattle.entry_codec.specs.Entry.{entries_per_block, padding_of}
 use Rattle.tree_file.specs.declared.tree_path.TreePath.{TreePath}
 use Rattle.tree_file.specs.Block.{block_of, stated_count, word_at}
-use Rattle.tree_file.specs.Build.{HasNoPadding, HasOneRoom, ids_of}
+use Rattle.quota_blocks.specs.Listed.{ids_of}
+use Rattle.tree_file.specs.Build.{HasNoPadding, HasOneRoom}
 use Rattle.tree_file.specs.Count.{StandsIn, times}
 use Rattle.tree_file.specs.Entries.{entry_bytes, has_unused, used_entries, used_ids}
 use Rattle.tree_file.specs.Levels.{blocks_of}

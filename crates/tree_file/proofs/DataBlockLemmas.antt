@@ -157,7 +157,7 @@ any_left test first zero count all each = sym (le-ltb first count (omega arith))
 any_left test first (suc left) count all each =
     ap (λ (b : Bool). b || list_any test (range_with_len (first + 1) left)) (each first (omega arith)) ∙ sym (lt-ltb first count (omega arith))
 
-used_is : (format : Format) (bytes : List ℕ) (id : ℕ) (rec : Rec) → IsEntry format bytes id rec → (is_unused bytes ≡ false) × (entry_of format bytes ≡ Some (record { id = id; rec = rec }))
+pub used_is : (format : Format) (bytes : List ℕ) (id : ℕ) (rec : Rec) → IsEntry format bytes id rec → (is_unused bytes ≡ false) × (entry_of format bytes ≡ Some (record { id = id; rec = rec }))
 used_is V1 bytes id rec e = absurd e
 used_is V2R0 bytes id rec e =
     let found : ℕ → Rec → Option Entry = λ i r. Some (record { id = i; rec = r }) in (

@@ -1,6 +1,6 @@
--- The leaf of an identifier is where its four digits lead, and the leaf behind one is found by going down.
-use Rattle.std.proofs.Common.{◌≡◌, ◌≢◌, ℕ, zero, suc, ◌+◌, ◌*◌, ◌/◌, ◌%◌, ◌^◌, ◌<◌, ◌≤◌, Bool, true, false, cond, ◌==◌, nat_lt, List, [], ◌∷◌, ◌++◌, find, Option, Some, None, option_and_then, option_map, refl, sym, ap, subst, ◌∙◌, ◌⊎◌, inl, inr, arith, pow-suc, ne_eqb, eq-eqb}
-use Rattle.std.proofs.lemmas.Bool.{cases_Bool, cases_eq, cases_lt, le-ltb, lt-ltb}
+-- The leaf of an identifier is where its four digits lead, and the leaf from one on is found by going down.
+use Rattle.std.proofs.Common.{◌≡◌, ◌≢◌, ℕ, zero, suc, ◌+◌, ◌*◌, ◌/◌, ◌%◌, ◌^◌, ◌<◌, ◌≤◌, Bool, true, false, cond, ◌==◌, nat_le, List, [], ◌∷◌, ◌++◌, find, Option, Some, None, option_and_then, option_map, refl, sym, ap, subst, ◌∙◌, ◌⊎◌, inl, inr, arith, pow-suc, ne_eqb, eq-eqb}
+use Rattle.std.proofs.lemmas.Bool.{cases_Bool, cases_eq, cases_lt, le-leb, lt-leb}
 use Rattle.std.proofs.lemmas.Bool.Decides.{eqb_tells}
 use Rattle.std.proofs.lemmas.List.{append-nil}
 use Rattle.std.proofs.lemmas.List.Concat.{flat_map-append}
@@ -8,7 +8,7 @@ use Rattle.std.specs.List.{cons_option, filter_map, flat_map, range_with_len}
 use Rattle.std.specs.Option.{option_or}
 use Rattle.tree_file.specs.declared.tree_path.TreePath.{TreePath}
 use Rattle.tree_file.specs.Block.{word_at}
-use Rattle.tree_file.specs.Descent.{block_led_to, first_given, leaf_after, leaf_block, led_by, path_after, paths_below}
+use Rattle.tree_file.specs.Descent.{block_led_to, leaf_block, leaf_from, led_by, path_from, paths_below}
 use Rattle.tree_file.specs.Tree.{leads, leaves, paths, step, steps}
 use Rattle.tree_file.proofs.OrderLemmas.{rises_bound}
 use Rattle.tree_file.proofs.PartsLemmas.{find_first, find_later}
@@ -27,7 +27,7 @@ find_below low high number (p ∷ ps) r under =
     ∙ find_below (suc p.number) high number ps r.1 (omega arith)
 
 -- and so is one above them
-find_above : (low high number : ℕ) (ps : List TreePath) → Rises low ps high → high ≤ number → find (is_number number) ps ≡ None
+pub find_above : (low high number : ℕ) (ps : List TreePath) → Rises low ps high → high ≤ number → find (is_number number) ps ≡ None
 find_above low high number [] r over = refl
 find_above low high number (p ∷ ps) r over =
     let to : suc p.number ≤ high = rises_bound (suc p.number) high ps r.1 in
@@ -35,7 +35,7 @@ find_above low high number (p ∷ ps) r over =
     ∙ find_above (suc p.number) high number ps r.1 over
 
 -- a step is there or not
-step_there : (file : List ℕ) (blocks : ℕ) (path : TreePath) (digit : ℕ)
+pub step_there : (file : List ℕ) (blocks : ℕ) (path : TreePath) (digit : ℕ)
     → (step file blocks path digit ≡ Some (record { number = 256 * path.number + digit; block = word_at file path.block digit })) ⊎ (step file blocks path digit ≡ None)
 step_there file blocks path digit =
     let next : TreePath = record { number = 256 * path.number + digit; block = word_at file path.block digit } in
@@ -71,14 +71,14 @@ find_step file blocks path digit first (suc count) from to =
           ]
     ]
 
-find_in_steps : (file : List ℕ) (blocks : ℕ) (path : TreePath) (number : ℕ) → path.number ≡ number / 256 → find (is_number number) (steps file blocks path) ≡ step file blocks path (number % 256)
+pub find_in_steps : (file : List ℕ) (blocks : ℕ) (path : TreePath) (number : ℕ) → path.number ≡ number / 256 → find (is_number number) (steps file blocks path) ≡ step file blocks path (number % 256)
 unfolding steps
 find_in_steps file blocks path number is =
     let parts : 256 * path.number + number % 256 ≡ number = omega arith in
     ap (λ (n : ℕ). find (is_number n) (filter_map (step file blocks path) (range_with_len 0 256))) (sym parts)
     ∙ find_step file blocks path (number % 256) 0 256 (omega arith) (omega arith)
 
-option_cases : {X : Type 0} (o : Option X) → (o ≡ None) ⊎ ((x : X) × (o ≡ Some x))
+pub option_cases : {X : Type 0} (o : Option X) → (o ≡ None) ⊎ ((x : X) × (o ≡ Some x))
 option_cases None = inl refl
 option_cases (Some x) = inr (x, refl)
 
@@ -152,7 +152,7 @@ below_paths file blocks upper (suc digits) =
 pub leaves_below : (file : List ℕ) (blocks : ℕ) → leaves file blocks ≡ paths_below file blocks 4 (record { number = 0; block = 1 })
 leaves_below file blocks = sym (below_paths file blocks 0 4) ∙ append-nil (paths_below file blocks 4 (record { number = 0; block = 1 }))
 
-Rises-below : (file : List ℕ) (blocks digits low high : ℕ) (ps : List TreePath) → Rises low ps high → Rises (256 ^ digits * low) (flat_map (paths_below file blocks digits) ps) (256 ^ digits * high)
+pub Rises-below : (file : List ℕ) (blocks digits low high : ℕ) (ps : List TreePath) → Rises low ps high → Rises (256 ^ digits * low) (flat_map (paths_below file blocks digits) ps) (256 ^ digits * high)
 Rises-below file blocks zero low high ps r =
     subst (λ (qs : List TreePath). Rises (256 ^ 0 * low) qs (256 ^ 0 * high)) (sym (flat_map_singles ps)) (Rises_wider low (256 ^ 0 * low) ps high (256 ^ 0 * high) (omega arith) (omega arith) r)
 Rises-below file blocks (suc digits) low high ps r =
@@ -169,75 +169,57 @@ Rises-paths_below file blocks digits path =
     subst (λ (qs : List TreePath). Rises (256 ^ digits * path.number) qs (256 ^ digits * suc path.number)) (append-nil (paths_below file blocks digits path))
     (Rises-below file blocks digits path.number (suc path.number) (path ∷ []) (omega arith, omega arith))
 
--- where all numbers are passed, none is behind
-pub none_after : (low high after : ℕ) (ps : List TreePath) → Rises low ps high → high ≤ suc after → path_after after ps ≡ None
-none_after low high after [] r over = refl
-none_after low high after (p ∷ ps) r over =
+-- where all numbers are passed, there is none from there on
+pub none_from : (low high from : ℕ) (ps : List TreePath) → Rises low ps high → high ≤ from → path_from from ps ≡ None
+none_from low high from [] r over = refl
+none_from low high from (p ∷ ps) r over =
     let to : suc p.number ≤ high = rises_bound (suc p.number) high ps r.1 in
-    ap (λ (b : Bool). cond b (Some p) (path_after after ps)) (le-ltb after p.number (omega arith)) ∙ none_after (suc p.number) high after ps r.1 over
+    ap (λ (b : Bool). cond b (Some p) (path_from from ps)) (lt-leb from p.number (omega arith)) ∙ none_from (suc p.number) high from ps r.1 over
 
--- where none is passed, the first one is
-pub first_after : (low high after : ℕ) (p : TreePath) (ps : List TreePath) → Rises low (p ∷ ps) high → after < low → path_after after (p ∷ ps) ≡ Some p
-first_after low high after p ps r under =
-    let from : low ≤ p.number = r.0 in
-    ap (λ (b : Bool). cond b (Some p) (path_after after ps)) (lt-ltb after p.number (omega arith))
+-- where none is passed, the first one is the first of all
+pub all_from : (low high from : ℕ) (ps : List TreePath) → Rises low ps high → from ≤ low → path_from from ps ≡ path_from 0 ps
+all_from low high from [] r under = refl
+all_from low high from (p ∷ ps) r under =
+    let above : low ≤ p.number = r.0 in
+    ap (λ (b : Bool). cond b (Some p) (path_from from ps)) (le-leb from p.number (omega arith))
+    ∙ sym (ap (λ (b : Bool). cond b (Some p) (path_from 0 ps)) (le-leb 0 p.number (omega arith)))
 
-after-append : (after : ℕ) (ps qs : List TreePath) → path_after after (ps ++ qs) ≡ option_or (path_after after ps) (path_after after qs)
-after-append after [] qs = refl
-after-append after (p ∷ ps) qs = elim (cases_Bool (nat_lt after p.number)) [
-  | inl here ↦ ap (λ (b : Bool). cond b (Some p) (path_after after (ps ++ qs))) here ∙ sym (ap (λ (b : Bool). option_or (cond b (Some p) (path_after after ps)) (path_after after qs)) here)
-  | inr not_here ↦ ap (λ (b : Bool). cond b (Some p) (path_after after (ps ++ qs))) not_here ∙ after-append after ps qs
-      ∙ sym (ap (λ (b : Bool). option_or (cond b (Some p) (path_after after ps)) (path_after after qs)) not_here)
+pub from-append : (from : ℕ) (ps qs : List TreePath) → path_from from (ps ++ qs) ≡ option_or (path_from from ps) (path_from from qs)
+from-append from [] qs = refl
+from-append from (p ∷ ps) qs = elim (cases_Bool (nat_le from p.number)) [
+  | inl here ↦ ap (λ (b : Bool). cond b (Some p) (path_from from (ps ++ qs))) here ∙ sym (ap (λ (b : Bool). option_or (cond b (Some p) (path_from from ps)) (path_from from qs)) here)
+  | inr not_here ↦ ap (λ (b : Bool). cond b (Some p) (path_from from (ps ++ qs))) not_here ∙ from-append from ps qs
+      ∙ sym (ap (λ (b : Bool). option_or (cond b (Some p) (path_from from ps)) (path_from from qs)) not_here)
 ]
 
-after-flat_map : (after : ℕ) (f : TreePath → List TreePath) (ps : List TreePath) → path_after after (flat_map f ps) ≡ first_given (λ p. path_after after (f p)) ps
-after-flat_map after f [] = refl
-after-flat_map after f (p ∷ ps) = after-append after (f p) (flat_map f ps) ∙ ap (option_or (path_after after (f p))) (after-flat_map after f ps)
-
--- the path behind a number is that behind it from the first step that has one
-pub after_below : (file : List ℕ) (blocks digits after : ℕ) (path : TreePath)
-    → path_after after (paths_below file blocks (suc digits) path) ≡ first_given (λ next. path_after after (paths_below file blocks digits next)) (steps file blocks path)
-after_below file blocks digits after path = after-flat_map after (paths_below file blocks digits) (steps file blocks path)
-
--- a step whose numbers are all passed has none
-pub step_passed : (file : List ℕ) (blocks digits after : ℕ) (path : TreePath) → 256 ^ digits * suc path.number ≤ suc after → path_after after (paths_below file blocks digits path) ≡ None
-step_passed file blocks digits after path over = none_after _ _ after (paths_below file blocks digits path) (Rises-paths_below file blocks digits path) over
-
-some_same : (p q : TreePath) → Some p ≡ Some q → p ≡ q
+pub some_same : (p q : TreePath) → Some p ≡ Some q → p ≡ q
 some_same p q is = cc
 
-not_some : (p : TreePath) → Some p ≢ None
+pub not_some : (p : TreePath) → Some p ≢ None
 not_some p is = cc
 
--- where there is no path behind a number, no greater number has one
-pub after_none : (after : ℕ) (ps : List TreePath) → path_after after ps ≡ None → (number : ℕ) → after < number → find (λ (path : TreePath). path.number == number) ps ≡ None
-after_none after [] is number above = refl
-after_none after (p ∷ ps) is number above = elim (cases_lt after p.number) [
-  | inl here ↦ absurd (not_some p (sym (ap (λ (b : Bool). cond b (Some p) (path_after after ps)) (lt-ltb after p.number here)) ∙ is))
-  | inr passed ↦
+-- where there is no path from a number on, no such number has one
+pub none_on : (from : ℕ) (ps : List TreePath) → path_from from ps ≡ None → (number : ℕ) → from ≤ number → find (λ (path : TreePath). path.number == number) ps ≡ None
+none_on from [] is number above = refl
+none_on from (p ∷ ps) is number above = elim (cases_lt p.number from) [
+  | inl passed ↦
       ap (λ (b : Bool). cond b (Some p) (find (is_number number) ps)) (ne_eqb p.number number (λ e. omega (arith, e, passed, above)))
-      ∙ after_none after ps (sym (ap (λ (b : Bool). cond b (Some p) (path_after after ps)) (le-ltb after p.number passed)) ∙ is) number above
+      ∙ none_on from ps (sym (ap (λ (b : Bool). cond b (Some p) (path_from from ps)) (lt-leb from p.number passed)) ∙ is) number above
+  | inr here ↦ absurd (not_some p (sym (ap (λ (b : Bool). cond b (Some p) (path_from from ps)) (le-leb from p.number here)) ∙ is))
 ]
 
--- the path behind a number: it is there, and no number between them has one
-pub record IsPathAfter (after : ℕ) (ps : List TreePath) (path : TreePath) : Type 0 where
-  pub above : after < path.number
+-- the path from a number on: it is there, and no number between them has one
+pub record IsPathFrom (from : ℕ) (ps : List TreePath) (path : TreePath) : Type 0 where
+  pub above : from ≤ path.number
   pub there : find (λ (other : TreePath). other.number == path.number) ps ≡ Some path
-  pub none_between : (number : ℕ) → after < number → number < path.number → find (λ (other : TreePath). other.number == number) ps ≡ None
+  pub none_between : (number : ℕ) → from ≤ number → number < path.number → find (λ (other : TreePath). other.number == number) ps ≡ None
 
-pub after_some : (low high after : ℕ) (ps : List TreePath) (path : TreePath) → Rises low ps high → path_after after ps ≡ Some path → IsPathAfter after ps path
-after_some low high after [] path r is = absurd (not_some path (sym is))
-after_some low high after (p ∷ ps) path r is = elim (cases_lt after p.number) [
-  | inl here ↦
-      let same : p ≡ path = some_same p path (sym (ap (λ (b : Bool). cond b (Some p) (path_after after ps)) (lt-ltb after p.number here)) ∙ is) in
-      subst (IsPathAfter after (p ∷ ps)) same (record {
-        above = here;
-        there = ap (λ (b : Bool). cond b (Some p) (find (is_number p.number) ps)) (eq-eqb p.number p.number refl);
-        none_between = λ number above below. find_below p.number high number (p ∷ ps) (omega arith, r.1) below;
-      })
-  | inr passed ↦
-      let rest : IsPathAfter after ps path =
-      after_some (suc p.number) high after ps path r.1 (sym (ap (λ (b : Bool). cond b (Some p) (path_after after ps)) (le-ltb after p.number passed)) ∙ is) in
+pub from_some : (low high from : ℕ) (ps : List TreePath) (path : TreePath) → Rises low ps high → path_from from ps ≡ Some path → IsPathFrom from ps path
+from_some low high from [] path r is = absurd (not_some path (sym is))
+from_some low high from (p ∷ ps) path r is = elim (cases_lt p.number from) [
+  | inl passed ↦
+      let rest : IsPathFrom from ps path =
+      from_some (suc p.number) high from ps path r.1 (sym (ap (λ (b : Bool). cond b (Some p) (path_from from ps)) (lt-leb from p.number passed)) ∙ is) in
       let above = rest.above in
       record {
         above = above;
@@ -245,11 +227,18 @@ after_some low high after (p ∷ ps) path r is = elim (cases_lt after p.number) 
         none_between = λ number over under.
             ap (λ (b : Bool). cond b (Some p) (find (is_number number) ps)) (ne_eqb p.number number (λ e. omega (arith, e, passed, over))) ∙ rest.none_between number over under;
       }
+  | inr here ↦
+      let same : p ≡ path = some_same p path (sym (ap (λ (b : Bool). cond b (Some p) (path_from from ps)) (le-leb from p.number here)) ∙ is) in
+      subst (IsPathFrom from (p ∷ ps)) same (record {
+        above = here;
+        there = ap (λ (b : Bool). cond b (Some p) (find (is_number p.number) ps)) (eq-eqb p.number p.number refl);
+        none_between = λ number above below. find_below p.number high number (p ∷ ps) (omega arith, r.1) below;
+      })
 ]
 
--- the leaf behind an identifier is that of the least greater one that has a leaf
-pub leaf_is_after : (file : List ℕ) (blocks after : ℕ) (leaf : TreePath) → leaf_after file blocks after ≡ Some leaf → IsPathAfter after (leaves file blocks) leaf
-leaf_is_after file blocks after leaf is = after_some 0 (256 ^ 4) after (leaves file blocks) leaf (Rises-paths file blocks 4) is
+-- the leaf from an identifier on is that of the least one from there on that has a leaf
+pub leaf_is_from : (file : List ℕ) (blocks from : ℕ) (leaf : TreePath) → leaf_from file blocks from ≡ Some leaf → IsPathFrom from (leaves file blocks) leaf
+leaf_is_from file blocks from leaf is = from_some 0 (256 ^ 4) from (leaves file blocks) leaf (Rises-paths file blocks 4) is
 
-pub no_leaf_after : (file : List ℕ) (blocks after : ℕ) → leaf_after file blocks after ≡ None → (id : ℕ) → after < id → find (λ (leaf : TreePath). leaf.number == id) (leaves file blocks) ≡ None
-no_leaf_after file blocks after is id above = after_none after (leaves file blocks) is id above
+pub no_leaf_from : (file : List ℕ) (blocks from : ℕ) → leaf_from file blocks from ≡ None → (id : ℕ) → from ≤ id → find (λ (leaf : TreePath). leaf.number == id) (leaves file blocks) ≡ None
+no_leaf_from file blocks from is id above = none_on from (leaves file blocks) is id above

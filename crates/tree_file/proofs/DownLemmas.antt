@@ -104,7 +104,7 @@ times_in_tree file blocks block =
     )
 
 -- the levels down to one of the tree are part of it
-times_above : (file : List ℕ) (blocks digits block : ℕ) → digits < 4
+pub times_above : (file : List ℕ) (blocks digits block : ℕ) → digits < 4
     → times (blocks_above file blocks digits) block + times (level file blocks digits) block ≤ times (tree_blocks file blocks) block
 times_above file blocks zero block few = omega (arith, times_in_tree file blocks block)
 times_above file blocks (suc zero) block few = omega (arith, times_in_tree file blocks block, times-append [] (level file blocks 0) block)

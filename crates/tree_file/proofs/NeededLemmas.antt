@@ -8,7 +8,7 @@ use Rattle.std.proofs.lemmas.Nat.{le-div}
 use Rattle.std.specs.List.{AllByRecursion}
 use Rattle.std.specs.List.Sorted.{IsStrictlyIncreasing}
 use Rattle.quota_types.specs.declared.record.Entry.{Entry}
-use Rattle.tree_file.specs.Build.{ids_of}
+use Rattle.quota_blocks.specs.Listed.{ids_of}
 use Rattle.tree_file.specs.Count.{StandsIn}
 use Rattle.tree_file.specs.Size.{each_once}
 use Rattle.tree_file.proofs.CountLemmas.{times-append, times-cons-same, times_cases}

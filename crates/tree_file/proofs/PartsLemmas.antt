@@ -17,7 +17,7 @@ use Rattle.quota_types.specs.declared.record.Rec.{Rec}
 use Rattle.entry_codec.specs.Entry.{entries_per_block}
 use Rattle.tree_file.specs.declared.tree_path.TreePath.{TreePath}
 use Rattle.tree_file.specs.Block.{block_of}
-use Rattle.tree_file.specs.Build.{ids_of, records_of}
+use Rattle.quota_blocks.specs.Listed.{ids_of, records_of}
 use Rattle.tree_file.specs.Entries.{used_entries}
 use Rattle.tree_file.specs.NewFile.{Part, leaves_in, numbers_of, part_of, parts_needed, parts_of}
 use Rattle.tree_file.specs.Size.{filled_blocks}

@@ -17,6 +17,8 @@ use Rattle.tree_file.specs.declared.tree_path.TreePath.{TreePath}
 use Rattle.tree_file.specs.Block.{block_of}
 use Rattle.tree_file.specs.Count.{StandsIn}
 use Rattle.tree_file.specs.Entries.{used_entries}
+use Rattle.tree_file.specs.NewFile.{numbers_of}
+use Rattle.tree_file.specs.Opened.{ids_in}
 use Rattle.tree_file.specs.Roles.{Filled}
 use Rattle.tree_file.specs.Tree.{ids_at, leaves}
 use Rattle.tree_file.specs.TreeFile.{IsSound, TreeStandsFor, record_in}
@@ -24,7 +26,7 @@ use Rattle.tree_file.proofs.CountLemmas.{times_cases}
 use Rattle.tree_file.proofs.PathLemmas.{Rises, Rises-paths, each_weaker, leaves_lead}
 
 -- an identifier that some entry has is found
-found_entry : (entries : List Entry) (id : ℕ) → StandsIn (map (λ (entry : Entry). entry.id) entries) id
+pub found_entry : (entries : List Entry) (id : ℕ) → StandsIn (map (λ (entry : Entry). entry.id) entries) id
     → (rec : Rec) × (option_map (λ (entry : Entry). entry.rec) (find (λ (entry : Entry). entry.id == id) entries) ≡ Some rec)
 found_entry [] id stands = absurd (omega arith)
 found_entry (e ∷ entries) id stands =
@@ -126,3 +128,19 @@ sound_value file kind format magic version sound =
           ∙ ap length (entries-from_sorted nat_cmp (leaf_records format file (leaves file (header_of file).blocks) all) ordered)
           ∙ length-leaf_records format file (leaves file (header_of file).blocks) all,
     )
+
+-- the identifiers of leaves with their records are those of the leaves
+leaf_record_ids : (format : Format) (file : List ℕ) (ps : List TreePath) (all : AllByRecursion (HasRecord format file) ps) → map (λ (pair : ℕ × Rec). pair.0) (leaf_records format file ps all) ≡ numbers_of ps
+unfolding leaf_records
+leaf_record_ids format file [] all = refl
+leaf_record_ids format file (p ∷ ps) all = ap (λ (ids : List ℕ). p.number ∷ ids) (leaf_record_ids format file ps all.1)
+
+-- the identifiers of that value are those of the leaves
+pub sound_value_ids : (file : List ℕ) (kind : Kind) (format : Format) (magic : (header_of file).magic ≡ magic_of kind) (version : format_of (header_of file).version ≡ Some format)
+    (sound : IsSound format file (header_of file)) → ids_in (sound_value file kind format magic version sound).0.records ≡ numbers_of (leaves file (header_of file).blocks)
+unfolding sound_value
+sound_value_ids file kind format magic version sound =
+    let all : AllByRecursion (HasRecord format file) (leaves file (header_of file).blocks) = leaves_have_records file (header_of file).blocks format sound.filled in
+    let ordered : T (is_sorted nat_cmp (leaf_records format file (leaves file (header_of file).blocks) all)) = sorted_records format file 0 (256 ^ 4) (leaves file (header_of file).blocks) all (Rises-paths file (header_of file).blocks 4) in
+    ap (λ (pairs : List (ℕ × Rec)). map (λ (pair : ℕ × Rec). pair.0) pairs) (entries-from_sorted nat_cmp (leaf_records format file (leaves file (header_of file).blocks) all) ordered)
+    ∙ leaf_record_ids format file (leaves file (header_of file).blocks) all

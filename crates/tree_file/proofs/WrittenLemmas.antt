@@ -14,7 +14,8 @@ use Rattle.entry_codec.specs.Header.{AreOf, format_of, header_of}
 use Rattle.entry_codec.specs.declared.header.Header.{Header}
 use Rattle.tree_file.specs.declared.tree_path.TreePath.{TreePath}
 use Rattle.tree_file.specs.Block.{block_of}
-use Rattle.tree_file.specs.Build.{HasNoPadding, HasOneRoom, ids_of, records_of, value_of}
+use Rattle.quota_blocks.specs.Listed.{ids_of, records_of, value_of}
+use Rattle.tree_file.specs.Build.{HasNoPadding, HasOneRoom}
 use Rattle.tree_file.specs.Entries.{used_entries}
 use Rattle.tree_file.specs.Levels.{blocks_of}
 use Rattle.tree_file.specs.NewFile.{AllLead, AreBelow, AreDataBlocks, AreSiblings, IsDataBlock, IsLevel, KeepsBlocks, Part, leaves_in, numbers_of, parents_of, part_of, parts_needed, parts_of}

@@ -1,12 +1,7 @@
 -- A whole new tree file, from a list of entries.
-use Rattle.std.specs.Prelude.{◌≡◌, ℕ, ◌<◌, ◌≤◌, IsTrue, List, map, ⊤}
-use Rattle.std.specs.FinMap.{from_entries}
+use Rattle.std.specs.Prelude.{◌≡◌, ℕ, ◌<◌, ◌≤◌, IsTrue, List, ⊤}
 use Rattle.quota_types.specs.Bytes.{byte_at}
 use Rattle.quota_types.specs.declared.file_kind.Format.{Format}
-use Rattle.quota_types.specs.declared.file_kind.Kind.{Kind}
-use Rattle.quota_types.specs.declared.record.Entry.{Entry}
-use Rattle.quota_types.specs.declared.record.Grace.{Grace}
-use Rattle.quota_blocks.specs.QuotaValue.{QuotaValue, Records}
 use Rattle.entry_codec.specs.Entry.{entries_per_block, padding_of}
 use Rattle.tree_file.specs.declared.build_fault.BuildFault.{BuildFault}
 use Rattle.tree_file.specs.declared.build_fault.BuildFault.TheVariants.{Full, Memory}
@@ -15,18 +10,6 @@ use Rattle.tree_file.specs.Count.{StandsIn}
 use Rattle.tree_file.specs.Entries.{entry_bytes}
 use Rattle.tree_file.specs.Roles.{has_room}
 use Rattle.tree_file.specs.Tree.{data_blocks}
-
--- the identifiers of entries, in order
-abbrev pub ids_of : List Entry → List ℕ
-ids_of entries = map (λ entry. entry.id) entries
-
--- the records of entries, by their identifiers
-abbrev pub records_of : List Entry → Records
-records_of entries = from_entries (map (λ entry. (entry.id, entry.rec)) entries)
-
--- the value that has this header's values, and the records of these entries
-abbrev pub value_of : Kind → Format → Grace → ℕ → List Entry → QuotaValue
-value_of kind format grace flags entries = record { kind = kind; format = format; grace = grace; flags = flags; records = records_of entries }
 
 -- At most one data block has an unused entry.
 abbrev pub HasOneRoom : Format → List ℕ → ℕ → Type 0

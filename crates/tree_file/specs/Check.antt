@@ -4,6 +4,8 @@ use Rattle.std.specs.FinMap.{len}
 use Rattle.quota_types.specs.declared.damage.Damage.{Damage}
 use Rattle.quota_blocks.specs.Count.{Rose}
 use Rattle.quota_blocks.specs.QuotaValue.{QuotaValue}
+use Rattle.quota_blocks.specs.declared.quota_file.OpenFault.{OpenFault}
+use Rattle.quota_blocks.specs.declared.quota_file.OpenFault.TheVariants.{Store as NotOpened, Damage as OpenedDamaged, Memory as NoMemory}
 use Rattle.entry_codec.specs.Header.{header_of}
 use Rattle.tree_file.specs.declared.checked.Checked.{Checked}
 use Rattle.tree_file.specs.declared.checked.CheckFault.{CheckFault}
@@ -31,3 +33,9 @@ IsCheckFault before now defect (Damaged damage) = NamesItsId damage.kind damage.
 -- the bytes of a file that may be absent
 abbrev pub bytes_of : Option (List ℕ) → List ℕ
 bytes_of file = unwrap_or file []
+
+-- why a file is not opened whose check was refused so
+abbrev pub open_fault : CheckFault → OpenFault
+open_fault Store = NotOpened
+open_fault (Damaged damage) = OpenedDamaged damage
+open_fault Memory = NoMemory

@@ -1,10 +1,11 @@
--- The way down the tree of a file by the digits of a number, and the leaves behind one.
-use Rattle.std.specs.Prelude.{ℕ, zero, suc, ◌/◌, ◌%◌, nat_lt, if◌then◌else◌, List, [], ◌∷◌, find, Option, Some, None}
-use Rattle.std.specs.List.{flat_map}
-use Rattle.std.specs.Option.{option_and_then, option_or}
+-- The way down the tree of a file by the digits of a number, and the leaves from one on. Source: the kernel's
+-- `fs/quota/quota_tree.c` (`find_tree_dqentry` and `find_next_id`).
+use Rattle.std.specs.Prelude.{ℕ, zero, suc, ◌+◌, ◌-◌, ◌*◌, ◌/◌, ◌%◌, nat_le, if◌then◌else◌, List, [], ◌∷◌, find, fold, Option, Some, None}
+use Rattle.std.specs.List.{filter_map, flat_map, range_with_len}
+use Rattle.std.specs.Option.{option_and_then}
 use Rattle.tree_file.specs.declared.tree_path.TreePath.{TreePath}
 use Rattle.tree_file.specs.Block.{word_at}
-use Rattle.tree_file.specs.Tree.{leads, leaves, steps}
+use Rattle.tree_file.specs.Tree.{leads, leaves, step, steps}
 
 -- the block to which a digit leads from a block of the tree, or none
 abbrev pub led_by : List ℕ → ℕ → ℕ → ℕ → Option ℕ
@@ -25,15 +26,18 @@ abbrev pub paths_below : List ℕ → ℕ → ℕ → TreePath → List TreePath
 paths_below file blocks zero path = path ∷ []
 paths_below file blocks (suc digits) path = flat_map (paths_below file blocks digits) (steps file blocks path)
 
--- the first path of a number greater than another one, or none
-abbrev pub path_after : ℕ → List TreePath → Option TreePath
-path_after after paths = find (λ path. nat_lt after path.number) paths
+-- the paths that go on from another one by a digit, from one digit on, in order
+abbrev pub later_steps : List ℕ → ℕ → TreePath → ℕ → List TreePath
+later_steps file blocks path first = filter_map (step file blocks path) (range_with_len first (256 - first))
 
--- the leaf of the least identifier that is greater than another one, or none
-abbrev pub leaf_after : List ℕ → ℕ → ℕ → Option TreePath
-leaf_after file blocks after = path_after after (leaves file blocks)
+-- the number that the digits of another number and these behind them make to the base 256
+abbrev pub with_digits : ℕ → List ℕ → ℕ
+with_digits number digits = fold (λ number digit. 256 * number + digit) number digits
 
--- what the first element gives that gives something, or none
-abbrev pub first_given : {X Y : Type 0} → (X → Option Y) → List X → Option Y
-first_given f [] = None
-first_given f (x ∷ xs) = option_or (f x) (first_given f xs)
+-- the first path whose number is another one or greater, or none
+abbrev pub path_from : ℕ → List TreePath → Option TreePath
+path_from from paths = find (λ path. nat_le from path.number) paths
+
+-- the leaf of the least identifier that is another one or greater, or none
+abbrev pub leaf_from : List ℕ → ℕ → ℕ → Option TreePath
+leaf_from file blocks from = path_from from (leaves file blocks)

@@ -1,7 +1,8 @@
 -- The entries of a data block. Source: the kernel's `fs/quota/quota_tree.c` (entries fill a data block behind its
 -- header of 16 bytes; one of zeros is unused).
-use Rattle.std.specs.Prelude.{ℕ, ◌+◌, ◌*◌, Bool, if◌then◌else◌, List, map, take, drop, Option, Some, None}
+use Rattle.std.specs.Prelude.{ℕ, ◌+◌, ◌*◌, ◌==◌, Bool, if◌then◌else◌, List, map, take, drop, Option, Some, None}
 use Rattle.std.specs.List.{filter_map, list_any, range_with_len}
+use Rattle.std.specs.Option.{option_and_then}
 use Rattle.quota_types.specs.Kept.{without_marker}
 use Rattle.quota_types.specs.declared.file_kind.Format.{Format}
 use Rattle.quota_types.specs.declared.file_kind.Format.TheVariants.{V1, V2R0, V2R1}
@@ -36,3 +37,11 @@ used_ids format block = map (λ entry. entry.id) (used_entries format block)
 -- some entry of a block is unused
 unfoldable pub has_unused : Format → List ℕ → Bool
 has_unused format block = list_any (λ place. is_unused (entry_bytes format block place)) (range_with_len 0 (entries_per_block format))
+
+-- the record of an entry that an identifier uses, or none
+abbrev pub used_by : ℕ → Entry → Option Rec
+used_by id entry = if entry.id == id then Some entry.rec else None
+
+-- the record of a block's entry at a place, where this identifier uses it
+abbrev pub record_by : Format → List ℕ → ℕ → ℕ → Option Rec
+record_by format block id place = option_and_then (used_by id) (entry_of format (entry_bytes format block place))

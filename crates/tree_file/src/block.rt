@@ -28,3 +28,14 @@ pub(crate) fn read_block<S: Store>(
     block[count..].fill(0);
     Ok(())
 }
+
+/// The bytes of a block; those past the end of the file are 0.
+pub(crate) fn block_of(file: &[u8], number: u32) -> [u8; 1024]
+    ensures { result ≡ block_of file.now number }
+{
+    let mut block = [0; BLOCK];
+    let rest = &file[file.len().min(BLOCK * number as usize)..];
+    let count = rest.len().min(BLOCK);
+    block[..count].copy_from_slice(&rest[..count]);
+    block
+}

@@ -3,7 +3,7 @@ ghost use Rattle.std.specs.List.Sorted.{IsStrictlyIncreasing};
 ghost use Rattle.quota_types.specs.Kept.{kept_of};
 ghost use Rattle.quota_types.specs.Range.{unfit};
 ghost use Rattle.quota_types.specs.declared.file_kind.Format.{Format};
-ghost use Rattle.tree_file.specs.Build.{ids_of};
+ghost use Rattle.quota_blocks.specs.Listed.{ids_of};
 
 use crate::test_files::*;
 use crate::{BuildFault, Checked, build};
@@ -13,13 +13,13 @@ use std::process::Abort;
 use std::test::Fail;
 
 /// A week, as the quota tools set it.
-const WEEK: Grace = Grace {
+pub(crate) const WEEK: Grace = Grace {
     block: 604_800,
     inode: 604_800,
 };
 
 /// The record of one inode.
-const ONE_INODE: Rec = Rec {
+pub(crate) const ONE_INODE: Rec = Rec {
     ihard: 0,
     isoft: 0,
     inodes: 1,
@@ -51,7 +51,7 @@ fn spaced(alloc: Global, count: u32, step: u32) -> Result<Vec<Entry>, AllocError
 }
 
 /// The file of so many identifiers.
-fn built(
+pub(crate) fn built(
     alloc: Global,
     format: Format,
     count: u32,

@@ -1,17 +1,19 @@
-ghost use Rattle.std.specs.Prelude.{◌≡◌, ◌≢◌, ℕ, ◌+◌, ◌<◌, ◌≤◌, ◌++◌, ◌||◌, length, IfOk, OnOk, IfErr, MatchOption};
+ghost use Rattle.std.specs.Prelude.{◌≡◌, ◌≢◌, ℕ, ◌+◌, ◌<◌, ◌≤◌, ◌++◌, ◌||◌, length, IfOk, IfSome, OnOk, IfErr, MatchOption};
 ghost use Rattle.arrayvec.specs.ArrayVec.{array_vec_len};
 ghost use Rattle.entry_codec.specs.Entry.{entries_per_block, entry_size, is_unused};
 ghost use Rattle.quota_types.specs.Bytes.{number_at};
+ghost use Rattle.quota_types.specs.Kept.{IsKept};
 ghost use Rattle.tree_file.specs.Compared.{AreEntriesOf, IsEntryDefectAt, id_in};
 ghost use Rattle.tree_file.specs.Count.{StandsIn, StandsTwiceIn, times};
 ghost use Rattle.tree_file.specs.Defect.{NamesItsId};
-ghost use Rattle.tree_file.specs.Entries.{entry_bytes, has_unused, used_ids};
+ghost use Rattle.tree_file.specs.Entries.{entry_bytes, has_unused, record_by, used_ids};
+ghost use Rattle.tree_file.specs.TreeFile.{record_in};
 
 use crate::checked::damage_at;
 use arrayvec::ArrayVec;
 use entry_codec::{entries_per_block, entry_size, read_entry};
-use quota_blocks::le16;
-use quota_types::{Damage, DamageKind, Format};
+use quota_blocks::{le16, le32};
+use quota_types::{Damage, DamageKind, Format, Rec};
 
 /// What the entries of a data block are used for.
 #[derive(Drop)]
@@ -65,6 +67,36 @@ fn read_used(format: Format, block: &[u8; 1024]) -> Used
         used.add(format, entry_bytes(format, block, place));
     }
     used
+}
+
+/// The record of the entry of a block at a place among the entries, where it is used by this identifier.
+fn record_by(format: Format, block: &[u8; 1024], place: usize, id: u32) -> Option<Rec>
+    requires tree { format ≢ Format.V1 }
+    requires place { place < entries_per_block format }
+    ensures value { result ≡ record_by format block.now id place }
+    ensures kept { IfSome result (IsKept format id) }
+{
+    let bytes = entry_bytes(format, block, place);
+    if le32(block, 16 + entry_size(format) * place) != id {
+        return None;
+    }
+    let (_, rec) = read_entry(format, bytes)?;
+    Some(rec)
+}
+
+/// The record of the first entry of a block that is used by an identifier.
+pub(crate) fn find_record(format: Format, block: &[u8; 1024], id: u32) -> Option<Rec>
+    requires tree { format ≢ Format.V1 }
+    ensures value { result ≡ record_in format block.now id }
+    ensures kept { IfSome result (IsKept format id) }
+{
+    for place in 0..entries_per_block(format) {
+        let rec = record_by(format, block, place, id);
+        if rec.is_some() {
+            return rec;
+        }
+    }
+    None
 }
 
 /// The first of some numbers that is none of others.

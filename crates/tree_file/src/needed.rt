@@ -1,7 +1,7 @@
 ghost use Rattle.std.specs.Prelude.{◌≡◌, ◌≢◌, ◌+◌, ◌/◌, ◌%◌, ◌^◌, ◌<◌, ◌≤◌, ◌==◌, length, map, if◌then◌else◌};
 ghost use Rattle.std.specs.List.Sorted.{IsStrictlyIncreasing};
 ghost use Rattle.entry_codec.specs.Entry.{entries_per_block};
-ghost use Rattle.tree_file.specs.Build.{ids_of};
+ghost use Rattle.quota_blocks.specs.Listed.{ids_of};
 ghost use Rattle.tree_file.specs.Size.{blocks_needed, each_once};
 
 use entry_codec::entries_per_block;

@@ -65,10 +65,10 @@ line_text None = []
 line_text (Some line) = codes "line " ∷ decimal line ∷ codes ": " ∷ []
 
 -- the error line of a refusal, in a line of a script or outside of one
-unfoldable pub error_line : Option ℕ → Refusal → List ℕ
-error_line line refusal = codes "quota: " ++ concat (line_text line) ++ concat (text_of refusal.cause refusal.name) ++ codes "\n"
+unfoldable pub error_line : Refusal → List ℕ
+error_line refusal = codes "quota: " ++ concat (line_text refusal.line) ++ concat (text_of refusal.cause refusal.name) ++ codes "\n"
 
 -- what is said at the end of a command
-abbrev pub closing_line : Option ℕ → Option Refusal → List ℕ
-closing_line line None = []
-closing_line line (Some refusal) = error_line line refusal
+abbrev pub closing_line : Option Refusal → List ℕ
+closing_line None = []
+closing_line (Some refusal) = error_line refusal

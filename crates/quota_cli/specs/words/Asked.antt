@@ -1,78 +1,59 @@
--- What the words of a command line ask for. Source: the manual pages of repquota and setquota; which words are read is
--- this project's own, and only two forms of a command are read so far.
-use Rattle.std.specs.Prelude.{ℕ, Bool, true, false, not, ◌&&◌, ◌==◌, if◌then◌else◌, List, [], ◌∷◌, ◌++◌, codes, slice_index, map, Result, Ok, Err, String}
-use Rattle.std.specs.List.{list_all}
-use Rattle.std.specs.Str.{bytes_eq}
+-- What the words of a command line ask for.
+use Rattle.std.specs.Prelude.{ℕ, ◌+◌, Bool, true, false, not, List, [], ◌∷◌, length, map, None, Result, Ok, Err, String}
 use Rattle.std.specs.String.{string_bytes}
 use Rattle.std.specs.declared.alloc.Global.{Global}
-use Rattle.quota_types.specs.declared.file_kind.Kind.TheVariants.{User}
-use Rattle.report_text.specs.declared.options.Options.{Options}
 use Rattle.quota_cli.specs.declared.refusal.cause.Cause.TheVariants.{Usage}
-use Rattle.quota_cli.specs.declared.refusal.cause.UsageKind.TheVariants.{UnknownCommand}
+use Rattle.quota_cli.specs.declared.refusal.cause.UsageKind.TheVariants.{NoCommand, UnknownCommand, Excludes, MissingOption}
 use Rattle.quota_cli.specs.declared.refusal.reason.Refusal.{Refusal}
 use Rattle.quota_cli.specs.declared.words.command.Command.{Command}
-use Rattle.quota_cli.specs.declared.words.command.Command.TheVariants.{Report, SetLimits}
-use Rattle.quota_cli.specs.declared.words.command.Common.{Common}
-use Rattle.quota_cli.specs.words.FileName.{is_file_name}
+use Rattle.quota_cli.specs.declared.words.fault.Fault.{Fault}
+use Rattle.quota_cli.specs.declared.words.tool.Tool.{Tool}
+use Rattle.quota_cli.specs.declared.words.tool.Tool.TheVariants.{Script}
+use Rattle.quota_cli.specs.words.Fault.{fault, unless, with_value, ◌>>=◌}
+use Rattle.quota_cli.specs.words.Forms.{excludes, form_of, formed, lacks, operands_in}
+use Rattle.quota_cli.specs.words.Given.{Told, nothing_told, with_items}
+use Rattle.quota_cli.specs.words.Items.{AnyWord, Item, items_of}
+use Rattle.quota_cli.specs.words.Tools.{tool_of}
 
 -- words as a program is given them
 abbrev pub texts_of : List (String Global) → List (List ℕ)
 texts_of words = map (λ (word : String Global). string_bytes word) words
 
--- the first byte is a hyphen
-abbrev pub begins_with_hyphen : List ℕ → Bool
-begins_with_hyphen word = slice_index word 0 == 45
+-- What is asked for by a command that was given this, with these operands, in so many words: first come options that
+-- exclude each other, then those that are missing, then the operands.
+abbrev pub settled : (in_script : Bool) → Tool → Told → (words : ℕ) → List Item → Result Command Fault
+settled in_script tool told words items =
+    unless (excludes tool told) (fault Excludes words)
+    (unless (lacks in_script tool told) (fault MissingOption words)
+    (formed (form_of tool told) told words (operands_in items)))
 
--- words that are all no options
-abbrev pub are_operands : List (List ℕ) → Bool
-are_operands words = list_all (λ word. not (begins_with_hyphen word)) words
+-- what a command is asked for by so many words, which say these items
+abbrev pub asked_of_items : (in_script : Bool) → Tool → (words : ℕ) → List Item → Result Command Fault
+asked_of_items in_script tool words items =
+    with_items items nothing_told >>= λ told. settled in_script tool told words items
 
--- a word that is the name of a file, and no option
-abbrev pub is_file : List ℕ → Bool
-is_file word = is_file_name word && not (begins_with_hyphen word)
+-- a script is no command of a script
+abbrev pub may_stand : (in_script : Bool) → Tool → Bool
+may_stand true Script = false
+may_stand _ _ = true
 
--- the words are these
-abbrev pub are_words : List (List ℕ) → List (List ℕ) → Bool
-are_words [] [] = true
-are_words (word ∷ words) (other ∷ others) = bytes_eq word other && are_words words others
-are_words _ _ = false
+-- what a command is asked for by the words behind its name
+abbrev pub asked_of : (in_script : Bool) → Tool → List (List ℕ) → Result Command Fault
+asked_of in_script tool texts = asked_of_items in_script tool (length texts + 1) (items_of tool AnyWord 1 texts)
 
--- the options of a command on a flat file of users
-abbrev pub flat_words : List (List ℕ)
-flat_words = codes "-F" ∷ codes "vfsold" ∷ codes "-u" ∷ []
+-- what words ask for, or the first fault in them
+abbrev pub asked : (in_script : Bool) → List (List ℕ) → Result Command Fault
+asked in_script [] = Err (fault NoCommand 0)
+asked in_script (name ∷ texts) =
+    with_value (tool_of name) (fault UnknownCommand 0) (λ tool.
+    unless (not (may_stand in_script tool)) (fault UnknownCommand 0)
+    (asked_of in_script tool texts))
 
--- files of users
-abbrev pub of_users : Common
-of_users = record { kind = User }
+-- the refusal of words with a fault
+abbrev pub refused : Result Command Fault → Result Command Refusal
+refused (Ok command) = Ok command
+refused (Err fault) = Err (record { cause = Usage fault.kind fault.word; name = []; line = None })
 
--- every identifier is shown, by its number, and timers as periods
-abbrev pub verbose : Options
-verbose = record { verbose = true; numeric = false; raw = false }
-
--- the first word is no command
-abbrev pub unknown_command : Refusal
-unknown_command = record { cause = Usage UnknownCommand 0; name = [] }
-
--- the words ask for a report of a flat file of users in which every identifier is shown
-abbrev pub asks_report : (first : List (List ℕ)) (file : List ℕ) → Bool
-asks_report first file = are_words first (codes "repquota" ∷ flat_words ++ codes "-v" ∷ []) && is_file file
-
--- The words ask for new limits in a flat file of users: they begin so, the last one is the name of a file, and none of the
--- operands is an option.
-abbrev pub asks_limits : (first operands : List (List ℕ)) (file : List ℕ) → Bool
-asks_limits first operands file =
-    are_words first (codes "setquota" ∷ flat_words) && is_file file && are_operands operands
-
--- the command, where the words ask for it
-abbrev pub asks_for : Bool → Command → Result Command Refusal
-asks_for asks command = if asks then Ok command else Err unknown_command
-
--- What the words ask for, or what is wrong with them: `repquota -F vfsold -u -v FILE` or
--- `setquota -F vfsold -u NAME BSOFT BHARD ISOFT IHARD FILE`.
-abbrev pub command_of : List (List ℕ) → Result Command Refusal
-command_of (a ∷ b ∷ c ∷ d ∷ e ∷ file ∷ []) =
-    asks_for (asks_report (a ∷ b ∷ c ∷ d ∷ e ∷ []) file) (Report of_users verbose file)
-command_of (a ∷ b ∷ c ∷ d ∷ name ∷ bsoft ∷ bhard ∷ isoft ∷ ihard ∷ file ∷ []) =
-    asks_for (asks_limits (a ∷ b ∷ c ∷ d ∷ []) (name ∷ bsoft ∷ bhard ∷ isoft ∷ ihard ∷ []) file)
-    (SetLimits of_users name (bsoft ∷ bhard ∷ isoft ∷ ihard ∷ []) file)
-command_of _ = Err unknown_command
+-- the command that words ask for, or their refusal
+abbrev pub command_of : (in_script : Bool) → List (List ℕ) → Result Command Refusal
+command_of in_script words = refused (asked in_script words)

@@ -13,13 +13,13 @@ use Rattle.quota_cli.specs.Outcome.{Outcome, Passed, Refused, and_then}
 abbrev pub identifier_of : List ℕ → Outcome ℕ
 identifier_of word =
     if nat_lt 0 (length word) && all_ascii_digits word
-    then (if nat_lt (value_of word) (2 ^ 32) then Passed (value_of word) else Refused (record { cause = BadNumber; name = word }))
-    else Refused (record { cause = UnknownName; name = word })
+    then (if nat_lt (value_of word) (2 ^ 32) then Passed (value_of word) else Refused (record { cause = BadNumber; name = word; line = None }))
+    else Refused (record { cause = UnknownName; name = word; line = None })
 
 -- the limit that a word was read as, or the refusal of that word
 abbrev pub number_or_refused : List ℕ → Option ℕ → Outcome ℕ
 number_or_refused word (Some number) = Passed number
-number_or_refused word None = Refused (record { cause = BadNumber; name = word })
+number_or_refused word None = Refused (record { cause = BadNumber; name = word; line = None })
 
 -- the limit of blocks, or else of inodes, that a word spells
 abbrev pub limit_read : Bool → List ℕ → Outcome ℕ
@@ -33,7 +33,7 @@ limits_read (bsoft ∷ bhard ∷ isoft ∷ ihard ∷ []) =
     and_then (limit_read false isoft) (λ (i : ℕ).
     and_then (limit_read false ihard) (λ (ih : ℕ).
     Passed (record { bsoft = b; bhard = bh; isoft = i; ihard = ih })))))
-limits_read _ = Refused (record { cause = BadNumber; name = [] })
+limits_read _ = Refused (record { cause = BadNumber; name = []; line = None })
 
 -- what the words ask to be set: the identifier, and then the limits
 abbrev pub edit_read : List ℕ → List (List ℕ) → Outcome LimitEdit

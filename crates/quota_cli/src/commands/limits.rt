@@ -9,11 +9,11 @@ use super::opening::{file_cause, opening_cause};
 use crate::refusal::{Cause, Refusal};
 use crate::words::{Common, LimitEdit, Word};
 use quota_blocks::Store;
-use quota_v1::open_v1;
+use quota_map::open_file;
 use set_edit::{EditFault, set_limits};
 use std::alloc::Global;
 
-/// Sets the limits of an identifier in a flat file.
+/// Sets the limits of an identifier in a quota file.
 ///
 /// # Errors
 ///
@@ -27,7 +27,7 @@ pub fn edit_limits<S: Store>(
     now: u64,
 ) -> Result<(), Refusal>
     ensures carries { (input : SourceSeen) (out err : SinkSeen) (link : LinkSeen) (input_tells out_tells err_tells link_tells : Bool) (line : Option ℕ)
-        → CarriesOut (EditSteps common edit.now file (record { now = now; line = line })) limits_uses (EditMayRefuse edit.now.id file)
+        → CarriesOut (EditSteps common edit.now file (record { now = now; line = line })) limits_uses (EditMayRefuse common edit.now.id file)
         (tells_of S.tells input_tells out_tells err_tells link_tells)
         (seen_of (S.seen store.old) input out err link)
         (seen_of (S.seen store.new) input out err link) result }
@@ -37,17 +37,21 @@ pub fn edit_limits<S: Store>(
     ensures synced { OnOk result (IsTrue S.tells
         → AddsNone (S.seen store.old).unsynced (S.seen store.new).unsynced) }
 {
-    match open_v1(alloc, store, file.as_str()) {
+    let (kind, format) = (common.kind, common.format);
+    drop(common);
+    match open_file(alloc, store, file.as_str(), kind, format) {
         Ok(mut opened) => match set_limits(&mut opened, store, edit.id, &edit.limits, now) {
             Ok(()) => Ok(()),
             Err(fault) => Err(Refusal {
                 cause: edit_cause(fault),
                 name: file,
+                line: None,
             }),
         },
         Err(fault) => Err(Refusal {
             cause: opening_cause(fault),
             name: file,
+            line: None,
         }),
     }
 }

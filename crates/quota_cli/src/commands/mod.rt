@@ -3,15 +3,18 @@ ghost use Rattle.std.specs.Prelude.{ℕ, Option, ◌≡◌, ◌⊎◌, Bool, fal
 ghost use Rattle.quota_blocks.specs.Unsynced.{AddsNone};
 ghost use Rattle.quota_cli.specs.Done.{seen_of, tells_of};
 ghost use Rattle.quota_cli.specs.Run.{CarriesOut};
+ghost use Rattle.quota_cli.specs.commands.Built.{is_built};
 ghost use Rattle.quota_cli.specs.commands.Table.{MayRefuseCommand, StepsOf, faulty_word, replaced_file, uses_of};
 ghost use Rattle.quota_cli.specs.declared.refusal.reason.Refusal.{Refusal};
 
 mod limits;
+mod occasion;
 mod opening;
 mod report;
 
 use crate::refusal::Refusal;
 use crate::words::{Command, read_edit};
+pub use occasion::Occasion;
 use quota_blocks::{Link, Sink, Source, Store};
 use std::alloc::Global;
 
@@ -28,9 +31,10 @@ pub fn carry_out<S: Store, I: Source, O: Sink, E: Sink, L: Link>(
     out: &mut O,
     err: &mut E,
     link: &mut L,
-    now: u64,
+    occasion: Occasion,
 ) -> Result<(), Refusal>
-    ensures carries { (line : Option ℕ) → CarriesOut (StepsOf command (record { now = now; line = line })) (uses_of command) (MayRefuseCommand command)
+    requires { IsTrue (is_built command) }
+    ensures carries { CarriesOut (StepsOf command occasion) (uses_of command) (MayRefuseCommand command)
         (tells_of S.tells I.tells O.tells E.tells L.tells)
         (seen_of (S.seen store.old) (I.seen input.old) (O.seen out.old) (E.seen err.old) (L.seen link.old))
         (seen_of (S.seen store.new) (I.seen input.new) (O.seen out.new) (E.seen err.new) (L.seen link.new)) result }
@@ -42,7 +46,8 @@ pub fn carry_out<S: Store, I: Source, O: Sink, E: Sink, L: Link>(
     ensures store { (refusal : Refusal) → faulty_word command ≡ Some refusal → store.new ≡ store.old }
     ensures input { (uses_of command).input ≡ false → input.new ≡ input.old }
     ensures out { (uses_of command).out ≡ false → out.new ≡ out.old }
-    ensures err { err.new ≡ err.old }
+    ensures err { (uses_of command).warns ≡ false → err.new ≡ err.old }
+    ensures quiet { (refusal : Refusal) → faulty_word command ≡ Some refusal → err.new ≡ err.old }
     ensures link { (uses_of command).link ≡ false → link.new ≡ link.old }
 {
     match command {
@@ -50,15 +55,16 @@ pub fn carry_out<S: Store, I: Source, O: Sink, E: Sink, L: Link>(
             common,
             options,
             file,
-        } => report::report_file(alloc, common, &options, file, store, out, now),
+        } => report::report_file(alloc, common, &options, file, store, out, occasion.now),
         Command::SetLimits {
             common,
             name,
             limits,
             file,
         } => match read_edit(alloc, name, limits) {
-            Ok(edit) => limits::edit_limits(alloc, common, &edit, file, store, now),
+            Ok(edit) => limits::edit_limits(alloc, common, &edit, file, store, occasion.now),
             Err(refusal) => Err(refusal),
         },
+        _ => unreachable!(),
     }
 }

@@ -9,11 +9,11 @@ use super::opening::{file_cause, opening_cause};
 use crate::refusal::{Cause, Refusal};
 use crate::words::{Common, Word};
 use quota_blocks::{Sink, Store};
-use quota_v1::open_v1;
+use quota_map::open_file;
 use report_text::{Options, ReportFault, report};
 use std::alloc::Global;
 
-/// Writes the report of a flat file to the output.
+/// Writes the report of a quota file to the output.
 ///
 /// # Errors
 ///
@@ -28,33 +28,29 @@ pub fn report_file<S: Store, O: Sink>(
     now: u64,
 ) -> Result<(), Refusal>
     ensures carries { (input : SourceSeen) (err : SinkSeen) (link : LinkSeen) (input_tells err_tells link_tells : Bool) (line : Option ℕ)
-        → CarriesOut (ReportSteps common options.now file (record { now = now; line = line })) report_uses (ReportMayRefuse file)
+        → CarriesOut (ReportSteps common options.now file (record { now = now; line = line })) report_uses (ReportMayRefuse common file)
         (tells_of S.tells input_tells O.tells err_tells link_tells)
         (seen_of (S.seen store.old) input (O.seen out.old) err link)
         (seen_of (S.seen store.new) input (O.seen out.new) err link) result }
     ensures synced { OnOk result (AddsNone (S.seen store.old).unsynced (S.seen store.new).unsynced) }
 {
-    match open_v1(alloc, store, file.as_str()) {
+    let (kind, format) = (common.kind, common.format);
+    drop(common);
+    match open_file(alloc, store, file.as_str(), kind, format) {
         Ok(mut opened) => {
-            match report(
-                &mut opened,
-                store,
-                common.kind,
-                file.as_str(),
-                now,
-                options,
-                out,
-            ) {
+            match report(&mut opened, store, kind, file.as_str(), now, options, out) {
                 Ok(()) => Ok(()),
                 Err(fault) => Err(Refusal {
                     cause: report_cause(fault),
                     name: file,
+                    line: None,
                 }),
             }
         }
         Err(fault) => Err(Refusal {
             cause: opening_cause(fault),
             name: file,
+            line: None,
         }),
     }
 }

@@ -13,26 +13,39 @@ use super::reason::Refusal;
 use quota_blocks::{Sink, SinkFault};
 use quota_types::{Damage, DamageKind, NoRoom};
 
-#[tactic(auto, unfolding(crate::specs::refusal::Line::error_line))]
-/// Writes the error line of a refusal, in a line of a script or outside of one.
+/// Writes the error line of a refusal.
 ///
 /// # Errors
 ///
 /// The sink failed. It then has a prefix of the line.
-pub fn write_error_line<O: Sink>(
-    sink: &mut O,
-    line: Option<u64>,
-    refusal: &Refusal,
-) -> Result<(), SinkFault>
+pub fn write_error_line<O: Sink>(sink: &mut O, refusal: &Refusal) -> Result<(), SinkFault>
     ensures ok { OnOk result (IsTrue O.tells → (O.seen sink.new).written
-        ≡ (O.seen sink.old).written ++ error_line line refusal.now) }
+        ≡ (O.seen sink.old).written ++ error_line refusal.now) }
     ensures fault { OnErr result (IsTrue O.tells → AppendsPrefix (O.seen sink.old).written (O.seen sink.new).written
-        (error_line line refusal.now)) }
+        (error_line refusal.now)) }
     ensures cause { OnErr result (Rose (O.seen sink.old).faults (O.seen sink.new).faults) }
     ensures later { (O.seen sink.old).faults ≤ (O.seen sink.new).faults }
 {
     let name = refusal.name.as_str().as_bytes();
-    match refusal.cause {
+    write_cause(sink, refusal.line, refusal.cause, name)
+}
+
+#[tactic(auto, unfolding(crate::specs::refusal::Line::error_line))]
+/// Writes the line on a cause and the name that it is about.
+fn write_cause<O: Sink>(
+    sink: &mut O,
+    line: Option<u64>,
+    cause: Cause,
+    name: &[u8],
+) -> Result<(), SinkFault>
+    ensures ok { OnOk result (IsTrue O.tells → (O.seen sink.new).written
+        ≡ (O.seen sink.old).written ++ error_line (record { cause = cause; name = name.now; line = line })) }
+    ensures fault { OnErr result (IsTrue O.tells → AppendsPrefix (O.seen sink.old).written (O.seen sink.new).written
+        (error_line (record { cause = cause; name = name.now; line = line }))) }
+    ensures cause { OnErr result (Rose (O.seen sink.old).faults (O.seen sink.new).faults) }
+    ensures later { (O.seen sink.old).faults ≤ (O.seen sink.new).faults }
+{
+    match cause {
         Cause::StoreFault => write_line(sink, line, &[Text(b"store fault")]),
         Cause::NoFile => write_line(sink, line, &[Text(name), Text(b": no such file")]),
         Cause::TooLarge => write_line(sink, line, &[Text(name), Text(b": too large")]),
@@ -81,9 +94,9 @@ fn write_damage<O: Sink>(
     damage: Damage,
 ) -> Result<(), SinkFault>
     ensures ok { OnOk result (IsTrue O.tells → (O.seen sink.new).written
-        ≡ (O.seen sink.old).written ++ error_line line (record { cause = Damaged damage; name = name.now })) }
+        ≡ (O.seen sink.old).written ++ error_line (record { cause = Damaged damage; name = name.now; line = line })) }
     ensures fault { OnErr result (IsTrue O.tells → AppendsPrefix (O.seen sink.old).written (O.seen sink.new).written
-        (error_line line (record { cause = Damaged damage; name = name.now }))) }
+        (error_line (record { cause = Damaged damage; name = name.now; line = line }))) }
     ensures cause { OnErr result (Rose (O.seen sink.old).faults (O.seen sink.new).faults) }
     ensures later { (O.seen sink.old).faults ≤ (O.seen sink.new).faults }
 {
@@ -129,9 +142,9 @@ fn write_no_room<O: Sink>(
     out: NoRoom,
 ) -> Result<(), SinkFault>
     ensures ok { OnOk result (IsTrue O.tells → (O.seen sink.new).written
-        ≡ (O.seen sink.old).written ++ error_line line (record { cause = Unfit out; name = name.now })) }
+        ≡ (O.seen sink.old).written ++ error_line (record { cause = Unfit out; name = name.now; line = line })) }
     ensures fault { OnErr result (IsTrue O.tells → AppendsPrefix (O.seen sink.old).written (O.seen sink.new).written
-        (error_line line (record { cause = Unfit out; name = name.now }))) }
+        (error_line (record { cause = Unfit out; name = name.now; line = line }))) }
     ensures cause { OnErr result (Rose (O.seen sink.old).faults (O.seen sink.new).faults) }
     ensures later { (O.seen sink.old).faults ≤ (O.seen sink.new).faults }
 {

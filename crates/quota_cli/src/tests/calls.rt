@@ -1,7 +1,6 @@
 ghost use Rattle.quota_blocks.specs.InMemory.{mem_store_seen};
 
-use super::runs::{NOW, push_record, sink_of, store_of, words_of};
-use crate::run::run;
+use super::runs::{NOW, Streams, push_record, sink_of, status_of, store_of, words_of};
 use quota_blocks::{MemLink, MemSource, MemStore, Store, StoreFault};
 use std::alloc::{AllocError, Global};
 use std::test::Fail;
@@ -67,13 +66,13 @@ fn calls_of(alloc: Global, line: &str, bytes: &[u8]) -> Result<(String, bool), A
         store: store_of(alloc, bytes, 0)?,
         calls: String::new(alloc),
     };
-    let mut out = sink_of(alloc, 0)?;
-    let mut err = sink_of(alloc, 0)?;
-    let mut input = MemSource::new(Vec::new(alloc), Vec::new(alloc));
-    let mut link = MemLink::new(Vec::new(alloc), Vec::new(alloc));
-    let status = run(
-        alloc, &words, &mut store, &mut input, &mut out, &mut err, &mut link, NOW,
-    );
+    let mut streams = Streams {
+        input: MemSource::new(Vec::new(alloc), Vec::new(alloc)),
+        link: MemLink::new(Vec::new(alloc), Vec::new(alloc)),
+        out: sink_of(alloc, 0)?,
+        err: sink_of(alloc, 0)?,
+    };
+    let status = status_of(alloc, &words, &mut store, &mut streams, NOW);
     Ok((store.calls, status == 0))
 }
 
@@ -104,7 +103,8 @@ fn calls_of_the_store_have_their_order(rt: HostRuntime) -> Result<(), Fail> {
         ),
         ("setquota -F vfsold -u 60 0 0 0 0 r", false, "size r; "),
         ("setquota -F vfsold -u 60 x 0 0 0 q", false, ""),
-        ("repquota q", false, ""),
+        ("repquota -u -g q", false, ""),
+        ("repquota q", false, "size q; read q; "),
     ] {
         let (calls, ended) = calls_of(alloc, line, &bytes)?;
         assert_eq!(rt; calls.as_str(), want, "{line}");

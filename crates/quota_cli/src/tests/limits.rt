@@ -183,27 +183,19 @@ fn the_first_refused_step_ends_the_command(rt: HostRuntime) -> Result<(), Fail> 
         (
             "1000 1 1 1 1 q q",
             2,
-            "quota: usage: UnknownCommand at word 0\n",
+            "quota: usage: WrongOperands at word 11\n",
         ),
-        (
-            "1000 1 1 1 q",
-            2,
-            "quota: usage: UnknownCommand at word 0\n",
-        ),
-        (
-            "-1 1 1 1 1 q",
-            2,
-            "quota: usage: UnknownCommand at word 0\n",
-        ),
+        ("1000 1 1 1 q", 2, "quota: usage: WrongOperands at word 9\n"),
+        ("-1 1 1 1 1 q", 2, "quota: usage: UnknownOption at word 4\n"),
         (
             "1000 1 1 -1 1 q",
             2,
-            "quota: usage: UnknownCommand at word 0\n",
+            "quota: usage: UnknownOption at word 7\n",
         ),
         (
             "1000 1 1 1 1 q.new",
             2,
-            "quota: usage: UnknownCommand at word 0\n",
+            "quota: usage: BadFileName at word 9\n",
         ),
     ] {
         let mut line = String::from_str(alloc, "setquota -F vfsold -u ")?;

@@ -4,4 +4,8 @@ mod calls;
 mod limits;
 mod report;
 mod runs;
+mod shown;
+mod trees;
+mod turning;
 mod udp;
+mod words;

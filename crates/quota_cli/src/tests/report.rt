@@ -52,11 +52,32 @@ fn refusals_have_their_status_and_their_line(rt: HostRuntime) -> Result<(), Fail
             1,
             "quota: r: no such file\n",
         ),
-        ("repquota -u q", 0, 2, usage),
-        ("repquota -F vfsold -u -v -q", 0, 2, usage),
-        ("repquota -F vfsold -u -v q.new", 0, 2, usage),
-        ("repquota -F vfsold -u -v q q", 0, 2, usage),
-        ("repquota -F vfsold -v -u q", 0, 2, usage),
+        ("repquota -u q", 0, 3, "quota: q: not a quota file\n"),
+        ("script", 0, 2, usage),
+        (
+            "repquota -F vfsold -u -v -q",
+            0,
+            2,
+            "quota: usage: UnknownOption at word 5\n",
+        ),
+        (
+            "repquota -F vfsold -u -v q.new",
+            0,
+            2,
+            "quota: usage: BadFileName at word 5\n",
+        ),
+        (
+            "repquota -F vfsold -u -v q q",
+            0,
+            2,
+            "quota: usage: WrongOperands at word 7\n",
+        ),
+        (
+            "repquota -u -g q",
+            0,
+            2,
+            "quota: usage: Excludes at word 4\n",
+        ),
     ] {
         let bytes = long.get(..len).unwrap_or(b"");
         let ran = run_over(&rt, alloc, line, bytes, NOW, NONE)?;

@@ -1,5 +1,7 @@
 use crate::run::run;
-use quota_blocks::{Link, LinkFault, MemLink, MemSink, MemSource, MemStore, Source, SourceFault};
+use quota_blocks::{
+    Link, LinkFault, MemLink, MemSink, MemSource, MemStore, Source, SourceFault, Store,
+};
 use std::alloc::{AllocError, Global};
 use std::process::Abort;
 
@@ -69,6 +71,35 @@ pub(crate) fn sink_of(alloc: Global, failing: u64) -> Result<MemSink, AllocError
     Ok(MemSink::new(Vec::new(alloc), Vec::from_slice(alloc, &[failing])?))
 }
 
+/// The objects in memory of a run but its store.
+#[derive(Drop)]
+pub(crate) struct Streams {
+    pub input: MemSource,
+    pub out: MemSink,
+    pub err: MemSink,
+    pub link: MemLink,
+}
+
+/// Runs words, and answers the status. The tests look at what is left, and rest on no promise of it.
+pub(crate) fn status_of<S: Store>(
+    alloc: Global,
+    words: &[String],
+    store: &mut S,
+    streams: &mut Streams,
+    now: u64,
+) -> u8 {
+    run(
+        alloc,
+        words,
+        store,
+        &mut streams.input,
+        &mut streams.out,
+        &mut streams.err,
+        &mut streams.link,
+        now,
+    )
+}
+
 /// Runs the words of a line over the store of [`store_of`], and asserts that the run made no call of its input and of
 /// its link.
 pub(crate) fn run_over(
@@ -81,23 +112,23 @@ pub(crate) fn run_over(
 ) -> Result<Ran, AllocError> {
     let words = words_of(alloc, line)?;
     let mut store = store_of(alloc, bytes, failing.store)?;
-    let mut out = sink_of(alloc, failing.out)?;
-    let mut err = sink_of(alloc, failing.err)?;
-    // the first call of each fails, and no other one
-    let mut input = MemSource::new(Vec::from_slice(alloc, b"input")?, vec![in alloc; 1]?);
-    let mut link = MemLink::new(Vec::new(alloc), vec![in alloc; 1]?);
-    let status = run(
-        alloc, &words, &mut store, &mut input, &mut out, &mut err, &mut link, now,
-    );
-    assert_eq!(rt; input.left(), b"input".as_slice(), "{line}");
-    assert!(rt; link.answers().is_empty(), "{line}");
-    assert_eq!(rt; input.read(&mut [0]), Err(SourceFault), "{line}");
-    assert_eq!(rt; link.start(0), Err(LinkFault), "{line}");
+    let mut streams = Streams {
+        // of these two the first call fails, and no other one
+        input: MemSource::new(Vec::from_slice(alloc, b"input")?, vec![in alloc; 1]?),
+        link: MemLink::new(Vec::new(alloc), vec![in alloc; 1]?),
+        out: sink_of(alloc, failing.out)?,
+        err: sink_of(alloc, failing.err)?,
+    };
+    let status = status_of(alloc, &words, &mut store, &mut streams, now);
+    assert_eq!(rt; streams.input.left(), b"input".as_slice(), "{line}");
+    assert!(rt; streams.link.answers().is_empty(), "{line}");
+    assert_eq!(rt; streams.input.read(&mut [0]), Err(SourceFault), "{line}");
+    assert_eq!(rt; streams.link.start(0), Err(LinkFault), "{line}");
     Ok(Ran {
         status,
         store,
-        out,
-        err,
+        out: streams.out,
+        err: streams.err,
     })
 }
 

@@ -24,7 +24,7 @@ pub fn read_edit(alloc: Global, name: Word, limits: [Word; 4]) -> Result<LimitEd
 {
     let id = match identifier_from(name.as_str().as_bytes()) {
         Ok(id) => id,
-        Err(cause) => return Err(Refusal { cause, name }),
+        Err(cause) => return Err(Refusal::of(cause, name)),
     };
     let limits = read_limits(alloc, limits)?;
     Ok(LimitEdit { id, limits })
@@ -34,7 +34,7 @@ pub fn read_edit(alloc: Global, name: Word, limits: [Word; 4]) -> Result<LimitEd
 /// front, and any number of them. Another word of digits is no number, and any other word is the name of no identifier.
 fn identifier_from(word: &[u8]) -> Result<u32, Cause>
     ensures { MatchResult result (λ id. identifier_of word.now ≡ Passed id)
-        (λ cause. identifier_of word.now ≡ Refused (record { cause = cause; name = word.now })) }
+        (λ cause. identifier_of word.now ≡ Refused (record { cause = cause; name = word.now; line = None })) }
 {
     if word.is_empty() {
         return Err(Cause::UnknownName);
@@ -81,10 +81,8 @@ fn read_limits(alloc: Global, mut words: [Word; 4]) -> Result<Limits, Refusal>
 
 /// The refusal of a word that is no number. The word is taken.
 fn bad_number(alloc: Global, word: &mut Word) -> Refusal
-    ensures { result ≡ record { cause = BadNumber; name = word.old } }
+    ensures { result ≡ record { cause = BadNumber; name = word.old; line = None } }
 {
-    Refusal {
-        cause: Cause::BadNumber,
-        name: mem::replace(word, Word::empty(alloc)),
-    }
+    let name = mem::replace(word, Word::empty(alloc));
+    Refusal::of(Cause::BadNumber, name)
 }

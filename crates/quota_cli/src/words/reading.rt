@@ -1,13 +1,14 @@
-ghost use Rattle.std.specs.Prelude.{◌≡◌, ◌≤◌, ◌∷◌, not, length, take, MatchBool, MatchResult, Ok, Err, IsOk};
-ghost use Rattle.quota_cli.specs.words.Asked.{are_operands, are_words, begins_with_hyphen, command_of, flat_words, is_file, texts_of, unknown_command};
-ghost use Rattle.quota_cli.specs.words.Usage.{IsUsageFault};
+ghost use Rattle.std.specs.Prelude.{◌≡◌, Ok, Err, MatchResult};
+ghost use Rattle.quota_cli.specs.words.Asked.{asked_of, command_of, may_stand, texts_of};
+ghost use Rattle.quota_cli.specs.words.Usage.{IsFaultOf, IsUsageFault};
 
-use super::command::{Command, Common};
-use super::file_name::is_file_name;
-use super::word::Word;
+use super::building::form_command;
+use super::command::Command;
+use super::fault::Fault;
+use super::form::{excludes, form_of, lacks};
+use super::scan::scan_words;
+use super::tool::Tool;
 use crate::refusal::UsageKind;
-use quota_types::Kind;
-use report_text::Options;
 use std::alloc::{AllocError, Global};
 
 /// Why words were not read.
@@ -34,125 +35,62 @@ impl From<AllocError> for UsageFault {
     }
 }
 
-/// What is said of words that ask for nothing.
-const UNKNOWN_COMMAND: UsageFault = UsageFault::Usage {
-    kind: UsageKind::UnknownCommand,
-    word: 0,
-};
+impl From<Fault> for UsageFault {
+    ghost use Rattle.quota_cli.specs.declared.words.reading.UsageFault.TheVariants.{Usage};
 
-/// A report of a flat file of users in which every identifier is shown.
-const VERBOSE: Options = Options {
-    verbose: true,
-    numeric: false,
-    raw: false,
-};
+    ghost from_gives = { λ met fault. fault ≡ Usage met.kind met.word };
 
-/// The command that the words ask for.
+    fn from(met: Fault) -> Self {
+        UsageFault::Usage {
+            kind: met.kind,
+            word: met.word,
+        }
+    }
+}
+
+/// The command that the words ask for. In a script the standard input is the script's, and `script` is no command.
 ///
 /// # Errors
 ///
 /// The words are outside the grammar, or there is not enough memory for a command that they ask for.
-pub fn read_words(alloc: Global, words: &[String]) -> Result<Command, UsageFault>
-    ensures { MatchResult result (λ command. command_of (texts_of words.now) ≡ Ok command)
-        (IsUsageFault (command_of (texts_of words.now))) }
+pub fn read_words(alloc: Global, words: &[String], in_script: bool) -> Result<Command, UsageFault>
+    ensures { MatchResult result (λ command. command_of in_script (texts_of words.now) ≡ Ok command)
+        (IsUsageFault (command_of in_script (texts_of words.now))) }
 {
-    match words.len() {
-        6 => read_report(alloc, words),
-        10 => read_limits(alloc, words),
-        _ => Err(UNKNOWN_COMMAND),
+    let Some((name, behind)) = words.split_first() else {
+        return Err(UsageFault::from(Fault::at(UsageKind::NoCommand, 0)));
+    };
+    match Tool::named(name.as_str()) {
+        Some(tool) if may_stand(in_script, tool) => read_command(alloc, in_script, tool, behind),
+        _ => Err(UsageFault::from(Fault::at(UsageKind::UnknownCommand, 0))),
     }
 }
 
-/// The report that six words ask for, if they do.
-fn read_report(alloc: Global, words: &[String]) -> Result<Command, UsageFault>
-    requires { length words.now ≡ 6 }
-    ensures { MatchResult result (λ command. command_of (texts_of words.now) ≡ Ok command)
-        (IsUsageFault (command_of (texts_of words.now))) }
+/// Whether a command may stand here: in a script there is none of another script.
+fn may_stand(in_script: bool, tool: Tool) -> bool
+    ensures { result ≡ may_stand in_script tool }
 {
-    if !asks_report(words) {
-        return Err(UNKNOWN_COMMAND);
+    !(in_script && matches!(tool, Tool::Script))
+}
+
+/// The command that the words behind its name ask for.
+fn read_command(
+    alloc: Global,
+    in_script: bool,
+    tool: Tool,
+    behind: &[String],
+) -> Result<Command, UsageFault>
+    ensures { MatchResult result (λ command. asked_of in_script tool (texts_of behind.now) ≡ Ok command)
+        (IsFaultOf (asked_of in_script tool (texts_of behind.now))) }
+{
+    let words = behind.len() + 1;
+    let scan = scan_words(tool, behind)?;
+    if excludes(tool, &scan.given) {
+        return Err(UsageFault::from(Fault::at(UsageKind::Excludes, words)));
     }
-    let file = Word::copy_of(alloc, words[5].as_str())?;
-    Ok(Command::Report {
-        common: Common { kind: Kind::User },
-        options: VERBOSE,
-        file,
-    })
-}
-
-/// The new limits that ten words ask for, if they do.
-fn read_limits(alloc: Global, words: &[String]) -> Result<Command, UsageFault>
-    requires { length words.now ≡ 10 }
-    ensures { MatchResult result (λ command. command_of (texts_of words.now) ≡ Ok command)
-        (IsUsageFault (command_of (texts_of words.now))) }
-{
-    if !asks_limits(words) {
-        return Err(UNKNOWN_COMMAND);
+    if lacks(in_script, tool, &scan.given) {
+        return Err(UsageFault::from(Fault::at(UsageKind::MissingOption, words)));
     }
-    let name = Word::copy_of(alloc, words[4].as_str())?;
-    let bsoft = Word::copy_of(alloc, words[5].as_str())?;
-    let bhard = Word::copy_of(alloc, words[6].as_str())?;
-    let isoft = Word::copy_of(alloc, words[7].as_str())?;
-    let ihard = Word::copy_of(alloc, words[8].as_str())?;
-    let file = Word::copy_of(alloc, words[9].as_str())?;
-    Ok(Command::SetLimits {
-        common: Common { kind: Kind::User },
-        name,
-        limits: [bsoft, bhard, isoft, ihard],
-        file,
-    })
-}
-
-/// Whether six words ask for a report of a flat file of users in which every identifier is shown.
-fn asks_report(words: &[String]) -> bool
-    requires { length words.now ≡ 6 }
-    ensures { MatchBool result (IsOk (command_of (texts_of words.now)))
-        (command_of (texts_of words.now) ≡ Err unknown_command) }
-{
-    let option = words[4].as_str();
-    let file = words[5].as_str();
-    starts("repquota", words) && option == "-v" && is_file(file)
-}
-
-/// Whether ten words ask for new limits in a flat file of users.
-fn asks_limits(words: &[String]) -> bool
-    requires { length words.now ≡ 10 }
-    ensures { MatchBool result (IsOk (command_of (texts_of words.now)))
-        (command_of (texts_of words.now) ≡ Err unknown_command) }
-{
-    let file = words[9].as_str();
-    let operands = &words[4..9];
-    starts("setquota", words) && is_file(file) && are_operands(operands)
-}
-
-/// Whether the first four words start a command on a flat file of users.
-fn starts(command: &str, words: &[String]) -> bool
-    requires { 4 ≤ length words.now }
-    ensures { result ≡ are_words (take 4 (texts_of words.now)) (command.now ∷ flat_words) }
-{
-    words[0].as_str() == command
-        && words[1].as_str() == "-F"
-        && words[2].as_str() == "vfsold"
-        && words[3].as_str() == "-u"
-}
-
-/// Whether the words are all no options.
-fn are_operands(words: &[String]) -> bool
-    ensures { result ≡ are_operands (texts_of words.now) }
-{
-    words.iter().all(|word| is_operand(word.as_str()))
-}
-
-/// Whether a word is the name of a file, and no option.
-fn is_file(word: &str) -> bool
-    ensures { result ≡ is_file word.now }
-{
-    is_file_name(word) && is_operand(word)
-}
-
-/// Whether a word is no option.
-fn is_operand(word: &str) -> bool
-    ensures { result ≡ not (begins_with_hyphen word.now) }
-{
-    word.as_bytes().first() != Some(&b'-')
+    let form = form_of(tool, &scan.given);
+    form_command(alloc, form, &scan.given, scan.operands.as_slice(), words)
 }

@@ -1,7 +1,7 @@
 use Rattle.std.proofs.Common.{◌≡◌, ◌*◌, ◌<◌}
 use Rattle.std.specs.List.{AllByRecursion}
 use Rattle.quota_types.specs.declared.record.Entry.{Entry}
-use Rattle.tree_file.specs.Build.{ids_of}
+use Rattle.quota_blocks.specs.Listed.{ids_of}
 use Rattle.tree_file.proofs.OrderLemmas.{Ascends}
 use Rattle.tree_file.proofs.build_tests.spaced.Given as goal
 

@@ -3,7 +3,8 @@ use Rattle.std.specs.List.{flat_map, range_with_len}
 use Rattle.std.specs.List.Sorted.{IsStrictlyIncreasing}
 use Rattle.entry_codec.specs.Header.{header_of}
 use Rattle.tree_file.specs.declared.tree_path.TreePath.{TreePath}
-use Rattle.tree_file.specs.Build.{HasNoPadding, HasOneRoom, ids_of, value_of}
+use Rattle.quota_blocks.specs.Listed.{ids_of, value_of}
+use Rattle.tree_file.specs.Build.{HasNoPadding, HasOneRoom}
 use Rattle.tree_file.specs.Levels.{blocks_of}
 use Rattle.tree_file.specs.NewFile.{AreBelow, AreDataBlocks, IsLevel, KeepsBlocks, leaves_in, numbers_of, parents_of, parts_needed, parts_of}
 use Rattle.tree_file.specs.Size.{blocks_needed}

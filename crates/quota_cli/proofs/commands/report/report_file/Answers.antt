@@ -1,9 +1,10 @@
 use Rattle.std.proofs.Common.{◌≡◌, Ok, sym, ap, ◌∙◌, IsTrue}
-use Rattle.std.specs.String.{string_bytes}
 use Rattle.quota_blocks.specs.QuotaFile.{FileSeen}
 use Rattle.quota_blocks.specs.QuotaValue.{QuotaValue}
 use Rattle.quota_blocks.proofs.FrameLemmas.{only_reads-then}
-use Rattle.quota_v1.specs.View.{IsFlatView}
+use Rattle.quota_map.specs.AnyFile.{any_seen}
+use Rattle.quota_map.specs.View.{IsView}
+use Rattle.quota_map.proofs.SeenLemmas.{view_kind}
 use Rattle.quota_cli.specs.Done.{seen_of, tells_of}
 use Rattle.quota_cli.proofs.OpeningLemmas.{not_opened}
 use Rattle.quota_cli.proofs.PieceLemmas.{appends_whole}
@@ -17,19 +18,19 @@ returns-in-Ok-report-clause-carries g c = λ input err link input_tells err_tell
     let opened = c.in-Ok.ensures in
     let reported = c.in-Ok-report.ensures in
     let file = c.as_str.ensures in
-    let named : string_bytes c.in-Ok.opened.name ≡ c.args.file = ap (λ (s : FileSeen). s.name) opened.fresh ∙ file in
+    let named : (any_seen c.in-Ok.opened).name ≡ c.args.file = ap (λ (s : FileSeen). s.name) opened.fresh ∙ file in
     let tells = tells_of S.tells input_tells O.tells err_tells link_tells in
     let old = seen_of (S.seen c.args.store.now) input (O.seen c.args.out.now) err link in
-    let reads = only_reads-then c.args.file (S.seen c.args.store.now) (S.seen c.open_v1.new.store) (S.seen c.report.new.store)
+    let reads = only_reads-then c.args.file (S.seen c.args.store.now) (S.seen c.open_file.new.store) (S.seen c.report.new.store)
     (rw file at opened.leaves) (rw named at reported.leaves) in
-    let held = λ (told : IsTrue S.tells) (value : QuotaValue) (view : IsFlatView ((S.seen c.args.store.now).files c.args.file) c.args.common.kind (Ok value)).
-    opened.held told c.args.common.kind value (rw (sym file) at view) in
-    let written = λ (told : IsTrue S.tells) (out_told : IsTrue O.tells) (value : QuotaValue) (view : IsFlatView ((S.seen c.args.store.now).files c.args.file) c.args.common.kind (Ok value)).
-    rw c.as_str-in-Ok.ensures at (reported.ok out_told value (held told value view) view.1) in
+    let held = λ (told : IsTrue S.tells) (value : QuotaValue) (view : IsView ((S.seen c.args.store.now).files c.args.file) c.args.common.kind c.args.common.format (Ok value)).
+    opened.held told value (rw (sym file) at view) in
+    let written = λ (told : IsTrue S.tells) (out_told : IsTrue O.tells) (value : QuotaValue) (view : IsView ((S.seen c.args.store.now).files c.args.file) c.args.common.kind c.args.common.format (Ok value)).
+    rw c.as_str-in-Ok.ensures at (reported.ok out_told value (held told value view) (view_kind _ c.args.common.kind c.args.common.format value view)) in
     report_done c.args.common c.args.file c.args.options.now (record { now = c.args.now; line = line }) _ tells old
     (S.seen c.report.new.store) (O.seen c.report.new.sink)
     (record {
-      seen = λ told. rw file at (opened.seen told c.args.common.kind);
+      seen = λ told. rw file at (opened.seen told);
       reads = reads;
       prefix = λ told out_told value view. appends_whole _ _ _ (written told out_told value view);
       later = reported.sink_later;
@@ -43,20 +44,20 @@ returns-in-Err-report-clause-carries g c = λ input err link input_tells err_tel
     let opened = c.in-Ok.ensures in
     let reported = c.in-Err-report.ensures in
     let file = c.as_str.ensures in
-    let named : string_bytes c.in-Ok.opened.name ≡ c.args.file = ap (λ (s : FileSeen). s.name) opened.fresh ∙ file in
+    let named : (any_seen c.in-Ok.opened).name ≡ c.args.file = ap (λ (s : FileSeen). s.name) opened.fresh ∙ file in
     let tells = tells_of S.tells input_tells O.tells err_tells link_tells in
     let old = seen_of (S.seen c.args.store.now) input (O.seen c.args.out.now) err link in
-    let reads = only_reads-then c.args.file (S.seen c.args.store.now) (S.seen c.open_v1.new.store) (S.seen c.report.new.store)
+    let reads = only_reads-then c.args.file (S.seen c.args.store.now) (S.seen c.open_file.new.store) (S.seen c.report.new.store)
     (rw file at opened.leaves) (rw named at reported.leaves) in
-    let held = λ (told : IsTrue S.tells) (value : QuotaValue) (view : IsFlatView ((S.seen c.args.store.now).files c.args.file) c.args.common.kind (Ok value)).
-    opened.held told c.args.common.kind value (rw (sym file) at view) in
+    let held = λ (told : IsTrue S.tells) (value : QuotaValue) (view : IsView ((S.seen c.args.store.now).files c.args.file) c.args.common.kind c.args.common.format (Ok value)).
+    opened.held told value (rw (sym file) at view) in
     rw c.report_cause.ensures
     (report_refused c.args.common c.args.file c.args.options.now (record { now = c.args.now; line = line }) tells old
-    (S.seen c.report.new.store) (O.seen c.report.new.sink) (S.seen c.open_v1.new.store).faults _ c.in-Err-report.fault
+    (S.seen c.report.new.store) (O.seen c.report.new.sink) (any_seen c.in-Ok.opened).format (S.seen c.open_file.new.store).faults _ c.in-Err-report.fault opened.as_asked
     (record {
-      seen = λ told. rw file at (opened.seen told c.args.common.kind);
+      seen = λ told. rw file at (opened.seen told);
       reads = reads;
-      prefix = λ told out_told value view. rw c.as_str-in-Ok.ensures at (reported.fault out_told value (held told value view) view.1);
+      prefix = λ told out_told value view. rw c.as_str-in-Ok.ensures at (reported.fault out_told value (held told value view) (view_kind _ c.args.common.kind c.args.common.format value view));
       later = reported.sink_later;
     })
     opened.leaves.later held reported.refused reported.may)
@@ -64,9 +65,9 @@ returns-in-Err-report-clause-carries g c = λ input err link input_tells err_tel
 pub returns-in-Err-clause-carries : goal.returns-in-Err-clause-carries
 returns-in-Err-clause-carries g c = λ input err link input_tells err_tells link_tells line.
     rw c.opening_cause.ensures
-    (not_opened c.args.common.kind c.args.file _ _ _
+    (not_opened c.args.common.kind c.args.common.format c.args.file _ _ _
     (tells_of g.S.Store.tells input_tells g.O.Sink.tells err_tells link_tells)
     (seen_of (g.S.Store.seen c.args.store.now) input (g.O.Sink.seen c.args.out.now) err link)
-    (g.S.Store.seen c.open_v1.new.store) c.in-Err.fault
+    (g.S.Store.seen c.open_file.new.store) c.in-Err.fault
     (rw c.as_str.ensures at c.in-Err.ensures.refused) (rw c.as_str.ensures at c.in-Err.ensures.leaves)
-    (λ cause may. report_allowed c.args.file cause may))
+    (λ cause may. report_allowed c.args.common c.args.file cause may))

@@ -1,0 +1,73 @@
+ghost use Rattle.std.specs.Prelude.{◌≡◌, ◌++◌, ◌⊎◌, length, IfSome, IsTrue};
+ghost use Rattle.quota_blocks.specs.Count.{Rose};
+
+use crate::refusal::{Cause, Refusal};
+use crate::run::refuse;
+use crate::words::Word;
+use quota_blocks::Sink;
+use std::alloc::Global;
+
+/// What `--help` writes.
+const HELP: &str = "Usage: quota_cli COMMAND [OPTION]... [OPERAND]...
+
+The Linux disk quota tools, for quota files while quotas are off.
+
+Built so far, without --names:
+  repquota [-u|-g] [-v] [-n] [-p] [-F FORMAT] FILE
+                        the report of a quota file
+  setquota [-u|-g] [-F FORMAT] NAME BSOFT BHARD ISOFT IHARD FILE
+                        new limits of one identifier
+Their words are read, and they are not built yet:
+  setquota [-u|-g] [-F FORMAT] [--names FILE] -p PROTO NAME FILE
+  setquota [-u|-g] [-F FORMAT] [--names FILE] -b [--input FILE] FILE
+  setquota [-u|-g] [-F FORMAT] [--names FILE] -t BGRACE IGRACE FILE
+  setquota [-u|-g] [-F FORMAT] [--names FILE] -T NAME BTIME ITIME FILE
+  edquota  [-u|-g] [-F FORMAT] [--names FILE] --print NAME FILE
+  edquota  [-u|-g] [-F FORMAT] [--names FILE] --apply [--input FILE] NAME FILE
+  quotacheck [-u|-g] [-c] [-F FORMAT] [--device NUMBER] [--input FILE] FILE
+  convertquota [-u|-g] -f OLD,NEW SOURCE TARGET
+  rquotad [--format FORMAT] --calls NUMBER --port NUMBER
+          (--export PATH KIND FILE)...
+  script
+  generate SEED COUNT FILE
+
+-u is for users, which is the default, and -g for groups. FORMAT is vfsold,
+vfsv0 or vfsv1; without it the file says which of the last two it has. Limits
+of blocks are in KiB and may end in K, M, G or T, those of inodes in k, m, g
+or t.
+
+Exit status: 0 done, 1 refused, 2 wrong words, 3 not a quota file that is asked
+for, or a damaged one, 4 a fault of the system, 5 want of memory.
+
+The documents are the files of docs/ in the program's repository: COMMANDS.md
+has the commands, FORMATS.md the bytes of quota files, PROMISES.md what is
+proved.
+";
+
+/// What `--version` writes.
+const VERSION: &str = "quota_cli 0.1.0 (vfsold, vfsv0, vfsv1)
+";
+
+/// The text that is asked for by the one word `--help` or `--version`.
+pub fn text_for(words: &[String]) -> Option<&'static str>
+    ensures alone { IfSome result (λ _. length words.now ≡ 1) }
+{
+    match words {
+        [word] if word.as_str() == "--help" => Some(HELP),
+        [word] if word.as_str() == "--version" => Some(VERSION),
+        _ => None,
+    }
+}
+
+/// Writes a text to the output, and answers the status with which the program ends: 0, or that of a fault of the output, of
+/// which the error output gets the line.
+pub fn tell<O: Sink, E: Sink>(out: &mut O, err: &mut E, text: &str, alloc: Global) -> u8
+    ensures told { result ≡ 0 → IsTrue O.tells
+        → (O.seen out.new).written ≡ (O.seen out.old).written ++ text.now }
+    ensures fault { (result ≡ 0) ⊎ ((result ≡ 4) × Rose (O.seen out.old).faults (O.seen out.new).faults) }
+{
+    match out.write(text.as_bytes()) {
+        Ok(()) => 0,
+        Err(_) => refuse(err, &Refusal::of(Cause::SinkFault, Word::empty(alloc))),
+    }
+}

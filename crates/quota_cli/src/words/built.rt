@@ -1,0 +1,34 @@
+ghost use Rattle.std.specs.Prelude.{◌≡◌, false, Ok};
+ghost use Rattle.quota_cli.specs.commands.Built.{is_built};
+ghost use Rattle.quota_cli.specs.declared.words.command.Command.{Command};
+ghost use Rattle.quota_cli.specs.words.Asked.{command_of, texts_of};
+ghost use Rattle.quota_cli.specs.words.Built.{is_built_form};
+ghost use Rattle.quota_cli.specs.words.Given.{told};
+
+use super::form::{Form, form_of};
+use super::given::Given;
+use super::scan::scan_words;
+use super::tool::Tool;
+
+/// Whether words that ask for a command ask for one that is built so far. It takes no memory.
+pub fn asks_built(words: &[String]) -> bool
+    ensures { (command : Command) → command_of false (texts_of words.now) ≡ Ok command → result ≡ is_built command }
+{
+    let Some((name, behind)) = words.split_first() else {
+        return false;
+    };
+    let Some(tool) = Tool::named(name.as_str()) else {
+        return false;
+    };
+    match scan_words(tool, behind) {
+        Ok(scan) => is_built_form(form_of(tool, &scan.given), &scan.given),
+        Err(_) => false,
+    }
+}
+
+/// Whether a form with these options is built so far.
+fn is_built_form(form: Form, given: &Given<'_>) -> bool
+    ensures { result ≡ is_built_form form (told given.now) }
+{
+    matches!(form, Form::Reporting | Form::Limiting) && given.names.is_none()
+}

@@ -1,0 +1,4 @@
+pub mod ReadingLemmas
+pub mod AnyLemmas
+pub mod ViewLemmas
+pub mod SeenLemmas

@@ -1,0 +1,185 @@
+-- What is seen of a quota file of any format, and of one that is opened.
+use Rattle.std.proofs.Common.{◌≡◌, ℕ, ◌<◌, ◌≤◌, Bool, IsTrue, List, Option, Some, None, Ok, Err, refl, sym, subst, ap, ◌∙◌, arith}
+use Rattle.std.specs.Prelude.{⊤}
+use Rattle.std.specs.Option.{IsSomeAnd}
+use Rattle.std.proofs.lemmas.Option.{none-some}
+use Rattle.std.proofs.lemmas.Bool.Decides.{nat_tests}
+use Rattle.quota_types.specs.declared.file_kind.Format.{Format}
+use Rattle.quota_types.specs.declared.file_kind.Format.TheVariants.{V1, V2R0, V2R1}
+use Rattle.quota_types.specs.declared.file_kind.Kind.{Kind}
+use Rattle.quota_blocks.specs.Count.{Rose}
+use Rattle.quota_blocks.specs.QuotaValue.{QuotaValue}
+use Rattle.quota_blocks.specs.declared.quota_file.OpenFault.{OpenFault}
+use Rattle.quota_blocks.specs.declared.quota_file.OpenFault.TheVariants.{Store, NoFile, TooLarge, Memory, NotQuota, WrongKind, UnknownVersion, BadBlockCount, FormatMismatch, Damage as Damaged}
+use Rattle.entry_codec.specs.Header.{HeaderNumbers, format_of, header_fault, header_of, magic_of}
+use Rattle.tree_file.specs.TreeFile.{IsSound, TreeStandsFor}
+use Rattle.tree_file.specs.Opened.{HoldsTree}
+use Rattle.tree_file.specs.View.{FitsRequest, IsAsAsked, IsRefusedFor, IsTreeFault, IsTreeView}
+use Rattle.tree_file.proofs.DefectLemmas.{no_defect_of_sound}
+use Rattle.quota_v1.specs.Opened.{HoldsFlat}
+use Rattle.quota_v1.specs.View.{IsFlatFault, IsFlatView}
+use Rattle.quota_v1.proofs.ViewLemmas.{seen_or_refused}
+use Rattle.quota_map.specs.AnyFile.{HoldsAny, any_seen}
+use Rattle.quota_map.specs.View.{IsOpenFault, IsView, blocks_allowed, fresh_seen, most_blocks}
+use Rattle.quota_map.specs.declared.any_file.AnyFile.{AnyFile}
+use Rattle.quota_map.specs.declared.any_file.AnyFile.TheVariants.{V1 as FlatFile, Tree as TreeFile}
+use Rattle.std.specs.String.{string_bytes}
+use Rattle.quota_blocks.specs.QuotaFile.{FileSeen}
+use Rattle.quota_blocks.specs.World.{World}
+
+-- a version that is known is below 2
+known_version : (version : ℕ) (format : Format) → format_of version ≡ Some format → version < 2
+known_version version format is = grind (arith, nat_tests)
+
+-- the numbers of a header of a kind are not refused
+not_refused : (kind : Kind) (numbers : HeaderNumbers) → numbers.magic ≡ magic_of kind → numbers.version < 2 → 2 ≤ numbers.blocks → header_fault kind numbers ≡ None
+not_refused kind numbers magic version two = grind (arith, nat_tests)
+
+-- the header of a file that stands for a value is one of its kind
+stands_header : (file : List ℕ) (value : QuotaValue) (kind : Kind) → TreeStandsFor file value → value.kind ≡ kind → header_fault kind (header_of file) ≡ None
+stands_header file value kind stands is =
+    not_refused kind (header_of file) (stands.magic ∙ ap magic_of is) (known_version (header_of file).version value.format stands.version) stands.sound.two
+
+-- what a refusal says of a file that stands for a value of the kind and the format that was asked for is not so
+tree_refused : (kind : Kind) (asked : Option Format) (limit : ℕ) (file : List ℕ) (value : QuotaValue) (fault : OpenFault)
+    → (header_of file).blocks ≤ limit → TreeStandsFor file value → value.kind ≡ kind → IsAsAsked asked value.format
+    → FitsRequest asked limit fault → IsRefusedFor kind asked limit fault file → ⊥
+tree_refused kind asked limit file value Store few stands is as_asked fits refused = refused
+tree_refused kind asked limit file value NoFile few stands is as_asked fits refused = refused
+tree_refused kind asked limit file value (TooLarge number most) few stands is as_asked fits refused = omega (arith, few, refused.many)
+tree_refused kind asked limit file value Memory few stands is as_asked fits refused = refused
+tree_refused kind asked limit file value NotQuota few stands is as_asked fits refused = none-some _ (sym (stands_header file value kind stands is) ∙ refused)
+tree_refused kind asked limit file value WrongKind few stands is as_asked fits refused = none-some _ (sym (stands_header file value kind stands is) ∙ refused)
+tree_refused kind asked limit file value UnknownVersion few stands is as_asked fits refused = none-some _ (sym (stands_header file value kind stands is) ∙ refused)
+tree_refused kind asked limit file value BadBlockCount few stands is as_asked fits refused = none-some _ (sym (stands_header file value kind stands is) ∙ refused)
+tree_refused kind None limit file value (FormatMismatch found) few stands is as_asked fits refused = fits
+tree_refused kind (Some wanted) limit file value (FormatMismatch found) few stands is as_asked fits refused =
+    let same : Some value.format ≡ Some found = sym stands.version ∙ refused.version in
+    let format : value.format ≡ found = cc in
+    fits (as_asked ∙ format)
+tree_refused kind asked limit file value (Damaged damage) few stands is as_asked fits refused =
+    let same : Some value.format ≡ Some refused.format = sym stands.version ∙ refused.header.version in
+    let format : value.format ≡ refused.format = cc in
+    no_defect_of_sound refused.format file (header_of file) (subst (λ (f : Format). IsSound f file (header_of file)) format stands.sound) damage refused.defect
+
+-- a tree file is not both seen as a value and refused
+tree_seen_or_refused : (named : Option (List ℕ)) (kind : Kind) (asked : Option Format) (limit : ℕ) (value : QuotaValue) (fault : OpenFault)
+    → IsTreeView named kind asked limit (Ok value) → IsTreeView named kind asked limit (Err fault) → ⊥
+tree_seen_or_refused None kind asked limit value fault seen refused = absurd seen.0
+tree_seen_or_refused (Some file) kind asked limit value Store seen refused = refused
+tree_seen_or_refused (Some file) kind asked limit value NoFile seen refused = none-some file (sym refused)
+tree_seen_or_refused (Some file) kind asked limit value Memory seen refused = refused
+tree_seen_or_refused (Some file) kind asked limit value (TooLarge number most) seen refused = tree_refused kind asked limit file value (TooLarge number most) seen.0.0 seen.0.1 seen.1 seen.2 refused.0 refused.1
+tree_seen_or_refused (Some file) kind asked limit value NotQuota seen refused = tree_refused kind asked limit file value NotQuota seen.0.0 seen.0.1 seen.1 seen.2 refused.0 refused.1
+tree_seen_or_refused (Some file) kind asked limit value WrongKind seen refused = tree_refused kind asked limit file value WrongKind seen.0.0 seen.0.1 seen.1 seen.2 refused.0 refused.1
+tree_seen_or_refused (Some file) kind asked limit value UnknownVersion seen refused = tree_refused kind asked limit file value UnknownVersion seen.0.0 seen.0.1 seen.1 seen.2 refused.0 refused.1
+tree_seen_or_refused (Some file) kind asked limit value BadBlockCount seen refused = tree_refused kind asked limit file value BadBlockCount seen.0.0 seen.0.1 seen.1 seen.2 refused.0 refused.1
+tree_seen_or_refused (Some file) kind asked limit value (FormatMismatch found) seen refused = tree_refused kind asked limit file value (FormatMismatch found) seen.0.0 seen.0.1 seen.1 seen.2 refused.0 refused.1
+tree_seen_or_refused (Some file) kind asked limit value (Damaged damage) seen refused = tree_refused kind asked limit file value (Damaged damage) seen.0.0 seen.0.1 seen.1 seen.2 refused.0 refused.1
+
+-- a file of any format is not both seen as a value and refused
+pub view_or_refused : (named : Option (List ℕ)) (kind : Kind) (asked : Option Format) (value : QuotaValue) (fault : OpenFault)
+    → IsView named kind asked (Ok value) → IsView named kind asked (Err fault) → ⊥
+view_or_refused named kind None value fault seen refused = tree_seen_or_refused named kind None most_blocks value fault seen refused
+view_or_refused named kind (Some V1) value fault seen refused = seen_or_refused named kind value fault seen refused
+view_or_refused named kind (Some V2R0) value fault seen refused = tree_seen_or_refused named kind (Some V2R0) most_blocks value fault seen refused
+view_or_refused named kind (Some V2R1) value fault seen refused = tree_seen_or_refused named kind (Some V2R1) most_blocks value fault seen refused
+
+-- a fault of the store, or want of memory
+abbrev pub IsOfCall : OpenFault → Type 0
+IsOfCall Store = ⊤
+IsOfCall Memory = ⊤
+IsOfCall _ = ⊥
+
+tree_fault_seen : (before now : ℕ) (tells : Bool) (named : Option (List ℕ)) (kind : Kind) (asked : Option Format) (limit : ℕ) (fault : OpenFault)
+    → IsTreeFault before now tells named kind asked limit fault → IsTrue tells → (IsOfCall fault → ⊥) → IsTreeView named kind asked limit (Err fault)
+tree_fault_seen before now tells named kind asked limit Store cause told own = absurd (own tt)
+tree_fault_seen before now tells named kind asked limit NoFile cause told own = cause told
+tree_fault_seen before now tells named kind asked limit Memory cause told own = absurd (own tt)
+tree_fault_seen before now tells named kind asked limit (TooLarge number most) cause told own = (cause.0, cause.1 told)
+tree_fault_seen before now tells named kind asked limit NotQuota cause told own = (cause.0, cause.1 told)
+tree_fault_seen before now tells named kind asked limit WrongKind cause told own = (cause.0, cause.1 told)
+tree_fault_seen before now tells named kind asked limit UnknownVersion cause told own = (cause.0, cause.1 told)
+tree_fault_seen before now tells named kind asked limit BadBlockCount cause told own = (cause.0, cause.1 told)
+tree_fault_seen before now tells named kind asked limit (FormatMismatch found) cause told own = (cause.0, cause.1 told)
+tree_fault_seen before now tells named kind asked limit (Damaged damage) cause told own = (cause.0, cause.1 told)
+
+flat_fault_seen : (before now : ℕ) (tells : Bool) (named : Option (List ℕ)) (kind : Kind) (fault : OpenFault)
+    → IsFlatFault before now tells named fault → IsTrue tells → (IsOfCall fault → ⊥) → IsFlatView named kind (Err fault)
+flat_fault_seen before now tells named kind Store cause told own = absurd (own tt)
+flat_fault_seen before now tells named kind NoFile cause told own = cause told
+flat_fault_seen before now tells named kind Memory cause told own = absurd (own tt)
+flat_fault_seen before now tells named kind (TooLarge number most) cause told own = (cause.1 told, cause.0)
+flat_fault_seen before now tells named kind NotQuota cause told own = absurd cause
+flat_fault_seen before now tells named kind WrongKind cause told own = absurd cause
+flat_fault_seen before now tells named kind UnknownVersion cause told own = absurd cause
+flat_fault_seen before now tells named kind BadBlockCount cause told own = absurd cause
+flat_fault_seen before now tells named kind (FormatMismatch found) cause told own = absurd cause
+flat_fault_seen before now tells named kind (Damaged damage) cause told own = cause.1 told
+
+-- a refusal is seen of a file that is told, but for a fault of the store and want of memory
+pub fault_seen : (before now : ℕ) (tells : Bool) (named : Option (List ℕ)) (kind : Kind) (asked : Option Format) (fault : OpenFault)
+    → IsOpenFault before now tells named kind asked fault → IsTrue tells → (IsOfCall fault → ⊥) → IsView named kind asked (Err fault)
+fault_seen before now tells named kind None fault cause told own = tree_fault_seen before now tells named kind None most_blocks fault cause told own
+fault_seen before now tells named kind (Some V1) fault cause told own = flat_fault_seen before now tells named kind fault cause told own
+fault_seen before now tells named kind (Some V2R0) fault cause told own = tree_fault_seen before now tells named kind (Some V2R0) most_blocks fault cause told own
+fault_seen before now tells named kind (Some V2R1) fault cause told own = tree_fault_seen before now tells named kind (Some V2R1) most_blocks fault cause told own
+
+-- a fault of the store comes where its count rose, whatever was asked for
+pub store_rose : (before now : ℕ) (tells : Bool) (named : Option (List ℕ)) (kind : Kind) (asked : Option Format) → IsOpenFault before now tells named kind asked Store → Rose before now
+store_rose before now tells named kind None cause = cause
+store_rose before now tells named kind (Some V1) cause = cause
+store_rose before now tells named kind (Some V2R0) cause = cause
+store_rose before now tells named kind (Some V2R1) cause = cause
+
+-- a value that an opened flat file holds is seen of its file
+pub flat_held_seen : (tells : Bool) (named : Option (List ℕ)) (loaded : List ℕ) (value : QuotaValue) → HoldsFlat tells named loaded value → IsView named value.kind (Some value.format) (Ok value)
+flat_held_seen tells named loaded value held =
+    subst (λ (format : Format). IsView named value.kind (Some format) (Ok value)) (sym held.stands.format)
+    (subst (λ (n : Option (List ℕ)). IsFlatView n value.kind (Ok value)) (sym held.same) ((held.few, held.stands), refl))
+
+-- no version is that of a flat file
+no_flat_version : (version : ℕ) → format_of version ≡ Some V1 → ⊥
+no_flat_version version is = grind (arith, nat_tests)
+
+tree_format_seen : (format : Format) (named : Option (List ℕ)) (file : List ℕ) (value : QuotaValue) → named ≡ Some file → (header_of file).blocks ≤ most_blocks → TreeStandsFor file value
+    → value.format ≡ format → IsView named value.kind (Some format) (Ok value)
+tree_format_seen V1 named file value there few stands is = absurd (no_flat_version (header_of file).version (stands.version ∙ ap (λ (f : Format). Some f) is))
+tree_format_seen V2R0 named file value there few stands is =
+    (subst (λ (n : Option (List ℕ)). IsSomeAnd n (λ (f : List ℕ). ((header_of f).blocks ≤ most_blocks) × TreeStandsFor f value)) (sym there) (few, stands), refl, sym is)
+tree_format_seen V2R1 named file value there few stands is =
+    (subst (λ (n : Option (List ℕ)). IsSomeAnd n (λ (f : List ℕ). ((header_of f).blocks ≤ most_blocks) × TreeStandsFor f value)) (sym there) (few, stands), refl, sym is)
+
+-- a value that an opened tree file holds is seen of its file, where it may have as many blocks as it may when it is opened
+pub tree_held_seen : (tells : Bool) (named : Option (List ℕ)) (loaded : List ℕ) (limit : ℕ) (value : QuotaValue) → limit ≡ most_blocks → HoldsTree tells named loaded limit value
+    → IsView named value.kind (Some value.format) (Ok value)
+tree_held_seen tells named loaded limit value is held = tree_format_seen value.format named held.file value held.there (subst (λ (l : ℕ). (header_of held.file).blocks ≤ l) is held.few) held.stands refl
+
+-- a value that is seen is one of the kind that was asked for
+pub view_kind : (named : Option (List ℕ)) (kind : Kind) (asked : Option Format) (value : QuotaValue) → IsView named kind asked (Ok value) → value.kind ≡ kind
+view_kind named kind None value view = view.1
+view_kind named kind (Some V1) value view = view.1
+view_kind named kind (Some V2R0) value view = view.1
+view_kind named kind (Some V2R1) value view = view.1
+
+-- a file with some blocks may have the most
+pub most_allowed : (format : Format) (limit : ℕ) (blocks : ℕ) → limit ≡ blocks_allowed format → 2 ≤ blocks → blocks ≤ limit → limit ≡ most_blocks
+most_allowed V1 limit blocks is two few = absurd (omega (arith, is, two, few))
+most_allowed V2R0 limit blocks is two few = is
+most_allowed V2R1 limit blocks is two few = is
+
+-- an opened tree file may have the most blocks
+pub tree_limit : (tells : Bool) (named : Option (List ℕ)) (loaded : List ℕ) (limit : ℕ) (value : QuotaValue) (format : Format) → limit ≡ blocks_allowed format → HoldsTree tells named loaded limit value
+    → limit ≡ most_blocks
+tree_limit tells named loaded limit value format is held = most_allowed format limit (header_of held.file).blocks is held.stands.sound.two held.few
+
+-- a value that an opened file holds is seen of its file
+pub any_held_seen : (tells : Bool) (files : World) (file : AnyFile) (value : QuotaValue) (name : List ℕ) (format : Format) → any_seen file ≡ fresh_seen name format → HoldsAny tells files file value
+    → IsView (files name) value.kind (Some value.format) (Ok value)
+any_held_seen tells files (FlatFile file) value name format seen held =
+    subst (λ (n : List ℕ). IsView (files n) value.kind (Some value.format) (Ok value)) (ap (λ (s : FileSeen). s.name) seen)
+    (flat_held_seen tells (files (string_bytes file.name)) file.bytes.items value held)
+any_held_seen tells files (TreeFile file) value name format seen held =
+    subst (λ (n : List ℕ). IsView (files n) value.kind (Some value.format) (Ok value)) (ap (λ (s : FileSeen). s.name) seen)
+    (tree_held_seen tells (files (string_bytes file.name)) file.tree.bytes.items file.limit value
+    (tree_limit tells (files (string_bytes file.name)) file.tree.bytes.items file.limit value format (ap (λ (s : FileSeen). s.limit) seen) held) held)

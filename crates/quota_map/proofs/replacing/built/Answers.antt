@@ -1,0 +1,11 @@
+use Rattle.std.proofs.Common.{sym, subst}
+use Rattle.quota_types.specs.declared.file_kind.Format.{Format}
+use Rattle.quota_blocks.specs.Listed.{value_of}
+use Rattle.quota_map.specs.Replacing.{flags_in}
+use Rattle.quota_map.specs.StandsFor.{StandsFor}
+use Rattle.quota_map.proofs.replacing.built.Goals as goal
+
+pub returns-in_ok-build_v1-in-V1-clause-stands : goal.returns-in_ok-build_v1-in-V1-clause-stands
+returns-in_ok-build_v1-in-V1-clause-stands c =
+    subst (λ (format : Format). StandsFor c.in_ok-build_v1-in-V1.field-0.items (value_of c.args.kind format c.args.grace (flags_in format c.args.flags) c.args.list.now)) (sym c.in-V1.is)
+    (c.in_ok-build_v1-in-V1.ensures.stands c.args.kind)

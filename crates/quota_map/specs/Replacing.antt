@@ -1,0 +1,63 @@
+-- A whole file of any format that is built and put in the place of another one.
+use Rattle.std.specs.Prelude.{◌≡◌, ℕ, ◌*◌, ◌<◌, List, length, ⊤}
+use Rattle.quota_types.specs.declared.file_kind.Format.{Format}
+use Rattle.quota_types.specs.declared.file_kind.Format.TheVariants.{V1, V2R0, V2R1}
+use Rattle.quota_blocks.specs.Count.{Rose}
+use Rattle.quota_blocks.specs.QuotaValue.{QuotaValue}
+use Rattle.quota_blocks.specs.Replace.{replaced_files}
+use Rattle.quota_blocks.specs.World.{World}
+use Rattle.quota_blocks.specs.declared.replacement.ReplaceFault.{ReplaceFault}
+use Rattle.quota_blocks.specs.declared.replacement.ReplaceFault.TheVariants.{Store, Full, Memory}
+use Rattle.quota_types.specs.Bytes.{number_at}
+use Rattle.quota_types.specs.declared.record.Grace.{Grace}
+use Rattle.tree_file.specs.Build.{HasNoPadding, HasOneRoom}
+use Rattle.tree_file.specs.Size.{blocks_needed}
+use Rattle.quota_v1.specs.Build.{IsZeroElsewhere, records_needed}
+use Rattle.quota_map.specs.StandsFor.{StandsFor}
+
+-- how many bytes a file of these identifiers is built of: a flat file of records of 40 bytes, a tree file of blocks of 1,024
+abbrev pub built_size : Format → List ℕ → ℕ
+built_size V1 ids = 40 * records_needed ids
+built_size V2R0 ids = 1024 * blocks_needed V2R0 ids
+built_size V2R1 ids = 1024 * blocks_needed V2R1 ids
+
+-- the flags that a file of the format is given: a flat file has none, which are read as 0
+abbrev pub flags_in : Format → ℕ → ℕ
+flags_in V1 flags = 0
+flags_in V2R0 flags = flags
+flags_in V2R1 flags = flags
+
+-- The two times of record 0 of a flat file are the grace periods as they were given.
+pub record HasTimes (grace : Grace) (file : List ℕ) : Type 0 where
+  pub block : number_at 8 file 24 ≡ grace.block
+  pub inode : number_at 8 file 32 ≡ grace.inode
+
+-- A file of these identifiers has nothing beside what it stands for. Of a flat file each byte of an identifier that is not
+-- one of these is 0, but for the grace periods. Of a tree file at most one data block has room, and each byte that no field
+-- names is 0.
+abbrev pub IsPlain : Format → Grace → List ℕ → List ℕ → Type 0
+IsPlain V1 grace ids file = HasTimes grace file × IsZeroElsewhere ids file
+IsPlain V2R0 grace ids file = HasOneRoom V2R0 file (blocks_needed V2R0 ids) × HasNoPadding V2R0 file (blocks_needed V2R0 ids)
+IsPlain V2R1 grace ids file = HasOneRoom V2R1 file (blocks_needed V2R1 ids) × HasNoPadding V2R1 file (blocks_needed V2R1 ids)
+
+-- The named file is a new one of so many bytes, which stands for the value of these entries and has nothing beside it. All
+-- other files are as before, but that none is left under the name that the new file was written under.
+pub record IsReplacedBy (name : List ℕ) (value : QuotaValue) (ids : List ℕ) (size : ℕ) (old new : World) : Type 0 where
+  pub bytes : List ℕ
+  pub files : new ≡ replaced_files old name bytes
+  pub stands : StandsFor bytes value
+  pub plain : IsPlain value.format value.grace ids bytes
+  pub long : length bytes ≡ size
+
+-- A file was not replaced since the store's count of faults rose, since it would need more blocks than it may have, or for
+-- want of memory.
+abbrev pub IsReplaceFileFault : (before now needed most : ℕ) → ReplaceFault → Type 0
+IsReplaceFileFault before now needed most Store = Rose before now
+IsReplaceFileFault before now needed most (Full blocks limit) = (most < needed) × (blocks ≡ needed) × (limit ≡ most)
+IsReplaceFileFault before now needed most Memory = ⊤
+
+-- a fact where room or memory was wanting
+abbrev pub UnlessStore : ReplaceFault → Type 0 → Type 0
+UnlessStore Store P = ⊤
+UnlessStore (Full _ _) P = P
+UnlessStore Memory P = P

@@ -1,0 +1,44 @@
+-- What is seen of a quota file by whoever opens it: as a flat file exactly where that format is asked for, and else as a tree
+-- file. Source: quotaon(8) and setquota(8) on formats, of which only vfsold has no magic number.
+use Rattle.std.specs.Prelude.{◌≡◌, ℕ, Bool, true, List, Option, Some, None, Result}
+use Rattle.quota_types.specs.declared.file_kind.Format.{Format}
+use Rattle.quota_types.specs.declared.file_kind.Format.TheVariants.{V1, V2R0, V2R1}
+use Rattle.quota_types.specs.declared.file_kind.Kind.{Kind}
+use Rattle.quota_blocks.specs.QuotaFile.{FileSeen}
+use Rattle.quota_blocks.specs.QuotaValue.{QuotaValue}
+use Rattle.quota_blocks.specs.declared.quota_file.OpenFault.{OpenFault}
+use Rattle.tree_file.specs.View.{IsTreeFault, IsTreeView}
+use Rattle.quota_v1.specs.View.{IsFlatFault, IsFlatView}
+
+-- how many blocks a tree file may have
+abbrev pub most_blocks : ℕ
+most_blocks = 1048576
+
+-- the file stands for a value of the kind, in the format that was asked for, where one was; or it is refused
+abbrev pub IsView : Option (List ℕ) → Kind → Option Format → Result QuotaValue OpenFault → Type 0
+IsView named kind None result = IsTreeView named kind None most_blocks result
+IsView named kind (Some V1) result = IsFlatView named kind result
+IsView named kind (Some V2R0) result = IsTreeView named kind (Some V2R0) most_blocks result
+IsView named kind (Some V2R1) result = IsTreeView named kind (Some V2R1) most_blocks result
+
+-- why opening is refused, as one of a flat file exactly where that format is asked for
+abbrev pub IsOpenFault : ℕ → ℕ → Bool → Option (List ℕ) → Kind → Option Format → OpenFault → Type 0
+IsOpenFault before now tells named kind None fault = IsTreeFault before now tells named kind None most_blocks fault
+IsOpenFault before now tells named kind (Some V1) fault = IsFlatFault before now tells named fault
+IsOpenFault before now tells named kind (Some V2R0) fault = IsTreeFault before now tells named kind (Some V2R0) most_blocks fault
+IsOpenFault before now tells named kind (Some V2R1) fault = IsTreeFault before now tells named kind (Some V2R1) most_blocks fault
+
+-- how many blocks an opened file of a format may have; a flat file has none
+abbrev pub blocks_allowed : Format → ℕ
+blocks_allowed V1 = 0
+blocks_allowed V2R0 = most_blocks
+blocks_allowed V2R1 = most_blocks
+
+-- what is seen of one that was just opened
+abbrev pub fresh_seen : List ℕ → Format → FileSeen
+fresh_seen name format = record { name = name; format = format; usable = true; limit = blocks_allowed format; refusals = 0 }
+
+-- The format of an opened file is the one that was asked for, and one of a tree file where none was.
+abbrev pub IsOpenedAs : Option Format → Format → Type 0
+IsOpenedAs None format = ¬ (format ≡ V1)
+IsOpenedAs (Some wanted) format = format ≡ wanted

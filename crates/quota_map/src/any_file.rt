@@ -1,0 +1,117 @@
+ghost use Rattle.std.specs.Prelude.{◌≡◌, Bool};
+ghost use Rattle.quota_blocks.specs.QuotaValue.{QuotaValue};
+ghost use Rattle.quota_blocks.specs.World.{World};
+
+use quota_blocks::{FileFault, QuotaFile, Store};
+use quota_types::{Entry, Format, Grace, Rec};
+use quota_v1::V1File;
+use tree_file::TreeFile;
+
+/// An opened quota file of any format.
+#[derive(Debug, Drop)]
+pub enum AnyFile {
+    /// A flat file: vfsold.
+    V1(V1File),
+    /// A tree file: vfsv0 or vfsv1.
+    Tree(TreeFile),
+}
+
+impl AnyFile {
+    ghost use Rattle.quota_map.specs.AnyFile.{HoldsAny};
+
+    /// The flags of the header, which may have any value; a flat file has none, which are read as 0.
+    pub fn flags(&self) -> u32
+        ensures { (tells : Bool) (files : World) (value : QuotaValue)
+            → HoldsAny tells files self.now value → result ≡ value.flags }
+    {
+        match self {
+            AnyFile::V1(_) => 0,
+            AnyFile::Tree(file) => file.flags(),
+        }
+    }
+}
+
+impl<S: Store> QuotaFile<S> for AnyFile {
+    ghost use Rattle.tree_file.specs.Opened.{LacksRoom};
+    ghost use Rattle.quota_map.specs.AnyFile.{AnyMakes, HoldsAny, MayRefuse, any_seen};
+    ghost use Rattle.quota_map.specs.Rests.{rests_on_named};
+
+    ghost holds = { λ file store value. HoldsAny S.tells (S.seen store).files file value };
+
+    ghost seen = { any_seen };
+
+    ghost may_refuse = { MayRefuse };
+
+    ghost lacks_room = { λ seen _ value blocks limit. LacksRoom seen value blocks limit };
+
+    ghost makes = { AnyMakes };
+
+    ghost may_leave = { λ _ old _ left. left ≡ old };
+
+    ghost get_reads = { λ _. 0 };
+
+    ghost next_reads = { λ _ _. 0 };
+
+    ghost rests_on_named = { λ file one other value named held.
+        rests_on_named S.tells (S.seen one).files (S.seen other).files file value named held };
+
+    fn format(&self) -> Format {
+        match self {
+            AnyFile::V1(file) => QuotaFile::<S>::format(file),
+            AnyFile::Tree(file) => QuotaFile::<S>::format(file),
+        }
+    }
+
+    fn usable(&self) -> bool {
+        match self {
+            AnyFile::V1(file) => QuotaFile::<S>::usable(file),
+            AnyFile::Tree(file) => QuotaFile::<S>::usable(file),
+        }
+    }
+
+    fn grace(&self) -> Grace {
+        match self {
+            AnyFile::V1(file) => QuotaFile::<S>::grace(file),
+            AnyFile::Tree(file) => QuotaFile::<S>::grace(file),
+        }
+    }
+
+    fn get(&mut self, store: &mut S, id: u32) -> Result<Option<Rec>, FileFault> {
+        match self {
+            AnyFile::V1(file) => file.get(store, id),
+            AnyFile::Tree(file) => file.get(store, id),
+        }
+    }
+
+    fn next_after(
+        &mut self,
+        store: &mut S,
+        after: Option<u32>,
+    ) -> Result<Option<Entry>, FileFault> {
+        match self {
+            AnyFile::V1(file) => file.next_after(store, after),
+            AnyFile::Tree(file) => file.next_after(store, after),
+        }
+    }
+
+    fn put(&mut self, store: &mut S, id: u32, rec: Rec) -> Result<(), FileFault> {
+        match self {
+            AnyFile::V1(file) => file.put(store, id, rec),
+            AnyFile::Tree(file) => file.put(store, id, rec),
+        }
+    }
+
+    fn remove(&mut self, store: &mut S, id: u32) -> Result<(), FileFault> {
+        match self {
+            AnyFile::V1(file) => file.remove(store, id),
+            AnyFile::Tree(file) => file.remove(store, id),
+        }
+    }
+
+    fn set_grace(&mut self, store: &mut S, grace: Grace) -> Result<(), FileFault> {
+        match self {
+            AnyFile::V1(file) => file.set_grace(store, grace),
+            AnyFile::Tree(file) => file.set_grace(store, grace),
+        }
+    }
+}

@@ -1,0 +1,18 @@
+//! One map from identifiers to records, over the formats vfsold, vfsv0 and vfsv1.
+//!
+//! The one promise: a file of any format is opened, read whole and written whole as the value that it stands for, and what
+//! is told of one format is told of all.
+#![tactic(auto)]
+
+mod any_file;
+pub mod laws;
+mod opening;
+mod reading;
+mod replacing;
+#[cfg(test)]
+mod tests;
+
+pub use any_file::AnyFile;
+pub use opening::open_file;
+pub use reading::read_all;
+pub use replacing::replace_file;

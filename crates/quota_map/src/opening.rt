@@ -1,0 +1,51 @@
+ghost use Rattle.std.specs.Prelude.{◌≡◌, ◌≢◌, ◌+◌, ◌*◌, ◌≤◌, Ok, Some, IsTrue, IfOk, IfErr, OnOk};
+ghost use Rattle.entry_codec.specs.Header.{header_of};
+ghost use Rattle.quota_blocks.specs.Frame.{OnlyReads};
+ghost use Rattle.quota_blocks.specs.QuotaValue.{QuotaValue};
+ghost use Rattle.quota_blocks.specs.Unsynced.{AddsNone};
+ghost use Rattle.tree_file.specs.Check.{bytes_of};
+ghost use Rattle.quota_map.specs.View.{IsOpenFault, IsOpenedAs, IsView, fresh_seen};
+
+use crate::AnyFile;
+use quota_blocks::{OpenFault, QuotaFile, Store};
+use quota_types::{Format, Kind};
+use quota_v1::open_v1;
+use std::alloc::Global;
+use tree_file::open_tree;
+
+/// How many blocks a tree file may have.
+const MOST_BLOCKS: u32 = 1_048_576;
+
+/// Opens a quota file of the kind: as a flat file, which has no mark of its kind, exactly where that format is asked for, and
+/// else as a tree file of the format that is asked for, where one is. The file is loaded whole.
+///
+/// # Errors
+///
+/// It is refused where it cannot be opened as one of its format: by `open_v1`, or by `open_tree` with at most 1,048,576 blocks.
+pub fn open_file<S: Store>(
+    alloc: Global,
+    store: &mut S,
+    name: &str,
+    kind: Kind,
+    format: Option<Format>,
+) -> Result<AnyFile, OpenFault>
+    ensures seen { OnOk result (IsTrue S.tells → (value : QuotaValue)
+        × IsView ((S.seen store.old).files name.now) kind format (Ok value)) }
+    ensures held { IfOk result (λ file. IsTrue S.tells → (value : QuotaValue)
+        → IsView ((S.seen store.old).files name.now) kind format (Ok value)
+        → ⟦<AnyFile as QuotaFile<S>>⟧.holds file store.new value) }
+    ensures fresh { IfOk result (λ file. ⟦<AnyFile as QuotaFile<S>>⟧.seen file
+        ≡ fresh_seen name.now (⟦<AnyFile as QuotaFile<S>>⟧.seen file).format) }
+    ensures as_asked { IfOk result (λ file. IsOpenedAs format (⟦<AnyFile as QuotaFile<S>>⟧.seen file).format) }
+    ensures refused { IfErr result (IsOpenFault (S.seen store.old).faults (S.seen store.new).faults S.tells
+        ((S.seen store.old).files name.now) kind format) }
+    ensures leaves { OnlyReads name.now (S.seen store.old) (S.seen store.new) }
+    ensures synced { OnOk result (AddsNone (S.seen store.old).unsynced (S.seen store.new).unsynced) }
+    ensures reads { OnOk result (format ≢ Some Format.V1 → IsTrue S.tells → (S.seen store.new).reads
+        ≤ (S.seen store.old).reads + 3 * (header_of (bytes_of ((S.seen store.old).files name.now))).blocks) }
+{
+    if format == Some(Format::V1) {
+        return Ok(AnyFile::V1(open_v1(alloc, store, name)?));
+    }
+    Ok(AnyFile::Tree(open_tree(alloc, store, name, kind, format, MOST_BLOCKS)?))
+}

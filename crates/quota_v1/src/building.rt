@@ -1,0 +1,59 @@
+ghost use Rattle.std.specs.Prelude.{◌≡◌, ◌*◌, ◌^◌, ◌≤◌, false, None, All, length, vec_len, IfOk};
+ghost use Rattle.std.specs.List.Sorted.{IsStrictlyIncreasing};
+ghost use Rattle.quota_types.specs.Bytes.{number_at};
+ghost use Rattle.quota_types.specs.Kept.{kept_of};
+ghost use Rattle.quota_types.specs.Range.{grace_unfit, unfit};
+ghost use Rattle.quota_types.specs.Rec.{is_zeros};
+ghost use Rattle.quota_types.specs.declared.file_kind.Format.TheVariants.{V1};
+ghost use Rattle.quota_types.specs.declared.file_kind.Kind.{Kind};
+ghost use Rattle.quota_blocks.specs.Listed.{ids_of, value_of};
+ghost use Rattle.quota_v1.specs.Build.{IsZeroElsewhere, records_needed};
+ghost use Rattle.quota_v1.specs.FlatFile.{FlatStandsFor};
+ghost use Rattle.quota_v1.specs.View.{flat_limit};
+
+use crate::flat_change::{TIMES, write_record, write_times};
+use crate::flat_record::RECORD;
+use quota_types::{Entry, Grace};
+use std::alloc::{AllocError, Global};
+
+/// Builds the bytes of a whole flat file from its grace periods, in seconds, and its entries.
+///
+/// The file stands for the map of the list, whichever kind it is read as. It has 40 bytes for each identifier from 0 up to
+/// the greatest one, and at least 40, in which record 0 has the grace periods. Every byte of an identifier that is not
+/// listed is 0. Time and memory grow with the greatest identifier; no clause says so.
+///
+/// # Errors
+///
+/// There was not enough memory.
+pub fn build_v1(alloc: Global, grace: Grace, list: &[Entry]) -> Result<Vec<u8>, AllocError>
+    requires grace { grace_unfit V1 grace ≡ None }
+    requires ascending { IsStrictlyIncreasing (ids_of list.now) }
+    requires fits { All (λ entry. unfit V1 entry.id entry.rec ≡ None) list.now }
+    requires kept { All (λ entry. kept_of V1 entry.id entry.rec ≡ entry.rec) list.now }
+    requires not_zeros { All (λ entry. is_zeros entry.rec ≡ false) list.now }
+    ensures stands { IfOk result (λ file. (kind : Kind) → FlatStandsFor file.items (value_of kind V1 grace 0 list.now)) }
+    ensures size { IfOk result (λ file. vec_len file ≡ 40 * records_needed (ids_of list.now)) }
+    ensures limited { IfOk result (λ file. vec_len file ≤ flat_limit) }
+    ensures block_time { IfOk result (λ file. number_at 8 file.items 24 ≡ grace.block) }
+    ensures inode_time { IfOk result (λ file. number_at 8 file.items 32 ≡ grace.inode) }
+    ensures elsewhere { IfOk result (λ file. IsZeroElsewhere (ids_of list.now) file.items) }
+{
+    let mut file = vec![in alloc; 0; RECORD * records_needed(list)]?;
+    write_times(&mut file, TIMES, grace.block, grace.inode);
+    for entry in list {
+        write_record(&mut file, entry.id as usize, &entry.rec);
+    }
+    Ok(file)
+}
+
+/// How many records a flat file of these entries has.
+fn records_needed(list: &[Entry]) -> usize
+    requires { IsStrictlyIncreasing (ids_of list.now) }
+    ensures value { result ≡ records_needed (ids_of list.now) }
+    ensures few { result ≤ 2 ^ 32 }
+{
+    match list.last() {
+        Some(entry) => entry.id as usize + 1,
+        None => 1,
+    }
+}

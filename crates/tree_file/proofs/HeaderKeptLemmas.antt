@@ -1,0 +1,95 @@
+-- A file whose header and blocks are those of another one, but maybe for the grace periods, stands for the same value with
+-- other grace periods.
+use Rattle.std.proofs.Common.{◌≡◌, ℕ, ◌*◌, ◌<◌, ◌≤◌, List, length, take, drop, sym, ap, subst, ◌∙◌, inl, inr, arith}
+use Rattle.std.proofs.lemmas.Bool.{cases_lt}
+use Rattle.std.proofs.lemmas.List.{length-take-le, take_all, take-append-drop}
+use Rattle.quota_types.proofs.BytesLemmas.{number_at-take}
+use Rattle.quota_types.specs.declared.file_kind.Format.{Format}
+use Rattle.quota_types.specs.declared.record.Grace.{Grace}
+use Rattle.quota_blocks.specs.QuotaValue.{QuotaValue, with_grace}
+use Rattle.entry_codec.specs.Header.{HeaderNumbers, format_of, header_of}
+use Rattle.tree_file.specs.Block.{block_of}
+use Rattle.tree_file.specs.NewFile.{KeepsBlocks}
+use Rattle.tree_file.specs.Opened.{whole_blocks}
+use Rattle.tree_file.specs.Roles.{Chained, Filled, OneRole}
+use Rattle.tree_file.specs.TreeFile.{IsSound, TreeStandsFor, tree_record}
+use Rattle.tree_file.proofs.NewFileLemmas.{kept_append}
+use Rattle.tree_file.proofs.SameBlocksLemmas.{SameBlocks, chained_same, filled_same, one_role_same, record_same}
+
+-- a header says the same, but maybe for the grace periods
+pub record KeepsHeader (old new : HeaderNumbers) : Type 0 where
+  pub magic : new.magic ≡ old.magic
+  pub version : new.version ≡ old.version
+  pub flags : new.flags ≡ old.flags
+  pub blocks : new.blocks ≡ old.blocks
+  pub free : new.free ≡ old.free
+  pub first : new.first ≡ old.first
+
+sound_kept : (format : Format) (old new : List ℕ) → IsSound format old (header_of old) → KeepsHeader (header_of old) (header_of new) → SameBlocks (header_of old).blocks old new
+    → (2 < (header_of old).blocks → 1024 * (header_of old).blocks ≤ length new) → IsSound format new (header_of new)
+sound_kept format old new sound kept same long = record {
+  two = subst (λ (n : ℕ). 2 ≤ n) (sym kept.blocks) sound.two;
+  long = subst (λ (n : ℕ). 2 < n → 1024 * n ≤ length new) (sym kept.blocks) long;
+  roles = subst (λ (n : ℕ). OneRole new n (header_of new).free) (sym kept.blocks)
+      (subst (λ (n : ℕ). OneRole new (header_of old).blocks n) (sym kept.free) (one_role_same old new (header_of old).blocks sound.two same (header_of old).free sound.roles));
+  chained = subst (λ (n : ℕ). Chained format new n (header_of new).first) (sym kept.blocks)
+      (subst (λ (n : ℕ). Chained format new (header_of old).blocks n) (sym kept.first) (chained_same old new (header_of old).blocks sound.two same format (header_of old).first sound.chained));
+  filled = subst (λ (n : ℕ). Filled format new n) (sym kept.blocks) (filled_same old new (header_of old).blocks sound.two same format sound.filled);
+}
+
+pub stands_kept : (old new : List ℕ) (value : QuotaValue) (grace : Grace) → TreeStandsFor old value → KeepsHeader (header_of old) (header_of new) → SameBlocks (header_of old).blocks old new
+    → (2 < (header_of old).blocks → 1024 * (header_of old).blocks ≤ length new) → grace.block ≡ (header_of new).block_grace → grace.inode ≡ (header_of new).inode_grace
+    → TreeStandsFor new (with_grace value grace)
+stands_kept old new value grace stands kept same long block inode = record {
+  magic = kept.magic ∙ stands.magic;
+  version = ap format_of kept.version ∙ stands.version;
+  block_grace = block;
+  inode_grace = inode;
+  flags = stands.flags ∙ sym kept.flags;
+  sound = sound_kept value.format old new stands.sound kept same long;
+  records = λ id. stands.records id ∙ sym (record_same old new (header_of old).blocks stands.sound.two same value.format id)
+      ∙ ap (λ (n : ℕ). tree_record value.format new n id) (sym kept.blocks);
+}
+
+-- the header is within what was taken of a file
+pub header_of-take : (most : ℕ) (file : List ℕ) → 32 ≤ most → header_of (take most file) ≡ header_of file
+header_of-take most file le = λ i. record {
+  magic = number_at-take 4 most file 0 (omega (arith, le)) i;
+  version = number_at-take 4 most file 4 (omega (arith, le)) i;
+  block_grace = number_at-take 4 most file 8 (omega (arith, le)) i;
+  inode_grace = number_at-take 4 most file 12 (omega (arith, le)) i;
+  flags = number_at-take 4 most file 16 (omega (arith, le)) i;
+  blocks = number_at-take 4 most file 20 (omega (arith, le)) i;
+  free = number_at-take 4 most file 24 (omega (arith, le)) i;
+  first = number_at-take 4 most file 28 (omega (arith, le)) i;
+}
+
+-- the first blocks of a file are blocks of it
+pub first_blocks_same : (blocks : ℕ) (file : List ℕ) → KeepsBlocks blocks file (take (1024 * blocks) file)
+first_blocks_same blocks file number low = elim (cases_lt (length file) (1024 * blocks)) [
+  | inl short ↦ ap (λ (bytes : List ℕ). block_of bytes number) (take_all (1024 * blocks) file (omega arith))
+  | inr long ↦
+      let whole : length (take (1024 * blocks) file) ≡ 1024 * blocks = omega (arith, length-take-le (1024 * blocks) file long) in
+      sym (kept_append (take (1024 * blocks) file) (drop (1024 * blocks) file) blocks whole number low)
+      ∙ ap (λ (bytes : List ℕ). block_of bytes number) (take-append-drop (1024 * blocks) file)
+]
+
+-- the blocks of a file stand for what the file stands for
+pub whole_blocks_stand : (file : List ℕ) (value : QuotaValue) → TreeStandsFor file value → TreeStandsFor (whole_blocks file) value
+whole_blocks_stand file value stands =
+    let blocks : ℕ = (header_of file).blocks in
+    let two : 2 ≤ blocks = stands.sound.two in
+    let head : header_of (whole_blocks file) ≡ header_of file = header_of-take (1024 * blocks) file (omega (arith, two)) in
+    stands_kept file (whole_blocks file) value value.grace stands
+    (record {
+      magic = ap (λ (n : HeaderNumbers). n.magic) head;
+      version = ap (λ (n : HeaderNumbers). n.version) head;
+      flags = ap (λ (n : HeaderNumbers). n.flags) head;
+      blocks = ap (λ (n : HeaderNumbers). n.blocks) head;
+      free = ap (λ (n : HeaderNumbers). n.free) head;
+      first = ap (λ (n : HeaderNumbers). n.first) head;
+    })
+    (λ block some low. first_blocks_same blocks file block low)
+    (λ more. omega (arith, length-take-le (1024 * blocks) file (stands.sound.long more)))
+    (stands.block_grace ∙ ap (λ (n : HeaderNumbers). n.block_grace) (sym head))
+    (stands.inode_grace ∙ ap (λ (n : HeaderNumbers). n.inode_grace) (sym head))

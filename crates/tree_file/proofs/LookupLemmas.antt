@@ -1,0 +1,291 @@
+-- The record of an identifier among the entries of a block, and in the file that they are a part of.
+use Rattle.std.proofs.Common.{◌≡◌, ◌≢◌, ℕ, suc, ◌+◌, ◌-◌, ◌*◌, ◌^◌, ◌<◌, ◌≤◌, Bool, true, false, cond, ◌==◌, List, [], ◌∷◌, find, Option, Some, None, Result, Ok, Err, OnErr, IfErr, IsErrAnd, option_and_then, option_map, refl, sym, ap, subst, ◌∙◌, inl, inr, arith, ne_eqb, eq-eqb}
+use Rattle.std.proofs.lemmas.Bool.{cases_Bool, cases_lt, eqb-true}
+use Rattle.std.specs.FinMap.{get}
+use Rattle.std.specs.List.{AllByRecursion, cons_option, filter_map, range_with_len}
+use Rattle.std.specs.Option.{option_or}
+use Rattle.quota_types.specs.Bytes.{number_at}
+use Rattle.quota_types.specs.Kept.{without_marker}
+use Rattle.quota_types.specs.declared.damage.Damage.{Damage}
+use Rattle.quota_types.specs.declared.damage.DamageKind.{DamageKind}
+use Rattle.quota_types.specs.declared.damage.DamageKind.TheVariants.{RefOut, EmptyTree, MissingEntry}
+use Rattle.quota_types.specs.declared.file_kind.Format.{Format}
+use Rattle.quota_types.specs.declared.file_kind.Format.TheVariants.{V1, V2R0, V2R1}
+use Rattle.quota_types.specs.declared.record.Entry.{Entry}
+use Rattle.quota_types.specs.declared.record.Rec.{Rec}
+use Rattle.quota_blocks.specs.QuotaValue.{IsAfter, IsNextAfter, QuotaValue}
+use Rattle.entry_codec.specs.Entry.{IsEntry, entries_per_block, entry_size, is_unused, stored_id}
+use Rattle.entry_codec.specs.Header.{AreOf, HeaderNumbers, header_of}
+use Rattle.entry_codec.specs.declared.header.Header.{Header}
+use Rattle.tree_file.specs.declared.tree_path.TreePath.{TreePath}
+use Rattle.tree_file.specs.Block.{block_of}
+use Rattle.tree_file.specs.Count.{StandsIn, times}
+use Rattle.tree_file.specs.Defect.{IsDefectOf, IsTreeDefect, NamesItsId}
+use Rattle.tree_file.specs.Descent.{leaf_block, leaf_from}
+use Rattle.tree_file.specs.Entries.{entry_bytes, entry_of, record_by, stored_record, used_by, used_entries, used_ids}
+use Rattle.tree_file.specs.Lookup.{IsLeafFault, IsWayFault, IsWayFaultOf}
+use Rattle.tree_file.specs.Tree.{ids_at, leaves}
+use Rattle.tree_file.specs.TreeFile.{TreeStandsFor, record_in, tree_record}
+use Rattle.tree_file.proofs.DataBlockLemmas.{used_is}
+use Rattle.tree_file.proofs.DefectLemmas.{no_defect_of_sound}
+use Rattle.tree_file.proofs.DescentLemmas.{IsPathFrom, find_above, leaf_is_from, leaf_led_to, no_leaf_from, not_some, option_cases, some_same}
+use Rattle.tree_file.proofs.PathLemmas.{Rises-paths, leaves_lead}
+use Rattle.tree_file.proofs.ValueLemmas.{found_entry}
+use Rattle.tree_file.proofs.WordLemmas.{number_in_part}
+
+some_size : (format : Format) → format ≢ V1 → 4 ≤ entry_size format
+some_size V1 tree = absurd (tree refl)
+some_size V2R0 tree = omega arith
+some_size V2R1 tree = omega arith
+
+-- what the entry of some bytes gives to an identifier
+abbrev given_by : Format → ℕ → List ℕ → Option Rec
+given_by format id bytes = option_and_then (used_by id) (entry_of format bytes)
+
+-- an entry that stores another identifier is not used by this one
+pub other_entry : (format : Format) (block : List ℕ) (id place size stored : ℕ) → format ≢ V1 → size ≡ entry_size format → stored ≡ number_at 4 block (16 + size * place) → stored ≢ id
+    → record_by format block id place ≡ None
+other_entry format block id place size stored tree size_is stored_is other =
+    let bytes : List ℕ = entry_bytes format block place in
+    let here : stored_id bytes ≡ number_at 4 block (16 + entry_size format * place) = number_in_part 4 (entry_size format) (16 + entry_size format * place) block (some_size format tree) in
+    let same : stored_id bytes ≡ stored = here ∙ ap (λ (n : ℕ). number_at 4 block (16 + n * place)) (sym size_is) ∙ sym stored_is in
+    go bytes (ne_eqb (stored_id bytes) id (λ e. other (sym same ∙ e)))
+  where
+    go : (bytes : List ℕ) → (stored_id bytes == id) ≡ false → given_by format id bytes ≡ None
+    go bytes apart =
+        let e : Entry = record { id = stored_id bytes; rec = without_marker (stored_id bytes) (stored_record format bytes) } in
+        let on : Bool → Option Rec = λ u. option_and_then (used_by id) (cond u None (Some e)) in
+        elim (cases_Bool (is_unused bytes)) [
+          | inl unused ↦ ap on unused
+          | inr used ↦ ap on used ∙ ap (λ (b : Bool). cond b (Some e.rec) None) apart
+        ]
+
+-- an entry that this identifier uses
+pub same_entry : (format : Format) (block bytes : List ℕ) (id other place : ℕ) (rec : Rec) → bytes ≡ entry_bytes format block place → IsEntry format bytes other rec → other ≡ id
+    → Some rec ≡ record_by format block id place
+same_entry format block bytes id other place rec is entry same =
+    sym (ap (given_by format id) (sym is) ∙ ap (option_and_then (used_by id)) (used_is format bytes other rec entry).1
+    ∙ ap (λ (b : Bool). cond b (Some rec) None) (eq-eqb other id same))
+
+entry_id : (format : Format) (bytes : List ℕ) (other : ℕ) (rec : Rec) → IsEntry format bytes other rec → other ≡ stored_id bytes
+entry_id V1 bytes other rec entry = absurd entry
+entry_id V2R0 bytes other rec entry = entry.id_is
+entry_id V2R1 bytes other rec entry = entry.id_is
+
+-- the identifier that an entry stores is the one that uses it
+pub stored_entry : (format : Format) (block bytes : List ℕ) (id other place size stored : ℕ) (rec : Rec) → format ≢ V1 → size ≡ entry_size format
+    → stored ≡ number_at 4 block (16 + size * place) → stored ≡ id → bytes ≡ entry_bytes format block place → IsEntry format bytes other rec → other ≡ id
+stored_entry format block bytes id other place size stored rec tree size_is stored_is same is entry =
+    entry_id format bytes other rec entry
+    ∙ ap stored_id is
+    ∙ number_in_part 4 (entry_size format) (16 + entry_size format * place) block (some_size format tree)
+    ∙ ap (λ (n : ℕ). number_at 4 block (16 + n * place)) (sym size_is)
+    ∙ sym stored_is
+    ∙ same
+
+-- an unused entry is used by none
+pub unused_entry : (format : Format) (block bytes : List ℕ) (id place : ℕ) → bytes ≡ entry_bytes format block place → is_unused bytes ≡ true → None ≡ record_by format block id place
+unused_entry format block bytes id place is unused =
+    let e : Entry = record { id = stored_id bytes; rec = without_marker (stored_id bytes) (stored_record format bytes) } in
+    sym (ap (given_by format id) (sym is) ∙ ap (λ (u : Bool). option_and_then (used_by id) (cond u None (Some e))) unused)
+
+-- the record of the first entry from a place on that an identifier uses
+abbrev pub record_from : Format → List ℕ → ℕ → ℕ → Option Rec
+record_from format block id place =
+    option_map (λ (entry : Entry). entry.rec)
+    (find (λ (entry : Entry). entry.id == id) (filter_map (λ place. entry_of format (entry_bytes format block place)) (range_with_len place (entries_per_block format - place))))
+
+found_or_later : (id : ℕ) (o : Option Entry) (entries : List Entry)
+    → option_map (λ (entry : Entry). entry.rec) (find (λ (entry : Entry). entry.id == id) (cons_option o entries))
+    ≡ option_or (option_and_then (used_by id) o) (option_map (λ (entry : Entry). entry.rec) (find (λ (entry : Entry). entry.id == id) entries))
+found_or_later id None entries = refl
+found_or_later id (Some e) entries =
+    let later : Option Entry = find (λ (entry : Entry). entry.id == id) entries in
+    let one : Bool → Option Rec = λ b. option_map (λ (entry : Entry). entry.rec) (cond b (Some e) later) in
+    let other : Bool → Option Rec = λ b. option_or (cond b (Some e.rec) None) (option_map (λ (entry : Entry). entry.rec) later) in
+    elim (cases_Bool (e.id == id)) [ inl same ↦ ap one same ∙ sym (ap other same) | inr apart ↦ ap one apart ∙ sym (ap other apart) ]
+
+-- the record of so many entries from a place on
+abbrev record_among : Format → List ℕ → ℕ → ℕ → ℕ → Option Rec
+record_among format block id place count =
+    option_map (λ (entry : Entry). entry.rec)
+    (find (λ (entry : Entry). entry.id == id) (filter_map (λ place. entry_of format (entry_bytes format block place)) (range_with_len place count)))
+
+pub record_from-first : (format : Format) (block : List ℕ) (id : ℕ) → record_in format block id ≡ record_from format block id 0
+unfolding used_entries
+record_from-first format block id =
+    let all : entries_per_block format ≡ entries_per_block format - 0 = omega arith in
+    ap (record_among format block id 0) all
+
+pub record_from-next : (format : Format) (block : List ℕ) (id place : ℕ) → place < entries_per_block format
+    → record_from format block id place ≡ option_or (record_by format block id place) (record_from format block id (place + 1))
+record_from-next format block id place low =
+    let more : entries_per_block format - place ≡ suc (entries_per_block format - (place + 1)) = omega arith in
+    ap (record_among format block id place) more
+    ∙ found_or_later id (entry_of format (entry_bytes format block place))
+    (filter_map (λ at. entry_of format (entry_bytes format block at)) (range_with_len (place + 1) (entries_per_block format - (place + 1))))
+
+pub record_from-last : (format : Format) (block : List ℕ) (id place : ℕ) → entries_per_block format ≤ place → record_from format block id place ≡ None
+record_from-last format block id place over =
+    let none : entries_per_block format - place ≡ 0 = omega arith in
+    ap (record_among format block id place) none
+
+-- a damage on the way down is one of the file
+way_defect : (format : Format) (file : List ℕ) (numbers : HeaderNumbers) (kind : DamageKind) (block id : ℕ) → IsWayFaultOf file numbers.blocks kind block → id ≡ 0
+    → IsDefectOf format file numbers kind block id × NamesItsId kind id
+way_defect format file numbers RefOut block id fault no_id = (fault, no_id)
+way_defect format file numbers EmptyTree block id fault no_id = (fault, no_id)
+way_defect format file numbers _ block id fault no_id = absurd fault
+
+-- the same by the header
+pub way_damage : (header : Header) (file : List ℕ) (damage : Damage) → AreOf header (header_of file) → IsWayFault file header.blocks damage
+    → IsTreeDefect header.format file (header_of file) damage
+way_damage header file damage of fault =
+    way_defect header.format file (header_of file) damage.kind damage.block damage.id
+    (subst (λ (blocks : ℕ). IsWayFaultOf file blocks damage.kind damage.block) (sym of.blocks) fault.fault) fault.no_id
+
+-- a file stands for no value
+abbrev pub StandsForNone : List ℕ → Type 0
+StandsForNone file = (value : QuotaValue) → ¬ (TreeStandsFor file value)
+
+-- so a file with one stands for nothing
+pub way_refused : (header : Header) (file : List ℕ) (damage : Damage) → AreOf header (header_of file) → IsWayFault file header.blocks damage → StandsForNone file
+way_refused header file damage of fault = λ value stands.
+    no_defect_of_sound value.format file (header_of file) stands.sound damage
+    (way_defect value.format file (header_of file) damage.kind damage.block damage.id
+    (subst (λ (blocks : ℕ). IsWayFaultOf file blocks damage.kind damage.block) (sym of.blocks) fault.fault) fault.no_id)
+
+find_passes : (test : TreePath → Bool) (ps : List TreePath) (p : TreePath) → find test ps ≡ Some p → test p ≡ true
+find_passes test [] p found = absurd (not_some p (sym found))
+find_passes test (q ∷ ps) p found = elim (cases_Bool (test q)) [
+  | inl passes ↦ ap test (sym (some_same q p (sym (ap (λ (b : Bool). cond b (Some q) (find test ps)) passes) ∙ found))) ∙ passes
+  | inr fails ↦ find_passes test ps p (sym (ap (λ (b : Bool). cond b (Some q) (find test ps)) fails) ∙ found)
+]
+
+each_found : (P : TreePath → Type 0) (test : TreePath → Bool) (ps : List TreePath) (p : TreePath) → find test ps ≡ Some p → AllByRecursion P ps → P p
+each_found P test [] p found all = absurd (not_some p (sym found))
+each_found P test (q ∷ ps) p found all = elim (cases_Bool (test q)) [
+  | inl passes ↦ subst P (some_same q p (sym (ap (λ (b : Bool). cond b (Some q) (find test ps)) passes) ∙ found)) all.0
+  | inr fails ↦ each_found P test ps p (sym (ap (λ (b : Bool). cond b (Some q) (find test ps)) fails) ∙ found) all.1
+]
+
+-- the leaf of an identifier is one of the file
+abbrev pub IsLeaf : List ℕ → ℕ → TreePath → Type 0
+IsLeaf file blocks leaf = find (λ (other : TreePath). other.number == leaf.number) (leaves file blocks) ≡ Some leaf
+
+-- where the digits of an identifier lead is its leaf
+pub leaf_of_block : (file : List ℕ) (blocks id block : ℕ) → id < 2 ^ 32 → Some block ≡ leaf_block file blocks id → IsLeaf file blocks (record { number = id; block = block })
+leaf_of_block file blocks id block low is =
+    let found : Option TreePath = find (λ (other : TreePath). other.number == id) (leaves file blocks) in
+    let led : Some block ≡ option_map (λ (leaf : TreePath). leaf.block) found = is ∙ leaf_led_to file blocks id low in
+    elim (option_cases found) [
+      | inl none ↦ absurd (let no : Some block ≡ None = led ∙ ap (option_map (λ (leaf : TreePath). leaf.block)) none in cc)
+      | inr there ↦
+          let leaf : TreePath = there.0 in
+          let there_block : Some block ≡ Some leaf.block = led ∙ ap (option_map (λ (leaf : TreePath). leaf.block)) there.1 in
+          let block_is : leaf.block ≡ block = cc in
+          let number_is : leaf.number ≡ id = eqb-true leaf.number id (find_passes (λ (other : TreePath). other.number == id) (leaves file blocks) leaf there.1) in
+          there.1 ∙ (λ i. Some (record { number = number_is i; block = block_is i }))
+    ]
+
+pub no_leaf_of_block : (file : List ℕ) (blocks id : ℕ) → id < 2 ^ 32 → None ≡ leaf_block file blocks id → find (λ (other : TreePath). other.number == id) (leaves file blocks) ≡ None
+no_leaf_of_block file blocks id low is =
+    let found : Option TreePath = find (λ (other : TreePath). other.number == id) (leaves file blocks) in
+    let led : None ≡ option_map (λ (leaf : TreePath). leaf.block) found = is ∙ leaf_led_to file blocks id low in
+    elim (option_cases found) [
+      | inl none ↦ none
+      | inr there ↦ absurd (let some : None ≡ Some there.0.block = led ∙ ap (option_map (λ (leaf : TreePath). leaf.block)) there.1 in cc)
+    ]
+
+-- a leaf whose block has no entry of its identifier is a damage
+leaf_defect : (format : Format) (file : List ℕ) (numbers : HeaderNumbers) (leaf : TreePath) (damage : Damage) → IsLeaf file numbers.blocks leaf → IsLeafFault format file leaf damage
+    → IsTreeDefect format file numbers damage
+leaf_defect format file numbers leaf damage is fault =
+    let entries : List Entry = used_entries format (block_of file leaf.block) in
+    let same : damage ≡ record { kind = MissingEntry; block = leaf.block; id = leaf.number } = λ i. record { kind = fault.kind i; block = fault.block i; id = fault.id i } in
+    let leads : StandsIn (ids_at (leaves file numbers.blocks) leaf.block) leaf.number =
+    each_found (λ (other : TreePath). StandsIn (ids_at (leaves file numbers.blocks) other.block) other.number) (λ (other : TreePath). other.number == leaf.number)
+    (leaves file numbers.blocks) leaf is (leaves_lead file numbers.blocks) in
+    let none : times (used_ids format (block_of file leaf.block)) leaf.number ≡ 0 = elim (cases_lt 0 (times (used_ids format (block_of file leaf.block)) leaf.number)) [
+      | inl some ↦
+          let found = found_entry entries leaf.number some in
+          absurd (let no : Some found.0 ≡ None = sym found.1 ∙ fault.none in cc)
+      | inr over ↦ omega (arith, over)
+    ] in
+    subst (IsTreeDefect format file numbers) (sym same) (record { leads = leads; none = none }, tt)
+
+-- the damage of a leaf, by the header
+pub leaf_damage : (header : Header) (file : List ℕ) (leaf : TreePath) (damage : Damage) → AreOf header (header_of file) → IsLeaf file header.blocks leaf
+    → IsLeafFault header.format file leaf damage → IsTreeDefect header.format file (header_of file) damage
+leaf_damage header file leaf damage of is fault =
+    leaf_defect header.format file (header_of file) leaf damage (subst (λ (blocks : ℕ). IsLeaf file blocks leaf) (sym of.blocks) is) fault
+
+-- the format of a value is that of the header
+same_format : (header : Header) (file : List ℕ) (value : QuotaValue) → AreOf header (header_of file) → TreeStandsFor file value → value.format ≡ header.format
+same_format header file value of stands = let same : Some value.format ≡ Some header.format = sym stands.version ∙ of.version in cc
+
+pub leaf_refused : (header : Header) (file : List ℕ) (leaf : TreePath) (damage : Damage) → AreOf header (header_of file) → IsLeaf file header.blocks leaf
+    → IsLeafFault header.format file leaf damage → StandsForNone file
+leaf_refused header file leaf damage of is fault = λ value stands.
+    no_defect_of_sound value.format file (header_of file) stands.sound damage
+    (leaf_defect value.format file (header_of file) leaf damage (subst (λ (blocks : ℕ). IsLeaf file blocks leaf) (sym of.blocks) is)
+    (subst (λ (format : Format). IsLeafFault format file leaf damage) (sym (same_format header file value of stands)) fault))
+
+-- the record of an identifier in a value is that of its leaf
+value_record : (header : Header) (file : List ℕ) (value : QuotaValue) (id : ℕ) → AreOf header (header_of file) → TreeStandsFor file value
+    → get value.records id ≡ tree_record header.format file header.blocks id
+value_record header file value id of stands =
+    stands.records id
+    ∙ ap (λ (format : Format). tree_record format file (header_of file).blocks id) (same_format header file value of stands)
+    ∙ ap (λ (blocks : ℕ). tree_record header.format file blocks id) of.blocks
+
+-- an identifier without a leaf has no record
+pub no_record : (header : Header) (file : List ℕ) (id : ℕ) → AreOf header (header_of file) → find (λ (other : TreePath). other.number == id) (leaves file header.blocks) ≡ None
+    → (value : QuotaValue) → TreeStandsFor file value → get value.records id ≡ None
+no_record header file id of none value stands =
+    value_record header file value id of stands ∙ ap (option_and_then (λ (leaf : TreePath). record_in header.format (block_of file leaf.block) id)) none
+
+-- one with a leaf has the record in its block
+pub one_record : (header : Header) (file : List ℕ) (leaf : TreePath) (rec : Rec) → AreOf header (header_of file) → IsLeaf file header.blocks leaf
+    → record_in header.format (block_of file leaf.block) leaf.number ≡ Some rec
+    → (value : QuotaValue) → TreeStandsFor file value → get value.records leaf.number ≡ Some rec
+one_record header file leaf rec of is found value stands =
+    value_record header file value leaf.number of stands ∙ ap (option_and_then (λ (other : TreePath). record_in header.format (block_of file other.block) leaf.number)) is ∙ found
+
+-- behind the last identifier there is none
+pub none_past : (header : Header) (file : List ℕ) (after : Option ℕ) → AreOf header (header_of file) → ((id : ℕ) → IsAfter after id → 2 ^ 32 ≤ id)
+    → (value : QuotaValue) → TreeStandsFor file value → IsNextAfter after value.records None
+none_past header file after of past value stands = λ id is.
+    no_record header file id of (find_above 0 (256 ^ 4) id (leaves file header.blocks) (Rises-paths file header.blocks 4) (past id is)) value stands
+
+-- where there is no leaf from an identifier on, there is no next one
+pub none_next : (header : Header) (file : List ℕ) (after : Option ℕ) (from : ℕ) → AreOf header (header_of file) → ((id : ℕ) → IsAfter after id → from ≤ id)
+    → None ≡ leaf_from file header.blocks from → (value : QuotaValue) → TreeStandsFor file value → IsNextAfter after value.records None
+none_next header file after from of first none value stands = λ id is.
+    no_record header file id of (no_leaf_from file header.blocks from (sym none) id (first id is)) value stands
+
+-- the leaf from an identifier on is that of the next one
+pub one_next : (header : Header) (file : List ℕ) (after : Option ℕ) (from : ℕ) (leaf : TreePath) (rec : Rec) → AreOf header (header_of file) → ((id : ℕ) → IsAfter after id → from ≤ id)
+    → ((id : ℕ) → from ≤ id → IsAfter after id) → Some leaf ≡ leaf_from file header.blocks from → record_in header.format (block_of file leaf.block) leaf.number ≡ Some rec
+    → (value : QuotaValue) → TreeStandsFor file value → IsNextAfter after value.records (Some (record { id = leaf.number; rec = rec }))
+one_next header file after from leaf rec of first comes_after is found value stands =
+    let next : IsPathFrom from (leaves file header.blocks) leaf = leaf_is_from file header.blocks from leaf (sym is) in (
+      comes_after leaf.number next.above,
+      one_record header file leaf rec of next.there found value stands,
+      λ id after_id below. no_record header file id of (next.none_between id (first id after_id) below) value stands,
+    )
+
+-- its leaf, and that it comes after
+pub next_leaf : (file : List ℕ) (blocks from : ℕ) (leaf : TreePath) → Some leaf ≡ leaf_from file blocks from → IsLeaf file blocks leaf × (from ≤ leaf.number)
+next_leaf file blocks from leaf is =
+    let next : IsPathFrom from (leaves file blocks) leaf = leaf_is_from file blocks from leaf (sym is) in (next.there, next.above)
+
+-- a fact that holds whatever a call answers
+pub on_err : {T E : Type 0} (P : Type 0) (result : Result T E) → P → OnErr result P
+on_err P (Ok x) p = tt
+on_err P (Err e) p = p
+
+-- a fact of the damage that a call hands on
+pub on_same : {T : Type 0} (P : Damage → Type 0) (result : Result T Damage) (damage : Damage) → IsErrAnd result (λ e. e ≡ damage) → P damage → IfErr result P
+on_same P (Ok x) damage is p = tt
+on_same P (Err e) damage is p = subst P (sym is) p

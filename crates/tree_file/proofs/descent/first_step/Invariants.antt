@@ -1,0 +1,10 @@
+use Rattle.std.proofs.Common.{◌≡◌, ℕ, ◌<◌, ◌≤◌}
+use Rattle.tree_file.specs.Block.{word_at}
+use Rattle.tree_file.specs.Descent.{later_steps, path_from}
+use Rattle.tree_file.proofs.descent.first_step.Given as goal
+
+abbrev pub invariant-loop-digit : goal.invariant-loop-digit
+invariant-loop-digit l = record {
+  later : path_from 0 (later_steps l.file l.blocks l.path l.digit) ≡ path_from 0 (later_steps l.file l.blocks l.path l.first);
+  zeros : (digit : ℕ) → l.first ≤ digit → digit < l.digit → word_at l.file l.path.block digit ≡ 0;
+}

@@ -1,0 +1,59 @@
+use Rattle.std.proofs.Common.{◌≡◌, ◌*◌, ◌∙◌, length, refl, sym, arith}
+use Rattle.std.proofs.lemmas.Result.{IfErr-weaker, on_ok_weaker}
+use Rattle.std.specs.String.{string_bytes}
+use Rattle.quota_blocks.specs.Replace.{replaced_files}
+use Rattle.tree_file.specs.Rebuilt.{value_changed}
+use Rattle.tree_file.specs.TreeChange.{IsBuiltAnew}
+use Rattle.tree_file.specs.TreeFile.{TreeStandsFor}
+use Rattle.tree_file.proofs.DownLemmas.{on_ok}
+use Rattle.tree_file.proofs.MakesLemmas.{is_built_anew, left_as_before, loaded_stands, on_store_fault, rebuild_may, rebuild_refused, rewrite_may, writes_whole}
+use Rattle.tree_file.proofs.opened_tree.TreeFile.rebuild.Goals as goal
+
+pub returns-in-Ok-clause-makes : goal.returns-in-Ok-clause-makes
+returns-in-Ok-clause-makes g c =
+    let tree = c.in-Ok.tree in
+    let long : length tree.bytes.items ≡ 1024 * tree.header.blocks = omega (arith, c.in-Ok.ensures.long, tree.bytes.ok.0) in
+    on_ok_weaker c.rewrite.result
+    (λ wrote value held.
+    let stands : TreeStandsFor c.args.self.now.tree.bytes.items value = loaded_stands _ _ _ _ value held in
+    writes_whole IsBuiltAnew _ _ _ held.file tree.bytes.items held.there (wrote held.told)
+    (is_built_anew held.file tree.bytes.items tree.header (value_changed value c.args.id c.args.rec) tree.of (c.in-Ok.ensures.stands value stands) long (c.in-Ok.ensures.needed value stands)))
+    c.rewrite.ensures.ok
+
+pub returns-in-Ok-clause-room : goal.returns-in-Ok-clause-room
+returns-in-Ok-clause-room g c = on_ok _ c.rewrite.result (λ value blocks limit held lacks.
+    let stands : TreeStandsFor c.args.self.now.tree.bytes.items value = loaded_stands _ _ _ _ value held in
+    let same : blocks ≡ c.in-Ok.tree.header.blocks = lacks.needs ∙ sym (c.in-Ok.ensures.needed value stands) in
+    omega (arith, same, lacks.may, lacks.passes, c.in-Ok.ensures.few))
+
+pub returns-in-Ok-clause-left : goal.returns-in-Ok-clause-left
+returns-in-Ok-clause-left g c =
+    let files = (g.S.Store.seen c.args.store.now).files in
+    let tree = c.in-Ok.tree in
+    let after = replaced_files files (string_bytes c.args.self.now.name) tree.bytes.items in
+    let long : length tree.bytes.items ≡ 1024 * tree.header.blocks = omega (arith, c.in-Ok.ensures.long, tree.bytes.ok.0) in
+    on_store_fault c.rewrite.result
+    (λ kept value held.
+    let stands : TreeStandsFor c.args.self.now.tree.bytes.items value = loaded_stands _ _ _ _ value held in
+    left_as_before _ files _ after _
+    (writes_whole IsBuiltAnew files after _ held.file tree.bytes.items held.there refl
+    (is_built_anew held.file tree.bytes.items tree.header (value_changed value c.args.id c.args.rec) tree.of (c.in-Ok.ensures.stands value stands) long (c.in-Ok.ensures.needed value stands)))
+    kept)
+    c.rewrite.ensures.unchanged
+
+pub returns-in-Err-clause-refused : goal.returns-in-Err-clause-refused
+returns-in-Err-clause-refused g c =
+    rw c.refused.ensures.same
+    (rebuild_refused _ _ _ c.args.self.now.tree.bytes.items _ c.args.id c.args.rec c.in-Err.fault (λ value held. loaded_stands _ _ _ _ value held) c.in-Err.ensures.refused)
+
+pub returns-in-Ok-clause-full : goal.returns-in-Ok-clause-full
+returns-in-Ok-clause-full g c = λ value blocks limit held lacks.
+    let stands : TreeStandsFor c.args.self.now.tree.bytes.items value = loaded_stands _ _ _ _ value held in
+    let same : blocks ≡ c.in-Ok.tree.header.blocks = lacks.needs ∙ sym (c.in-Ok.ensures.needed value stands) in
+    absurd (omega (arith, same, lacks.may, lacks.passes, c.in-Ok.ensures.few))
+
+pub returns-in-Ok-clause-may : goal.returns-in-Ok-clause-may
+returns-in-Ok-clause-may g c = IfErr-weaker c.rewrite.result _ _ (λ fault cause. rewrite_may _ _ fault cause) c.rewrite.ensures.refused
+
+pub returns-in-Err-clause-may : goal.returns-in-Err-clause-may
+returns-in-Err-clause-may g c = rw c.refused.ensures.same (rebuild_may c.args.self.now.tree.bytes.items _ c.args.id c.args.rec c.in-Err.fault c.in-Err.ensures.refused)

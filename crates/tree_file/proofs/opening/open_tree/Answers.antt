@@ -1,0 +1,80 @@
+use Rattle.std.proofs.Common.{◌∙◌, ap, arith}
+use Rattle.std.proofs.lemmas.Result.{err_from_is_err_and}
+use Rattle.quota_blocks.specs.World.{World}
+use Rattle.tree_file.specs.Check.{bytes_of}
+use Rattle.tree_file.proofs.OpenLemmas.{Begins, are_seen, checked_refused, header_refused, opened_holds, value_seen}
+use Rattle.tree_file.proofs.opening.open_tree.Goals as goal
+
+pub returns-in_err-first-clause-refused : goal.returns-in_err-first-clause-refused
+returns-in_err-first-clause-refused g c =
+    let p = err_from_is_err_and c.from_residual.result c.from_residual.ensures.1 in
+    rw p.1 (rw p.2 (c.in_err-first.ensures.refused c.args.kind c.args.format c.args.limit))
+
+pub returns-in_err-header-clause-refused : goal.returns-in_err-header-clause-refused
+returns-in_err-header-clause-refused g c =
+    let p = err_from_is_err_and c.from_residual-in_err-header.result c.from_residual-in_err-header.ensures.1 in
+    rw p.1 (rw p.2
+    (header_refused _ _ c.args.limit g.S.Store.tells _ c.args.kind c.args.format c.in_ok-first.first.items c.in_err-header.field-0.0 c.in_ok-first.ensures.there c.in_ok-first.ensures.loaded
+    c.in_err-header.ensures.fits (rw c.as_slice.ensures.value at c.in_err-header.ensures.refused)))
+
+pub returns-in_err-tree-clause-refused : goal.returns-in_err-tree-clause-refused
+returns-in_err-tree-clause-refused g c =
+    let p = err_from_is_err_and c.from_residual-in_err-tree.result c.from_residual-in_err-tree.ensures.1 in
+    let begins : Begins g.S.Store.tells ((g.S.Store.seen c.args.store.now).files c.args.name.now) c.args.kind c.args.format c.args.limit c.in_ok-first.first.items c.in_ok-header.header = record {
+      there = c.in_ok-first.ensures.there;
+      is = c.in_ok-first.ensures.loaded;
+      are = rw c.as_slice.ensures.value at c.in_ok-header.ensures.numbers;
+      accepted = rw c.as_slice.ensures.value at c.in_ok-header.ensures.accepted;
+      of_kind = c.in_ok-header.ensures.kind;
+      as_asked = c.in_ok-header.ensures.as_asked;
+      few = c.in_ok-header.ensures.few;
+    } in
+    let same = ap (λ (files : World). files c.args.name.now) c.in_ok-first.ensures.leaves.files in
+    rw p.1 (rw p.2
+    (checked_refused _ _ _ g.S.Store.tells _ _ c.args.kind c.args.format c.args.limit c.in_ok-first.first.items c.in_ok-header.header c.in_err-tree.field-0.0
+    c.in_ok-first.ensures.leaves.later same begins c.in_err-tree.ensures.refused))
+
+pub returns-clause-seen : goal.returns-clause-seen
+returns-clause-seen g c = λ told.
+    let begins : Begins g.S.Store.tells ((g.S.Store.seen c.args.store.now).files c.args.name.now) c.args.kind c.args.format c.args.limit c.in_ok-first.first.items c.in_ok-header.header = record {
+      there = c.in_ok-first.ensures.there;
+      is = c.in_ok-first.ensures.loaded;
+      are = rw c.as_slice.ensures.value at c.in_ok-header.ensures.numbers;
+      accepted = rw c.as_slice.ensures.value at c.in_ok-header.ensures.accepted;
+      of_kind = c.in_ok-header.ensures.kind;
+      as_asked = c.in_ok-header.ensures.as_asked;
+      few = c.in_ok-header.ensures.few;
+    } in
+    let same = ap (λ (files : World). files c.args.name.now) c.in_ok-first.ensures.leaves.files in
+    value_seen g.S.Store.tells _ _ c.args.kind c.args.format c.args.limit c.in_ok-first.first.items c.in_ok-header.header begins same told (c.in_ok-tree.ensures.stands told)
+
+pub returns-clause-held : goal.returns-clause-held
+returns-clause-held g c = λ told value view.
+    let begins : Begins g.S.Store.tells ((g.S.Store.seen c.args.store.now).files c.args.name.now) c.args.kind c.args.format c.args.limit c.in_ok-first.first.items c.in_ok-header.header = record {
+      there = c.in_ok-first.ensures.there;
+      is = c.in_ok-first.ensures.loaded;
+      are = rw c.as_slice.ensures.value at c.in_ok-header.ensures.numbers;
+      accepted = rw c.as_slice.ensures.value at c.in_ok-header.ensures.accepted;
+      of_kind = c.in_ok-header.ensures.kind;
+      as_asked = c.in_ok-header.ensures.as_asked;
+      few = c.in_ok-header.ensures.few;
+    } in
+    let same = ap (λ (files : World). files c.args.name.now) c.in_ok-first.ensures.leaves.files in
+    rw c.in-Ok.ensures.ok
+    (opened_holds g.S.Store.tells _ _ _ c.args.kind c.args.format c.args.limit c.in_ok-first.first.items c.in_ok-tree.tree.bytes.items c.in_ok-header.header value begins same
+    (ap (λ (files : World). files c.args.name.now) (c.in_ok-tree.ensures.leaves.files ∙ c.in_ok-first.ensures.leaves.files)) told (c.in_ok-tree.ensures.loaded told) view)
+
+pub returns-clause-reads : goal.returns-clause-reads
+returns-clause-reads g c = λ told.
+    let begins : Begins g.S.Store.tells ((g.S.Store.seen c.args.store.now).files c.args.name.now) c.args.kind c.args.format c.args.limit c.in_ok-first.first.items c.in_ok-header.header = record {
+      there = c.in_ok-first.ensures.there;
+      is = c.in_ok-first.ensures.loaded;
+      are = rw c.as_slice.ensures.value at c.in_ok-header.ensures.numbers;
+      accepted = rw c.as_slice.ensures.value at c.in_ok-header.ensures.accepted;
+      of_kind = c.in_ok-header.ensures.kind;
+      as_asked = c.in_ok-header.ensures.as_asked;
+      few = c.in_ok-header.ensures.few;
+    } in
+    let same = ap (λ (files : World). files c.args.name.now) c.in_ok-first.ensures.leaves.files in
+    let are = are_seen c.in_ok-first.first.items (bytes_of ((g.S.Store.seen c.args.store.now).files c.args.name.now)) c.in_ok-header.header (begins.is told) begins.are in
+    omega (arith, are.blocks, c.in_ok-first.ensures.reads, c.in_ok-tree.ensures.reads)

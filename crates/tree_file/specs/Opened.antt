@@ -1,0 +1,48 @@
+-- What an opened tree file holds, and what is seen of it.
+use Rattle.std.specs.Prelude.{◌≡◌, ℕ, ◌*◌, ◌<◌, ◌≤◌, Bool, IsTrue, List, map, take, Option, Some, ⊤}
+use Rattle.std.specs.FinMap.{entries}
+use Rattle.quota_types.specs.declared.file_kind.Format.{Format}
+use Rattle.quota_blocks.specs.QuotaFile.{FileSeen}
+use Rattle.quota_blocks.specs.QuotaValue.{QuotaValue, Records}
+use Rattle.quota_blocks.specs.declared.quota_file.FileFault.{FileFault}
+use Rattle.quota_blocks.specs.declared.quota_file.FileFault.TheVariants.{Store, Damage, Full, Memory}
+use Rattle.entry_codec.specs.Header.{header_of}
+use Rattle.tree_file.specs.Defect.{NamesItsId}
+use Rattle.tree_file.specs.Size.{blocks_needed}
+use Rattle.tree_file.specs.TreeFile.{TreeStandsFor}
+
+-- the blocks of a file, or what it has of them; bytes after the last block are left out
+abbrev pub whole_blocks : List ℕ → List ℕ
+whole_blocks file = take (1024 * (header_of file).blocks) file
+
+-- The store tells its files, the named file stands for the value and has no more blocks than it may have, and its blocks are
+-- the bytes that were loaded.
+pub record HoldsTree (tells : Bool) (named : Option (List ℕ)) (loaded : List ℕ) (limit : ℕ) (value : QuotaValue) : Type 0 where
+  pub told : IsTrue tells
+  pub file : List ℕ
+  pub there : named ≡ Some file
+  pub stands : TreeStandsFor file value
+  pub few : (header_of file).blocks ≤ limit
+  pub same : whole_blocks file ≡ loaded
+
+-- what is seen of one
+abbrev pub tree_seen : (name : List ℕ) (format : Format) (usable : Bool) (limit refusals : ℕ) → FileSeen
+tree_seen name format usable limit refusals = record { name = name; format = format; usable = usable; limit = limit; refusals = refusals }
+
+-- the identifiers that have a record, ascending
+abbrev pub ids_in : Records → List ℕ
+ids_in records = map (λ entry. entry.0) (entries records)
+
+-- A file that is written whole has no room for a value: it needs so many blocks and may have only so many.
+pub record LacksRoom (seen : FileSeen) (value : QuotaValue) (blocks limit : ℕ) : Type 0 where
+  pub needs : blocks ≡ blocks_needed value.format (ids_in value.records)
+  pub may : limit ≡ seen.limit
+  pub passes : limit < blocks
+
+-- The faults that a call on an opened tree file may answer, whatever the store tells: a damage names an identifier only where
+-- its kind does.
+abbrev pub MayRefuse : FileFault → Type 0
+MayRefuse Store = ⊤
+MayRefuse (Damage damage) = NamesItsId damage.kind damage.id
+MayRefuse (Full _ _) = ⊤
+MayRefuse Memory = ⊤

@@ -1,0 +1,83 @@
+-- What is seen of a tree file by whoever opens it: the value that it stands for, or the first refusal that holds. Source:
+-- `v2_check_quota_file` and `v2_read_file_info` of the kernel's `fs/quota/quota_v2.c`, and quotaon(8) on formats.
+use Rattle.std.specs.Prelude.{◌≡◌, ◌≢◌, ℕ, ◌<◌, ◌≤◌, Bool, IsTrue, List, Option, Some, None, IfSome, IsSomeAnd, Result, Ok, Err, ⊤}
+use Rattle.quota_types.specs.declared.damage.Damage.{Damage}
+use Rattle.quota_types.specs.declared.file_kind.Format.{Format}
+use Rattle.quota_types.specs.declared.file_kind.Kind.{Kind}
+use Rattle.quota_blocks.specs.Count.{Rose}
+use Rattle.quota_blocks.specs.QuotaValue.{QuotaValue}
+use Rattle.quota_blocks.specs.declared.quota_file.OpenFault.{OpenFault}
+use Rattle.quota_blocks.specs.declared.quota_file.OpenFault.TheVariants.{Store, NoFile, TooLarge, Memory, NotQuota, WrongKind, UnknownVersion, BadBlockCount, FormatMismatch, Damage as Damaged}
+use Rattle.entry_codec.specs.Header.{HeaderNumbers, format_of, header_fault, header_of}
+use Rattle.entry_codec.specs.declared.header.HeaderFault.TheVariants.{NotQuota as NoMagic, WrongKind as OtherKind, UnknownVersion as OtherVersion, BadBlockCount as FewBlocks}
+use Rattle.tree_file.specs.Defect.{IsTreeDefect, NamesItsId}
+use Rattle.tree_file.specs.TreeFile.{TreeStandsFor}
+
+-- a format is the one that was asked for, where one was
+abbrev pub IsAsAsked : Option Format → Format → Type 0
+IsAsAsked asked format = IfSome asked (λ wanted. wanted ≡ format)
+
+-- a header is one of the kind and of this format
+pub record HasHeader (kind : Kind) (numbers : HeaderNumbers) (format : Format) : Type 0 where
+  pub accepted : header_fault kind numbers ≡ None
+  pub version : format_of numbers.version ≡ Some format
+
+-- a header is one of the kind and of the format that was asked for, and has more blocks than there may be
+pub record HasTooManyBlocks (kind : Kind) (asked : Option Format) (limit number : ℕ) (numbers : HeaderNumbers) : Type 0 where
+  pub format : Format
+  pub header : HasHeader kind numbers format
+  pub as_asked : IsAsAsked asked format
+  pub many : limit < numbers.blocks
+  pub exactly : number ≡ numbers.blocks
+
+-- what a refusal says of a header
+abbrev pub IsRefusedHeader : Kind → Option Format → ℕ → OpenFault → HeaderNumbers → Type 0
+IsRefusedHeader kind asked limit NotQuota numbers = header_fault kind numbers ≡ Some NoMagic
+IsRefusedHeader kind asked limit WrongKind numbers = header_fault kind numbers ≡ Some OtherKind
+IsRefusedHeader kind asked limit UnknownVersion numbers = header_fault kind numbers ≡ Some OtherVersion
+IsRefusedHeader kind asked limit BadBlockCount numbers = header_fault kind numbers ≡ Some FewBlocks
+IsRefusedHeader kind asked limit (FormatMismatch found) numbers = HasHeader kind numbers found
+IsRefusedHeader kind asked limit (TooLarge number most) numbers = HasTooManyBlocks kind asked limit number numbers
+IsRefusedHeader kind asked limit _ numbers = ⊥
+
+-- the header is one of the kind and of the format that was asked for, has no more blocks than there may be, and the damage
+-- is one of the file
+pub record IsDamaged (kind : Kind) (asked : Option Format) (limit : ℕ) (damage : Damage) (file : List ℕ) : Type 0 where
+  pub format : Format
+  pub header : HasHeader kind (header_of file) format
+  pub as_asked : IsAsAsked asked format
+  pub few : (header_of file).blocks ≤ limit
+  pub defect : IsTreeDefect format file (header_of file) damage
+
+-- what a refusal says of the file
+abbrev pub IsRefusedFor : Kind → Option Format → ℕ → OpenFault → List ℕ → Type 0
+IsRefusedFor kind asked limit (Damaged damage) file = IsDamaged kind asked limit damage file
+IsRefusedFor kind asked limit fault file = IsRefusedHeader kind asked limit fault (header_of file)
+
+-- What a refusal says beside that: another format was asked for than was found; the limit is the given one, and the number
+-- passes it; or the damage names an identifier only where its kind does.
+abbrev pub FitsRequest : Option Format → ℕ → OpenFault → Type 0
+FitsRequest asked limit (FormatMismatch found) = IsSomeAnd asked (λ wanted. wanted ≢ found)
+FitsRequest asked limit (TooLarge number most) = (most ≡ limit) × (limit < number)
+FitsRequest asked limit (Damaged damage) = NamesItsId damage.kind damage.id
+FitsRequest asked limit _ = ⊤
+
+-- The file stands for a value of the kind, in the format that was asked for, and has no more blocks than there may be; or it
+-- is refused: there is none, it is no quota file, one of another kind, of a version that is not known, of fewer than two
+-- blocks, of another format, of too many blocks, or damaged, in this order.
+abbrev pub IsTreeView : Option (List ℕ) → Kind → Option Format → ℕ → Result QuotaValue OpenFault → Type 0
+IsTreeView named kind asked limit (Ok value) =
+    IsSomeAnd named (λ file. ((header_of file).blocks ≤ limit) × TreeStandsFor file value) × (value.kind ≡ kind) × IsAsAsked asked value.format
+IsTreeView named kind asked limit (Err Store) = ⊥
+IsTreeView named kind asked limit (Err NoFile) = named ≡ None
+IsTreeView named kind asked limit (Err Memory) = ⊥
+IsTreeView named kind asked limit (Err fault) = FitsRequest asked limit fault × IsSomeAnd named (IsRefusedFor kind asked limit fault)
+
+-- Why opening is refused: the store's count of faults rose, memory is wanting, there is no file, or the file is refused. What
+-- is said of the file holds where the store tells it; that no other refusal comes, and where the limit lies, holds always.
+abbrev pub IsTreeFault : ℕ → ℕ → Bool → Option (List ℕ) → Kind → Option Format → ℕ → OpenFault → Type 0
+IsTreeFault before now tells named kind asked limit Store = Rose before now
+IsTreeFault before now tells named kind asked limit NoFile = IsTrue tells → named ≡ None
+IsTreeFault before now tells named kind asked limit Memory = ⊤
+IsTreeFault before now tells named kind asked limit fault =
+    FitsRequest asked limit fault × (IsTrue tells → IsSomeAnd named (IsRefusedFor kind asked limit fault))

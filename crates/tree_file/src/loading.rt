@@ -1,0 +1,63 @@
+ghost use Rattle.std.specs.Prelude.{◌≡◌, ◌+◌, ◌*◌, ◌<◌, ◌≤◌, take, vec_len, IsTrue, IfErr, OnOk};
+ghost use Rattle.quota_blocks.specs.Frame.{OnlyReads};
+ghost use Rattle.quota_blocks.specs.Unsynced.{AddsNone};
+ghost use Rattle.tree_file.specs.Check.{IsCheckFault, bytes_of};
+
+use crate::CheckFault;
+use crate::block::BLOCK;
+use quota_blocks::Store;
+
+/// Appends the bytes that a file has of a block to those of all blocks before it. Where the file ends before the block there
+/// are none.
+pub(crate) fn append_block<S: Store>(
+    store: &mut S,
+    name: &str,
+    block: u32,
+    bytes: &mut Vec<u8>,
+) -> Result<(), CheckFault>
+    requires { vec_len bytes.old ≤ 1024 * block }
+    ensures loaded { OnOk result (IsTrue S.tells
+        → bytes.old.items ≡ take (1024 * block) (bytes_of ((S.seen store.old).files name.now))
+        → bytes.new.items ≡ take (1024 * (block + 1)) (bytes_of ((S.seen store.old).files name.now))) }
+    ensures within { OnOk result (vec_len bytes.new ≤ 1024 * (block + 1)) }
+    ensures front { OnOk result (0 < block → take 1024 bytes.new.items ≡ take 1024 bytes.old.items) }
+    ensures refused { IfErr result (IsCheckFault (S.seen store.old).faults (S.seen store.new).faults (λ _. ⊥)) }
+    ensures leaves { OnlyReads name.now (S.seen store.old) (S.seen store.new) }
+    ensures synced { OnOk result (AddsNone (S.seen store.old).unsynced (S.seen store.new).unsynced) }
+    ensures reads { OnOk result ((S.seen store.new).reads ≤ (S.seen store.old).reads + 1) }
+{
+    if bytes.len() < BLOCK * block as usize {
+        return Ok(());
+    }
+    let mut piece = [0; BLOCK];
+    let count = store.read(name, bytes.len() as u64, &mut piece)?;
+    bytes.extend_from_slice(&piece[..count])?;
+    Ok(())
+}
+
+/// Loads the blocks of a file behind the first one, which was loaded. Where the file ends earlier there are no bytes of the
+/// blocks behind its end. Memory is taken once.
+pub(crate) fn load_rest<S: Store>(
+    store: &mut S,
+    name: &str,
+    blocks: u32,
+    bytes: &mut Vec<u8>,
+) -> Result<(), CheckFault>
+    requires some { 1 ≤ blocks }
+    requires first { vec_len bytes.old ≤ 1024 }
+    ensures loaded { OnOk result (IsTrue S.tells
+        → bytes.old.items ≡ take 1024 (bytes_of ((S.seen store.old).files name.now))
+        → bytes.new.items ≡ take (1024 * blocks) (bytes_of ((S.seen store.old).files name.now))) }
+    ensures within { OnOk result (vec_len bytes.new ≤ 1024 * blocks) }
+    ensures front { OnOk result (take 1024 bytes.new.items ≡ bytes.old.items) }
+    ensures refused { IfErr result (IsCheckFault (S.seen store.old).faults (S.seen store.new).faults (λ _. ⊥)) }
+    ensures leaves { OnlyReads name.now (S.seen store.old) (S.seen store.new) }
+    ensures synced { OnOk result (AddsNone (S.seen store.old).unsynced (S.seen store.new).unsynced) }
+    ensures reads { OnOk result ((S.seen store.new).reads + 1 ≤ (S.seen store.old).reads + blocks) }
+{
+    bytes.reserve_exact(BLOCK * blocks as usize - bytes.len())?;
+    for block in 1..blocks {
+        append_block(store, name, block, bytes)?;
+    }
+    Ok(())
+}

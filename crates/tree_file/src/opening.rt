@@ -1,0 +1,198 @@
+ghost use Rattle.std.specs.Prelude.{◌≡◌, ◌≢◌, ◌+◌, ◌*◌, ◌<◌, ◌≤◌, ℕ, List, Option, take, true, vec_len, None, Ok, Some, IsTrue, IfErr, IfOk, IsSome, IsSomeAnd, OnOk};
+ghost use Rattle.entry_codec.specs.Header.{AreOf, header_of};
+ghost use Rattle.quota_types.specs.Range.{grace_unfit};
+ghost use Rattle.quota_types.specs.declared.damage.Damage.{Damage};
+ghost use Rattle.quota_types.specs.declared.file_kind.Format.{Format};
+ghost use Rattle.quota_types.specs.declared.file_kind.Kind.{Kind};
+ghost use Rattle.quota_blocks.specs.Frame.{OnlyReads};
+ghost use Rattle.quota_blocks.specs.QuotaValue.{QuotaValue};
+ghost use Rattle.quota_blocks.specs.Unsynced.{AddsNone};
+ghost use Rattle.std.specs.Bool.{OnFalse, OnTrue};
+ghost use Rattle.tree_file.specs.Check.{IsCheckFault, bytes_of};
+ghost use Rattle.tree_file.specs.Defect.{IsTreeDefect};
+ghost use Rattle.tree_file.specs.Opened.{tree_seen};
+ghost use Rattle.tree_file.specs.TreeFile.{TreeStandsFor};
+ghost use Rattle.tree_file.specs.View.{FitsRequest, HasHeader, IsAsAsked, IsRefusedHeader, IsTreeFault, IsTreeView};
+
+use crate::file_header::header_in;
+use crate::loaded::LoadedTree;
+use crate::loading::{append_block, load_rest};
+use crate::{CheckFault, TreeFile, check};
+use entry_codec::{Header, HeaderFault};
+use quota_blocks::{OpenFault, QuotaFile, Store};
+use quota_types::{Format, Kind};
+use std::alloc::Global;
+
+/// Opens a tree file, which is checked, and whose blocks are then loaded. Bytes behind the last block are left out.
+///
+/// It has one of the kind, of the format that is asked for, where one is, and at most `limit` blocks. The header is read
+/// once, each block at most twice for the check and once to load it.
+///
+/// # Errors
+///
+/// It is refused where there is no such file; where its header is of no quota file, of one of another kind, of a version
+/// that is not known, of fewer than two blocks, of another format than the one that is asked for, or of more blocks than
+/// `limit`; and where it is damaged, in this order; and where the store failed or memory was wanting.
+pub fn open_tree<S: Store>(
+    alloc: Global,
+    store: &mut S,
+    name: &str,
+    kind: Kind,
+    format: Option<Format>,
+    limit: u32,
+) -> Result<TreeFile, OpenFault>
+    requires { format ≢ Some Format.V1 }
+    ensures seen { OnOk result (IsTrue S.tells → (value : QuotaValue)
+        × IsTreeView ((S.seen store.old).files name.now) kind format limit (Ok value)) }
+    ensures held { IfOk result (λ file. IsTrue S.tells → (value : QuotaValue)
+        → IsTreeView ((S.seen store.old).files name.now) kind format limit (Ok value)
+        → ⟦<TreeFile as QuotaFile<S>>⟧.holds file store.new value) }
+    ensures fresh { IfOk result (λ file. ⟦<TreeFile as QuotaFile<S>>⟧.seen file
+        ≡ tree_seen name.now (⟦<TreeFile as QuotaFile<S>>⟧.seen file).format true limit 0) }
+    ensures tree { IfOk result (λ file. (⟦<TreeFile as QuotaFile<S>>⟧.seen file).format ≢ Format.V1) }
+    ensures as_asked { IfOk result (λ file. IsAsAsked format (⟦<TreeFile as QuotaFile<S>>⟧.seen file).format) }
+    ensures refused { IfErr result (IsTreeFault (S.seen store.old).faults (S.seen store.new).faults S.tells
+        ((S.seen store.old).files name.now) kind format limit) }
+    ensures leaves { OnlyReads name.now (S.seen store.old) (S.seen store.new) }
+    ensures synced { OnOk result (AddsNone (S.seen store.old).unsynced (S.seen store.new).unsynced) }
+    ensures reads { OnOk result (IsTrue S.tells → (S.seen store.new).reads
+        ≤ (S.seen store.old).reads + 3 * (header_of (bytes_of ((S.seen store.old).files name.now))).blocks) }
+{
+    let own_name = match String::from_str(alloc, name) {
+        Ok(own_name) => own_name,
+        Err(_) => return Err(OpenFault::Memory),
+    };
+    let first = first_block(alloc, store, name)?;
+    let header = accepted_header(first.as_slice(), kind, format, limit)?;
+    let tree = checked_tree(alloc, store, name, first, header)?;
+    Ok(TreeFile {
+        name: own_name,
+        tree,
+        limit,
+        usable: true,
+        refusals: 0,
+    })
+}
+
+impl From<CheckFault> for OpenFault {
+    ghost use Rattle.tree_file.specs.Check.{open_fault};
+
+    ghost from_gives = { λ fault opening. opening ≡ open_fault fault };
+
+    fn from(fault: CheckFault) -> Self {
+        match fault {
+            CheckFault::Store => OpenFault::Store,
+            CheckFault::Damage(damage) => OpenFault::Damage(damage),
+            CheckFault::Memory => OpenFault::Memory,
+        }
+    }
+}
+
+/// The bytes that a file has of its first block.
+fn first_block<S: Store>(alloc: Global, store: &mut S, name: &str) -> Result<Vec<u8>, OpenFault>
+    ensures there { OnOk result (IsTrue S.tells → IsSome ((S.seen store.old).files name.now)) }
+    ensures loaded { IfOk result (λ first. IsTrue S.tells
+        → first.items ≡ take 1024 (bytes_of ((S.seen store.old).files name.now))) }
+    ensures within { IfOk result (λ first. vec_len first ≤ 1024) }
+    ensures refused { IfErr result (λ fault. (kind : Kind) (asked : Option Format) (limit : ℕ)
+        → IsTreeFault (S.seen store.old).faults (S.seen store.new).faults S.tells
+        ((S.seen store.old).files name.now) kind asked limit fault) }
+    ensures leaves { OnlyReads name.now (S.seen store.old) (S.seen store.new) }
+    ensures synced { OnOk result (AddsNone (S.seen store.old).unsynced (S.seen store.new).unsynced) }
+    ensures reads { OnOk result ((S.seen store.new).reads ≤ (S.seen store.old).reads + 1) }
+{
+    match store.size(name) {
+        Ok(Some(_)) => {}
+        Ok(None) => return Err(OpenFault::NoFile),
+        Err(_) => return Err(OpenFault::Store),
+    }
+    let mut first = Vec::new(alloc);
+    append_block(store, name, 0, &mut first)?;
+    Ok(first)
+}
+
+/// The header that a file begins with, where it is one of the kind, of the format that is asked for, where one is, and of at
+/// most `limit` blocks.
+fn accepted_header(
+    first: &[u8],
+    kind: Kind,
+    format: Option<Format>,
+    limit: u32,
+) -> Result<Header, OpenFault>
+    ensures accepted { IfOk result (λ header. HasHeader kind (header_of first.now) header.format) }
+    ensures kind { IfOk result (λ header. header.kind ≡ kind) }
+    ensures as_asked { IfOk result (λ header. IsAsAsked format header.format) }
+    ensures numbers { IfOk result (λ header. AreOf header (header_of first.now)) }
+    ensures grace { IfOk result (λ header. grace_unfit header.format header.grace ≡ None) }
+    ensures tree { IfOk result (λ header. header.format ≢ Format.V1) }
+    ensures two { IfOk result (λ header. 2 ≤ header.blocks) }
+    ensures few { IfOk result (λ header. header.blocks ≤ limit) }
+    ensures fits { IfErr result (FitsRequest format limit) }
+    ensures refused { IfErr result (λ fault. IsRefusedHeader kind format limit fault (header_of first.now)) }
+{
+    let header = match header_in(first, kind) {
+        Ok(header) => header,
+        Err(HeaderFault::NotQuota) => return Err(OpenFault::NotQuota),
+        Err(HeaderFault::WrongKind) => return Err(OpenFault::WrongKind),
+        Err(HeaderFault::UnknownVersion) => return Err(OpenFault::UnknownVersion),
+        Err(HeaderFault::BadBlockCount) => return Err(OpenFault::BadBlockCount),
+    };
+    if is_other(format, header.format) {
+        return Err(OpenFault::FormatMismatch {
+            found: header.format,
+        });
+    }
+    if header.blocks > limit {
+        return Err(OpenFault::TooLarge {
+            number: u64::from(header.blocks),
+            limit: u64::from(limit),
+        });
+    }
+    Ok(header)
+}
+
+/// Whether a format was asked for, and is another one than this.
+fn is_other(asked: Option<Format>, format: Format) -> bool
+    ensures other { OnTrue result (IsSomeAnd asked (λ wanted. wanted ≢ format)) }
+    ensures same { OnFalse result (IsAsAsked asked format) }
+{
+    match asked {
+        Some(wanted) => wanted != format,
+        None => false,
+    }
+}
+
+/// The blocks of a file, of which the first one was loaded and begins with this header, once they were checked.
+fn checked_tree<S: Store>(
+    alloc: Global,
+    store: &mut S,
+    name: &str,
+    first: Vec<u8>,
+    header: Header,
+) -> Result<LoadedTree, CheckFault>
+    requires numbers { AreOf header (header_of first.items) }
+    requires tree { header.format ≢ Format.V1 }
+    requires two { 2 ≤ header.blocks }
+    requires within { vec_len first ≤ 1024 }
+    ensures header { IfOk result (λ tree. tree.header ≡ header) }
+    ensures stands { OnOk result (IsTrue S.tells
+        → AreOf header (header_of (bytes_of ((S.seen store.old).files name.now)))
+        → (value : QuotaValue) × TreeStandsFor (bytes_of ((S.seen store.old).files name.now)) value) }
+    ensures loaded { IfOk result (λ tree. IsTrue S.tells
+        → first.items ≡ take 1024 (bytes_of ((S.seen store.old).files name.now))
+        → tree.bytes.items ≡ take (1024 * header.blocks) (bytes_of ((S.seen store.old).files name.now))) }
+    ensures few { IfOk result (λ tree. vec_len tree.bytes ≤ 1024 * header.blocks) }
+    ensures refused { IfErr result (IsCheckFault (S.seen store.old).faults (S.seen store.new).faults
+        (λ damage. IsTrue S.tells
+        → AreOf header (header_of (bytes_of ((S.seen store.old).files name.now)))
+        → IsTreeDefect header.format (bytes_of ((S.seen store.old).files name.now))
+        (header_of (bytes_of ((S.seen store.old).files name.now))) damage)) }
+    ensures leaves { OnlyReads name.now (S.seen store.old) (S.seen store.new) }
+    ensures synced { OnOk result (AddsNone (S.seen store.old).unsynced (S.seen store.new).unsynced) }
+    ensures reads { OnOk result ((S.seen store.new).reads + 1 ≤ (S.seen store.old).reads + 3 * header.blocks) }
+{
+    check(alloc, store, name, &header)?;
+    let mut bytes = first;
+    load_rest(store, name, header.blocks, &mut bytes)?;
+    Ok(LoadedTree { bytes, header })
+}
