@@ -1,6 +1,7 @@
 pub mod NumberLemmas
 pub mod TextLemmas
 pub mod LoadLemmas
+pub mod LinesLemmas
 pub mod EntriesLemmas
 pub mod NamedFilesLemmas
 pub mod OverwriteLemmas
@@ -9,3 +10,6 @@ pub mod ReplaceLemmas
 pub mod FrameLemmas
 pub mod UnsyncedLemmas
 pub mod TakenLemmas
+pub mod WordsLemmas
+pub mod InputLinesLemmas
+pub mod InputLemmas

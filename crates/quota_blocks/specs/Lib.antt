@@ -2,6 +2,9 @@ pub mod Count
 pub mod FileChange
 pub mod Frame
 pub mod InMemory
+pub mod InputLaws
+pub mod InputLines
+pub mod Lines
 pub mod Listed
 pub mod Load
 pub mod MemStore
@@ -11,8 +14,10 @@ pub mod QuotaValue
 pub mod Replace
 pub mod Seen
 pub mod Span
+pub mod StoreInput
 pub mod Text
 pub mod Unsynced
+pub mod Words
 pub mod World
 pub use Rattle.quota_types.specs.Bytes
 pub use Rattle.quota_types.specs.Kept

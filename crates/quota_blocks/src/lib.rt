@@ -3,7 +3,8 @@
 //! A `Store` holds named files, a `Source` gives bytes, a `Sink` takes text, and a `Link` gives datagrams and takes
 //! answers. Each has a count of faults that never falls, and may tell its contents: an object in memory does, and an
 //! adapter over the real thing does not. `load` reads a whole file and `replace` puts one in the place of another,
-//! `TextBuffer` gathers text in front of a sink, and `QuotaFile` is what every format of quota file offers. `le16` to
+//! `TextBuffer` gathers text in front of a sink, `LineReader` gives the lines of a source, such as a file of a store
+//! behind `StoreInput`, and `QuotaFile` is what every format of quota file offers. `le16` to
 //! `set_le64` read and write the numbers in a block.
 //!
 //! The one promise: every answer has a cause that the caller can see, and what is told of the outside stays in step
@@ -12,6 +13,10 @@
 
 mod block_number;
 mod failures;
+mod line_reader;
+#[cfg(test)]
+mod line_tests;
+mod line_words;
 mod link;
 mod mem_link;
 mod mem_sink;
@@ -24,12 +29,16 @@ mod replacement;
 mod sink;
 mod source;
 mod store;
+mod store_input;
+mod store_source;
 #[cfg(test)]
 mod tests;
 mod text_buffer;
 mod whole_file;
 
 pub use block_number::{le16, le32, le64, set_le16, set_le32, set_le64};
+pub use line_reader::{LineFault, LineReader};
+pub use line_words::{after_words, has_no_word, has_words, next_word, words};
 pub use link::{Got, Link, LinkFault};
 pub use mem_link::MemLink;
 pub use mem_sink::MemSink;
@@ -40,5 +49,7 @@ pub use replacement::{ReplaceFault, replace};
 pub use sink::{Sink, SinkFault};
 pub use source::{Source, SourceFault};
 pub use store::{Store, StoreFault};
+pub use store_input::StoreInput;
+pub use store_source::StoreSource;
 pub use text_buffer::TextBuffer;
 pub use whole_file::{LoadFault, load};

@@ -1,0 +1,50 @@
+-- What is left of a file once bytes were taken from its front.
+use Rattle.std.proofs.Common.{◌≡◌, ℕ, zero, suc, ◌+◌, ◌-◌, ◌^◌, ◌≤◌, List, [], ◌∷◌, ◌++◌, length, take, drop, Option, Some, None, refl, sym, ap, ◌∙◌, arith, length-take}
+use Rattle.std.proofs.Math.Seq.{take-add}
+use Rattle.std.proofs.lemmas.List.{drop-drop, drop_all, take-append-le, take_all}
+use Rattle.std.specs.Option.{unwrap_or}
+use Rattle.quota_blocks.specs.StoreInput.{left_from}
+use Rattle.quota_blocks.specs.World.{World, bytes_from}
+
+-- as many from the front as a longer front has
+take_length_take : (n : ℕ) (xs : List ℕ) → take (length (take n xs)) xs ≡ take n xs
+take_length_take zero xs = refl
+take_length_take (suc n) [] = refl
+take_length_take (suc n) (x ∷ xs) = ap (λ (ys : List ℕ). x ∷ ys) (take_length_take n xs)
+
+-- a front of what may be taken, and then the rest of it
+front_taken : (most want count : ℕ) (left : List ℕ) → want ≤ most → count ≡ length (take want left) → take most left ≡ take want left ++ take (most - count) (drop count left)
+front_taken most want count left within is =
+    let split : most ≡ count + (most - count) = omega (arith, is, length-take want left) in
+    ap (λ (n : ℕ). take n left) split
+    ∙ take-add count (most - count) left
+    ∙ ap (λ (front : List ℕ). front ++ take (most - count) (drop count left)) (ap (λ (n : ℕ). take n left) is ∙ take_length_take want left)
+
+-- bytes were taken from the place on, and the place moved behind them
+pub left_moved : (file : Option (List ℕ)) (at want count : ℕ) (buf rest : List ℕ) → want ≤ 2 ^ 64 - 1 - at → count ≤ length buf
+    → take count buf ≡ bytes_from file at want → count ≡ length (bytes_from file at want) → left_from file at ≡ take count (buf ++ rest) ++ left_from file (at + count)
+left_moved file at want count buf rest within fits bytes is =
+    let there : List ℕ = unwrap_or file [] in
+    let behind : 2 ^ 64 - 1 - at - count ≡ 2 ^ 64 - 1 - (at + count) = omega arith in
+    front_taken (2 ^ 64 - 1 - at) want count (drop at there) within is
+    ∙ ap (λ (front : List ℕ). front ++ take (2 ^ 64 - 1 - at - count) (drop count (drop at there))) (sym bytes ∙ sym (take-append-le count buf rest fits))
+    ∙ ap (λ (back : List ℕ). take count (buf ++ rest) ++ take (2 ^ 64 - 1 - at - count) back) (drop-drop count at there)
+    ∙ ap (λ (n : ℕ). take count (buf ++ rest) ++ take n (drop (at + count) there)) behind
+
+-- the same where the files and the name stayed
+pub left_moved_of : (files files_now : World) (name name_now : List ℕ) (at at_now want count : ℕ) (buf rest : List ℕ) → files_now ≡ files → name_now ≡ name → at_now ≡ at + count
+    → want ≤ 2 ^ 64 - 1 - at → count ≤ length buf → take count buf ≡ bytes_from (files name) at want → count ≡ length (bytes_from (files name) at want)
+    → left_from (files name) at ≡ take count (buf ++ rest) ++ left_from (files_now name_now) at_now
+left_moved_of files files_now name name_now at at_now want count buf rest same same_name moved within fits bytes is =
+    left_moved (files name) at want count buf rest within fits bytes is
+    ∙ ap (λ (n : ℕ). take count (buf ++ rest) ++ left_from (files name) n) (sym moved)
+    ∙ ap (λ (f : World). take count (buf ++ rest) ++ left_from (f name) at_now) (sym same)
+    ∙ ap (λ (n : List ℕ). take count (buf ++ rest) ++ left_from (files_now n) at_now) (sym same_name)
+
+-- a file that is shorter than 2^64 bytes is left whole from its beginning on
+pub left_from-whole : (file : List ℕ) → length file ≤ 2 ^ 64 - 1 → left_from (Some file) 0 ≡ file
+left_from-whole file within = take_all (2 ^ 64 - 1) file within
+
+-- of no file nothing is left
+pub left_from-none : (at : ℕ) → left_from None at ≡ []
+left_from-none at = ap (λ (bytes : List ℕ). take (2 ^ 64 - 1 - at) bytes) (drop_all at [] (omega arith)) ∙ take_all (2 ^ 64 - 1 - at) [] (omega arith)

@@ -1,0 +1,9 @@
+use Rattle.std.proofs.Common.{ap, arith}
+use Rattle.std.specs.String.{string_bytes}
+use Rattle.quota_blocks.proofs.InputLemmas.{left_moved_of}
+use Rattle.quota_blocks.proofs.store_input.StoreInputSource.read.Goals as goal
+
+pub returns-in-Ok-clause-taken : goal.returns-in-Ok-clause-taken
+returns-in-Ok-clause-taken g c told =
+    let read = c.in-Ok.ensures in
+    left_moved_of _ _ _ _ _ _ _ _ _ _ read.leaves.files (ap string_bytes read.name) read.moved (omega arith) (omega (arith, read.fits)) (read.bytes told) (read.count told)
