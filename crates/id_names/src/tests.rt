@@ -14,10 +14,10 @@ const USERS: &[u8] = b"root:x:0:0:root:/root:/bin/sh\n\
     rooty:x:0:0::/root:/bin/sh\n\
     max:x:4294967295:1:::";
 
-/// A line of a user whose name has this many bytes.
-fn line_with_name_of(alloc: Global, len: usize) -> Result<Vec<u8>, AllocError> {
+/// A name of this many bytes, and more of its line.
+fn line_with_name_of(alloc: Global, len: usize, more: &[u8]) -> Result<Vec<u8>, AllocError> {
     let mut line = vec![in alloc; b'n'; len]?;
-    line.extend_from_slice(b":x:7:7:::")?;
+    line.extend_from_slice(more)?;
     Ok(line)
 }
 
@@ -98,8 +98,9 @@ fn the_first_bad_line_of_users_is_named(rt: HostRuntime) {
 
 #[test]
 fn the_first_bad_line_of_groups_is_named(rt: HostRuntime) {
-    let files: [(&[u8], Option<u64>); 8] = [
-        (b"wheel:x:10:\n", None),
+    let files: [(&[u8], Option<u64>); 13] = [
+        (b"", None),
+        (b"\n#a\n+a\n-a\n\nwheel:x:10:\n", None),
         (b"wheel:x:10:root,alice", None),
         (b"wheel:x:10", Some(1)),
         (b"wheel:x:10::", Some(1)),
@@ -107,6 +108,10 @@ fn the_first_bad_line_of_groups_is_named(rt: HostRuntime) {
         (b"-\nwheel:x:10:\nusers::\n", Some(3)),
         (b"wheel:x:4294967296:", Some(1)),
         (b"wheel:x:0000000004294967295:", None),
+        (b"wheel:x::", Some(1)),
+        (b":x:10:", Some(1)),
+        (b"wh\x7fel:x:10:", Some(1)),
+        (b"wh el:x:10:", Some(1)),
     ];
     for (bytes, line) in files {
         let fault = Names::read(rt.alloc(), bytes, Kind::Group).err();
@@ -116,11 +121,15 @@ fn the_first_bad_line_of_groups_is_named(rt: HostRuntime) {
 
 #[test]
 fn a_name_has_at_most_255_bytes(rt: HostRuntime) -> Result<(), Fail> {
-    let longest = line_with_name_of(rt.alloc(), 255)?;
-    let names = Names::read(rt.alloc(), longest.as_slice(), Kind::User)?;
-    assert_eq!(rt; names.name_of(7).map(|name| name.len()), Some(255));
-    let too_long = line_with_name_of(rt.alloc(), 256)?;
-    let fault = Names::read(rt.alloc(), too_long.as_slice(), Kind::User).err();
-    assert_eq!(rt; fault, Some(NamesFault::BadLine(1)));
+    let alloc = rt.alloc();
+    let kinds: [(&[u8], Kind); 2] = [(b":x:7:7:::", Kind::User), (b":x:7:", Kind::Group)];
+    for (more, kind) in kinds {
+        let longest = line_with_name_of(alloc, 255, more)?;
+        let names = Names::read(alloc, longest.as_slice(), kind)?;
+        assert_eq!(rt; names.name_of(7).map(|name| name.len()), Some(255));
+        let too_long = line_with_name_of(alloc, 256, more)?;
+        let fault = Names::read(alloc, too_long.as_slice(), kind).err();
+        assert_eq!(rt; fault, Some(NamesFault::BadLine(1)));
+    }
     Ok(())
 }

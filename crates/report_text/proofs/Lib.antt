@@ -1,3 +1,2 @@
 pub mod GatherLemmas
 pub mod LinesLemmas
-pub mod NameLemmas

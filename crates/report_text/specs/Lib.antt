@@ -1,6 +1,8 @@
 pub mod Period
 pub mod Fault
 pub mod Report
+pub use Rattle.id_names.specs.FirstMatch
+pub use Rattle.id_names.specs.NamesFile
 pub use Rattle.quota_blocks.specs.Frame
 pub use Rattle.quota_blocks.specs.QuotaFile
 pub use Rattle.quota_blocks.specs.QuotaValue

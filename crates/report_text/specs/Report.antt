@@ -125,13 +125,17 @@ columns_of options now usage = record {
   grace = grace_of options now usage;
 }
 
--- an identifier with no name
+-- `#` and the number of an identifier
 abbrev pub numbered : ℕ → List ℕ
 numbered id = codes "#" ++ decimal id
 
--- the name of an identifier, where it has one and `-n` does not ask for its number
+-- the name of an identifier as it is shown: the name that it has, or `#` and its number
+abbrev pub shown_name : (ℕ → Option (List ℕ)) → ℕ → List ℕ
+shown_name names id = unwrap_or (names id) (numbered id)
+
+-- the name in the line of an identifier: with `-n` it is always `#` and the number
 abbrev pub name_of : (ℕ → Option (List ℕ)) → Options → ℕ → List ℕ
-name_of names options id = if options.numeric then numbered id else unwrap_or (names id) (numbered id)
+name_of names options id = if options.numeric then numbered id else shown_name names id
 
 -- no identifier has a name
 abbrev pub no_names : ℕ → Option (List ℕ)

@@ -1,22 +1,24 @@
 ghost use Rattle.std.specs.Prelude.{◌≡◌, ◌≤◌, ◌++◌, true, IsTrue, OnOk, OnErr, IfErr, IfSome};
 ghost use Rattle.std.specs.FinMap.{entries};
+ghost use Rattle.id_names.specs.FirstMatch.{first_name};
 ghost use Rattle.quota_blocks.specs.Frame.{OnlyReads};
 ghost use Rattle.quota_blocks.specs.QuotaFile.{CountsRefusal};
 ghost use Rattle.quota_blocks.specs.QuotaValue.{QuotaValue};
 ghost use Rattle.quota_blocks.specs.Text.{AppendsPrefix, Gathers, WritesPrefix};
 ghost use Rattle.quota_blocks.specs.Unsynced.{AddsNone};
 ghost use Rattle.report_text.specs.Fault.{IsReportFault, OnSink, file_fault};
-ghost use Rattle.report_text.specs.Report.{report_of, lines_of, no_names};
+ghost use Rattle.report_text.specs.Report.{report_of, lines_of};
 
 use crate::entries::put_entry;
 use crate::head::put_head;
 use crate::{Options, ReportFault};
+use id_names::Names;
 use quota_blocks::{QuotaFile, Sink, Store, TextBuffer};
 use quota_types::Kind;
 
 /// Writes the report of an opened quota file: a head with `title`, which is usually the file's name, and a line for
-/// each identifier that is shown, ascending. Each name is `#` and the identifier. `now` is in seconds since 1970.
-/// It takes no memory of the heap.
+/// each identifier that is shown, ascending. A name is that of the first of `names` with the identifier; where there is
+/// none, and with `numeric`, it is `#` and the identifier. `now` is in seconds since 1970. It takes no memory of the heap.
 ///
 /// # Errors
 ///
@@ -25,6 +27,7 @@ use quota_types::Kind;
 pub fn report<S: Store, F: QuotaFile<S>, O: Sink>(
     file: &mut F,
     store: &mut S,
+    names: &Names,
     kind: Kind,
     title: &str,
     now: u64,
@@ -34,11 +37,11 @@ pub fn report<S: Store, F: QuotaFile<S>, O: Sink>(
     requires { IsTrue (F.seen file.old).usable }
     ensures ok { OnOk result (IsTrue O.tells
         → (value : QuotaValue) → F.holds file.old store.old value → value.kind ≡ kind
-        → (O.seen sink.new).written ≡ (O.seen sink.old).written ++ report_of value no_names title.now now options.now) }
+        → (O.seen sink.new).written ≡ (O.seen sink.old).written ++ report_of value (first_name names.now) title.now now options.now) }
     ensures fault { OnErr result (IsTrue O.tells
         → (value : QuotaValue) → F.holds file.old store.old value → value.kind ≡ kind
         → AppendsPrefix (O.seen sink.old).written (O.seen sink.new).written
-        (report_of value no_names title.now now options.now)) }
+        (report_of value (first_name names.now) title.now now options.now)) }
     ensures refused { IfErr result (IsReportFault (O.seen sink.old).faults (O.seen sink.new).faults
         (S.seen store.old).faults (S.seen store.new).faults (F.holds file.old store.old)) }
     ensures may { IfErr result (λ fault. IfSome (file_fault fault) (F.may_refuse (F.seen file.old).format)) }
@@ -53,7 +56,7 @@ pub fn report<S: Store, F: QuotaFile<S>, O: Sink>(
 {
     let mut text = TextBuffer::new();
     put_head(kind, title, file.grace(), &mut text, sink)?;
-    put_entries(file, store, now, options, &mut text, sink)?;
+    put_entries(file, store, names, now, options, &mut text, sink)?;
     text.flush(sink)?;
     Ok(())
 }
@@ -62,6 +65,7 @@ pub fn report<S: Store, F: QuotaFile<S>, O: Sink>(
 fn put_entries<S: Store, F: QuotaFile<S>, O: Sink>(
     file: &mut F,
     store: &mut S,
+    names: &Names,
     now: u64,
     options: &Options,
     text: &mut TextBuffer,
@@ -70,10 +74,10 @@ fn put_entries<S: Store, F: QuotaFile<S>, O: Sink>(
     requires { IsTrue (F.seen file.old).usable }
     ensures ok { OnOk result ((value : QuotaValue) → F.holds file.old store.old value
         → Gathers O.tells (O.seen sink.old).written text.old (O.seen sink.new).written text.new
-        (lines_of no_names now options.now (entries value.records))) }
+        (lines_of (first_name names.now) now options.now (entries value.records))) }
     ensures fault { OnErr result ((value : QuotaValue) → F.holds file.old store.old value
         → WritesPrefix O.tells (O.seen sink.old).written text.old (O.seen sink.new).written
-        (lines_of no_names now options.now (entries value.records))) }
+        (lines_of (first_name names.now) now options.now (entries value.records))) }
     ensures refused { IfErr result (IsReportFault (O.seen sink.old).faults (O.seen sink.new).faults
         (S.seen store.old).faults (S.seen store.new).faults (F.holds file.old store.old)) }
     ensures may { IfErr result (λ fault. IfSome (file_fault fault) (F.may_refuse (F.seen file.old).format)) }
@@ -88,7 +92,7 @@ fn put_entries<S: Store, F: QuotaFile<S>, O: Sink>(
 {
     let mut after = None;
     while let Some(entry) = file.next_after(store, after)? {
-        put_entry(&entry, now, options, text, sink)?;
+        put_entry(&entry, names, now, options, text, sink)?;
         after = Some(entry.id);
     }
     Ok(())

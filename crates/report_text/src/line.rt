@@ -5,8 +5,21 @@ use arrayvec::ArrayVec;
 use itoa::Buffer;
 use std::marker::Model;
 
-/// How many bytes a line has at most.
-pub(crate) const CAPACITY: usize = 320;
+/// How many bytes a name has at most.
+pub(crate) const NAME: usize = 255;
+
+/// How many digits a number below 2^64 has at most.
+pub(crate) const NUMBER: usize = 20;
+
+/// How many bytes the text of a grace period has at most: a number, and `days`.
+pub(crate) const GRACE: usize = NUMBER + 4;
+
+/// How many bytes the columns on blocks, or on inodes, have at most: three numbers and a grace period, a space before
+/// each.
+pub(crate) const COLUMNS: usize = 3 * (1 + NUMBER) + 1 + GRACE;
+
+/// How many bytes a line has at most: a name, a space, two flags, the columns on blocks and on inodes, and a newline.
+pub(crate) const CAPACITY: usize = NAME + 1 + 2 + 2 * COLUMNS + 1;
 
 /// A line that is being made, in no memory of the heap. A place is one byte, and a text that is longer than its
 /// places widens the column.
@@ -61,7 +74,8 @@ impl Line {
     /// Appends a text at the left of so many places.
     pub fn push_left(&mut self, width: usize, text: &[u8])
         requires { length self.old + max width (length text.now) ≤ CAPACITY }
-        ensures { self.new ≡ self.old ++ left_in width text.now }
+        ensures text { self.new ≡ self.old ++ left_in width text.now }
+        ensures long { length self.new ≡ length self.old + max width (length text.now) }
     {
         self.push_text(text);
         self.push_repeated(width.saturating_sub(text.len()), b' ');

@@ -5,10 +5,11 @@ use arrayvec::ArrayVec;
 use itoa::Buffer;
 
 /// Makes `text` the text of a period of so many seconds, whatever it held before: hours and minutes, to the nearest
-/// minute, or whole days from 48 hours on.
+/// minute, or whole days from 48 hours on. It has at most 24 bytes.
 #[tactic(auto, unfolding(crate::specs::Period::period_of))]
 pub fn period_text(seconds: u64, text: &mut ArrayVec<u8, 32>)
-    ensures { text.new.items ≡ period_of seconds }
+    ensures text { text.new.items ≡ period_of seconds }
+    ensures fits { length text.new.items ≤ 24 }
 {
     text.clear();
     push_minutes(text, ((u128::from(seconds) + 30) / 60) as u64);
@@ -17,7 +18,8 @@ pub fn period_text(seconds: u64, text: &mut ArrayVec<u8, 32>)
 /// Appends the text of so many minutes.
 fn push_minutes(text: &mut ArrayVec<u8, 32>, minutes: u64)
     requires { text.old.items ≡ [] }
-    ensures { text.new.items ≡ text_of_minutes minutes }
+    ensures text { text.new.items ≡ text_of_minutes minutes }
+    ensures fits { length text.new.items ≤ 24 }
 {
     let hours = minutes / 60;
     if hours >= 48 {

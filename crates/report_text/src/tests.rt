@@ -2,6 +2,7 @@ use crate::entries::entry_line;
 use crate::one_entry::OneEntry;
 use crate::{Options, ReportFault, period_text, report};
 use arrayvec::ArrayVec;
+use id_names::Names;
 use quota_blocks::{FileFault, MemSink, MemStore};
 use quota_types::{Damage, DamageKind, Entry, Kind, Rec};
 use std::alloc::{AllocError, Global};
@@ -47,6 +48,7 @@ fn periods(rt: HostRuntime) {
 
 #[test]
 fn limits_of_an_unused_identifier(rt: HostRuntime) {
+    let names = Names::none(rt.alloc());
     let rec = Rec {
         bsoft: 100,
         bhard: 200,
@@ -54,7 +56,7 @@ fn limits_of_an_unused_identifier(rt: HostRuntime) {
         ihard: 20,
         ..NONE
     };
-    let line = entry_line(&Entry { id: 1000, rec }, 1_700_000_000, &PLAIN);
+    let line = entry_line(&Entry { id: 1000, rec }, &names, 1_700_000_000, &PLAIN);
     assert_eq!(rt;
         line.as_slice(),
         b"#1000        --          0        100        200      -        0       10       20      -\n".as_slice(),
@@ -63,6 +65,7 @@ fn limits_of_an_unused_identifier(rt: HostRuntime) {
 
 #[test]
 fn a_soft_limit_of_blocks_that_is_exceeded(rt: HostRuntime) {
+    let names = Names::none(rt.alloc());
     let raw = Options { raw: true, ..PLAIN };
     let cases = [
         (
@@ -100,14 +103,15 @@ fn a_soft_limit_of_blocks_that_is_exceeded(rt: HostRuntime) {
         ..NONE
     };
     for (now, options, wanted) in cases {
-        let line = entry_line(&Entry { id: 1000, rec }, now, &options);
+        let line = entry_line(&Entry { id: 1000, rec }, &names, now, &options);
         assert_eq!(rt; line.as_slice(), wanted.as_bytes(), "{now}");
     }
 }
 
-/// The line of the one entry of a file of groups, after the head of its report.
-fn line_of(
+/// The report of a file of groups with one entry.
+fn report_of_one(
     alloc: Global,
+    names: &Names,
     space: u64,
     verbose: bool,
     numeric: bool,
@@ -138,6 +142,7 @@ fn line_of(
     let done = report(
         &mut file,
         &mut store,
+        names,
         Kind::Group,
         "g",
         1_700_000_000,
@@ -153,6 +158,7 @@ fn line_of(
 #[test]
 fn options_and_the_least_and_greatest_space(rt: HostRuntime) -> Result<(), Fail> {
     let alloc = rt.alloc();
+    let names = Names::read(alloc, b"wheel:x:4294967295:", Kind::Group)?;
     let head = "*** Report for group quotas on g
 Block grace time: 49710days; Inode grace time: 00:01
 Group                 used       soft       hard  grace    files     soft     hard  grace
@@ -164,7 +170,7 @@ Group                 used       soft       hard  grace    files     soft     ha
             false,
             false,
             false,
-            "#4294967295  -+          1          1          0      -        6        5        6   none\n",
+            "wheel        -+          1          1          0      -        6        5        6   none\n",
         ),
         (
             1,
@@ -185,10 +191,10 @@ Group                 used       soft       hard  grace    files     soft     ha
             false,
             false,
             true,
-            "#4294967295  ++ 18014398509481984          1          0 1700000090        6        5        6 1699999999\n",
+            "wheel        ++ 18014398509481984          1          0 1700000090        6        5        6 1699999999\n",
         ),
     ] {
-        let sink = line_of(alloc, space, verbose, numeric, raw)?;
+        let sink = report_of_one(alloc, &names, space, verbose, numeric, raw)?;
         let text = sink.bytes();
         assert_eq!(rt; text.get(..head.len()).unwrap_or(b""), head.as_bytes());
         assert_eq!(rt;
@@ -197,6 +203,102 @@ Group                 used       soft       hard  grace    files     soft     ha
             "{line}"
         );
     }
+    Ok(())
+}
+
+/// Users, with an identifier on two lines, and a name that is longer than its places.
+const USERS: &[u8] = b"root:x:0:0:root:/root:/bin/sh\n\
+    alice:x:1000:1000:Alice:/home/alice:/bin/sh\n\
+    bob:x:1001:100:Bob:/home/bob:/bin/sh\n\
+    toor:x:0:0:::\n\
+    quota-operators:x:7:7:::\n";
+
+#[test]
+fn the_first_name_of_an_identifier_is_shown_else_its_number(rt: HostRuntime) -> Result<(), Fail> {
+    let names = Names::read(rt.alloc(), USERS, Kind::User)?;
+    let numeric = Options {
+        numeric: true,
+        ..PLAIN
+    };
+    let cases = [
+        (
+            (0, 24_576, 3),
+            PLAIN,
+            "root         --         24          0          0      -        3        0        0      -\n",
+        ),
+        (
+            (1000, 1_155_072, 13),
+            PLAIN,
+            "alice        --       1128          0          0      -       13        0        0      -\n",
+        ),
+        (
+            (1001, 593_920, 10),
+            PLAIN,
+            "bob          --        580          0          0      -       10        0        0      -\n",
+        ),
+        (
+            (65534, 8192, 2),
+            PLAIN,
+            "#65534       --          8          0          0      -        2        0        0      -\n",
+        ),
+        (
+            (7, 1024, 1),
+            PLAIN,
+            "quota-operators --          1          0          0      -        1        0        0      -\n",
+        ),
+        (
+            (0, 24_576, 3),
+            numeric,
+            "#0           --         24          0          0      -        3        0        0      -\n",
+        ),
+        (
+            (7, 1024, 1),
+            numeric,
+            "#7           --          1          0          0      -        1        0        0      -\n",
+        ),
+    ];
+    for ((id, space, inodes), options, wanted) in cases {
+        let rec = Rec {
+            space,
+            inodes,
+            ..NONE
+        };
+        let line = entry_line(&Entry { id, rec }, &names, 0, &options);
+        assert_eq!(rt; line.as_slice(), wanted.as_bytes(), "{id}");
+    }
+    Ok(())
+}
+
+/// The record whose columns are the widest with `-p`.
+const WIDEST: Rec = Rec {
+    ihard: u64::MAX,
+    isoft: u64::MAX - 1,
+    inodes: u64::MAX,
+    bhard: u64::MAX,
+    bsoft: 18_014_398_509_481_983,
+    space: u64::MAX,
+    btime: u64::MAX,
+    itime: u64::MAX,
+};
+
+#[test]
+fn the_longest_line_is_made_whole(rt: HostRuntime) -> Result<(), Fail> {
+    let alloc = rt.alloc();
+    let mut wanted = vec![in alloc; b'n'; 255]?;
+    let mut file = vec![in alloc; b'n'; 255]?;
+    file.extend_from_slice(b":x:7:")?;
+    let names = Names::read(alloc, file.as_slice(), Kind::Group)?;
+    wanted.extend_from_slice(
+        b" ++ 18014398509481984 18014398509481983 18446744073709551615 18446744073709551615",
+    )?;
+    wanted.extend_from_slice(
+        b" 18446744073709551615 18446744073709551614 18446744073709551615 18446744073709551615\n",
+    )?;
+    let raw = Options { raw: true, ..PLAIN };
+    let entry = Entry { id: 7, rec: WIDEST };
+    let line = entry_line(&entry, &names, 1_700_000_000, &raw);
+    assert_eq!(rt; wanted.len(), 421);
+    assert_eq!(rt; line.as_slice(), wanted.as_slice());
     Ok(())
 }
 
@@ -217,6 +319,7 @@ fn report_with(alloc: Global, damage: Option<Damage>) -> (Result<(), ReportFault
     let done = report(
         &mut file,
         &mut store,
+        &Names::none(alloc),
         Kind::User,
         "a",
         0,

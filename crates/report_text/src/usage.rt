@@ -1,6 +1,7 @@
 ghost use Rattle.std.specs.Prelude.{◌≡◌, ◌≤◌, length};
 ghost use Rattle.report_text.specs.Report.{blocks_of, inodes_of, flag_of, grace_of, grace_left, grace_end};
 
+use crate::line::GRACE;
 use crate::{Options, period_text};
 use arrayvec::ArrayVec;
 use itoa::Buffer;
@@ -58,7 +59,8 @@ impl Usage {
     /// Makes `text` what the grace column shows at the moment `now`, whatever it held before.
     #[tactic(auto, unfolding(crate::specs::Report::grace_of))]
     pub fn grace_text(&self, now: u64, options: &Options, text: &mut ArrayVec<u8, 32>)
-        ensures { text.new.items ≡ grace_of options.now now self.now }
+        ensures text { text.new.items ≡ grace_of options.now now self.now }
+        ensures fits { length text.new.items ≤ GRACE }
     {
         if options.raw {
             self.grace_end(text);
@@ -69,7 +71,8 @@ impl Usage {
 
     /// What is left of the grace period.
     fn grace_left(&self, now: u64, text: &mut ArrayVec<u8, 32>)
-        ensures { text.new.items ≡ grace_left now self.now }
+        ensures text { text.new.items ≡ grace_left now self.now }
+        ensures fits { length text.new.items ≤ GRACE }
     {
         if !is_exceeded(self.soft, self.used) {
             replace(text, b"-");
@@ -82,7 +85,8 @@ impl Usage {
 
     /// When the grace period ends.
     fn grace_end(&self, text: &mut ArrayVec<u8, 32>)
-        ensures { text.new.items ≡ grace_end self.now }
+        ensures text { text.new.items ≡ grace_end self.now }
+        ensures fits { length text.new.items ≤ GRACE }
     {
         if is_exceeded(self.soft, self.used) {
             let mut digits = Buffer::new();

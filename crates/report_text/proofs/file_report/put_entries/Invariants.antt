@@ -1,8 +1,8 @@
 use Rattle.std.proofs.Common.{◌≡◌, ◌≤◌, IsTrue}
+use Rattle.id_names.specs.FirstMatch.{first_name}
 use Rattle.quota_blocks.specs.Frame.{OnlyReads}
 use Rattle.quota_blocks.specs.QuotaValue.{QuotaValue}
 use Rattle.quota_blocks.specs.Unsynced.{AddsNone}
-use Rattle.report_text.specs.Report.{no_names}
 use Rattle.report_text.proofs.LinesLemmas.{IsPutUpTo, ids_after}
 use Rattle.report_text.proofs.file_report.put_entries.Given as goal
 
@@ -13,7 +13,7 @@ invariant-loop-entry g l =
     let O = g.O.Sink in
     record {
       lines : (value : QuotaValue) → F.holds l.fn.file l.fn.store value
-          → IsPutUpTo no_names l.now l.options O.tells (O.seen l.fn.sink).written l.fn.text (O.seen l.sink).written l.text value.records l.after;
+          → IsPutUpTo (first_name l.names) l.now l.options O.tells (O.seen l.fn.sink).written l.fn.text (O.seen l.sink).written l.text value.records l.after;
       stays : (value : QuotaValue) → F.holds l.fn.file l.fn.store value → F.holds l.file l.store value;
       same : F.seen l.file ≡ F.seen l.fn.file;
       usable : IsTrue (F.seen l.file).usable;
