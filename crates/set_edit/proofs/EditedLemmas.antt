@@ -20,13 +20,13 @@ use Rattle.set_edit.specs.declared.limits.Limits.{Limits}
 use Rattle.set_edit.specs.Edited.{change_to, edited, kept_change, limits_set, unless_unfit, with_kept, with_limits, with_or_without}
 
 -- the change to what the format keeps is the one that is made of it
-change_to-is : (format : Format) (id : ℕ) (rec next : Rec) → next ≡ kept_of format id rec → kept_change format id rec ≡ change_to id next
+pub change_to-is : (format : Format) (id : ℕ) (rec next : Rec) → next ≡ kept_of format id rec → kept_change format id rec ≡ change_to id next
 change_to-is format id rec next kept =
     let P : Rec → Type 0 = λ r. kept_change format id rec ≡ change_to id r in
     subst P (sym kept)
     (ap (λ (b : Bool). if b then Remove id else Put id (kept_of format id rec)) (sym (kept_null format id rec)))
 
-edited-fits : (value : QuotaValue) (id : ℕ) (rec next : Rec) → unfit value.format id rec ≡ None
+pub edited-fits : (value : QuotaValue) (id : ℕ) (rec next : Rec) → unfit value.format id rec ≡ None
     → next ≡ kept_of value.format id rec → edited value id rec ≡ Ok (with_or_without value id next)
 edited-fits value id rec next fits kept =
     ap (λ (o : Option (Field × ℕ)). unless_unfit o (with_kept value id rec)) fits
@@ -68,3 +68,12 @@ change_fault-after before between now held held_between lacks lacks_between (Dam
 change_fault-after before between now held held_between lacks lacks_between (Full blocks limit) later stays room cause =
     room blocks limit cause
 change_fault-after before between now held held_between lacks lacks_between Memory later stays room cause = tt
+
+-- a change is refused by what follows from its cause
+pub change_fault-map : (before now : ℕ) (held : QuotaValue → Type 0) (lacks wider : ℕ → ℕ → Type 0) (fault : FileFault)
+    → ((blocks limit : ℕ) → lacks blocks limit → wider blocks limit)
+    → IsChangeFault before now held lacks fault → IsChangeFault before now held wider fault
+change_fault-map before now held lacks wider Store room cause = cause
+change_fault-map before now held lacks wider (Damage at) room cause = cause
+change_fault-map before now held lacks wider (Full blocks limit) room cause = room blocks limit cause
+change_fault-map before now held lacks wider Memory room cause = tt

@@ -1,6 +1,11 @@
 pub mod EditFault
 pub mod Edited
+pub mod Editing
+pub mod Edits
+pub mod Form
+pub mod FormReading
 pub mod Number
+pub mod Times
 pub use Rattle.quota_blocks.specs.FileChange
 pub use Rattle.quota_blocks.specs.Frame
 pub use Rattle.quota_blocks.specs.QuotaFile

@@ -3,7 +3,6 @@ ghost use Rattle.std.specs.FinMap.{get};
 ghost use Rattle.quota_types.specs.Kept.{IsKept};
 ghost use Rattle.quota_types.specs.Range.{grace_unfit, unfit};
 ghost use Rattle.quota_types.specs.Rec.{IsNull, zero_record};
-ghost use Rattle.quota_types.specs.Timers.{timers_of};
 ghost use Rattle.quota_types.specs.declared.record.Grace.{Grace};
 ghost use Rattle.quota_types.specs.declared.record.Rec.{Rec};
 ghost use Rattle.quota_blocks.specs.FileChange.{IsLeft};
@@ -11,6 +10,8 @@ ghost use Rattle.quota_blocks.specs.Frame.{IsSynced, OnlyReads, ReplacesOne};
 ghost use Rattle.quota_blocks.specs.QuotaFile.{CountsRefusal, IfFull, IsChangeFault, OnStore, UnlessStoreFailed, is_store_fault};
 ghost use Rattle.quota_blocks.specs.QuotaValue.{QuotaValue};
 ghost use Rattle.set_edit.specs.EditFault.{IfNoRoom, LeavesOld, OnBroken, OnUnchanged, file_fault, is_store_failure};
+ghost use Rattle.set_edit.specs.Editing.{Edits, file_at, laws_of};
+ghost use Rattle.set_edit.specs.Edits.{limits_edit};
 ghost use Rattle.set_edit.specs.Edited.{change_to, limits_change, limits_set, wanted_limits, with_limits, with_or_without};
 
 use crate::{EditFault, Limits};
@@ -24,10 +25,10 @@ use quota_types::{Rec, next_kept};
 ///
 /// It is refused with `NoRoom` by the first field of the record for which the format has no room, in the order of
 /// `Field`, with its value. Then, and where the file has no room or there is no memory, nothing has changed; where there is
-/// no room nothing is written whatever fails besides. Where the
-/// store failed and the file may still be used, nothing has changed either; where it may not, what is left of the named
-/// file lies between the old one and what the change would have made of it. A file that is replaced by each change is as
-/// before after any refusal. Each fault of the opened file is answered as it is, and raises its count of refusals.
+/// no room nothing is written whatever fails besides. Where the store failed and the file may still be used, nothing has
+/// changed either; where it may not, what is left of the named file lies between the old one and what the change would have
+/// made of it. A file that is replaced by each change is as before after any refusal. Each fault of the opened file is
+/// answered as it is, and raises its count of refusals.
 pub fn set_limits<S: Store, F: QuotaFile<S>>(
     file: &mut F,
     store: &mut S,
@@ -36,6 +37,11 @@ pub fn set_limits<S: Store, F: QuotaFile<S>>(
     now: u64,
 ) -> Result<(), EditFault>
     requires { IsTrue (F.seen file.old).usable }
+    // What every edit states. The clauses below state the same, part by part, and a little more.
+    ensures edits { Edits (limits_edit id limits.now now)
+        (laws_of S.tells F.makes F.may_leave F.lacks_room F.may_refuse)
+        (file_at (F.holds file.old store.old) (F.seen file.old) (S.seen store.old))
+        (file_at (F.holds file.new store.new) (F.seen file.new) (S.seen store.new)) result }
     ensures set { OnOk result ((value : QuotaValue) → F.holds file.old store.old value
         → IsOkAnd (limits_set value id limits.now now) (λ edited. F.holds file.new store.new edited)) }
     ensures makes { OnOk result ((value : QuotaValue) → F.holds file.old store.old value
@@ -111,7 +117,7 @@ fn limited(old: Option<Rec>, limits: &Limits) -> Rec
 }
 
 /// Gives an identifier this record, or takes its record away where this one is null.
-fn put_or_remove<S: Store, F: QuotaFile<S>>(
+pub(crate) fn put_or_remove<S: Store, F: QuotaFile<S>>(
     file: &mut F,
     store: &mut S,
     id: u32,

@@ -1,21 +1,40 @@
-//! What an edit of a quota file sets: the four limits of an identifier, and how numbers and limits are written as words.
+//! What an edit of a quota file sets: the four limits of an identifier, given or copied from another one, the ends of its
+//! grace periods, and the grace periods of the file; and how numbers and limits are written as words.
 //!
 //! The one promise: an edit of an opened quota file, whatever its format, is the edit of its value in `specs/`; and a word
 //! is read as a number or as a limit exactly where the grammar in `specs/` gives it one, and then with that value.
 #![tactic(auto)]
 
+mod copying;
 mod edit;
 #[cfg(test)]
 mod edit_tests;
 mod fault;
+mod form;
+mod form_reading;
+#[cfg(test)]
+mod form_tests;
+mod grace_periods;
 mod limits;
 mod number;
 #[cfg(test)]
 mod one_record;
+mod skipped;
 #[cfg(test)]
 mod tests;
+mod time_word;
+mod times;
+#[cfg(test)]
+mod times_tests;
 
+pub use copying::copy_limits;
 pub use edit::set_limits;
 pub use fault::EditFault;
+pub use form::print_form;
+pub use form_reading::{FormFault, read_form};
+pub use grace_periods::set_grace_periods;
 pub use limits::Limits;
 pub use number::{read_limit, read_number};
+pub use skipped::Skipped;
+pub use time_word::TimeWord;
+pub use times::set_times;

@@ -23,7 +23,7 @@ pub fn read_limit(word: &str, blocks: bool) -> Option<u64>
 
 #[tactic(auto, unfolding(crate::specs::Number::number_of))]
 /// The number that bytes spell.
-fn number_from(digits: &[u8]) -> Option<u64>
+pub(crate) fn number_from(digits: &[u8]) -> Option<u64>
     ensures { result ≡ number_of digits.now }
 {
     if digits.is_empty() || digits.len() > MAX_DIGITS {
@@ -41,7 +41,7 @@ fn number_from(digits: &[u8]) -> Option<u64>
 }
 
 /// The limit that bytes spell.
-fn limit_from(word: &[u8], blocks: bool) -> Option<u64>
+pub(crate) fn limit_from(word: &[u8], blocks: bool) -> Option<u64>
     ensures { result ≡ limit_of blocks word.now }
 {
     let (digits, factor) = split_suffix(word, blocks);

@@ -1,14 +1,20 @@
-ghost use Rattle.std.specs.Prelude.{◌≡◌, IfSome};
+ghost use Rattle.std.specs.Prelude.{◌≡◌, None, IfSome};
 ghost use Rattle.quota_types.specs.Kept.{IsKept};
+ghost use Rattle.quota_types.specs.Range.{grace_unfit};
 
 use quota_blocks::{FileFault, QuotaFile, Store};
 use quota_types::{Damage, Entry, Format, Grace, Rec, check_record, kept};
 
-/// An opened flat file that keeps the record of one identifier, made up for a test; it holds no value.
+/// An opened file that keeps the record of one identifier, made up for a test; it holds no value.
 #[derive(Drop)]
 pub(crate) struct OneRecord {
+    pub format: Format,
     pub id: u32,
     pub rec: Option<Rec>,
+    /// What was last put for another identifier.
+    pub other: Option<Rec>,
+    /// The grace periods that were set.
+    pub grace: Option<Grace>,
     /// How many changes there were.
     pub changes: u8,
     /// What `get` is refused with, where it is.
@@ -18,33 +24,68 @@ pub(crate) struct OneRecord {
 }
 
 impl OneRecord {
+    pub(crate) fn new(format: Format, id: u32, rec: Option<Rec>) -> Self {
+        OneRecord {
+            format,
+            id,
+            rec,
+            other: None,
+            grace: None,
+            changes: 0,
+            damage: None,
+            refusals: 0,
+        }
+    }
+
+    fn count(&mut self)
+        ensures format { self.new.format ≡ self.old.format }
+        ensures refusals { self.new.refusals ≡ self.old.refusals }
+    {
+        self.changes = self.changes.wrapping_add(1);
+    }
+
     fn change(&mut self, id: u32, rec: Option<Rec>)
-        ensures { self.new.refusals ≡ self.old.refusals }
+        ensures format { self.new.format ≡ self.old.format }
+        ensures refusals { self.new.refusals ≡ self.old.refusals }
     {
         if id == self.id {
             self.rec = rec;
+        } else {
+            self.other = rec;
         }
-        self.changes = self.changes.wrapping_add(1);
+        self.count();
     }
 }
 
-/// What a flat file keeps of a record, or `None` where it has no room for it.
-fn kept_flat(id: u32, rec: Rec) -> Option<Rec>
-    ensures { IfSome result (IsKept Format.V1 id) }
+/// What the format keeps of a record, or `None` where it has no room for it.
+fn kept_if_fits(format: Format, id: u32, rec: Rec) -> Option<Rec>
+    ensures { IfSome result (IsKept format id) }
 {
-    if check_record(Format::V1, id, &rec).is_err() {
+    if check_record(format, id, &rec).is_err() {
         return None;
     }
-    Some(kept(Format::V1, id, rec))
+    Some(kept(format, id, rec))
+}
+
+/// Grace periods that every format has room for.
+fn periods(format: Format) -> Grace
+    ensures { grace_unfit format result ≡ None }
+{
+    let periods = Grace {
+        block: 604_800,
+        inode: 60,
+    };
+    match format {
+        Format::V1 | Format::V2R0 | Format::V2R1 => periods,
+    }
 }
 
 impl<S: Store> QuotaFile<S> for OneRecord {
     ghost use Rattle.std.specs.Prelude.{true, [], ⊤};
-    ghost use Rattle.quota_types.specs.declared.file_kind.Format.TheVariants.{V1};
 
     ghost holds = { λ _ _ _. ⊥ };
 
-    ghost seen = { λ file. record { name = []; format = V1; usable = true; limit = 0; refusals = file.refusals } };
+    ghost seen = { λ file. record { name = []; format = file.format; usable = true; limit = 0; refusals = file.refusals } };
 
     ghost may_refuse = { λ _ _. ⊤ };
 
@@ -61,7 +102,7 @@ impl<S: Store> QuotaFile<S> for OneRecord {
     ghost rests_on_named = { λ _ _ _ _ _ held. held };
 
     fn format(&self) -> Format {
-        Format::V1
+        self.format
     }
 
     fn usable(&self) -> bool {
@@ -69,10 +110,7 @@ impl<S: Store> QuotaFile<S> for OneRecord {
     }
 
     fn grace(&self) -> Grace {
-        Grace {
-            block: 604_800,
-            inode: 60,
-        }
+        periods(self.format)
     }
 
     fn get(&mut self, _store: &mut S, id: u32) -> Result<Option<Rec>, FileFault> {
@@ -81,7 +119,7 @@ impl<S: Store> QuotaFile<S> for OneRecord {
             return Err(FileFault::Damage(damage));
         }
         match self.rec {
-            Some(rec) if id == self.id => Ok(kept_flat(id, rec)),
+            Some(rec) if id == self.id => Ok(kept_if_fits(self.format, id, rec)),
             _ => Ok(None),
         }
     }
@@ -104,7 +142,9 @@ impl<S: Store> QuotaFile<S> for OneRecord {
         Ok(())
     }
 
-    fn set_grace(&mut self, _store: &mut S, _grace: Grace) -> Result<(), FileFault> {
+    fn set_grace(&mut self, _store: &mut S, grace: Grace) -> Result<(), FileFault> {
+        self.grace = Some(grace);
+        self.count();
         Ok(())
     }
 }

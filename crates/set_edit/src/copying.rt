@@ -1,0 +1,44 @@
+ghost use Rattle.std.specs.Prelude.{◌≡◌, IsTrue};
+ghost use Rattle.set_edit.specs.Editing.{Edits, file_at, laws_of};
+ghost use Rattle.set_edit.specs.Edits.{copy_edit, limits_of};
+
+use crate::{EditFault, Limits, set_limits};
+use quota_blocks::{QuotaFile, Store};
+use quota_types::Rec;
+
+/// Sets the four limits of the identifier `to` to those of `from`, which are 0 where `from` has no record, and then its
+/// timers at the moment `now`, in seconds since 1970. Nothing but the limits is copied. What the format keeps of the record
+/// is put, and a null record is removed.
+///
+/// # Errors
+///
+/// As `set_limits` for the identifier `to`; each fault of the opened file is answered as it is.
+pub fn copy_limits<S: Store, F: QuotaFile<S>>(
+    file: &mut F,
+    store: &mut S,
+    from: u32,
+    to: u32,
+    now: u64,
+) -> Result<(), EditFault>
+    requires { IsTrue (F.seen file.old).usable }
+    ensures edits { Edits (copy_edit from to now)
+        (laws_of S.tells F.makes F.may_leave F.lacks_room F.may_refuse)
+        (file_at (F.holds file.old store.old) (F.seen file.old) (S.seen store.old))
+        (file_at (F.holds file.new store.new) (F.seen file.new) (S.seen store.new)) result }
+{
+    let source = file.get(store, from)?;
+    set_limits(file, store, to, &limits_of(source), now)
+}
+
+/// The limits of a record, which are 0 where there is none.
+fn limits_of(found: Option<Rec>) -> Limits
+    ensures { result ≡ limits_of found }
+{
+    let rec = found.unwrap_or_default();
+    Limits {
+        bsoft: rec.bsoft,
+        bhard: rec.bhard,
+        isoft: rec.isoft,
+        ihard: rec.ihard,
+    }
+}

@@ -1,0 +1,29 @@
+ghost use Rattle.std.specs.Prelude.{IsTrue};
+ghost use Rattle.set_edit.specs.Editing.{Edits, file_at, laws_of};
+ghost use Rattle.set_edit.specs.Edits.{grace_edit};
+
+use crate::EditFault;
+use quota_blocks::{QuotaFile, Store};
+use quota_types::{Grace, check_grace};
+
+/// Sets both grace periods of the file, in seconds. All records stay as they are.
+///
+/// # Errors
+///
+/// It is refused with `NoRoom` by the first period for which the format has no room, that for blocks before that for
+/// inodes, with its value and identifier 0. Each fault of the opened file is answered as it is; that it is full never comes.
+pub fn set_grace_periods<S: Store, F: QuotaFile<S>>(
+    file: &mut F,
+    store: &mut S,
+    grace: Grace,
+) -> Result<(), EditFault>
+    requires { IsTrue (F.seen file.old).usable }
+    ensures edits { Edits (grace_edit grace)
+        (laws_of S.tells F.makes F.may_leave F.lacks_room F.may_refuse)
+        (file_at (F.holds file.old store.old) (F.seen file.old) (S.seen store.old))
+        (file_at (F.holds file.new store.new) (F.seen file.new) (S.seen store.new)) result }
+{
+    check_grace(file.format(), &grace)?;
+    file.set_grace(store, grace)?;
+    Ok(())
+}
