@@ -40,7 +40,7 @@ built_as this command is = let same : this ≡ command = cc in ap is_built (sym 
 
 -- a form asks for a command that is built where the form with its options is
 built_formed : (form : Form) (told : Told) (words : ℕ) (operands : List Operand) (command : Command)
-    → formed form told words operands ≡ Ok command → is_built command ≡ is_built_form form told
+    → formed form told words operands ≡ Ok command → is_built command ≡ is_built_form form
 built_formed Reporting told words (file ∷ []) command is = built_as _ command (unless_ok _ _ _ command is)
 built_formed Limiting told words (name ∷ bsoft ∷ bhard ∷ isoft ∷ ihard ∷ file ∷ []) command is = built_as _ command (unless_ok _ _ _ command is)
 built_formed Copying told words (name ∷ file ∷ []) command is =
@@ -92,7 +92,7 @@ asked_tool name texts tool command is asks =
 -- words that ask for a command ask for one that is built where the form with its options is
 pub built_asked : (name : List ℕ) (texts : List (List ℕ)) (tool : Tool) (told : Told) (command : Command) → tool_of name ≡ Some tool
     → with_items (items_of tool AnyWord 1 texts) nothing_told ≡ Ok told → command_of false (name ∷ texts) ≡ Ok command
-    → is_built_form (form_of tool told) told ≡ is_built command
+    → is_built_form (form_of tool told) ≡ is_built command
 built_asked name texts tool told command is given asks =
     let items = items_of tool AnyWord 1 texts in
     let settles : settled false tool told (length texts + 1) items ≡ Ok command =

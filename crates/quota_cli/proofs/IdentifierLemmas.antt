@@ -9,9 +9,12 @@ use Rattle.std.proofs.lemmas.List.{take_all}
 use Rattle.std.proofs.lemmas.Str.Parse.{IsNumeralModel, numerals_by_weight, tells_all_ascii_digits, digit_at}
 use Rattle.std.proofs.lemmas.Int.Digits.{digits_value_more, digits_more}
 use Rattle.set_edit.specs.Number.{value_of}
-use Rattle.quota_cli.specs.declared.refusal.cause.Cause.TheVariants.{UnknownName, BadNumber}
-use Rattle.quota_cli.specs.words.Numbers.{identifier_of}
+use Rattle.quota_cli.specs.declared.refusal.cause.Cause.TheVariants.{BadNumber}
+use Rattle.id_names.specs.FirstMatch.{first_id}
+use Rattle.id_names.specs.NamesFile.{NameLine}
+use Rattle.quota_cli.specs.words.Numbers.{identifier_of, known}
 use Rattle.quota_cli.specs.Outcome.{Passed, Refused}
+use Rattle.quota_cli.specs.refusal.Refusals.{refusal_of}
 
 -- `value_of` is the value of decimal digits as std has it
 own : IsNumeralModel (λ ds. all_ascii_digits ds ≡ true) value_of
@@ -67,14 +70,14 @@ not_digits word at in_word other all =
     grind (arith, nat_tests)
 
 -- a byte that is no digit makes the word a name
-pub identifier_of-spoilt : (word : List ℕ) (at : ℕ) → at < length word → is_ascii_digit (get_or word at 0) ≡ false → identifier_of word ≡ Refused (record { cause = UnknownName; name = word; line = None })
-identifier_of-spoilt word at in_word other =
+pub identifier_of-spoilt : (names : List NameLine) (word : List ℕ) (at : ℕ) → at < length word → is_ascii_digit (get_or word at 0) ≡ false → identifier_of names word ≡ known (first_id names word) word
+identifier_of-spoilt names word at in_word other =
     let no : all_ascii_digits word ≡ false = false_from_ne_true _ (not_digits word at in_word other) in
     grind arith
 
 -- the empty word is a name
-pub identifier_of-empty : (word : List ℕ) → length word ≡ 0 → identifier_of word ≡ Refused (record { cause = UnknownName; name = word; line = None })
-identifier_of-empty word none = grind (arith, nat_tests)
+pub identifier_of-empty : (names : List NameLine) (word : List ℕ) → length word ≡ 0 → identifier_of names word ≡ known (first_id names word) word
+identifier_of-empty names word none = grind (arith, nat_tests)
 
 -- all digits are read
 read_all : (word : List ℕ) (number : ℕ) → IsReadUpTo word (length word) number → (all_ascii_digits word ≡ true) × IsUpTo (value_of word) number
@@ -84,8 +87,8 @@ read_all word number read =
     (own.from word digits, subst (λ (v : ℕ). IsUpTo v number) (ap (digits_value 10) whole ∙ sym (own.same word digits)) read.value)
 
 -- all is read, and is an identifier
-pub identifier_of-read : (word : List ℕ) (number : ℕ) → IsReadUpTo word (length word) number → 0 < length word → number < 2 ^ 32 → identifier_of word ≡ Passed number
-identifier_of-read word number read some few =
+pub identifier_of-read : (names : List NameLine) (word : List ℕ) (number : ℕ) → IsReadUpTo word (length word) number → 0 < length word → number < 2 ^ 32 → identifier_of names word ≡ Passed number
+identifier_of-read names word number read some few =
     let so = read_all word number read in
     let value : number ≡ value_of word = value_below _ _ so.1 few in
     let all : all_ascii_digits word ≡ true = so.0 in
@@ -93,8 +96,8 @@ identifier_of-read word number read some few =
     grind (arith, nat_tests)
 
 -- all is read, and is too large
-pub identifier_of-past : (word : List ℕ) (number : ℕ) → IsReadUpTo word (length word) number → 0 < length word → 2 ^ 32 ≤ number → identifier_of word ≡ Refused (record { cause = BadNumber; name = word; line = None })
-identifier_of-past word number read some past =
+pub identifier_of-past : (names : List NameLine) (word : List ℕ) (number : ℕ) → IsReadUpTo word (length word) number → 0 < length word → 2 ^ 32 ≤ number → identifier_of names word ≡ Refused (refusal_of BadNumber word)
+identifier_of-past names word number read some past =
     let so = read_all word number read in
     let all : all_ascii_digits word ≡ true = so.0 in
     let high : 2 ^ 32 ≤ value_of word = value_past _ _ so.1 past in

@@ -26,6 +26,7 @@ use Rattle.quota_cli.specs.Opening.{IsDamageAs, MayRefuseOpening, asks_tree, ope
 use Rattle.quota_cli.specs.Run.{CarriesOut, HasReason, HasSteps, IsFault, Uses}
 use Rattle.quota_cli.specs.Steps.{Opening, Steps, Then}
 use Rattle.quota_cli.proofs.ActLemmas.{nothing_done}
+use Rattle.quota_cli.specs.refusal.Refusals.{refusal_of}
 
 -- what is seen once the store was used, and once the output was used too
 abbrev pub with_store : RunSeen → StoreSeen → RunSeen
@@ -72,7 +73,7 @@ store_later old store later = record { store = later; input = omega arith; out =
 
 -- a file that is seen as refused
 not_opened_steps : (kind : Kind) (asked : Option Format) (name : List ℕ) (next : QuotaValue → Steps) (old new : Outside) (fault : OpenFault) → IsView (old.files name) kind asked (Err fault) → new ≡ old
-    → Opening kind asked name next old [] new (Some (record { cause = opening_cause fault; name = name; line = None }))
+    → Opening kind asked name next old [] new (Some (refusal_of (opening_cause fault) name))
 not_opened_steps kind asked name next old new fault view same = (Err fault, view, record { acts_none = refl; same = same; ends = refl })
 
 -- steps that may pass see the file as a value
@@ -93,7 +94,7 @@ no_pass kind asked name next old new acts fault view opening =
 -- a refusal that is seen of the file
 seen_steps : (name : List ℕ) (kind : Kind) (asked : Option Format) (next : QuotaValue → Steps) (tells : RunTells) (old : RunSeen) (store : StoreSeen) (fault : OpenFault)
     → OnlyReads name old.store store → IsOpenFault old.store.faults store.faults tells.store (old.store.files name) kind asked fault → (IsOfCall fault → ⊥) → IsWorldTold tells
-    → HasSteps (Opening kind asked name next) tells (Some (record { cause = opening_cause fault; name = name; line = None })) old (with_store old store)
+    → HasSteps (Opening kind asked name next) tells (Some (refusal_of (opening_cause fault) name)) old (with_store old store)
 seen_steps name kind asked next tells old store fault reads cause own told =
     refused_steps name (Opening kind asked name next) tells old store _ reads
     (λ new same. not_opened_steps kind asked name next (outside_of old) new fault (fault_seen _ _ _ _ kind asked fault cause told.store own) same)
@@ -102,7 +103,7 @@ seen_steps name kind asked next tells old store fault reads cause own told =
 open_reason : (warns : Bool) (name : List ℕ) (kind : Kind) (asked : Option Format) (next : QuotaValue → Steps) (tells : RunTells) (old : RunSeen) (store : StoreSeen) (fault : OpenFault)
     → OnlyReads name old.store store → IsOpenFault old.store.faults store.faults tells.store (old.store.files name) kind asked fault
     → HasReason warns old (with_store old store)
-    (IsWorldTold tells → HasSteps (Opening kind asked name next) tells (Some (record { cause = opening_cause fault; name = name; line = None })) old (with_store old store)) (opening_cause fault)
+    (IsWorldTold tells → HasSteps (Opening kind asked name next) tells (Some (refusal_of (opening_cause fault) name)) old (with_store old store)) (opening_cause fault)
 open_reason warns name kind asked next tells old store Store reads cause = store_rose _ _ _ _ kind asked cause
 open_reason warns name kind asked next tells old store NoFile reads cause = seen_steps name kind asked next tells old store NoFile reads cause (λ own. own)
 open_reason warns name kind asked next tells old store (TooLarge number limit) reads cause = seen_steps name kind asked next tells old store (TooLarge number limit) reads cause (λ own. own)
@@ -178,14 +179,14 @@ open_may name before now tells named kind (Some V2R1) fault cause = tree_may (So
 pub not_opened : (kind : Kind) (asked : Option Format) (name : List ℕ) (next : QuotaValue → Steps) (uses : Uses) (may : Cause → List ℕ → Type 0) (tells : RunTells) (old : RunSeen) (store : StoreSeen) (fault : OpenFault)
     → IsOpenFault old.store.faults store.faults tells.store (old.store.files name) kind asked fault → OnlyReads name old.store store
     → ((cause : Cause) → MayRefuseOpening asked name cause name → may cause name)
-    → CarriesOut (Opening kind asked name next) uses may tells old (with_store old store) (Err (record { cause = opening_cause fault; name = name; line = None }))
+    → CarriesOut (Opening kind asked name next) uses may tells old (with_store old store) (Err (refusal_of (opening_cause fault) name))
 not_opened kind asked name next uses may tells old store fault cause reads allowed = record {
   done = tt;
   refused = open_reason uses.warns name kind asked next tells old store fault reads cause;
   part = λ told acts to ended steps. nothing_read name tells acts old store reads;
   complete = λ told acts to steps. open_complete name kind asked next tells old old.store.faults store.faults fault acts to cause told.store steps;
   may_refuse = allowed (opening_cause fault) (open_may name old.store.faults store.faults tells.store (old.store.files name) kind asked fault cause);
-  placed = λ no. refl;
+  placed = record { line = λ no. refl; input_line = λ no. refl };
   only_reads = λ only. unwritten name old.store store reads;
   all_or_nothing = λ whole other. unwritten name old.store store reads;
   quiet = λ no. refl;

@@ -63,3 +63,15 @@ prefix_flushed start text written buffered new g p =
 -- the whole of a text is a prefix of it
 pub appends_whole : (old new bytes : List ℕ) → new ≡ old ++ bytes → AppendsPrefix old new bytes
 appends_whole old new bytes e = record { done = bytes; rest = []; appended = e; prefix = append-nil bytes }
+
+-- two texts in a row were put
+pub gathered_row : (start before one two written buffered : List ℕ) → IsGathered start ((before ++ one) ++ two) written buffered → IsGathered start (before ++ (one ++ two)) written buffered
+gathered_row start before one two written buffered g = subst (λ (t : List ℕ). IsGathered start t written buffered) (append_assoc before one two) g
+
+-- a prefix of the first of two texts in a row
+pub prefix_first : (start before one two new : List ℕ) → AppendsPrefix start new (before ++ one) → AppendsPrefix start new (before ++ (one ++ two))
+prefix_first start before one two new p = subst (λ (t : List ℕ). AppendsPrefix start new t) (append_assoc before one two) (appends_more start new (before ++ one) two p)
+
+-- a prefix of two texts in a row
+pub prefix_row : (start before one two new : List ℕ) → AppendsPrefix start new ((before ++ one) ++ two) → AppendsPrefix start new (before ++ (one ++ two))
+prefix_row start before one two new p = subst (λ (t : List ℕ). AppendsPrefix start new t) (append_assoc before one two) p

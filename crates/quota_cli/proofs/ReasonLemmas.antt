@@ -1,7 +1,8 @@
 -- Reasons for which a command is refused.
-use Rattle.std.proofs.Common.{◌≡◌, Bool, refl, arith}
+use Rattle.std.proofs.Common.{◌≡◌, ◌≤◌, Bool, refl, arith}
+use Rattle.quota_blocks.specs.Seen.{StoreSeen}
 use Rattle.quota_cli.specs.declared.refusal.cause.Cause.{Cause}
-use Rattle.quota_cli.specs.declared.refusal.cause.Cause.TheVariants.{StoreFault, SourceFault, SinkFault, LinkFault, Memory, NoFile, TooLarge, NotQuota, WrongKind, UnknownVersion, BadBlockCount, OtherFormat, Damaged, Full, NoRoom, UnknownName, BadNumber, Usage}
+use Rattle.quota_cli.specs.declared.refusal.cause.Cause.TheVariants.{StoreFault, SourceFault, SinkFault, LinkFault, Memory, NoFile, TooLarge, NotQuota, WrongKind, UnknownVersion, BadBlockCount, OtherFormat, Damaged, Full, NoRoom, UnknownName, BadNumber, TargetExists, SameName, BadForm, BadLine, LongLine, Conflict, Usage}
 use Rattle.quota_cli.specs.refusal.Status.{status_of}
 use Rattle.quota_cli.specs.Done.{RunSeen}
 use Rattle.quota_cli.specs.Run.{HasReason, IsFault}
@@ -30,6 +31,12 @@ cause_case warns old new p (Full blocks limit) reason = ByStep (λ e. omega (ari
 cause_case warns old new p (NoRoom out) reason = ByStep (λ e. omega (arith, e)) (λ e. omega (arith, e)) (λ e. omega (arith, e)) (λ f. f) reason
 cause_case warns old new p UnknownName reason = ByStep (λ e. omega (arith, e)) (λ e. omega (arith, e)) (λ e. omega (arith, e)) (λ f. f) reason
 cause_case warns old new p BadNumber reason = ByStep (λ e. omega (arith, e)) (λ e. omega (arith, e)) (λ e. omega (arith, e)) (λ f. f) reason
+cause_case warns old new p TargetExists reason = ByStep (λ e. omega (arith, e)) (λ e. omega (arith, e)) (λ e. omega (arith, e)) (λ f. f) reason
+cause_case warns old new p SameName reason = ByStep (λ e. omega (arith, e)) (λ e. omega (arith, e)) (λ e. omega (arith, e)) (λ f. f) reason
+cause_case warns old new p (BadForm line) reason = ByStep (λ e. omega (arith, e)) (λ e. omega (arith, e)) (λ e. omega (arith, e)) (λ f. f) reason
+cause_case warns old new p (BadLine line) reason = ByStep (λ e. omega (arith, e)) (λ e. omega (arith, e)) (λ e. omega (arith, e)) (λ f. f) reason
+cause_case warns old new p (LongLine line) reason = ByStep (λ e. omega (arith, e)) (λ e. omega (arith, e)) (λ e. omega (arith, e)) (λ f. f) reason
+cause_case warns old new p (Conflict line first) reason = ByStep (λ e. omega (arith, e)) (λ e. omega (arith, e)) (λ e. omega (arith, e)) (λ f. f) reason
 cause_case warns old new p (Usage kind word) reason = ByStep (λ e. omega (arith, e)) (λ e. omega (arith, e)) (λ e. omega (arith, e)) (λ f. f) reason
 
 -- a reason does not rest on what is stated of other causes
@@ -51,4 +58,38 @@ reason_but_stated warns old new p p' (Full blocks limit) h reason = h reason
 reason_but_stated warns old new p p' (NoRoom out) h reason = h reason
 reason_but_stated warns old new p p' UnknownName h reason = h reason
 reason_but_stated warns old new p p' BadNumber h reason = h reason
+reason_but_stated warns old new p p' TargetExists h reason = h reason
+reason_but_stated warns old new p p' SameName h reason = h reason
+reason_but_stated warns old new p p' (BadForm line) h reason = h reason
+reason_but_stated warns old new p p' (BadLine line) h reason = h reason
+reason_but_stated warns old new p p' (LongLine line) h reason = h reason
+reason_but_stated warns old new p p' (Conflict line first) h reason = h reason
 reason_but_stated warns old new p p' (Usage kind word) h reason = h reason
+
+-- a reason since a later moment, at which nothing but the store may have failed more often, is one since an earlier moment
+pub reason_since : (warns : Bool) (old new : RunSeen) (store : StoreSeen) (stated stated' : Type 0) (cause : Cause) → old.store.faults ≤ store.faults → (stated → stated')
+    → HasReason warns (record old { store = store }) new stated cause → HasReason warns old new stated' cause
+reason_since warns old new store p p' StoreFault le h reason = omega (arith, le, reason)
+reason_since warns old new store p p' SourceFault le h reason = reason
+reason_since warns old new store p p' SinkFault le h reason = reason
+reason_since warns old new store p p' LinkFault le h reason = reason
+reason_since warns old new store p p' Memory le h reason = tt
+reason_since warns old new store p p' NoFile le h reason = h reason
+reason_since warns old new store p p' TooLarge le h reason = h reason
+reason_since warns old new store p p' NotQuota le h reason = h reason
+reason_since warns old new store p p' WrongKind le h reason = h reason
+reason_since warns old new store p p' UnknownVersion le h reason = h reason
+reason_since warns old new store p p' BadBlockCount le h reason = h reason
+reason_since warns old new store p p' OtherFormat le h reason = h reason
+reason_since warns old new store p p' (Damaged damage) le h reason = h reason
+reason_since warns old new store p p' (Full blocks limit) le h reason = h reason
+reason_since warns old new store p p' (NoRoom out) le h reason = h reason
+reason_since warns old new store p p' UnknownName le h reason = h reason
+reason_since warns old new store p p' BadNumber le h reason = h reason
+reason_since warns old new store p p' TargetExists le h reason = h reason
+reason_since warns old new store p p' SameName le h reason = h reason
+reason_since warns old new store p p' (BadForm line) le h reason = h reason
+reason_since warns old new store p p' (BadLine line) le h reason = h reason
+reason_since warns old new store p p' (LongLine line) le h reason = h reason
+reason_since warns old new store p p' (Conflict line first) le h reason = h reason
+reason_since warns old new store p p' (Usage kind word) le h reason = h reason

@@ -5,7 +5,7 @@ use Rattle.std.specs.Result.{result_err}
 use Rattle.quota_blocks.specs.Count.{Rose}
 use Rattle.quota_blocks.specs.Seen.{SinkSeen}
 use Rattle.quota_cli.specs.declared.refusal.cause.Cause.{Cause}
-use Rattle.quota_cli.specs.declared.refusal.cause.Cause.TheVariants.{StoreFault, SourceFault, SinkFault, LinkFault, Memory, NoFile, TooLarge, NotQuota, WrongKind, UnknownVersion, BadBlockCount, OtherFormat, Damaged, Full, NoRoom, UnknownName, BadNumber, Usage}
+use Rattle.quota_cli.specs.declared.refusal.cause.Cause.TheVariants.{StoreFault, SourceFault, SinkFault, LinkFault, Memory, NoFile, TooLarge, NotQuota, WrongKind, UnknownVersion, BadBlockCount, OtherFormat, Damaged, Full, NoRoom, UnknownName, BadNumber, TargetExists, SameName, BadForm, BadLine, LongLine, Conflict, Usage}
 use Rattle.quota_cli.specs.declared.refusal.reason.Refusal.{Refusal}
 use Rattle.quota_cli.specs.refusal.Line.{closing_line, error_line}
 use Rattle.quota_cli.specs.refusal.Status.{end_status, status_of}
@@ -86,6 +86,12 @@ no_reason warns old new said (Full blocks limit) later is reason none = reason
 no_reason warns old new said (NoRoom out) later is reason none = reason
 no_reason warns old new said UnknownName later is reason none = reason
 no_reason warns old new said BadNumber later is reason none = reason
+no_reason warns old new said TargetExists later is reason none = reason
+no_reason warns old new said SameName later is reason none = reason
+no_reason warns old new said (BadForm line) later is reason none = reason
+no_reason warns old new said (BadLine line) later is reason none = reason
+no_reason warns old new said (LongLine line) later is reason none = reason
+no_reason warns old new said (Conflict line first) later is reason none = reason
 no_reason warns old new said (Usage kind word) later is reason none = reason
 
 -- no refusal has status 0
@@ -107,6 +113,12 @@ no_status_0 (Full blocks limit) is = omega (arith, is)
 no_status_0 (NoRoom out) is = omega (arith, is)
 no_status_0 UnknownName is = omega (arith, is)
 no_status_0 BadNumber is = omega (arith, is)
+no_status_0 TargetExists is = omega (arith, is)
+no_status_0 SameName is = omega (arith, is)
+no_status_0 (BadForm line) is = omega (arith, is)
+no_status_0 (BadLine line) is = omega (arith, is)
+no_status_0 (LongLine line) is = omega (arith, is)
+no_status_0 (Conflict line first) is = omega (arith, is)
 no_status_0 (Usage kind word) is = omega (arith, is)
 
 refused_up_to_err : (setting : Setting) (tells : RunTells) (old new : RunSeen) (said : SinkSeen) (refusal : Refusal) (status : ℕ) → IsWorldTold tells

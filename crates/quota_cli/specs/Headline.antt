@@ -7,7 +7,7 @@ use Rattle.quota_cli.specs.refusal.Line.{closing_line, error_line}
 use Rattle.quota_cli.specs.refusal.Status.{end_status, status_of}
 use Rattle.quota_cli.specs.Act.{Act}
 use Rattle.quota_cli.specs.Done.{AppendsUnless, AreDone, AreDoneInPart, IsWorldTold, Outside, RunSeen, RunTells, outside_of}
-use Rattle.quota_cli.specs.Run.{HasReason, HasSteps}
+use Rattle.quota_cli.specs.Run.{HasReason, HasSteps, IsPlacedBy}
 use Rattle.quota_cli.specs.Steps.{HasEffectOf}
 use Rattle.quota_cli.specs.declared.commands.occasion.Occasion.{Occasion}
 use Rattle.quota_cli.specs.commands.Table.{AskedSteps, MayRefuseAsked, asked_uses}
@@ -47,9 +47,9 @@ pub record HasEffectUpToErr (setting : Setting) (tells : RunTells) (old new : Ru
 abbrev pub asked_warns : Setting → Bool
 asked_warns setting = (asked_uses (built_command setting.words)).warns
 
--- A refusal that is in no line of a script, unless what the words ask for reads commands.
+-- A refusal that stands only in lines of what the words ask to be read.
 abbrev pub IsPlaced : Setting → Refusal → Type 0
-IsPlaced setting refusal = (asked_uses (built_command setting.words)).reads_commands ≡ false → refusal.line ≡ None
+IsPlaced setting refusal = IsPlacedBy (asked_uses (built_command setting.words)) refusal
 
 -- With status 4 or 5 the run was stopped by a fault or for want of memory, and the error output got the line that says
 -- which. What was done before that line is a first part of the acts of all its steps, and the last of them may have been

@@ -1,6 +1,7 @@
 pub mod Outcome
 pub mod Act
 pub mod Done
+pub mod Naming
 pub mod Opening
 pub mod Steps
 pub mod Run

@@ -13,6 +13,7 @@ use Rattle.tree_file.specs.Defect.{NamesItsId}
 use Rattle.quota_cli.specs.declared.refusal.cause.Cause.{Cause}
 use Rattle.quota_cli.specs.declared.refusal.cause.Cause.TheVariants.{StoreFault, NoFile as NoSuchFile, TooLarge as FileTooLarge, Memory as WantOfMemory, NotQuota as NoQuotaFile, WrongKind as OtherKind, UnknownVersion as OtherVersion, BadBlockCount as TooFewBlocks, OtherFormat, Damaged, Full}
 use Rattle.quota_cli.specs.Outcome.{Outcome, Passed, Refused}
+use Rattle.quota_cli.specs.refusal.Refusals.{refusal_of}
 
 -- what is said of a file that could not be opened
 abbrev pub opening_cause : OpenFault → Cause
@@ -37,7 +38,7 @@ file_cause NoMemory = WantOfMemory
 -- the step that opens a file that is seen so
 abbrev pub opened : List ℕ → Result QuotaValue OpenFault → Outcome QuotaValue
 opened name (Ok value) = Passed value
-opened name (Err fault) = Refused (record { cause = opening_cause fault; name = name; line = None })
+opened name (Err fault) = Refused (refusal_of (opening_cause fault) name)
 
 -- A damage of a flat file is a record that is cut off, which names no identifier, and one of a tree file names an
 -- identifier where its kind does.

@@ -11,7 +11,7 @@ use Rattle.quota_cli.specs.Steps.{Steps}
 
 -- Which objects a command uses. A command that changes no file only reads the store; one that is all or nothing has
 -- written nothing where it was refused, unless something outside failed. One that warns writes more to the error output
--- than the line of its refusal, and one that reads commands may be refused in one of their lines.
+-- than the line of its refusal; one that reads commands, and one that reads edits, may be refused in one of their lines.
 pub record Uses : Type 0 where
   pub input : Bool
   pub out : Bool
@@ -20,6 +20,7 @@ pub record Uses : Type 0 where
   pub all_or_nothing : Bool
   pub warns : Bool
   pub reads_commands : Bool
+  pub reads_edits : Bool
 
 -- A cause that stops a command before its effect is whole is a fault of an object outside or want of memory; the error
 -- output counts as one where the command warns. Every other cause belongs to the effect, and then `stated` holds.
@@ -30,6 +31,12 @@ HasReason warns old new stated SinkFault = Rose old.out.faults new.out.faults �
 HasReason warns old new stated LinkFault = Rose old.link.faults new.link.faults
 HasReason warns old new stated Memory = ⊤
 HasReason warns old new stated _ = stated
+
+-- A refusal stands in no line of a script, unless the command reads commands, and in no line of an input, unless it reads
+-- edits.
+pub record IsPlacedBy (uses : Uses) (refusal : Refusal) : Type 0 where
+  pub line : uses.reads_commands ≡ false → refusal.place.line ≡ None
+  pub input_line : uses.reads_edits ≡ false → refusal.place.input_line ≡ None
 
 -- the acts by which the steps of a command end with this refusal, or with none; they were done
 pub record HasSteps (steps : Steps) (tells : RunTells) (refusal : Option Refusal) (old new : RunSeen) : Type 0 where
@@ -56,7 +63,7 @@ pub record CarriesOut (steps : Steps) (uses : Uses) (may : Cause → List ℕ �
   pub part : IsWorldTold tells → (acts : List Act) (to : Outside) (ended : Option Refusal) → steps (outside_of old) acts to ended → AreDoneInPart tells acts old new
   pub complete : IsWorldTold tells → (acts : List Act) (to : Outside) → steps (outside_of old) acts to None → IfErr result (λ (refusal : Refusal). IsFault refusal.cause)
   pub may_refuse : IfErr result (λ (refusal : Refusal). may refusal.cause refusal.name)
-  pub placed : uses.reads_commands ≡ false → IfErr result (λ (refusal : Refusal). refusal.line ≡ None)
+  pub placed : IfErr result (IsPlacedBy uses)
   pub only_reads : uses.changes ≡ false → IsUnwritten old.store new.store
   pub all_or_nothing : IsTrue uses.all_or_nothing → IfErr result (λ (refusal : Refusal). status_of refusal.cause ≢ 4 → IsUnwritten old.store new.store)
   pub quiet : uses.warns ≡ false → new.err ≡ old.err

@@ -8,11 +8,13 @@ use Rattle.quota_blocks.specs.World.{World}
 use Rattle.quota_blocks.specs.QuotaValue.{QuotaValue}
 use Rattle.quota_blocks.specs.declared.quota_file.OpenFault.{OpenFault}
 use Rattle.quota_map.specs.View.{IsView}
+use Rattle.id_names.specs.NamesFile.{NameLine}
 use Rattle.quota_cli.specs.declared.refusal.reason.Refusal.{Refusal}
 use Rattle.quota_cli.specs.refusal.Line.{error_line}
 use Rattle.quota_cli.specs.refusal.Status.{end_status}
 use Rattle.quota_cli.specs.Act.{Act, FollowsAct, ToErr}
 use Rattle.quota_cli.specs.Done.{Outside}
+use Rattle.quota_cli.specs.Naming.{names_seen}
 use Rattle.quota_cli.specs.Opening.{opened}
 use Rattle.quota_cli.specs.Outcome.{Outcome, Passed, Refused}
 
@@ -43,6 +45,10 @@ Then (Refused refusal) next = Stop refusal
 abbrev pub Opening : Kind → Option Format → List ℕ → (QuotaValue → Steps) → Steps
 Opening kind format name next old acts new refusal =
     (seen : Result QuotaValue OpenFault) × IsView (old.files name) kind format seen × Then (opened name seen) next old acts new refusal
+
+-- the names are read from the file of names, where there is one, and then comes what the next steps say of them
+abbrev pub Naming : Kind → Option (List ℕ) → (List NameLine → Steps) → Steps
+Naming kind names next old = Then (names_seen kind names old.files) next old
 
 -- an act is done, and then come the next steps
 abbrev pub Doing : Act → Steps → Steps

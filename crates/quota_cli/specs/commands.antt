@@ -1,5 +1,7 @@
 -- The commands, one module each, and the tables over all of them.
+pub mod Showing
 pub mod Report
-pub mod Limits
+pub mod Print
+pub mod Edits
 pub mod Built
 pub mod Table

@@ -11,5 +11,6 @@ pub mod Forms
 pub mod Reads
 pub mod Asked
 pub mod Numbers
+pub mod Edits
 pub mod Usage
 pub mod Built

@@ -12,17 +12,22 @@ const HELP: &str = "Usage: quota_cli COMMAND [OPTION]... [OPERAND]...
 
 The Linux disk quota tools, for quota files while quotas are off.
 
-Built so far, without --names:
-  repquota [-u|-g] [-v] [-n] [-p] [-F FORMAT] FILE
+Built so far:
+  repquota [-u|-g] [-v] [-n] [-p] [-F FORMAT] [--names FILE] FILE
                         the report of a quota file
-  setquota [-u|-g] [-F FORMAT] NAME BSOFT BHARD ISOFT IHARD FILE
+  setquota [-u|-g] [-F FORMAT] [--names FILE]
+           NAME BSOFT BHARD ISOFT IHARD FILE
                         new limits of one identifier
-Their words are read, and they are not built yet:
   setquota [-u|-g] [-F FORMAT] [--names FILE] -p PROTO NAME FILE
-  setquota [-u|-g] [-F FORMAT] [--names FILE] -b [--input FILE] FILE
+                        the limits of another identifier
   setquota [-u|-g] [-F FORMAT] [--names FILE] -t BGRACE IGRACE FILE
+                        new grace periods, in seconds
   setquota [-u|-g] [-F FORMAT] [--names FILE] -T NAME BTIME ITIME FILE
+                        what is left of the grace periods of one identifier
   edquota  [-u|-g] [-F FORMAT] [--names FILE] --print NAME FILE
+                        the limits of one identifier as a form
+Their words are read, and they are not built yet:
+  setquota [-u|-g] [-F FORMAT] [--names FILE] -b [--input FILE] FILE
   edquota  [-u|-g] [-F FORMAT] [--names FILE] --apply [--input FILE] NAME FILE
   quotacheck [-u|-g] [-c] [-F FORMAT] [--device NUMBER] [--input FILE] FILE
   convertquota [-u|-g] -f OLD,NEW SOURCE TARGET
@@ -34,7 +39,8 @@ Their words are read, and they are not built yet:
 -u is for users, which is the default, and -g for groups. FORMAT is vfsold,
 vfsv0 or vfsv1; without it the file says which of the last two it has. Limits
 of blocks are in KiB and may end in K, M, G or T, those of inodes in k, m, g
-or t.
+or t. A time is a number of seconds, or unset. --names names a file in the form
+of passwd(5) or group(5); without it NAME is a number.
 
 Exit status: 0 done, 1 refused, 2 wrong words, 3 not a quota file that is asked
 for, or a damaged one, 4 a fault of the system, 5 want of memory.

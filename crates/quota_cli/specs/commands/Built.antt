@@ -1,26 +1,26 @@
 -- The commands that are built so far. Source: this project's own.
-use Rattle.std.specs.Prelude.{ℕ, Bool, false, if◌then◌else◌, List, [], None, is_none, Result, Ok, Err}
+use Rattle.std.specs.Prelude.{ℕ, Bool, true, false, if◌then◌else◌, List, [], Result, Ok, Err}
 use Rattle.quota_cli.specs.declared.refusal.cause.Cause.TheVariants.{Usage}
 use Rattle.quota_cli.specs.declared.refusal.cause.UsageKind.TheVariants.{UnknownCommand}
 use Rattle.quota_cli.specs.declared.refusal.reason.Refusal.{Refusal}
 use Rattle.quota_cli.specs.declared.words.command.Command.{Command}
-use Rattle.quota_cli.specs.declared.words.command.Command.TheVariants.{Report, SetLimits}
-use Rattle.quota_cli.specs.declared.words.command.Common.{Common}
+use Rattle.quota_cli.specs.declared.words.command.Command.TheVariants.{Report, SetLimits, CopyLimits, SetGrace, SetTimes, PrintForm}
+use Rattle.quota_cli.specs.refusal.Refusals.{refusal_of}
 use Rattle.quota_cli.specs.words.Asked.{command_of}
-
--- options that are built so far: no file of names is asked for
-abbrev pub is_openable : Common → Bool
-is_openable common = is_none common.names
 
 -- the commands that are built so far
 abbrev pub is_built : Command → Bool
-is_built (Report common options file) = is_openable common
-is_built (SetLimits common name limits file) = is_openable common
+is_built (Report common options file) = true
+is_built (SetLimits common name limits file) = true
+is_built (CopyLimits common proto name file) = true
+is_built (SetGrace common block inode file) = true
+is_built (SetTimes common name block inode file) = true
+is_built (PrintForm common name file) = true
 is_built _ = false
 
 -- what is said of a command that is not built
 abbrev pub unknown_command : Refusal
-unknown_command = record { cause = Usage UnknownCommand 0; name = []; line = None }
+unknown_command = refusal_of (Usage UnknownCommand 0) []
 
 -- a command that is not built is an unknown one
 abbrev pub if_built : Result Command Refusal → Result Command Refusal

@@ -1,28 +1,30 @@
 -- `repquota`. Source: the manual page of repquota.
-use Rattle.std.specs.Prelude.{ℕ, true, false, List, ⊤}
+use Rattle.std.specs.Prelude.{◌⊎◌, ℕ, List}
+use Rattle.id_names.specs.FirstMatch.{first_name}
+use Rattle.id_names.specs.NamesFile.{NameLine}
 use Rattle.quota_blocks.specs.QuotaValue.{QuotaValue}
 use Rattle.report_text.specs.declared.fault.ReportFault.{ReportFault}
 use Rattle.report_text.specs.declared.fault.ReportFault.TheVariants.{Sink, File}
 use Rattle.report_text.specs.declared.options.Options.{Options}
-use Rattle.report_text.specs.Report.{report_of, no_names}
+use Rattle.report_text.specs.Report.{report_of}
 use Rattle.quota_cli.specs.declared.refusal.cause.Cause.{Cause}
 use Rattle.quota_cli.specs.declared.refusal.cause.Cause.TheVariants.{SinkFault}
 use Rattle.quota_cli.specs.declared.words.command.Common.{Common}
-use Rattle.quota_cli.specs.Act.{ToOut}
-use Rattle.quota_cli.specs.Opening.{MayRefuseOpening, file_cause}
-use Rattle.quota_cli.specs.Run.{Uses}
-use Rattle.quota_cli.specs.Steps.{Doing, Finish, Opening, Steps}
+use Rattle.quota_cli.specs.Naming.{NamesMayRefuse}
+use Rattle.quota_cli.specs.Opening.{file_cause}
+use Rattle.quota_cli.specs.Steps.{Naming, Steps}
 use Rattle.quota_cli.specs.declared.commands.occasion.Occasion.{Occasion}
+use Rattle.quota_cli.specs.commands.Showing.{ShowingMayRefuse, ShowingSteps}
 
--- the file is opened, and its report goes to the output
+-- the report of a file of this name on a value, with these names
+abbrev pub report_on : List NameLine → List ℕ → ℕ → Options → QuotaValue → List ℕ
+report_on names file now options value = report_of value (first_name names) file now options
+
+-- the names are read, the file is opened, and its report goes to the output
 abbrev pub ReportSteps : Common → Options → List ℕ → Occasion → Steps
 ReportSteps common options file occasion =
-    Opening common.kind common.format file (λ (value : QuotaValue).
-    Doing (ToOut (report_of value no_names file occasion.now options)) Finish)
-
--- a report reads the store and writes to the output
-abbrev pub report_uses : Uses
-report_uses = record { input = false; out = true; link = false; changes = false; all_or_nothing = true; warns = false; reads_commands = false }
+    Naming common.kind common.names (λ (names : List NameLine).
+    ShowingSteps common.kind common.format file (report_on names file occasion.now options))
 
 -- what is said where a report was not written whole
 abbrev pub report_cause : ReportFault → Cause
@@ -31,5 +33,4 @@ report_cause (File fault) = file_cause fault
 
 -- the causes for which a report may be refused, whatever is told
 abbrev pub ReportMayRefuse : Common → List ℕ → Cause → List ℕ → Type 0
-ReportMayRefuse common file SinkFault name = ⊤
-ReportMayRefuse common file cause name = MayRefuseOpening common.format file cause name
+ReportMayRefuse common file cause name = NamesMayRefuse common.names cause name ⊎ ShowingMayRefuse common.format file cause name

@@ -1,50 +1,72 @@
 -- What each command does, for what it may be refused, and which of the objects outside it uses.
-use Rattle.std.specs.Prelude.{◌≡◌, ℕ, true, false, List, Option, Some, None, Result, Ok, Err}
+use Rattle.std.specs.Prelude.{◌≡◌, ◌⊎◌, ℕ, true, false, List, Option, Some, None, Result, Ok, Err}
 use Rattle.quota_cli.specs.declared.refusal.cause.Cause.{Cause}
+use Rattle.quota_cli.specs.declared.refusal.cause.Cause.TheVariants.{Memory}
 use Rattle.quota_cli.specs.declared.refusal.reason.Refusal.{Refusal}
 use Rattle.quota_cli.specs.declared.words.command.Command.{Command}
-use Rattle.quota_cli.specs.declared.words.command.Command.TheVariants.{Report, SetLimits}
-use Rattle.quota_cli.specs.Outcome.{refusal_in}
+use Rattle.quota_cli.specs.declared.words.command.Command.TheVariants.{Report, SetLimits, CopyLimits, SetGrace, SetTimes, PrintForm}
+use Rattle.quota_cli.specs.declared.words.edit.EditWords.TheVariants.{Limits, Copy, Grace, Times}
+use Rattle.quota_cli.specs.refusal.Refusals.{refusal_of}
 use Rattle.quota_cli.specs.Run.{Uses}
 use Rattle.quota_cli.specs.Steps.{Steps, Stop}
 use Rattle.quota_cli.specs.declared.commands.occasion.Occasion.{Occasion}
 use Rattle.quota_cli.specs.commands.Built.{unknown_command}
-use Rattle.quota_cli.specs.commands.Limits.{LimitsMayRefuse, LimitsSteps, limits_uses}
-use Rattle.quota_cli.specs.commands.Report.{ReportMayRefuse, ReportSteps, report_uses}
-use Rattle.quota_cli.specs.words.Numbers.{edit_read}
+use Rattle.quota_cli.specs.commands.Edits.{EditMayRefuse, EditSteps, edit_uses, faulty_edit}
+use Rattle.quota_cli.specs.commands.Print.{PrintMayRefuse, PrintSteps, faulty_print}
+use Rattle.quota_cli.specs.commands.Report.{ReportMayRefuse, ReportSteps}
+use Rattle.quota_cli.specs.commands.Showing.{showing_uses}
 
 -- the steps of a command; one that is not built is refused
 abbrev pub StepsOf : Command → Occasion → Steps
 StepsOf (Report common options file) = ReportSteps common options file
-StepsOf (SetLimits common name limits file) = LimitsSteps common name limits file
+StepsOf (SetLimits common name limits file) = EditSteps common (Limits name limits) file
+StepsOf (CopyLimits common proto name file) = EditSteps common (Copy proto name) file
+StepsOf (SetGrace common block inode file) = EditSteps common (Grace block inode) file
+StepsOf (SetTimes common name block inode file) = EditSteps common (Times name block inode) file
+StepsOf (PrintForm common name file) = PrintSteps common name file
 StepsOf _ = λ occasion. Stop unknown_command
 
 -- the causes for which a command may be refused, whatever is told, with the name that is said
 abbrev pub MayRefuseCommand : Command → Cause → List ℕ → Type 0
 MayRefuseCommand (Report common options file) = ReportMayRefuse common file
-MayRefuseCommand (SetLimits common name limits file) = LimitsMayRefuse common name limits file
-MayRefuseCommand _ = λ cause name. record { cause = cause; name = name; line = None } ≡ unknown_command
+MayRefuseCommand (SetLimits common name limits file) = EditMayRefuse common (Limits name limits) file
+MayRefuseCommand (CopyLimits common proto name file) = EditMayRefuse common (Copy proto name) file
+MayRefuseCommand (SetGrace common block inode file) = EditMayRefuse common (Grace block inode) file
+MayRefuseCommand (SetTimes common name block inode file) = EditMayRefuse common (Times name block inode) file
+MayRefuseCommand (PrintForm common name file) = PrintMayRefuse common name file
+MayRefuseCommand _ = λ cause name. refusal_of cause name ≡ unknown_command
 
--- the refusal of the first faulty word of a command, among those that stand for an identifier or a number
+-- The refusal of the first faulty word of a command, among those that stand for an identifier, a number or a time, where it
+-- rests on nothing but the words.
 abbrev pub faulty_word : Command → Option Refusal
 faulty_word (Report common options file) = None
-faulty_word (SetLimits common name limits file) = refusal_in (edit_read name limits)
+faulty_word (SetLimits common name limits file) = faulty_edit common (Limits name limits)
+faulty_word (CopyLimits common proto name file) = faulty_edit common (Copy proto name)
+faulty_word (SetGrace common block inode file) = faulty_edit common (Grace block inode)
+faulty_word (SetTimes common name block inode file) = faulty_edit common (Times name block inode)
+faulty_word (PrintForm common name file) = faulty_print common name
 faulty_word _ = Some unknown_command
 
 -- words that are refused use nothing
 abbrev pub use_nothing : Uses
-use_nothing = record { input = false; out = false; link = false; changes = false; all_or_nothing = true; warns = false; reads_commands = false }
+use_nothing = record { input = false; out = false; link = false; changes = false; all_or_nothing = true; warns = false; reads_commands = false; reads_edits = false }
 
 -- which objects a command uses
 abbrev pub uses_of : Command → Uses
-uses_of (Report _ _ _) = report_uses
-uses_of (SetLimits _ _ _ _) = limits_uses
+uses_of (Report _ _ _) = showing_uses
+uses_of (SetLimits _ _ _ _) = edit_uses false
+uses_of (CopyLimits _ _ _ _) = edit_uses false
+uses_of (SetGrace _ _ _ _) = edit_uses false
+uses_of (SetTimes _ _ _ _ _) = edit_uses true
+uses_of (PrintForm _ _ _) = showing_uses
 uses_of _ = use_nothing
 
--- the file that a command replaces as a whole, which stays as it was where the command was refused
+-- The file that a command replaces as a whole, which stays as it was where the command was refused. New times may be refused
+-- once they were set, where the error output fails in a warning.
 abbrev pub replaced_file : Command → Option (List ℕ)
-replaced_file (Report _ _ _) = None
 replaced_file (SetLimits _ _ _ file) = Some file
+replaced_file (CopyLimits _ _ _ file) = Some file
+replaced_file (SetGrace _ _ _ file) = Some file
 replaced_file _ = None
 
 -- what is asked for by words that were read, or their refusal: the steps
@@ -52,10 +74,10 @@ abbrev pub AskedSteps : Result Command Refusal → Occasion → Steps
 AskedSteps (Ok command) occasion = StepsOf command occasion
 AskedSteps (Err refusal) occasion = Stop refusal
 
--- the causes for which words may be refused, whatever is told
+-- the causes for which words may be refused, whatever is told; memory may be wanting for the words of a command
 abbrev pub MayRefuseAsked : Result Command Refusal → Cause → List ℕ → Type 0
-MayRefuseAsked (Ok command) cause name = MayRefuseCommand command cause name
-MayRefuseAsked (Err refusal) cause name = record { cause = cause; name = name; line = None } ≡ refusal
+MayRefuseAsked (Ok command) cause name = (cause ≡ Memory) ⊎ MayRefuseCommand command cause name
+MayRefuseAsked (Err refusal) cause name = refusal_of cause name ≡ refusal
 
 -- the refusal of the words, the first of them that is faulty
 abbrev pub faulty_asked : Result Command Refusal → Option Refusal

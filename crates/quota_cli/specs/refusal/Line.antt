@@ -6,9 +6,10 @@ use Rattle.quota_types.specs.Field.{field_name, is_of_identifier}
 use Rattle.quota_types.specs.declared.damage.DamageKind.{DamageKind}
 use Rattle.quota_types.specs.declared.damage.DamageKind.TheVariants.{PartialRecord}
 use Rattle.quota_cli.specs.declared.refusal.cause.Cause.{Cause}
-use Rattle.quota_cli.specs.declared.refusal.cause.Cause.TheVariants.{StoreFault, NoFile, TooLarge, SourceFault, SinkFault, LinkFault, Memory, NotQuota, WrongKind, UnknownVersion, BadBlockCount, OtherFormat, Damaged, Full, NoRoom, UnknownName, BadNumber, Usage}
+use Rattle.quota_cli.specs.declared.refusal.cause.Cause.TheVariants.{StoreFault, NoFile, TooLarge, SourceFault, SinkFault, LinkFault, Memory, NotQuota, WrongKind, UnknownVersion, BadBlockCount, OtherFormat, Damaged, Full, NoRoom, UnknownName, BadNumber, TargetExists, SameName, BadForm, BadLine, LongLine, Conflict, Usage}
 use Rattle.quota_cli.specs.declared.refusal.cause.UsageKind.{UsageKind}
 use Rattle.quota_cli.specs.declared.refusal.cause.UsageKind.TheVariants.{NoCommand, UnknownCommand, UnknownOption, MissingValue, BadValue, Repeated, Excludes, MissingOption, WrongOperands, BadFileName}
+use Rattle.quota_cli.specs.declared.refusal.reason.Place.{Place}
 use Rattle.quota_cli.specs.declared.refusal.reason.Refusal.{Refusal}
 
 -- the name of a kind of fault in the words
@@ -57,16 +58,26 @@ text_of (NoRoom out) name =
     ∷ identifier_text (is_of_identifier out.field) out.id
 text_of UnknownName name = codes "unknown name " ∷ name ∷ []
 text_of BadNumber name = codes "bad number " ∷ name ∷ []
+text_of TargetExists name = name ∷ codes ": exists already" ∷ []
+text_of SameName name = name ∷ codes ": same name" ∷ []
+text_of (BadForm line) name = codes "bad form at line " ∷ decimal line ∷ []
+text_of (BadLine line) name = name ∷ codes ": bad line " ∷ decimal line ∷ []
+text_of (LongLine line) name = name ∷ codes ": long line " ∷ decimal line ∷ []
+text_of (Conflict line first) name = name ∷ codes ": line " ∷ decimal line ∷ codes " conflicts with line " ∷ decimal first ∷ []
 text_of (Usage kind word) name = codes "usage: " ∷ usage_name kind ∷ codes " at word " ∷ decimal word ∷ []
 
--- where a line of a script is carried out, it is named in front
-abbrev pub line_text : Option ℕ → List (List ℕ)
-line_text None = []
-line_text (Some line) = codes "line " ∷ decimal line ∷ codes ": " ∷ []
+-- the number of a line in front of what is said, where something stands in one
+abbrev pub line_text : List ℕ → Option ℕ → List (List ℕ)
+line_text front None = []
+line_text front (Some line) = front ∷ decimal line ∷ codes ": " ∷ []
 
--- the error line of a refusal, in a line of a script or outside of one
+-- the lines that something stands in are named in front: that of a script, and then that of an input
+abbrev pub front_of : Place → List ℕ
+front_of place = concat (line_text (codes "line ") place.line) ++ concat (line_text (codes "input line ") place.input_line)
+
+-- the error line of a refusal
 unfoldable pub error_line : Refusal → List ℕ
-error_line refusal = codes "quota: " ++ concat (line_text refusal.line) ++ concat (text_of refusal.cause refusal.name) ++ codes "\n"
+error_line refusal = codes "quota: " ++ front_of refusal.place ++ concat (text_of refusal.cause refusal.name) ++ codes "\n"
 
 -- what is said at the end of a command
 abbrev pub closing_line : Option Refusal → List ℕ

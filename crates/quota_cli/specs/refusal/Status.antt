@@ -1,7 +1,7 @@
 -- The status with which the program ends.
 use Rattle.std.specs.Prelude.{ℕ, Option, Some, None}
 use Rattle.quota_cli.specs.declared.refusal.cause.Cause.{Cause}
-use Rattle.quota_cli.specs.declared.refusal.cause.Cause.TheVariants.{StoreFault, NoFile, TooLarge, SourceFault, SinkFault, LinkFault, Memory, NotQuota, WrongKind, UnknownVersion, BadBlockCount, OtherFormat, Damaged, Full, NoRoom, UnknownName, BadNumber, Usage}
+use Rattle.quota_cli.specs.declared.refusal.cause.Cause.TheVariants.{StoreFault, NoFile, TooLarge, SourceFault, SinkFault, LinkFault, Memory, NotQuota, WrongKind, UnknownVersion, BadBlockCount, OtherFormat, Damaged, Full, NoRoom, UnknownName, BadNumber, TargetExists, SameName, BadForm, BadLine, LongLine, Conflict, Usage}
 use Rattle.quota_cli.specs.declared.refusal.reason.Refusal.{Refusal}
 
 -- 1 refused by the command, 2 the words are outside the grammar, 3 the file is no quota file of the kind and format, or
@@ -24,6 +24,12 @@ status_of (Full _ _) = 1
 status_of (NoRoom _) = 1
 status_of UnknownName = 1
 status_of BadNumber = 1
+status_of TargetExists = 1
+status_of SameName = 1
+status_of (BadForm _) = 1
+status_of (BadLine _) = 1
+status_of (LongLine _) = 1
+status_of (Conflict _ _) = 1
 status_of (Usage _ _) = 2
 
 -- the status at the end of a command that was refused, or was carried out

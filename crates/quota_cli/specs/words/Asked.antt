@@ -14,6 +14,7 @@ use Rattle.quota_cli.specs.words.Forms.{excludes, form_of, formed, lacks, operan
 use Rattle.quota_cli.specs.words.Given.{Told, nothing_told, with_items}
 use Rattle.quota_cli.specs.words.Items.{AnyWord, Item, items_of}
 use Rattle.quota_cli.specs.words.Tools.{tool_of}
+use Rattle.quota_cli.specs.refusal.Refusals.{refusal_of}
 
 -- words as a program is given them
 abbrev pub texts_of : List (String Global) → List (List ℕ)
@@ -52,7 +53,7 @@ asked in_script (name ∷ texts) =
 -- the refusal of words with a fault
 abbrev pub refused : Result Command Fault → Result Command Refusal
 refused (Ok command) = Ok command
-refused (Err fault) = Err (record { cause = Usage fault.kind fault.word; name = []; line = None })
+refused (Err fault) = Err (refusal_of (Usage fault.kind fault.word) [])
 
 -- the command that words ask for, or their refusal
 abbrev pub command_of : (in_script : Bool) → List (List ℕ) → Result Command Refusal

@@ -1,13 +1,14 @@
 -- The forms of commands that are built so far.
-use Rattle.std.specs.Prelude.{Bool, false}
-use Rattle.quota_cli.specs.commands.Built.{is_openable}
+use Rattle.std.specs.Prelude.{Bool, true, false}
 use Rattle.quota_cli.specs.declared.words.form.Form.{Form}
-use Rattle.quota_cli.specs.declared.words.form.Form.TheVariants.{Reporting, Limiting}
-use Rattle.quota_cli.specs.words.Forms.{common_of}
-use Rattle.quota_cli.specs.words.Given.{Told}
+use Rattle.quota_cli.specs.declared.words.form.Form.TheVariants.{Reporting, Limiting, Copying, SettingGrace, SettingTimes, Printing}
 
--- a form with these options asks for a command that is built
-abbrev pub is_built_form : Form → Told → Bool
-is_built_form Reporting told = is_openable (common_of told)
-is_built_form Limiting told = is_openable (common_of told)
-is_built_form _ told = false
+-- a form asks for a command that is built
+abbrev pub is_built_form : Form → Bool
+is_built_form Reporting = true
+is_built_form Limiting = true
+is_built_form Copying = true
+is_built_form SettingGrace = true
+is_built_form SettingTimes = true
+is_built_form Printing = true
+is_built_form _ = false

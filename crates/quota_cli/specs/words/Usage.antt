@@ -6,11 +6,12 @@ use Rattle.quota_cli.specs.declared.words.command.Command.{Command}
 use Rattle.quota_cli.specs.declared.words.fault.Fault.{Fault}
 use Rattle.quota_cli.specs.declared.words.reading.UsageFault.{UsageFault}
 use Rattle.quota_cli.specs.declared.words.reading.UsageFault.TheVariants.{Usage, Memory}
+use Rattle.quota_cli.specs.refusal.Refusals.{refusal_of}
 
 -- The words ask for nothing, and this is what is wrong with them; or they ask for a command, and memory was wanting for its
 -- words.
 abbrev pub IsUsageFault : Result Command Refusal → UsageFault → Type 0
-IsUsageFault asked (Usage kind word) = asked ≡ Err (record { cause = UsageCause kind word; name = []; line = None })
+IsUsageFault asked (Usage kind word) = asked ≡ Err (refusal_of (UsageCause kind word) [])
 IsUsageFault asked Memory = IsOk asked
 
 -- The same of words whose refusal is not made yet.
@@ -20,5 +21,5 @@ IsFaultOf asked Memory = IsOk asked
 
 -- what is said of words that were not read
 abbrev pub usage_refusal : UsageFault → Refusal
-usage_refusal (Usage kind word) = record { cause = UsageCause kind word; name = []; line = None }
-usage_refusal Memory = record { cause = WantOfMemory; name = []; line = None }
+usage_refusal (Usage kind word) = refusal_of (UsageCause kind word) []
+usage_refusal Memory = refusal_of WantOfMemory []

@@ -7,13 +7,16 @@ ghost use Rattle.quota_cli.specs.commands.Built.{is_built};
 ghost use Rattle.quota_cli.specs.commands.Table.{MayRefuseCommand, StepsOf, faulty_word, replaced_file, uses_of};
 ghost use Rattle.quota_cli.specs.declared.refusal.reason.Refusal.{Refusal};
 
-mod limits;
+mod edits;
+mod naming;
 mod occasion;
 mod opening;
+mod print;
 mod report;
+mod warning;
 
 use crate::refusal::Refusal;
-use crate::words::{Command, read_edit};
+use crate::words::{Command, EditWords};
 pub use occasion::Occasion;
 use quota_blocks::{Link, Sink, Source, Store};
 use std::alloc::Global;
@@ -61,10 +64,41 @@ pub fn carry_out<S: Store, I: Source, O: Sink, E: Sink, L: Link>(
             name,
             limits,
             file,
-        } => match read_edit(alloc, name, limits) {
-            Ok(edit) => limits::edit_limits(alloc, common, &edit, file, store, occasion.now),
-            Err(refusal) => Err(refusal),
-        },
+        } => {
+            let words = EditWords::Limits { name, limits };
+            edits::edit_by_words(alloc, common, words, file, store, err, occasion)
+        }
+        Command::CopyLimits {
+            common,
+            proto,
+            name,
+            file,
+        } => {
+            let words = EditWords::Copy { proto, name };
+            edits::edit_by_words(alloc, common, words, file, store, err, occasion)
+        }
+        Command::SetGrace {
+            common,
+            block,
+            inode,
+            file,
+        } => {
+            let words = EditWords::Grace { block, inode };
+            edits::edit_by_words(alloc, common, words, file, store, err, occasion)
+        }
+        Command::SetTimes {
+            common,
+            name,
+            block,
+            inode,
+            file,
+        } => {
+            let words = EditWords::Times { name, block, inode };
+            edits::edit_by_words(alloc, common, words, file, store, err, occasion)
+        }
+        Command::PrintForm { common, name, file } => {
+            print::print_by_word(alloc, common, name, file, store, out)
+        }
         _ => unreachable!(),
     }
 }

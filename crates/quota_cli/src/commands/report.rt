@@ -1,15 +1,20 @@
 ghost use Rattle.std.specs.Prelude.{ℕ, Option, ◌≡◌, Bool, OnOk};
+ghost use Rattle.id_names.specs.NamesFile.{NameLine};
 ghost use Rattle.quota_blocks.specs.Seen.{LinkSeen, SinkSeen, SourceSeen};
 ghost use Rattle.quota_blocks.specs.Unsynced.{AddsNone};
 ghost use Rattle.quota_cli.specs.Done.{seen_of, tells_of};
 ghost use Rattle.quota_cli.specs.Run.{CarriesOut};
-ghost use Rattle.quota_cli.specs.commands.Report.{ReportMayRefuse, ReportSteps, report_cause, report_uses};
+ghost use Rattle.quota_cli.specs.commands.Report.{ReportMayRefuse, ReportSteps, report_cause, report_on};
+ghost use Rattle.quota_cli.specs.commands.Showing.{ShowingMayRefuse, ShowingSteps, showing_uses};
 
+use super::naming::read_names;
 use super::opening::{file_cause, opening_cause};
 use crate::refusal::{Cause, Refusal};
 use crate::words::{Common, Word};
+use id_names::Names;
 use quota_blocks::{Sink, Store};
 use quota_map::open_file;
+use quota_types::{Format, Kind};
 use report_text::{Options, ReportFault, report};
 use std::alloc::Global;
 
@@ -17,7 +22,7 @@ use std::alloc::Global;
 ///
 /// # Errors
 ///
-/// The file is not opened, a lookup in it is refused, or the output fails.
+/// The names are not read, the file is not opened, a lookup in it is refused, or the output fails.
 pub fn report_file<S: Store, O: Sink>(
     alloc: Global,
     common: Common,
@@ -28,30 +33,59 @@ pub fn report_file<S: Store, O: Sink>(
     now: u64,
 ) -> Result<(), Refusal>
     ensures carries { (input : SourceSeen) (err : SinkSeen) (link : LinkSeen) (input_tells err_tells link_tells : Bool) (line : Option ℕ)
-        → CarriesOut (ReportSteps common options.now file (record { now = now; line = line })) report_uses (ReportMayRefuse common file)
+        → CarriesOut (ReportSteps common options.now file (record { now = now; line = line })) showing_uses (ReportMayRefuse common file)
         (tells_of S.tells input_tells O.tells err_tells link_tells)
         (seen_of (S.seen store.old) input (O.seen out.old) err link)
         (seen_of (S.seen store.new) input (O.seen out.new) err link) result }
     ensures synced { OnOk result (AddsNone (S.seen store.old).unsynced (S.seen store.new).unsynced) }
 {
-    let (kind, format) = (common.kind, common.format);
-    drop(common);
+    let Common {
+        kind,
+        format,
+        names,
+    } = common;
+    match read_names(alloc, kind, names, store) {
+        Ok(names) => report_opened(alloc, &names, kind, format, options, file, store, out, now),
+        Err(refusal) => Err(refusal),
+    }
+}
+
+/// Opens a quota file, and writes its report with these names.
+fn report_opened<S: Store, O: Sink>(
+    alloc: Global,
+    names: &Names,
+    kind: Kind,
+    format: Option<Format>,
+    options: &Options,
+    file: Word,
+    store: &mut S,
+    out: &mut O,
+    now: u64,
+) -> Result<(), Refusal>
+    ensures carries { (input : SourceSeen) (err : SinkSeen) (link : LinkSeen) (input_tells err_tells link_tells : Bool)
+        → CarriesOut (ShowingSteps kind format file (report_on names.now file now options.now)) showing_uses (ShowingMayRefuse format file)
+        (tells_of S.tells input_tells O.tells err_tells link_tells)
+        (seen_of (S.seen store.old) input (O.seen out.old) err link)
+        (seen_of (S.seen store.new) input (O.seen out.new) err link) result }
+    ensures synced { OnOk result (AddsNone (S.seen store.old).unsynced (S.seen store.new).unsynced) }
+{
     match open_file(alloc, store, file.as_str(), kind, format) {
         Ok(mut opened) => {
-            match report(&mut opened, store, kind, file.as_str(), now, options, out) {
+            match report(
+                &mut opened,
+                store,
+                names,
+                kind,
+                file.as_str(),
+                now,
+                options,
+                out,
+            ) {
                 Ok(()) => Ok(()),
-                Err(fault) => Err(Refusal {
-                    cause: report_cause(fault),
-                    name: file,
-                    line: None,
-                }),
+                Err(fault) => Err(Refusal::of(report_cause(fault), file)),
             }
         }
-        Err(fault) => Err(Refusal {
-            cause: opening_cause(fault),
-            name: file,
-            line: None,
-        }),
+        Err(fault) => Err(Refusal::of(opening_cause(fault), file)),
     }
 }
 

@@ -91,6 +91,23 @@ pub enum Cause {
     UnknownName,
     /// A word is not of a number's form or range.
     BadNumber,
+    /// The file that is to be made exists already.
+    TargetExists,
+    /// A file is to be made of itself.
+    SameName,
+    /// A line of a form is absent, or not as it was printed.
+    BadForm(u64),
+    /// A line breaks the rules of its file or input.
+    BadLine(u64),
+    /// A line is longer than is read.
+    LongLine(u64),
+    /// A line says something else of an inode than an earlier one.
+    Conflict {
+        /// The line.
+        line: u64,
+        /// The first line of the inode.
+        first: u64,
+    },
     /// The words are outside the grammar.
     Usage {
         /// What is wrong.
@@ -111,7 +128,13 @@ impl Cause {
             | Cause::Full { .. }
             | Cause::NoRoom(_)
             | Cause::UnknownName
-            | Cause::BadNumber => 1,
+            | Cause::BadNumber
+            | Cause::TargetExists
+            | Cause::SameName
+            | Cause::BadForm(_)
+            | Cause::BadLine(_)
+            | Cause::LongLine(_)
+            | Cause::Conflict { .. } => 1,
             Cause::Usage { .. } => 2,
             Cause::NotQuota
             | Cause::WrongKind

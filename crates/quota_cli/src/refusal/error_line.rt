@@ -9,7 +9,7 @@ ghost use Rattle.quota_cli.specs.refusal.Piece.{joined};
 use super::cause::Cause;
 use super::piece::Piece::{self, Number, Text};
 use super::piece::write_line;
-use super::reason::Refusal;
+use super::reason::{Place, Refusal};
 use quota_blocks::{Sink, SinkFault};
 use quota_types::{Damage, DamageKind, NoRoom};
 
@@ -27,44 +27,72 @@ pub fn write_error_line<O: Sink>(sink: &mut O, refusal: &Refusal) -> Result<(), 
     ensures later { (O.seen sink.old).faults ≤ (O.seen sink.new).faults }
 {
     let name = refusal.name.as_str().as_bytes();
-    write_cause(sink, refusal.line, refusal.cause, name)
+    write_cause(sink, refusal.place, refusal.cause, name)
 }
 
 #[tactic(auto, unfolding(crate::specs::refusal::Line::error_line))]
 /// Writes the line on a cause and the name that it is about.
 fn write_cause<O: Sink>(
     sink: &mut O,
-    line: Option<u64>,
+    place: Place,
     cause: Cause,
     name: &[u8],
 ) -> Result<(), SinkFault>
     ensures ok { OnOk result (IsTrue O.tells → (O.seen sink.new).written
-        ≡ (O.seen sink.old).written ++ error_line (record { cause = cause; name = name.now; line = line })) }
+        ≡ (O.seen sink.old).written ++ error_line (record { cause = cause; name = name.now; place = place })) }
     ensures fault { OnErr result (IsTrue O.tells → AppendsPrefix (O.seen sink.old).written (O.seen sink.new).written
-        (error_line (record { cause = cause; name = name.now; line = line }))) }
+        (error_line (record { cause = cause; name = name.now; place = place }))) }
     ensures cause { OnErr result (Rose (O.seen sink.old).faults (O.seen sink.new).faults) }
     ensures later { (O.seen sink.old).faults ≤ (O.seen sink.new).faults }
 {
     match cause {
-        Cause::StoreFault => write_line(sink, line, &[Text(b"store fault")]),
-        Cause::NoFile => write_line(sink, line, &[Text(name), Text(b": no such file")]),
-        Cause::TooLarge => write_line(sink, line, &[Text(name), Text(b": too large")]),
-        Cause::SourceFault => write_line(sink, line, &[Text(b"input fault")]),
-        Cause::SinkFault => write_line(sink, line, &[Text(b"output fault")]),
-        Cause::LinkFault => write_line(sink, line, &[Text(b"link fault")]),
-        Cause::Memory => write_line(sink, line, &[Text(b"want of memory")]),
-        Cause::NotQuota => write_line(sink, line, &[Text(name), Text(b": not a quota file")]),
-        Cause::WrongKind => write_line(sink, line, &[Text(name), Text(b": wrong kind")]),
-        Cause::UnknownVersion => write_line(sink, line, &[Text(name), Text(b": unknown version")]),
-        Cause::BadBlockCount => write_line(sink, line, &[Text(name), Text(b": bad block count")]),
-        Cause::OtherFormat => write_line(sink, line, &[Text(name), Text(b": other format")]),
-        Cause::UnknownName => write_line(sink, line, &[Text(b"unknown name "), Text(name)]),
-        Cause::BadNumber => write_line(sink, line, &[Text(b"bad number "), Text(name)]),
-        Cause::Damaged(damage) => write_damage(sink, line, name, damage),
-        Cause::NoRoom(out) => write_no_room(sink, line, name, out),
+        Cause::StoreFault => write_line(sink, place, &[Text(b"store fault")]),
+        Cause::NoFile => write_line(sink, place, &[Text(name), Text(b": no such file")]),
+        Cause::TooLarge => write_line(sink, place, &[Text(name), Text(b": too large")]),
+        Cause::SourceFault => write_line(sink, place, &[Text(b"input fault")]),
+        Cause::SinkFault => write_line(sink, place, &[Text(b"output fault")]),
+        Cause::LinkFault => write_line(sink, place, &[Text(b"link fault")]),
+        Cause::Memory => write_line(sink, place, &[Text(b"want of memory")]),
+        Cause::NotQuota => write_line(sink, place, &[Text(name), Text(b": not a quota file")]),
+        Cause::WrongKind => write_line(sink, place, &[Text(name), Text(b": wrong kind")]),
+        Cause::UnknownVersion => write_line(sink, place, &[Text(name), Text(b": unknown version")]),
+        Cause::BadBlockCount => write_line(sink, place, &[Text(name), Text(b": bad block count")]),
+        Cause::OtherFormat => write_line(sink, place, &[Text(name), Text(b": other format")]),
+        Cause::UnknownName => write_line(sink, place, &[Text(b"unknown name "), Text(name)]),
+        Cause::BadNumber => write_line(sink, place, &[Text(b"bad number "), Text(name)]),
+        Cause::TargetExists => write_line(sink, place, &[Text(name), Text(b": exists already")]),
+        Cause::SameName => write_line(sink, place, &[Text(name), Text(b": same name")]),
+        Cause::BadForm(line) => write_line(
+            sink,
+            place,
+            &[Text(b"bad form at line "), Number(u128::from(line))],
+        ),
+        Cause::BadLine(line) => write_line(
+            sink,
+            place,
+            &[Text(name), Text(b": bad line "), Number(u128::from(line))],
+        ),
+        Cause::LongLine(line) => write_line(
+            sink,
+            place,
+            &[Text(name), Text(b": long line "), Number(u128::from(line))],
+        ),
+        Cause::Conflict { line, first } => write_line(
+            sink,
+            place,
+            &[
+                Text(name),
+                Text(b": line "),
+                Number(u128::from(line)),
+                Text(b" conflicts with line "),
+                Number(u128::from(first)),
+            ],
+        ),
+        Cause::Damaged(damage) => write_damage(sink, place, name, damage),
+        Cause::NoRoom(out) => write_no_room(sink, place, name, out),
         Cause::Full { blocks, limit } => write_line(
             sink,
-            line,
+            place,
             &[
                 Text(name),
                 Text(b": full: "),
@@ -75,7 +103,7 @@ fn write_cause<O: Sink>(
         ),
         Cause::Usage { kind, word } => write_line(
             sink,
-            line,
+            place,
             &[
                 Text(b"usage: "),
                 Text(kind.name().as_bytes()),
@@ -89,14 +117,14 @@ fn write_cause<O: Sink>(
 /// Writes the line on a damage, which is in a record or in a block, and may be in an entry of an identifier.
 fn write_damage<O: Sink>(
     sink: &mut O,
-    line: Option<u64>,
+    place: Place,
     name: &[u8],
     damage: Damage,
 ) -> Result<(), SinkFault>
     ensures ok { OnOk result (IsTrue O.tells → (O.seen sink.new).written
-        ≡ (O.seen sink.old).written ++ error_line (record { cause = Damaged damage; name = name.now; line = line })) }
+        ≡ (O.seen sink.old).written ++ error_line (record { cause = Damaged damage; name = name.now; place = place })) }
     ensures fault { OnErr result (IsTrue O.tells → AppendsPrefix (O.seen sink.old).written (O.seen sink.new).written
-        (error_line (record { cause = Damaged damage; name = name.now; line = line }))) }
+        (error_line (record { cause = Damaged damage; name = name.now; place = place }))) }
     ensures cause { OnErr result (Rose (O.seen sink.old).faults (O.seen sink.new).faults) }
     ensures later { (O.seen sink.old).faults ≤ (O.seen sink.new).faults }
 {
@@ -110,7 +138,7 @@ fn write_damage<O: Sink>(
         of,
         id,
     ];
-    write_line(sink, line, &pieces)
+    write_line(sink, place, &pieces)
 }
 
 /// What a damage is in.
@@ -137,14 +165,14 @@ fn identifier_pieces(named: bool, id: u32) -> (Piece<'static>, Piece<'static>)
 /// Writes the line on a value for which the format has no room.
 fn write_no_room<O: Sink>(
     sink: &mut O,
-    line: Option<u64>,
+    place: Place,
     name: &[u8],
     out: NoRoom,
 ) -> Result<(), SinkFault>
     ensures ok { OnOk result (IsTrue O.tells → (O.seen sink.new).written
-        ≡ (O.seen sink.old).written ++ error_line (record { cause = Unfit out; name = name.now; line = line })) }
+        ≡ (O.seen sink.old).written ++ error_line (record { cause = Unfit out; name = name.now; place = place })) }
     ensures fault { OnErr result (IsTrue O.tells → AppendsPrefix (O.seen sink.old).written (O.seen sink.new).written
-        (error_line (record { cause = Unfit out; name = name.now; line = line }))) }
+        (error_line (record { cause = Unfit out; name = name.now; place = place }))) }
     ensures cause { OnErr result (Rose (O.seen sink.old).faults (O.seen sink.new).faults) }
     ensures later { (O.seen sink.old).faults ≤ (O.seen sink.new).faults }
 {
@@ -158,5 +186,5 @@ fn write_no_room<O: Sink>(
         of,
         id,
     ];
-    write_line(sink, line, &pieces)
+    write_line(sink, place, &pieces)
 }

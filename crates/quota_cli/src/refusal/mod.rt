@@ -7,4 +7,5 @@ mod reason;
 
 pub use cause::{Cause, UsageKind};
 pub use error_line::write_error_line;
-pub use reason::Refusal;
+pub use piece::{Piece, write_line};
+pub use reason::{Place, Refusal};

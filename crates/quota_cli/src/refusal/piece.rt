@@ -2,9 +2,10 @@ ghost use Rattle.std.specs.Prelude.{◌≡◌, ◌≤◌, ◌++◌, ◌∷◌, [
 ghost use Rattle.std.specs.List.{concat};
 ghost use Rattle.quota_blocks.specs.Count.{Rose};
 ghost use Rattle.quota_blocks.specs.Text.{AppendsPrefix, IsGathered};
-ghost use Rattle.quota_cli.specs.refusal.Line.{line_text};
+ghost use Rattle.quota_cli.specs.refusal.Line.{front_of, line_text};
 ghost use Rattle.quota_cli.specs.refusal.Piece.{joined, piece_bytes};
 
+use super::reason::Place;
 use itoa::Buffer;
 use quota_blocks::{Sink, SinkFault, TextBuffer};
 
@@ -24,36 +25,52 @@ pub enum Piece<'a> {
 /// The sink failed. It then has a prefix of the line.
 pub fn write_line<'a, O: Sink>(
     sink: &mut O,
-    line: Option<u64>,
+    place: Place,
     pieces: &[Piece<'a>],
 ) -> Result<(), SinkFault>
     ensures ok { OnOk result (IsTrue O.tells → (O.seen sink.new).written ≡ (O.seen sink.old).written
-        ++ (codes "quota: " ++ concat (line_text line) ++ joined pieces.now ++ codes "\n")) }
+        ++ (codes "quota: " ++ front_of place ++ joined pieces.now ++ codes "\n")) }
     ensures fault { OnErr result (IsTrue O.tells → AppendsPrefix (O.seen sink.old).written (O.seen sink.new).written
-        (codes "quota: " ++ concat (line_text line) ++ joined pieces.now ++ codes "\n")) }
+        (codes "quota: " ++ front_of place ++ joined pieces.now ++ codes "\n")) }
     ensures cause { OnErr result (Rose (O.seen sink.old).faults (O.seen sink.new).faults) }
     ensures later { (O.seen sink.old).faults ≤ (O.seen sink.new).faults }
 {
     let mut text = TextBuffer::new();
     text.put(sink, b"quota: ")?;
-    put_place(&mut text, sink, line)?;
+    put_place(&mut text, sink, place)?;
     put_pieces(&mut text, sink, pieces)?;
     text.put(sink, b"\n")?;
     text.flush(sink)
 }
 
-/// Puts the number of the script's line, where there is one.
-fn put_place<O: Sink>(
+/// Puts the numbers of the lines that something stands in.
+fn put_place<O: Sink>(text: &mut TextBuffer, sink: &mut O, place: Place) -> Result<(), SinkFault>
+    ensures ok { OnOk result (IsTrue O.tells → (start before : List ℕ)
+        → IsGathered start before (O.seen sink.old).written text.old
+        → IsGathered start (before ++ front_of place) (O.seen sink.new).written text.new) }
+    ensures fault { OnErr result (IsTrue O.tells → (start before : List ℕ)
+        → IsGathered start before (O.seen sink.old).written text.old
+        → AppendsPrefix start (O.seen sink.new).written (before ++ front_of place)) }
+    ensures cause { OnErr result (Rose (O.seen sink.old).faults (O.seen sink.new).faults) }
+    ensures later { (O.seen sink.old).faults ≤ (O.seen sink.new).faults }
+{
+    put_line(text, sink, b"line ", place.line)?;
+    put_line(text, sink, b"input line ", place.input_line)
+}
+
+/// Puts the number of a line behind what stands in front of it, where there is one.
+fn put_line<O: Sink>(
     text: &mut TextBuffer,
     sink: &mut O,
+    front: &[u8],
     line: Option<u64>,
 ) -> Result<(), SinkFault>
     ensures ok { OnOk result (IsTrue O.tells → (start before : List ℕ)
         → IsGathered start before (O.seen sink.old).written text.old
-        → IsGathered start (before ++ concat (line_text line)) (O.seen sink.new).written text.new) }
+        → IsGathered start (before ++ concat (line_text front.now line)) (O.seen sink.new).written text.new) }
     ensures fault { OnErr result (IsTrue O.tells → (start before : List ℕ)
         → IsGathered start before (O.seen sink.old).written text.old
-        → AppendsPrefix start (O.seen sink.new).written (before ++ concat (line_text line))) }
+        → AppendsPrefix start (O.seen sink.new).written (before ++ concat (line_text front.now line))) }
     ensures cause { OnErr result (Rose (O.seen sink.old).faults (O.seen sink.new).faults) }
     ensures later { (O.seen sink.old).faults ≤ (O.seen sink.new).faults }
 {
@@ -62,7 +79,7 @@ fn put_place<O: Sink>(
             text,
             sink,
             &[
-                Piece::Text(b"line "),
+                Piece::Text(front),
                 Piece::Number(u128::from(line)),
                 Piece::Text(b": "),
             ],

@@ -1,7 +1,10 @@
 //! Whole runs over objects in memory, each row of a table one run, and the link over a socket of the system.
 
 mod calls;
+mod edits;
+mod forms;
 mod limits;
+mod names;
 mod report;
 mod runs;
 mod shown;

@@ -54,6 +54,16 @@ pub(crate) fn words_of(alloc: Global, line: &str) -> Result<Vec<String>, AllocEr
 
 /// A store with a file named `q`, and one named `other` of the bytes `other`, of which one call is to fail.
 pub(crate) fn store_of(alloc: Global, bytes: &[u8], failing: u64) -> Result<MemStore, AllocError> {
+    store_with(alloc, bytes, b"other", failing)
+}
+
+/// A store with files named `q` and `other`, of which one call is to fail.
+fn store_with(
+    alloc: Global,
+    bytes: &[u8],
+    other: &[u8],
+    failing: u64,
+) -> Result<MemStore, AllocError> {
     let mut files = Vec::new(alloc);
     files.push((
         String::from_str(alloc, "q")?,
@@ -61,7 +71,7 @@ pub(crate) fn store_of(alloc: Global, bytes: &[u8], failing: u64) -> Result<MemS
     ))?;
     files.push((
         String::from_str(alloc, "other")?,
-        Vec::from_slice(alloc, b"other")?,
+        Vec::from_slice(alloc, other)?,
     ))?;
     Ok(MemStore::new(files, Vec::from_slice(alloc, &[failing])?))
 }
@@ -110,8 +120,21 @@ pub(crate) fn run_over(
     now: u64,
     failing: Failing,
 ) -> Result<Ran, AllocError> {
+    run_with(rt, alloc, line, bytes, b"other", now, failing)
+}
+
+/// The same where the file named `other` has these bytes.
+pub(crate) fn run_with(
+    rt: &impl Abort,
+    alloc: Global,
+    line: &str,
+    bytes: &[u8],
+    other: &[u8],
+    now: u64,
+    failing: Failing,
+) -> Result<Ran, AllocError> {
     let words = words_of(alloc, line)?;
-    let mut store = store_of(alloc, bytes, failing.store)?;
+    let mut store = store_with(alloc, bytes, other, failing.store)?;
     let mut streams = Streams {
         // of these two the first call fails, and no other one
         input: MemSource::new(Vec::from_slice(alloc, b"input")?, vec![in alloc; 1]?),

@@ -75,11 +75,8 @@ fn a_tree_file_is_reported_with_periods_or_with_timers(rt: HostRuntime) -> Resul
     ] {
         let file = changed(alloc, len, &[])?;
         let ran = run_over(&rt, alloc, line, &file, NOW, NONE)?;
-        assert_eq!(rt;
-            (ran.status, lines_of(&ran)),
-            (0, want.as_bytes()),
-            "{line}"
-        );
+        assert_eq!(rt; ran.status, 0, "{line}");
+        assert_eq!(rt; lines_of(&ran), want.as_bytes(), "{line}");
         assert!(rt; ran.out.bytes().starts_with(HEAD.as_bytes()), "{line}");
         assert_eq!(rt; ran.err.bytes(), b"".as_slice(), "{line}");
         assert_eq!(rt; ran.file("q"), Some(file.as_slice()), "{line}");
@@ -169,11 +166,8 @@ fn a_tree_file_is_refused_by_its_first_fault(rt: HostRuntime) -> Result<(), Fail
     ] {
         let file = changed(alloc, len, changes)?;
         let ran = run_over(&rt, alloc, line, &file, NOW, NONE)?;
-        assert_eq!(rt;
-            (ran.status, ran.err.bytes()),
-            (status, want.as_bytes()),
-            "{line}"
-        );
+        assert_eq!(rt; ran.status, status, "{line}");
+        assert_eq!(rt; ran.err.bytes(), want.as_bytes(), "{line}");
         assert_eq!(rt; ran.out.bytes(), b"".as_slice(), "{line}");
         assert_eq!(rt; ran.file("q"), Some(file.as_slice()), "{line}");
         assert_eq!(rt; ran.file("q.new"), None, "{line}");
@@ -213,11 +207,8 @@ fn a_marked_entry_is_a_record_of_zeros_of_identifier_0(rt: HostRuntime) -> Resul
         "#0           --          0          0          0      -        0        0        0      -\n";
     for (line, want) in [("repquota -u -v q", shown), ("repquota -u q", "")] {
         let ran = run_over(&rt, alloc, line, &marked, NOW, NONE)?;
-        assert_eq!(rt;
-            (ran.status, lines_of(&ran)),
-            (0, want.as_bytes()),
-            "{line}"
-        );
+        assert_eq!(rt; ran.status, 0, "{line}");
+        assert_eq!(rt; lines_of(&ran), want.as_bytes(), "{line}");
     }
     Ok(())
 }
@@ -264,7 +255,8 @@ fn a_timer_of_a_tree_file_starts_runs_out_and_stops(rt: HostRuntime) -> Result<(
         ),
     ] {
         let shown = run_over(&rt, alloc, "repquota -u q", timed, now, NONE)?;
-        assert_eq!(rt; (shown.status, lines_of(&shown)), (0, want.as_bytes()));
+        assert_eq!(rt; shown.status, 0);
+        assert_eq!(rt; lines_of(&shown), want.as_bytes());
     }
     for (line, want) in [
         ("setquota -u 1000 3 8 0 0 q", "1700604800"),

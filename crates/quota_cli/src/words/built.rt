@@ -3,10 +3,8 @@ ghost use Rattle.quota_cli.specs.commands.Built.{is_built};
 ghost use Rattle.quota_cli.specs.declared.words.command.Command.{Command};
 ghost use Rattle.quota_cli.specs.words.Asked.{command_of, texts_of};
 ghost use Rattle.quota_cli.specs.words.Built.{is_built_form};
-ghost use Rattle.quota_cli.specs.words.Given.{told};
 
 use super::form::{Form, form_of};
-use super::given::Given;
 use super::scan::scan_words;
 use super::tool::Tool;
 
@@ -21,14 +19,22 @@ pub fn asks_built(words: &[String]) -> bool
         return false;
     };
     match scan_words(tool, behind) {
-        Ok(scan) => is_built_form(form_of(tool, &scan.given), &scan.given),
+        Ok(scan) => is_built_form(form_of(tool, &scan.given)),
         Err(_) => false,
     }
 }
 
-/// Whether a form with these options is built so far.
-fn is_built_form(form: Form, given: &Given<'_>) -> bool
-    ensures { result ≡ is_built_form form (told given.now) }
+/// Whether a form is built so far.
+fn is_built_form(form: Form) -> bool
+    ensures { result ≡ is_built_form form }
 {
-    matches!(form, Form::Reporting | Form::Limiting) && given.names.is_none()
+    matches!(
+        form,
+        Form::Reporting
+            | Form::Limiting
+            | Form::Copying
+            | Form::SettingGrace
+            | Form::SettingTimes
+            | Form::Printing
+    )
 }

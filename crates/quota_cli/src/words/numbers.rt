@@ -1,48 +1,50 @@
 ghost use Rattle.std.specs.Prelude.{◌≡◌, MatchResult};
 ghost use Rattle.quota_cli.specs.Outcome.{Passed, Refused};
-ghost use Rattle.quota_cli.specs.words.Numbers.{edit_read, identifier_of, limits_read};
+ghost use Rattle.quota_cli.specs.words.Numbers.{grace_read, identifier_of, known, limits_read, seconds_read, time_read};
+ghost use Rattle.id_names.specs.FirstMatch.{first_id};
 ghost use Rattle.quota_cli.specs.declared.refusal.cause.Cause.TheVariants.{BadNumber};
+ghost use Rattle.quota_cli.specs.refusal.Refusals.{refusal_of};
 
-use super::limit_edit::LimitEdit;
 use super::word::Word;
 use crate::refusal::{Cause, Refusal};
-use set_edit::{Limits, read_limit};
+use id_names::Names;
+use quota_types::Grace;
+use set_edit::{Limits, TimeWord, read_limit, read_number};
 use std::alloc::Global;
 use std::mem;
 
 /// One more than the greatest identifier.
 const PAST_IDENTIFIERS: u64 = 1 << 32;
 
-/// Reads what is to be set: the identifier, and then the limits from left to right. It takes no memory.
+/// Reads the word that names an identifier: by its number, or by one of the names. It takes no memory.
 ///
 /// # Errors
 ///
-/// The first word that is faulty is refused.
-pub fn read_edit(alloc: Global, name: Word, limits: [Word; 4]) -> Result<LimitEdit, Refusal>
-    ensures { MatchResult result (λ edit. edit_read name limits ≡ Passed edit)
-        (λ refusal. edit_read name limits ≡ Refused refusal) }
+/// The word is no number of an identifier, and the name of none.
+pub fn read_identifier(names: &Names, word: Word) -> Result<u32, Refusal>
+    ensures { MatchResult result (λ id. identifier_of names.now word ≡ Passed id)
+        (λ refusal. identifier_of names.now word ≡ Refused refusal) }
 {
-    let id = match identifier_from(name.as_str().as_bytes()) {
-        Ok(id) => id,
-        Err(cause) => return Err(Refusal::of(cause, name)),
-    };
-    let limits = read_limits(alloc, limits)?;
-    Ok(LimitEdit { id, limits })
+    match identifier_from(names, word.as_str().as_bytes()) {
+        Ok(id) => Ok(id),
+        Err(cause) => Err(Refusal::of(cause, word)),
+    }
 }
 
-/// Reads the bytes of the word that names an identifier: one or more digits with a value below 2^32. Zeros may stand in
-/// front, and any number of them. Another word of digits is no number, and any other word is the name of no identifier.
-fn identifier_from(word: &[u8]) -> Result<u32, Cause>
-    ensures { MatchResult result (λ id. identifier_of word.now ≡ Passed id)
-        (λ cause. identifier_of word.now ≡ Refused (record { cause = cause; name = word.now; line = None })) }
+/// Reads the bytes of the word that names an identifier: one or more digits with a value below 2^32, or one of the names.
+/// Zeros may stand in front of digits, and any number of them. Another word of digits is no number, and any other word is
+/// the name of no identifier.
+fn identifier_from(names: &Names, word: &[u8]) -> Result<u32, Cause>
+    ensures { MatchResult result (λ id. identifier_of names.now word.now ≡ Passed id)
+        (λ cause. identifier_of names.now word.now ≡ Refused (refusal_of cause word.now)) }
 {
     if word.is_empty() {
-        return Err(Cause::UnknownName);
+        return told_by(names, word);
     }
     let mut number: u64 = 0;
     for digit in word {
         if !digit.is_ascii_digit() {
-            return Err(Cause::UnknownName);
+            return told_by(names, word);
         }
         let unit = u64::from(*digit - b'0');
         number = (number * 10 + unit).min(PAST_IDENTIFIERS);
@@ -54,8 +56,16 @@ fn identifier_from(word: &[u8]) -> Result<u32, Cause>
     }
 }
 
+/// The identifier that the names tell for a word.
+fn told_by(names: &Names, word: &[u8]) -> Result<u32, Cause>
+    ensures { MatchResult result (λ id. known (first_id names.now word.now) word.now ≡ Passed id)
+        (λ cause. known (first_id names.now word.now) word.now ≡ Refused (refusal_of cause word.now)) }
+{
+    names.id_of(word).ok_or(Cause::UnknownName)
+}
+
 /// Reads the four limits, or refuses the first word that spells none.
-fn read_limits(alloc: Global, mut words: [Word; 4]) -> Result<Limits, Refusal>
+pub fn read_limits(alloc: Global, mut words: [Word; 4]) -> Result<Limits, Refusal>
     ensures { MatchResult result (λ limits. limits_read words ≡ Passed limits)
         (λ refusal. limits_read words ≡ Refused refusal) }
 {
@@ -81,8 +91,41 @@ fn read_limits(alloc: Global, mut words: [Word; 4]) -> Result<Limits, Refusal>
 
 /// The refusal of a word that is no number. The word is taken.
 fn bad_number(alloc: Global, word: &mut Word) -> Refusal
-    ensures { result ≡ record { cause = BadNumber; name = word.old; line = None } }
+    ensures { result ≡ refusal_of BadNumber word.old }
 {
     let name = mem::replace(word, Word::empty(alloc));
     Refusal::of(Cause::BadNumber, name)
+}
+
+/// Reads two grace periods, or refuses the first word that is no number of seconds.
+pub fn read_grace(block: Word, inode: Word) -> Result<Grace, Refusal>
+    ensures { MatchResult result (λ grace. grace_read block inode ≡ Passed grace)
+        (λ refusal. grace_read block inode ≡ Refused refusal) }
+{
+    let block = read_seconds(block)?;
+    let inode = read_seconds(inode)?;
+    Ok(Grace { block, inode })
+}
+
+/// Reads a number of seconds.
+fn read_seconds(word: Word) -> Result<u64, Refusal>
+    ensures { MatchResult result (λ seconds. seconds_read word ≡ Passed seconds)
+        (λ refusal. seconds_read word ≡ Refused refusal) }
+{
+    match read_number(word.as_str()) {
+        Some(seconds) => Ok(seconds),
+        None => Err(Refusal::of(Cause::BadNumber, word)),
+    }
+}
+
+/// Reads a time: a number of seconds, or `unset`.
+pub fn read_time(word: Word) -> Result<TimeWord, Refusal>
+    ensures { MatchResult result (λ time. time_read word ≡ Passed time)
+        (λ refusal. time_read word ≡ Refused refusal) }
+{
+    if word.as_str() == "unset" {
+        return Ok(TimeWord::Unset);
+    }
+    let seconds = read_seconds(word)?;
+    Ok(TimeWord::Seconds(seconds))
 }

@@ -1,4 +1,4 @@
-use Rattle.std.proofs.Common.{None, false, Result, refl, sym, subst}
+use Rattle.std.proofs.Common.{None, false, Result, inr, refl, sym, subst}
 use Rattle.quota_cli.specs.Done.{seen_of, tells_of}
 use Rattle.quota_cli.specs.Run.{CarriesOut}
 use Rattle.quota_cli.specs.commands.Table.{AskedSteps, MayRefuseAsked, asked_replaced, asked_uses}
@@ -6,7 +6,7 @@ use Rattle.quota_cli.specs.declared.refusal.reason.Refusal.{Refusal}
 use Rattle.quota_cli.specs.declared.words.command.Command.{Command}
 use Rattle.quota_cli.specs.commands.Built.{built_command}
 use Rattle.quota_cli.specs.words.Asked.{command_of, texts_of}
-use Rattle.quota_cli.proofs.CommandLemmas.{asked_built, holds_of_one, not_read, usage_not_read, usage_read}
+use Rattle.quota_cli.proofs.CommandLemmas.{asked_built, carries_more, holds_of_one, not_read, usage_not_read, usage_read}
 use Rattle.quota_cli.proofs.run.carry_out_words.Goals as goal
 
 pub returns-in-Ok-clause-carries : goal.returns-in-Ok-clause-carries
@@ -17,7 +17,8 @@ returns-in-Ok-clause-carries g c =
     (seen_of (g.S.Store.seen c.args.store.now) (g.I.Source.seen c.args.input.now) (g.O.Sink.seen c.args.out.now) (g.E.Sink.seen c.args.err.now) (g.L.Link.seen c.args.link.now))
     (seen_of (g.S.Store.seen now.new.store) (g.I.Source.seen now.new.input) (g.O.Sink.seen now.new.out) (g.E.Sink.seen now.new.err) (g.L.Link.seen now.new.link))
     now.result)
-    (sym c.in-Ok.ensures.read) (rw c.outside_script-occasion.ensures at now.ensures.carries)
+    (sym c.in-Ok.ensures.read)
+    (carries_more _ _ _ _ _ _ _ now.result (λ cause said may. inr may) (rw c.outside_script-occasion.ensures at now.ensures.carries))
 
 pub returns-in-Ok-clause-usage : goal.returns-in-Ok-clause-usage
 returns-in-Ok-clause-usage g c = λ no. usage_read c.in-Ok.command (built_command (texts_of c.args.words.now)) c.carry_out.result c.in-Ok.ensures.read c.in-Ok.ensures.built c.carry_out.ensures.carries.may_refuse

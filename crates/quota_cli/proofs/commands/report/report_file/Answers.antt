@@ -1,73 +1,27 @@
-use Rattle.std.proofs.Common.{◌≡◌, Ok, sym, ap, ◌∙◌, IsTrue}
-use Rattle.quota_blocks.specs.QuotaFile.{FileSeen}
-use Rattle.quota_blocks.specs.QuotaValue.{QuotaValue}
-use Rattle.quota_blocks.proofs.FrameLemmas.{only_reads-then}
-use Rattle.quota_map.specs.AnyFile.{any_seen}
-use Rattle.quota_map.specs.View.{IsView}
-use Rattle.quota_map.proofs.SeenLemmas.{view_kind}
+use Rattle.std.proofs.Common.{[], inl, inr}
+use Rattle.std.specs.Prelude.{unwrap_or}
 use Rattle.quota_cli.specs.Done.{seen_of, tells_of}
-use Rattle.quota_cli.proofs.OpeningLemmas.{not_opened}
-use Rattle.quota_cli.proofs.PieceLemmas.{appends_whole}
-use Rattle.quota_cli.proofs.ReportLemmas.{report_allowed, report_done, report_refused}
+use Rattle.quota_cli.proofs.PhaseLemmas.{carries_naming, naming_refused}
 use Rattle.quota_cli.proofs.commands.report.report_file.Goals as goal
 
-pub returns-in-Ok-report-clause-carries : goal.returns-in-Ok-report-clause-carries
-returns-in-Ok-report-clause-carries g c = λ input err link input_tells err_tells link_tells line.
+pub returns-in-Ok-clause-carries : goal.returns-in-Ok-clause-carries
+returns-in-Ok-clause-carries g c = λ input err link input_tells err_tells link_tells line.
     let S = g.S.Store in
     let O = g.O.Sink in
-    let opened = c.in-Ok.ensures in
-    let reported = c.in-Ok-report.ensures in
-    let file = c.as_str.ensures in
-    let named : (any_seen c.in-Ok.opened).name ≡ c.args.file = ap (λ (s : FileSeen). s.name) opened.fresh ∙ file in
-    let tells = tells_of S.tells input_tells O.tells err_tells link_tells in
-    let old = seen_of (S.seen c.args.store.now) input (O.seen c.args.out.now) err link in
-    let reads = only_reads-then c.args.file (S.seen c.args.store.now) (S.seen c.open_file.new.store) (S.seen c.report.new.store)
-    (rw file at opened.leaves) (rw named at reported.leaves) in
-    let held = λ (told : IsTrue S.tells) (value : QuotaValue) (view : IsView ((S.seen c.args.store.now).files c.args.file) c.args.common.kind c.args.common.format (Ok value)).
-    opened.held told value (rw (sym file) at view) in
-    let written = λ (told : IsTrue S.tells) (out_told : IsTrue O.tells) (value : QuotaValue) (view : IsView ((S.seen c.args.store.now).files c.args.file) c.args.common.kind c.args.common.format (Ok value)).
-    rw c.as_str-in-Ok.ensures at (reported.ok out_told value (held told value view) (view_kind _ c.args.common.kind c.args.common.format value view)) in
-    report_done c.args.common c.args.file c.args.options.now (record { now = c.args.now; line = line }) _ tells old
-    (S.seen c.report.new.store) (O.seen c.report.new.sink)
-    (record {
-      seen = λ told. rw file at (opened.seen told);
-      reads = reads;
-      prefix = λ told out_told value view. appends_whole _ _ _ (written told out_told value view);
-      later = reported.sink_later;
-    })
-    written
-
-pub returns-in-Err-report-clause-carries : goal.returns-in-Err-report-clause-carries
-returns-in-Err-report-clause-carries g c = λ input err link input_tells err_tells link_tells line.
-    let S = g.S.Store in
-    let O = g.O.Sink in
-    let opened = c.in-Ok.ensures in
-    let reported = c.in-Err-report.ensures in
-    let file = c.as_str.ensures in
-    let named : (any_seen c.in-Ok.opened).name ≡ c.args.file = ap (λ (s : FileSeen). s.name) opened.fresh ∙ file in
-    let tells = tells_of S.tells input_tells O.tells err_tells link_tells in
-    let old = seen_of (S.seen c.args.store.now) input (O.seen c.args.out.now) err link in
-    let reads = only_reads-then c.args.file (S.seen c.args.store.now) (S.seen c.open_file.new.store) (S.seen c.report.new.store)
-    (rw file at opened.leaves) (rw named at reported.leaves) in
-    let held = λ (told : IsTrue S.tells) (value : QuotaValue) (view : IsView ((S.seen c.args.store.now).files c.args.file) c.args.common.kind c.args.common.format (Ok value)).
-    opened.held told value (rw (sym file) at view) in
-    rw c.report_cause.ensures
-    (report_refused c.args.common c.args.file c.args.options.now (record { now = c.args.now; line = line }) tells old
-    (S.seen c.report.new.store) (O.seen c.report.new.sink) (any_seen c.in-Ok.opened).format (S.seen c.open_file.new.store).faults _ c.in-Err-report.fault opened.as_asked
-    (record {
-      seen = λ told. rw file at (opened.seen told);
-      reads = reads;
-      prefix = λ told out_told value view. rw c.as_str-in-Ok.ensures at (reported.fault out_told value (held told value view) (view_kind _ c.args.common.kind c.args.common.format value view));
-      later = reported.sink_later;
-    })
-    opened.leaves.later held reported.refused reported.may)
+    let read = c.in-Ok.ensures in
+    carries_naming (unwrap_or c.args.common.names []) c.args.common.kind c.args.common.names c.in-Ok.names _ _ _ _
+    (tells_of S.tells input_tells O.tells err_tells link_tells)
+    (seen_of (S.seen c.args.store.now) input (O.seen c.args.out.now) err link) (S.seen c.read_names.new.store)
+    (seen_of (S.seen c.report_opened.new.store) input (O.seen c.report_opened.new.out) err link) c.report_opened.result
+    read.leaves read.read (λ cause said may. inr may)
+    (c.report_opened.ensures.carries input err link input_tells err_tells link_tells)
 
 pub returns-in-Err-clause-carries : goal.returns-in-Err-clause-carries
 returns-in-Err-clause-carries g c = λ input err link input_tells err_tells link_tells line.
-    rw c.opening_cause.ensures
-    (not_opened c.args.common.kind c.args.common.format c.args.file _ _ _
-    (tells_of g.S.Store.tells input_tells g.O.Sink.tells err_tells link_tells)
-    (seen_of (g.S.Store.seen c.args.store.now) input (g.O.Sink.seen c.args.out.now) err link)
-    (g.S.Store.seen c.open_file.new.store) c.in-Err.fault
-    (rw c.as_str.ensures at c.in-Err.ensures.refused) (rw c.as_str.ensures at c.in-Err.ensures.leaves)
-    (λ cause may. report_allowed c.args.common c.args.file cause may))
+    let S = g.S.Store in
+    let O = g.O.Sink in
+    let read = c.in-Err.ensures in
+    naming_refused c.args.common.kind c.args.common.names _ _ _
+    (tells_of S.tells input_tells O.tells err_tells link_tells)
+    (seen_of (S.seen c.args.store.now) input (O.seen c.args.out.now) err link) (S.seen c.read_names.new.store) c.in-Err.refusal
+    read.leaves read.refused read.may (λ may. inl may) read.placed

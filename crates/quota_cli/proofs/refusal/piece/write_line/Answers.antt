@@ -1,7 +1,6 @@
 use Rattle.std.proofs.Common.{[]}
 use Rattle.std.specs.Prelude.{codes}
-use Rattle.std.specs.List.{concat}
-use Rattle.quota_cli.specs.refusal.Line.{line_text}
+use Rattle.quota_cli.specs.refusal.Line.{front_of}
 use Rattle.quota_cli.specs.refusal.Piece.{joined}
 use Rattle.std.proofs.lemmas.Result.{err_from_is_err_and, on_ok_weaker, on_err_weaker}
 use Rattle.quota_blocks.proofs.TextLemmas.{appends_more}
@@ -11,7 +10,7 @@ use Rattle.quota_cli.proofs.refusal.piece.write_line.Goals as goal
 pub returns-in_err-put-clause-fault : goal.returns-in_err-put-clause-fault
 returns-in_err-put-clause-fault g c =
     let p = err_from_is_err_and c.from_residual.result c.from_residual.ensures.1 in
-    rw p.1 (λ told. appends_more _ _ _ (codes "\n") (appends_more _ _ _ (joined c.args.pieces.now) (appends_more _ _ _ (concat (line_text c.args.line))
+    rw p.1 (λ told. appends_more _ _ _ (codes "\n") (appends_more _ _ _ (joined c.args.pieces.now) (appends_more _ _ _ (front_of c.args.place)
     (c.in_err-put.ensures.fault told _ [] (gathered_start _ _ c.new-text.ensures)))))
 
 pub returns-in_err-put_place-clause-fault : goal.returns-in_err-put_place-clause-fault

@@ -6,8 +6,8 @@ use Rattle.quota_cli.proofs.words.numbers.identifier_from.Goals as goal
 
 pub returns-then-not-is_ascii_digit : goal.returns-then-not-is_ascii_digit
 returns-then-not-is_ascii_digit c =
-    identifier_of-spoilt c.args.word.now c.loop-digit.digit-index c.loop-digit-test.true
-    (sym c.is_ascii_digit.ensures.value ∙ c.if-not-is_ascii_digit.true)
+    rw (identifier_of-spoilt c.args.names.now c.args.word.now c.loop-digit.digit-index c.loop-digit-test.true
+    (sym c.is_ascii_digit.ensures.value ∙ c.if-not-is_ascii_digit.true)) c.told_by-then-not-is_ascii_digit.ensures
 
 pub loop-digit-preserved : goal.loop-digit-preserved
 loop-digit-preserved c =
@@ -22,11 +22,11 @@ returns-then-number-lt-PAST_IDENTIFIERS c =
     let at_end : c.loop-digit.digit-index ≡ length c.args.word.now = omega arith in
     let read = rw at_end at c.loop-digit.invariant in
     let some : 0 < length c.args.word.now = grind (arith, nat_tests) in
-    identifier_of-read c.args.word.now c.loop-digit.number read some (omega arith)
+    identifier_of-read c.args.names.now c.args.word.now c.loop-digit.number read some (omega arith)
 
 pub returns-else-number-lt-PAST_IDENTIFIERS : goal.returns-else-number-lt-PAST_IDENTIFIERS
 returns-else-number-lt-PAST_IDENTIFIERS c =
     let at_end : c.loop-digit.digit-index ≡ length c.args.word.now = omega arith in
     let read = rw at_end at c.loop-digit.invariant in
     let some : 0 < length c.args.word.now = grind (arith, nat_tests) in
-    identifier_of-past c.args.word.now c.loop-digit.number read some (omega arith)
+    identifier_of-past c.args.names.now c.args.word.now c.loop-digit.number read some (omega arith)
