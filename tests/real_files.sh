@@ -131,6 +131,37 @@ expect 'a limit below the use' 0 '' '' setquota -F vfsold -u 1004 1M 0 0 0 quota
 same 'its report' "$(sed -n '/^#1004 /p' out.txt)" \
     '#1004        +-    7340032       1024          0  7days   310552        0        0      -'
 
+# A file of names is read from the disk: a name stands for its identifier, and a report shows it.
+printf 'root:x:0:0::/:/bin/sh\nalice:x:1000:100::/:/bin/sh\nbob:x:1001:100::/:/bin/sh\n' >names
+: >q
+expect 'new limits of a name' 0 '' '' setquota -F vfsold --names names alice 100 200 10 20 q
+expect 'limits are copied' 0 '' '' setquota -F vfsold --names names -p alice bob q
+expect 'a report with names' 0 "$head
+alice        --          0        100        200      -        0       10       20      -
+bob          --          0        100        200      -        0       10       20      -" '' \
+    repquota -F vfsold -v --names names q
+expect 'a name that no line has' 1 '' 'quota: unknown name carol' setquota -F vfsold --names names carol 1 1 1 1 q
+expect 'a file that is none of names' 1 '' 'quota: q: bad line 1' repquota -F vfsold --names q q
+expect 'a file of names that is absent' 1 '' 'quota: r: no such file' repquota -F vfsold --names r q
+
+# Limits as a form, grace periods, and times: one is set, and one is skipped with a warning.
+expect 'a form' 0 'Disk quotas for user alice (uid 1000):
+  Filesystem blocks soft hard inodes soft hard
+  q 0 100 200 0 10 20' '' edquota --print -F vfsold --names names alice q
+expect 'new grace periods' 0 '' '' setquota -F vfsold -t 86400 3600 q
+same 'the report of them' "$("$run" repquota -F vfsold q | sed -n 2p)" 'Block grace time: 24:00; Inode grace time: 01:00'
+cp "$top/samples/quota.user" timed
+expect 'a new time' 0 '' 'quota: inode time not set, soft limit not exceeded' setquota -F vfsold -T 1001 86400 5 timed
+"$run" repquota -F vfsold timed >out.txt
+same 'its report' "$(sed -n '/^#1001 /p' out.txt)" \
+    '#1001        +-    1835008    1048576    2097152  24:00    39999    40000    50000      -'
+got=0
+"$run" setquota -F vfsold -T 1001 unset 5 timed 2>/dev/full || got=$?
+same 'a warning that is not written' "$got" 4
+got=0
+"$run" edquota --print -F vfsold 1000 q >/dev/full 2>err.txt || got=$?
+same 'a form to a full output' "$got $(cat err.txt)" '4 quota: output fault'
+
 # The owner and the permissions stay, and a file that was left behind is not in the way.
 : >q
 chmod 640 q
