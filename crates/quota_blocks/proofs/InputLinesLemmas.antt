@@ -1,10 +1,10 @@
 -- The lines of an input, one after another.
-use Rattle.std.proofs.Common.{◌≡◌, ℕ, zero, suc, ◌+◌, ◌-◌, ◌<◌, ◌≤◌, Bool, true, false, List, [], ◌∷◌, ◌++◌, length, refl, sym, ap, subst, ◌∙◌, arith, length-drop}
-use Rattle.std.specs.Prelude.{if◌then◌else◌, nat_lt, not, ◌&&◌, ◌==◌, take}
-use Rattle.std.specs.List.{list_any, position_or_len}
+use Rattle.std.proofs.Common.{◌≡◌, ℕ, zero, suc, ◌+◌, ◌-◌, ◌<◌, Bool, true, false, List, ◌++◌, length, refl, ap, subst, ◌∙◌, arith, length-drop}
+use Rattle.std.specs.Prelude.{if◌then◌else◌, ◌==◌}
+use Rattle.std.specs.List.{position_or_len}
 use Rattle.std.proofs.lemmas.Bool.Decides.{nat_tests}
 use Rattle.quota_blocks.specs.Lines.{NextLine, AtEnd, Line, LongLine, PastTotal, LinesSeen, behind_line, is_newline, line_front, line_given, next_line_of}
-use Rattle.quota_blocks.specs.InputLines.{InputLines, NoLine, LineThen, LongNext, PastNext, input_lines, line_then, lines_from, lines_left, lines_within}
+use Rattle.quota_blocks.specs.InputLines.{InputLines, LineThen, LongNext, PastNext, input_lines, line_then, lines_from, lines_left, lines_within}
 
 -- a line leaves fewer bytes
 Leaves : ℕ → NextLine → Type 0

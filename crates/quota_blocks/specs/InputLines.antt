@@ -1,5 +1,5 @@
 -- All lines of an input, as they are read one by one under a bound for each and one for all.
-use Rattle.std.specs.Prelude.{ℕ, zero, suc, ◌+◌, ◌-◌, Bool, true, false, List, ◌++◌, length}
+use Rattle.std.specs.Prelude.{ℕ, zero, suc, ◌-◌, Bool, true, false, List, ◌++◌, length}
 use Rattle.quota_blocks.specs.Lines.{NextLine, AtEnd, Line, LongLine, PastTotal, LinesSeen, next_line_of}
 
 -- The lines of an input, each with those behind it, up to its end, or up to a line that is too long, or to one that does

@@ -1,3 +1,4 @@
+pub mod Behind
 pub mod Count
 pub mod FileChange
 pub mod Frame

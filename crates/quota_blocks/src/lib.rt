@@ -4,7 +4,7 @@
 //! answers. Each has a count of faults that never falls, and may tell its contents: an object in memory does, and an
 //! adapter over the real thing does not. `load` reads a whole file and `replace` puts one in the place of another,
 //! `TextBuffer` gathers text in front of a sink, `LineReader` gives the lines of a source, such as a file of a store
-//! behind `StoreInput`, and `QuotaFile` is what every format of quota file offers. `le16` to
+//! behind `StoreInput`, `words` the words of a line, and `QuotaFile` is what every format of quota file offers. `le16` to
 //! `set_le64` read and write the numbers in a block.
 //!
 //! The one promise: every answer has a cause that the caller can see, and what is told of the outside stays in step

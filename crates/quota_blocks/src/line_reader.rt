@@ -1,4 +1,4 @@
-ghost use Rattle.std.specs.Prelude.{◌≡◌, ◌<◌, ◌≤◌, ◌+◌, ◌-◌, ◌^◌, ◌++◌, ℕ, List, [], true, false, nat_lt, length, take, drop, position, IsTrue, IfOk, IfErr, OnOk, OnErr, if◌then◌else◌};
+ghost use Rattle.std.specs.Prelude.{◌≡◌, ◌<◌, ◌≤◌, ◌+◌, ◌-◌, ◌^◌, ◌++◌, ℕ, List, [], true, false, nat_lt, length, take, drop, position, is_ok, IsTrue, IfOk, IfErr, OnOk, OnErr, if◌then◌else◌};
 ghost use Rattle.std.specs.List.{list_any, position_or_len};
 ghost use Rattle.quota_blocks.specs.Count.{Rose};
 ghost use Rattle.quota_blocks.specs.Lines.{IsLineFault, IsOver, Line, NamesLine, RefusesLine, is_newline, line_given, next_line_of};
@@ -106,7 +106,7 @@ impl LineReader {
             (next_line_of most (total - self.old.given) (self.old.held ++ (I.seen source.old).left))) }
         ensures named { IfErr result (NamesLine self.old.number) }
         ensures later { (I.seen source.old).faults ≤ (I.seen source.new).faults }
-        ensures keeps { I.keeps source.old source.new }
+        ensures keeps { I.keeps (is_ok result) source.old source.new }
     {
         line.clear();
         'pieces: loop {
@@ -132,7 +132,7 @@ impl LineReader {
         ensures given { self.new.given ≡ self.old.given }
         ensures cause { OnErr result (Rose (I.seen source.old).faults (I.seen source.new).faults) }
         ensures later { (I.seen source.old).faults ≤ (I.seen source.new).faults }
-        ensures keeps { I.keeps source.old source.new }
+        ensures keeps { I.keeps (is_ok result) source.old source.new }
     {
         if self.start < self.end {
             return Ok(true);

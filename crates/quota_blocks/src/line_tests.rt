@@ -17,17 +17,22 @@ struct Pieces {
 
 impl Source for Pieces {
     ghost use Rattle.std.specs.Prelude.{false, ⊤};
+    ghost use Rattle.quota_blocks.specs.Behind.{untold};
     ghost use Rattle.quota_blocks.specs.InMemory.{mem_source_seen};
 
     ghost tells = { false };
 
     ghost seen = { λ p. mem_source_seen p.source };
 
-    ghost keeps = { λ _ _. ⊤ };
+    ghost keeps = { λ _ _ _. ⊤ };
 
     ghost keeps_itself = { λ _. tt };
 
-    ghost keeps_on = { λ _ _ _ _ _. tt };
+    ghost keeps_on = { λ _ _ _ _ _ _. tt };
+
+    ghost keeps_any = { λ _ _ _. tt };
+
+    ghost keeps_behind = { λ _ _ _ _ told. untold told };
 
     fn read(&mut self, buf: &mut [u8]) -> Result<usize, SourceFault> {
         let size = self.size.min(buf.len());

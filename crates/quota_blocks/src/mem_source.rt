@@ -37,17 +37,23 @@ impl MemSource {
 }
 
 impl Source for MemSource {
-    ghost use Rattle.std.specs.Prelude.{true, ⊤};
+    ghost use Rattle.std.specs.Prelude.{true};
+    ghost use Rattle.quota_blocks.specs.Behind.{IsBehind, behind_nothing, behind_on};
 
     ghost tells = { true };
 
     ghost seen = { mem_source_seen };
 
-    ghost keeps = { λ _ _. ⊤ };
+    ghost keeps = { λ _ old new. IsBehind (mem_source_seen old).left (mem_source_seen new).left };
 
-    ghost keeps_itself = { λ _. tt };
+    ghost keeps_itself = { λ source. behind_nothing (mem_source_seen source).left };
 
-    ghost keeps_on = { λ _ _ _ _ _. tt };
+    ghost keeps_on = { λ _ first between last. behind_on (mem_source_seen first).left (mem_source_seen between).left
+        (mem_source_seen last).left };
+
+    ghost keeps_any = { λ _ _ behind. behind };
+
+    ghost keeps_behind = { λ _ _ _ behind _. behind };
 
     fn read(&mut self, buf: &mut [u8]) -> Result<usize, SourceFault>
         ensures planned { IsErr result

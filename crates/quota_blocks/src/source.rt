@@ -1,4 +1,5 @@
-ghost use Rattle.std.specs.Prelude.{◌≡◌, ◌≤◌, ◌++◌, ◌⊎◌, Bool, [], length, take, IsTrue, IfOk, OnErr};
+ghost use Rattle.std.specs.Prelude.{◌≡◌, ◌≤◌, ◌++◌, ◌⊎◌, Bool, false, true, is_ok, [], length, take, IsTrue, IfOk, OnErr};
+ghost use Rattle.quota_blocks.specs.Behind.{IsBehind};
 ghost use Rattle.quota_blocks.specs.Count.{Rose};
 ghost use Rattle.quota_blocks.specs.Seen.{SourceSeen};
 
@@ -17,8 +18,9 @@ pub trait Source {
     /// The bytes that are left, which count only where the source tells them, and the count of faults.
     ghost seen: { Self → SourceSeen };
 
-    /// What a source keeps along its calls, such as the files of the store that it reads from.
-    ghost keeps: { Self → Self → Type 0 };
+    /// What a source keeps along its calls, such as the files of the store that it reads from: `true` where each of them
+    /// answered Ok, and `false` whether they did or not.
+    ghost keeps: { Bool → Self → Self → Type 0 };
 
     /// Takes bytes from the front into `buf`, and answers how many: at least one where `buf` has room for one and bytes
     /// are left.
@@ -35,11 +37,17 @@ pub trait Source {
         ensures fault { OnErr result (IsTrue tells → (seen self.new).left ≡ (seen self.old).left) }
         ensures cause { OnErr result (Rose (seen self.old).faults (seen self.new).faults) }
         ensures later { (seen self.old).faults ≤ (seen self.new).faults }
-        ensures keeps { keeps self.old self.new };
+        ensures keeps { keeps (is_ok result) self.old self.new };
 
-    /// A source keeps along with itself what it keeps.
-    ghost keeps_itself: { (source : Self) → keeps source source };
+    /// A source keeps along with itself what it keeps along calls that answer Ok.
+    ghost keeps_itself: { (source : Self) → keeps true source source };
 
-    /// What is kept along two stretches is kept along both in a row.
-    ghost keeps_on: { (first between last : Self) → keeps first between → keeps between last → keeps first last };
+    /// What is kept along calls that answered Ok, and then along others, is kept along both in a row.
+    ghost keeps_on: { (ok : Bool) (first between last : Self) → keeps true first between → keeps ok between last → keeps ok first last };
+
+    /// What is kept where each call answered Ok is kept whether they did or not.
+    ghost keeps_any: { (old new : Self) → keeps true old new → keeps false old new };
+
+    /// Along what is kept, bytes are taken from the front and no others.
+    ghost keeps_behind: { (ok : Bool) (old new : Self) → keeps ok old new → IsTrue tells → IsBehind (seen old).left (seen new).left };
 }

@@ -1,4 +1,4 @@
-ghost use Rattle.std.specs.Prelude.{◌≡◌, ◌≤◌, ◌++◌, ◌⊎◌, [], length, take, min, IsTrue, IfOk, OnErr};
+ghost use Rattle.std.specs.Prelude.{◌≡◌, ◌≤◌, ◌++◌, ◌⊎◌, [], length, take, min, is_ok, IsTrue, IfOk, OnErr};
 ghost use Rattle.quota_blocks.specs.Count.{Rose};
 
 use crate::{Source, SourceFault, Store, StoreSource};
@@ -14,17 +14,21 @@ pub struct StoreInput<'a, S: Store> {
 
 impl<S: Store> Source for StoreInput<'_, S> {
     ghost use Rattle.quota_blocks.specs.StoreInput.{KeepsInput, store_input_seen};
-    ghost use Rattle.quota_blocks.specs.InputLaws.{keeps_input_itself, keeps_input_on};
+    ghost use Rattle.quota_blocks.specs.InputLaws.{keeps_input_any, keeps_input_itself, keeps_input_on};
 
     ghost tells = { S.tells };
 
     ghost seen = { store_input_seen S.seen };
 
-    ghost keeps = { KeepsInput S.seen };
+    ghost keeps = { KeepsInput S.tells S.seen };
 
-    ghost keeps_itself = { keeps_input_itself S.seen };
+    ghost keeps_itself = { keeps_input_itself S.tells S.seen };
 
-    ghost keeps_on = { keeps_input_on S.seen };
+    ghost keeps_on = { keeps_input_on S.tells S.seen };
+
+    ghost keeps_any = { keeps_input_any S.tells S.seen };
+
+    ghost keeps_behind = { λ _ _ _ kept. kept.behind };
 
     /// Reads at most 1,024 bytes in a call.
     fn read(&mut self, buf: &mut [u8]) -> Result<usize, SourceFault>
@@ -40,7 +44,7 @@ impl<S: Store> Source for StoreInput<'_, S> {
         ensures cause { OnErr result (Rose (store_input_seen S.seen self.old).faults
             (store_input_seen S.seen self.new).faults) }
         ensures later { (store_input_seen S.seen self.old).faults ≤ (store_input_seen S.seen self.new).faults }
-        ensures keeps { KeepsInput S.seen self.old self.new }
+        ensures keeps { KeepsInput S.tells S.seen (is_ok result) self.old self.new }
     {
         let most = buf.len().min(1024);
         match self.source.read(self.store, &mut buf[..most]) {

@@ -1,4 +1,4 @@
-ghost use Rattle.std.specs.Prelude.{◌≡◌, ◌+◌, ◌-◌, ◌<◌, ◌≤◌, ◌++◌, ◌&&◌, [], true, false, decimal, codes, map, is_some, IsTrue, IfOk, IfErr, OnOk, Ok, if◌then◌else◌};
+ghost use Rattle.std.specs.Prelude.{◌≡◌, ◌+◌, ◌-◌, ◌<◌, ◌≤◌, ◌++◌, ◌&&◌, [], true, false, decimal, codes, map, is_some, is_ok, IsTrue, IfOk, IfErr, OnOk, Ok, if◌then◌else◌};
 ghost use Rattle.std.specs.Str.{bytes_eq};
 ghost use Rattle.quota_blocks.specs.InputLines.{line_then};
 ghost use Rattle.quota_blocks.specs.Words.{words_eq, words_of};
@@ -58,7 +58,7 @@ pub fn read_form<I: Source>(
     ensures refused { IfErr result (IsFormFault (I.seen source.old).faults (I.seen source.new).faults I.tells
         (form_read kind name.now id file.now (I.seen source.old).left)) }
     ensures later { (I.seen source.old).faults ≤ (I.seen source.new).faults }
-    ensures keeps { I.keeps source.old source.new }
+    ensures keeps { I.keeps (is_ok result) source.old source.new }
 {
     let mut reader = LineReader::new();
     let mut line = ArrayVec::new();
@@ -86,7 +86,7 @@ fn read_title<I: Source>(
         (behind_text 1 (form_title kind name.now id) (form_lines reader.old (I.seen source.old).left))) }
     ensures number { OnOk result (reader.new.number ≡ 2) }
     ensures later { (I.seen source.old).faults ≤ (I.seen source.new).faults }
-    ensures keeps { I.keeps source.old source.new }
+    ensures keeps { I.keeps (is_ok result) source.old source.new }
 {
     take_line(reader, source, line, 1)?;
     checked(is_title(line.as_slice(), kind, name, id), 1)
@@ -106,7 +106,7 @@ fn read_heading<I: Source>(
         (behind_text 2 form_heading (form_lines reader.old (I.seen source.old).left))) }
     ensures number { OnOk result (reader.new.number ≡ 3) }
     ensures later { (I.seen source.old).faults ≤ (I.seen source.new).faults }
-    ensures keeps { I.keeps source.old source.new }
+    ensures keeps { I.keeps (is_ok result) source.old source.new }
 {
     take_line(reader, source, line, 2)?;
     checked(has_words(line.as_slice(), heading()), 2)
@@ -127,7 +127,7 @@ fn read_limits<I: Source>(
         (limits_at file.now (form_lines reader.old (I.seen source.old).left))) }
     ensures number { OnOk result (reader.new.number ≡ 4) }
     ensures later { (I.seen source.old).faults ≤ (I.seen source.new).faults }
-    ensures keeps { I.keeps source.old source.new }
+    ensures keeps { I.keeps (is_ok result) source.old source.new }
 {
     take_line(reader, source, line, 3)?;
     limits_in(line.as_slice(), file.as_bytes()).ok_or(FormFault::BadForm(3))
@@ -145,7 +145,7 @@ fn read_end<I: Source>(
     ensures refused { IfErr result (IsFormFault (I.seen source.old).faults (I.seen source.new).faults I.tells
         (no_more_words reader.old.number (form_lines reader.old (I.seen source.old).left))) }
     ensures later { (I.seen source.old).faults ≤ (I.seen source.new).faults }
-    ensures keeps { I.keeps source.old source.new }
+    ensures keeps { I.keeps (is_ok result) source.old source.new }
 {
     while next_line(reader, source, line)? {
         if !has_no_word(line.as_slice()) {
@@ -169,7 +169,7 @@ fn take_line<I: Source>(
         (line_at number (form_lines reader.old (I.seen source.old).left))) }
     ensures number { OnOk result (reader.new.number ≡ number + 1) }
     ensures later { (I.seen source.old).faults ≤ (I.seen source.new).faults }
-    ensures keeps { I.keeps source.old source.new }
+    ensures keeps { I.keeps (is_ok result) source.old source.new }
 {
     if !next_line(reader, source, line)? {
         return Err(FormFault::BadForm(number));
@@ -191,7 +191,7 @@ fn next_line<I: Source>(
     ensures refused { IfErr result (IsLinesFault (I.seen source.old).faults (I.seen source.new).faults I.tells
         reader.old.number (form_lines reader.old (I.seen source.old).left)) }
     ensures later { (I.seen source.old).faults ≤ (I.seen source.new).faults }
-    ensures keeps { I.keeps source.old source.new }
+    ensures keeps { I.keeps (is_ok result) source.old source.new }
 {
     reader.next_line(source, line, MAX_LINE, MAX_FORM)
 }

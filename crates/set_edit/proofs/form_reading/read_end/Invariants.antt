@@ -1,4 +1,4 @@
-use Rattle.std.proofs.Common.{◌≡◌, ◌≤◌, ◌-◌, IsTrue}
+use Rattle.std.proofs.Common.{◌≡◌, ◌≤◌, ◌-◌, IsTrue, true}
 use Rattle.set_edit.specs.FormReading.{form_lines, no_more_words}
 use Rattle.set_edit.proofs.form_reading.read_end.Given as goal
 
@@ -9,7 +9,7 @@ invariant-loop-line g l =
       told : IsTrue I.tells → no_more_words l.fn.reader.number (form_lines l.fn.reader (I.seen l.fn.source).left)
           ≡ no_more_words l.reader.number (form_lines l.reader (I.seen l.source).left);
       later : (I.seen l.fn.source).faults ≤ (I.seen l.source).faults;
-      keeps : I.keeps l.fn.source l.source;
+      keeps : I.keeps true l.fn.source l.source;
     }
 
 abbrev pub decreases-loop-line : goal.decreases-loop-line

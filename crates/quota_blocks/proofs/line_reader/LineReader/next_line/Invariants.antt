@@ -1,4 +1,4 @@
-use Rattle.std.proofs.Common.{◌≡◌, ◌≤◌, ◌-◌, ◌++◌, false, length, IsTrue}
+use Rattle.std.proofs.Common.{◌≡◌, ◌≤◌, ◌-◌, ◌++◌, false, length, IsTrue, true}
 use Rattle.std.specs.List.{list_any}
 use Rattle.quota_blocks.specs.Lines.{is_newline}
 use Rattle.quota_blocks.proofs.line_reader.LineReader.next_line.Given as goal
@@ -14,7 +14,7 @@ invariant-pieces g l =
       number : l.self.number ≡ l.fn.self.number;
       given : l.self.given ≡ l.fn.self.given;
       later : (I.seen l.fn.source).faults ≤ (I.seen l.source).faults;
-      keeps : I.keeps l.fn.source l.source;
+      keeps : I.keeps true l.fn.source l.source;
     }
 
 abbrev pub decreases-pieces : goal.decreases-pieces
