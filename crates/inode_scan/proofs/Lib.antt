@@ -1,0 +1,10 @@
+pub mod ApplyLemmas
+pub mod FaultLemmas
+pub mod FirstLemmas
+pub mod ListLemmas
+pub mod NumberLemmas
+pub mod RowLemmas
+pub mod ScanLemmas
+pub mod SumLemmas
+pub mod TallyLemmas
+pub mod UsageLemmas

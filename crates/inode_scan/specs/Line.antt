@@ -1,0 +1,37 @@
+-- What a line of a listing says: an owner, a group, a device, an inode and a number of 512-byte blocks, as find(1) prints
+-- them with `-printf '%U %G %D %i %b\n'`. That words may be blank-separated otherwise, and the bounds, are this project's own.
+use Rattle.std.specs.Prelude.{ℕ, ◌^◌, Bool, ◌&&◌, not, nat_lt, nat_le, is_none, if◌then◌else◌, List, [], ◌∷◌, length, Option, Some, None}
+use Rattle.std.specs.Str.{all_ascii_digits}
+use Rattle.std.specs.Str.Parse.{digits_value}
+use Rattle.quota_blocks.specs.Words.{words_eq, words_of}
+use Rattle.inode_scan.specs.declared.row.Row.{Row}
+
+-- the word consists of 1 to 20 decimal digits; those in front may be zeros
+abbrev pub is_numeral : List ℕ → Bool
+is_numeral word = nat_lt 0 (length word) && nat_le (length word) 20 && all_ascii_digits word
+
+-- the number that a word spells, where it is a numeral with a value below the bound
+unfoldable pub number_below : (bound : ℕ) → List ℕ → Option ℕ
+number_below bound word =
+    if is_numeral word && nat_lt (digits_value 10 word) bound then Some (digits_value 10 word) else None
+
+-- five numbers, where all are there
+abbrev pub row_from : (owner group device inode blocks : Option ℕ) → Option Row
+row_from (Some owner) (Some group) (Some device) (Some inode) (Some blocks) =
+    Some (record { owner = owner; group = group; device = device; inode = inode; blocks = blocks })
+row_from owner group device inode blocks = None
+
+-- What five words say. The owner and the group are identifiers of 32 bits, the other three are numbers of 64 bits.
+abbrev pub row_of : List (List ℕ) → Option Row
+row_of (owner ∷ group ∷ device ∷ inode ∷ blocks ∷ []) =
+    row_from (number_below (2 ^ 32) owner) (number_below (2 ^ 32) group) (number_below (2 ^ 64) device)
+    (number_below (2 ^ 64) inode) (number_below (2 ^ 64) blocks)
+row_of words = None
+
+-- what a line says, where it says something
+unfoldable pub row_in : List ℕ → Option Row
+row_in line = row_of (words_of line)
+
+-- a line is bad: it has words, and is not five numbers in their ranges
+abbrev pub is_bad : List ℕ → Bool
+is_bad line = not (words_eq (words_of line) []) && is_none (row_in line)
