@@ -3,16 +3,19 @@ use Rattle.std.proofs.Common.{◌≡◌, ◌≢◌, ℕ, Bool, true, false, if�
 use Rattle.std.specs.Prelude.{⊤, IfErr, IfOk, IfSome, IsTrue, IsErr, IsErrAnd, ◌↔◌}
 use Rattle.quota_types.specs.declared.file_kind.Format.{Format}
 use Rattle.quota_types.specs.declared.file_kind.Format.TheVariants.{V1, V2R0, V2R1}
+use Rattle.id_names.specs.NamesFile.{NameLine}
 use Rattle.set_edit.specs.Editing.{Edit}
+use Rattle.set_edit.specs.Edits.{limits_edit}
 use Rattle.quota_cli.specs.declared.refusal.cause.Cause.{Cause}
 use Rattle.quota_cli.specs.declared.refusal.cause.Cause.TheVariants.{StoreFault, SourceFault, SinkFault, LinkFault, Memory, NoFile, TooLarge, NotQuota, WrongKind, UnknownVersion, BadBlockCount, OtherFormat, Damaged, Full, NoRoom, UnknownName, BadNumber, TargetExists, SameName, BadForm, BadLine, LongLine, Conflict, Usage}
 use Rattle.quota_cli.specs.declared.refusal.reason.Refusal.{Refusal}
 use Rattle.quota_cli.specs.declared.words.command.Command.{Command}
 use Rattle.quota_cli.specs.declared.words.command.Common.{Common}
-use Rattle.quota_cli.specs.declared.words.command.Command.TheVariants.{Report, SetLimits, CopyLimits, SetGrace, SetTimes, PrintForm}
+use Rattle.quota_cli.specs.declared.words.command.Command.TheVariants.{Report, SetLimits, CopyLimits, SetGrace, SetTimes, Batch, PrintForm, ApplyForm}
 use Rattle.quota_cli.specs.declared.words.edit.EditWords.{EditWords}
 use Rattle.quota_cli.specs.declared.words.edit.EditWords.TheVariants.{Limits, Copy, Grace, Times}
 use Rattle.quota_cli.specs.declared.words.edit.FileEdit.{FileEdit}
+use Rattle.quota_cli.specs.declared.words.edit.FileEdit.TheVariants.{Limits as LimitsEdit}
 use Rattle.quota_cli.specs.declared.words.reading.UsageFault.{UsageFault}
 use Rattle.quota_cli.specs.declared.words.reading.UsageFault.TheVariants.{Usage as UsageOf, Memory as NoMemory}
 use Rattle.quota_cli.specs.refusal.Refusals.{refusal_of}
@@ -24,12 +27,15 @@ use Rattle.quota_cli.specs.Opening.{MayRefuseOpening}
 use Rattle.quota_cli.specs.Run.{CarriesOut, HasReason, HasSteps, IsFault, Uses}
 use Rattle.quota_cli.specs.Steps.{Steps, Stop}
 use Rattle.quota_cli.specs.declared.commands.occasion.Occasion.{Occasion}
+use Rattle.quota_cli.specs.commands.Apply.{ApplyMayRefuse}
+use Rattle.quota_cli.specs.commands.Batch.{BatchMayRefuse, LineMayRefuse}
 use Rattle.quota_cli.specs.commands.Built.{if_built, is_built, unknown_command}
 use Rattle.quota_cli.specs.commands.Edits.{ChangeMayRefuse, EditMayRefuse, FileEditMayRefuse, NamedEditMayRefuse}
 use Rattle.quota_cli.specs.commands.Print.{PrintMayRefuse}
 use Rattle.quota_cli.specs.commands.Report.{ReportMayRefuse}
 use Rattle.quota_cli.specs.commands.Showing.{ShowingMayRefuse}
 use Rattle.quota_cli.specs.commands.Table.{AskedSteps, MayRefuseAsked, MayRefuseCommand, StepsOf, asked_uses}
+use Rattle.quota_cli.specs.Taking.{InputMayRefuse, input_name}
 use Rattle.quota_cli.specs.words.Edits.{edit_meant}
 use Rattle.quota_cli.specs.words.Usage.{IsUsageFault, usage_refusal}
 use Rattle.quota_cli.proofs.PhaseLemmas.{nothing_carried, stop_carried}
@@ -182,6 +188,73 @@ print_status common word file cause said (inr (names, given, inl read)) two =
     let one : status_of cause ≡ 1 = word_status (refusal_of cause said) (identifier_refusal names word (refusal_of cause said) read) in omega (arith, two, one)
 print_status common word file cause said (inr (names, given, inr (id, read, may))) two = showing_status common.format file cause said may two
 
+-- an input that was not read, and a line that was refused
+input_status : (formed : Bool) (from : Option (List ℕ)) (cause : Cause) (said : List ℕ) → InputMayRefuse formed from cause said → status_of cause ≢ 2
+input_status formed from StoreFault said may two = omega (arith, two)
+input_status formed from SourceFault said may two = omega (arith, two)
+input_status formed from SinkFault said may two = omega (arith, two)
+input_status formed from LinkFault said may two = omega (arith, two)
+input_status formed from Memory said may two = omega (arith, two)
+input_status formed from NoFile said may two = omega (arith, two)
+input_status formed from TooLarge said may two = omega (arith, two)
+input_status formed from NotQuota said may two = omega (arith, two)
+input_status formed from WrongKind said may two = omega (arith, two)
+input_status formed from UnknownVersion said may two = omega (arith, two)
+input_status formed from BadBlockCount said may two = omega (arith, two)
+input_status formed from OtherFormat said may two = omega (arith, two)
+input_status formed from (Damaged damage) said may two = omega (arith, two)
+input_status formed from (Full blocks limit) said may two = omega (arith, two)
+input_status formed from (NoRoom out) said may two = omega (arith, two)
+input_status formed from UnknownName said may two = omega (arith, two)
+input_status formed from BadNumber said may two = omega (arith, two)
+input_status formed from TargetExists said may two = omega (arith, two)
+input_status formed from SameName said may two = omega (arith, two)
+input_status formed from (BadForm line) said may two = omega (arith, two)
+input_status formed from (BadLine line) said may two = omega (arith, two)
+input_status formed from (LongLine line) said may two = omega (arith, two)
+input_status formed from (Conflict line first) said may two = omega (arith, two)
+input_status formed from (Usage kind word) said may two = may
+
+line_status : (names : List NameLine) (place : List ℕ) (cause : Cause) (said : List ℕ) → LineMayRefuse names place cause said → status_of cause ≢ 2
+line_status names place StoreFault said may two = omega (arith, two)
+line_status names place SourceFault said may two = omega (arith, two)
+line_status names place SinkFault said may two = omega (arith, two)
+line_status names place LinkFault said may two = omega (arith, two)
+line_status names place Memory said may two = omega (arith, two)
+line_status names place NoFile said may two = omega (arith, two)
+line_status names place TooLarge said may two = omega (arith, two)
+line_status names place NotQuota said may two = omega (arith, two)
+line_status names place WrongKind said may two = omega (arith, two)
+line_status names place UnknownVersion said may two = omega (arith, two)
+line_status names place BadBlockCount said may two = omega (arith, two)
+line_status names place OtherFormat said may two = omega (arith, two)
+line_status names place (Damaged damage) said may two = omega (arith, two)
+line_status names place (Full blocks limit) said may two = omega (arith, two)
+line_status names place (NoRoom out) said may two = omega (arith, two)
+line_status names place UnknownName said may two = omega (arith, two)
+line_status names place BadNumber said may two = omega (arith, two)
+line_status names place TargetExists said may two = omega (arith, two)
+line_status names place SameName said may two = omega (arith, two)
+line_status names place (BadForm line) said may two = omega (arith, two)
+line_status names place (BadLine line) said may two = omega (arith, two)
+line_status names place (LongLine line) said may two = omega (arith, two)
+line_status names place (Conflict line first) said may two = omega (arith, two)
+line_status names place (Usage kind word) said may two = may
+
+batch_status : (common : Common) (from : Option (List ℕ)) (file : List ℕ) (cause : Cause) (said : List ℕ) → BatchMayRefuse common from file cause said → status_of cause ≢ 2
+batch_status common from file cause said (inl may) two = names_status common.names cause said may two
+batch_status common from file cause said (inr (names, given, inl (inl (id, limits, now, may)))) two = change_status common.format (limits_edit id limits now) file cause said may two
+batch_status common from file cause said (inr (names, given, inl (inr may))) two = opening_status common.format file cause said may two
+batch_status common from file cause said (inr (names, given, inr (inl may))) two = input_status false from cause said may two
+batch_status common from file cause said (inr (names, given, inr (inr may))) two = line_status names (input_name from) cause said may two
+
+apply_status : (common : Common) (from : Option (List ℕ)) (word file : List ℕ) (cause : Cause) (said : List ℕ) → ApplyMayRefuse common from word file cause said → status_of cause ≢ 2
+apply_status common from word file cause said (inl may) two = names_status common.names cause said may two
+apply_status common from word file cause said (inr (names, given, inl read)) two =
+    let one : status_of cause ≡ 1 = word_status (refusal_of cause said) (identifier_refusal names word (refusal_of cause said) read) in omega (arith, two, one)
+apply_status common from word file cause said (inr (names, given, inr (id, read, inl may))) two = input_status true from cause said may two
+apply_status common from word file cause said (inr (names, given, inr (id, read, inr (limits, may)))) two = file_edit_status common.format (LimitsEdit id limits) file cause said may two
+
 -- no command that was read is refused with status 2
 pub not_usage : (command : Command) (cause : Cause) (said : List ℕ) → IsTrue (is_built command) → MayRefuseCommand command cause said → status_of cause ≢ 2
 not_usage (Report common options file) cause said built may two = report_status common file cause said may two
@@ -189,7 +262,9 @@ not_usage (SetLimits common name limits file) cause said built may two = edit_st
 not_usage (CopyLimits common proto name file) cause said built may two = edit_status common (Copy proto name) file cause said may two
 not_usage (SetGrace common block inode file) cause said built may two = edit_status common (Grace block inode) file cause said may two
 not_usage (SetTimes common name block inode file) cause said built may two = edit_status common (Times name block inode) file cause said may two
+not_usage (Batch common input file) cause said built may two = batch_status common input file cause said may two
 not_usage (PrintForm common name file) cause said built may two = print_status common name file cause said may two
+not_usage (ApplyForm common input name file) cause said built may two = apply_status common input name file cause said may two
 not_usage _ cause said built may two = absurd (cc)
 
 -- the status of a command that was read

@@ -100,7 +100,7 @@ both_of true other is = (refl, is)
 both_of false other is = absurd (false≢true is)
 
 -- what is not found to be so is found not to be so
-not_so : (found : Bool) → (IsTrue found → ⊥) → found ≡ false
+pub not_so : (found : Bool) → (IsTrue found → ⊥) → found ≡ false
 not_so true never = absurd (never refl)
 not_so false never = refl
 
@@ -212,6 +212,32 @@ any_refused kind asked name edit tells old opened file before after format resul
           kept (rw named at (same_where_full _ (edit.edited value) (λ (v : QuotaValue). LacksRoom (any_seen opened) v (blocks_of new) most_blocks) new
           (edits.full both.0 value (blocks_of new) most_blocks (held told value view)) is
           (lacks_most tells.store before.files opened value new name format was (held told value view) (keeps value new is) (less_of most_blocks (blocks_of new) both.1))));
+    }
+
+-- What an edit left that was refused, of a file that held this value: nothing was written unless the store failed, nor where
+-- the value does not fit or there is no room for it; and the named file is as it was.
+pub record IsRefusedAt (name : List ℕ) (edit : Edit) (value : QuotaValue) (before after : StoreSeen) (cause : Cause) : Type 0 where
+  pub whole : status_of cause ≢ 4 → OnlyReads name before after
+  pub named : after.files name ≡ before.files name
+  pub unfit : (out : Field × ℕ) → edit.edited value ≡ Err out → OnlyReads name before after
+  pub full : (new : QuotaValue) → edit.edited value ≡ Ok new → IsTrue (is_too_large edit new) → OnlyReads name before after
+
+pub refused_at : {T : Type 0} (name : List ℕ) (edit : Edit) (tells : Bool) (opened file : AnyFile) (before after : StoreSeen) (format : Format) (value : QuotaValue) (result : Result T EditFault) (fault : EditFault)
+    → KeepsFormat edit → any_seen opened ≡ fresh_seen name format → IsTrue tells → HoldsAny tells before.files opened value → AnyEdits edit tells opened file before after result
+    → Leaves edit (any_laws tells) (file_at (HoldsAny tells before.files opened) (any_seen opened) before) (file_at (HoldsAny tells after.files file) (any_seen file) after) fault
+    → IsRefusedAt name edit value before after (edit_cause fault)
+refused_at name edit tells opened file before after format value result fault keeps was told held edits left =
+    let named : (any_seen opened).name ≡ name = ap (λ (s : FileSeen). s.name) was in
+    record {
+      whole = λ other. rw named at (whole_unless_fault _ _ fault left.unwritten other);
+      named = rw named at (left.unchanged (λ b a l same. same) told);
+      unfit = λ out is. rw named at (same_where_unfit _ _ fault _ out left.unwritten
+          (broken_at fault _ _ (λ (v : QuotaValue). IsOk (edit.edited v)) value left.fits held) is);
+      full = λ new is large.
+          let both = both_of edit.needs_room (nat_lt most_blocks (blocks_of new)) large in
+          rw named at (same_where_full _ (edit.edited value) (λ (v : QuotaValue). LacksRoom (any_seen opened) v (blocks_of new) most_blocks) new
+          (edits.full both.0 value (blocks_of new) most_blocks held) is
+          (lacks_most tells before.files opened value new name format was held (keeps value new is) (less_of most_blocks (blocks_of new) both.1)));
     }
 
 -- an edited value that is lacking

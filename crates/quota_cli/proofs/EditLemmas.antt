@@ -383,7 +383,7 @@ too_large edit new true false needs more = absurd (false≢true more)
 too_large edit new false more needs is = absurd (false≢true needs)
 
 -- the refusal of a value for which there is no room
-full_changed : (name : List ℕ) (edit : Edit) (value : QuotaValue) (edited : Result QuotaValue (Field × ℕ)) (blocks limit : ℕ)
+pub full_changed : (name : List ℕ) (edit : Edit) (value : QuotaValue) (edited : Result QuotaValue (Field × ℕ)) (blocks limit : ℕ)
     → IsTrue edit.needs_room → IsOkAnd edited (λ (new : QuotaValue). IsLacking new blocks limit) → edit.is_idle value ≡ false
     → changed name edit value edited ≡ Refused (refusal_of (FileFull blocks limit) name)
 full_changed name edit value (Ok new) blocks limit needs lacking wanted =
@@ -394,7 +394,7 @@ full_changed name edit value (Ok new) blocks limit needs lacking wanted =
 full_changed name edit value (Err out) blocks limit needs lacking wanted = absurd lacking
 
 -- the refusal of a value that does not fit
-unfit_refused : (name : List ℕ) (edit : Edit) (value : QuotaValue) (out : NoRoom) → out.id ≡ edit.id → edit.edited value ≡ Err (out.field, out.value)
+pub unfit_refused : (name : List ℕ) (edit : Edit) (value : QuotaValue) (out : NoRoom) → out.id ≡ edit.id → edit.edited value ≡ Err (out.field, out.value)
     → edit_step name edit value ≡ Refused (refusal_of (NoRoomFor out) name)
 unfit_refused name edit value out same is =
     ap (λ (r : Result QuotaValue (Field × ℕ)). changed name edit value r) is

@@ -2,10 +2,15 @@ mod ActLemmas
 mod ReasonLemmas
 mod OpeningLemmas
 mod PhaseLemmas
+mod FormLemmas
+mod DoingLemmas
+mod TakingLemmas
 mod ShowingLemmas
 mod ReportLemmas
 mod EditLemmas
 mod EditFileLemmas
+mod BatchInputLemmas
+mod BatchLemmas
 mod WordLemmas
 mod CommandLemmas
 mod IdentifierLemmas

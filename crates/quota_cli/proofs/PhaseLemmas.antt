@@ -1,10 +1,19 @@
 -- Commands in phases: what was carried out where a phase was refused, and where it passed and the next one was carried out.
-use Rattle.std.proofs.Common.{◌≡◌, ◌≢◌, ℕ, ◌≤◌, Bool, IsTrue, List, [], Option, None, Some, Ok, Err, Result, refl, sym, ap, subst, ◌∙◌, arith, append-nil}
+use Rattle.std.proofs.Common.{◌≡◌, ◌≢◌, ℕ, ◌≤◌, Bool, true, false, IsTrue, List, [], Option, None, Some, Ok, Err, Result, refl, sym, ap, subst, ◌∙◌, arith, append-nil}
 use Rattle.std.specs.Prelude.{⊤, unwrap_or}
+use Rattle.std.specs.FinMap.{empty}
+use Rattle.std.proofs.lemmas.Bool.{false≢true}
 use Rattle.std.proofs.lemmas.Option.{none-some}
 use Rattle.quota_types.specs.declared.file_kind.Kind.{Kind}
+use Rattle.quota_types.specs.declared.file_kind.Kind.TheVariants.{User}
+use Rattle.quota_types.specs.declared.file_kind.Format.{Format}
+use Rattle.quota_types.specs.declared.file_kind.Format.TheVariants.{V1}
 use Rattle.quota_blocks.specs.Frame.{OnlyReads}
+use Rattle.quota_blocks.specs.QuotaValue.{QuotaValue}
 use Rattle.quota_blocks.specs.Seen.{StoreSeen}
+use Rattle.quota_blocks.specs.declared.quota_file.OpenFault.{OpenFault}
+use Rattle.quota_map.specs.View.{IsView}
+use Rattle.quota_map.proofs.SeenLemmas.{view_or_refused}
 use Rattle.quota_blocks.specs.World.{World}
 use Rattle.id_names.specs.NamesFile.{NameLine}
 use Rattle.quota_cli.specs.declared.refusal.cause.Cause.{Cause}
@@ -17,10 +26,11 @@ use Rattle.quota_cli.specs.refusal.Refusals.{nowhere}
 use Rattle.quota_cli.specs.declared.refusal.reason.Place.{Place}
 use Rattle.quota_cli.specs.Outcome.{Outcome, Passed, Refused}
 use Rattle.quota_cli.specs.Run.{CarriesOut, HasReason, HasSteps, IsFault, IsPlacedBy, Uses}
-use Rattle.quota_cli.specs.Steps.{Naming, Steps, Stop, Then}
+use Rattle.quota_cli.specs.Steps.{Naming, Opening, Steps, Stop, Then}
 use Rattle.quota_cli.proofs.ActLemmas.{nothing_done}
 use Rattle.quota_cli.proofs.OpeningLemmas.{nothing_read, outside_same, refused_steps, store_later, unwritten, with_store}
-use Rattle.quota_cli.proofs.ReasonLemmas.{reason_since}
+use Rattle.quota_cli.specs.Opening.{opened}
+use Rattle.quota_cli.proofs.ReasonLemmas.{reason_but_stated, reason_since}
 
 -- Commands that were refused before anything was done.
 
@@ -256,3 +266,85 @@ pub naming_refused : (kind : Kind) (names : Option (List ℕ)) (next : List Name
 naming_refused kind None next uses more tells old store refusal reads fault may allows placed = absurd may
 naming_refused kind (Some file) next uses more tells old store refusal reads fault may allows placed =
     names_refused kind file next uses more tells old store refusal reads fault may (allows may) (placed_nowhere uses refusal placed)
+
+-- Phases that open a file.
+
+-- a value, for where none is seen
+nothing_value : QuotaValue
+nothing_value = record { kind = User; format = V1; grace = record { block = 0; inode = 0 }; flags = 0; records = empty }
+
+-- a value that is seen where the store tells
+some_value : (tells : Bool) (sees : QuotaValue → Type 0) → (IsTrue tells → (value : QuotaValue) × sees value) → (value : QuotaValue) × (IsTrue tells → sees value)
+some_value true sees seen = let one = seen refl in (one.0, λ told. one.1)
+some_value false sees seen = (nothing_value, λ told. absurd (false≢true told))
+
+-- steps over a value that is seen are those of the whole
+opening_steps : (name : List ℕ) (kind : Kind) (asked : Option Format) (next : QuotaValue → Steps) (tells : RunTells) (refusal : Option Refusal) (old new : RunSeen) (value : QuotaValue)
+    → IsView (old.store.files name) kind asked (Ok value) → HasSteps (next value) tells refusal old new → HasSteps (Opening kind asked name next) tells refusal old new
+opening_steps name kind asked next tells refusal old new value view has = record { acts = has.acts; by_steps = (Ok value, view, has.by_steps); done = has.done }
+
+opening_part : (name : List ℕ) (kind : Kind) (asked : Option Format) (next : QuotaValue → Steps) (tells : RunTells) (old new : RunSeen) (acts : List Act) (to : Outside) (ended : Option Refusal) (found : Result QuotaValue OpenFault)
+    → (value : QuotaValue) × IsView (old.store.files name) kind asked (Ok value)
+    → ((value : QuotaValue) → IsView (old.store.files name) kind asked (Ok value) → next value (outside_of old) acts to ended → AreDoneInPart tells acts old new)
+    → IsView (old.store.files name) kind asked found → Then (opened name found) next (outside_of old) acts to ended → AreDoneInPart tells acts old new
+opening_part name kind asked next tells old new acts to ended (Ok value) good part view steps = part value view steps
+opening_part name kind asked next tells old new acts to ended (Err fault) good part view steps = absurd (view_or_refused (old.store.files name) kind asked good.0 fault good.1 view)
+
+opening_complete : {F : Type 0} (name : List ℕ) (kind : Kind) (asked : Option Format) (next : QuotaValue → Steps) (old : RunSeen) (acts : List Act) (to : Outside) (found : Result QuotaValue OpenFault)
+    → (value : QuotaValue) × IsView (old.store.files name) kind asked (Ok value)
+    → ((value : QuotaValue) → IsView (old.store.files name) kind asked (Ok value) → next value (outside_of old) acts to None → F)
+    → IsView (old.store.files name) kind asked found → Then (opened name found) next (outside_of old) acts to None → F
+opening_complete name kind asked next old acts to (Ok value) good complete view steps = complete value view steps
+opening_complete name kind asked next old acts to (Err fault) good complete view steps = absurd (view_or_refused (old.store.files name) kind asked good.0 fault good.1 view)
+
+-- the next steps were carried out over each value that may be seen of the file
+abbrev pub IsCarriedOver : List ℕ → Kind → Option Format → (QuotaValue → Steps) → Uses → (Cause → List ℕ → Type 0) → RunTells → RunSeen → RunSeen → Result (Unit {0}) Refusal → Type 0
+IsCarriedOver name kind asked next uses may tells old new result =
+    (value : QuotaValue) → (IsTrue tells.store → IsView (old.store.files name) kind asked (Ok value)) → CarriesOut (next value) uses may tells old new result
+
+opened_carried : (name : List ℕ) (kind : Kind) (asked : Option Format) (next : QuotaValue → Steps) (uses : Uses) (may : Cause → List ℕ → Type 0) (tells : RunTells) (old new : RunSeen) (result : Result (Unit {0}) Refusal)
+    → (IsTrue tells.store → (value : QuotaValue) × IsView (old.store.files name) kind asked (Ok value))
+    → IsCarriedOver name kind asked next uses may tells old new result → CarriesOut (Opening kind asked name next) uses may tells old new result
+opened_carried name kind asked next uses may tells old new (Ok done) seen each =
+    let some = some_value tells.store (λ (value : QuotaValue). IsView (old.store.files name) kind asked (Ok value)) seen in
+    let one = each some.0 some.1 in
+    record {
+      done = λ told. opening_steps name kind asked next tells None old new some.0 (some.1 told.store) (one.done told);
+      refused = tt;
+      part = λ told acts to ended by. opening_part name kind asked next tells old new acts to ended by.0 (seen told.store)
+          (λ value view steps. (each value (λ t. view)).part told acts to ended steps) by.1 by.2;
+      complete = λ told acts to by. tt;
+      may_refuse = tt;
+      placed = tt;
+      only_reads = one.only_reads;
+      all_or_nothing = λ whole. tt;
+      quiet = one.quiet;
+      later = one.later;
+    }
+opened_carried name kind asked next uses may tells old new (Err refusal) seen each =
+    let some = some_value tells.store (λ (value : QuotaValue). IsView (old.store.files name) kind asked (Ok value)) seen in
+    let one = each some.0 some.1 in
+    record {
+      done = tt;
+      refused = reason_but_stated uses.warns old new _ _ refusal.cause
+          (λ stated told. opening_steps name kind asked next tells (Some refusal) old new some.0 (some.1 told.store) (stated told)) one.refused;
+      part = λ told acts to ended by. opening_part name kind asked next tells old new acts to ended by.0 (seen told.store)
+          (λ value view steps. (each value (λ t. view)).part told acts to ended steps) by.1 by.2;
+      complete = λ told acts to by. opening_complete name kind asked next old acts to by.0 (seen told.store)
+          (λ value view steps. (each value (λ t. view)).complete told acts to steps) by.1 by.2;
+      may_refuse = one.may_refuse;
+      placed = one.placed;
+      only_reads = one.only_reads;
+      all_or_nothing = one.all_or_nothing;
+      quiet = one.quiet;
+      later = one.later;
+    }
+
+-- a file was opened, and the next steps were carried out over each value that may be seen of it
+pub carries_opening : (name : List ℕ) (kind : Kind) (asked : Option Format) (next : QuotaValue → Steps) (uses : Uses) (may more : Cause → List ℕ → Type 0) (tells : RunTells) (old : RunSeen) (store : StoreSeen) (new : RunSeen) (result : Result (Unit {0}) Refusal)
+    → OnlyReads name old.store store → (IsTrue tells.store → (value : QuotaValue) × IsView (old.store.files name) kind asked (Ok value)) → ((cause : Cause) (said : List ℕ) → may cause said → more cause said)
+    → ((value : QuotaValue) → (IsTrue tells.store → IsView (old.store.files name) kind asked (Ok value)) → CarriesOut (next value) uses may tells (with_store old store) new result)
+    → CarriesOut (Opening kind asked name next) uses more tells old new result
+carries_opening name kind asked next uses may more tells old store new result reads seen allows each =
+    opened_carried name kind asked next uses more tells old new result seen
+    (λ value view. carries_on name (next value) (next value) uses may more tells old store new result reads (λ told acts to ended by. by) (λ told acts to ended by. by) allows (each value view))

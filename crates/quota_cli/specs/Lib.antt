@@ -5,6 +5,7 @@ pub mod Naming
 pub mod Opening
 pub mod Steps
 pub mod Run
+pub mod Taking
 pub mod Headline
 pub mod commands
 pub mod refusal

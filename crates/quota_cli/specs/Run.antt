@@ -1,9 +1,10 @@
 -- How a command is carried out, whichever it is.
-use Rattle.std.specs.Prelude.{◌≡◌, ◌≢◌, ◌⊎◌, ℕ, Bool, false, IsTrue, List, Option, Some, None, Result, OnOk, IfErr, ⊤}
+use Rattle.std.specs.Prelude.{◌≡◌, ◌≢◌, ◌⊎◌, ◌&&◌, ℕ, Bool, false, IsTrue, List, Option, Some, None, Result, OnOk, IfErr, ⊤}
 use Rattle.quota_blocks.specs.Count.{Rose}
 use Rattle.quota_cli.specs.declared.refusal.cause.Cause.{Cause}
 use Rattle.quota_cli.specs.declared.refusal.cause.Cause.TheVariants.{StoreFault, SourceFault, SinkFault, LinkFault, Memory}
 use Rattle.quota_cli.specs.declared.refusal.reason.Refusal.{Refusal}
+use Rattle.quota_cli.specs.refusal.Refusals.{stands_in_line}
 use Rattle.quota_cli.specs.refusal.Status.{status_of}
 use Rattle.quota_cli.specs.Act.{Act}
 use Rattle.quota_cli.specs.Done.{AreDone, AreDoneInPart, IsLater, IsUnwritten, IsWorldTold, Outside, RunSeen, RunTells, outside_of}
@@ -33,10 +34,10 @@ HasReason warns old new stated Memory = ⊤
 HasReason warns old new stated _ = stated
 
 -- A refusal stands in no line of a script, unless the command reads commands, and in no line of an input, unless it reads
--- edits.
+-- edits and is one of a word or of a value for which there is no room.
 pub record IsPlacedBy (uses : Uses) (refusal : Refusal) : Type 0 where
   pub line : uses.reads_commands ≡ false → refusal.place.line ≡ None
-  pub input_line : uses.reads_edits ≡ false → refusal.place.input_line ≡ None
+  pub input_line : (uses.reads_edits && stands_in_line refusal.cause) ≡ false → refusal.place.input_line ≡ None
 
 -- the acts by which the steps of a command end with this refusal, or with none; they were done
 pub record HasSteps (steps : Steps) (tells : RunTells) (refusal : Option Refusal) (old new : RunSeen) : Type 0 where

@@ -3,5 +3,7 @@ pub mod Showing
 pub mod Report
 pub mod Print
 pub mod Edits
+pub mod Apply
+pub mod Batch
 pub mod Built
 pub mod Table

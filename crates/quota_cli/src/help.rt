@@ -24,11 +24,13 @@ Built so far:
                         new grace periods, in seconds
   setquota [-u|-g] [-F FORMAT] [--names FILE] -T NAME BTIME ITIME FILE
                         what is left of the grace periods of one identifier
+  setquota [-u|-g] [-F FORMAT] [--names FILE] -b [--input FILE] FILE
+                        new limits of many identifiers, a line of input each
   edquota  [-u|-g] [-F FORMAT] [--names FILE] --print NAME FILE
                         the limits of one identifier as a form
-Their words are read, and they are not built yet:
-  setquota [-u|-g] [-F FORMAT] [--names FILE] -b [--input FILE] FILE
   edquota  [-u|-g] [-F FORMAT] [--names FILE] --apply [--input FILE] NAME FILE
+                        the limits that such a form asks for
+Their words are read, and they are not built yet:
   quotacheck [-u|-g] [-c] [-F FORMAT] [--device NUMBER] [--input FILE] FILE
   convertquota [-u|-g] -f OLD,NEW SOURCE TARGET
   rquotad [--format FORMAT] --calls NUMBER --port NUMBER
@@ -40,7 +42,8 @@ Their words are read, and they are not built yet:
 vfsv0 or vfsv1; without it the file says which of the last two it has. Limits
 of blocks are in KiB and may end in K, M, G or T, those of inodes in k, m, g
 or t. A time is a number of seconds, or unset. --names names a file in the form
-of passwd(5) or group(5); without it NAME is a number.
+of passwd(5) or group(5); without it NAME is a number. --input names the file
+that is read in place of standard input.
 
 Exit status: 0 done, 1 refused, 2 wrong words, 3 not a quota file that is asked
 for, or a damaged one, 4 a fault of the system, 5 want of memory.

@@ -4,12 +4,14 @@ use Rattle.quota_cli.specs.declared.refusal.cause.Cause.{Cause}
 use Rattle.quota_cli.specs.declared.refusal.cause.Cause.TheVariants.{Memory}
 use Rattle.quota_cli.specs.declared.refusal.reason.Refusal.{Refusal}
 use Rattle.quota_cli.specs.declared.words.command.Command.{Command}
-use Rattle.quota_cli.specs.declared.words.command.Command.TheVariants.{Report, SetLimits, CopyLimits, SetGrace, SetTimes, PrintForm}
+use Rattle.quota_cli.specs.declared.words.command.Command.TheVariants.{Report, SetLimits, CopyLimits, SetGrace, SetTimes, Batch, PrintForm, ApplyForm}
 use Rattle.quota_cli.specs.declared.words.edit.EditWords.TheVariants.{Limits, Copy, Grace, Times}
 use Rattle.quota_cli.specs.refusal.Refusals.{refusal_of}
 use Rattle.quota_cli.specs.Run.{Uses}
 use Rattle.quota_cli.specs.Steps.{Steps, Stop}
 use Rattle.quota_cli.specs.declared.commands.occasion.Occasion.{Occasion}
+use Rattle.quota_cli.specs.commands.Apply.{ApplyMayRefuse, ApplySteps, apply_uses}
+use Rattle.quota_cli.specs.commands.Batch.{BatchMayRefuse, BatchSteps, batch_uses}
 use Rattle.quota_cli.specs.commands.Built.{unknown_command}
 use Rattle.quota_cli.specs.commands.Edits.{EditMayRefuse, EditSteps, edit_uses, faulty_edit}
 use Rattle.quota_cli.specs.commands.Print.{PrintMayRefuse, PrintSteps, faulty_print}
@@ -23,7 +25,9 @@ StepsOf (SetLimits common name limits file) = EditSteps common (Limits name limi
 StepsOf (CopyLimits common proto name file) = EditSteps common (Copy proto name) file
 StepsOf (SetGrace common block inode file) = EditSteps common (Grace block inode) file
 StepsOf (SetTimes common name block inode file) = EditSteps common (Times name block inode) file
+StepsOf (Batch common input file) = BatchSteps common input file
 StepsOf (PrintForm common name file) = PrintSteps common name file
+StepsOf (ApplyForm common input name file) = ApplySteps common input name file
 StepsOf _ = λ occasion. Stop unknown_command
 
 -- the causes for which a command may be refused, whatever is told, with the name that is said
@@ -33,7 +37,9 @@ MayRefuseCommand (SetLimits common name limits file) = EditMayRefuse common (Lim
 MayRefuseCommand (CopyLimits common proto name file) = EditMayRefuse common (Copy proto name) file
 MayRefuseCommand (SetGrace common block inode file) = EditMayRefuse common (Grace block inode) file
 MayRefuseCommand (SetTimes common name block inode file) = EditMayRefuse common (Times name block inode) file
+MayRefuseCommand (Batch common input file) = BatchMayRefuse common input file
 MayRefuseCommand (PrintForm common name file) = PrintMayRefuse common name file
+MayRefuseCommand (ApplyForm common input name file) = ApplyMayRefuse common input name file
 MayRefuseCommand _ = λ cause name. refusal_of cause name ≡ unknown_command
 
 -- The refusal of the first faulty word of a command, among those that stand for an identifier, a number or a time, where it
@@ -44,7 +50,9 @@ faulty_word (SetLimits common name limits file) = faulty_edit common (Limits nam
 faulty_word (CopyLimits common proto name file) = faulty_edit common (Copy proto name)
 faulty_word (SetGrace common block inode file) = faulty_edit common (Grace block inode)
 faulty_word (SetTimes common name block inode file) = faulty_edit common (Times name block inode)
+faulty_word (Batch common input file) = None
 faulty_word (PrintForm common name file) = faulty_print common name
+faulty_word (ApplyForm common input name file) = faulty_print common name
 faulty_word _ = Some unknown_command
 
 -- words that are refused use nothing
@@ -58,7 +66,9 @@ uses_of (SetLimits _ _ _ _) = edit_uses false
 uses_of (CopyLimits _ _ _ _) = edit_uses false
 uses_of (SetGrace _ _ _ _) = edit_uses false
 uses_of (SetTimes _ _ _ _ _) = edit_uses true
+uses_of (Batch _ input _) = batch_uses input
 uses_of (PrintForm _ _ _) = showing_uses
+uses_of (ApplyForm _ input _ _) = apply_uses input
 uses_of _ = use_nothing
 
 -- The file that a command replaces as a whole, which stays as it was where the command was refused. New times may be refused
@@ -67,6 +77,7 @@ abbrev pub replaced_file : Command → Option (List ℕ)
 replaced_file (SetLimits _ _ _ file) = Some file
 replaced_file (CopyLimits _ _ _ file) = Some file
 replaced_file (SetGrace _ _ _ file) = Some file
+replaced_file (ApplyForm _ _ _ file) = Some file
 replaced_file _ = None
 
 -- what is asked for by words that were read, or their refusal: the steps

@@ -35,11 +35,16 @@ abbrev pub identifier_text : Bool → ℕ → List (List ℕ)
 identifier_text true id = codes " of " ∷ decimal id ∷ []
 identifier_text false id = []
 
+-- what an error line calls an input: its file, or the standard input where it has no name
+abbrev pub input_called : List ℕ → List ℕ
+input_called [] = codes "input"
+input_called name = name
+
 -- what an error line says of a cause and the file or the word that it is about, in pieces
 abbrev pub text_of : Cause → List ℕ → List (List ℕ)
 text_of StoreFault name = codes "store fault" ∷ []
 text_of NoFile name = name ∷ codes ": no such file" ∷ []
-text_of TooLarge name = name ∷ codes ": too large" ∷ []
+text_of TooLarge name = input_called name ∷ codes ": too large" ∷ []
 text_of SourceFault name = codes "input fault" ∷ []
 text_of SinkFault name = codes "output fault" ∷ []
 text_of LinkFault name = codes "link fault" ∷ []
@@ -61,8 +66,8 @@ text_of BadNumber name = codes "bad number " ∷ name ∷ []
 text_of TargetExists name = name ∷ codes ": exists already" ∷ []
 text_of SameName name = name ∷ codes ": same name" ∷ []
 text_of (BadForm line) name = codes "bad form at line " ∷ decimal line ∷ []
-text_of (BadLine line) name = name ∷ codes ": bad line " ∷ decimal line ∷ []
-text_of (LongLine line) name = name ∷ codes ": long line " ∷ decimal line ∷ []
+text_of (BadLine line) name = input_called name ∷ codes ": bad line " ∷ decimal line ∷ []
+text_of (LongLine line) name = input_called name ∷ codes ": long line " ∷ decimal line ∷ []
 text_of (Conflict line first) name = name ∷ codes ": line " ∷ decimal line ∷ codes " conflicts with line " ∷ decimal first ∷ []
 text_of (Usage kind word) name = codes "usage: " ∷ usage_name kind ∷ codes " at word " ∷ decimal word ∷ []
 

@@ -21,16 +21,21 @@ impl<R> StreamSource<R> {
 
 impl<R: Read> Source for StreamSource<R> {
     ghost use Rattle.std.specs.Prelude.{false, [], ⊤};
+    ghost use Rattle.quota_blocks.specs.Behind.{untold};
 
     ghost tells = { false };
 
     ghost seen = { λ s. record { left = []; faults = s.faults } };
 
-    ghost keeps = { λ _ _. ⊤ };
+    ghost keeps = { λ _ _ _. ⊤ };
 
     ghost keeps_itself = { λ _. tt };
 
-    ghost keeps_on = { λ _ _ _ _ _. tt };
+    ghost keeps_on = { λ _ _ _ _ _ _. tt };
+
+    ghost keeps_any = { λ _ _ _. tt };
+
+    ghost keeps_behind = { λ _ _ _ _ told. untold told };
 
     /// Reads what the stream gives at once, and again where a signal interrupts. Each turn but the last one is such an
     /// interruption, so the bound on the turns is never met.

@@ -106,7 +106,11 @@ fn edit_named<S: Store, E: Sink>(
 }
 
 /// Opens a file, edits it, and warns of the times that the edit skipped.
-fn edit_file<S: Store, E: Sink>(
+///
+/// # Errors
+///
+/// The file is not opened, or the edit is refused; or the error output fails in a warning.
+pub fn edit_file<S: Store, E: Sink>(
     alloc: Global,
     kind: Kind,
     format: Option<Format>,
@@ -179,7 +183,7 @@ fn unskipped(done: Result<(), EditFault>) -> Result<Skipped, EditFault>
 }
 
 /// What is said where an edit was refused.
-fn edit_cause(fault: EditFault) -> Cause
+pub fn edit_cause(fault: EditFault) -> Cause
     ensures { result ≡ edit_cause fault }
 {
     match fault {

@@ -7,7 +7,12 @@ ghost use Rattle.quota_cli.specs.commands.Built.{is_built};
 ghost use Rattle.quota_cli.specs.commands.Table.{MayRefuseCommand, StepsOf, faulty_word, replaced_file, uses_of};
 ghost use Rattle.quota_cli.specs.declared.refusal.reason.Refusal.{Refusal};
 
+mod apply;
+mod batch;
+mod batch_input;
+mod batch_line;
 mod edits;
+mod form_input;
 mod naming;
 mod occasion;
 mod opening;
@@ -96,9 +101,20 @@ pub fn carry_out<S: Store, I: Source, O: Sink, E: Sink, L: Link>(
             let words = EditWords::Times { name, block, inode };
             edits::edit_by_words(alloc, common, words, file, store, err, occasion)
         }
+        Command::Batch {
+            common,
+            input: from,
+            file,
+        } => batch::apply_lines(alloc, common, from, file, store, input, occasion.now),
         Command::PrintForm { common, name, file } => {
             print::print_by_word(alloc, common, name, file, store, out)
         }
+        Command::ApplyForm {
+            common,
+            input: from,
+            name,
+            file,
+        } => apply::apply_by_word(alloc, common, from, name, file, store, input, err, occasion),
         _ => unreachable!(),
     }
 }

@@ -145,7 +145,7 @@ fn write_form<O: Sink>(
 }
 
 /// `#` and the identifier.
-fn numbered(id: u32) -> ArrayVec<u8, 16>
+pub fn numbered(id: u32) -> ArrayVec<u8, 16>
     ensures { result.items ≡ numbered id }
 {
     let mut text = ArrayVec::new();

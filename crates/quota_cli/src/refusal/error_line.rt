@@ -3,7 +3,7 @@ ghost use Rattle.std.specs.List.{concat};
 ghost use Rattle.quota_blocks.specs.Count.{Rose};
 ghost use Rattle.quota_blocks.specs.Text.{AppendsPrefix};
 ghost use Rattle.quota_cli.specs.declared.refusal.cause.Cause.TheVariants.{Damaged, NoRoom as Unfit};
-ghost use Rattle.quota_cli.specs.refusal.Line.{error_line, identifier_text, place_text};
+ghost use Rattle.quota_cli.specs.refusal.Line.{error_line, identifier_text, input_called, place_text};
 ghost use Rattle.quota_cli.specs.refusal.Piece.{joined};
 
 use super::cause::Cause;
@@ -48,7 +48,11 @@ fn write_cause<O: Sink>(
     match cause {
         Cause::StoreFault => write_line(sink, place, &[Text(b"store fault")]),
         Cause::NoFile => write_line(sink, place, &[Text(name), Text(b": no such file")]),
-        Cause::TooLarge => write_line(sink, place, &[Text(name), Text(b": too large")]),
+        Cause::TooLarge => write_line(
+            sink,
+            place,
+            &[Text(input_called(name)), Text(b": too large")],
+        ),
         Cause::SourceFault => write_line(sink, place, &[Text(b"input fault")]),
         Cause::SinkFault => write_line(sink, place, &[Text(b"output fault")]),
         Cause::LinkFault => write_line(sink, place, &[Text(b"link fault")]),
@@ -70,12 +74,20 @@ fn write_cause<O: Sink>(
         Cause::BadLine(line) => write_line(
             sink,
             place,
-            &[Text(name), Text(b": bad line "), Number(u128::from(line))],
+            &[
+                Text(input_called(name)),
+                Text(b": bad line "),
+                Number(u128::from(line)),
+            ],
         ),
         Cause::LongLine(line) => write_line(
             sink,
             place,
-            &[Text(name), Text(b": long line "), Number(u128::from(line))],
+            &[
+                Text(input_called(name)),
+                Text(b": long line "),
+                Number(u128::from(line)),
+            ],
         ),
         Cause::Conflict { line, first } => write_line(
             sink,
@@ -112,6 +124,13 @@ fn write_cause<O: Sink>(
             ],
         ),
     }
+}
+
+/// What an input of this name is called; the standard input has none.
+fn input_called(name: &[u8]) -> &[u8]
+    ensures { result.now ≡ input_called name.now }
+{
+    if name.is_empty() { b"input" } else { name }
 }
 
 /// Writes the line on a damage, which is in a record or in a block, and may be in an entry of an identifier.

@@ -33,8 +33,10 @@ fn is_built_form(form: Form) -> bool
         Form::Reporting
             | Form::Limiting
             | Form::Copying
+            | Form::Batching
             | Form::SettingGrace
             | Form::SettingTimes
             | Form::Printing
+            | Form::Applying
     )
 }

@@ -25,6 +25,6 @@ pub use command::{Command, Common};
 pub use edit::{EditWords, FileEdit};
 pub use edits::{names_wanted, read_edit};
 pub use export::{Export, ExportList};
-pub use numbers::read_identifier;
+pub use numbers::{read_identifier, read_limits};
 pub use reading::{UsageFault, read_words};
 pub use word::Word;

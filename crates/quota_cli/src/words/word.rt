@@ -1,4 +1,4 @@
-ghost use Rattle.std.specs.Prelude.{◌≡◌, [], IfOk};
+ghost use Rattle.std.specs.Prelude.{◌≡◌, [], IfOk, string_bytes};
 
 use std::alloc::{AllocError, Global};
 use std::marker::Model;
@@ -38,6 +38,20 @@ impl Word {
         Ok(Word {
             text: String::from_str(alloc, text)?,
         })
+    }
+
+    /// The word that a text is.
+    pub fn of(text: String) -> Self
+        ensures { result ≡ string_bytes text }
+    {
+        Word { text }
+    }
+
+    /// The text that the word is.
+    pub fn into_string(self) -> String
+        ensures { string_bytes result ≡ self }
+    {
+        self.text
     }
 
     /// The word as a text.

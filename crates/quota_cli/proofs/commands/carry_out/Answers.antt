@@ -23,3 +23,11 @@ returns-in-SetTimes-clause-carries g c = rw c.in-SetTimes.is (
 pub returns-in-PrintForm-clause-carries : goal.returns-in-PrintForm-clause-carries
 returns-in-PrintForm-clause-carries g c = rw c.in-PrintForm.is (
     c.print_by_word.ensures.carries (g.I.Source.seen c.args.input.now) (g.E.Sink.seen c.args.err.now) (g.L.Link.seen c.args.link.now) g.I.Source.tells g.E.Sink.tells g.L.Link.tells c.args.occasion.now c.args.occasion.line)
+
+pub returns-in-Batch-clause-carries : goal.returns-in-Batch-clause-carries
+returns-in-Batch-clause-carries g c = rw c.in-Batch.is (
+    c.apply_lines.ensures.carries (g.O.Sink.seen c.args.out.now) (g.E.Sink.seen c.args.err.now) (g.L.Link.seen c.args.link.now) g.O.Sink.tells g.E.Sink.tells g.L.Link.tells c.args.occasion.line)
+
+pub returns-in-ApplyForm-clause-carries : goal.returns-in-ApplyForm-clause-carries
+returns-in-ApplyForm-clause-carries g c = rw c.in-ApplyForm.is (
+    c.apply_by_word.ensures.carries (g.O.Sink.seen c.args.out.now) (g.L.Link.seen c.args.link.now) g.O.Sink.tells g.L.Link.tells)

@@ -19,11 +19,11 @@ returns-in-NoFile-clause-fault g c = rw c.in-NoFile.is c.write_line-in-NoFile.en
 
 pub returns-in-TooLarge-clause-ok : goal.returns-in-TooLarge-clause-ok
 unfolding error_line
-returns-in-TooLarge-clause-ok g c = rw c.in-TooLarge.is c.write_line-in-TooLarge.ensures.ok
+returns-in-TooLarge-clause-ok g c = rw c.in-TooLarge.is (rw c.input_called.ensures at c.write_line-in-TooLarge.ensures.ok)
 
 pub returns-in-TooLarge-clause-fault : goal.returns-in-TooLarge-clause-fault
 unfolding error_line
-returns-in-TooLarge-clause-fault g c = rw c.in-TooLarge.is c.write_line-in-TooLarge.ensures.fault
+returns-in-TooLarge-clause-fault g c = rw c.in-TooLarge.is (rw c.input_called.ensures at c.write_line-in-TooLarge.ensures.fault)
 
 pub returns-in-SourceFault-clause-ok : goal.returns-in-SourceFault-clause-ok
 unfolding error_line
@@ -139,19 +139,19 @@ returns-in-BadForm-clause-fault g c = rw c.in-BadForm.is (rw c.from.ensures at c
 
 pub returns-in-BadLine-clause-ok : goal.returns-in-BadLine-clause-ok
 unfolding error_line
-returns-in-BadLine-clause-ok g c = rw c.in-BadLine.is (rw c.from-in-BadLine.ensures at c.write_line-in-BadLine.ensures.ok)
+returns-in-BadLine-clause-ok g c = rw c.in-BadLine.is (rw c.from-in-BadLine.ensures at rw c.input_called-in-BadLine.ensures at c.write_line-in-BadLine.ensures.ok)
 
 pub returns-in-BadLine-clause-fault : goal.returns-in-BadLine-clause-fault
 unfolding error_line
-returns-in-BadLine-clause-fault g c = rw c.in-BadLine.is (rw c.from-in-BadLine.ensures at c.write_line-in-BadLine.ensures.fault)
+returns-in-BadLine-clause-fault g c = rw c.in-BadLine.is (rw c.from-in-BadLine.ensures at rw c.input_called-in-BadLine.ensures at c.write_line-in-BadLine.ensures.fault)
 
 pub returns-in-LongLine-clause-ok : goal.returns-in-LongLine-clause-ok
 unfolding error_line
-returns-in-LongLine-clause-ok g c = rw c.in-LongLine.is (rw c.from-in-LongLine.ensures at c.write_line-in-LongLine.ensures.ok)
+returns-in-LongLine-clause-ok g c = rw c.in-LongLine.is (rw c.from-in-LongLine.ensures at rw c.input_called-in-LongLine.ensures at c.write_line-in-LongLine.ensures.ok)
 
 pub returns-in-LongLine-clause-fault : goal.returns-in-LongLine-clause-fault
 unfolding error_line
-returns-in-LongLine-clause-fault g c = rw c.in-LongLine.is (rw c.from-in-LongLine.ensures at c.write_line-in-LongLine.ensures.fault)
+returns-in-LongLine-clause-fault g c = rw c.in-LongLine.is (rw c.from-in-LongLine.ensures at rw c.input_called-in-LongLine.ensures at c.write_line-in-LongLine.ensures.fault)
 
 pub returns-in-Conflict-clause-ok : goal.returns-in-Conflict-clause-ok
 unfolding error_line
