@@ -162,6 +162,50 @@ got=0
 "$run" edquota --print -F vfsold 1000 q >/dev/full 2>err.txt || got=$?
 same 'a form to a full output' "$got $(cat err.txt)" '4 quota: output fault'
 
+# Lines of limits on the standard input, or in a file: those before a refused one stay. A form is printed, changed and
+# applied.
+printf '7 1 2 0 0\n# note\nalice 100 200 10 20\n' >lines
+: >q
+expect 'a batch of the standard input' 0 '' '' setquota -F vfsold --names names -b q <lines
+limits="$head
+#7           --          0          1          2      -        0        0        0      -
+#1000        --          0        100        200      -        0       10       20      -"
+expect 'the report of the batch' 0 "$limits" '' repquota -F vfsold -v q
+: >r
+expect 'a batch of a file' 0 '' '' setquota -F vfsold --names names -b --input lines r <.
+same 'both batches make the same file' "$(cmp q r && echo same)" same
+rm r
+printf '7 1 2 0 0\n# note\n8 1 2 0\n9 1 1 1 1\n' >lines
+: >q
+expect 'a bad line of the standard input' 1 '' 'quota: input: bad line 3' setquota -F vfsold -b q <lines
+expect 'the lines before a bad one stay' 0 "$head
+#7           --          0          1          2      -        0        0        0      -" '' repquota -F vfsold -v q
+expect 'a bad line of a file' 1 '' 'quota: lines: bad line 3' setquota -F vfsold -b --input lines q
+printf '7 5 6 0 0\n8 x 2 0 0' >lines
+expect 'a faulty word of a file' 1 '' 'quota: input line 2: bad number x' setquota -F vfsold -b --input lines q
+expect 'the line before it stays' 0 "$head
+#7           --          0          5          6      -        0        0        0      -" '' repquota -F vfsold -v q
+cp q want
+expect 'an input that is absent' 1 '' 'quota: r: no such file' setquota -F vfsold -b --input r q
+expect 'an input that is a folder' 4 '' 'quota: store fault' setquota -F vfsold -b --input . q
+expect 'a standard input that is a folder' 4 '' 'quota: input fault' setquota -F vfsold -b q <.
+expect 'an input of no bytes' 0 '' '' setquota -F vfsold -b q </dev/null
+same 'they leave the file' "$(cmp q want && echo same)" same
+: >q
+"$run" edquota --print -F vfsold --names names alice q | sed '3s/.*/  q 0 100 200 0 10 20/' >form
+expect 'a form of the standard input' 0 '' '' edquota --apply -F vfsold --names names alice q <form
+expect 'the report of the form' 0 "$head
+#1000        --          0        100        200      -        0       10       20      -" '' repquota -F vfsold -v q
+cp q want
+: >q
+expect 'a form of a file' 0 '' '' edquota --apply -F vfsold --names names --input form alice q <.
+same 'both forms make the same file' "$(cmp q want && echo same)" same
+expect 'a form of another name' 1 '' 'quota: bad form at line 1' edquota --apply -F vfsold --names names bob q <form
+head -n 1 form >form.cut
+expect 'a form that is cut' 1 '' 'quota: bad form at line 2' edquota --apply -F vfsold --names names --input form.cut alice q
+same 'a refused form leaves the file' "$(cmp q want && echo same)" same
+same 'nothing is left beside the files' "$(echo *.new)" ''
+
 # The owner and the permissions stay, and a file that was left behind is not in the way.
 : >q
 chmod 640 q
@@ -209,6 +253,9 @@ $(printf '%-13s' "$title")         used       soft       hard  grace    files   
 -----------------------------------------------------------------------------------------
 #1000        --          0        100        200      -        0       10       20      -
 #70000       --          0          1          2      -        0        3        4      -" '' repquota "$letter" -v -F "$format" t
+    expect "a batch in $format of a $kind" 0 '' '' setquota "$letter" -F "$format" -b t <<<$'70000 0 0 0 0\n1000 1 2 3 4'
+    same "its report in $format of a $kind" "$("$run" repquota "$letter" -v -F "$format" t | sed 1,4d)" \
+        '#1000        --          0          1          2      -        0        3        4      -'
     same "nothing is left beside $format of a $kind" "$(echo t.*)" ''
 done
 expect 'a flat file that is not asked for as one' 3 '' 'quota: t: not a quota file' repquota -u t

@@ -1,13 +1,17 @@
 //! Whole runs over objects in memory, each row of a table one run, and the link over a socket of the system.
 
+mod applied;
+mod batches;
 mod calls;
 mod edits;
 mod forms;
 mod limits;
 mod names;
+mod refused_lines;
 mod report;
 mod runs;
 mod shown;
+mod sizes;
 mod trees;
 mod turning;
 mod udp;

@@ -1,5 +1,6 @@
-use super::runs::{NONE, NOW, push_record, run_with};
-use super::trees::six_blocks;
+use super::edits::timed;
+use super::runs::{Failing, HEAD, NONE, NOW, push_record, run_with};
+use super::trees::{seven_blocks, six_blocks};
 use std::alloc::{AllocError, Global};
 use std::test::Fail;
 
@@ -66,9 +67,85 @@ users        --       1128          0          0      -       13        0       
 }
 
 #[test]
-fn a_name_stands_for_its_identifier(rt: HostRuntime) -> Result<(), Fail> {
+fn one_that_has_no_name_is_shown_by_the_number(rt: HostRuntime) -> Result<(), Fail> {
+    let alloc = rt.alloc();
+    let seven = seven_blocks(alloc)?;
+    let named =
+        "alice        --          4          0          0      -        1        0        0      -
+#65534       --          8          0          0      -        2        0        0      -
+";
+    let numbers =
+        "#1000        --          4          0          0      -        1        0        0      -
+#65534       --          8          0          0      -        2        0        0      -
+";
+    for (line, want) in [
+        ("repquota --names other q", named),
+        ("repquota -n --names other q", numbers),
+        ("repquota q", numbers),
+    ] {
+        let ran = run_with(&rt, alloc, line, &seven, USERS, NOW, NONE)?;
+        assert_eq!(rt; ran.status, 0, "{line}");
+        assert_eq!(rt; ran.err.bytes(), b"".as_slice(), "{line}");
+        assert_eq!(rt; ran.out_from(HEAD.len()), want.as_bytes(), "{line}");
+    }
+    Ok(())
+}
+
+#[test]
+fn a_store_that_fails_under_the_names_ends_the_command(rt: HostRuntime) -> Result<(), Fail> {
     let alloc = rt.alloc();
     let six = six_blocks(alloc)?;
+    let plain = run_with(&rt, alloc, "repquota q", &six, USERS, NOW, NONE)?;
+    let whole = run_with(
+        &rt,
+        alloc,
+        "repquota --names other q",
+        &six,
+        USERS,
+        NOW,
+        NONE,
+    )?;
+    assert!(rt; plain.store.reads() < whole.store.reads());
+    let mut done = false;
+    for call in 1..99u64 {
+        let failing = Failing {
+            store: call,
+            ..NONE
+        };
+        let ran = run_with(
+            &rt,
+            alloc,
+            "repquota --names other q",
+            &six,
+            USERS,
+            NOW,
+            failing,
+        )?;
+        done = ran.status == 0;
+        if done {
+            assert_eq!(rt; ran.out.bytes(), whole.out.bytes());
+            break;
+        }
+        assert_eq!(rt; ran.status, 4, "call {call}");
+        assert_eq!(rt;
+            ran.err.bytes(),
+            b"quota: store fault\n".as_slice(),
+            "call {call}"
+        );
+        assert!(rt;
+            whole.out.bytes().starts_with(ran.out.bytes()),
+            "call {call}"
+        );
+        assert!(rt; call > 2 || ran.out.bytes().is_empty(), "call {call}");
+    }
+    assert!(rt; done);
+    Ok(())
+}
+
+#[test]
+fn a_name_stands_for_its_identifier(rt: HostRuntime) -> Result<(), Fail> {
+    let alloc = rt.alloc();
+    let old = timed(&rt, alloc)?;
     for (by_name, by_number) in [
         (
             "setquota --names other alice 100 200 0 0 q",
@@ -87,9 +164,14 @@ fn a_name_stands_for_its_identifier(rt: HostRuntime) -> Result<(), Fail> {
             "setquota --names other 01000 1 1 1 1 q",
             "setquota 1000 1 1 1 1 q",
         ),
+        (
+            "setquota --names other -p 000000000000000000001000 bob q",
+            "setquota -p 1000 1001 q",
+        ),
     ] {
-        let one = run_with(&rt, alloc, by_name, &six, USERS, NOW, NONE)?;
-        let other = run_with(&rt, alloc, by_number, &six, USERS, NOW, NONE)?;
+        let one = run_with(&rt, alloc, by_name, &old, USERS, NOW, NONE)?;
+        let other = run_with(&rt, alloc, by_number, &old, USERS, NOW, NONE)?;
+        assert!(rt; one.file("q") != Some(old.as_slice()), "{by_name}");
         assert_eq!(rt; (one.status, other.status), (0, 0), "{by_name}");
         assert!(rt; one.file("q") == other.file("q"), "{by_name}");
         assert_eq!(rt; one.err.bytes(), other.err.bytes(), "{by_name}");
@@ -103,6 +185,12 @@ fn a_file_of_names_is_refused_before_the_other_words(rt: HostRuntime) -> Result<
     let six = six_blocks(alloc)?;
     for (line, names, want) in [
         ("repquota --names n r", USERS, "quota: n: no such file\n"),
+        ("repquota -n --names n q", USERS, "quota: n: no such file\n"),
+        (
+            "repquota -n --names other q",
+            GROUPS,
+            "quota: other: bad line 1\n",
+        ),
         (
             "repquota --names other r",
             GROUPS,

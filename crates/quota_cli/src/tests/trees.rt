@@ -1,13 +1,7 @@
-use super::runs::{NONE, NOW, Ran, run_over};
+use super::runs::{HEAD, NONE, NOW, Ran, run_over};
 use std::alloc::{AllocError, Global};
 use std::process::Abort;
 use std::test::Fail;
-
-const HEAD: &str = "*** Report for user quotas on q
-Block grace time: 7days; Inode grace time: 7days
-User                  used       soft       hard  grace    files     soft     hard  grace
------------------------------------------------------------------------------------------
-";
 
 /// A number that stands in four bytes at a place.
 type Number = (usize, u32);
@@ -52,6 +46,21 @@ fn changed(alloc: Global, len: usize, changes: &[Number]) -> Result<Vec<u8>, All
 /// The file of six blocks.
 pub(crate) fn six_blocks(alloc: Global) -> Result<Vec<u8>, AllocError> {
     changed(alloc, 6144, &[])
+}
+
+/// The same with one more block, by which identifier 65534 is found in the same data block. It uses 8,192 bytes and two
+/// inodes.
+pub(crate) fn seven_blocks(alloc: Global) -> Result<Vec<u8>, AllocError> {
+    let changes = [
+        (20, 7),
+        (4092, 6),
+        (7160, 5),
+        (5128, 2),
+        (5208, 65_534),
+        (5232, 2),
+        (5256, 8192),
+    ];
+    changed(alloc, 7168, &changes)
 }
 
 /// The lines of identifiers in a report of users.
