@@ -58,3 +58,30 @@ calls() {
     strace -f -c -o calls "$program" "$@" >/dev/null
     grep -E "$pattern|total" calls | awk '{ print "calls of the system: " $NF " " $4 }'
 }
+
+# report_beside_awk WORD..: a report with these words beside awk, which prints the same lines from a text dump of the
+# file, with the names of a file of names where one is given by `names`. The ratio of their times, the most memory that the
+# program holds, and its calls of the system.
+report_beside_awk() {
+    local ours theirs
+    local text=(awk -v now="$(date +%s)" -v names="${names:-}" -f "$top/bench/report.awk" dump)
+    "$top/bin/quota_cli" "$@" >report
+    "${text[@]}" >lines
+    tail -n +5 report | cmp - lines || echo "the texts differ: the grace column of a timer may have passed a minute between the two"
+    ours=$(best "$program" "$@")
+    theirs=$(best "${text[@]}")
+    echo "report: $ours s, awk: $theirs s, ratio $(ratio "$ours" "$theirs")"
+    memory q "$@"
+    calls 'pread64|write' "$@"
+}
+
+# change_beside_reading WORD..: a change with these words beside one reading of the file in pieces of 1,024 bytes, likewise.
+change_beside_reading() {
+    local ours theirs
+    "$top/bin/quota_cli" "$@"
+    ours=$(best "$program" "$@")
+    theirs=$(best dd if=q of=/dev/null bs=1024)
+    echo "setquota: $ours s, one reading: $theirs s, ratio $(ratio "$ours" "$theirs")"
+    memory q "$@"
+    calls 'pread64|pwrite64|fsync' "$@"
+}
