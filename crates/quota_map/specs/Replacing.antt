@@ -1,5 +1,5 @@
 -- A whole file of any format that is built and put in the place of another one.
-use Rattle.std.specs.Prelude.{◌≡◌, ℕ, ◌*◌, ◌<◌, List, length, ⊤}
+use Rattle.std.specs.Prelude.{◌≡◌, ℕ, ◌*◌, ◌<◌, ◌≤◌, List, length, ⊤}
 use Rattle.quota_types.specs.declared.file_kind.Format.{Format}
 use Rattle.quota_types.specs.declared.file_kind.Format.TheVariants.{V1, V2R0, V2R1}
 use Rattle.quota_blocks.specs.Count.{Rose}
@@ -49,10 +49,10 @@ pub record IsReplacedBy (name : List ℕ) (value : QuotaValue) (ids : List ℕ) 
   pub plain : IsPlain value.format value.grace ids bytes
   pub long : length bytes ≡ size
 
--- A file was not replaced since the store's count of faults rose, since it would need more blocks than it may have, or for
--- want of memory.
+-- A file was not replaced since it would need more blocks than it may have, or, where it would not, since the store's count
+-- of faults rose, or for want of memory.
 abbrev pub IsReplaceFileFault : (before now needed most : ℕ) → ReplaceFault → Type 0
-IsReplaceFileFault before now needed most Store = Rose before now
+IsReplaceFileFault before now needed most Store = Rose before now × (needed ≤ most)
 IsReplaceFileFault before now needed most (Full blocks limit) = (most < needed) × (blocks ≡ needed) × (limit ≡ most)
 IsReplaceFileFault before now needed most Memory = ⊤
 

@@ -1,4 +1,4 @@
-ghost use Rattle.std.specs.Prelude.{◌≡◌, ◌≢◌, ◌*◌, ◌^◌, ◌≤◌, false, None, All, length, vec_len, IsTrue, IfOk, IfErr, OnOk, OnErr};
+ghost use Rattle.std.specs.Prelude.{◌≡◌, ◌≢◌, ◌*◌, ◌^◌, ◌≤◌, false, None, Ok, Some, All, length, vec_len, IsTrue, IfOk, IfErr, OnOk, OnErr};
 ghost use Rattle.std.specs.List.Sorted.{IsStrictlyIncreasing};
 ghost use Rattle.quota_types.specs.Kept.{kept_of};
 ghost use Rattle.quota_types.specs.Range.{grace_unfit, unfit};
@@ -11,6 +11,7 @@ ghost use Rattle.tree_file.specs.Build.{IsBuildFault};
 ghost use Rattle.tree_file.specs.Size.{blocks_needed};
 ghost use Rattle.quota_map.specs.Replacing.{IsPlain, IsReplaceFileFault, IsReplacedBy, UnlessStore, built_size, flags_in};
 ghost use Rattle.quota_map.specs.StandsFor.{StandsFor};
+ghost use Rattle.quota_map.specs.View.{IsView, most_blocks};
 
 use quota_blocks::{ReplaceFault, Store, replace};
 use quota_types::{Entry, Format, Grace, Kind};
@@ -45,6 +46,9 @@ pub fn replace_file<S: Store>(
     ensures replaced { OnOk result (IsTrue S.tells
         → IsReplacedBy name.now (value_of kind format grace (flags_in format flags) list.now) (ids_of list.now)
         (built_size format (ids_of list.now)) (S.seen store.old).files (S.seen store.new).files) }
+    // Whoever opens it then sees the value, unless it has more blocks than an opened file may have.
+    ensures seen { OnOk result (IsTrue S.tells → limit ≤ most_blocks
+        → IsView ((S.seen store.new).files name.now) kind (Some format) (Ok (value_of kind format grace (flags_in format flags) list.now))) }
     ensures few { OnOk result (blocks_needed format (ids_of list.now) ≤ limit) }
     ensures synced { OnOk result (IsTrue S.tells
         → (S.seen store.new).unsynced ≡ replaced_names (S.seen store.old).unsynced name.now) }
@@ -82,6 +86,8 @@ fn built(
         (value_of kind format grace (flags_in format flags) list.now)) }
     ensures plain { IfOk result (λ file. IsPlain format grace (ids_of list.now) file.items) }
     ensures size { IfOk result (λ file. vec_len file ≡ built_size format (ids_of list.now)) }
+    ensures seen { IfOk result (λ file. limit ≤ most_blocks
+        → IsView (Some file.items) kind (Some format) (Ok (value_of kind format grace (flags_in format flags) list.now))) }
     ensures limited { IfOk result (λ file. vec_len file ≤ 2 ^ 42) }
     ensures few { OnOk result (blocks_needed format (ids_of list.now) ≤ limit) }
     ensures refused { IfErr result (IsBuildFault (blocks_needed format (ids_of list.now)) limit) }
