@@ -33,17 +33,21 @@ ratio() {
     echo "$1 $2" | awk '{ printf "%.2f", $1 / $2 }'
 }
 
+# held WORD..: the most memory, in KiB, that a command holds at a time.
+held() {
+    python3 - "$@" <<'PY'
+import resource, subprocess, sys
+subprocess.run(sys.argv[1:], stdout=subprocess.DEVNULL, check=True)
+print(resource.getrusage(resource.RUSAGE_CHILDREN).ru_maxrss)
+PY
+}
+
 # memory FILE WORD..: the most memory that the program holds at a time with these words, beside the size of the file.
 memory() {
     local file held
     file=$(($(stat -c %s "$1") / 1024))
     shift
-    held=$(python3 - "$program" "$@" <<'PY'
-import resource, subprocess, sys
-subprocess.run(sys.argv[1:], stdout=subprocess.DEVNULL, check=True)
-print(resource.getrusage(resource.RUSAGE_CHILDREN).ru_maxrss)
-PY
-)
+    held=$(held "$program" "$@")
     echo "memory: at most $held KiB, the file $file KiB, $((held - file)) KiB more"
 }
 

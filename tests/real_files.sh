@@ -81,7 +81,7 @@ rm q
 expect 'a path through a file' 1 '' 'quota: q/x: no such file' repquota -F vfsold -u -v q/x
 expect 'a file that is no tree file' 3 '' 'quota: q: not a quota file' repquota -u q
 expect 'other words' 2 '' 'quota: usage: UnknownOption at word 2' repquota -u -x q
-expect 'a command that is not built' 2 '' "$usage" quotacheck q
+expect 'a command that is not built' 2 '' "$usage" script
 expect 'no words' 2 '' 'quota: usage: NoCommand at word 0'
 expect 'the version' 0 'quota_cli 0.1.0 (vfsold, vfsv0, vfsv1)' '' --version
 same 'the help' "$("$run" --help | head -n 1)" 'Usage: quota_cli COMMAND [OPTION]... [OPERAND]...'
@@ -205,6 +205,49 @@ head -n 1 form >form.cut
 expect 'a form that is cut' 1 '' 'quota: bad form at line 2' edquota --apply -F vfsold --names names --input form.cut alice q
 same 'a refused form leaves the file' "$(cmp q want && echo same)" same
 same 'nothing is left beside the files' "$(echo *.new)" ''
+
+# A folder is counted as find(1) lists it, with a second name of one file. The wanted sums are those of awk over `sort -u`.
+mkdir -p walked/below
+head -c 5000 /dev/zero >walked/one
+head -c 100000 /dev/zero >walked/below/two
+ln walked/one walked/below/other
+sync walked/one walked/below/two
+find walked -printf '%U %G %D %i %b\n' >listing
+owner=$(id -u)
+counted=$(sort -u listing | awk '{ blocks += $5; inodes++ } END { printf "%10d          0          0      - %8d        0        0      -", int((blocks + 1) / 2), inodes }')
+row="$(printf '%-13s--' "#$owner") $counted"
+expect 'a new file of a listing' 0 '' '' quotacheck -c -u --input listing made
+expect 'its report' 0 "${head/on q/on made}
+$row" '' repquota -u made
+same 'a new file is for its owner alone' "$(stat -c %a made)" 600
+cp made want
+expect 'the same from the standard input' 0 '' '' quotacheck -c -u made <listing
+same 'both listings make the same file' "$(cmp made want && echo same)" same
+expect 'limits in that file' 0 '' '' setquota -u 70000 1 2 3 4 made
+chmod 644 made
+expect 'a listing of no line' 0 '' '' quotacheck -u made </dev/null
+same 'limits stay, and usage does not' "$("$run" repquota -u -v made | sed 1,4d)" \
+    '#70000       --          0          1          2      -        0        3        4      -'
+same 'the permissions stay' "$(stat -c %a made)" 644
+expect 'a listing into that file' 0 '' '' quotacheck -u --device "$(stat -c %d walked)" --input listing made
+same 'its lines' "$("$run" repquota -u -v made | sed 1,4d)" "$row
+#70000       --          0          1          2      -        0        3        4      -"
+cp made want
+expect 'a listing of another device' 0 '' '' quotacheck -c -u --device 18446744073709551615 --input listing other
+same 'it counts for nothing' "$("$run" repquota -u -v other | sed 1,4d)" ''
+printf '1 1 1 1 8\n1 1 1 2 8\n1 1 1 1 16\n' >conflicting
+expect 'a listing with a conflict' 1 '' 'quota: conflicting: line 3 conflicts with line 1' quotacheck -u --input conflicting made
+expect 'the same of the standard input' 1 '' 'quota: input: line 3 conflicts with line 1' quotacheck -u made <conflicting
+expect 'a listing that is none' 1 '' 'quota: quota.user: long line 1' quotacheck -u --input quota.user made
+expect 'a listing that is absent' 1 '' 'quota: r: no such file' quotacheck -u --input r made
+expect 'a listing that is a folder' 4 '' 'quota: store fault' quotacheck -u --input . made
+expect 'a check of an absent file' 1 '' 'quota: r: no such file' quotacheck -u r </dev/null
+expect 'no room in a flat file' 1 '' 'quota: made: no room for id 1048576 of 1048576' quotacheck -c -F vfsold made <<<'1048576 0 1 1 8'
+seq 1048576 | awk '{ print $1 * 256 - 1, 0, 1, $1, 8 }' >spread
+expect 'more blocks than a tree file may have' 1 '' 'quota: made: full: 1127589 blocks of 1048576' quotacheck -c -u --input spread made
+same 'refused listings leave the file' "$(cmp made want && echo same)" same
+same 'nothing is left beside it' "$(echo *.new)" ''
+rm spread
 
 # The owner and the permissions stay, and a file that was left behind is not in the way.
 : >q

@@ -11,7 +11,7 @@ use Rattle.quota_cli.specs.declared.refusal.cause.Cause.TheVariants.{StoreFault,
 use Rattle.quota_cli.specs.declared.refusal.reason.Refusal.{Refusal}
 use Rattle.quota_cli.specs.declared.words.command.Command.{Command}
 use Rattle.quota_cli.specs.declared.words.command.Common.{Common}
-use Rattle.quota_cli.specs.declared.words.command.Command.TheVariants.{Report, SetLimits, CopyLimits, SetGrace, SetTimes, Batch, PrintForm, ApplyForm}
+use Rattle.quota_cli.specs.declared.words.command.Command.TheVariants.{Report, SetLimits, CopyLimits, SetGrace, SetTimes, Batch, PrintForm, ApplyForm, Check}
 use Rattle.quota_cli.specs.declared.words.edit.EditWords.{EditWords}
 use Rattle.quota_cli.specs.declared.words.edit.EditWords.TheVariants.{Limits, Copy, Grace, Times}
 use Rattle.quota_cli.specs.declared.words.edit.FileEdit.{FileEdit}
@@ -30,12 +30,13 @@ use Rattle.quota_cli.specs.declared.commands.occasion.Occasion.{Occasion}
 use Rattle.quota_cli.specs.commands.Apply.{ApplyMayRefuse}
 use Rattle.quota_cli.specs.commands.Batch.{BatchMayRefuse, LineMayRefuse}
 use Rattle.quota_cli.specs.commands.Built.{if_built, is_built, unknown_command}
+use Rattle.quota_cli.specs.commands.Check.{CheckMayRefuse, ReplacingMayRefuse, UsageMayRefuse, new_format}
 use Rattle.quota_cli.specs.commands.Edits.{ChangeMayRefuse, EditMayRefuse, FileEditMayRefuse, NamedEditMayRefuse}
 use Rattle.quota_cli.specs.commands.Print.{PrintMayRefuse}
 use Rattle.quota_cli.specs.commands.Report.{ReportMayRefuse}
 use Rattle.quota_cli.specs.commands.Showing.{ShowingMayRefuse}
 use Rattle.quota_cli.specs.commands.Table.{AskedSteps, MayRefuseAsked, MayRefuseCommand, StepsOf, asked_uses}
-use Rattle.quota_cli.specs.Taking.{InputMayRefuse, input_name}
+use Rattle.quota_cli.specs.Taking.{AForm, AListing, InputKind, InputMayRefuse, Lines, input_name}
 use Rattle.quota_cli.specs.words.Edits.{edit_meant}
 use Rattle.quota_cli.specs.words.Usage.{IsUsageFault, usage_refusal}
 use Rattle.quota_cli.proofs.PhaseLemmas.{nothing_carried, stop_carried}
@@ -189,31 +190,31 @@ print_status common word file cause said (inr (names, given, inl read)) two =
 print_status common word file cause said (inr (names, given, inr (id, read, may))) two = showing_status common.format file cause said may two
 
 -- an input that was not read, and a line that was refused
-input_status : (formed : Bool) (from : Option (List ℕ)) (cause : Cause) (said : List ℕ) → InputMayRefuse formed from cause said → status_of cause ≢ 2
-input_status formed from StoreFault said may two = omega (arith, two)
-input_status formed from SourceFault said may two = omega (arith, two)
-input_status formed from SinkFault said may two = omega (arith, two)
-input_status formed from LinkFault said may two = omega (arith, two)
-input_status formed from Memory said may two = omega (arith, two)
-input_status formed from NoFile said may two = omega (arith, two)
-input_status formed from TooLarge said may two = omega (arith, two)
-input_status formed from NotQuota said may two = omega (arith, two)
-input_status formed from WrongKind said may two = omega (arith, two)
-input_status formed from UnknownVersion said may two = omega (arith, two)
-input_status formed from BadBlockCount said may two = omega (arith, two)
-input_status formed from OtherFormat said may two = omega (arith, two)
-input_status formed from (Damaged damage) said may two = omega (arith, two)
-input_status formed from (Full blocks limit) said may two = omega (arith, two)
-input_status formed from (NoRoom out) said may two = omega (arith, two)
-input_status formed from UnknownName said may two = omega (arith, two)
-input_status formed from BadNumber said may two = omega (arith, two)
-input_status formed from TargetExists said may two = omega (arith, two)
-input_status formed from SameName said may two = omega (arith, two)
-input_status formed from (BadForm line) said may two = omega (arith, two)
-input_status formed from (BadLine line) said may two = omega (arith, two)
-input_status formed from (LongLine line) said may two = omega (arith, two)
-input_status formed from (Conflict line first) said may two = omega (arith, two)
-input_status formed from (Usage kind word) said may two = may
+input_status : (what : InputKind) (from : Option (List ℕ)) (cause : Cause) (said : List ℕ) → InputMayRefuse what from cause said → status_of cause ≢ 2
+input_status what from StoreFault said may two = omega (arith, two)
+input_status what from SourceFault said may two = omega (arith, two)
+input_status what from SinkFault said may two = omega (arith, two)
+input_status what from LinkFault said may two = omega (arith, two)
+input_status what from Memory said may two = omega (arith, two)
+input_status what from NoFile said may two = omega (arith, two)
+input_status what from TooLarge said may two = omega (arith, two)
+input_status what from NotQuota said may two = omega (arith, two)
+input_status what from WrongKind said may two = omega (arith, two)
+input_status what from UnknownVersion said may two = omega (arith, two)
+input_status what from BadBlockCount said may two = omega (arith, two)
+input_status what from OtherFormat said may two = omega (arith, two)
+input_status what from (Damaged damage) said may two = omega (arith, two)
+input_status what from (Full blocks limit) said may two = omega (arith, two)
+input_status what from (NoRoom out) said may two = omega (arith, two)
+input_status what from UnknownName said may two = omega (arith, two)
+input_status what from BadNumber said may two = omega (arith, two)
+input_status what from TargetExists said may two = omega (arith, two)
+input_status what from SameName said may two = omega (arith, two)
+input_status what from (BadForm line) said may two = omega (arith, two)
+input_status what from (BadLine line) said may two = omega (arith, two)
+input_status what from (LongLine line) said may two = omega (arith, two)
+input_status what from (Conflict line first) said may two = omega (arith, two)
+input_status what from (Usage kind word) said may two = may
 
 line_status : (names : List NameLine) (place : List ℕ) (cause : Cause) (said : List ℕ) → LineMayRefuse names place cause said → status_of cause ≢ 2
 line_status names place StoreFault said may two = omega (arith, two)
@@ -245,15 +246,51 @@ batch_status : (common : Common) (from : Option (List ℕ)) (file : List ℕ) (c
 batch_status common from file cause said (inl may) two = names_status common.names cause said may two
 batch_status common from file cause said (inr (names, given, inl (inl (id, limits, now, may)))) two = change_status common.format (limits_edit id limits now) file cause said may two
 batch_status common from file cause said (inr (names, given, inl (inr may))) two = opening_status common.format file cause said may two
-batch_status common from file cause said (inr (names, given, inr (inl may))) two = input_status false from cause said may two
+batch_status common from file cause said (inr (names, given, inr (inl may))) two = input_status Lines from cause said may two
 batch_status common from file cause said (inr (names, given, inr (inr may))) two = line_status names (input_name from) cause said may two
 
 apply_status : (common : Common) (from : Option (List ℕ)) (word file : List ℕ) (cause : Cause) (said : List ℕ) → ApplyMayRefuse common from word file cause said → status_of cause ≢ 2
 apply_status common from word file cause said (inl may) two = names_status common.names cause said may two
 apply_status common from word file cause said (inr (names, given, inl read)) two =
     let one : status_of cause ≡ 1 = word_status (refusal_of cause said) (identifier_refusal names word (refusal_of cause said) read) in omega (arith, two, one)
-apply_status common from word file cause said (inr (names, given, inr (id, read, inl may))) two = input_status true from cause said may two
+apply_status common from word file cause said (inr (names, given, inr (id, read, inl may))) two = input_status AForm from cause said may two
 apply_status common from word file cause said (inr (names, given, inr (id, read, inr (limits, may)))) two = file_edit_status common.format (LimitsEdit id limits) file cause said may two
+
+-- a file that was not replaced, and a listing that did not become the usage of a file
+replacing_status : (format : Format) (file : List ℕ) (cause : Cause) (said : List ℕ) → ReplacingMayRefuse format file cause said → status_of cause ≢ 2
+replacing_status format file StoreFault said may two = omega (arith, two)
+replacing_status format file SourceFault said may two = omega (arith, two)
+replacing_status format file SinkFault said may two = omega (arith, two)
+replacing_status format file LinkFault said may two = omega (arith, two)
+replacing_status format file Memory said may two = omega (arith, two)
+replacing_status format file NoFile said may two = omega (arith, two)
+replacing_status format file TooLarge said may two = omega (arith, two)
+replacing_status format file NotQuota said may two = omega (arith, two)
+replacing_status format file WrongKind said may two = omega (arith, two)
+replacing_status format file UnknownVersion said may two = omega (arith, two)
+replacing_status format file BadBlockCount said may two = omega (arith, two)
+replacing_status format file OtherFormat said may two = omega (arith, two)
+replacing_status format file (Damaged damage) said may two = omega (arith, two)
+replacing_status format file (Full blocks limit) said may two = omega (arith, two)
+replacing_status format file (NoRoom out) said may two = omega (arith, two)
+replacing_status format file UnknownName said may two = omega (arith, two)
+replacing_status format file BadNumber said may two = omega (arith, two)
+replacing_status format file TargetExists said may two = omega (arith, two)
+replacing_status format file SameName said may two = omega (arith, two)
+replacing_status format file (BadForm line) said may two = omega (arith, two)
+replacing_status format file (BadLine line) said may two = omega (arith, two)
+replacing_status format file (LongLine line) said may two = omega (arith, two)
+replacing_status format file (Conflict line first) said may two = omega (arith, two)
+replacing_status format file (Usage kind word) said may two = may
+
+usage_status : (format : Format) (from : Option (List ℕ)) (file : List ℕ) (cause : Cause) (said : List ℕ) → UsageMayRefuse format from file cause said → status_of cause ≢ 2
+usage_status format from file cause said (inl may) two = input_status AListing from cause said may two
+usage_status format from file cause said (inr may) two = replacing_status format file cause said may two
+
+check_status : (common : Common) (fresh : Bool) (from : Option (List ℕ)) (file : List ℕ) (cause : Cause) (said : List ℕ) → CheckMayRefuse common fresh from file cause said → status_of cause ≢ 2
+check_status common true from file cause said may two = usage_status (new_format common.format) from file cause said may two
+check_status common false from file cause said (inl may) two = opening_status common.format file cause said may two
+check_status common false from file cause said (inr (format, asked, may)) two = usage_status format from file cause said may two
 
 -- no command that was read is refused with status 2
 pub not_usage : (command : Command) (cause : Cause) (said : List ℕ) → IsTrue (is_built command) → MayRefuseCommand command cause said → status_of cause ≢ 2
@@ -265,6 +302,7 @@ not_usage (SetTimes common name block inode file) cause said built may two = edi
 not_usage (Batch common input file) cause said built may two = batch_status common input file cause said may two
 not_usage (PrintForm common name file) cause said built may two = print_status common name file cause said may two
 not_usage (ApplyForm common input name file) cause said built may two = apply_status common input name file cause said may two
+not_usage (Check common fresh device input file) cause said built may two = check_status common fresh input file cause said may two
 not_usage _ cause said built may two = absurd (cc)
 
 -- the status of a command that was read

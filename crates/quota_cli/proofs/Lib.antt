@@ -22,3 +22,5 @@ mod LetterLemmas
 mod OperandLemmas
 mod BuiltLemmas
 mod WarningLemmas
+mod ReplacingLemmas
+mod CheckLemmas

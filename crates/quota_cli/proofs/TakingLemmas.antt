@@ -15,7 +15,7 @@ use Rattle.quota_cli.specs.Done.{AreDoneInPart, IsLater, IsWorldTold, Outside, R
 use Rattle.quota_cli.specs.Outcome.{Outcome, Passed, Refused}
 use Rattle.quota_cli.specs.Run.{CarriesOut, HasReason, HasSteps, IsFault, IsPlacedBy, Uses}
 use Rattle.quota_cli.specs.Steps.{Steps, Then}
-use Rattle.quota_cli.specs.Taking.{HasTaken, InputMayRefuse, IsInputFault, Taking, input_said, reading}
+use Rattle.quota_cli.specs.Taking.{HasTaken, InputKind, InputMayRefuse, IsInputFault, Taking, input_said, reading}
 use Rattle.quota_cli.proofs.ActLemmas.{nothing_done}
 use Rattle.quota_cli.proofs.OpeningLemmas.{outside_same, unwritten, with_store}
 use Rattle.quota_cli.proofs.PhaseLemmas.{carries_on, refused_never}
@@ -210,75 +210,75 @@ refused_taking name from is_whole read next tells old store input refusal reads 
 }
 
 -- why the input was not read
-input_reason : (warns formed : Bool) (from : Option (List ℕ)) {V : Type 0} (tells : RunTells) (old : RunSeen) (store : StoreSeen) (input : SourceSeen) (said : Outcome V) (refusal : Refusal) (stated : Type 0) (cause : Cause) (name : List ℕ)
-    → IsInputFault (Rose old.store.faults store.faults) (Rose old.input.faults input.faults) (IsWorldTold tells) said refusal cause → InputMayRefuse formed from cause name
+input_reason : (warns : Bool) (what : InputKind) (from : Option (List ℕ)) {V : Type 0} (tells : RunTells) (old : RunSeen) (store : StoreSeen) (input : SourceSeen) (said : Outcome V) (refusal : Refusal) (stated : Type 0) (cause : Cause) (name : List ℕ)
+    → IsInputFault (Rose old.store.faults store.faults) (Rose old.input.faults input.faults) (IsWorldTold tells) said refusal cause → InputMayRefuse what from cause name
     → (IsWorldTold tells → said ≡ Refused refusal → stated) → HasReason warns old (with_input (with_store old store) input) (IsWorldTold tells → stated) cause
-input_reason warns formed from tells old store input said refusal stated StoreFault name fault may so = fault
-input_reason warns formed from tells old store input said refusal stated SourceFault name fault may so = fault
-input_reason warns formed from tells old store input said refusal stated SinkFault name fault may so = absurd may
-input_reason warns formed from tells old store input said refusal stated LinkFault name fault may so = absurd may
-input_reason warns formed from tells old store input said refusal stated Memory name fault may so = tt
-input_reason warns formed from tells old store input said refusal stated NoFile name fault may so = λ told. so told (fault told)
-input_reason warns formed from tells old store input said refusal stated TooLarge name fault may so = λ told. so told (fault told)
-input_reason warns formed from tells old store input said refusal stated NotQuota name fault may so = absurd may
-input_reason warns formed from tells old store input said refusal stated WrongKind name fault may so = absurd may
-input_reason warns formed from tells old store input said refusal stated UnknownVersion name fault may so = absurd may
-input_reason warns formed from tells old store input said refusal stated BadBlockCount name fault may so = absurd may
-input_reason warns formed from tells old store input said refusal stated OtherFormat name fault may so = absurd may
-input_reason warns formed from tells old store input said refusal stated (Damaged damage) name fault may so = absurd may
-input_reason warns formed from tells old store input said refusal stated (Full blocks limit) name fault may so = absurd may
-input_reason warns formed from tells old store input said refusal stated (NoRoom out) name fault may so = absurd may
-input_reason warns formed from tells old store input said refusal stated UnknownName name fault may so = absurd may
-input_reason warns formed from tells old store input said refusal stated BadNumber name fault may so = absurd may
-input_reason warns formed from tells old store input said refusal stated TargetExists name fault may so = absurd may
-input_reason warns formed from tells old store input said refusal stated SameName name fault may so = absurd may
-input_reason warns formed from tells old store input said refusal stated (BadForm line) name fault may so = λ told. so told (fault told)
-input_reason warns formed from tells old store input said refusal stated (BadLine line) name fault may so = absurd may
-input_reason warns formed from tells old store input said refusal stated (LongLine line) name fault may so = λ told. so told (fault told)
-input_reason warns formed from tells old store input said refusal stated (Conflict line first) name fault may so = absurd may
-input_reason warns formed from tells old store input said refusal stated (Usage kind word) name fault may so = absurd may
+input_reason warns what from tells old store input said refusal stated StoreFault name fault may so = fault
+input_reason warns what from tells old store input said refusal stated SourceFault name fault may so = fault
+input_reason warns what from tells old store input said refusal stated SinkFault name fault may so = absurd may
+input_reason warns what from tells old store input said refusal stated LinkFault name fault may so = absurd may
+input_reason warns what from tells old store input said refusal stated Memory name fault may so = tt
+input_reason warns what from tells old store input said refusal stated NoFile name fault may so = λ told. so told (fault told)
+input_reason warns what from tells old store input said refusal stated TooLarge name fault may so = λ told. so told (fault told)
+input_reason warns what from tells old store input said refusal stated NotQuota name fault may so = absurd may
+input_reason warns what from tells old store input said refusal stated WrongKind name fault may so = absurd may
+input_reason warns what from tells old store input said refusal stated UnknownVersion name fault may so = absurd may
+input_reason warns what from tells old store input said refusal stated BadBlockCount name fault may so = absurd may
+input_reason warns what from tells old store input said refusal stated OtherFormat name fault may so = absurd may
+input_reason warns what from tells old store input said refusal stated (Damaged damage) name fault may so = absurd may
+input_reason warns what from tells old store input said refusal stated (Full blocks limit) name fault may so = absurd may
+input_reason warns what from tells old store input said refusal stated (NoRoom out) name fault may so = absurd may
+input_reason warns what from tells old store input said refusal stated UnknownName name fault may so = absurd may
+input_reason warns what from tells old store input said refusal stated BadNumber name fault may so = absurd may
+input_reason warns what from tells old store input said refusal stated TargetExists name fault may so = absurd may
+input_reason warns what from tells old store input said refusal stated SameName name fault may so = absurd may
+input_reason warns what from tells old store input said refusal stated (BadForm line) name fault may so = λ told. so told (fault told)
+input_reason warns what from tells old store input said refusal stated (BadLine line) name fault may so = λ told. so told (fault told)
+input_reason warns what from tells old store input said refusal stated (LongLine line) name fault may so = λ told. so told (fault told)
+input_reason warns what from tells old store input said refusal stated (Conflict line first) name fault may so = λ told. so told (fault told)
+input_reason warns what from tells old store input said refusal stated (Usage kind word) name fault may so = absurd may
 
-input_fault : (formed : Bool) (from : Option (List ℕ)) {V : Type 0} (store_rose input_rose told : Type 0) (said : Outcome V) (refusal : Refusal) (cause : Cause) (name : List ℕ)
-    → IsInputFault store_rose input_rose told said refusal cause → InputMayRefuse formed from cause name → told → (said ≡ Refused refusal → ⊥) → IsFault cause
-input_fault formed from sr ir told said refusal StoreFault name fault may is never = tt
-input_fault formed from sr ir told said refusal SourceFault name fault may is never = tt
-input_fault formed from sr ir told said refusal SinkFault name fault may is never = absurd may
-input_fault formed from sr ir told said refusal LinkFault name fault may is never = absurd may
-input_fault formed from sr ir told said refusal Memory name fault may is never = tt
-input_fault formed from sr ir told said refusal NoFile name fault may is never = absurd (never (fault is))
-input_fault formed from sr ir told said refusal TooLarge name fault may is never = absurd (never (fault is))
-input_fault formed from sr ir told said refusal NotQuota name fault may is never = absurd may
-input_fault formed from sr ir told said refusal WrongKind name fault may is never = absurd may
-input_fault formed from sr ir told said refusal UnknownVersion name fault may is never = absurd may
-input_fault formed from sr ir told said refusal BadBlockCount name fault may is never = absurd may
-input_fault formed from sr ir told said refusal OtherFormat name fault may is never = absurd may
-input_fault formed from sr ir told said refusal (Damaged damage) name fault may is never = absurd may
-input_fault formed from sr ir told said refusal (Full blocks limit) name fault may is never = absurd may
-input_fault formed from sr ir told said refusal (NoRoom out) name fault may is never = absurd may
-input_fault formed from sr ir told said refusal UnknownName name fault may is never = absurd may
-input_fault formed from sr ir told said refusal BadNumber name fault may is never = absurd may
-input_fault formed from sr ir told said refusal TargetExists name fault may is never = absurd may
-input_fault formed from sr ir told said refusal SameName name fault may is never = absurd may
-input_fault formed from sr ir told said refusal (BadForm line) name fault may is never = absurd (never (fault is))
-input_fault formed from sr ir told said refusal (BadLine line) name fault may is never = absurd may
-input_fault formed from sr ir told said refusal (LongLine line) name fault may is never = absurd (never (fault is))
-input_fault formed from sr ir told said refusal (Conflict line first) name fault may is never = absurd may
-input_fault formed from sr ir told said refusal (Usage kind word) name fault may is never = absurd may
+input_fault : (what : InputKind) (from : Option (List ℕ)) {V : Type 0} (store_rose input_rose told : Type 0) (said : Outcome V) (refusal : Refusal) (cause : Cause) (name : List ℕ)
+    → IsInputFault store_rose input_rose told said refusal cause → InputMayRefuse what from cause name → told → (said ≡ Refused refusal → ⊥) → IsFault cause
+input_fault what from sr ir told said refusal StoreFault name fault may is never = tt
+input_fault what from sr ir told said refusal SourceFault name fault may is never = tt
+input_fault what from sr ir told said refusal SinkFault name fault may is never = absurd may
+input_fault what from sr ir told said refusal LinkFault name fault may is never = absurd may
+input_fault what from sr ir told said refusal Memory name fault may is never = tt
+input_fault what from sr ir told said refusal NoFile name fault may is never = absurd (never (fault is))
+input_fault what from sr ir told said refusal TooLarge name fault may is never = absurd (never (fault is))
+input_fault what from sr ir told said refusal NotQuota name fault may is never = absurd may
+input_fault what from sr ir told said refusal WrongKind name fault may is never = absurd may
+input_fault what from sr ir told said refusal UnknownVersion name fault may is never = absurd may
+input_fault what from sr ir told said refusal BadBlockCount name fault may is never = absurd may
+input_fault what from sr ir told said refusal OtherFormat name fault may is never = absurd may
+input_fault what from sr ir told said refusal (Damaged damage) name fault may is never = absurd may
+input_fault what from sr ir told said refusal (Full blocks limit) name fault may is never = absurd may
+input_fault what from sr ir told said refusal (NoRoom out) name fault may is never = absurd may
+input_fault what from sr ir told said refusal UnknownName name fault may is never = absurd may
+input_fault what from sr ir told said refusal BadNumber name fault may is never = absurd may
+input_fault what from sr ir told said refusal TargetExists name fault may is never = absurd may
+input_fault what from sr ir told said refusal SameName name fault may is never = absurd may
+input_fault what from sr ir told said refusal (BadForm line) name fault may is never = absurd (never (fault is))
+input_fault what from sr ir told said refusal (BadLine line) name fault may is never = absurd (never (fault is))
+input_fault what from sr ir told said refusal (LongLine line) name fault may is never = absurd (never (fault is))
+input_fault what from sr ir told said refusal (Conflict line first) name fault may is never = absurd (never (fault is))
+input_fault what from sr ir told said refusal (Usage kind word) name fault may is never = absurd may
 
 -- the input was not read
-pub input_refused : {V : Type 0} (name : List ℕ) (formed : Bool) (from : Option (List ℕ)) (is_whole : V → Bool) (read : List ℕ → Outcome V) (next : V → Steps) (uses : Uses) (more : Cause → List ℕ → Type 0) (tells : RunTells)
+pub input_refused : {V : Type 0} (name : List ℕ) (what : InputKind) (from : Option (List ℕ)) (is_whole : V → Bool) (read : List ℕ → Outcome V) (next : V → Steps) (uses : Uses) (more : Cause → List ℕ → Type 0) (tells : RunTells)
     (old : RunSeen) (store : StoreSeen) (input : SourceSeen) (refusal : Refusal)
     → OnlyReads name old.store store → old.input.faults ≤ input.faults
     → IsInputFault (Rose old.store.faults store.faults) (Rose old.input.faults input.faults) (IsWorldTold tells) (input_said from read old.store.files old.input.left) refusal refusal.cause
     → (IsWorldTold tells → HasTaken {V = V} from is_whole (Refused refusal) old.input.left input.left)
-    → InputMayRefuse formed from refusal.cause refusal.name → more refusal.cause refusal.name → IsPlacedBy uses refusal
+    → InputMayRefuse what from refusal.cause refusal.name → more refusal.cause refusal.name → IsPlacedBy uses refusal
     → CarriesOut (Taking from is_whole read next) uses more tells old (with_input (with_store old store) input) (Err refusal)
-input_refused name formed from is_whole read next uses more tells old store input refusal reads le fault taken may allowed placed = record {
+input_refused name what from is_whole read next uses more tells old store input refusal reads le fault taken may allowed placed = record {
   done = tt;
-  refused = input_reason uses.warns formed from tells old store input (input_said from read old.store.files old.input.left) refusal _ refusal.cause refusal.name fault may
+  refused = input_reason uses.warns what from tells old store input (input_said from read old.store.files old.input.left) refusal _ refusal.cause refusal.name fault may
       (λ told is. refused_taking name from is_whole read next tells old store input refusal reads is (taken told));
   part = λ told acts to ended steps. nothing_done tells acts old (with_input (with_store old store) input) reads.files (λ told. refl) (λ told. refl) refl reads.writes;
-  complete = λ told acts to steps. input_fault formed from _ _ _ (input_said from read old.store.files old.input.left) refusal refusal.cause refusal.name fault may told
+  complete = λ told acts to steps. input_fault what from _ _ _ (input_said from read old.store.files old.input.left) refusal refusal.cause refusal.name fault may told
       (λ is. refused_never (input_said from read old.store.files old.input.left) next (record (outside_of old) { input = steps.0 }) to acts refusal is steps.2);
   may_refuse = allowed;
   placed = placed;

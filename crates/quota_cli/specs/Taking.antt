@@ -1,10 +1,10 @@
 -- What a command takes from an input: the file of `--input`, or the standard input where there is none. Source: this
 -- project's own.
-use Rattle.std.specs.Prelude.{◌≡◌, ℕ, Bool, true, false, IsTrue, List, [], ◌++◌, Option, Some, None, IsSome, is_none, ⊤}
+use Rattle.std.specs.Prelude.{◌≡◌, ℕ, Bool, true, false, ◌||◌, IsTrue, List, [], ◌++◌, Option, Some, None, IsSome, is_none, ⊤}
 use Rattle.quota_blocks.specs.StoreInput.{left_from}
 use Rattle.quota_blocks.specs.World.{World}
 use Rattle.quota_cli.specs.declared.refusal.cause.Cause.{Cause}
-use Rattle.quota_cli.specs.declared.refusal.cause.Cause.TheVariants.{NoFile, StoreFault, SourceFault, Memory, TooLarge, LongLine, BadForm}
+use Rattle.quota_cli.specs.declared.refusal.cause.Cause.TheVariants.{NoFile, StoreFault, SourceFault, Memory, TooLarge, LongLine, BadForm, BadLine, Conflict}
 use Rattle.quota_cli.specs.declared.refusal.reason.Refusal.{Refusal}
 use Rattle.quota_cli.specs.refusal.Refusals.{refusal_of}
 use Rattle.quota_cli.specs.Done.{Outside}
@@ -57,14 +57,38 @@ IsInputFault store_rose input_rose told said refusal _ = told → said ≡ Refus
 abbrev pub reading : Option (List ℕ) → Uses → Uses
 reading from uses = record uses { input = is_none from }
 
--- The causes for which an input may not be read, whatever is told, with the name that is said: `formed` says that the whole of
--- it is refused where its lines are not as they have to be. An input whose lines are read one by one takes memory.
-abbrev pub InputMayRefuse : (formed : Bool) → Option (List ℕ) → Cause → List ℕ → Type 0
-InputMayRefuse formed from StoreFault name = IsSome from
-InputMayRefuse formed from SourceFault name = from ≡ None
-InputMayRefuse formed from Memory name = formed ≡ false
-InputMayRefuse formed from NoFile name = from ≡ Some name
-InputMayRefuse formed from (LongLine line) name = IsTrue formed × (name ≡ input_name from)
-InputMayRefuse formed from TooLarge name = IsTrue formed × (name ≡ input_name from)
-InputMayRefuse formed from (BadForm line) name = IsTrue formed × (name ≡ input_name from)
-InputMayRefuse formed from _ name = ⊥
+-- What an input is to a command: a form, which takes no memory and is refused as a whole; lines that are read one by one, each
+-- of which may be refused; or a listing, which is refused as a whole.
+pub data InputKind : Type 0 where
+  AForm : InputKind
+  Lines : InputKind
+  AListing : InputKind
+
+-- an input is a form
+abbrev pub is_form : InputKind → Bool
+is_form AForm = true
+is_form Lines = false
+is_form AListing = false
+
+-- an input is a listing
+abbrev pub is_listing : InputKind → Bool
+is_listing AForm = false
+is_listing Lines = false
+is_listing AListing = true
+
+-- an input is refused as a whole
+abbrev pub is_whole_refused : InputKind → Bool
+is_whole_refused kind = is_form kind || is_listing kind
+
+-- The causes for which an input may not be read, whatever is told, with the name that is said.
+abbrev pub InputMayRefuse : InputKind → Option (List ℕ) → Cause → List ℕ → Type 0
+InputMayRefuse kind from StoreFault name = IsSome from
+InputMayRefuse kind from SourceFault name = from ≡ None
+InputMayRefuse kind from Memory name = is_form kind ≡ false
+InputMayRefuse kind from NoFile name = from ≡ Some name
+InputMayRefuse kind from (LongLine line) name = IsTrue (is_whole_refused kind) × (name ≡ input_name from)
+InputMayRefuse kind from TooLarge name = IsTrue (is_whole_refused kind) × (name ≡ input_name from)
+InputMayRefuse kind from (BadForm line) name = IsTrue (is_form kind) × (name ≡ input_name from)
+InputMayRefuse kind from (BadLine line) name = IsTrue (is_listing kind) × (name ≡ input_name from)
+InputMayRefuse kind from (Conflict line first) name = IsTrue (is_listing kind) × (name ≡ input_name from)
+InputMayRefuse kind from _ name = ⊥

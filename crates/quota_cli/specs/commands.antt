@@ -5,5 +5,7 @@ pub mod Print
 pub mod Edits
 pub mod Apply
 pub mod Batch
+pub mod FileValue
+pub mod Check
 pub mod Built
 pub mod Table

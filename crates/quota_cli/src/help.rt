@@ -30,8 +30,11 @@ Built so far:
                         the limits of one identifier as a form
   edquota  [-u|-g] [-F FORMAT] [--names FILE] --apply [--input FILE] NAME FILE
                         the limits that such a form asks for
-Their words are read, and they are not built yet:
   quotacheck [-u|-g] [-c] [-F FORMAT] [--device NUMBER] [--input FILE] FILE
+                        the usage that a listing of inodes tells, as
+                        find -printf '%U %G %D %i %b\\n' prints it; -c makes
+                        a new file
+Their words are read, and they are not built yet:
   convertquota [-u|-g] -f OLD,NEW SOURCE TARGET
   rquotad [--format FORMAT] --calls NUMBER --port NUMBER
           (--export PATH KIND FILE)...
@@ -43,7 +46,7 @@ vfsv0 or vfsv1; without it the file says which of the last two it has. Limits
 of blocks are in KiB and may end in K, M, G or T, those of inodes in k, m, g
 or t. A time is a number of seconds, or unset. --names names a file in the form
 of passwd(5) or group(5); without it NAME is a number. --input names the file
-that is read in place of standard input.
+that is read in place of standard input. --device NUMBER counts one device.
 
 Exit status: 0 done, 1 refused, 2 wrong words, 3 not a quota file that is asked
 for, or a damaged one, 4 a fault of the system, 5 want of memory.

@@ -18,7 +18,7 @@ use Rattle.quota_cli.specs.Naming.{MayBeNames, NamesMayRefuse}
 use Rattle.quota_cli.specs.Outcome.{Outcome, Passed, Refused}
 use Rattle.quota_cli.specs.Run.{Uses}
 use Rattle.quota_cli.specs.Steps.{Naming, Steps, Then}
-use Rattle.quota_cli.specs.Taking.{InputMayRefuse, Taking, input_name, reading}
+use Rattle.quota_cli.specs.Taking.{AForm, InputMayRefuse, Taking, input_name, reading}
 use Rattle.quota_cli.specs.refusal.Refusals.{refusal_of}
 use Rattle.quota_cli.specs.declared.commands.occasion.Occasion.{Occasion}
 use Rattle.quota_cli.specs.commands.Edits.{FileEditMayRefuse, FileEditSteps, edit_uses}
@@ -60,7 +60,7 @@ apply_uses from = reading from (edit_uses false)
 
 -- the causes for which a form may not be read, whatever is told
 abbrev pub FormMayRefuse : Option (List ℕ) → Cause → List ℕ → Type 0
-FormMayRefuse = InputMayRefuse true
+FormMayRefuse = InputMayRefuse AForm
 
 -- the causes for which the form of an identifier may not be applied, whatever is told
 abbrev pub FormEditMayRefuse : Option Format → Option (List ℕ) → ℕ → List ℕ → Cause → List ℕ → Type 0

@@ -30,7 +30,7 @@ use Rattle.quota_cli.specs.Opening.{MayRefuseOpening}
 use Rattle.quota_cli.specs.Outcome.{Outcome, Passed, Refused, and_then}
 use Rattle.quota_cli.specs.Run.{Uses}
 use Rattle.quota_cli.specs.Steps.{DoingAll, IsEnd, Naming, Opening, Steps}
-use Rattle.quota_cli.specs.Taking.{InputMayRefuse, Taking, input_name, reading}
+use Rattle.quota_cli.specs.Taking.{InputMayRefuse, Lines, Taking, input_name, reading}
 use Rattle.quota_cli.specs.commands.Edits.{ChangeMayRefuse, edit_step}
 use Rattle.quota_cli.specs.refusal.Refusals.{refusal_of, stands_in_line}
 use Rattle.quota_cli.specs.words.Numbers.{identifier_of, limit_read, limits_read}
@@ -243,7 +243,7 @@ LineEditMayRefuse asked file cause name =
 abbrev pub NamedBatchMayRefuse : Option Format → Option (List ℕ) → List ℕ → List NameLine → Cause → List ℕ → Type 0
 NamedBatchMayRefuse asked from file names cause name =
     LineEditMayRefuse asked file cause name
-    ⊎ (InputMayRefuse false from cause name
+    ⊎ (InputMayRefuse Lines from cause name
     ⊎ LineMayRefuse names (input_name from) cause name)
 
 -- the causes for which lines may not be applied, whatever is told

@@ -4,7 +4,7 @@ use Rattle.quota_cli.specs.declared.refusal.cause.Cause.TheVariants.{Usage}
 use Rattle.quota_cli.specs.declared.refusal.cause.UsageKind.TheVariants.{UnknownCommand}
 use Rattle.quota_cli.specs.declared.refusal.reason.Refusal.{Refusal}
 use Rattle.quota_cli.specs.declared.words.command.Command.{Command}
-use Rattle.quota_cli.specs.declared.words.command.Command.TheVariants.{Report, SetLimits, CopyLimits, SetGrace, SetTimes, Batch, PrintForm, ApplyForm}
+use Rattle.quota_cli.specs.declared.words.command.Command.TheVariants.{Report, SetLimits, CopyLimits, SetGrace, SetTimes, Batch, PrintForm, ApplyForm, Check}
 use Rattle.quota_cli.specs.refusal.Refusals.{refusal_of}
 use Rattle.quota_cli.specs.words.Asked.{command_of}
 
@@ -18,6 +18,7 @@ is_built (SetTimes common name block inode file) = true
 is_built (Batch common input file) = true
 is_built (PrintForm common name file) = true
 is_built (ApplyForm common input name file) = true
+is_built (Check common fresh device input file) = true
 is_built _ = false
 
 -- what is said of a command that is not built

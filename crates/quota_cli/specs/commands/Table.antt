@@ -4,7 +4,7 @@ use Rattle.quota_cli.specs.declared.refusal.cause.Cause.{Cause}
 use Rattle.quota_cli.specs.declared.refusal.cause.Cause.TheVariants.{Memory}
 use Rattle.quota_cli.specs.declared.refusal.reason.Refusal.{Refusal}
 use Rattle.quota_cli.specs.declared.words.command.Command.{Command}
-use Rattle.quota_cli.specs.declared.words.command.Command.TheVariants.{Report, SetLimits, CopyLimits, SetGrace, SetTimes, Batch, PrintForm, ApplyForm}
+use Rattle.quota_cli.specs.declared.words.command.Command.TheVariants.{Report, SetLimits, CopyLimits, SetGrace, SetTimes, Batch, PrintForm, ApplyForm, Check}
 use Rattle.quota_cli.specs.declared.words.edit.EditWords.TheVariants.{Limits, Copy, Grace, Times}
 use Rattle.quota_cli.specs.refusal.Refusals.{refusal_of}
 use Rattle.quota_cli.specs.Run.{Uses}
@@ -13,6 +13,7 @@ use Rattle.quota_cli.specs.declared.commands.occasion.Occasion.{Occasion}
 use Rattle.quota_cli.specs.commands.Apply.{ApplyMayRefuse, ApplySteps, apply_uses}
 use Rattle.quota_cli.specs.commands.Batch.{BatchMayRefuse, BatchSteps, batch_uses}
 use Rattle.quota_cli.specs.commands.Built.{unknown_command}
+use Rattle.quota_cli.specs.commands.Check.{CheckMayRefuse, CheckSteps, check_uses}
 use Rattle.quota_cli.specs.commands.Edits.{EditMayRefuse, EditSteps, edit_uses, faulty_edit}
 use Rattle.quota_cli.specs.commands.Print.{PrintMayRefuse, PrintSteps, faulty_print}
 use Rattle.quota_cli.specs.commands.Report.{ReportMayRefuse, ReportSteps}
@@ -28,6 +29,7 @@ StepsOf (SetTimes common name block inode file) = EditSteps common (Times name b
 StepsOf (Batch common input file) = BatchSteps common input file
 StepsOf (PrintForm common name file) = PrintSteps common name file
 StepsOf (ApplyForm common input name file) = ApplySteps common input name file
+StepsOf (Check common fresh device input file) = CheckSteps common fresh device input file
 StepsOf _ = λ occasion. Stop unknown_command
 
 -- the causes for which a command may be refused, whatever is told, with the name that is said
@@ -40,6 +42,7 @@ MayRefuseCommand (SetTimes common name block inode file) = EditMayRefuse common 
 MayRefuseCommand (Batch common input file) = BatchMayRefuse common input file
 MayRefuseCommand (PrintForm common name file) = PrintMayRefuse common name file
 MayRefuseCommand (ApplyForm common input name file) = ApplyMayRefuse common input name file
+MayRefuseCommand (Check common fresh device input file) = CheckMayRefuse common fresh input file
 MayRefuseCommand _ = λ cause name. refusal_of cause name ≡ unknown_command
 
 -- The refusal of the first faulty word of a command, among those that stand for an identifier, a number or a time, where it
@@ -53,6 +56,7 @@ faulty_word (SetTimes common name block inode file) = faulty_edit common (Times 
 faulty_word (Batch common input file) = None
 faulty_word (PrintForm common name file) = faulty_print common name
 faulty_word (ApplyForm common input name file) = faulty_print common name
+faulty_word (Check common fresh device input file) = None
 faulty_word _ = Some unknown_command
 
 -- words that are refused use nothing
@@ -69,6 +73,7 @@ uses_of (SetTimes _ _ _ _ _) = edit_uses true
 uses_of (Batch _ input _) = batch_uses input
 uses_of (PrintForm _ _ _) = showing_uses
 uses_of (ApplyForm _ input _ _) = apply_uses input
+uses_of (Check _ _ _ input _) = check_uses input
 uses_of _ = use_nothing
 
 -- The file that a command replaces as a whole, which stays as it was where the command was refused. New times may be refused
@@ -78,6 +83,7 @@ replaced_file (SetLimits _ _ _ file) = Some file
 replaced_file (CopyLimits _ _ _ file) = Some file
 replaced_file (SetGrace _ _ _ file) = Some file
 replaced_file (ApplyForm _ _ _ file) = Some file
+replaced_file (Check _ _ _ _ file) = Some file
 replaced_file _ = None
 
 -- what is asked for by words that were read, or their refusal: the steps

@@ -68,7 +68,7 @@ text_of SameName name = name ∷ codes ": same name" ∷ []
 text_of (BadForm line) name = codes "bad form at line " ∷ decimal line ∷ []
 text_of (BadLine line) name = input_called name ∷ codes ": bad line " ∷ decimal line ∷ []
 text_of (LongLine line) name = input_called name ∷ codes ": long line " ∷ decimal line ∷ []
-text_of (Conflict line first) name = name ∷ codes ": line " ∷ decimal line ∷ codes " conflicts with line " ∷ decimal first ∷ []
+text_of (Conflict line first) name = input_called name ∷ codes ": line " ∷ decimal line ∷ codes " conflicts with line " ∷ decimal first ∷ []
 text_of (Usage kind word) name = codes "usage: " ∷ usage_name kind ∷ codes " at word " ∷ decimal word ∷ []
 
 -- the number of a line in front of what is said, where something stands in one

@@ -1,7 +1,7 @@
 -- The forms of commands that are built so far.
 use Rattle.std.specs.Prelude.{Bool, true, false}
 use Rattle.quota_cli.specs.declared.words.form.Form.{Form}
-use Rattle.quota_cli.specs.declared.words.form.Form.TheVariants.{Reporting, Limiting, Copying, Batching, SettingGrace, SettingTimes, Printing, Applying}
+use Rattle.quota_cli.specs.declared.words.form.Form.TheVariants.{Reporting, Limiting, Copying, Batching, SettingGrace, SettingTimes, Printing, Applying, Checking}
 
 -- a form asks for a command that is built
 abbrev pub is_built_form : Form → Bool
@@ -13,4 +13,5 @@ is_built_form SettingGrace = true
 is_built_form SettingTimes = true
 is_built_form Printing = true
 is_built_form Applying = true
+is_built_form Checking = true
 is_built_form _ = false

@@ -6,7 +6,7 @@ ghost use Rattle.quota_blocks.specs.InputLines.{lines_left};
 ghost use Rattle.quota_blocks.specs.StoreInput.{left_from};
 ghost use Rattle.quota_blocks.specs.Unsynced.{AddsNone};
 ghost use Rattle.quota_cli.specs.Outcome.{Passed};
-ghost use Rattle.quota_cli.specs.Taking.{InputMayRefuse, IsInputFault, file_said, input_name, input_said};
+ghost use Rattle.quota_cli.specs.Taking.{InputMayRefuse, IsInputFault, Lines, file_said, input_name, input_said};
 ghost use Rattle.quota_cli.specs.commands.Batch.{IsOfLine, batch_step, input_asks, input_cause, lines_ask, read_then, refusal_read};
 ghost use Rattle.quota_cli.specs.declared.commands.batch_input.InputFault.TheVariants.{Source as SourceFailed, Memory as NoMemory};
 ghost use Rattle.quota_cli.specs.declared.commands.batch_line.LineRead.TheVariants.{Refused as Faulty};
@@ -67,7 +67,7 @@ pub fn take_batch<S: Store, I: Source>(
     ensures refused { IfErr result (λ refusal. IsInputFault (Rose (S.seen store.old).faults (S.seen store.new).faults)
         (Rose (I.seen input.old).faults (I.seen input.new).faults) (IsTrue S.tells × IsTrue I.tells)
         (input_said from (batch_step names.now from) (S.seen store.old).files (I.seen input.old).left) refusal refusal.cause) }
-    ensures may { IfErr result (λ refusal. InputMayRefuse false from refusal.cause refusal.name) }
+    ensures may { IfErr result (λ refusal. InputMayRefuse Lines from refusal.cause refusal.name) }
     ensures placed { IfErr result (λ refusal. refusal.place ≡ nowhere) }
     ensures leaves { OnlyReads (unwrap_or from []) (S.seen store.old) (S.seen store.new) }
     ensures synced { IfOk result (λ batch. batch.refusal ≡ None → AddsNone (S.seen store.old).unsynced (S.seen store.new).unsynced) }
@@ -88,7 +88,7 @@ fn take_input<I: Source>(alloc: Global, names: &Names, input: &mut I) -> Result<
     ensures may_ask { IfOk result (λ batch. IfSome batch.refusal (IsOfLine names.now [])) }
     ensures refused { IfErr result (λ refusal. IsInputFault ⊥ (Rose (I.seen input.old).faults (I.seen input.new).faults) (IsTrue I.tells)
         (batch_step names.now None (I.seen input.old).left) refusal refusal.cause) }
-    ensures may { IfErr result (λ refusal. InputMayRefuse false None refusal.cause refusal.name) }
+    ensures may { IfErr result (λ refusal. InputMayRefuse Lines None refusal.cause refusal.name) }
     ensures placed { IfErr result (λ refusal. refusal.place ≡ nowhere) }
     ensures later { (I.seen input.old).faults ≤ (I.seen input.new).faults }
 {
@@ -112,7 +112,7 @@ fn take_file<S: Store>(
     ensures refused { IfErr result (λ refusal. IsInputFault
         (Rose (S.seen store.old).faults (S.seen store.new).faults) ⊥ (IsTrue S.tells)
         (file_said name (batch_step names.now (Some name)) ((S.seen store.old).files name)) refusal refusal.cause) }
-    ensures may { IfErr result (λ refusal. InputMayRefuse false (Some name) refusal.cause refusal.name) }
+    ensures may { IfErr result (λ refusal. InputMayRefuse Lines (Some name) refusal.cause refusal.name) }
     ensures placed { IfErr result (λ refusal. refusal.place ≡ nowhere) }
     ensures leaves { OnlyReads name (S.seen store.old) (S.seen store.new) }
     ensures synced { IfOk result (λ batch. batch.refusal ≡ None → AddsNone (S.seen store.old).unsynced (S.seen store.new).unsynced) }
@@ -137,7 +137,7 @@ fn take_there<S: Store>(
     ensures refused { IfErr result (λ refusal. IsInputFault
         (Rose (S.seen store.old).faults (S.seen store.new).faults) ⊥ (IsTrue S.tells)
         (batch_step names.now (Some name) (left_from ((S.seen store.old).files name) 0)) refusal refusal.cause) }
-    ensures may { IfErr result (λ refusal. InputMayRefuse false (Some name) refusal.cause refusal.name) }
+    ensures may { IfErr result (λ refusal. InputMayRefuse Lines (Some name) refusal.cause refusal.name) }
     ensures placed { IfErr result (λ refusal. refusal.place ≡ nowhere) }
     ensures leaves { OnlyReads name (S.seen store.old) (S.seen store.new) }
     ensures synced { IfOk result (λ batch. batch.refusal ≡ None → AddsNone (S.seen store.old).unsynced (S.seen store.new).unsynced) }

@@ -11,8 +11,11 @@ mod apply;
 mod batch;
 mod batch_input;
 mod batch_line;
+mod check;
 mod edits;
+mod file_value;
 mod form_input;
+mod listing_input;
 mod naming;
 mod occasion;
 mod opening;
@@ -115,6 +118,23 @@ pub fn carry_out<S: Store, I: Source, O: Sink, E: Sink, L: Link>(
             name,
             file,
         } => apply::apply_by_word(alloc, common, from, name, file, store, input, err, occasion),
+        Command::Check {
+            common,
+            fresh,
+            device,
+            input: from,
+            file,
+        } => check::check_file(
+            alloc,
+            common,
+            fresh,
+            device,
+            from,
+            file,
+            store,
+            input,
+            occasion.now,
+        ),
         _ => unreachable!(),
     }
 }

@@ -93,7 +93,7 @@ fn write_cause<O: Sink>(
             sink,
             place,
             &[
-                Text(name),
+                Text(input_called(name)),
                 Text(b": line "),
                 Number(u128::from(line)),
                 Text(b" conflicts with line "),

@@ -3,6 +3,7 @@
 mod applied;
 mod batches;
 mod calls;
+mod checked;
 mod edits;
 mod forms;
 mod limits;

@@ -38,5 +38,6 @@ fn is_built_form(form: Form) -> bool
             | Form::SettingTimes
             | Form::Printing
             | Form::Applying
+            | Form::Checking
     )
 }

@@ -31,3 +31,7 @@ returns-in-Batch-clause-carries g c = rw c.in-Batch.is (
 pub returns-in-ApplyForm-clause-carries : goal.returns-in-ApplyForm-clause-carries
 returns-in-ApplyForm-clause-carries g c = rw c.in-ApplyForm.is (
     c.apply_by_word.ensures.carries (g.O.Sink.seen c.args.out.now) (g.L.Link.seen c.args.link.now) g.O.Sink.tells g.L.Link.tells)
+
+pub returns-in-Check-clause-carries : goal.returns-in-Check-clause-carries
+returns-in-Check-clause-carries g c = rw c.in-Check.is (
+    c.check_file.ensures.carries (g.O.Sink.seen c.args.out.now) (g.E.Sink.seen c.args.err.now) (g.L.Link.seen c.args.link.now) g.O.Sink.tells g.E.Sink.tells g.L.Link.tells c.args.occasion.line)

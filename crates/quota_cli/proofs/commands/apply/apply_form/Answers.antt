@@ -5,7 +5,7 @@ use Rattle.quota_blocks.specs.World.{World}
 use Rattle.set_edit.specs.declared.limits.Limits.{Limits as FourLimits}
 use Rattle.quota_cli.specs.Done.{IsWorldTold, seen_of, tells_of}
 use Rattle.quota_cli.specs.Outcome.{Passed}
-use Rattle.quota_cli.specs.Taking.{HasTaken}
+use Rattle.quota_cli.specs.Taking.{AForm, HasTaken}
 use Rattle.quota_cli.specs.commands.Edits.{FileEditSteps}
 use Rattle.quota_cli.specs.declared.words.edit.FileEdit.TheVariants.{Limits}
 use Rattle.quota_cli.proofs.OpeningLemmas.{with_store}
@@ -42,7 +42,7 @@ returns-in-Err-clause-carries g c = λ out link out_tells link_tells.
     let E = g.E.Sink in
     let took = c.in-Err.ensures in
     let file = c.as_str.ensures in
-    input_refused (unwrap_or c.args.from []) true c.args.from (λ limits. true) _ _ _ _
+    input_refused (unwrap_or c.args.from []) AForm c.args.from (λ limits. true) _ _ _ _
     (tells_of S.tells I.tells out_tells E.tells link_tells)
     (seen_of (S.seen c.args.store.now) (I.seen c.args.input.now) out (E.seen c.args.err.now) link)
     (S.seen c.take_form.new.store) (I.seen c.take_form.new.input) c.in-Err.refusal

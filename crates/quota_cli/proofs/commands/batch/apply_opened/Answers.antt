@@ -5,7 +5,7 @@ use Rattle.quota_map.specs.AnyFile.{HoldsAny}
 use Rattle.quota_cli.specs.declared.refusal.reason.Refusal.{Refusal}
 use Rattle.quota_cli.specs.Done.{IsWorldTold, seen_of, tells_of}
 use Rattle.quota_cli.specs.Outcome.{Passed}
-use Rattle.quota_cli.specs.Taking.{HasTaken, input_name}
+use Rattle.quota_cli.specs.Taking.{HasTaken, Lines, input_name}
 use Rattle.quota_cli.specs.commands.Batch.{Applying, Asked, IsOfLine, LineEditMayRefuse, is_to_end, line_uses}
 use Rattle.quota_cli.proofs.BatchLemmas.{applying_moved, ends_none, then_ended, then_refused, then_stopped}
 use Rattle.quota_cli.proofs.FormLemmas.{fault_more}
@@ -84,7 +84,7 @@ returns-clause-carries g c = λ format as_asked value held out err link out_tell
     let S = g.S.Store in
     let I = g.I.Source in
     let took = c.in-Err.ensures in
-    input_refused (unwrap_or c.args.from []) false c.args.from is_to_end _ (Applying c.args.file c.args.now value) _ _
+    input_refused (unwrap_or c.args.from []) Lines c.args.from is_to_end _ (Applying c.args.file c.args.now value) _ _
     (tells_of S.tells I.tells out_tells err_tells link_tells)
     (seen_of (S.seen c.args.store.now) (I.seen c.args.input.now) out err link)
     (S.seen c.take_batch.new.store) (I.seen c.take_batch.new.input) c.in-Err.refusal

@@ -155,11 +155,11 @@ returns-in-LongLine-clause-fault g c = rw c.in-LongLine.is (rw c.from-in-LongLin
 
 pub returns-in-Conflict-clause-ok : goal.returns-in-Conflict-clause-ok
 unfolding error_line
-returns-in-Conflict-clause-ok g c = rw c.in-Conflict.is (rw c.from-in-Conflict-2.ensures at rw c.from-in-Conflict.ensures at c.write_line-in-Conflict.ensures.ok)
+returns-in-Conflict-clause-ok g c = rw c.in-Conflict.is (rw c.from-in-Conflict-2.ensures at rw c.from-in-Conflict.ensures at rw c.input_called-in-Conflict.ensures at c.write_line-in-Conflict.ensures.ok)
 
 pub returns-in-Conflict-clause-fault : goal.returns-in-Conflict-clause-fault
 unfolding error_line
-returns-in-Conflict-clause-fault g c = rw c.in-Conflict.is (rw c.from-in-Conflict-2.ensures at rw c.from-in-Conflict.ensures at c.write_line-in-Conflict.ensures.fault)
+returns-in-Conflict-clause-fault g c = rw c.in-Conflict.is (rw c.from-in-Conflict-2.ensures at rw c.from-in-Conflict.ensures at rw c.input_called-in-Conflict.ensures at c.write_line-in-Conflict.ensures.fault)
 
 pub returns-in-Full-clause-ok : goal.returns-in-Full-clause-ok
 unfolding error_line

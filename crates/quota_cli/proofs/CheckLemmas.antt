@@ -1,0 +1,201 @@
+-- Listings that become the usage of a file: why one was not read, which value it leaves, and why a file was not read.
+use Rattle.std.proofs.Common.{◌≡◌, ℕ, ◌≤◌, Bool, false, IsTrue, List, [], ◌∷◌, ◌++◌, Option, None, Some, Ok, Err, Result, refl, sym, ap, subst, ◌∙◌, arith}
+use Rattle.std.specs.Prelude.{⊤, slice_get}
+use Rattle.std.specs.FinMap.{entries}
+use Rattle.std.specs.List.{cons_option, filter_map}
+use Rattle.std.specs.Option.{option_map}
+use Rattle.quota_types.specs.Range.{unfit}
+use Rattle.quota_types.specs.declared.field.Field.{Field}
+use Rattle.quota_types.specs.declared.field.NoRoom.{NoRoom as NoRoomFor}
+use Rattle.quota_types.specs.declared.file_kind.Format.{Format}
+use Rattle.quota_types.specs.declared.file_kind.Format.TheVariants.{V1, V2R0, V2R1}
+use Rattle.quota_types.specs.declared.file_kind.Kind.{Kind}
+use Rattle.quota_types.specs.declared.record.Grace.{Grace}
+use Rattle.quota_types.specs.declared.record.Rec.{Rec}
+use Rattle.quota_blocks.specs.Count.{Rose}
+use Rattle.quota_blocks.specs.Frame.{OnlyReads}
+use Rattle.quota_blocks.specs.QuotaValue.{QuotaValue, Records}
+use Rattle.quota_blocks.specs.Seen.{StoreSeen}
+use Rattle.quota_blocks.proofs.FrameLemmas.{only_reads-none}
+use Rattle.quota_blocks.specs.declared.quota_file.FileFault.{FileFault}
+use Rattle.quota_blocks.specs.declared.quota_file.FileFault.TheVariants.{Store as StoreFailed, Damage as FileDamaged, Full as NoBlocks, Memory as NoMemory}
+use Rattle.quota_map.specs.AnyFile.{MayRefuse}
+use Rattle.quota_map.specs.Reading.{IsReadFault, UnlessMemory}
+use Rattle.quota_map.specs.Replacing.{flags_in}
+use Rattle.quota_map.specs.View.{IsOpenedAs}
+use Rattle.inode_scan.specs.Apply.{IsApplyFault, applied, first_no_room, no_room, wanted}
+use Rattle.inode_scan.specs.Faults.{unless}
+use Rattle.inode_scan.specs.Scan.{IsScanFault}
+use Rattle.inode_scan.specs.Usage.{UsageMap}
+use Rattle.inode_scan.specs.declared.fault.ApplyFault.{ApplyFault}
+use Rattle.inode_scan.specs.declared.fault.ApplyFault.TheVariants.{NoRoom as Unfit, Memory as ApplyWantsMemory}
+use Rattle.inode_scan.specs.declared.fault.ScanFault.{ScanFault}
+use Rattle.inode_scan.specs.declared.fault.ScanFault.TheVariants.{Source, TooLarge as PastTotal, BadLine as WrongLine, LongLine as TooLong, Conflict as Conflicting, Memory as ScanWantsMemory}
+use Rattle.quota_cli.specs.declared.refusal.cause.Cause.{Cause}
+use Rattle.quota_cli.specs.declared.refusal.cause.Cause.TheVariants.{StoreFault, SourceFault, NoRoom}
+use Rattle.quota_cli.specs.declared.refusal.reason.Refusal.{Refusal}
+use Rattle.quota_cli.specs.Act.{Act}
+use Rattle.quota_cli.specs.Done.{IsWorldTold, Outside, RunSeen, RunTells, outside_of}
+use Rattle.quota_cli.specs.Opening.{MayRefuseOpening, file_cause}
+use Rattle.quota_cli.specs.Outcome.{Outcome}
+use Rattle.quota_cli.specs.Run.{CarriesOut, HasReason, IsFault, Uses}
+use Rattle.quota_cli.specs.Steps.{Opening, Steps, Stop, Then}
+use Rattle.quota_cli.specs.Taking.{AListing, InputMayRefuse, IsInputFault}
+use Rattle.quota_cli.specs.commands.Check.{IsUnfitIn, ReplaceSteps, ReplacingMayRefuse, apply_cause, checked, replaced, scan_cause, scan_outcome, with_applied}
+use Rattle.quota_cli.specs.commands.Edits.{edit_uses}
+use Rattle.quota_cli.specs.refusal.Refusals.{refusal_of}
+use Rattle.quota_cli.proofs.OpeningLemmas.{nothing_read, store_later, unwritten, with_store}
+use Rattle.quota_cli.proofs.PhaseLemmas.{carries_on, stop_carried}
+use Rattle.quota_cli.proofs.ReplacingLemmas.{replace_wanting}
+use Rattle.quota_cli.proofs.ShowingLemmas.{damage_may}
+
+-- Listings.
+
+-- a listing in the standard input that gave no usage
+pub listing_unread : (read : Result UsageMap ScanFault) (before now : ℕ) (tells : Bool) (fault : ScanFault) → IsScanFault before now tells read fault
+    → IsInputFault ⊥ (Rose before now) (IsTrue tells) (scan_outcome [] read) (refusal_of (scan_cause SourceFault fault) []) (scan_cause SourceFault fault)
+listing_unread read before now tells Source is = is
+listing_unread read before now tells PastTotal is = λ told. ap (scan_outcome []) (is told)
+listing_unread read before now tells (WrongLine line) is = λ told. ap (scan_outcome []) (is told)
+listing_unread read before now tells (TooLong line) is = λ told. ap (scan_outcome []) (is told)
+listing_unread read before now tells (Conflicting line first) is = λ told. ap (scan_outcome []) (is told)
+listing_unread read before now tells ScanWantsMemory is = tt
+
+-- a listing in a file that gave no usage
+listing_unread_of : (name : List ℕ) (read : Result UsageMap ScanFault) (before now : ℕ) (tells : Bool) (fault : ScanFault) → IsScanFault before now tells read fault
+    → IsInputFault (Rose before now) ⊥ (IsTrue tells) (scan_outcome name read) (refusal_of (scan_cause StoreFault fault) name) (scan_cause StoreFault fault)
+listing_unread_of name read before now tells Source is = is
+listing_unread_of name read before now tells PastTotal is = λ told. ap (scan_outcome name) (is told)
+listing_unread_of name read before now tells (WrongLine line) is = λ told. ap (scan_outcome name) (is told)
+listing_unread_of name read before now tells (TooLong line) is = λ told. ap (scan_outcome name) (is told)
+listing_unread_of name read before now tells (Conflicting line first) is = λ told. ap (scan_outcome name) (is told)
+listing_unread_of name read before now tells ScanWantsMemory is = tt
+
+-- the same of a refusal that says so
+pub listing_unread_at : (name : List ℕ) (read : Result UsageMap ScanFault) (before now : ℕ) (tells : Bool) (fault : ScanFault) (refusal : Refusal) → IsScanFault before now tells read fault
+    → refusal ≡ refusal_of (scan_cause StoreFault fault) name → IsInputFault (Rose before now) ⊥ (IsTrue tells) (scan_outcome name read) refusal refusal.cause
+listing_unread_at name read before now tells fault refusal is same =
+    subst (λ (r : Refusal). IsInputFault (Rose before now) ⊥ (IsTrue tells) (scan_outcome name read) r r.cause) (sym same) (listing_unread_of name read before now tells fault is)
+
+-- what may be said of a listing in the standard input, and of one in a file
+pub listing_may : (fault : ScanFault) → InputMayRefuse AListing None (scan_cause SourceFault fault) []
+listing_may Source = refl
+listing_may PastTotal = (refl, refl)
+listing_may (WrongLine line) = (refl, refl)
+listing_may (TooLong line) = (refl, refl)
+listing_may (Conflicting line first) = (refl, refl)
+listing_may ScanWantsMemory = refl
+
+pub listing_may_of : (name : List ℕ) (fault : ScanFault) → InputMayRefuse AListing (Some name) (scan_cause StoreFault fault) name
+listing_may_of name Source = refl
+listing_may_of name PastTotal = (refl, refl)
+listing_may_of name (WrongLine line) = (refl, refl)
+listing_may_of name (TooLong line) = (refl, refl)
+listing_may_of name (Conflicting line first) = (refl, refl)
+listing_may_of name ScanWantsMemory = refl
+
+-- Values for which there is no room.
+
+-- a value for which there is no room is one of some record
+no_room_of : (format : Format) (id : ℕ) (rec : Rec) (out : NoRoomFor) (found : Option (Field × ℕ)) → unfit format id rec ≡ found
+    → option_map (λ (one : Field × ℕ). record { id = id; field = one.0; value = one.1 }) found ≡ Some out → IsUnfitIn format out
+no_room_of format id rec out None is named = absurd (cc)
+no_room_of format id rec out (Some one) is named =
+    let same : ◌≡◌ {A = NoRoomFor} (record { id = id; field = one.0; value = one.1 }) out = cc in
+    (rec, subst (λ (o : NoRoomFor). unfit format o.id rec ≡ Some (o.field, o.value)) same is)
+
+first_unfit : (format : Format) (pairs : List (ℕ × Rec)) (out : NoRoomFor) → slice_get (filter_map (no_room format) pairs) 0 ≡ Some out → IsUnfitIn format out
+first_unfit format [] out is = absurd (cc)
+first_unfit format (pair ∷ pairs) out is = by_found (no_room format pair) refl (first_unfit format pairs out) is
+  where
+    by_found : (found : Option NoRoomFor) → no_room format pair ≡ found → (slice_get (filter_map (no_room format) pairs) 0 ≡ Some out → IsUnfitIn format out)
+        → slice_get (cons_option found (filter_map (no_room format) pairs)) 0 ≡ Some out → IsUnfitIn format out
+    by_found None found next first = next first
+    by_found (Some one) found next first = no_room_of format pair.0 pair.1 out (unfit format pair.0 pair.1) refl (found ∙ first)
+
+refused_by : {A E : Type 0} (refusal : Option E) (value : A) (out : E) → unless refusal value ≡ Err out → refusal ≡ Some out
+refused_by None value out is = absurd (cc)
+refused_by (Some refusal) value out is = cc
+
+-- where the records are refused there is no room for a value of some record
+applied_unfit : (format : Format) (grace : Grace) (now : ℕ) (records : Records) (usage : UsageMap) (out : NoRoomFor) → applied format grace now records usage ≡ Err out → IsUnfitIn format out
+unfolding applied
+applied_unfit format grace now records usage out is =
+    first_unfit format (entries (wanted grace now records usage)) out (refused_by (first_no_room format (wanted grace now records usage)) _ out is)
+
+-- there was no room for a value
+pub check_unfit : (name : List ℕ) (value : QuotaValue) (usage : UsageMap) (now : ℕ) (out : NoRoomFor) (tells : RunTells) (old : RunSeen)
+    → applied value.format value.grace now value.records usage ≡ Err out
+    → CarriesOut (ReplaceSteps name (checked value usage now)) (edit_uses false) (ReplacingMayRefuse value.format name) tells old old (Err (refusal_of (NoRoom out) name))
+check_unfit name value usage now out tells old is =
+    subst (λ (r : Result QuotaValue NoRoomFor). CarriesOut (ReplaceSteps name r) (edit_uses false) (ReplacingMayRefuse value.format name) tells old old (Err (refusal_of (NoRoom out) name)))
+    (sym (ap (with_applied value) is))
+    (stop_carried (edit_uses false) (ReplacingMayRefuse value.format name) tells old (refusal_of (NoRoom out) name) (λ stated fact. fact)
+    (refl, applied_unfit value.format value.grace now value.records usage out is) (record { line = λ no. refl; input_line = λ no. refl }))
+
+-- Files that were opened and not read.
+
+read_reason : (warns : Bool) (old new : RunSeen) (tells : RunTells) (stated : Type 0) (before : ℕ) (holds : QuotaValue → Type 0) (fault : FileFault)
+    → old.store.faults ≤ before → (IsTrue tells.store → ((value : QuotaValue) → holds value → ⊥) → ⊥)
+    → IsReadFault before new.store.faults holds fault → HasReason warns old new (IsWorldTold tells → stated) (file_cause fault)
+read_reason warns old new tells stated before holds StoreFailed le seen cause = omega (arith, le, cause)
+read_reason warns old new tells stated before holds (FileDamaged damage) le seen cause = λ told. absurd (seen told.store cause)
+read_reason warns old new tells stated before holds (NoBlocks blocks limit) le seen cause = absurd cause
+read_reason warns old new tells stated before holds NoMemory le seen cause = tt
+
+read_fault : (before now : ℕ) (holds : QuotaValue → Type 0) (fault : FileFault) → (((value : QuotaValue) → holds value → ⊥) → ⊥) → IsReadFault before now holds fault → IsFault (file_cause fault)
+read_fault before now holds StoreFailed seen cause = tt
+read_fault before now holds (FileDamaged damage) seen cause = absurd (seen cause)
+read_fault before now holds (NoBlocks blocks limit) seen cause = absurd cause
+read_fault before now holds NoMemory seen cause = tt
+
+read_may : (asked : Option Format) (name : List ℕ) (format : Format) (before now : ℕ) (holds : QuotaValue → Type 0) (fault : FileFault) → IsOpenedAs asked format
+    → IsReadFault before now holds fault → UnlessMemory fault (MayRefuse format fault) → MayRefuseOpening asked name (file_cause fault) name
+read_may asked name format before now holds StoreFailed asks cause may = tt
+read_may asked name format before now holds (FileDamaged damage) asks cause may = (damage_may asked format damage asks may, refl)
+read_may asked name format before now holds (NoBlocks blocks limit) asks cause may = absurd cause
+read_may asked name format before now holds NoMemory asks cause may = tt
+
+-- a file was opened, and its records were not read
+pub not_read_whole : (kind : Kind) (asked : Option Format) (name : List ℕ) (next : QuotaValue → Steps) (uses : Uses) (may : Cause → List ℕ → Type 0) (tells : RunTells) (old : RunSeen) (store : StoreSeen)
+    (format : Format) (before : ℕ) (holds : QuotaValue → Type 0) (fault : FileFault)
+    → IsOpenedAs asked format → OnlyReads name old.store store → old.store.faults ≤ before → (IsTrue tells.store → ((value : QuotaValue) → holds value → ⊥) → ⊥)
+    → IsReadFault before store.faults holds fault → UnlessMemory fault (MayRefuse format fault) → ((cause : Cause) → MayRefuseOpening asked name cause name → may cause name)
+    → CarriesOut (Opening kind asked name next) uses may tells old (with_store old store) (Err (refusal_of (file_cause fault) name))
+not_read_whole kind asked name next uses may tells old store format before holds fault asks reads le seen cause may_be allowed = record {
+  done = tt;
+  refused = read_reason uses.warns old (with_store old store) tells _ before holds fault le seen cause;
+  part = λ told acts to ended steps. nothing_read name tells acts old store reads;
+  complete = λ told acts to steps. read_fault before store.faults holds fault (seen told.store) cause;
+  may_refuse = allowed (file_cause fault) (read_may asked name format before store.faults holds fault asks cause may_be);
+  placed = record { line = λ no. refl; input_line = λ no. refl };
+  only_reads = λ only. unwritten name old.store store reads;
+  all_or_nothing = λ whole other. unwritten name old.store store reads;
+  quiet = λ no. refl;
+  later = store_later old store reads.later;
+}
+
+-- Steps over a value that is known where the store tells.
+
+-- the steps over one value were carried out where those over the same one were
+pub carries_same : (name : List ℕ) (next : QuotaValue → Steps) (one other : QuotaValue) (uses : Uses) (may : Cause → List ℕ → Type 0) (tells : RunTells) (old new : RunSeen) (result : Result (Unit {0}) Refusal)
+    → (IsTrue tells.store → one ≡ other) → CarriesOut (next one) uses may tells old new result → CarriesOut (next other) uses may tells old new result
+carries_same name next one other uses may tells old new result same carries =
+    carries_on name (next one) (next other) uses may may tells old old.store new result (only_reads-none name old.store)
+    (λ told acts to ended by. subst (λ (v : QuotaValue). next v (outside_of old) acts to ended) (same told.store) by)
+    (λ told acts to ended by. subst (λ (v : QuotaValue). next v (outside_of old) acts to ended) (sym (same told.store)) by)
+    (λ cause said may. may) carries
+
+-- the value of a new file has no flags that its format does not have
+pub new_flags : (format : Format) → flags_in format 0 ≡ 0
+new_flags V1 = refl
+new_flags V2R0 = refl
+new_flags V2R1 = refl
+
+-- the records were not made, for want of memory or of room
+pub apply_refused : (name : List ℕ) (value : QuotaValue) (usage : UsageMap) (now : ℕ) (fault : ApplyFault) (tells : RunTells) (old : RunSeen)
+    → IsApplyFault (applied value.format value.grace now value.records usage) fault
+    → CarriesOut (ReplaceSteps name (checked value usage now)) (edit_uses false) (ReplacingMayRefuse value.format name) tells old old (Err (refusal_of (apply_cause fault) name))
+apply_refused name value usage now (Unfit out) tells old is = check_unfit name value usage now out tells old is
+apply_refused name value usage now ApplyWantsMemory tells old is =
+    replace_wanting name (checked value usage now) (ReplacingMayRefuse value.format name) tells old old.store refl tt

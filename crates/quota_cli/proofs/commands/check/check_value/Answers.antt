@@ -1,0 +1,46 @@
+use Rattle.std.proofs.Common.{IsTrue, true, [], inl, inr, refl, ap}
+use Rattle.std.specs.Prelude.{unwrap_or}
+use Rattle.inode_scan.specs.Usage.{UsageMap}
+use Rattle.quota_cli.specs.Done.{IsWorldTold, seen_of, tells_of}
+use Rattle.quota_cli.specs.Outcome.{Passed}
+use Rattle.quota_cli.specs.Taking.{AListing, HasTaken}
+use Rattle.quota_cli.specs.commands.Check.{ReplaceSteps, checked}
+use Rattle.quota_cli.specs.commands.FileValue.{value_in}
+use Rattle.quota_cli.proofs.FormLemmas.{fault_more}
+use Rattle.quota_cli.proofs.OpeningLemmas.{with_store}
+use Rattle.quota_cli.proofs.PhaseLemmas.{placed_nowhere}
+use Rattle.quota_cli.proofs.TakingLemmas.{carries_taking, has_taken, has_taken_refused, input_refused, whole_moved}
+use Rattle.quota_cli.proofs.commands.check.check_value.Goals as goal
+
+pub returns-in-Ok-clause-carries : goal.returns-in-Ok-clause-carries
+returns-in-Ok-clause-carries g c = λ out err link out_tells err_tells link_tells.
+    let S = g.S.Store in
+    let I = g.I.Source in
+    let took = c.in-Ok.ensures in
+    let usage : UsageMap = c.in-Ok.usage in
+    let tells = tells_of S.tells I.tells out_tells err_tells link_tells in
+    let old = seen_of (S.seen c.args.store.now) (I.seen c.args.input.now) out err link in
+    let taken : IsWorldTold tells → HasTaken c.args.from (λ (u : UsageMap). true) (Passed usage) (I.seen c.args.input.now).left (I.seen c.take_usage.new.input).left =
+    λ told. has_taken c.args.from (λ u. true) usage _ _ (took.behind told.input) (λ all none. took.ended none told.input) (λ some. ap (λ i. (I.seen i).left) (took.untouched some)) in
+    carries_taking (unwrap_or c.args.from []) c.args.from (λ (u : UsageMap). true) _ (λ (u : UsageMap). ReplaceSteps c.args.file (checked (value_in c.args.value) u c.args.now)) usage _ _ _
+    tells old (S.seen c.take_usage.new.store) (I.seen c.take_usage.new.input)
+    (seen_of (S.seen c.replace_usage.new.store) (I.seen c.take_usage.new.input) out err link) c.replace_usage.result
+    took.leaves took.later (λ told. took.read told.store told.input)
+    taken (λ told. whole_moved c.args.from (λ u. true) (λ (u : UsageMap). ReplaceSteps c.args.file (checked (value_in c.args.value) u c.args.now)) usage
+    (with_store old (S.seen c.take_usage.new.store)) (I.seen c.take_usage.new.input) refl (taken told))
+    (λ cause said may. inr may)
+    (c.replace_usage.ensures.carries (I.seen c.take_usage.new.input) out err link I.tells out_tells err_tells link_tells)
+
+pub returns-in-Err-clause-carries : goal.returns-in-Err-clause-carries
+returns-in-Err-clause-carries g c = λ out err link out_tells err_tells link_tells.
+    let S = g.S.Store in
+    let I = g.I.Source in
+    let took = c.in-Err.ensures in
+    input_refused (unwrap_or c.args.from []) AListing c.args.from (λ (u : UsageMap). true) _ _ _ _
+    (tells_of S.tells I.tells out_tells err_tells link_tells)
+    (seen_of (S.seen c.args.store.now) (I.seen c.args.input.now) out err link)
+    (S.seen c.take_usage.new.store) (I.seen c.take_usage.new.input) c.in-Err.refusal
+    took.leaves took.later
+    (fault_more _ _ _ _ _ _ _ c.in-Err.refusal c.in-Err.refusal.cause (λ rose. rose) (λ rose. rose) (λ told. (told.store, told.input)) took.refused)
+    (λ told. has_taken_refused c.args.from (λ u. true) c.in-Err.refusal _ _ (took.behind told.input) (λ some. ap (λ i. (I.seen i).left) (took.untouched some)))
+    took.may (inl took.may) (placed_nowhere _ c.in-Err.refusal took.placed)

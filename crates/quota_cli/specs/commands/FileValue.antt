@@ -1,0 +1,36 @@
+-- Values of quota files, with their records in a list.
+use Rattle.std.specs.Prelude.{◌≡◌, All, None, false}
+use Rattle.std.specs.List.Sorted.{IsStrictlyIncreasing}
+use Rattle.quota_types.specs.Kept.{IsKept}
+use Rattle.quota_types.specs.Range.{grace_unfit}
+use Rattle.quota_types.specs.Rec.{is_null_of}
+use Rattle.quota_blocks.specs.Listed.{ids_of, value_of}
+use Rattle.quota_blocks.specs.QuotaValue.{QuotaValue}
+use Rattle.quota_map.specs.Replacing.{flags_in}
+use Rattle.quota_blocks.specs.declared.quota_file.FileFault.{FileFault}
+use Rattle.quota_blocks.specs.declared.replacement.ReplaceFault.{ReplaceFault}
+use Rattle.quota_blocks.specs.declared.replacement.ReplaceFault.TheVariants.{Store, Full as NoBlocks, Memory as NoMemory}
+use Rattle.quota_cli.specs.declared.commands.file_value.FileValue.{FileValue}
+use Rattle.quota_cli.specs.declared.refusal.cause.Cause.{Cause}
+use Rattle.quota_cli.specs.declared.refusal.cause.Cause.TheVariants.{StoreFault, Full, Memory}
+
+-- the value that it is
+abbrev pub value_in : FileValue → QuotaValue
+value_in value = value_of value.kind value.format value.grace (flags_in value.format value.flags) value.entries.items
+
+-- a file of the format may have its grace periods, and its records are in the order of their identifiers
+pub record IsInOrder (value : FileValue) : Type 0 where
+  pub grace : grace_unfit value.format value.grace ≡ None
+  pub ascends : IsStrictlyIncreasing (ids_of value.entries.items)
+
+-- besides, the format keeps each record as it is, and none is null
+pub record IsWritable (value : FileValue) : Type 0 where
+  pub in_order : IsInOrder value
+  pub kept : All (λ entry. IsKept value.format entry.id entry.rec) value.entries.items
+  pub lasting : All (λ entry. is_null_of entry.rec ≡ false) value.entries.items
+
+-- what is said where a file was not replaced
+abbrev pub replace_cause : ReplaceFault → Cause
+replace_cause Store = StoreFault
+replace_cause (NoBlocks blocks limit) = Full blocks limit
+replace_cause NoMemory = Memory
