@@ -27,5 +27,5 @@ for case in pairs sort; do
     echo "quotacheck: $ours s, awk by $case: $theirs s, ratio $(ratio "$ours" "$theirs")"
     echo "memory of awk by $case: at most $(held "${command[@]}") KiB"
 done
-memory listing "${words[@]}"
+echo "memory of quotacheck: at most $(held "$program" "${words[@]}") KiB"
 calls 'pread64|pwrite64|fsync' "${words[@]}"

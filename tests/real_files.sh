@@ -223,6 +223,8 @@ same 'a new file is for its owner alone' "$(stat -c %a made)" 600
 cp made want
 expect 'the same from the standard input' 0 '' '' quotacheck -c -u made <listing
 same 'both listings make the same file' "$(cmp made want && echo same)" same
+expect 'a listing of groups from find itself' 0 '' '' quotacheck -c -g grouped < <(find walked -printf '%U %G %D %i %b\n')
+same 'its line' "$("$run" repquota -g grouped | sed 1,4d)" "$(printf '%-13s--' "#$(id -g)") $counted"
 expect 'limits in that file' 0 '' '' setquota -u 70000 1 2 3 4 made
 chmod 644 made
 expect 'a listing of no line' 0 '' '' quotacheck -u made </dev/null

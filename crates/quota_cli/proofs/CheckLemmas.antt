@@ -1,16 +1,26 @@
 -- Listings that become the usage of a file: why one was not read, which value it leaves, and why a file was not read.
-use Rattle.std.proofs.Common.{◌≡◌, ℕ, ◌≤◌, Bool, false, IsTrue, List, [], ◌∷◌, ◌++◌, Option, None, Some, Ok, Err, Result, refl, sym, ap, subst, ◌∙◌, arith}
-use Rattle.std.specs.Prelude.{⊤, slice_get}
-use Rattle.std.specs.FinMap.{entries}
+use Rattle.std.proofs.Common.{◌≡◌, ◌≢◌, ℕ, suc, ◌≤◌, Bool, true, false, IsTrue, List, [], ◌∷◌, map, Option, None, Some, Ok, Err, Result, ◌⊎◌, inl, inr, refl, sym, ap, subst, ◌∙◌, arith}
+use Rattle.std.specs.Prelude.{⊤, T, ◌==◌, ◌&&◌, All, IfSome, cond, slice_get}
+use Rattle.std.specs.Cmp.{nat_cmp_total, unsigned_tied}
+use Rattle.std.specs.FinMap.{entries, entries_sorted, find, get, get-entries, get-from_entries, is_sorted}
+use Rattle.std.specs.FinMap.Entries.{below_all}
+use Rattle.std.specs.Ordering.{eq_by_cmp, is_eq, is_lt, nat_cmp}
+use Rattle.std.specs.declared.cmp.Ordering.{Ordering}
+use Rattle.std.specs.declared.cmp.Ordering.TheVariants.{Less, Equal, Greater}
+use Rattle.std.proofs.lemmas.Bool.Decides.{eqb_tells, nat_tests}
+use Rattle.std.proofs.lemmas.Option.{none-some}
 use Rattle.std.specs.List.{cons_option, filter_map}
 use Rattle.std.specs.Option.{option_map}
+use Rattle.quota_types.specs.Kept.{IsKept}
 use Rattle.quota_types.specs.Range.{unfit}
+use Rattle.quota_types.specs.declared.record.Entry.{Entry}
+use Rattle.quota_blocks.specs.Listed.{records_of}
+use Rattle.quota_blocks.specs.World.{World}
 use Rattle.quota_types.specs.declared.field.Field.{Field}
 use Rattle.quota_types.specs.declared.field.NoRoom.{NoRoom as NoRoomFor}
 use Rattle.quota_types.specs.declared.file_kind.Format.{Format}
 use Rattle.quota_types.specs.declared.file_kind.Format.TheVariants.{V1, V2R0, V2R1}
 use Rattle.quota_types.specs.declared.file_kind.Kind.{Kind}
-use Rattle.quota_types.specs.declared.record.Grace.{Grace}
 use Rattle.quota_types.specs.declared.record.Rec.{Rec}
 use Rattle.quota_blocks.specs.Count.{Rose}
 use Rattle.quota_blocks.specs.Frame.{OnlyReads}
@@ -21,9 +31,11 @@ use Rattle.quota_blocks.specs.declared.quota_file.FileFault.{FileFault}
 use Rattle.quota_blocks.specs.declared.quota_file.FileFault.TheVariants.{Store as StoreFailed, Damage as FileDamaged, Full as NoBlocks, Memory as NoMemory}
 use Rattle.quota_map.specs.AnyFile.{MayRefuse}
 use Rattle.quota_map.specs.Reading.{IsReadFault, UnlessMemory}
-use Rattle.quota_map.specs.Replacing.{flags_in}
+use Rattle.tree_file.specs.Opened.{ids_in}
+use Rattle.quota_map.specs.Replacing.{IsReplacedBy, built_size, flags_in}
 use Rattle.quota_map.specs.View.{IsOpenedAs}
-use Rattle.inode_scan.specs.Apply.{IsApplyFault, applied, first_no_room, no_room, wanted}
+use Rattle.inode_scan.specs.Apply.{IsApplyFault, applied, first_no_room, no_room, wanted, wanted_record}
+use Rattle.inode_scan.proofs.ApplyLemmas.{wanted_at}
 use Rattle.inode_scan.specs.Faults.{unless}
 use Rattle.inode_scan.specs.Scan.{IsScanFault}
 use Rattle.inode_scan.specs.Usage.{UsageMap}
@@ -41,8 +53,9 @@ use Rattle.quota_cli.specs.Outcome.{Outcome}
 use Rattle.quota_cli.specs.Run.{CarriesOut, HasReason, IsFault, Uses}
 use Rattle.quota_cli.specs.Steps.{Opening, Steps, Stop, Then}
 use Rattle.quota_cli.specs.Taking.{AListing, InputMayRefuse, IsInputFault}
-use Rattle.quota_cli.specs.commands.Check.{IsUnfitIn, ReplaceSteps, ReplacingMayRefuse, apply_cause, checked, replaced, scan_cause, scan_outcome, with_applied}
+use Rattle.quota_cli.specs.commands.Check.{ReplaceSteps, UnfitMayRefuse, UsageMayLack, apply_cause, checked, replaced, scan_cause, scan_outcome, with_applied}
 use Rattle.quota_cli.specs.commands.Edits.{edit_uses}
+use Rattle.quota_cli.specs.commands.FileValue.{IsMadeAnew, WritingMayRefuse}
 use Rattle.quota_cli.specs.refusal.Refusals.{refusal_of}
 use Rattle.quota_cli.proofs.OpeningLemmas.{nothing_read, store_later, unwritten, with_store}
 use Rattle.quota_cli.proofs.PhaseLemmas.{carries_on, stop_carried}
@@ -96,42 +109,98 @@ listing_may_of name ScanWantsMemory = refl
 
 -- Values for which there is no room.
 
--- a value for which there is no room is one of some record
-no_room_of : (format : Format) (id : ℕ) (rec : Rec) (out : NoRoomFor) (found : Option (Field × ℕ)) → unfit format id rec ≡ found
-    → option_map (λ (one : Field × ℕ). record { id = id; field = one.0; value = one.1 }) found ≡ Some out → IsUnfitIn format out
-no_room_of format id rec out None is named = absurd (cc)
-no_room_of format id rec out (Some one) is named =
-    let same : ◌≡◌ {A = NoRoomFor} (record { id = id; field = one.0; value = one.1 }) out = cc in
-    (rec, subst (λ (o : NoRoomFor). unfit format o.id rec ≡ Some (o.field, o.value)) same is)
-
-first_unfit : (format : Format) (pairs : List (ℕ × Rec)) (out : NoRoomFor) → slice_get (filter_map (no_room format) pairs) 0 ≡ Some out → IsUnfitIn format out
-first_unfit format [] out is = absurd (cc)
-first_unfit format (pair ∷ pairs) out is = by_found (no_room format pair) refl (first_unfit format pairs out) is
+tied : (id n : ℕ) → id ≡ n → eq_by_cmp nat_cmp id n ≡ true
+tied id n own = unsigned_tied id n ∙ same_number id n own
   where
-    by_found : (found : Option NoRoomFor) → no_room format pair ≡ found → (slice_get (filter_map (no_room format) pairs) 0 ≡ Some out → IsUnfitIn format out)
-        → slice_get (cons_option found (filter_map (no_room format) pairs)) 0 ≡ Some out → IsUnfitIn format out
-    by_found None found next first = next first
-    by_found (Some one) found next first = no_room_of format pair.0 pair.1 out (unfit format pair.0 pair.1) refl (found ∙ first)
+    same_number : (id n : ℕ) → id ≡ n → (id == n) ≡ true
+    same_number id n own = grind (arith, nat_tests)
+
+untied : (id n : ℕ) → id ≢ n → eq_by_cmp nat_cmp id n ≡ false
+untied id n other = unsigned_tied id n ∙ other_number id n other
+  where
+    other_number : (id n : ℕ) → id ≢ n → (id == n) ≡ false
+    other_number id n other = grind (arith, nat_tests)
+
+first_holds : (a b : Bool) → T (a && b) → T a
+first_holds true b both = tt
+first_holds false b both = absurd both
+
+second_holds : (a b : Bool) → T (a && b) → T b
+second_holds true b both = both
+second_holds false b both = absurd both
+
+not_tied : (order : Ordering) → T (is_lt order) → is_eq order ≡ false
+not_tied Less less = refl
+not_tied Equal less = absurd less
+not_tied Greater less = absurd less
+
+-- an identifier before all of them is none of them
+find_none : (id : ℕ) (pairs : List (ℕ × Rec)) → T (below_all nat_cmp id pairs) → find nat_cmp id pairs ≡ None
+find_none id [] below = refl
+find_none id (pair ∷ pairs) below =
+    ap (λ b. cond b (Some pair.1) (find nat_cmp id pairs)) (not_tied (nat_cmp id pair.0) (first_holds (is_lt (nat_cmp id pair.0)) (below_all nat_cmp id pairs) below))
+    ∙ find_none id pairs (second_holds (is_lt (nat_cmp id pair.0)) (below_all nat_cmp id pairs) below)
+
+-- what there is no room for is a value of a record that an identifier has
+abbrev Lacks : Format → List (ℕ × Rec) → NoRoomFor → Type 0
+Lacks format pairs out = (rec : Rec) × (find nat_cmp out.id pairs ≡ Some rec) × (unfit format out.id rec ≡ Some (out.field, out.value))
+
+lacks_here : (format : Format) (pair : ℕ × Rec) (pairs : List (ℕ × Rec)) (out : NoRoomFor) (found : Option (Field × ℕ)) → unfit format pair.0 pair.1 ≡ found
+    → option_map (λ (one : Field × ℕ). record { id = pair.0; field = one.0; value = one.1 }) found ≡ Some out → Lacks format (pair ∷ pairs) out
+lacks_here format pair pairs out None is named = absurd (cc)
+lacks_here format pair pairs out (Some one) is named =
+    let same : ◌≡◌ {A = NoRoomFor} (record { id = pair.0; field = one.0; value = one.1 }) out = cc in
+    subst (λ (o : NoRoomFor). Lacks format (pair ∷ pairs) o) same
+    (pair.1, ap (λ b. cond b (Some pair.1) (find nat_cmp pair.0 pairs)) (tied pair.0 pair.0 refl), is)
+
+lacks_later : (format : Format) (pair : ℕ × Rec) (pairs : List (ℕ × Rec)) (out : NoRoomFor) → T (below_all nat_cmp pair.0 pairs) → Lacks format pairs out → Lacks format (pair ∷ pairs) out
+lacks_later format pair pairs out below lacks = elim (eqb_tells out.id pair.0) [
+  | inl own ↦ absurd (none-some lacks.0 (sym (find_none pair.0 pairs below) ∙ ap (λ (n : ℕ). find nat_cmp n pairs) (sym own.1) ∙ lacks.1))
+  | inr other ↦ (lacks.0, ap (λ b. cond b (Some pair.1) (find nat_cmp out.id pairs)) (untied out.id pair.0 other.1) ∙ lacks.1, lacks.2)
+]
+
+first_lacking : (format : Format) (pairs : List (ℕ × Rec)) (out : NoRoomFor) → T (is_sorted nat_cmp pairs) → slice_get (filter_map (no_room format) pairs) 0 ≡ Some out → Lacks format pairs out
+first_lacking format [] out sorted is = absurd (cc)
+first_lacking format (pair ∷ pairs) out sorted is =
+    by_found (no_room format pair) refl (first_lacking format pairs out (second_holds (below_all nat_cmp pair.0 pairs) (is_sorted nat_cmp pairs) sorted)) is
+  where
+    by_found : (found : Option NoRoomFor) → no_room format pair ≡ found → (slice_get (filter_map (no_room format) pairs) 0 ≡ Some out → Lacks format pairs out)
+        → slice_get (cons_option found (filter_map (no_room format) pairs)) 0 ≡ Some out → Lacks format (pair ∷ pairs) out
+    by_found None found next first = lacks_later format pair pairs out (first_holds (below_all nat_cmp pair.0 pairs) (is_sorted nat_cmp pairs) sorted) (next first)
+    by_found (Some one) found next first = lacks_here format pair pairs out (unfit format pair.0 pair.1) refl (found ∙ first)
 
 refused_by : {A E : Type 0} (refusal : Option E) (value : A) (out : E) → unless refusal value ≡ Err out → refusal ≡ Some out
 refused_by None value out is = absurd (cc)
 refused_by (Some refusal) value out is = cc
 
--- where the records are refused there is no room for a value of some record
-applied_unfit : (format : Format) (grace : Grace) (now : ℕ) (records : Records) (usage : UsageMap) (out : NoRoomFor) → applied format grace now records usage ≡ Err out → IsUnfitIn format out
+-- a record that is wanted of an identifier is made of what it has and uses
+made_of : (some : Bool) (made rec : Rec) → cond some (Some made) None ≡ Some rec → made ≡ rec
+made_of true made rec is = cc
+made_of false made rec is = absurd (cc)
+
+-- where the records are refused there is no room for a value of some record with some usage
+applied_lacks : (value : QuotaValue) (now : ℕ) (usage : UsageMap) (out : NoRoomFor) → applied value.format value.grace now value.records usage ≡ Err out → UsageMayLack value out
 unfolding applied
-applied_unfit format grace now records usage out is =
-    first_unfit format (entries (wanted grace now records usage)) out (refused_by (first_no_room format (wanted grace now records usage)) _ out is)
+applied_lacks value now usage out is =
+    let all = wanted value.grace now value.records usage in
+    let lacks = first_lacking value.format (entries all) out (entries_sorted all) (refused_by (first_no_room value.format all) _ out is) in
+    let made : wanted_record value.grace now (get value.records out.id) (get usage out.id) ≡ lacks.0 =
+    made_of _ _ lacks.0 (sym (wanted_at value.grace now value.records usage out.id) ∙ get-entries all out.id ∙ lacks.1) in
+    (get usage out.id, now, subst (λ (r : Rec). unfit value.format out.id r ≡ Some (out.field, out.value)) (sym made) lacks.2)
+
+-- the causes for which a file of a value may not be replaced
+abbrev pub ReplacingMayRefuse : QuotaValue → List ℕ → Cause → List ℕ → Type 0
+ReplacingMayRefuse value file cause name = UnfitMayRefuse value file cause name ⊎ WritingMayRefuse value.format file cause name
 
 -- there was no room for a value
 pub check_unfit : (name : List ℕ) (value : QuotaValue) (usage : UsageMap) (now : ℕ) (out : NoRoomFor) (tells : RunTells) (old : RunSeen)
     → applied value.format value.grace now value.records usage ≡ Err out
-    → CarriesOut (ReplaceSteps name (checked value usage now)) (edit_uses false) (ReplacingMayRefuse value.format name) tells old old (Err (refusal_of (NoRoom out) name))
+    → CarriesOut (ReplaceSteps name (checked value usage now)) (edit_uses false) (ReplacingMayRefuse value name) tells old old (Err (refusal_of (NoRoom out) name))
 check_unfit name value usage now out tells old is =
-    subst (λ (r : Result QuotaValue NoRoomFor). CarriesOut (ReplaceSteps name r) (edit_uses false) (ReplacingMayRefuse value.format name) tells old old (Err (refusal_of (NoRoom out) name)))
+    subst (λ (r : Result QuotaValue NoRoomFor). CarriesOut (ReplaceSteps name r) (edit_uses false) (ReplacingMayRefuse value name) tells old old (Err (refusal_of (NoRoom out) name)))
     (sym (ap (with_applied value) is))
-    (stop_carried (edit_uses false) (ReplacingMayRefuse value.format name) tells old (refusal_of (NoRoom out) name) (λ stated fact. fact)
-    (refl, applied_unfit value.format value.grace now value.records usage out is) (record { line = λ no. refl; input_line = λ no. refl }))
+    (stop_carried (edit_uses false) (ReplacingMayRefuse value name) tells old (refusal_of (NoRoom out) name) (λ stated fact. fact)
+    (inl (refl, applied_lacks value now usage out is)) (record { line = λ no. refl; input_line = λ no. refl }))
 
 -- Files that were opened and not read.
 
@@ -195,7 +264,35 @@ new_flags V2R1 = refl
 -- the records were not made, for want of memory or of room
 pub apply_refused : (name : List ℕ) (value : QuotaValue) (usage : UsageMap) (now : ℕ) (fault : ApplyFault) (tells : RunTells) (old : RunSeen)
     → IsApplyFault (applied value.format value.grace now value.records usage) fault
-    → CarriesOut (ReplaceSteps name (checked value usage now)) (edit_uses false) (ReplacingMayRefuse value.format name) tells old old (Err (refusal_of (apply_cause fault) name))
+    → CarriesOut (ReplaceSteps name (checked value usage now)) (edit_uses false) (ReplacingMayRefuse value name) tells old old (Err (refusal_of (apply_cause fault) name))
 apply_refused name value usage now (Unfit out) tells old is = check_unfit name value usage now out tells old is
 apply_refused name value usage now ApplyWantsMemory tells old is =
-    replace_wanting name (checked value usage now) (ReplacingMayRefuse value.format name) tells old old.store refl tt
+    replace_wanting name (checked value usage now) (ReplacingMayRefuse value name) tells old old.store refl (inr tt)
+
+-- what the format keeps of each entry of a list it keeps of each record
+found_kept : (format : Format) (list : List Entry) (id : ℕ) → All (λ (entry : Entry). IsKept format entry.id entry.rec) list
+    → IfSome (find nat_cmp id (map (λ (entry : Entry). (entry.id, entry.rec)) list)) (IsKept format id)
+found_kept format [] id all = tt
+found_kept format (entry ∷ list) id all =
+    let rest : List (ℕ × Rec) = map (λ (e : Entry). (e.id, e.rec)) list in
+    elim (eqb_tells id entry.id) [
+      | inl own ↦ subst (λ (b : Bool). IfSome (cond b (Some entry.rec) (find nat_cmp id rest)) (IsKept format id)) (sym (tied id entry.id own.1))
+          (subst (λ (n : ℕ). IsKept format n entry.rec) (sym own.1) (all 0 entry (omega arith)))
+      | inr other ↦ subst (λ (b : Bool). IfSome (cond b (Some entry.rec) (find nat_cmp id rest)) (IsKept format id)) (sym (untied id entry.id other.1))
+          (found_kept format list id (λ k d less. all (suc k) d (omega (arith, less))))
+    ]
+
+pub list_kept : (format : Format) (list : List Entry) → All (λ (entry : Entry). IsKept format entry.id entry.rec) list → (id : ℕ) → IfSome (get (records_of list) id) (IsKept format id)
+list_kept format list all id =
+    subst (λ (o : Option Rec). IfSome o (IsKept format id)) (sym (get-from_entries nat_cmp_total (map (λ (entry : Entry). (entry.id, entry.rec)) list) id))
+    (found_kept format list id all)
+
+-- a file is made anew, also after calls that only read
+pub anew_since : (kind other : Kind) (IsFormat IsOther : Format → Type 0) (read name : List ℕ) (old store new : StoreSeen) → OnlyReads read old store → kind ≡ other
+    → ((format : Format) → IsFormat format → IsOther format) → IsMadeAnew kind IsFormat name store.files new.files → IsMadeAnew other IsOther name old.files new.files
+anew_since kind other IsFormat IsOther read name old store new reads same so anew = record {
+  value = anew.value;
+  kind_is = anew.kind_is ∙ same;
+  format_is = so anew.value.format anew.format_is;
+  replaced = subst (λ (w : World). IsReplacedBy name anew.value (ids_in anew.value.records) (built_size anew.value.format (ids_in anew.value.records)) w new.files) reads.files anew.replaced;
+}

@@ -4,6 +4,7 @@ use Rattle.std.specs.Prelude.{⊤, IfErr, IfOk, IfSome, IsTrue, IsErr, IsErrAnd,
 use Rattle.quota_types.specs.declared.file_kind.Format.{Format}
 use Rattle.quota_types.specs.declared.file_kind.Format.TheVariants.{V1, V2R0, V2R1}
 use Rattle.id_names.specs.NamesFile.{NameLine}
+use Rattle.quota_blocks.specs.QuotaValue.{QuotaValue}
 use Rattle.set_edit.specs.Editing.{Edit}
 use Rattle.set_edit.specs.Edits.{limits_edit}
 use Rattle.quota_cli.specs.declared.refusal.cause.Cause.{Cause}
@@ -30,8 +31,9 @@ use Rattle.quota_cli.specs.declared.commands.occasion.Occasion.{Occasion}
 use Rattle.quota_cli.specs.commands.Apply.{ApplyMayRefuse}
 use Rattle.quota_cli.specs.commands.Batch.{BatchMayRefuse, LineMayRefuse}
 use Rattle.quota_cli.specs.commands.Built.{if_built, is_built, unknown_command}
-use Rattle.quota_cli.specs.commands.Check.{CheckMayRefuse, ReplacingMayRefuse, UsageMayRefuse, new_format}
+use Rattle.quota_cli.specs.commands.Check.{CheckMayRefuse, UnfitMayRefuse, UsageMayRefuse, new_value}
 use Rattle.quota_cli.specs.commands.Edits.{ChangeMayRefuse, EditMayRefuse, FileEditMayRefuse, NamedEditMayRefuse}
+use Rattle.quota_cli.specs.commands.FileValue.{WritingMayRefuse}
 use Rattle.quota_cli.specs.commands.Print.{PrintMayRefuse}
 use Rattle.quota_cli.specs.commands.Report.{ReportMayRefuse}
 use Rattle.quota_cli.specs.commands.Showing.{ShowingMayRefuse}
@@ -257,40 +259,67 @@ apply_status common from word file cause said (inr (names, given, inr (id, read,
 apply_status common from word file cause said (inr (names, given, inr (id, read, inr (limits, may)))) two = file_edit_status common.format (LimitsEdit id limits) file cause said may two
 
 -- a file that was not replaced, and a listing that did not become the usage of a file
-replacing_status : (format : Format) (file : List ℕ) (cause : Cause) (said : List ℕ) → ReplacingMayRefuse format file cause said → status_of cause ≢ 2
-replacing_status format file StoreFault said may two = omega (arith, two)
-replacing_status format file SourceFault said may two = omega (arith, two)
-replacing_status format file SinkFault said may two = omega (arith, two)
-replacing_status format file LinkFault said may two = omega (arith, two)
-replacing_status format file Memory said may two = omega (arith, two)
-replacing_status format file NoFile said may two = omega (arith, two)
-replacing_status format file TooLarge said may two = omega (arith, two)
-replacing_status format file NotQuota said may two = omega (arith, two)
-replacing_status format file WrongKind said may two = omega (arith, two)
-replacing_status format file UnknownVersion said may two = omega (arith, two)
-replacing_status format file BadBlockCount said may two = omega (arith, two)
-replacing_status format file OtherFormat said may two = omega (arith, two)
-replacing_status format file (Damaged damage) said may two = omega (arith, two)
-replacing_status format file (Full blocks limit) said may two = omega (arith, two)
-replacing_status format file (NoRoom out) said may two = omega (arith, two)
-replacing_status format file UnknownName said may two = omega (arith, two)
-replacing_status format file BadNumber said may two = omega (arith, two)
-replacing_status format file TargetExists said may two = omega (arith, two)
-replacing_status format file SameName said may two = omega (arith, two)
-replacing_status format file (BadForm line) said may two = omega (arith, two)
-replacing_status format file (BadLine line) said may two = omega (arith, two)
-replacing_status format file (LongLine line) said may two = omega (arith, two)
-replacing_status format file (Conflict line first) said may two = omega (arith, two)
-replacing_status format file (Usage kind word) said may two = may
+writing_status : (format : Format) (file : List ℕ) (cause : Cause) (said : List ℕ) → WritingMayRefuse format file cause said → status_of cause ≢ 2
+writing_status format file StoreFault said may two = omega (arith, two)
+writing_status format file SourceFault said may two = omega (arith, two)
+writing_status format file SinkFault said may two = omega (arith, two)
+writing_status format file LinkFault said may two = omega (arith, two)
+writing_status format file Memory said may two = omega (arith, two)
+writing_status format file NoFile said may two = omega (arith, two)
+writing_status format file TooLarge said may two = omega (arith, two)
+writing_status format file NotQuota said may two = omega (arith, two)
+writing_status format file WrongKind said may two = omega (arith, two)
+writing_status format file UnknownVersion said may two = omega (arith, two)
+writing_status format file BadBlockCount said may two = omega (arith, two)
+writing_status format file OtherFormat said may two = omega (arith, two)
+writing_status format file (Damaged damage) said may two = omega (arith, two)
+writing_status format file (Full blocks limit) said may two = omega (arith, two)
+writing_status format file (NoRoom out) said may two = omega (arith, two)
+writing_status format file UnknownName said may two = omega (arith, two)
+writing_status format file BadNumber said may two = omega (arith, two)
+writing_status format file TargetExists said may two = omega (arith, two)
+writing_status format file SameName said may two = omega (arith, two)
+writing_status format file (BadForm line) said may two = omega (arith, two)
+writing_status format file (BadLine line) said may two = omega (arith, two)
+writing_status format file (LongLine line) said may two = omega (arith, two)
+writing_status format file (Conflict line first) said may two = omega (arith, two)
+writing_status format file (Usage kind word) said may two = may
 
-usage_status : (format : Format) (from : Option (List ℕ)) (file : List ℕ) (cause : Cause) (said : List ℕ) → UsageMayRefuse format from file cause said → status_of cause ≢ 2
-usage_status format from file cause said (inl may) two = input_status AListing from cause said may two
-usage_status format from file cause said (inr may) two = replacing_status format file cause said may two
+unfit_status : (value : QuotaValue) (file : List ℕ) (cause : Cause) (said : List ℕ) → UnfitMayRefuse value file cause said → status_of cause ≢ 2
+unfit_status value file StoreFault said may two = omega (arith, two)
+unfit_status value file SourceFault said may two = omega (arith, two)
+unfit_status value file SinkFault said may two = omega (arith, two)
+unfit_status value file LinkFault said may two = omega (arith, two)
+unfit_status value file Memory said may two = omega (arith, two)
+unfit_status value file NoFile said may two = omega (arith, two)
+unfit_status value file TooLarge said may two = omega (arith, two)
+unfit_status value file NotQuota said may two = omega (arith, two)
+unfit_status value file WrongKind said may two = omega (arith, two)
+unfit_status value file UnknownVersion said may two = omega (arith, two)
+unfit_status value file BadBlockCount said may two = omega (arith, two)
+unfit_status value file OtherFormat said may two = omega (arith, two)
+unfit_status value file (Damaged damage) said may two = omega (arith, two)
+unfit_status value file (Full blocks limit) said may two = omega (arith, two)
+unfit_status value file (NoRoom out) said may two = omega (arith, two)
+unfit_status value file UnknownName said may two = omega (arith, two)
+unfit_status value file BadNumber said may two = omega (arith, two)
+unfit_status value file TargetExists said may two = omega (arith, two)
+unfit_status value file SameName said may two = omega (arith, two)
+unfit_status value file (BadForm line) said may two = omega (arith, two)
+unfit_status value file (BadLine line) said may two = omega (arith, two)
+unfit_status value file (LongLine line) said may two = omega (arith, two)
+unfit_status value file (Conflict line first) said may two = omega (arith, two)
+unfit_status value file (Usage kind word) said may two = may
+
+usage_status : (value : QuotaValue) (from : Option (List ℕ)) (file : List ℕ) (cause : Cause) (said : List ℕ) → UsageMayRefuse value from file cause said → status_of cause ≢ 2
+usage_status value from file cause said (inl may) two = input_status AListing from cause said may two
+usage_status value from file cause said (inr (inl may)) two = unfit_status value file cause said may two
+usage_status value from file cause said (inr (inr may)) two = writing_status value.format file cause said may two
 
 check_status : (common : Common) (fresh : Bool) (from : Option (List ℕ)) (file : List ℕ) (cause : Cause) (said : List ℕ) → CheckMayRefuse common fresh from file cause said → status_of cause ≢ 2
-check_status common true from file cause said may two = usage_status (new_format common.format) from file cause said may two
+check_status common true from file cause said may two = usage_status (new_value common.kind common.format) from file cause said may two
 check_status common false from file cause said (inl may) two = opening_status common.format file cause said may two
-check_status common false from file cause said (inr (format, asked, may)) two = usage_status format from file cause said may two
+check_status common false from file cause said (inr (value, asked, kept, may)) two = usage_status value from file cause said may two
 
 -- no command that was read is refused with status 2
 pub not_usage : (command : Command) (cause : Cause) (said : List ℕ) → IsTrue (is_built command) → MayRefuseCommand command cause said → status_of cause ≢ 2

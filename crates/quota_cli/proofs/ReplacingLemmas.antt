@@ -24,7 +24,8 @@ use Rattle.tree_file.specs.Size.{blocks_needed}
 use Rattle.tree_file.proofs.OrderLemmas.{Ascends, ascends_of}
 use Rattle.quota_blocks.specs.declared.replacement.ReplaceFault.{ReplaceFault}
 use Rattle.quota_blocks.specs.declared.replacement.ReplaceFault.TheVariants.{Store, Full as NoBlocks, Memory as NoMemory}
-use Rattle.quota_map.specs.Replacing.{IsReplaceFileFault, UnlessStore}
+use Rattle.quota_blocks.specs.World.{World}
+use Rattle.quota_map.specs.Replacing.{IsReplaceFileFault, IsReplacedBy, UnlessStore, built_size}
 use Rattle.quota_map.specs.View.{IsView, most_blocks}
 use Rattle.quota_cli.specs.declared.commands.file_value.FileValue.{FileValue}
 use Rattle.quota_cli.specs.declared.refusal.cause.Cause.{Cause}
@@ -35,9 +36,9 @@ use Rattle.quota_cli.specs.Done.{AreDoneInPart, IsWorldTold, Outside, RunSeen, R
 use Rattle.quota_cli.specs.Outcome.{Outcome, Refused}
 use Rattle.quota_cli.specs.Run.{CarriesOut, HasSteps}
 use Rattle.quota_cli.specs.Steps.{DoingAll, Finish, Stop, Then}
-use Rattle.quota_cli.specs.commands.Check.{ReplaceSteps, ReplacingMayRefuse}
+use Rattle.quota_cli.specs.commands.Check.{ReplaceSteps}
 use Rattle.quota_cli.specs.commands.Edits.{blocks_of, edit_uses, written}
-use Rattle.quota_cli.specs.commands.FileValue.{IsInOrder, replace_cause, value_in}
+use Rattle.quota_cli.specs.commands.FileValue.{IsInOrder, IsMadeAnew, WritingMayRefuse, replace_cause, value_in}
 use Rattle.quota_cli.specs.refusal.Refusals.{refusal_of}
 use Rattle.quota_cli.proofs.ActLemmas.{all_done}
 use Rattle.quota_cli.proofs.DoingLemmas.{AreWritten, done_of, done_steps, doing_then, part_of}
@@ -183,12 +184,27 @@ no_flat_blocks format ids most passes flat = omega (arith, subst (λ (f : Format
 pub replace_refused : (name : List ℕ) (value : FileValue) (tells : RunTells) (old : RunSeen) (store : StoreSeen) (fault : ReplaceFault) → IsInOrder value
     → IsReplaceFileFault old.store.faults store.faults (blocks_needed value.format (ids_of value.entries.items)) most_blocks fault
     → UnlessStore fault (store ≡ old.store) → store.files name ≡ old.store.files name → ReplacesOne name old.store store
-    → CarriesOut (ReplaceSteps name (Ok (value_in value))) (edit_uses false) (ReplacingMayRefuse value.format name) tells old (with_store old store) (Err (refusal_of (replace_cause fault) name))
+    → CarriesOut (ReplaceSteps name (Ok (value_in value))) (edit_uses false) (WritingMayRefuse value.format name) tells old (with_store old store) (Err (refusal_of (replace_cause fault) name))
 replace_refused name value tells old store Store order cause unwritten same leaves =
-    replace_failed name (value_in value) (ReplacingMayRefuse value.format name) tells old store cause.0 same leaves (rw (needed_of value order) cause.1) tt
+    replace_failed name (value_in value) (WritingMayRefuse value.format name) tells old store cause.0 same leaves (rw (needed_of value order) cause.1) tt
 replace_refused name value tells old store (NoBlocks blocks limit) order cause unwritten same leaves =
     let needed = needed_of value order in
-    replace_full name (value_in value) (ReplacingMayRefuse value.format name) tells old store blocks limit unwritten (rw needed cause.0) (cause.1 ∙ sym needed) cause.2
-    (no_flat_blocks value.format (ids_of value.entries.items) most_blocks cause.0, omega (arith, cause.0, cause.1, cause.2), refl)
+    replace_full name (value_in value) (WritingMayRefuse value.format name) tells old store blocks limit unwritten (rw needed cause.0) (cause.1 ∙ sym needed) cause.2
+    (no_flat_blocks value.format (ids_of value.entries.items) most_blocks cause.0, cause.2, omega (arith, cause.0, cause.1, cause.2), refl)
 replace_refused name value tells old store NoMemory order cause unwritten same leaves =
-    replace_wanting name (Ok (value_in value)) (ReplacingMayRefuse value.format name) tells old store unwritten tt
+    replace_wanting name (Ok (value_in value)) (WritingMayRefuse value.format name) tells old store unwritten tt
+
+-- the identifiers of its records are those of the list
+pub ids_listed : (list : List Entry) → IsStrictlyIncreasing (ids_of list) → ids_in (records_of list) ≡ ids_of list
+ids_listed list ascends = ap (λ (pairs : List (ℕ × Rec)). map (λ (pair : ℕ × Rec). pair.0) pairs) (pairs_listed list ascends) ∙ ids_of_pairs list
+
+-- a file that was replaced was made anew
+pub made_anew : (name : List ℕ) (value : FileValue) (old new : World) → IsInOrder value
+    → IsReplacedBy name (value_in value) (ids_of value.entries.items) (built_size value.format (ids_of value.entries.items)) old new
+    → IsMadeAnew value.kind (λ (format : Format). format ≡ value.format) name old new
+made_anew name value old new order replaced = record {
+  value = value_in value;
+  kind_is = refl;
+  format_is = refl;
+  replaced = subst (λ (ids : List ℕ). IsReplacedBy name (value_in value) ids (built_size value.format ids) old new) (sym (ids_listed value.entries.items order.ascends)) replaced;
+}

@@ -32,8 +32,8 @@ Built so far:
                         the limits that such a form asks for
   quotacheck [-u|-g] [-c] [-F FORMAT] [--device NUMBER] [--input FILE] FILE
                         the usage that a listing of inodes tells, as
-                        find -printf '%U %G %D %i %b\\n' prints it; -c makes
-                        a new file
+                        find -printf '%U %G %D %i %b\\n' prints it; with -c in
+                        a new file, without limits, whatever was there
 Their words are read, and they are not built yet:
   convertquota [-u|-g] -f OLD,NEW SOURCE TARGET
   rquotad [--format FORMAT] --calls NUMBER --port NUMBER

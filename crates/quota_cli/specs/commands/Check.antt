@@ -1,24 +1,25 @@
 -- `quotacheck`. Source: the manual page of quotacheck; that the usage is read from a listing of inodes, and not from a mounted
 -- file system, is this project's own.
-use Rattle.std.specs.Prelude.{◌≡◌, ◌<◌, ◌⊎◌, ℕ, Bool, true, false, nat_lt, List, Option, Some, None, unwrap_or, Result, Ok, Err, ⊤}
-use Rattle.std.specs.FinMap.{empty}
+use Rattle.std.specs.Prelude.{◌≡◌, ◌⊎◌, ℕ, Bool, true, false, nat_lt, IfSome, List, Option, Some, None, unwrap_or, Result, Ok, Err}
+use Rattle.std.specs.FinMap.{empty, get}
+use Rattle.quota_types.specs.Kept.{IsKept}
 use Rattle.quota_types.specs.Range.{unfit}
 use Rattle.quota_types.specs.declared.field.NoRoom.{NoRoom as NoRoomFor}
 use Rattle.quota_types.specs.declared.file_kind.Format.{Format}
-use Rattle.quota_types.specs.declared.file_kind.Format.TheVariants.{V1, V2R1}
+use Rattle.quota_types.specs.declared.file_kind.Format.TheVariants.{V2R1}
 use Rattle.quota_types.specs.declared.file_kind.Kind.{Kind}
-use Rattle.quota_types.specs.declared.record.Rec.{Rec}
 use Rattle.quota_blocks.specs.QuotaValue.{QuotaValue, Records}
 use Rattle.quota_map.specs.View.{IsOpenedAs, most_blocks}
-use Rattle.inode_scan.specs.Apply.{applied}
+use Rattle.inode_scan.specs.Apply.{applied, wanted_record}
 use Rattle.inode_scan.specs.Scan.{scanned}
 use Rattle.inode_scan.specs.Usage.{UsageMap}
 use Rattle.inode_scan.specs.declared.fault.ApplyFault.{ApplyFault}
 use Rattle.inode_scan.specs.declared.fault.ApplyFault.TheVariants.{NoRoom as Unfit, Memory as ApplyWantsMemory}
 use Rattle.inode_scan.specs.declared.fault.ScanFault.{ScanFault}
+use Rattle.inode_scan.specs.declared.used.Used.{Used}
 use Rattle.inode_scan.specs.declared.fault.ScanFault.TheVariants.{Source, TooLarge as PastTotal, BadLine as WrongLine, LongLine as TooLong, Conflict as Conflicting, Memory as ScanWantsMemory}
 use Rattle.quota_cli.specs.declared.refusal.cause.Cause.{Cause}
-use Rattle.quota_cli.specs.declared.refusal.cause.Cause.TheVariants.{SourceFault, StoreFault, Memory, TooLarge, BadLine, LongLine, Conflict, NoRoom, Full}
+use Rattle.quota_cli.specs.declared.refusal.cause.Cause.TheVariants.{SourceFault, Memory, TooLarge, BadLine, LongLine, Conflict, NoRoom}
 use Rattle.quota_cli.specs.declared.words.command.Common.{Common}
 use Rattle.quota_cli.specs.declared.commands.occasion.Occasion.{Occasion}
 use Rattle.quota_cli.specs.Act.{Act}
@@ -29,6 +30,7 @@ use Rattle.quota_cli.specs.Steps.{DoingAll, Finish, Opening, Steps, Then}
 use Rattle.quota_cli.specs.Taking.{AListing, InputMayRefuse, Taking, input_name, reading}
 use Rattle.quota_cli.specs.refusal.Refusals.{refusal_of}
 use Rattle.quota_cli.specs.commands.Edits.{blocks_of, edit_uses, written}
+use Rattle.quota_cli.specs.commands.FileValue.{WritingMayRefuse}
 
 -- The listing.
 
@@ -74,6 +76,11 @@ ReplaceSteps file new = Then (replaced file new) (λ (acts : List Act). DoingAll
 abbrev pub new_format : Option Format → Format
 new_format asked = unwrap_or asked V2R1
 
+-- a format is that of a new file, or may be that of one that is opened
+abbrev pub IsFormatOf : (fresh : Bool) → Option Format → Format → Type 0
+IsFormatOf true asked format = format ≡ new_format asked
+IsFormatOf false asked format = IsOpenedAs asked format
+
 -- a new file has no records, no flags, and grace periods of 7 days each
 abbrev pub new_value : Kind → Option Format → QuotaValue
 new_value kind asked =
@@ -104,30 +111,36 @@ abbrev pub apply_cause : ApplyFault → Cause
 apply_cause (Unfit out) = NoRoom out
 apply_cause ApplyWantsMemory = Memory
 
--- some record of the identifier has this value for the first one that the format has no room for
-abbrev pub IsUnfitIn : Format → NoRoomFor → Type 0
-IsUnfitIn format out = (rec : Rec) × (unfit format out.id rec ≡ Some (out.field, out.value))
+-- the format of a value has no room for this value of an identifier's record, once the record has some usage and its timers
+-- are set at some moment
+abbrev pub UsageMayLack : QuotaValue → NoRoomFor → Type 0
+UsageMayLack value out =
+    (used : Option Used) × (now : ℕ)
+    × (unfit value.format out.id (wanted_record value.grace now (get value.records out.id) used) ≡ Some (out.field, out.value))
 
--- The causes for which a file of a format may not be replaced, whatever is told, with the name that is said. A flat file has
--- no blocks.
-abbrev pub ReplacingMayRefuse : Format → List ℕ → Cause → List ℕ → Type 0
-ReplacingMayRefuse format file StoreFault name = ⊤
-ReplacingMayRefuse format file Memory name = ⊤
-ReplacingMayRefuse format file (NoRoom out) name = (name ≡ file) × IsUnfitIn format out
-ReplacingMayRefuse format file (Full blocks limit) name = (¬ (format ≡ V1)) × (limit < blocks) × (name ≡ file)
-ReplacingMayRefuse format file _ name = ⊥
+-- the format of a value has room for each of its records, and keeps it as it is
+abbrev pub HasKept : QuotaValue → Type 0
+HasKept value = (id : ℕ) → IfSome (get value.records id) (IsKept value.format id)
 
--- the causes for which the usage of a listing may not become that of a file of a format, whatever is told
-abbrev pub UsageMayRefuse : Format → Option (List ℕ) → List ℕ → Cause → List ℕ → Type 0
-UsageMayRefuse format from file cause name = InputMayRefuse AListing from cause name ⊎ ReplacingMayRefuse format file cause name
+-- the causes for which a file of a value may not be replaced for want of room in the records, with the name that is said
+abbrev pub UnfitMayRefuse : QuotaValue → List ℕ → Cause → List ℕ → Type 0
+UnfitMayRefuse value file (NoRoom out) name = (name ≡ file) × UsageMayLack value out
+UnfitMayRefuse value file _ name = ⊥
+
+-- the causes for which the usage of a listing may not become that of a file of a value, whatever is told
+abbrev pub UsageMayRefuse : QuotaValue → Option (List ℕ) → List ℕ → Cause → List ℕ → Type 0
+UsageMayRefuse value from file cause name =
+    InputMayRefuse AListing from cause name
+    ⊎ (UnfitMayRefuse value file cause name
+    ⊎ WritingMayRefuse value.format file cause name)
 
 -- the same, of a file that is opened
 abbrev pub OpenedMayRefuse : Option Format → Option (List ℕ) → List ℕ → Cause → List ℕ → Type 0
 OpenedMayRefuse asked from file cause name =
     MayRefuseOpening asked file cause name
-    ⊎ ((format : Format) × IsOpenedAs asked format × UsageMayRefuse format from file cause name)
+    ⊎ ((value : QuotaValue) × IsOpenedAs asked value.format × HasKept value × UsageMayRefuse value from file cause name)
 
 -- the causes for which the usage of a listing may not become that of a new file or of one that is opened, whatever is told
 abbrev pub CheckMayRefuse : Common → (fresh : Bool) → Option (List ℕ) → List ℕ → Cause → List ℕ → Type 0
-CheckMayRefuse common true from file = UsageMayRefuse (new_format common.format) from file
+CheckMayRefuse common true from file = UsageMayRefuse (new_value common.kind common.format) from file
 CheckMayRefuse common false from file = OpenedMayRefuse common.format from file

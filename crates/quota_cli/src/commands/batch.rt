@@ -23,7 +23,8 @@ use quota_types::{Format, Kind};
 use set_edit::set_limits;
 use std::alloc::Global;
 
-/// Sets the limits that the lines of an input ask for, up to the first line that is refused.
+/// Sets the limits that the lines of an input ask for, up to the first line that is refused, at the moment `now`, in seconds
+/// since 1970.
 ///
 /// # Errors
 ///

@@ -1,12 +1,13 @@
-ghost use Rattle.std.specs.Prelude.{ℕ, Option, ◌≡◌, Bool, IsSome, IsTrue, OnErr, OnOk, false};
+ghost use Rattle.std.specs.Prelude.{ℕ, Option, ◌≡◌, ◌⊎◌, Bool, IsSome, IsTrue, OnErr, OnOk, false};
 ghost use Rattle.quota_blocks.specs.Seen.{LinkSeen, SinkSeen, SourceSeen};
 ghost use Rattle.quota_blocks.specs.Unsynced.{AddsNone};
+ghost use Rattle.quota_map.specs.View.{IsOpenedAs};
 ghost use Rattle.quota_cli.specs.Done.{seen_of, tells_of};
 ghost use Rattle.quota_cli.specs.Run.{CarriesOut};
 ghost use Rattle.quota_cli.specs.Steps.{Opening};
-ghost use Rattle.quota_cli.specs.commands.Check.{CheckMayRefuse, CheckSteps, OpenedMayRefuse, ReplaceSteps, ReplacingMayRefuse, UsageMayRefuse, UsageSteps, apply_cause, check_uses, checked};
+ghost use Rattle.quota_cli.specs.commands.Check.{CheckMayRefuse, CheckSteps, IsFormatOf, OpenedMayRefuse, ReplaceSteps, UnfitMayRefuse, UsageMayRefuse, UsageSteps, apply_cause, check_uses, checked};
 ghost use Rattle.quota_cli.specs.commands.Edits.{edit_uses};
-ghost use Rattle.quota_cli.specs.commands.FileValue.{IsInOrder, value_in};
+ghost use Rattle.quota_cli.specs.commands.FileValue.{IsInOrder, IsMadeAnew, WritingMayRefuse, value_in};
 
 use super::file_value::{FileValue, read_value, write_value};
 use super::listing_input::take_usage;
@@ -19,7 +20,7 @@ use quota_map::open_file;
 use quota_types::{Format, Kind};
 use std::alloc::Global;
 
-/// Makes the usage that a listing tells that of a quota file, or of a new one.
+/// Sets the usage in a quota file, or in a new one, to what a listing of inodes tells. The moment is in seconds since 1970.
 ///
 /// # Errors
 ///
@@ -42,6 +43,9 @@ pub fn check_file<S: Store, I: Source>(
         (tells_of S.tells I.tells out_tells err_tells link_tells)
         (seen_of (S.seen store.old) (I.seen input.old) out err link)
         (seen_of (S.seen store.new) (I.seen input.new) out err link) result }
+    // The file is always made anew, also where nothing changes.
+    ensures anew { OnOk result (IsTrue S.tells → IsMadeAnew common.kind (IsFormatOf fresh common.format) file
+        (S.seen store.old).files (S.seen store.new).files) }
     // Where it was refused, for whichever cause, the file is as it was.
     ensures named { OnErr result ((S.seen store.new).files file ≡ (S.seen store.old).files file) }
     // Where it was done, what was written has been synced.
@@ -58,7 +62,7 @@ pub fn check_file<S: Store, I: Source>(
     }
 }
 
-/// Opens a file, and makes the usage that a listing tells that of the file.
+/// The same, of a file that is there.
 fn check_opened<S: Store, I: Source>(
     alloc: Global,
     kind: Kind,
@@ -76,6 +80,8 @@ fn check_opened<S: Store, I: Source>(
         (tells_of S.tells I.tells out_tells err_tells link_tells)
         (seen_of (S.seen store.old) (I.seen input.old) out err link)
         (seen_of (S.seen store.new) (I.seen input.new) out err link) result }
+    ensures anew { OnOk result (IsTrue S.tells → IsMadeAnew kind (IsOpenedAs format) file
+        (S.seen store.old).files (S.seen store.new).files) }
     ensures named { OnErr result ((S.seen store.new).files file ≡ (S.seen store.old).files file) }
     ensures synced { OnOk result (IsTrue S.tells
         → AddsNone (S.seen store.old).unsynced (S.seen store.new).unsynced) }
@@ -104,17 +110,19 @@ fn check_value<S: Store, I: Source>(
     requires { IsInOrder value }
     ensures carries { (out err : SinkSeen) (link : LinkSeen) (out_tells err_tells link_tells : Bool)
         → CarriesOut (UsageSteps value.kind device from file now (value_in value)) (check_uses from)
-        (UsageMayRefuse value.format from file)
+        (UsageMayRefuse (value_in value) from file)
         (tells_of S.tells I.tells out_tells err_tells link_tells)
         (seen_of (S.seen store.old) (I.seen input.old) out err link)
         (seen_of (S.seen store.new) (I.seen input.new) out err link) result }
+    ensures anew { OnOk result (IsTrue S.tells → IsMadeAnew value.kind (λ format. format ≡ value.format) file
+        (S.seen store.old).files (S.seen store.new).files) }
     ensures named { OnErr result ((S.seen store.new).files file ≡ (S.seen store.old).files file) }
     ensures synced { OnOk result (IsTrue S.tells
         → AddsNone (S.seen store.old).unsynced (S.seen store.new).unsynced) }
     ensures untouched { IsSome from → input.new ≡ input.old }
 {
     match take_usage(alloc, value.kind, device, from, store, input) {
-        Ok(usage) => replace_usage(alloc, value, &usage, file, store, now),
+        Ok(usage) => replace_usage(alloc, value, usage, file, store, now),
         Err(refusal) => Err(refusal),
     }
 }
@@ -123,17 +131,20 @@ fn check_value<S: Store, I: Source>(
 fn replace_usage<S: Store>(
     alloc: Global,
     mut value: FileValue,
-    usage: &Usage,
+    usage: Usage,
     file: Word,
     store: &mut S,
     now: u64,
 ) -> Result<(), Refusal>
     requires { IsInOrder value }
     ensures carries { (input : SourceSeen) (out err : SinkSeen) (link : LinkSeen) (input_tells out_tells err_tells link_tells : Bool)
-        → CarriesOut (ReplaceSteps file (checked (value_in value) usage.now now)) (edit_uses false) (ReplacingMayRefuse value.format file)
+        → CarriesOut (ReplaceSteps file (checked (value_in value) usage now)) (edit_uses false)
+        (λ cause name. UnfitMayRefuse (value_in value) file cause name ⊎ WritingMayRefuse value.format file cause name)
         (tells_of S.tells input_tells out_tells err_tells link_tells)
         (seen_of (S.seen store.old) input out err link)
         (seen_of (S.seen store.new) input out err link) result }
+    ensures anew { OnOk result (IsTrue S.tells → IsMadeAnew value.kind (λ format. format ≡ value.format) file
+        (S.seen store.old).files (S.seen store.new).files) }
     ensures named { OnErr result ((S.seen store.new).files file ≡ (S.seen store.old).files file) }
     ensures synced { OnOk result (IsTrue S.tells
         → AddsNone (S.seen store.old).unsynced (S.seen store.new).unsynced) }
@@ -141,12 +152,14 @@ fn replace_usage<S: Store>(
     match apply(
         alloc,
         value.entries.as_slice(),
-        usage,
+        &usage,
         value.format,
         value.grace,
         now,
     ) {
         Ok(entries) => {
+            // what is not needed any more is let go before the file is built
+            drop(usage);
             value.entries = entries;
             write_value(alloc, &value, file, store)
         }

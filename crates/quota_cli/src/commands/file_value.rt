@@ -9,9 +9,9 @@ ghost use Rattle.quota_map.specs.Reading.{IsReadFault, UnlessMemory};
 ghost use Rattle.quota_map.specs.View.{fresh_seen};
 ghost use Rattle.quota_cli.specs.Done.{seen_of, tells_of};
 ghost use Rattle.quota_cli.specs.Run.{CarriesOut};
-ghost use Rattle.quota_cli.specs.commands.Check.{ReplaceSteps, ReplacingMayRefuse, new_format, new_value};
+ghost use Rattle.quota_cli.specs.commands.Check.{HasKept, ReplaceSteps, new_format, new_value};
 ghost use Rattle.quota_cli.specs.commands.Edits.{edit_uses};
-ghost use Rattle.quota_cli.specs.commands.FileValue.{IsInOrder, IsWritable, replace_cause, value_in};
+ghost use Rattle.quota_cli.specs.commands.FileValue.{IsInOrder, IsMadeAnew, IsWritable, WritingMayRefuse, replace_cause, value_in};
 
 use crate::refusal::{Cause, Refusal};
 use crate::words::Word;
@@ -77,6 +77,7 @@ pub fn read_value<S: Store>(
     ensures value { IfOk result (λ read. (value : QuotaValue) → ⟦<AnyFile as QuotaFile<S>>⟧.holds opened store.old value
         → value.kind ≡ kind → value_in read ≡ value) }
     ensures in_order { IfOk result IsInOrder }
+    ensures kept { IfOk result (λ read. HasKept (value_in read)) }
     ensures kind { IfOk result (λ read. read.kind ≡ kind) }
     ensures format { IfOk result (λ read. read.format ≡ (⟦<AnyFile as QuotaFile<S>>⟧.seen opened).format) }
     ensures refused { IfErr result (IsReadFault (S.seen store.old).faults (S.seen store.new).faults
@@ -112,10 +113,13 @@ pub fn write_value<S: Store>(
 ) -> Result<(), Refusal>
     requires { IsWritable value.now }
     ensures carries { (input : SourceSeen) (out err : SinkSeen) (link : LinkSeen) (input_tells out_tells err_tells link_tells : Bool)
-        → CarriesOut (ReplaceSteps file (Ok (value_in value.now))) (edit_uses false) (ReplacingMayRefuse value.now.format file)
+        → CarriesOut (ReplaceSteps file (Ok (value_in value.now))) (edit_uses false) (WritingMayRefuse value.now.format file)
         (tells_of S.tells input_tells out_tells err_tells link_tells)
         (seen_of (S.seen store.old) input out err link)
         (seen_of (S.seen store.new) input out err link) result }
+    // It is built anew, also where the file stood for the value before.
+    ensures anew { OnOk result (IsTrue S.tells → IsMadeAnew value.now.kind (λ format. format ≡ value.now.format) file
+        (S.seen store.old).files (S.seen store.new).files) }
     ensures named { OnErr result ((S.seen store.new).files file ≡ (S.seen store.old).files file) }
     ensures synced { OnOk result (IsTrue S.tells
         → AddsNone (S.seen store.old).unsynced (S.seen store.new).unsynced) }

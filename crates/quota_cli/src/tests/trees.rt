@@ -4,7 +4,7 @@ use std::process::Abort;
 use std::test::Fail;
 
 /// A number that stands in four bytes at a place.
-type Number = (usize, u32);
+pub(crate) type Number = (usize, u32);
 
 /// A file of vfsv1 with six blocks: the header, the four tree blocks of identifier 1000, and its data block, in which it
 /// uses 4,096 bytes and one inode. Both grace periods are a week.
@@ -35,7 +35,11 @@ fn put(file: &mut [u8], at: usize, number: u32) {
 }
 
 /// The file of six blocks at a length, with these numbers over its own.
-fn changed(alloc: Global, len: usize, changes: &[Number]) -> Result<Vec<u8>, AllocError> {
+pub(crate) fn changed(
+    alloc: Global,
+    len: usize,
+    changes: &[Number],
+) -> Result<Vec<u8>, AllocError> {
     let mut file = vec![in alloc; 0u8; len]?;
     for (at, number) in SIX_BLOCKS.iter().chain(changes) {
         put(&mut file, *at, *number);

@@ -123,6 +123,8 @@ fn a_damage_that_is_met_after_opening_ends_other_commands_too(rt: HostRuntime) -
         "edquota --print 1000 q",
         "setquota -p 1000 7 q",
         "setquota -T 1000 5 unset q",
+        // no line of the input is one of this device
+        "quotacheck --device 5 q",
     ] {
         let (status, whole, said) = turned(alloc, line, &old, u64::MAX)?;
         assert_eq!(rt; status, 0, "{line}");

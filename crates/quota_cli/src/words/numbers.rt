@@ -64,7 +64,11 @@ fn told_by(names: &Names, word: &[u8]) -> Result<u32, Cause>
     names.id_of(word).ok_or(Cause::UnknownName)
 }
 
-/// Reads the four limits, or refuses the first word that spells none.
+/// Reads the four limits: the soft and the hard one of blocks, in KiB, then those of inodes.
+///
+/// # Errors
+///
+/// The first word that spells no limit.
 pub fn read_limits(alloc: Global, mut words: [Word; 4]) -> Result<Limits, Refusal>
     ensures { MatchResult result (λ limits. limits_read words ≡ Passed limits)
         (λ refusal. limits_read words ≡ Refused refusal) }
@@ -97,7 +101,11 @@ fn bad_number(alloc: Global, word: &mut Word) -> Refusal
     Refusal::of(Cause::BadNumber, name)
 }
 
-/// Reads two grace periods, or refuses the first word that is no number of seconds.
+/// Reads two grace periods, in seconds.
+///
+/// # Errors
+///
+/// The first word that is no number of seconds.
 pub fn read_grace(block: Word, inode: Word) -> Result<Grace, Refusal>
     ensures { MatchResult result (λ grace. grace_read block inode ≡ Passed grace)
         (λ refusal. grace_read block inode ≡ Refused refusal) }
@@ -119,6 +127,10 @@ fn read_seconds(word: Word) -> Result<u64, Refusal>
 }
 
 /// Reads a time: a number of seconds, or `unset`.
+///
+/// # Errors
+///
+/// The word is neither.
 pub fn read_time(word: Word) -> Result<TimeWord, Refusal>
     ensures { MatchResult result (λ time. time_read word ≡ Passed time)
         (λ refusal. time_read word ≡ Refused refusal) }

@@ -12,7 +12,7 @@ use Rattle.quota_cli.specs.Done.{seen_of, tells_of}
 use Rattle.quota_cli.specs.Run.{CarriesOut}
 use Rattle.quota_cli.specs.commands.Check.{UsageMayRefuse, UsageSteps, check_uses}
 use Rattle.quota_cli.specs.commands.FileValue.{value_in}
-use Rattle.quota_cli.proofs.CheckLemmas.{carries_same, not_read_whole}
+use Rattle.quota_cli.proofs.CheckLemmas.{anew_since, carries_same, not_read_whole}
 use Rattle.quota_cli.proofs.OpeningLemmas.{not_opened, with_store}
 use Rattle.quota_cli.proofs.PhaseLemmas.{carries_opening}
 use Rattle.quota_cli.proofs.commands.check.check_opened.Goals as goal
@@ -34,10 +34,10 @@ returns-in-Ok-read_value-clause-carries g c = λ out err link out_tells err_tell
     let new = seen_of (S.seen c.check_value.new.store) (I.seen c.check_value.new.input) out err link in
     let reads = only_reads-then c.args.file (S.seen c.args.store.now) (S.seen c.open_file.new.store) store (rw file at opened.leaves) (rw named at read.leaves) in
     let next = UsageSteps kind c.args.device c.args.from c.args.file c.args.now in
-    let may = UsageMayRefuse found.format c.args.from c.args.file in
+    let may = UsageMayRefuse (value_in found) c.args.from c.args.file in
     let as_asked : IsOpenedAs asked found.format = subst (λ (f : Format). IsOpenedAs asked f) (sym read.format) opened.as_asked in
     carries_opening c.args.file kind asked next (check_uses c.args.from) may _ tells old store new c.check_value.result
-    reads (λ told. rw file at (opened.seen told)) (λ cause said allowed. inr (found.format, as_asked, allowed))
+    reads (λ told. rw file at (opened.seen told)) (λ cause said allowed. inr (value_in found, as_asked, read.kept, allowed))
     (λ value view. carries_same c.args.file next (value_in found) value (check_uses c.args.from) may tells (with_store old store) new c.check_value.result
     (λ told. read.value value (opened.held told value (rw (sym file) at (view told))) (view_kind ((S.seen c.args.store.now).files c.args.file) kind asked value (view told)))
     (subst (λ (k : Kind). CarriesOut (UsageSteps k c.args.device c.args.from c.args.file c.args.now (value_in found)) (check_uses c.args.from) may tells (with_store old store) new c.check_value.result)
@@ -78,3 +78,15 @@ returns-in-Err-clause-carries g c = λ out err link out_tells err_tells link_tel
     (S.seen c.open_file.new.store) c.in-Err.fault
     (rw c.as_str.ensures at c.in-Err.ensures.refused) (rw c.as_str.ensures at c.in-Err.ensures.leaves)
     (λ cause may. inl may))
+
+pub returns-in-Ok-read_value-clause-anew : goal.returns-in-Ok-read_value-clause-anew
+returns-in-Ok-read_value-clause-anew g c =
+    let S = g.S.Store in
+    let file = c.as_str.ensures in
+    let named : (any_seen c.in-Ok.opened).name ≡ c.args.file = ap (λ (s : FileSeen). s.name) c.in-Ok.ensures.fresh ∙ file in
+    on_ok_weaker c.check_value.result
+    (λ anew told. anew_since c.in-Ok-read_value.value.kind c.args.kind (λ (f : Format). f ≡ c.in-Ok-read_value.value.format) (IsOpenedAs c.args.format) c.args.file c.args.file (S.seen c.args.store.now) (S.seen c.read_value.new.store) (S.seen c.check_value.new.store)
+    (only_reads-then c.args.file (S.seen c.args.store.now) (S.seen c.open_file.new.store) (S.seen c.read_value.new.store)
+    (rw file at c.in-Ok.ensures.leaves) (rw named at c.in-Ok-read_value.ensures.leaves)) c.in-Ok-read_value.ensures.kind
+    (λ f is. subst (λ (g : Format). IsOpenedAs c.args.format g) (sym (is ∙ c.in-Ok-read_value.ensures.format)) c.in-Ok.ensures.as_asked) (anew told))
+    c.check_value.ensures.anew

@@ -1,11 +1,15 @@
-use Rattle.std.proofs.Common.{IsTrue, true, [], inl, inr, refl, ap}
+use Rattle.std.proofs.Common.{◌≡◌, IsTrue, true, [], inl, inr, refl, ap}
 use Rattle.std.specs.Prelude.{unwrap_or}
+use Rattle.std.proofs.lemmas.Result.{on_ok_weaker}
+use Rattle.quota_blocks.proofs.FrameLemmas.{adds_none-then}
 use Rattle.inode_scan.specs.Usage.{UsageMap}
 use Rattle.quota_cli.specs.Done.{IsWorldTold, seen_of, tells_of}
 use Rattle.quota_cli.specs.Outcome.{Passed}
 use Rattle.quota_cli.specs.Taking.{AListing, HasTaken}
 use Rattle.quota_cli.specs.commands.Check.{ReplaceSteps, checked}
 use Rattle.quota_cli.specs.commands.FileValue.{value_in}
+use Rattle.quota_types.specs.declared.file_kind.Format.{Format}
+use Rattle.quota_cli.proofs.CheckLemmas.{anew_since}
 use Rattle.quota_cli.proofs.FormLemmas.{fault_more}
 use Rattle.quota_cli.proofs.OpeningLemmas.{with_store}
 use Rattle.quota_cli.proofs.PhaseLemmas.{placed_nowhere}
@@ -44,3 +48,16 @@ returns-in-Err-clause-carries g c = λ out err link out_tells err_tells link_tel
     (fault_more _ _ _ _ _ _ _ c.in-Err.refusal c.in-Err.refusal.cause (λ rose. rose) (λ rose. rose) (λ told. (told.store, told.input)) took.refused)
     (λ told. has_taken_refused c.args.from (λ u. true) c.in-Err.refusal _ _ (took.behind told.input) (λ some. ap (λ i. (I.seen i).left) (took.untouched some)))
     took.may (inl took.may) (placed_nowhere _ c.in-Err.refusal took.placed)
+
+pub returns-in-Ok-clause-synced : goal.returns-in-Ok-clause-synced
+returns-in-Ok-clause-synced g c =
+    on_ok_weaker c.replace_usage.result (λ synced told. adds_none-then _ _ _ c.in-Ok.ensures.synced (synced told)) c.replace_usage.ensures.synced
+
+pub returns-in-Ok-clause-anew : goal.returns-in-Ok-clause-anew
+returns-in-Ok-clause-anew g c =
+    let S = g.S.Store in
+    on_ok_weaker c.replace_usage.result
+    (λ anew told. anew_since c.args.value.kind c.args.value.kind (λ (f : Format). f ≡ c.args.value.format) (λ (f : Format). f ≡ c.args.value.format)
+    (unwrap_or c.args.from []) c.args.file (S.seen c.args.store.now) (S.seen c.take_usage.new.store) (S.seen c.replace_usage.new.store)
+    c.in-Ok.ensures.leaves refl (λ f is. is) (anew told))
+    c.replace_usage.ensures.anew

@@ -6,7 +6,7 @@ use Rattle.quota_map.specs.Replacing.{flags_in}
 use Rattle.quota_map.specs.View.{IsView}
 use Rattle.quota_cli.specs.Done.{seen_of, tells_of}
 use Rattle.quota_cli.specs.commands.FileValue.{value_in}
-use Rattle.quota_cli.proofs.ReplacingLemmas.{needed_of, replace_made, replace_refused}
+use Rattle.quota_cli.proofs.ReplacingLemmas.{made_anew, needed_of, replace_made, replace_refused}
 use Rattle.quota_cli.proofs.commands.file_value.write_value.Goals as goal
 
 pub returns-in-Ok-clause-carries : goal.returns-in-Ok-clause-carries
@@ -40,3 +40,7 @@ returns-in-Err-clause-carries g c = λ input out err link input_tells out_tells 
     (rw list at left.refused) left.unwritten
     ((rw file at left.unchanged) c.args.file (λ same. replacement_name-ne c.args.file (sym same)))
     (rw file at left.leaves))
+
+pub returns-in-Ok-clause-anew : goal.returns-in-Ok-clause-anew
+returns-in-Ok-clause-anew g c = λ told.
+    made_anew c.args.file c.args.value.now _ _ c.requires.in_order (rw c.as_slice.ensures.value at rw c.as_str.ensures at c.in-Ok.ensures.replaced told)
