@@ -1,7 +1,6 @@
 -- What is left of a list once some of its front was taken.
-use Rattle.std.specs.Prelude.{◌≡◌, ℕ, false, IsTrue, List, ◌++◌, [], refl}
+use Rattle.std.specs.Prelude.{◌≡◌, ℕ, List, ◌++◌, [], refl}
 use Rattle.std.proofs.Common.{ap, sym, ◌∙◌, append_assoc}
-use Rattle.std.proofs.lemmas.Bool.{false≢true}
 
 -- the bytes that are left stand behind those that were taken
 abbrev pub IsBehind : (whole left : List ℕ) → Type 0
@@ -15,7 +14,3 @@ behind_nothing whole = ([], refl)
 pub behind_on : (first between last : List ℕ) → IsBehind first between → IsBehind between last → IsBehind first last
 behind_on first between last one two =
     (one.0 ++ two.0, one.1 ∙ ap (λ (bytes : List ℕ). one.0 ++ bytes) two.1 ∙ sym (append_assoc one.0 two.0 last))
-
--- what does not hold says anything
-pub untold : {A : Type 0} → IsTrue false → A
-untold told = absurd (false≢true told)

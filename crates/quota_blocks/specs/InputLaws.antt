@@ -1,14 +1,30 @@
 -- What a file of a store as a source keeps along its calls is kept by no call, by two in a row, and whether or not they
 -- answered Ok.
-use Rattle.std.specs.Prelude.{Bool, true, false, List, ℕ, refl}
-use Rattle.std.proofs.Common.{◌∙◌, subst}
+use Rattle.std.specs.Prelude.{◌≤◌, ◌⊎◌, ◌&&◌, Bool, true, false, IsTrue, List, ℕ, refl}
+use Rattle.std.proofs.Common.{◌∙◌, inl, inr, arith, subst}
 use Rattle.std.proofs.Math.Nat.{le_refl, le_trans}
+use Rattle.std.proofs.lemmas.Bool.{and_parts, false≢true}
 use Rattle.std.specs.String.{string_bytes}
-use Rattle.quota_blocks.specs.Behind.{behind_nothing, behind_on, untold}
+use Rattle.quota_blocks.specs.Behind.{behind_nothing, behind_on}
+use Rattle.quota_blocks.specs.Count.{Rose}
 use Rattle.quota_blocks.specs.Frame.{OnlyReads}
 use Rattle.quota_blocks.specs.Seen.{StoreSeen}
 use Rattle.quota_blocks.specs.StoreInput.{KeepsInput}
+use Rattle.quota_blocks.specs.Unsynced.{AddsNone, Names}
 use Rattle.quota_blocks.specs.declared.store_input.StoreInput.{StoreInput}
+
+-- no name is unsynced that was not, unless the count of faults rose: by no call, and by two in a row
+unsynced_on : (faults faults_between faults_last : ℕ) (names names_between names_last : Names) → faults ≤ faults_between → faults_between ≤ faults_last
+    → (Rose faults faults_between ⊎ AddsNone names names_between) → (Rose faults_between faults_last ⊎ AddsNone names_between names_last)
+    → Rose faults faults_last ⊎ AddsNone names names_last
+unsynced_on faults faults_between faults_last names names_between names_last later later_last one two =
+    elim one [
+      | inl rose ↦ inl (le_trans rose later_last)
+      | inr none ↦ elim two [
+        | inl rose ↦ inl (omega (arith, later, rose))
+        | inr none_last ↦ inr (λ name is. none name (none_last name is))
+      ]
+    ]
 
 module _ {S : Type 0} (tells : Bool) (seen : S → StoreSeen) where
   pub keeps_input_itself : (input : StoreInput S) → KeepsInput tells seen true input input
@@ -17,12 +33,14 @@ module _ {S : Type 0} (tells : Bool) (seen : S → StoreSeen) where
     store = refl;
     name = refl;
     leaves = record { files = refl; unsynced = λ other differs. refl; later = le_refl _; writes = refl };
+    unsynced = inr (λ name is. is);
     synced = λ ok name is. is;
     behind = λ told. behind_nothing _;
   }
 
-  pub keeps_input_on : (ok : Bool) (first between last : StoreInput S) → KeepsInput tells seen true first between → KeepsInput tells seen ok between last → KeepsInput tells seen ok first last
-  keeps_input_on ok first between last one two =
+  pub keeps_input_on : (ok ok_last : Bool) (first between last : StoreInput S) → KeepsInput tells seen ok first between → KeepsInput tells seen ok_last between last
+      → KeepsInput tells seen (ok && ok_last) first last
+  keeps_input_on ok ok_last first between last one two =
       let read : OnlyReads (string_bytes first.source.now.name) (seen between.store.now) (seen last.store.now) =
       subst (λ (name : List ℕ). OnlyReads name (seen between.store.now) (seen last.store.now)) one.name two.leaves in
       record {
@@ -35,7 +53,8 @@ module _ {S : Type 0} (tells : Bool) (seen : S → StoreSeen) where
           later = le_trans one.leaves.later read.later;
           writes = read.writes ∙ one.leaves.writes;
         };
-        synced = λ good name is. one.synced refl name (two.synced good name is);
+        unsynced = unsynced_on _ _ _ _ _ _ one.leaves.later read.later one.unsynced two.unsynced;
+        synced = λ both name is. one.synced (and_parts ok ok_last both).0 name (two.synced (and_parts ok ok_last both).1 name is);
         behind = λ told. behind_on _ _ _ (one.behind told) (two.behind told);
       }
 
@@ -45,6 +64,7 @@ module _ {S : Type 0} (tells : Bool) (seen : S → StoreSeen) where
     store = kept.store;
     name = kept.name;
     leaves = kept.leaves;
-    synced = λ not. untold not;
+    unsynced = kept.unsynced;
+    synced = λ not. absurd (false≢true not);
     behind = kept.behind;
   }

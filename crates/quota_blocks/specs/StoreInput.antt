@@ -1,7 +1,8 @@
 -- One file of a store as a source.
-use Rattle.std.specs.Prelude.{◌≡◌, ℕ, ◌-◌, ◌^◌, Bool, IsTrue, List, Option}
+use Rattle.std.specs.Prelude.{◌≡◌, ◌⊎◌, ℕ, ◌-◌, ◌^◌, Bool, IsTrue, List, Option}
 use Rattle.std.specs.String.{string_bytes}
 use Rattle.quota_blocks.specs.Behind.{IsBehind}
+use Rattle.quota_blocks.specs.Count.{Rose}
 use Rattle.quota_blocks.specs.Frame.{OnlyReads}
 use Rattle.quota_blocks.specs.Seen.{SourceSeen, StoreSeen}
 use Rattle.quota_blocks.specs.Unsynced.{AddsNone}
@@ -21,12 +22,14 @@ module _ {S : Type 0} (seen : S → StoreSeen) where
     faults = (seen input.store.now).faults;
   }
 
--- Both references stay, and the name; the store is only read, and where each call answered Ok no name is unsynced that was
--- not. Of a store that tells, bytes are taken from the front of what is left.
+-- Both references stay, and the name; the store is only read. No name is unsynced that was not, unless the store's count
+-- of faults rose; and none where each call answered Ok. Of a store that tells, bytes are taken from the front of what is
+-- left.
 pub record KeepsInput {S : Type 0} (tells : Bool) (seen : S → StoreSeen) (ok : Bool) (old new : StoreInput S) : Type 0 where
   pub source : new.source.ghost_name ≡ old.source.ghost_name
   pub store : new.store.ghost_name ≡ old.store.ghost_name
   pub name : string_bytes new.source.now.name ≡ string_bytes old.source.now.name
   pub leaves : OnlyReads (string_bytes old.source.now.name) (seen old.store.now) (seen new.store.now)
+  pub unsynced : Rose (seen old.store.now).faults (seen new.store.now).faults ⊎ AddsNone (seen old.store.now).unsynced (seen new.store.now).unsynced
   pub synced : IsTrue ok → AddsNone (seen old.store.now).unsynced (seen new.store.now).unsynced
   pub behind : IsTrue tells → IsBehind (store_input_seen seen old).left (store_input_seen seen new).left

@@ -17,7 +17,7 @@ struct Pieces {
 
 impl Source for Pieces {
     ghost use Rattle.std.specs.Prelude.{false, ⊤};
-    ghost use Rattle.quota_blocks.specs.Behind.{untold};
+    ghost use Rattle.std.proofs.lemmas.Bool.{false≢true};
     ghost use Rattle.quota_blocks.specs.InMemory.{mem_source_seen};
 
     ghost tells = { false };
@@ -28,11 +28,11 @@ impl Source for Pieces {
 
     ghost keeps_itself = { λ _. tt };
 
-    ghost keeps_on = { λ _ _ _ _ _ _. tt };
+    ghost keeps_on = { λ _ _ _ _ _ _ _. tt };
 
     ghost keeps_any = { λ _ _ _. tt };
 
-    ghost keeps_behind = { λ _ _ _ _ told. untold told };
+    ghost keeps_behind = { λ _ _ _ _ told. absurd (false≢true told) };
 
     fn read(&mut self, buf: &mut [u8]) -> Result<usize, SourceFault> {
         let size = self.size.min(buf.len());

@@ -48,7 +48,7 @@ impl Source for MemSource {
 
     ghost keeps_itself = { λ source. behind_nothing (mem_source_seen source).left };
 
-    ghost keeps_on = { λ _ first between last. behind_on (mem_source_seen first).left (mem_source_seen between).left
+    ghost keeps_on = { λ _ _ first between last. behind_on (mem_source_seen first).left (mem_source_seen between).left
         (mem_source_seen last).left };
 
     ghost keeps_any = { λ _ _ behind. behind };

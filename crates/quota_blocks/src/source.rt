@@ -1,4 +1,4 @@
-ghost use Rattle.std.specs.Prelude.{◌≡◌, ◌≤◌, ◌++◌, ◌⊎◌, Bool, false, true, is_ok, [], length, take, IsTrue, IfOk, OnErr};
+ghost use Rattle.std.specs.Prelude.{◌≡◌, ◌≤◌, ◌++◌, ◌⊎◌, ◌&&◌, Bool, false, true, is_ok, [], length, take, IsTrue, IfOk, OnErr};
 ghost use Rattle.quota_blocks.specs.Behind.{IsBehind};
 ghost use Rattle.quota_blocks.specs.Count.{Rose};
 ghost use Rattle.quota_blocks.specs.Seen.{SourceSeen};
@@ -42,8 +42,13 @@ pub trait Source {
     /// A source keeps along with itself what it keeps along calls that answer Ok.
     ghost keeps_itself: { (source : Self) → keeps true source source };
 
-    /// What is kept along calls that answered Ok, and then along others, is kept along both in a row.
-    ghost keeps_on: { (ok : Bool) (first between last : Self) → keeps true first between → keeps ok between last → keeps ok first last };
+    /// What is kept along some calls, and then along others, is kept along both in a row; they all answered Ok where
+    /// the ones did and the others too.
+    ghost keeps_on: { (one two : Bool) (first between last : Self) → keeps one first between → keeps two between last
+        → keeps (one && two) first last };
+
+    /// The same where the first calls all answered Ok.
+    ghost keeps_after_ok: { (ok : Bool) (first between last : Self) → keeps true first between → keeps ok between last → keeps ok first last } = { λ ok. keeps_on true ok };
 
     /// What is kept where each call answered Ok is kept whether they did or not.
     ghost keeps_any: { (old new : Self) → keeps true old new → keeps false old new };

@@ -21,7 +21,7 @@ impl<R> StreamSource<R> {
 
 impl<R: Read> Source for StreamSource<R> {
     ghost use Rattle.std.specs.Prelude.{false, [], ⊤};
-    ghost use Rattle.quota_blocks.specs.Behind.{untold};
+    ghost use Rattle.std.proofs.lemmas.Bool.{false≢true};
 
     ghost tells = { false };
 
@@ -31,11 +31,11 @@ impl<R: Read> Source for StreamSource<R> {
 
     ghost keeps_itself = { λ _. tt };
 
-    ghost keeps_on = { λ _ _ _ _ _ _. tt };
+    ghost keeps_on = { λ _ _ _ _ _ _ _. tt };
 
     ghost keeps_any = { λ _ _ _. tt };
 
-    ghost keeps_behind = { λ _ _ _ _ told. untold told };
+    ghost keeps_behind = { λ _ _ _ _ told. absurd (false≢true told) };
 
     /// Reads what the stream gives at once, and again where a signal interrupts. Each turn but the last one is such an
     /// interruption, so the bound on the turns is never met.

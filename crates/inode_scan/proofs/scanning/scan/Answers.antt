@@ -56,7 +56,7 @@ lines-preserved g c =
       kind = c.take_line.ensures.kind ∙ l.invariant.kind;
       device = c.take_line.ensures.device ∙ l.invariant.device;
       later = omega (arith, l.invariant.later, c.next_line.ensures.later);
-      keeps = g.met.I.Source.keeps_on true c.args.source.now l.source n.source l.invariant.keeps found.keeps;
+      keeps = g.met.I.Source.keeps_on true true c.args.source.now l.source n.source l.invariant.keeps found.keeps;
     }
 
 pub returns-in_err-take_line-clause-refused : goal.returns-in_err-take_line-clause-refused
