@@ -2,7 +2,6 @@ pub mod ApplyLemmas
 pub mod FaultLemmas
 pub mod FirstLemmas
 pub mod ListLemmas
-pub mod NumberLemmas
 pub mod RowLemmas
 pub mod ScanLemmas
 pub mod SumLemmas

@@ -1,5 +1,8 @@
 -- The words of a line.
-use Rattle.std.proofs.Common.{◌≡◌, ◌^◌, ℕ, true, false, List, [], ◌∷◌, None, refl, ap, ◌∙◌}
+use Rattle.std.proofs.Common.{◌≡◌, ◌^◌, ◌<◌, ℕ, true, false, List, [], ◌∷◌, Some, None, Result, Ok, Err, refl, ap, ◌∙◌, arith}
+use Rattle.std.specs.Result.{OkIff, result_ok}
+use Rattle.std.proofs.lemmas.Bool.Decides.{nat_tests}
+use Rattle.quota_blocks.specs.Numeral.{number_of}
 use Rattle.quota_blocks.specs.Words.{words_eq, words_of}
 use Rattle.inode_scan.specs.Line.{number_below, row_from, row_in, row_of}
 
@@ -16,7 +19,18 @@ no_words (word ∷ words) same = absurd (cc)
 pub row_in_five : (line owner behind_owner group behind_group device behind_device inode behind_inode blocks behind : List ℕ)
     → words_of line ≡ owner ∷ words_of behind_owner → words_of behind_owner ≡ group ∷ words_of behind_group → words_of behind_group ≡ device ∷ words_of behind_device
     → words_of behind_device ≡ inode ∷ words_of behind_inode → words_of behind_inode ≡ blocks ∷ words_of behind → words_eq (words_of behind) [] ≡ true
-    → row_in line ≡ row_from (number_below (2 ^ 32) owner) (number_below (2 ^ 32) group) (number_below (2 ^ 64) device) (number_below (2 ^ 64) inode) (number_below (2 ^ 64) blocks)
+    → row_in line ≡ row_from (number_below (2 ^ 32) owner) (number_below (2 ^ 32) group) (number_of device) (number_of inode) (number_of blocks)
 unfolding row_in
 row_in_five line owner behind_owner group behind_group device behind_device inode behind_inode blocks behind one two three four five none =
     ap row_of (one ∙ ap (λ ws. owner ∷ ws) (two ∙ ap (λ ws. group ∷ ws) (three ∙ ap (λ ws. device ∷ ws) (four ∙ ap (λ ws. inode ∷ ws) (five ∙ ap (λ ws. blocks ∷ ws) (no_words (words_of behind) none))))))
+
+-- what is no number is no identifier
+pub id_none : (word : List ℕ) → number_of word ≡ None → number_below (2 ^ 32) word ≡ None
+unfolding number_below
+id_none word none = rw none
+
+-- a number that is tried as one of 32 bits
+pub id_tried : {E : Type 0} (word : List ℕ) (number : ℕ) (tried : Result ℕ E) → Some number ≡ number_of word → OkIff tried (number < 2 ^ 32) number → result_ok tried ≡ number_below (2 ^ 32) word
+unfolding number_below
+id_tried word number (Ok id) is fits = rw (← is) (grind (arith, nat_tests, fits))
+id_tried word number (Err fault) is past = rw (← is) (grind (arith, nat_tests, past))

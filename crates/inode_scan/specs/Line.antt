@@ -1,19 +1,18 @@
 -- What a line of a listing says: an owner, a group, a device, an inode and a number of 512-byte blocks, as find(1) prints
 -- them with `-printf '%U %G %D %i %b\n'`. That words may be blank-separated otherwise, and the bounds, are this project's own.
-use Rattle.std.specs.Prelude.{ℕ, ◌^◌, Bool, ◌&&◌, not, nat_lt, nat_le, is_none, if◌then◌else◌, List, [], ◌∷◌, length, Option, Some, None}
-use Rattle.std.specs.Str.{all_ascii_digits}
-use Rattle.std.specs.Str.Parse.{digits_value}
+use Rattle.std.specs.Prelude.{ℕ, ◌^◌, Bool, ◌&&◌, not, nat_lt, is_none, if◌then◌else◌, List, [], ◌∷◌, Option, Some, None}
+use Rattle.std.specs.Option.{option_and_then}
+use Rattle.quota_blocks.specs.Numeral.{number_of}
 use Rattle.quota_blocks.specs.Words.{words_eq, words_of}
 use Rattle.inode_scan.specs.declared.row.Row.{Row}
 
--- the word consists of 1 to 20 decimal digits; those in front may be zeros
-abbrev pub is_numeral : List ℕ → Bool
-is_numeral word = nat_lt 0 (length word) && nat_le (length word) 20 && all_ascii_digits word
+-- the number, where it is below the bound
+abbrev pub below : (bound : ℕ) → ℕ → Option ℕ
+below bound number = if nat_lt number bound then Some number else None
 
--- the number that a word spells, where it is a numeral with a value below the bound
+-- the number that a word spells, where it is below the bound
 unfoldable pub number_below : (bound : ℕ) → List ℕ → Option ℕ
-number_below bound word =
-    if is_numeral word && nat_lt (digits_value 10 word) bound then Some (digits_value 10 word) else None
+number_below bound word = option_and_then (below bound) (number_of word)
 
 -- five numbers, where all are there
 abbrev pub row_from : (owner group device inode blocks : Option ℕ) → Option Row
@@ -24,8 +23,8 @@ row_from owner group device inode blocks = None
 -- What five words say. The owner and the group are identifiers of 32 bits, the other three are numbers of 64 bits.
 abbrev pub row_of : List (List ℕ) → Option Row
 row_of (owner ∷ group ∷ device ∷ inode ∷ blocks ∷ []) =
-    row_from (number_below (2 ^ 32) owner) (number_below (2 ^ 32) group) (number_below (2 ^ 64) device)
-    (number_below (2 ^ 64) inode) (number_below (2 ^ 64) blocks)
+    row_from (number_below (2 ^ 32) owner) (number_below (2 ^ 32) group) (number_of device) (number_of inode)
+    (number_of blocks)
 row_of words = None
 
 -- what a line says, where it says something

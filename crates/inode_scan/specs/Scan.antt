@@ -1,4 +1,5 @@
--- What a listing comes to: lines of at most 256 bytes, and 1,099,511,627,776 bytes in all.
+-- What a listing comes to: lines of at most 256 bytes, and 1,099,511,627,776 bytes in all. Source: the bounds are this
+-- project's own.
 use Rattle.std.specs.Prelude.{◌≡◌, ℕ, ◌+◌, Bool, IsTrue, List, [], ◌∷◌, ◌++◌, Option, Some, None, Result, Err, slice_get, ⊤}
 use Rattle.std.specs.Option.{option_to_list}
 use Rattle.quota_types.specs.declared.file_kind.Kind.{Kind}

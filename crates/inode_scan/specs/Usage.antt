@@ -1,4 +1,4 @@
--- The usage of identifiers, as a listing tells it.
+-- The usage of identifiers, as a listing tells it. Source: `st_blocks` of stat(2) counts blocks of 512 bytes.
 use Rattle.std.specs.Prelude.{◌≡◌, ℕ, ◌+◌, ◌*◌, ◌<◌, IsSome, Option, Some, None, refl}
 use Rattle.std.specs.declared.ops.Bound.{Bound}
 use Rattle.std.specs.declared.ops.Bound.TheVariants.{Excluded, Unbounded}

@@ -16,6 +16,8 @@ use std::alloc::{AllocFailed, Global};
 /// listing, ascending, its limits, or zeros where it is not in the list; the usage of the listing, or zeros where it is not
 /// there; and the timers that go with both at the moment `now`, in seconds since 1970. What is null then is left out.
 ///
+/// The list ascends strictly by its identifiers. The grace periods are in seconds.
+///
 /// # Errors
 ///
 /// The first value for which the format has no room, in the order of `Field`, of the least identifier that has one. Or

@@ -1,15 +1,14 @@
 //! The usage of identifiers from a listing of inodes, as `find -printf '%U %G %D %i %b\n'` of find(1) prints one, and the
 //! records of a quota file with that usage.
 //!
-//! The one promise: `scan` gives the sums over the first lines of all inodes that the definitions in `specs/` tell of the
-//! whole listing, or the first thing that is wrong with it; and `apply` gives the records that they tell, or the least
-//! identifier for which the format has no room.
+//! The one promise: `scan` gives the sums over the first lines of all inodes of the listing, or the first fault of the
+//! listing. `apply` gives the records with that usage, or the least identifier with a value that the format has no room
+//! for. Both are as the definitions in `specs/` say.
 #![tactic(auto)]
 
 mod applying;
 mod fault;
 mod inode;
-mod number;
 mod row;
 mod scanning;
 mod tally;

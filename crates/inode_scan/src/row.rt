@@ -1,8 +1,8 @@
 ghost use Rattle.std.specs.Prelude.{◌≡◌, ◌^◌};
+ghost use Rattle.quota_blocks.specs.Numeral.{number_of};
 ghost use Rattle.inode_scan.specs.Line.{number_below, row_from, row_in};
 
-use crate::number::{read_id, read_number};
-use quota_blocks::{has_no_word, next_word};
+use quota_blocks::{has_no_word, next_word, number_in};
 
 /// What a line of a listing says.
 #[derive(Clone, Copy)]
@@ -19,8 +19,8 @@ pub(crate) struct Row {
     pub(crate) blocks: u64,
 }
 
-#[tactic(auto, unfolding(crate::specs::Line::row_in), using(crate::proofs::RowLemmas::row_of_more))]
 /// What a line says, or `None` where it is not five numbers in their ranges.
+#[tactic(auto, unfolding(crate::specs::Line::row_in), using(crate::proofs::RowLemmas::row_of_more))]
 pub(crate) fn read_row(line: &[u8]) -> Option<Row>
     ensures { result ≡ row_in line.now }
 {
@@ -38,13 +38,21 @@ pub(crate) fn read_row(line: &[u8]) -> Option<Row>
 /// What five words say, or `None` where they are not numbers in their ranges.
 fn row_from(owner: &[u8], group: &[u8], device: &[u8], inode: &[u8], blocks: &[u8]) -> Option<Row>
     ensures { result ≡ row_from (number_below (2 ^ 32) owner.now) (number_below (2 ^ 32) group.now)
-        (number_below (2 ^ 64) device.now) (number_below (2 ^ 64) inode.now) (number_below (2 ^ 64) blocks.now) }
+        (number_of device.now) (number_of inode.now) (number_of blocks.now) }
 {
     Some(Row {
         owner: read_id(owner)?,
         group: read_id(group)?,
-        device: read_number(device)?,
-        inode: read_number(inode)?,
-        blocks: read_number(blocks)?,
+        device: number_in(device)?,
+        inode: number_in(inode)?,
+        blocks: number_in(blocks)?,
     })
+}
+
+/// The identifier that a word spells, which is a number of 32 bits.
+fn read_id(word: &[u8]) -> Option<u32>
+    ensures { result ≡ number_below (2 ^ 32) word.now }
+{
+    let number = number_in(word)?;
+    u32::try_from(number).ok()
 }

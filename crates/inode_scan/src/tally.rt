@@ -19,6 +19,7 @@ pub(crate) struct Tally {
     device: Option<u64>,
     /// The first line of each inode.
     firsts: HashMap<Inode, FirstLine>,
+    /// What the first lines add up to.
     usage: Usage,
 }
 

@@ -13,3 +13,4 @@ pub mod TakenLemmas
 pub mod WordsLemmas
 pub mod InputLinesLemmas
 pub mod InputLemmas
+pub mod NumeralLemmas

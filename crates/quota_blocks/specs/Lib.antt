@@ -10,6 +10,7 @@ pub mod Listed
 pub mod Load
 pub mod MemStore
 pub mod NameSet
+pub mod Numeral
 pub mod QuotaFile
 pub mod QuotaValue
 pub mod Replace

@@ -4,8 +4,8 @@
 //! answers. Each has a count of faults that never falls, and may tell its contents: an object in memory does, and an
 //! adapter over the real thing does not. `load` reads a whole file and `replace` puts one in the place of another,
 //! `TextBuffer` gathers text in front of a sink, `LineReader` gives the lines of a source, such as a file of a store
-//! behind `StoreInput`, `words` the words of a line, and `QuotaFile` is what every format of quota file offers. `le16` to
-//! `set_le64` read and write the numbers in a block.
+//! behind `StoreInput`, `words` the words of a line, `number_in` the number that a word of digits spells, and `QuotaFile`
+//! is what every format of quota file offers. `le16` to `set_le64` read and write the numbers in a block.
 //!
 //! The one promise: every answer has a cause that the caller can see, and what is told of the outside stays in step
 //! with what was done.
@@ -24,6 +24,7 @@ mod mem_source;
 mod mem_store;
 mod name_set;
 mod named_files;
+mod numeral;
 mod quota_file;
 mod replacement;
 mod sink;
@@ -44,6 +45,7 @@ pub use mem_link::MemLink;
 pub use mem_sink::MemSink;
 pub use mem_source::MemSource;
 pub use mem_store::MemStore;
+pub use numeral::number_in;
 pub use quota_file::{FileFault, OpenFault, QuotaFile};
 pub use replacement::{ReplaceFault, replace};
 pub use sink::{Sink, SinkFault};

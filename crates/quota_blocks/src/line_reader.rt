@@ -200,8 +200,8 @@ impl LineReader {
         Ok(ended)
     }
 
-    #[tactic(auto, using(crate::proofs::LinesLemmas::newline_within))]
     /// How many held bytes stand in front of their first newline, and whether there is one.
+    #[tactic(auto, using(crate::proofs::LinesLemmas::newline_within))]
     fn front(&self) -> (usize, bool)
         ensures len { result.0 ≡ position_or_len is_newline self.now.held }
         ensures ended { result.1 ≡ nat_lt result.0 (length self.now.held) }
@@ -260,8 +260,8 @@ impl LineReader {
     }
 }
 
-#[tactic(auto, using(crate::proofs::LinesLemmas::position_none))]
 /// How many bytes stand in front of the first newline, or all where there is none.
+#[tactic(auto, using(crate::proofs::LinesLemmas::position_none))]
 fn line_len(bytes: &[u8]) -> usize
     ensures { result ≡ position_or_len is_newline bytes.now }
 {

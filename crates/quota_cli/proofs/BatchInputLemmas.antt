@@ -6,8 +6,9 @@ use Rattle.id_names.specs.FirstMatch.{first_id}
 use Rattle.id_names.specs.NamesFile.{NameLine}
 use Rattle.quota_blocks.specs.InputLines.{InputLines, NoLine, LineThen, LongNext, PastNext, lines_left}
 use Rattle.quota_blocks.specs.Lines.{LinesSeen}
+use Rattle.quota_blocks.specs.Numeral.{value_of}
 use Rattle.quota_blocks.specs.Words.{words_of}
-use Rattle.set_edit.specs.Number.{limit_of, value_of}
+use Rattle.set_edit.specs.Number.{limit_of}
 use Rattle.set_edit.specs.declared.limits.Limits.{Limits as FourLimits}
 use Rattle.quota_cli.specs.declared.commands.batch_input.InputFault.{InputFault}
 use Rattle.quota_cli.specs.declared.commands.batch_input.InputFault.TheVariants.{Memory as NoMemory}

@@ -7,7 +7,7 @@ use Rattle.quota_cli.specs.declared.words.command.Command.TheVariants.{CopyLimit
 use Rattle.quota_cli.specs.declared.refusal.cause.UsageKind.TheVariants.{UnknownCommand, Excludes, MissingOption, BadValue, BadFileName}
 use Rattle.quota_cli.specs.declared.words.fault.Fault.{Fault}
 use Rattle.quota_cli.specs.declared.words.given.Conversion.{Conversion}
-use Rattle.set_edit.specs.Number.{number_of}
+use Rattle.quota_blocks.specs.Numeral.{number_of}
 use Rattle.quota_cli.specs.declared.words.form.Form.{Form}
 use Rattle.quota_cli.specs.declared.words.form.Form.TheVariants.{Reporting, Limiting, Copying, Batching, SettingGrace, SettingTimes, Printing, Applying, Checking, Converting, Serving, Scripting, Generating}
 use Rattle.quota_cli.specs.declared.words.tool.Tool.{Tool}

@@ -8,7 +8,7 @@ use Rattle.std.proofs.lemmas.Bool.Decides.{nat_tests}
 use Rattle.std.proofs.lemmas.List.{take_all}
 use Rattle.std.proofs.lemmas.Str.Parse.{IsNumeralModel, numerals_by_weight, tells_all_ascii_digits, digit_at}
 use Rattle.std.proofs.lemmas.Int.Digits.{digits_value_more, digits_more}
-use Rattle.set_edit.specs.Number.{value_of}
+use Rattle.quota_blocks.specs.Numeral.{value_of}
 use Rattle.quota_cli.specs.declared.refusal.cause.Cause.TheVariants.{BadNumber}
 use Rattle.id_names.specs.FirstMatch.{first_id}
 use Rattle.id_names.specs.NamesFile.{NameLine}

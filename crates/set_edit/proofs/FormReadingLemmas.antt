@@ -6,6 +6,7 @@ use Rattle.quota_types.specs.declared.file_kind.Kind.{Kind}
 use Rattle.quota_types.specs.declared.file_kind.Kind.TheVariants.{User, Group}
 use Rattle.quota_blocks.specs.InputLines.{InputLines, NoLine, LineThen, LongNext, PastNext, line_then}
 use Rattle.quota_blocks.specs.Lines.{IsLineFault, LinesSeen, NamesLine, line_given, next_line_of}
+use Rattle.quota_blocks.specs.Numeral.{number_of}
 use Rattle.quota_blocks.specs.Words.{words_behind, words_eq, words_of}
 use Rattle.quota_blocks.specs.declared.line_reader.LineFault.{LineFault}
 use Rattle.quota_blocks.specs.declared.line_reader.LineFault.TheVariants.{Source, Long, TooLarge}
@@ -16,7 +17,7 @@ use Rattle.set_edit.specs.Form.{form_title, id_front, name_front}
 use Rattle.set_edit.specs.FormReading.{IsFormFault, IsLinesFault, all_limits, form_in, form_lines, form_read, limits_in, then_read}
 use Rattle.set_edit.specs.declared.form_reading.FormFault.{FormFault}
 use Rattle.set_edit.specs.declared.form_reading.FormFault.TheVariants.{Lines, BadForm}
-use Rattle.set_edit.specs.Number.{limit_of, number_of}
+use Rattle.set_edit.specs.Number.{limit_of}
 
 -- The words of the third line.
 

@@ -2,6 +2,5 @@ pub mod EditedLemmas
 pub mod EditingLemmas
 pub mod EditsLemmas
 pub mod LimitLemmas
-pub mod NumberLemmas
 pub mod FormLemmas
 pub mod FormReadingLemmas

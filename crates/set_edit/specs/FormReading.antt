@@ -6,6 +6,7 @@ use Rattle.quota_types.specs.declared.file_kind.Kind.{Kind}
 use Rattle.quota_blocks.specs.Count.{Rose}
 use Rattle.quota_blocks.specs.InputLines.{InputLines, NoLine, LineThen, LongNext, PastNext, input_lines, lines_left}
 use Rattle.quota_blocks.specs.Lines.{LinesSeen}
+use Rattle.quota_blocks.specs.Numeral.{number_of}
 use Rattle.quota_blocks.specs.Words.{words_eq, words_of}
 use Rattle.quota_blocks.specs.declared.line_reader.LineFault.{LineFault}
 use Rattle.quota_blocks.specs.declared.line_reader.LineFault.TheVariants.{Source, Long, TooLarge}
@@ -13,7 +14,7 @@ use Rattle.set_edit.specs.declared.form_reading.FormFault.{FormFault}
 use Rattle.set_edit.specs.declared.form_reading.FormFault.TheVariants.{Lines, BadForm}
 use Rattle.set_edit.specs.declared.limits.Limits.{Limits}
 use Rattle.set_edit.specs.Form.{form_heading, form_title}
-use Rattle.set_edit.specs.Number.{limit_of, number_of}
+use Rattle.set_edit.specs.Number.{limit_of}
 
 -- goes on with a value, unless a fault came before
 abbrev pub then_read : {A B : Type 0} → Result A FormFault → (A → Result B FormFault) → Result B FormFault

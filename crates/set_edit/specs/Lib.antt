@@ -8,6 +8,7 @@ pub mod Number
 pub mod Times
 pub use Rattle.quota_blocks.specs.FileChange
 pub use Rattle.quota_blocks.specs.Frame
+pub use Rattle.quota_blocks.specs.Numeral
 pub use Rattle.quota_blocks.specs.QuotaFile
 pub use Rattle.quota_blocks.specs.QuotaValue
 pub use Rattle.quota_blocks.specs.Replace

@@ -1,17 +1,20 @@
 ghost use Rattle.std.specs.Prelude.{◌≡◌, ◌+◌, ◌-◌, ◌<◌, ◌≤◌, ◌++◌, ◌&&◌, [], true, false, decimal, codes, map, is_some, is_ok, IsTrue, IfOk, IfErr, OnOk, Ok, if◌then◌else◌};
 ghost use Rattle.std.specs.Str.{bytes_eq};
 ghost use Rattle.quota_blocks.specs.InputLines.{line_then};
+ghost use Rattle.quota_blocks.specs.Numeral.{number_of};
 ghost use Rattle.quota_blocks.specs.Words.{words_eq, words_of};
 ghost use Rattle.set_edit.specs.Form.{form_heading, form_title};
 ghost use Rattle.set_edit.specs.FormReading.{IsFormFault, IsLinesFault, all_limits, behind_text, form_lines, form_read, if_good, limits_at, limits_in, limits_then_end, line_at, no_more_words};
-ghost use Rattle.set_edit.specs.Number.{limit_of, number_of};
+ghost use Rattle.set_edit.specs.Number.{limit_of};
 ghost use Rattle.set_edit.specs.declared.form_reading.FormFault.TheVariants.{Lines as LinesFailed};
 
 use crate::Limits;
 use crate::form::{heading, name_front, title_end};
-use crate::number::{limit_from, number_from};
+use crate::number::limit_from;
 use arrayvec::ArrayVec;
-use quota_blocks::{LineFault, LineReader, Source, after_words, has_no_word, has_words, words};
+use quota_blocks::{
+    LineFault, LineReader, Source, after_words, has_no_word, has_words, number_in, words,
+};
 use quota_types::Kind;
 
 /// How many bytes a line of a form has at most.
@@ -245,7 +248,7 @@ fn limits_of(words: &[&[u8]], file: &[u8]) -> Option<Limits>
 fn is_usage(name: &[u8], file: &[u8], used: &[u8], inodes: &[u8]) -> bool
     ensures { result ≡ (bytes_eq name.now file.now && is_some (number_of used.now) && is_some (number_of inodes.now)) }
 {
-    name == file && number_from(used).is_some() && number_from(inodes).is_some()
+    name == file && number_in(used).is_some() && number_in(inodes).is_some()
 }
 
 /// The four limits that words spell.

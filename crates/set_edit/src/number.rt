@@ -1,14 +1,14 @@
 ghost use Rattle.std.specs.Prelude.{◌≡◌, ◌∷◌, [], Some};
-ghost use Rattle.set_edit.specs.Number.{factor_of, limit_of, number_of, product_of};
+ghost use Rattle.quota_blocks.specs.Numeral.{number_of};
+ghost use Rattle.set_edit.specs.Number.{factor_of, limit_of, product_of};
 
-/// How many digits a number has at most.
-const MAX_DIGITS: usize = 20;
+use quota_blocks::number_in;
 
 /// Reads a number of 1 to 20 decimal digits with a value below 2^64. Zeros may stand in front.
 pub fn read_number(word: &str) -> Option<u64>
     ensures { result ≡ number_of word.now }
 {
-    number_from(word.as_bytes())
+    number_in(word.as_bytes())
 }
 
 /// Reads a limit: a number, and behind it nothing or one suffix, with a product below 2^64.
@@ -21,35 +21,16 @@ pub fn read_limit(word: &str, blocks: bool) -> Option<u64>
     limit_from(word.as_bytes(), blocks)
 }
 
-#[tactic(auto, unfolding(crate::specs::Number::number_of))]
-/// The number that bytes spell.
-pub(crate) fn number_from(digits: &[u8]) -> Option<u64>
-    ensures { result ≡ number_of digits.now }
-{
-    if digits.is_empty() || digits.len() > MAX_DIGITS {
-        return None;
-    }
-    let mut number: u64 = 0;
-    for digit in digits {
-        if !digit.is_ascii_digit() {
-            return None;
-        }
-        let unit = u64::from(*digit - b'0');
-        number = number.checked_mul(10)?.checked_add(unit)?;
-    }
-    Some(number)
-}
-
 /// The limit that bytes spell.
 pub(crate) fn limit_from(word: &[u8], blocks: bool) -> Option<u64>
     ensures { result ≡ limit_of blocks word.now }
 {
     let (digits, factor) = split_suffix(word, blocks);
-    number_from(digits)?.checked_mul(factor)
+    number_in(digits)?.checked_mul(factor)
 }
 
-#[tactic(auto, unfolding(crate::specs::Number::limit_of, crate::specs::Number::number_of))]
 /// What stands before the suffix of a limit, and the suffix's factor: all of the word and 1 where there is none.
+#[tactic(auto, unfolding(crate::specs::Number::limit_of, quota_blocks::specs::Numeral::number_of))]
 fn split_suffix(word: &[u8], blocks: bool) -> (&[u8], u64)
     ensures { limit_of blocks word.now ≡ product_of (number_of result.0.now) (Some result.1) }
 {

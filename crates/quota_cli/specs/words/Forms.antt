@@ -5,7 +5,7 @@ use Rattle.std.specs.Str.{bytes_eq}
 use Rattle.quota_types.specs.declared.file_kind.Kind.{Kind}
 use Rattle.quota_types.specs.declared.file_kind.Kind.TheVariants.{User, Group}
 use Rattle.report_text.specs.declared.options.Options.{Options}
-use Rattle.set_edit.specs.Number.{number_of}
+use Rattle.quota_blocks.specs.Numeral.{number_of}
 use Rattle.quota_cli.specs.declared.refusal.cause.UsageKind.TheVariants.{MissingOption, WrongOperands, BadValue, BadFileName}
 use Rattle.quota_cli.specs.declared.words.command.Command.{Command}
 use Rattle.quota_cli.specs.declared.words.command.Command.TheVariants.{Report, SetLimits, CopyLimits, Batch, SetGrace, SetTimes, PrintForm, ApplyForm, Check, Convert, Serve, Script, Generate}

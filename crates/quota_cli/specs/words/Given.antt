@@ -6,7 +6,7 @@ use Rattle.std.specs.Str.{bytes_eq}
 use Rattle.quota_types.specs.declared.file_kind.Format.{Format}
 use Rattle.quota_types.specs.declared.file_kind.Kind.{Kind}
 use Rattle.quota_types.specs.declared.file_kind.Kind.TheVariants.{User, Group}
-use Rattle.set_edit.specs.Number.{number_of}
+use Rattle.quota_blocks.specs.Numeral.{number_of}
 use Rattle.quota_cli.specs.declared.refusal.cause.UsageKind.TheVariants.{UnknownOption, MissingValue, Repeated, BadValue, BadFileName}
 use Rattle.quota_cli.specs.declared.words.export.Export.{Export}
 use Rattle.quota_cli.specs.declared.words.fault.Fault.{Fault}

@@ -6,7 +6,7 @@ use Rattle.quota_types.specs.declared.file_kind.Format.{Format}
 use Rattle.quota_types.specs.declared.file_kind.Format.TheVariants.{V1, V2R0, V2R1}
 use Rattle.quota_types.specs.declared.file_kind.Kind.{Kind}
 use Rattle.quota_types.specs.declared.file_kind.Kind.TheVariants.{User, Group}
-use Rattle.set_edit.specs.Number.{number_of}
+use Rattle.quota_blocks.specs.Numeral.{number_of}
 use Rattle.quota_cli.specs.declared.words.given.Conversion.{Conversion}
 use Rattle.quota_cli.specs.words.Parts.{parted}
 use Rattle.quota_cli.specs.words.Tools.{look_up}

@@ -1,4 +1,4 @@
--- Numbers, digit by digit from the left.
+-- Words of digits, digit by digit from the left.
 use Rattle.std.proofs.Common.{◌≡◌, ℕ, ◌+◌, ◌-◌, ◌*◌, ◌^◌, ◌<◌, ◌≤◌, Bool, true, false, List, length, take, get_or, Some, None, refl, sym, ap, ◌∙◌, subst, arith, rules}
 use Rattle.std.specs.Char.{digit_value, is_ascii_digit}
 use Rattle.std.specs.Str.{all_ascii_digits}
@@ -8,7 +8,7 @@ use Rattle.std.proofs.lemmas.Bool.Decides.{nat_tests}
 use Rattle.std.proofs.lemmas.List.{take_all}
 use Rattle.std.proofs.lemmas.Str.Parse.{IsNumeralModel, numerals_by_weight, tells_all_ascii_digits, digit_at, digits_value-take-le}
 use Rattle.std.proofs.lemmas.Int.Digits.{digits_value_more, digits_more}
-use Rattle.set_edit.specs.Number.{value_of, number_of}
+use Rattle.quota_blocks.specs.Numeral.{value_of, number_of}
 
 -- `value_of` is the value of decimal digits as std has it
 own : IsNumeralModel (λ ds. all_ascii_digits ds ≡ true) value_of

@@ -1,25 +1,25 @@
 use Rattle.std.proofs.Common.{◌≡◌, true, get_or, length, sym, ◌∙◌, arith}
 use Rattle.std.proofs.lemmas.Bool.Decides.{nat_tests}
 use Rattle.std.specs.Char.{is_ascii_digit}
-use Rattle.inode_scan.proofs.NumberLemmas.{spoilt, too_large, all_read, read_more, digit_value-digit}
-use Rattle.inode_scan.proofs.number.read_number.Goals as goal
+use Rattle.quota_blocks.proofs.NumeralLemmas.{number_of-spoilt, number_of-too_large, number_of-read, read_more, digit_value-digit}
+use Rattle.quota_blocks.proofs.numeral.number_in.Goals as goal
 
 pub returns-then-not-is_ascii_digit : goal.returns-then-not-is_ascii_digit
 returns-then-not-is_ascii_digit c =
-    sym (spoilt c.args.word.now c.loop-digit.digit-index c.loop-digit-test.true
+    sym (number_of-spoilt c.args.word.now c.loop-digit.digit-index c.loop-digit-test.true
     (sym c.is_ascii_digit.ensures.value ∙ c.if-not-is_ascii_digit.true))
 
 pub returns-in_err-checked_mul : goal.returns-in_err-checked_mul
 returns-in_err-checked_mul c =
     c.from_residual.ensures
-    ∙ sym (too_large c.args.word.now c.loop-digit.digit-index c.loop-digit.number c.loop-digit.invariant c.loop-digit-test.true
+    ∙ sym (number_of-too_large c.args.word.now c.loop-digit.digit-index c.loop-digit.number c.loop-digit.invariant c.loop-digit-test.true
     (omega (arith, c.in_err-checked_mul.ensures)))
 
 pub returns-in_err-number : goal.returns-in_err-number
 returns-in_err-number c =
     let digit : is_ascii_digit (get_or c.args.word.now c.loop-digit.digit-index 0) ≡ true = sym c.is_ascii_digit.ensures.value ∙ c.if-not-is_ascii_digit.false in
     c.from_residual-in_err-number.ensures
-    ∙ sym (too_large c.args.word.now c.loop-digit.digit-index c.loop-digit.number c.loop-digit.invariant c.loop-digit-test.true
+    ∙ sym (number_of-too_large c.args.word.now c.loop-digit.digit-index c.loop-digit.number c.loop-digit.invariant c.loop-digit-test.true
     (omega (arith, c.in_ok-checked_mul.ensures, c.in_err-number.ensures, digit_value-digit (get_or c.args.word.now c.loop-digit.digit-index 0) digit)))
 
 pub loop-digit-preserved : goal.loop-digit-preserved
@@ -33,4 +33,4 @@ pub returns : goal.returns
 returns c =
     let at_end : c.loop-digit.digit-index ≡ length c.args.word.now = omega arith in
     let read = rw at_end at c.loop-digit.invariant in
-    sym (all_read c.args.word.now c.loop-digit.number read (grind (arith, nat_tests)) (omega arith))
+    sym (number_of-read c.args.word.now c.loop-digit.number read (grind (arith, nat_tests)) (omega arith))

@@ -1,6 +1,6 @@
 use Rattle.std.proofs.Common.{sym, ◌∙◌}
-use Rattle.inode_scan.proofs.NumberLemmas.{id_none, id_tried}
-use Rattle.inode_scan.proofs.number.read_id.Goals as goal
+use Rattle.inode_scan.proofs.RowLemmas.{id_none, id_tried}
+use Rattle.inode_scan.proofs.row.read_id.Goals as goal
 
 pub returns-in_err-number : goal.returns-in_err-number
 returns-in_err-number c = c.from_residual.ensures ∙ sym (id_none c.args.word.now (sym c.in_err-number.ensures))
