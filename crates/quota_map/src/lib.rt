@@ -13,6 +13,6 @@ mod replacing;
 mod tests;
 
 pub use any_file::AnyFile;
-pub use opening::open_file;
+pub use opening::{MOST_BLOCKS, open_file};
 pub use reading::read_all;
 pub use replacing::replace_file;

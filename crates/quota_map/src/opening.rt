@@ -13,8 +13,8 @@ use quota_v1::open_v1;
 use std::alloc::Global;
 use tree_file::open_tree;
 
-/// How many blocks a tree file may have.
-const MOST_BLOCKS: u32 = 1_048_576;
+/// How many blocks a tree file may have, of 1,024 bytes each.
+pub const MOST_BLOCKS: u32 = 1_048_576;
 
 /// Opens a quota file of the kind: as a flat file, which has no mark of its kind, exactly where that format is asked for, and
 /// else as a tree file of the format that is asked for, where one is. The file is loaded whole.

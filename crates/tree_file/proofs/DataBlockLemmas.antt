@@ -33,7 +33,7 @@ number_same (suc width) at xs ys same =
     omega arith
 
 -- a part of two lists in which they are the same
-same_part : (size at : ℕ) (xs ys : List ℕ) → length xs ≡ length ys → ((k : ℕ) → at ≤ k → k < at + size → byte_at xs k ≡ byte_at ys k) → take size (drop at xs) ≡ take size (drop at ys)
+pub same_part : (size at : ℕ) (xs ys : List ℕ) → length xs ≡ length ys → ((k : ℕ) → at ≤ k → k < at + size → byte_at xs k ≡ byte_at ys k) → take size (drop at xs) ≡ take size (drop at ys)
 same_part size at xs ys long same =
     same_number_lists (take size (drop at xs)) (take size (drop at ys))
     (omega (arith, length-take size (drop at xs), length-take size (drop at ys), length-drop at xs, length-drop at ys, long))

@@ -197,13 +197,17 @@ needed V1 ids blocks one two three data_count all a b c d = omega arith
 needed V2R0 ids blocks one two three data_count all a b c d = omega (arith, all, a, b, c, d)
 needed V2R1 ids blocks one two three data_count all a b c d = omega (arith, all, a, b, c, d)
 
+-- the identifiers of a file's value are those of its leaves
+pub ids_of_value : (file : List ℕ) (value : QuotaValue) → TreeStandsFor file value → ids_in value.records ≡ numbers_of (leaves file (header_of file).blocks)
+ids_of_value file value stands =
+    let found = sound_value file value.kind value.format stands.magic stands.version stands.sound in
+    ap (λ (v : QuotaValue). ids_in v.records) (one_meaning file value found.0 stands found.1) ∙ sound_value_ids file value.kind value.format stands.magic stands.version stands.sound
+
 -- a file has enough blocks for the identifiers of its value
 pub enough_blocks : (file : List ℕ) (value : QuotaValue) → TreeStandsFor file value → blocks_needed value.format (ids_in value.records) ≤ (header_of file).blocks
 enough_blocks file value stands =
     let blocks : ℕ = (header_of file).blocks in
-    let found = sound_value file value.kind value.format stands.magic stands.version stands.sound in
-    let ids : ids_in value.records ≡ numbers_of (leaves file blocks) =
-    ap (λ (v : QuotaValue). ids_in v.records) (one_meaning file value found.0 stands found.1) ∙ sound_value_ids file value.kind value.format stands.magic stands.version stands.sound in
+    let ids : ids_in value.records ≡ numbers_of (leaves file blocks) = ids_of_value file value stands in
     let third = beginning_stands file blocks 3 in
     let second = λ (n : ℕ) (s : StandsIn (numbers_of (leaves file blocks)) n). beginning_stands file blocks 2 (n / 256) (third n s) in
     let first = λ (n : ℕ) (s : StandsIn (numbers_of (leaves file blocks)) n). beginning_stands file blocks 1 (n / 256 / 256) (second n s) in

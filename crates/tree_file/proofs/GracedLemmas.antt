@@ -7,12 +7,15 @@ use Rattle.quota_types.specs.Bytes.{byte_at, number_at}
 use Rattle.quota_types.specs.declared.record.Grace.{Grace}
 use Rattle.quota_blocks.specs.QuotaValue.{QuotaValue, with_grace}
 use Rattle.quota_blocks.specs.Span.{KeepsOutside}
+use Rattle.quota_blocks.specs.World.{overwritten}
+use Rattle.quota_types.proofs.BytesLemmas.{number_at-drop, number_at-take}
 use Rattle.entry_codec.specs.declared.header.Header.{Header}
 use Rattle.entry_codec.specs.Header.{AreOf, format_of, header_of}
 use Rattle.tree_file.specs.Block.{block_of}
 use Rattle.tree_file.specs.TreeFile.{TreeStandsFor}
 use Rattle.tree_file.proofs.DataBlockLemmas.{number_same}
 use Rattle.tree_file.proofs.HeaderKeptLemmas.{KeepsHeader, stands_kept}
+use Rattle.tree_file.proofs.SpanLemmas.{keeps-overwritten, length-overwritten, span-overwritten}
 
 -- the blocks behind the header stay
 graced_block : (old new : List ℕ) (block : ℕ) → length new ≡ length old → KeepsOutside 8 16 old new → 0 < block → block_of new block ≡ block_of old block
@@ -58,6 +61,28 @@ are_graced old new header grace are keeps block inode =
       blocks = kept.blocks ∙ are.blocks;
       free = kept.free ∙ are.free;
       first = kept.first ∙ are.first;
+    }
+
+-- the bytes of the two grace periods were written over those of a file
+pub record IsGracedSpan (grace : Grace) (file after : List ℕ) : Type 0 where
+  pub long : length after ≡ length file
+  pub others : KeepsOutside 8 16 file after
+  pub block : number_at 4 after 8 ≡ grace.block
+  pub inode : number_at 4 after 12 ≡ grace.inode
+
+pub graced_span : (file span : List ℕ) (grace : Grace) → 16 ≤ length file → length span ≡ 8 → number_at 4 span 0 ≡ grace.block → number_at 4 span 4 ≡ grace.inode
+    → IsGracedSpan grace file (overwritten file 8 span)
+graced_span file span grace room size block inode =
+    let within : 8 + length span ≤ length file = omega (arith, room, size) in
+    let after : List ℕ = overwritten file 8 span in
+    let part : take 8 (drop 8 after) ≡ span = ap (λ (n : ℕ). take n (drop 8 after)) (sym size) ∙ span-overwritten file 8 span within in
+    let read : (at : ℕ) → at + 4 ≤ 8 → number_at 4 after (8 + at) ≡ number_at 4 span at = λ at low.
+    sym (number_at-take 4 8 (drop 8 after) at low ∙ number_at-drop 4 8 after at) ∙ ap (λ (bytes : List ℕ). number_at 4 bytes at) part in
+    record {
+      long = length-overwritten file 8 span within;
+      others = subst (λ (n : ℕ). KeepsOutside 8 (8 + n) file after) size (keeps-overwritten file 8 span within);
+      block = read 0 (omega arith) ∙ block;
+      inode = read 4 (omega arith) ∙ inode;
     }
 
 no_number : (at : ℕ) → number_at 4 [] at ≡ 0

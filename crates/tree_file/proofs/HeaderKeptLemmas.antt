@@ -12,9 +12,9 @@ use Rattle.tree_file.specs.Block.{block_of}
 use Rattle.tree_file.specs.NewFile.{KeepsBlocks}
 use Rattle.tree_file.specs.Opened.{whole_blocks}
 use Rattle.tree_file.specs.Roles.{Chained, Filled, OneRole}
-use Rattle.tree_file.specs.TreeFile.{IsSound, TreeStandsFor, tree_record}
+use Rattle.tree_file.specs.TreeFile.{IsSound, TreeStandsFor, record_in, tree_record}
 use Rattle.tree_file.proofs.NewFileLemmas.{kept_append}
-use Rattle.tree_file.proofs.SameBlocksLemmas.{SameBlocks, chained_same, filled_same, one_role_same, record_same}
+use Rattle.tree_file.proofs.SameBlocksLemmas.{KeepsTree, SameBlocks, chained_same, filled_same, one_role_same, record_same, same_tree}
 
 -- a header says the same, but maybe for the grace periods
 pub record KeepsHeader (old new : HeaderNumbers) : Type 0 where
@@ -25,31 +25,46 @@ pub record KeepsHeader (old new : HeaderNumbers) : Type 0 where
   pub free : new.free ≡ old.free
   pub first : new.first ≡ old.first
 
-sound_kept : (format : Format) (old new : List ℕ) → IsSound format old (header_of old) → KeepsHeader (header_of old) (header_of new) → SameBlocks (header_of old).blocks old new
+-- a header that is the same says the same
+pub same_numbers : (old new : HeaderNumbers) → new ≡ old → KeepsHeader old new
+same_numbers old new same = record {
+  magic = ap (λ (n : HeaderNumbers). n.magic) same;
+  version = ap (λ (n : HeaderNumbers). n.version) same;
+  flags = ap (λ (n : HeaderNumbers). n.flags) same;
+  blocks = ap (λ (n : HeaderNumbers). n.blocks) same;
+  free = ap (λ (n : HeaderNumbers). n.free) same;
+  first = ap (λ (n : HeaderNumbers). n.first) same;
+}
+
+-- a file is sound with the tree and the lists of a sound one
+pub sound_kept : (format : Format) (old new : List ℕ) → IsSound format old (header_of old) → KeepsHeader (header_of old) (header_of new) → KeepsTree format (header_of old).blocks old new
     → (2 < (header_of old).blocks → 1024 * (header_of old).blocks ≤ length new) → IsSound format new (header_of new)
 sound_kept format old new sound kept same long = record {
   two = subst (λ (n : ℕ). 2 ≤ n) (sym kept.blocks) sound.two;
   long = subst (λ (n : ℕ). 2 < n → 1024 * n ≤ length new) (sym kept.blocks) long;
   roles = subst (λ (n : ℕ). OneRole new n (header_of new).free) (sym kept.blocks)
-      (subst (λ (n : ℕ). OneRole new (header_of old).blocks n) (sym kept.free) (one_role_same old new (header_of old).blocks sound.two same (header_of old).free sound.roles));
+      (subst (λ (n : ℕ). OneRole new (header_of old).blocks n) (sym kept.free) (one_role_same format old new (header_of old).blocks sound.two same (header_of old).free sound.roles));
   chained = subst (λ (n : ℕ). Chained format new n (header_of new).first) (sym kept.blocks)
-      (subst (λ (n : ℕ). Chained format new (header_of old).blocks n) (sym kept.first) (chained_same old new (header_of old).blocks sound.two same format (header_of old).first sound.chained));
-  filled = subst (λ (n : ℕ). Filled format new n) (sym kept.blocks) (filled_same old new (header_of old).blocks sound.two same format sound.filled);
+      (subst (λ (n : ℕ). Chained format new (header_of old).blocks n) (sym kept.first) (chained_same format old new (header_of old).blocks sound.two same (header_of old).first sound.chained));
+  filled = subst (λ (n : ℕ). Filled format new n) (sym kept.blocks) (filled_same format old new (header_of old).blocks sound.two same sound.filled);
 }
 
 pub stands_kept : (old new : List ℕ) (value : QuotaValue) (grace : Grace) → TreeStandsFor old value → KeepsHeader (header_of old) (header_of new) → SameBlocks (header_of old).blocks old new
     → (2 < (header_of old).blocks → 1024 * (header_of old).blocks ≤ length new) → grace.block ≡ (header_of new).block_grace → grace.inode ≡ (header_of new).inode_grace
     → TreeStandsFor new (with_grace value grace)
-stands_kept old new value grace stands kept same long block inode = record {
-  magic = kept.magic ∙ stands.magic;
-  version = ap format_of kept.version ∙ stands.version;
-  block_grace = block;
-  inode_grace = inode;
-  flags = stands.flags ∙ sym kept.flags;
-  sound = sound_kept value.format old new stands.sound kept same long;
-  records = λ id. stands.records id ∙ sym (record_same old new (header_of old).blocks stands.sound.two same value.format id)
-      ∙ ap (λ (n : ℕ). tree_record value.format new n id) (sym kept.blocks);
-}
+stands_kept old new value grace stands kept same long block inode =
+    let tree : KeepsTree value.format (header_of old).blocks old new = same_tree value.format (header_of old).blocks old new stands.sound.two same in
+    record {
+      magic = kept.magic ∙ stands.magic;
+      version = ap format_of kept.version ∙ stands.version;
+      block_grace = block;
+      inode_grace = inode;
+      flags = stands.flags ∙ sym kept.flags;
+      sound = sound_kept value.format old new stands.sound kept tree long;
+      records = λ id. stands.records id
+          ∙ sym (record_same value.format old new (header_of old).blocks stands.sound.two tree id (λ block some low. ap (λ (bytes : List ℕ). record_in value.format bytes id) (same block some low)))
+          ∙ ap (λ (n : ℕ). tree_record value.format new n id) (sym kept.blocks);
+    }
 
 -- the header is within what was taken of a file
 pub header_of-take : (most : ℕ) (file : List ℕ) → 32 ≤ most → header_of (take most file) ≡ header_of file
@@ -81,14 +96,7 @@ whole_blocks_stand file value stands =
     let two : 2 ≤ blocks = stands.sound.two in
     let head : header_of (whole_blocks file) ≡ header_of file = header_of-take (1024 * blocks) file (omega (arith, two)) in
     stands_kept file (whole_blocks file) value value.grace stands
-    (record {
-      magic = ap (λ (n : HeaderNumbers). n.magic) head;
-      version = ap (λ (n : HeaderNumbers). n.version) head;
-      flags = ap (λ (n : HeaderNumbers). n.flags) head;
-      blocks = ap (λ (n : HeaderNumbers). n.blocks) head;
-      free = ap (λ (n : HeaderNumbers). n.free) head;
-      first = ap (λ (n : HeaderNumbers). n.first) head;
-    })
+    (same_numbers (header_of file) (header_of (whole_blocks file)) head)
     (λ block some low. first_blocks_same blocks file block low)
     (λ more. omega (arith, length-take-le (1024 * blocks) file (stands.sound.long more)))
     (stands.block_grace ∙ ap (λ (n : HeaderNumbers). n.block_grace) (sym head))

@@ -11,6 +11,7 @@ pub mod DescentLemmas
 pub mod DownLemmas
 pub mod EnoughLemmas
 pub mod EntryLemmas
+pub mod EntryWrittenLemmas
 pub mod FirstLemmas
 pub mod FlagsLemmas
 pub mod FollowLemmas
@@ -30,12 +31,14 @@ pub mod NewFileLemmas
 pub mod OnceLemmas
 pub mod OpenLemmas
 pub mod OrderLemmas
+pub mod OverwrittenLemmas
 pub mod PartsLemmas
 pub mod PathLemmas
 pub mod ReadLemmas
 pub mod RoleLemmas
 pub mod SameBlocksLemmas
 pub mod SoundLemmas
+pub mod SpanLemmas
 pub mod StepLemmas
 pub mod TreeBlockLemmas
 pub mod ValueLemmas

@@ -33,12 +33,16 @@ removed_own : (records : Records) (id k : ℕ) → k ≡ id → get (remove reco
 removed_own records id k own =
     get-remove nat_cmp_total records id k ∙ ap (λ (b : Bool). cond b None (get records k)) (unsigned_tied k id ∙ eq-eqb k id own)
 
-inserted_other : (records : Records) (id k : ℕ) (rec : Rec) → k ≢ id → get (insert records id rec) k ≡ get (remove records id) k
-inserted_other records id k rec other =
+-- and stays where one is put in
+pub inserted_rest : (records : Records) (id k : ℕ) (rec : Rec) → k ≢ id → get (insert records id rec) k ≡ get records k
+inserted_rest records id k rec other =
     get-insert nat_cmp_total records id rec k ∙ ap (λ (b : Bool). cond b (Some rec) (get records k)) (unsigned_tied k id ∙ ne_eqb k id other)
-    ∙ sym (removed_other records id k other)
 
-inserted_own : (records : Records) (id : ℕ) (rec : Rec) → get (insert records id rec) id ≡ Some rec
+inserted_other : (records : Records) (id k : ℕ) (rec : Rec) → k ≢ id → get (insert records id rec) k ≡ get (remove records id) k
+inserted_other records id k rec other = inserted_rest records id k rec other ∙ sym (removed_other records id k other)
+
+-- the record that is put in is there
+pub inserted_own : (records : Records) (id : ℕ) (rec : Rec) → get (insert records id rec) id ≡ Some rec
 inserted_own records id rec =
     get-insert nat_cmp_total records id rec id ∙ ap (λ (b : Bool). cond b (Some rec) (get records id)) (unsigned_tied id id ∙ eq-eqb id id refl)
 

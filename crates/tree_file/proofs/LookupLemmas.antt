@@ -95,7 +95,8 @@ record_from format block id place =
     option_map (λ (entry : Entry). entry.rec)
     (find (λ (entry : Entry). entry.id == id) (filter_map (λ place. entry_of format (entry_bytes format block place)) (range_with_len place (entries_per_block format - place))))
 
-found_or_later : (id : ℕ) (o : Option Entry) (entries : List Entry)
+-- the record of an entry in front, or of the first one behind it
+pub found_or_later : (id : ℕ) (o : Option Entry) (entries : List Entry)
     → option_map (λ (entry : Entry). entry.rec) (find (λ (entry : Entry). entry.id == id) (cons_option o entries))
     ≡ option_or (option_and_then (used_by id) o) (option_map (λ (entry : Entry). entry.rec) (find (λ (entry : Entry). entry.id == id) entries))
 found_or_later id None entries = refl
@@ -162,7 +163,8 @@ find_passes test (q ∷ ps) p found = elim (cases_Bool (test q)) [
   | inr fails ↦ find_passes test ps p (sym (ap (λ (b : Bool). cond b (Some q) (find test ps)) fails) ∙ found)
 ]
 
-each_found : (P : TreePath → Type 0) (test : TreePath → Bool) (ps : List TreePath) (p : TreePath) → find test ps ≡ Some p → AllByRecursion P ps → P p
+-- what holds of each path holds of the one that is found
+pub each_found : (P : TreePath → Type 0) (test : TreePath → Bool) (ps : List TreePath) (p : TreePath) → find test ps ≡ Some p → AllByRecursion P ps → P p
 each_found P test [] p found all = absurd (not_some p (sym found))
 each_found P test (q ∷ ps) p found all = elim (cases_Bool (test q)) [
   | inl passes ↦ subst P (some_same q p (sym (ap (λ (b : Bool). cond b (Some q) (find test ps)) passes) ∙ found)) all.0

@@ -1,5 +1,5 @@
--- How many beginnings the identifiers of a list have, as they are counted one after another.
-use Rattle.std.proofs.Common.{◌≡◌, ◌≢◌, ℕ, suc, ◌+◌, ◌/◌, ◌<◌, ◌≤◌, Bool, cond, not, List, [], ◌∷◌, ◌++◌, length, map, filter, get_or, take, drop, Option, Some, None, refl, sym, ap, subst, ◌∙◌, inl, inr, arith, length-append, eq-eqb}
+-- How many beginnings identifiers have, as they are met one after another.
+use Rattle.std.proofs.Common.{◌≡◌, ◌≢◌, ℕ, suc, ◌+◌, ◌/◌, ◌^◌, ◌<◌, ◌≤◌, ◌==◌, Bool, true, false, cond, not, List, [], ◌∷◌, ◌++◌, length, map, filter, get_or, take, drop, Option, Some, None, refl, sym, ap, subst, ◌∙◌, inl, inr, arith, length-append, eq-eqb, ne_eqb}
 use Rattle.std.proofs.Math.Nat.{div-mul-le_self}
 use Rattle.std.proofs.lemmas.Bool.Decides.{eqb_tells}
 use Rattle.std.proofs.lemmas.List.{append-nil, drop_more, map-append, map_more, take-append-drop}
@@ -9,8 +9,12 @@ use Rattle.std.specs.List.{AllByRecursion}
 use Rattle.std.specs.List.Sorted.{IsStrictlyIncreasing}
 use Rattle.quota_types.specs.declared.record.Entry.{Entry}
 use Rattle.quota_blocks.specs.Listed.{ids_of}
+use Rattle.quota_blocks.specs.QuotaValue.{IsAfter}
+use Rattle.tree_file.specs.declared.needed.Needed.{Needed}
+use Rattle.tree_file.specs.Beginnings.{IsLastOf, new_beginnings}
 use Rattle.tree_file.specs.Count.{StandsIn}
-use Rattle.tree_file.specs.Size.{each_once}
+use Rattle.tree_file.specs.Needed.{HasMet}
+use Rattle.tree_file.specs.Size.{beginnings, each_once}
 use Rattle.tree_file.proofs.CountLemmas.{times-append, times-cons-same, times_cases}
 use Rattle.tree_file.proofs.DataBlockLemmas.{no_entry}
 use Rattle.tree_file.proofs.OnceLemmas.{filter-each_once, is_not}
@@ -51,10 +55,6 @@ each_of_stands P (x ∷ xs) n all stands = elim (times_cases x xs n) [
   | inr other ↦ each_of_stands P xs n all.1 (omega (arith, stands, other.1))
 ]
 
-each_of_map : (P : ℕ → Type 0) (f : ℕ → ℕ) (xs : List ℕ) → AllByRecursion (λ x. P (f x)) xs → AllByRecursion P (map f xs)
-each_of_map P f [] all = tt
-each_of_map P f (x ∷ xs) all = (all.0, each_of_map P f xs all.1)
-
 ascends_before : (low : ℕ) (xs : List ℕ) (y : ℕ) (ys : List ℕ) → Ascends low (xs ++ y ∷ ys) → AllByRecursion (λ x. x < y) xs
 ascends_before low [] y ys r = tt
 ascends_before low (x ∷ xs) y ys r = ((ascends_right (suc x) xs (y ∷ ys) r.1).0, ascends_before (suc x) xs y ys r.1)
@@ -62,77 +62,88 @@ ascends_before low (x ∷ xs) y ys r = ((ascends_right (suc x) xs (y ∷ ys) r.1
 divided : (m n k : ℕ) → 0 < k → m < n → m / k ≤ n / k
 divided m n k some lt = le-div (m / k) n k some (omega (arith, div-mul-le_self m k))
 
--- the last of the numbers so far, which is the greatest
-abbrev pub IsLastOf : Option ℕ → List ℕ → Type 0
-IsLastOf None xs = xs ≡ []
-IsLastOf (Some last) xs = StandsIn xs last × AllByRecursion (λ x. x ≤ last) xs
+stands_map : (f : ℕ → ℕ) (xs : List ℕ) (n : ℕ) → StandsIn xs n → StandsIn (map f xs) (f n)
+stands_map f [] n stands = absurd (omega arith)
+stands_map f (x ∷ xs) n stands = elim (times_cases x xs n) [
+  | inl same ↦ subst (λ (m : ℕ). StandsIn (f x ∷ map f xs) (f m)) same.0 (omega (arith, times-cons-same (f x) (map f xs)))
+  | inr other ↦ elim (times_cases (f x) (map f xs) (f n)) [
+    | inl same ↦ omega (arith, same.1)
+    | inr differs ↦ omega (arith, differs.1, stands_map f xs n (omega (arith, stands, other.1)))
+  ]
+]
 
--- the beginnings of the first identifiers of a list
-abbrev pub first_beginnings : ℕ → List Entry → ℕ → List ℕ
-first_beginnings divisor list count = map (λ id. id / divisor) (ids_of (take count list))
+-- one more identifier has one more beginning where it begins otherwise than the last one, and else none
+beginnings_more : (left_out : ℕ) (ids : List ℕ) (last : Option ℕ) (id : ℕ) → 0 < 256 ^ left_out → IsLastOf last ids → IsAfter last id
+    → beginnings left_out (ids ++ id ∷ []) ≡ beginnings left_out ids + new_beginnings (256 ^ left_out) last id
+beginnings_more left_out ids None id some last is =
+    ap (λ (xs : List ℕ). beginnings left_out (xs ++ id ∷ [])) last ∙ sym (ap (λ (xs : List ℕ). beginnings left_out xs + 1) last)
+beginnings_more left_out ids (Some before) id some last is =
+    let d : ℕ = 256 ^ left_out in
+    let begun : List ℕ = map (λ id. id / d) ids in
+    let split : beginnings left_out (ids ++ id ∷ []) ≡ length (each_once (begun ++ id / d ∷ [])) =
+    ap (λ (xs : List ℕ). length (each_once xs)) (map-append (λ id. id / d) ids (id ∷ [])) in
+    let up : before / d ≤ id / d = divided before id d some is in
+    elim (eqb_tells (before / d) (id / d)) [
+      | inl same ↦
+          let there : StandsIn begun (id / d) = subst (StandsIn begun) same.1 (stands_map (λ id. id / d) ids before last.0) in
+          let none : ◌≡◌ {A = ℕ} (cond (before / d == id / d) 0 1) 0 = ap (λ (b : Bool). cond b 0 1) same.0 in
+          let known : length (each_once (begun ++ id / d ∷ [])) ≡ length (each_once begun) = ap (λ (xs : List ℕ). length xs) (once_known begun (id / d) there) in
+          omega (arith, split, known, none)
+      | inr other ↦
+          let one : ◌≡◌ {A = ℕ} (cond (before / d == id / d) 0 1) 1 = ap (λ (b : Bool). cond b 0 1) other.0 in
+          let new : AllByRecursion (λ x. x ≢ id / d) begun =
+          each_of_map (λ x. x ≢ id / d) (λ id. id / d) ids
+          (each_weaker (λ (n : ℕ). n ≤ before) (λ (n : ℕ). n / d ≢ id / d) ids (λ n le e. let low : n / d ≤ before / d = divided_le n before d some le in omega (arith, low, up, other.1, e)) last.1) in
+          let more : length (each_once (begun ++ id / d ∷ [])) ≡ length (each_once begun) + 1 =
+          ap (λ (xs : List ℕ). length xs) (once_new begun (id / d) new) ∙ length-append (each_once begun) (id / d ∷ []) in
+          omega (arith, split, more, one)
+    ]
+  where
+    divided_le : (m n k : ℕ) → 0 < k → m ≤ n → m / k ≤ n / k
+    divided_le m n k some le = le-div (m / k) n k some (omega (arith, div-mul-le_self m k))
 
--- the beginnings that were counted, and the last of them
-pub record HasCounted (divisor : ℕ) (list : List Entry) (place count : ℕ) (previous : Option ℕ) : Type 0 where
-  pub count_is : count ≡ length (each_once (first_beginnings divisor list place))
-  pub few : count ≤ place
-  pub last : IsLastOf previous (first_beginnings divisor list place)
+    each_of_map : (P : ℕ → Type 0) (f : ℕ → ℕ) (xs : List ℕ) → AllByRecursion (λ x. P (f x)) xs → AllByRecursion P (map f xs)
+    each_of_map P f [] all = tt
+    each_of_map P f (x ∷ xs) all = (all.0, each_of_map P f xs all.1)
 
-pub counted_none : (divisor : ℕ) (list : List Entry) → HasCounted divisor list 0 0 None
-counted_none divisor list = record { count_is = refl; few = omega arith; last = refl }
+-- the last identifier once there is one more
+last_more : (ids : List ℕ) (last : Option ℕ) (id : ℕ) → IsLastOf last ids → IsAfter last id → IsLastOf (Some id) (ids ++ id ∷ [])
+last_more ids last id is after =
+    (omega (arith, times-append ids (id ∷ []) id, times-cons-same id []), each-append (λ (n : ℕ). n ≤ id) ids (id ∷ []) (up_to last is after) (omega arith, tt))
+  where
+    up_to : (last : Option ℕ) → IsLastOf last ids → IsAfter last id → AllByRecursion (λ n. n ≤ id) ids
+    up_to None is after = subst (AllByRecursion (λ n. n ≤ id)) (sym is) tt
+    up_to (Some before) is after = each_weaker (λ (n : ℕ). n ≤ before) (λ (n : ℕ). n ≤ id) ids (λ n le. omega (arith, le, after)) is.1
 
-module _ (divisor : ℕ) (list : List Entry) (place : ℕ) (some : 0 < divisor) (rising : IsStrictlyIncreasing (ids_of list)) (low : place < length list) where
-  entry_id : ℕ
-  entry_id = (get_or list place no_entry).id
+-- one more identifier was met
+pub met_more : (ids : List ℕ) (old new : Needed) (id : ℕ) → IsAfter old.last id → HasMet ids old → new.entries ≡ old.entries + 1
+    → new.firsts ≡ old.firsts + new_beginnings (256 ^ 3) old.last id → new.seconds ≡ old.seconds + new_beginnings (256 ^ 2) old.last id
+    → new.thirds ≡ old.thirds + new_beginnings (256 ^ 1) old.last id → new.last ≡ Some id → HasMet (ids ++ id ∷ []) new
+met_more ids old new id after met entries firsts seconds thirds last = record {
+  entries = omega (arith, entries, met.entries, length-append ids (id ∷ []));
+  firsts = omega (arith, firsts, met.firsts, beginnings_more 3 ids old.last id (omega arith) met.last after);
+  seconds = omega (arith, seconds, met.seconds, beginnings_more 2 ids old.last id (omega arith) met.last after);
+  thirds = omega (arith, thirds, met.thirds, beginnings_more 1 ids old.last id (omega arith) met.last after);
+  last = subst (λ (o : Option ℕ). IsLastOf o (ids ++ id ∷ [])) (sym last) (last_more ids old.last id met.last after);
+}
 
-  one_more : first_beginnings divisor list (place + 1) ≡ first_beginnings divisor list place ++ entry_id / divisor ∷ []
-  unfolding entry_id
-  one_more = ap (map (λ id. id / divisor)) (map_more (λ (entry : Entry). entry.id) list place no_entry low) ∙ map-append (λ id. id / divisor) (ids_of (take place list)) (entry_id ∷ [])
+-- an identifier of an ascending list comes after those in front of it
+pub after_met : (list : List Entry) (place : ℕ) (needed : Needed) → IsStrictlyIncreasing (ids_of list) → place < length list → HasMet (ids_of (take place list)) needed
+    → IsAfter needed.last (get_or list place no_entry).id
+after_met list place needed rising low met = go needed.last met.last
+  where
+    parted : ids_of list ≡ ids_of (take place list) ++ (get_or list place no_entry).id ∷ ids_of (drop (place + 1) list)
+    parted =
+        ap ids_of (sym (take-append-drop place list)) ∙ map-append (λ (entry : Entry). entry.id) (take place list) (drop place list)
+        ∙ ap (λ (es : List Entry). ids_of (take place list) ++ ids_of es) (drop_more list place no_entry low)
 
-  all_up_to : AllByRecursion (λ n. n ≤ entry_id / divisor) (first_beginnings divisor list place)
-  unfolding entry_id
-  all_up_to =
-      let parted : ids_of list ≡ ids_of (take place list) ++ entry_id ∷ ids_of (drop (place + 1) list) =
-      ap ids_of (sym (take-append-drop place list)) ∙ map-append (λ (entry : Entry). entry.id) (take place list) (drop place list)
-      ∙ ap (λ (es : List Entry). ids_of (take place list) ++ ids_of es) (drop_more list place no_entry low) in
-      each_of_map (λ n. n ≤ entry_id / divisor) (λ id. id / divisor) (ids_of (take place list))
-      (each_weaker (λ (n : ℕ). n < entry_id) (λ (n : ℕ). n / divisor ≤ entry_id / divisor) (ids_of (take place list)) (λ n lt. divided n entry_id divisor some lt)
-      (ascends_before 0 (ids_of (take place list)) entry_id (ids_of (drop (place + 1) list)) (subst (Ascends 0) parted (ascends_of (ids_of list) rising))))
+    before : AllByRecursion (λ x. x < (get_or list place no_entry).id) (ids_of (take place list))
+    before = ascends_before 0 (ids_of (take place list)) (get_or list place no_entry).id (ids_of (drop (place + 1) list)) (subst (Ascends 0) parted (ascends_of (ids_of list) rising))
 
-  last_now : IsLastOf (Some (entry_id / divisor)) (first_beginnings divisor list (place + 1))
-  unfolding entry_id
-  last_now =
-      subst (IsLastOf (Some (entry_id / divisor))) (sym one_more) (
-        omega (arith, times-append (first_beginnings divisor list place) (entry_id / divisor ∷ []) (entry_id / divisor), times-cons-same (entry_id / divisor) []),
-        each-append (λ (n : ℕ). n ≤ entry_id / divisor) (first_beginnings divisor list place) (entry_id / divisor ∷ []) all_up_to (omega arith, tt),
-      )
+    go : (last : Option ℕ) → IsLastOf last (ids_of (take place list)) → IsAfter last (get_or list place no_entry).id
+    go None is = tt
+    go (Some last) is = each_of_stands (λ (n : ℕ). n < (get_or list place no_entry).id) (ids_of (take place list)) last before is.0
 
-  pub counted_same : (count : ℕ) (previous : Option ℕ) → Some ((get_or list place no_entry).id / divisor) ≡ previous → HasCounted divisor list place count previous
-      → HasCounted divisor list (place + 1) count (Some ((get_or list place no_entry).id / divisor))
-  unfolding entry_id
-  counted_same count previous same so_far =
-      let last : IsLastOf (Some (entry_id / divisor)) (first_beginnings divisor list place) = subst (λ (o : Option ℕ). IsLastOf o (first_beginnings divisor list place)) (sym same) so_far.last in
-      record {
-        count_is = so_far.count_is ∙ ap length (sym (once_known (first_beginnings divisor list place) (entry_id / divisor) last.0) ∙ ap each_once (sym one_more));
-        few = let few = so_far.few in omega arith;
-        last = last_now;
-      }
-
-  all_new : (previous : Option ℕ) → Some (entry_id / divisor) ≢ previous → IsLastOf previous (first_beginnings divisor list place)
-      → AllByRecursion (λ n. n ≢ entry_id / divisor) (first_beginnings divisor list place)
-  all_new None other last = subst (AllByRecursion (λ n. n ≢ entry_id / divisor)) (sym last) tt
-  all_new (Some before) other last =
-      let up_to : before ≤ entry_id / divisor = each_of_stands (λ (n : ℕ). n ≤ entry_id / divisor) (first_beginnings divisor list place) before all_up_to last.0 in
-      let differs : before ≢ entry_id / divisor = λ e. other (ap (λ (n : ℕ). Some n) (sym e)) in
-      each_weaker (λ (n : ℕ). n ≤ before) (λ (n : ℕ). n ≢ entry_id / divisor) (first_beginnings divisor list place) (λ n le e. omega (arith, up_to, differs, le, e)) last.1
-
-  pub counted_other : (count : ℕ) (previous : Option ℕ) → Some ((get_or list place no_entry).id / divisor) ≢ previous → HasCounted divisor list place count previous
-      → HasCounted divisor list (place + 1) (count + 1) (Some ((get_or list place no_entry).id / divisor))
-  unfolding entry_id
-  counted_other count previous other so_far =
-      let added : length (each_once (first_beginnings divisor list (place + 1))) ≡ length (each_once (first_beginnings divisor list place)) + 1 =
-      ap (λ (ns : List ℕ). length (each_once ns)) one_more
-      ∙ ap length (once_new (first_beginnings divisor list place) (entry_id / divisor) (all_new previous other so_far.last))
-      ∙ length-append (each_once (first_beginnings divisor list place)) (entry_id / divisor ∷ []) in
-      let few = so_far.few in
-      let before = so_far.count_is in
-      record { count_is = omega arith; few = omega arith; last = last_now }
+-- the identifiers in front once there is one more
+pub ids_more : (list : List Entry) (place : ℕ) → place < length list → ids_of (take (place + 1) list) ≡ ids_of (take place list) ++ (get_or list place no_entry).id ∷ []
+ids_more list place low = map_more (λ (entry : Entry). entry.id) list place no_entry low

@@ -1,3 +1,4 @@
+pub mod Beginnings
 pub mod Block
 pub mod BlockSet
 pub mod Build
@@ -13,8 +14,10 @@ pub mod Groups
 pub mod Levels
 pub mod Lookup
 pub mod Listing
+pub mod Needed
 pub mod NewFile
 pub mod Opened
+pub mod Overwritten
 pub mod Reads
 pub mod Rebuilt
 pub mod Rests

@@ -3,9 +3,9 @@ ghost use Rattle.entry_codec.specs.Header.{header_fault, header_of};
 ghost use Rattle.quota_types.specs.Bytes.{number_at};
 ghost use Rattle.quota_types.specs.Kept.{IsKept};
 ghost use Rattle.quota_types.specs.Range.{grace_unfit};
-ghost use Rattle.quota_blocks.specs.QuotaValue.{QuotaValue, with_grace};
+ghost use Rattle.quota_blocks.specs.QuotaValue.{QuotaValue};
 ghost use Rattle.quota_blocks.specs.Span.{KeepsOutside};
-ghost use Rattle.tree_file.specs.Opened.{ids_in, whole_blocks};
+ghost use Rattle.tree_file.specs.Opened.{ids_in};
 ghost use Rattle.tree_file.specs.Rebuilt.{IsRebuildFault, value_changed};
 ghost use Rattle.tree_file.specs.Size.{blocks_needed};
 ghost use Rattle.tree_file.specs.TreeFile.{TreeStandsFor};
@@ -18,12 +18,10 @@ use byteorder::{ByteOrder, LittleEndian};
 use entry_codec::Header;
 use quota_blocks::FileFault;
 use quota_types::{Grace, Kind, Rec};
-use std::alloc::{AllocError, Global};
+use std::alloc::Global;
 
 /// Where the grace periods stand in a file.
-const BLOCK_GRACE: usize = 8;
-
-const INODE_GRACE: usize = 12;
+pub(crate) const GRACE_AT: usize = 8;
 
 /// The blocks of the file that is built anew once the record of an identifier is this one, or is not there. All else that
 /// the header says stays.
@@ -70,58 +68,17 @@ pub(crate) fn rebuilt(
     }
 }
 
-/// The blocks of the file with these grace periods.
-pub(crate) fn graced(
-    alloc: Global,
-    tree: &LoadedTree,
-    grace: Grace,
-) -> Result<LoadedTree, AllocError>
-    requires two { 2 ≤ tree.now.header.blocks }
-    requires fits { grace_unfit tree.now.header.format grace ≡ None }
-    ensures others { IfOk result (λ new. KeepsOutside 8 16 tree.now.bytes.items new.bytes.items) }
-    ensures long { IfOk result (λ new. vec_len new.bytes ≡ vec_len tree.now.bytes) }
-    ensures block { IfOk result (λ new. number_at 4 new.bytes.items 8 ≡ grace.block) }
-    ensures inode { IfOk result (λ new. number_at 4 new.bytes.items 12 ≡ grace.inode) }
-    ensures header { IfOk result (λ new. new.header ≡ record tree.now.header { grace = grace }) }
-    ensures stands { IfOk result (λ new. (value : QuotaValue) → TreeStandsFor tree.now.bytes.items value
-        → TreeStandsFor new.bytes.items (with_grace value grace)) }
-{
-    let bytes = graced_bytes(alloc, tree.bytes.as_slice(), grace)?;
-    Ok(LoadedTree {
-        bytes,
-        header: Header {
-            grace,
-            ..tree.header
-        },
-    })
-}
-
-/// The bytes of a file with these grace periods.
-fn graced_bytes(alloc: Global, file: &[u8], grace: Grace) -> Result<Vec<u8>, AllocError>
-    requires front { 16 ≤ length file.now }
+/// The bytes of the grace periods, as they stand in a file.
+pub(crate) fn grace_bytes(grace: Grace) -> [u8; 8]
     requires block { grace.block < 2 ^ 32 }
     requires inode { grace.inode < 2 ^ 32 }
-    ensures others { IfOk result (λ bytes. KeepsOutside 8 16 file.now bytes.items) }
-    ensures long { IfOk result (λ bytes. vec_len bytes ≡ length file.now) }
-    ensures block { IfOk result (λ bytes. number_at 4 bytes.items 8 ≡ grace.block) }
-    ensures inode { IfOk result (λ bytes. number_at 4 bytes.items 12 ≡ grace.inode) }
+    ensures block { number_at 4 result 0 ≡ grace.block }
+    ensures inode { number_at 4 result 4 ≡ grace.inode }
 {
-    let mut bytes = Vec::from_slice(alloc, file)?;
-    write_periods(&mut bytes, grace);
-    Ok(bytes)
-}
-
-/// Writes the grace periods.
-fn write_periods(bytes: &mut [u8], grace: Grace)
-    requires front { 16 ≤ length bytes.old }
-    requires block { grace.block < 2 ^ 32 }
-    requires inode { grace.inode < 2 ^ 32 }
-    ensures others { KeepsOutside 8 16 bytes.old bytes.new }
-    ensures block { number_at 4 bytes.new 8 ≡ grace.block }
-    ensures inode { number_at 4 bytes.new 12 ≡ grace.inode }
-{
-    write4(bytes, BLOCK_GRACE, grace.block as u32);
-    write4(bytes, INODE_GRACE, grace.inode as u32);
+    let mut bytes = [0; 8];
+    write4(&mut bytes, 0, grace.block as u32);
+    write4(&mut bytes, 4, grace.inode as u32);
+    bytes
 }
 
 /// Writes a number of four bytes at a place, the lowest first.

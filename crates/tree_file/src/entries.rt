@@ -1,4 +1,4 @@
-ghost use Rattle.std.specs.Prelude.{◌≡◌, ◌≢◌, ℕ, ◌+◌, ◌<◌, ◌≤◌, ◌++◌, ◌||◌, length, IfOk, IfSome, OnOk, IfErr, MatchOption};
+ghost use Rattle.std.specs.Prelude.{◌≡◌, ◌≢◌, ℕ, ◌+◌, ◌<◌, ◌≤◌, ◌++◌, ◌||◌, length, IfOk, IfSome, IsSome, OnOk, IfErr, MatchOption};
 ghost use Rattle.arrayvec.specs.ArrayVec.{array_vec_len};
 ghost use Rattle.entry_codec.specs.Entry.{entries_per_block, entry_size, is_unused};
 ghost use Rattle.quota_types.specs.Bytes.{number_at};
@@ -94,6 +94,20 @@ pub(crate) fn find_record(format: Format, block: &[u8; 1024], id: u32) -> Option
         let rec = record_by(format, block, place, id);
         if rec.is_some() {
             return rec;
+        }
+    }
+    None
+}
+
+/// The place among the entries of a block of the first one that is used by an identifier.
+pub(crate) fn find_place(format: Format, block: &[u8; 1024], id: u32) -> Option<usize>
+    requires tree { format ≢ Format.V1 }
+    ensures low { IfSome result (λ place. place < entries_per_block format) }
+    ensures used { IfSome result (λ place. IsSome (record_by format block.now id place)) }
+{
+    for place in 0..entries_per_block(format) {
+        if record_by(format, block, place, id).is_some() {
+            return Some(place);
         }
     }
     None

@@ -36,6 +36,7 @@ mod new_tree;
 mod open_tests;
 mod opened_tree;
 mod opening;
+mod overwriting;
 #[cfg(test)]
 mod plain;
 #[cfg(test)]

@@ -1,20 +1,24 @@
-ghost use Rattle.std.specs.Prelude.{◌≡◌, ◌≢◌, ◌^◌, ◌<◌, ◌≤◌, ℕ, Some, IfErr, IfNone, IfOk, IfSome, OnErr};
+ghost use Rattle.std.specs.Prelude.{◌≡◌, ◌≢◌, ◌+◌, ◌^◌, ◌<◌, ◌≤◌, ℕ, Some, IfErr, IfNone, IfOk, IfSome, OnErr, drop, length, take, vec_len};
 ghost use Rattle.std.specs.FinMap.{get};
 ghost use Rattle.quota_types.specs.Kept.{IsKept};
 ghost use Rattle.quota_types.specs.declared.file_kind.Format.TheVariants.{V1};
 ghost use Rattle.quota_blocks.specs.QuotaValue.{IsAfter, IsNextAfter, QuotaValue};
+ghost use Rattle.quota_blocks.specs.World.{overwritten};
+ghost use Rattle.entry_codec.specs.Entry.{entry_size};
 ghost use Rattle.entry_codec.specs.Header.{AreOf, header_of};
 ghost use Rattle.tree_file.specs.Block.{block_of};
 ghost use Rattle.tree_file.specs.Defect.{IsTreeDefect};
 ghost use Rattle.tree_file.specs.Lookup.{IsLeafFault};
+ghost use Rattle.tree_file.specs.Overwritten.{HasEntryAt};
 ghost use Rattle.tree_file.specs.TreeFile.{TreeStandsFor, record_in};
 
 use crate::TreePath;
 use crate::block::block_of;
 use crate::descent::{first_leaf, leaf_block};
-use crate::entries::find_record;
-use entry_codec::Header;
-use quota_types::{Damage, DamageKind, Entry, Format, Rec};
+use crate::entries::{find_place, find_record};
+use entry_codec::{Header, entry_size};
+use quota_types::{Damage, DamageKind, Entry, Format, Grace, Rec};
+use std::mem::swap;
 
 /// The blocks of a tree file as they were loaded, and the header that they begin with. Bytes past their end count as 0.
 #[derive(Debug, Drop)]
@@ -48,6 +52,39 @@ impl LoadedTree {
         let leaf = TreePath { number: id, block };
         let rec = record_at(self.header.format, &self.bytes, leaf)?;
         Ok(Some(rec))
+    }
+
+    /// Where in the file the entry of an identifier begins, where the file has the whole of it; None where there is no such
+    /// entry, or the way to it is damaged.
+    pub(crate) fn place_of(&self, id: u32) -> Option<usize>
+        ensures there { IfSome result (HasEntryAt self.now.header.format self.now.bytes.items self.now.header.blocks id) }
+        ensures whole { IfSome result (λ at. at + entry_size self.now.header.format ≤ vec_len self.now.bytes) }
+    {
+        let Ok(Some(block)) = leaf_block(&self.bytes, self.header.blocks, id) else {
+            return None;
+        };
+        let place = find_place(self.header.format, &block_of(&self.bytes, block), id)?;
+        let size = entry_size(self.header.format);
+        let at = 1024 * block as usize + (16 + size * place);
+        if at + size <= self.bytes.len() {
+            Some(at)
+        } else {
+            None
+        }
+    }
+
+    /// Exchanges bytes with those that the file has from a place on, and grace periods with those of the header.
+    pub(crate) fn exchange(&mut self, at: usize, span: &mut [u8], grace: &mut Grace)
+        requires inside { at + length span.old ≤ vec_len self.old.bytes }
+        requires of { AreOf (record self.old.header { grace = grace.old })
+            (header_of (overwritten self.old.bytes.items at span.old)) }
+        ensures bytes { self.new.bytes.items ≡ overwritten self.old.bytes.items at span.old }
+        ensures header { self.new.header ≡ record self.old.header { grace = grace.old } }
+        ensures span { span.new ≡ take (length span.old) (drop at self.old.bytes.items) }
+        ensures grace { grace.new ≡ self.old.header.grace }
+    {
+        exchange(&mut self.bytes, at, span);
+        swap(&mut self.header.grace, grace);
     }
 
     /// The least identifier after another one, or the least of all, with its record; None where there is none.
@@ -111,4 +148,13 @@ fn record_at(format: Format, file: &[u8], leaf: TreePath) -> Result<Rec, Damage>
         block: leaf.block,
         id: leaf.number,
     })
+}
+
+/// Exchanges bytes with those that a file has from a place on.
+fn exchange(file: &mut [u8], at: usize, span: &mut [u8])
+    requires { at + length span.old ≤ length file.old }
+    ensures file { file.new ≡ overwritten file.old at span.old }
+    ensures span { span.new ≡ take (length span.old) (drop at file.old) }
+{
+    file[at..at + span.len()].swap_with_slice(span);
 }

@@ -1,44 +1,93 @@
-ghost use Rattle.std.specs.Prelude.{◌≡◌, ◌≢◌, ◌+◌, ◌/◌, ◌%◌, ◌^◌, ◌<◌, ◌≤◌, ◌==◌, length, map, if◌then◌else◌};
+ghost use Rattle.std.specs.Prelude.{◌≡◌, ◌≢◌, ◌+◌, ◌/◌, ◌%◌, ◌<◌, ◌≤◌, ◌^◌, ◌==◌, ◌++◌, ◌∷◌, [], List, ℕ, None, Some, length, if◌then◌else◌};
 ghost use Rattle.std.specs.List.Sorted.{IsStrictlyIncreasing};
 ghost use Rattle.entry_codec.specs.Entry.{entries_per_block};
 ghost use Rattle.quota_blocks.specs.Listed.{ids_of};
-ghost use Rattle.tree_file.specs.Size.{blocks_needed, each_once};
+ghost use Rattle.quota_blocks.specs.QuotaValue.{IsAfter};
+ghost use Rattle.tree_file.specs.Beginnings.{new_beginnings, room_up_to};
+ghost use Rattle.tree_file.specs.Size.{blocks_needed};
 
 use entry_codec::entries_per_block;
 use quota_types::{Entry, Format};
 
-/// How many blocks a tree file of these entries needs: the header, the root, a tree block for each beginning of one, two
-/// or three bytes that identifiers have, and the data blocks.
+/// What a tree file needs for the identifiers that were met, which ascend: how many entries, and how many tree blocks of
+/// each level below the root, which are as many as the beginnings of one, two or three bytes that the identifiers have.
+#[derive(Clone, Copy, Debug)]
+pub(crate) struct Needed {
+    entries: u64,
+    firsts: u64,
+    seconds: u64,
+    thirds: u64,
+    /// The last identifier that was met.
+    pub last: Option<u32>,
+    ghost few: { entries ≤ room_up_to last },
+    ghost few_firsts: { firsts ≤ entries },
+    ghost few_seconds: { seconds ≤ entries },
+    ghost few_thirds: { thirds ≤ entries },
+}
+
+impl Needed {
+    ghost use Rattle.tree_file.specs.Needed.{HasMet};
+
+    /// No identifier was met.
+    pub(crate) fn none() -> Needed
+        ensures met { HasMet [] result }
+        ensures last { result.last ≡ None }
+    {
+        Needed {
+            entries: 0,
+            firsts: 0,
+            seconds: 0,
+            thirds: 0,
+            last: None,
+        }
+    }
+
+    /// Meets one more identifier.
+    pub(crate) fn add(&mut self, id: u32)
+        requires { IsAfter self.old.last id }
+        ensures met { (ids : List ℕ) → HasMet ids self.old → HasMet (ids ++ id ∷ []) self.new }
+        ensures last { self.new.last ≡ Some id }
+    {
+        self.firsts += new_beginnings(self.last, id, 1 << 24);
+        self.seconds += new_beginnings(self.last, id, 1 << 16);
+        self.thirds += new_beginnings(self.last, id, 1 << 8);
+        self.entries += 1;
+        self.last = Some(id);
+    }
+
+    /// How many blocks a file of the format needs: the header, the root, the tree blocks below it, and the data blocks.
+    pub(crate) fn blocks(&self, format: Format) -> u64
+        requires tree { format ≢ Format.V1 }
+        ensures { (ids : List ℕ) → HasMet ids self.now → result ≡ blocks_needed format ids }
+    {
+        let tree = 2 + self.firsts + self.seconds + self.thirds;
+        tree + self.entries.div_ceil(entries_per_block(format) as u64)
+    }
+}
+
+/// How many more beginnings there are once an identifier comes after the last one: none where both begin alike, and else one.
+/// The beginning is what a division leaves.
+fn new_beginnings(last: Option<u32>, id: u32, divisor: u32) -> u64
+    requires { 0 < divisor }
+    ensures { result ≡ new_beginnings divisor last id }
+{
+    match last {
+        Some(last) if last / divisor == id / divisor => 0,
+        _ => 1,
+    }
+}
+
+/// How many blocks a tree file of these entries needs.
 pub(crate) fn blocks_needed(format: Format, list: &[Entry]) -> u64
     requires tree { format ≢ Format.V1 }
     requires ascending { IsStrictlyIncreasing (ids_of list.now) }
     ensures { result ≡ blocks_needed format (ids_of list.now) }
 {
-    let tree = 2
-        + count_beginnings(list, 1 << 24)
-        + count_beginnings(list, 1 << 16)
-        + count_beginnings(list, 1 << 8);
-    let data = list.len().div_ceil(entries_per_block(format));
-    tree + data as u64
-}
-
-/// How many different numbers the identifiers give when they are divided.
-fn count_beginnings(list: &[Entry], divisor: u32) -> u64
-    requires divisor { 0 < divisor }
-    requires ascending { IsStrictlyIncreasing (ids_of list.now) }
-    ensures count { result ≡ length (each_once (map (λ id. id / divisor) (ids_of list.now))) }
-    ensures few { result ≤ length list.now }
-{
-    let mut count = 0;
-    let mut previous = None;
+    let mut needed = Needed::none();
     for entry in list {
-        let beginning = Some(entry.id / divisor);
-        if beginning != previous {
-            count += 1;
-        }
-        previous = beginning;
+        needed.add(entry.id);
     }
-    count
+    needed.blocks(format)
 }
 
 /// The first data block that has room, of a file whose data blocks begin with block 2 and have so many entries: the last

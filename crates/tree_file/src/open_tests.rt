@@ -225,6 +225,47 @@ fn a_change_leaves_all_other_records(rt: HostRuntime) -> Result<(), Fail> {
     Ok(())
 }
 
+/// The bytes of the entry of identifier 1000 in the six-block file once it has the limits, from the entry's place on.
+const ENTRY_WITH_LIMITS: [Change; 6] = [
+    (ENTRY + 8, 20),
+    (ENTRY + 16, 10),
+    (ENTRY + 24, 0),
+    (ENTRY + 32, 200),
+    (ENTRY + 40, 100),
+    (ENTRY + 48, 0),
+];
+
+#[test]
+fn a_record_is_written_over_the_old_one(rt: HostRuntime) -> Result<(), Fail> {
+    // a byte that no field names stays, which shows that the file was not built anew
+    let unnamed = (1000, 7);
+    let mut changes = Vec::from_slice(rt.alloc(), &ENTRY_WITH_LIMITS)?;
+    changes.push(unnamed)?;
+    let file = changed(rt.alloc(), 6144, &[unnamed])?;
+    let want = changed(rt.alloc(), 6144, changes.as_slice())?;
+    let mut store = store_of(rt.alloc(), file.as_slice(), &[])?;
+    let mut opened = open_users(rt.alloc(), &mut store, 6)?;
+    assert_eq!(rt; opened.put(&mut store, 1000, LIMITS), Ok(()));
+    assert_eq!(rt; store.file("q"), Some(want.as_slice()));
+    assert_eq!(rt; opened.tree.record_of(1000), Ok(Some(LIMITS)));
+    Ok(())
+}
+
+#[test]
+fn a_file_with_blocks_to_spare_is_built_anew(rt: HostRuntime) -> Result<(), Fail> {
+    let want = changed(rt.alloc(), 6144, &ENTRY_WITH_LIMITS)?;
+    let free_block = [(BLOCKS, 7), (FREE, 6)];
+    for (len, changes) in [(7168, free_block.as_slice()), (6200, &[])] {
+        let file = changed(rt.alloc(), len, changes)?;
+        let mut store = store_of(rt.alloc(), file.as_slice(), &[])?;
+        let mut opened = open_users(rt.alloc(), &mut store, 100)?;
+        assert_eq!(rt; opened.put(&mut store, 1000, LIMITS), Ok(()));
+        assert_eq!(rt; store.file("q").map(|new| new.len()), Some(want.len()));
+        assert_eq!(rt; opened.tree.record_of(1000), Ok(Some(LIMITS)), "{len}");
+    }
+    Ok(())
+}
+
 #[test]
 fn flags_and_null_records_are_kept(rt: HostRuntime) -> Result<(), Fail> {
     let changes = [(FLAGS, 5), (ENTRY + 24, 0), (ENTRY + 48, 0)];

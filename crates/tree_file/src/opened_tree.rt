@@ -1,4 +1,4 @@
-ghost use Rattle.std.specs.Prelude.{◌≡◌, ◌*◌, ◌<◌, ◌≤◌, ℕ, Bool, List, Option, not, None, vec_len, IsTrue, IfErr, IfSome, OnOk, OnErr};
+ghost use Rattle.std.specs.Prelude.{◌≡◌, ◌+◌, ◌*◌, ◌^◌, ◌<◌, ◌≤◌, ℕ, Bool, List, Option, length, not, None, vec_len, IsTrue, IfErr, IfSome, OnOk, OnErr};
 ghost use Rattle.std.specs.String.{string_bytes};
 ghost use Rattle.quota_types.specs.Kept.{IsKept};
 ghost use Rattle.quota_types.specs.Range.{grace_unfit};
@@ -7,14 +7,17 @@ ghost use Rattle.quota_blocks.specs.Frame.{IsSynced, OnlyReads, ReplacesOne};
 ghost use Rattle.quota_blocks.specs.QuotaFile.{CountsRefusal, IfFull, IsChangeFault, OnStore, UnlessStoreFailed, is_store_fault};
 ghost use Rattle.quota_blocks.specs.QuotaValue.{QuotaValue};
 ghost use Rattle.quota_blocks.specs.Replace.{replaced_files, replacement_name};
-ghost use Rattle.quota_blocks.specs.World.{KeepsOthers};
+ghost use Rattle.quota_blocks.specs.World.{KeepsOthers, overwritten};
+ghost use Rattle.entry_codec.specs.Header.{AreOf, header_of};
 ghost use Rattle.tree_file.specs.Opened.{HoldsTree, LacksRoom, MayRefuse, tree_seen};
 ghost use Rattle.tree_file.specs.Rebuilt.{value_changed};
-ghost use Rattle.tree_file.specs.TreeChange.{IsBuiltAnew, IsRewriteFault, WritesWhole};
+ghost use Rattle.tree_file.specs.TreeChange.{IsBuiltAnew, IsRewriteFault, WritesWhole, fault_of};
 ghost use Rattle.tree_file.specs.TreeFile.{TreeStandsFor};
 
-use crate::changed_tree::{graced, rebuilt};
+use crate::changed_tree::{GRACE_AT, grace_bytes, rebuilt};
 use crate::loaded::LoadedTree;
+use crate::overwriting::place_to_overwrite;
+use entry_codec::{entry_size, write_entry};
 use quota_blocks::{FileFault, QuotaFile, ReplaceFault, Store, replace};
 use quota_types::{Damage, Entry, Format, Grace, Rec};
 
@@ -22,7 +25,8 @@ use quota_types::{Damage, Entry, Format, Grace, Rec};
 ///
 /// A change writes the whole file anew and renames it, so that a fault leaves the named file as it was. A look-up reads
 /// nothing of the store. A file into which a record is put, or out of which one is taken, is built anew with as few blocks
-/// as can be; its flags stay, and its null records too.
+/// as can be; its flags stay, and its null records too. Where it has so few already and the identifier has a record, that
+/// record is written over in the loaded blocks, and so are grace periods; then no second copy of them is held.
 #[derive(Debug, Drop)]
 pub struct TreeFile {
     pub(crate) name: String,
@@ -32,6 +36,7 @@ pub struct TreeFile {
     pub(crate) refusals: u64,
     ghost grace: { grace_unfit tree.header.format tree.header.grace ≡ None },
     ghost two: { 2 ≤ tree.header.blocks },
+    ghost narrow: { tree.header.blocks < 2 ^ 32 },
     ghost few: { tree.header.blocks ≤ limit },
     ghost limited: { vec_len tree.bytes ≤ 1024 * tree.header.blocks },
 }
@@ -102,11 +107,61 @@ impl TreeFile {
                 self.tree = tree;
                 Ok(())
             }
-            Err(ReplaceFault::Store) => Err(self.refused(FileFault::Store)),
-            Err(ReplaceFault::Full { blocks, limit }) => {
-                Err(self.refused(FileFault::Full { blocks, limit }))
+            Err(fault) => Err(self.refused(file_fault(fault))),
+        }
+    }
+
+    /// Puts a file in the place of the named one that has its blocks, but for a span that begins at a place and has these
+    /// bytes, and that has these grace periods; and keeps them.
+    fn rewrite_span<S: Store>(
+        &mut self,
+        store: &mut S,
+        at: usize,
+        span: &mut [u8],
+        grace: Grace,
+    ) -> Result<(), FileFault>
+        requires usable { IsTrue self.old.usable }
+        requires inside { at + length span.old ≤ vec_len self.old.tree.bytes }
+        requires grace { grace_unfit self.old.tree.header.format grace ≡ None }
+        requires of { AreOf (record self.old.tree.header { grace = grace })
+            (header_of (overwritten self.old.tree.bytes.items at span.old)) }
+        ensures ok { OnOk result (IsTrue S.tells → (S.seen store.new).files
+            ≡ replaced_files (S.seen store.old).files (string_bytes self.old.name)
+            (overwritten self.old.tree.bytes.items at span.old)) }
+        ensures holds { OnOk result ((value value' : QuotaValue)
+            → (TreeStandsFor self.old.tree.bytes.items value → TreeStandsFor (overwritten self.old.tree.bytes.items at span.old) value')
+            → HoldsTree S.tells ((S.seen store.old).files (string_bytes self.old.name)) self.old.tree.bytes.items
+            self.old.limit value
+            → HoldsTree S.tells ((S.seen store.new).files (string_bytes self.new.name)) self.new.tree.bytes.items
+            self.new.limit value') }
+        ensures unloaded { OnErr result (self.new.tree.bytes.items ≡ self.old.tree.bytes.items) }
+        ensures unchanged { OnErr result (KeepsOthers (replacement_name (string_bytes self.old.name))
+            (S.seen store.old).files (S.seen store.new).files) }
+        ensures refused { IfErr result (IsRewriteFault (S.seen store.old).faults (S.seen store.new).faults) }
+        ensures unwritten { IfErr result (λ fault. UnlessStoreFailed fault
+            (OnlyReads (string_bytes self.old.name) (S.seen store.old) (S.seen store.new))) }
+        ensures leaves { ReplacesOne (string_bytes self.old.name) (S.seen store.old) (S.seen store.new) }
+        ensures synced { OnOk result (IsTrue S.tells
+            → IsSynced (string_bytes self.old.name) (S.seen store.old) (S.seen store.new)) }
+        ensures same { OnOk result (tree_seen (string_bytes self.new.name) self.new.tree.header.format self.new.usable
+            self.new.limit self.new.refusals
+            ≡ tree_seen (string_bytes self.old.name) self.old.tree.header.format self.old.usable self.old.limit
+            self.old.refusals) }
+        ensures counted { IfErr result (λ fault. CountsRefusal (not (is_store_fault fault))
+            (tree_seen (string_bytes self.old.name) self.old.tree.header.format self.old.usable self.old.limit
+            self.old.refusals)
+            (tree_seen (string_bytes self.new.name) self.new.tree.header.format self.new.usable self.new.limit
+            self.new.refusals)) }
+    {
+        let mut grace = grace;
+        self.tree.exchange(at, span, &mut grace);
+        let alloc = *self.tree.bytes.allocator();
+        match replace(alloc, store, self.name.as_str(), self.tree.bytes.as_slice()) {
+            Ok(()) => Ok(()),
+            Err(fault) => {
+                self.tree.exchange(at, span, &mut grace);
+                Err(self.refused(file_fault(fault)))
             }
-            Err(ReplaceFault::Memory) => Err(self.refused(FileFault::Memory)),
         }
     }
 
@@ -176,11 +231,31 @@ impl TreeFile {
             (tree_seen (string_bytes self.new.name) self.new.tree.header.format self.new.usable self.new.limit
             self.new.refusals)) }
     {
+        if let Some(rec) = &rec {
+            if let Some(at) = place_to_overwrite(&self.tree, id) {
+                let format = self.tree.header.format;
+                let mut entry = [0; 72];
+                let span = &mut entry[..entry_size(format)];
+                write_entry(format, id, rec, span);
+                return self.rewrite_span(store, at, span, self.tree.header.grace);
+            }
+        }
         let alloc = *self.tree.bytes.allocator();
         match rebuilt(alloc, &self.tree, self.limit, id, rec) {
             Ok(tree) => self.rewrite(store, tree),
             Err(fault) => Err(self.refused(fault)),
         }
+    }
+}
+
+/// Why a file that could not be replaced could not be changed.
+fn file_fault(fault: ReplaceFault) -> FileFault
+    ensures { result ≡ fault_of fault }
+{
+    match fault {
+        ReplaceFault::Store => FileFault::Store,
+        ReplaceFault::Full { blocks, limit } => FileFault::Full { blocks, limit },
+        ReplaceFault::Memory => FileFault::Memory,
     }
 }
 
@@ -254,10 +329,6 @@ impl<S: Store> QuotaFile<S> for TreeFile {
     }
 
     fn set_grace(&mut self, store: &mut S, grace: Grace) -> Result<(), FileFault> {
-        let alloc = *self.tree.bytes.allocator();
-        match graced(alloc, &self.tree, grace) {
-            Ok(tree) => self.rewrite(store, tree),
-            Err(_) => Err(self.refused(FileFault::Memory)),
-        }
+        self.rewrite_span(store, GRACE_AT, &mut grace_bytes(grace), grace)
     }
 }

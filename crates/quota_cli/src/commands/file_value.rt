@@ -16,12 +16,9 @@ ghost use Rattle.quota_cli.specs.commands.FileValue.{IsInOrder, IsMadeAnew, IsWr
 use crate::refusal::{Cause, Refusal};
 use crate::words::Word;
 use quota_blocks::{FileFault, QuotaFile, ReplaceFault, Store};
-use quota_map::{AnyFile, read_all, replace_file};
+use quota_map::{AnyFile, MOST_BLOCKS, read_all, replace_file};
 use quota_types::{Entry, Format, Grace, Kind};
 use std::alloc::Global;
-
-/// How many blocks a tree file may have.
-const MOST_BLOCKS: u32 = 1_048_576;
 
 /// The grace period of blocks, and that of inodes, of a new file: 7 days, in seconds.
 const WEEK: u64 = 604_800;

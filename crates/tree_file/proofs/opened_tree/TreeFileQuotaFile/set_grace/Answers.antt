@@ -1,32 +1,63 @@
-use Rattle.std.proofs.Common.{◌≡◌, length, refl, arith}
+use Rattle.std.proofs.Common.{◌≡◌, ◌≤◌, List, ℕ, length, refl, arith}
 use Rattle.std.proofs.lemmas.Result.{on_ok_weaker}
 use Rattle.std.specs.String.{string_bytes}
+use Rattle.quota_blocks.specs.QuotaValue.{with_grace}
 use Rattle.quota_blocks.specs.Replace.{replaced_files}
+use Rattle.quota_blocks.specs.World.{overwritten}
 use Rattle.tree_file.specs.TreeChange.{IsGraced}
+use Rattle.tree_file.proofs.GracedLemmas.{IsGracedSpan, are_graced, graced_span, has_blocks, stands_graced}
 use Rattle.tree_file.proofs.MakesLemmas.{is_graced, left_as_before, left_between, on_store_fault, writes_whole}
 use Rattle.tree_file.proofs.opened_tree.TreeFileQuotaFile.set_grace.Goals as goal
 
-pub returns-in-Ok-clause-makes : goal.returns-in-Ok-clause-makes
-returns-in-Ok-clause-makes g c =
-    let tree = c.in-Ok.tree in
-    let long : length tree.bytes.items ≡ length c.args.self.now.tree.bytes.items = omega (arith, c.in-Ok.ensures.long, tree.bytes.ok.0, c.args.self.now.tree.bytes.ok.0) in
-    on_ok_weaker c.rewrite.result
-    (λ wrote value held. writes_whole (IsGraced c.args.grace) _ _ _ held.file tree.bytes.items held.there (wrote held.told)
-    (is_graced c.args.grace held.file c.args.self.now.tree.bytes.items tree.bytes.items held.same long c.in-Ok.ensures.others c.in-Ok.ensures.block c.in-Ok.ensures.inode))
-    c.rewrite.ensures.ok
+pub rewrite_span-requires-clause-inside : goal.rewrite_span-requires-clause-inside
+rewrite_span-requires-clause-inside g c =
+    let tree = c.args.self.now.tree in
+    grind (arith, has_blocks tree.bytes.items tree.header tree.of c.args.self.now.two, tree.bytes.ok.0)
 
-pub returns-in-Ok-clause-left : goal.returns-in-Ok-clause-left
-returns-in-Ok-clause-left g c =
+pub rewrite_span-requires-clause-of : goal.rewrite_span-requires-clause-of
+rewrite_span-requires-clause-of g c =
+    let tree = c.args.self.now.tree in
+    let span = c.grace_bytes.result in
+    let room : 16 ≤ length tree.bytes.items = omega (arith, has_blocks tree.bytes.items tree.header tree.of c.args.self.now.two) in
+    let w : IsGracedSpan c.args.grace tree.bytes.items (overwritten tree.bytes.items 8 span) = graced_span tree.bytes.items span c.args.grace room (grind arith) c.grace_bytes.ensures.block c.grace_bytes.ensures.inode in
+    are_graced tree.bytes.items (overwritten tree.bytes.items 8 span) tree.header c.args.grace tree.of w.others w.block w.inode
+
+pub returns-clause-set : goal.returns-clause-set
+returns-clause-set g c =
+    let tree = c.args.self.now.tree in
+    let span = c.grace_bytes.result in
+    let room : 16 ≤ length tree.bytes.items = omega (arith, has_blocks tree.bytes.items tree.header tree.of c.args.self.now.two) in
+    let w : IsGracedSpan c.args.grace tree.bytes.items (overwritten tree.bytes.items 8 span) = graced_span tree.bytes.items span c.args.grace room (grind arith) c.grace_bytes.ensures.block c.grace_bytes.ensures.inode in
+    on_ok_weaker c.rewrite_span.result
+    (λ holds value held. holds value (with_grace value c.args.grace)
+    (λ stands. stands_graced tree.bytes.items (overwritten tree.bytes.items 8 span) value c.args.grace stands w.long w.others w.block w.inode) held)
+    c.rewrite_span.ensures.holds
+
+pub returns-clause-makes : goal.returns-clause-makes
+returns-clause-makes g c =
+    let tree = c.args.self.now.tree in
+    let span = c.grace_bytes.result in
+    let room : 16 ≤ length tree.bytes.items = omega (arith, has_blocks tree.bytes.items tree.header tree.of c.args.self.now.two) in
+    let w : IsGracedSpan c.args.grace tree.bytes.items (overwritten tree.bytes.items 8 span) = graced_span tree.bytes.items span c.args.grace room (grind arith) c.grace_bytes.ensures.block c.grace_bytes.ensures.inode in
+    on_ok_weaker c.rewrite_span.result
+    (λ wrote value held. writes_whole (IsGraced c.args.grace) _ _ _ held.file (overwritten tree.bytes.items 8 span) held.there (wrote held.told)
+    (is_graced c.args.grace held.file tree.bytes.items (overwritten tree.bytes.items 8 span) held.same w.long w.others w.block w.inode))
+    c.rewrite_span.ensures.ok
+
+pub returns-clause-left : goal.returns-clause-left
+returns-clause-left g c =
+    let tree = c.args.self.now.tree in
+    let span = c.grace_bytes.result in
+    let room : 16 ≤ length tree.bytes.items = omega (arith, has_blocks tree.bytes.items tree.header tree.of c.args.self.now.two) in
+    let w : IsGracedSpan c.args.grace tree.bytes.items (overwritten tree.bytes.items 8 span) = graced_span tree.bytes.items span c.args.grace room (grind arith) c.grace_bytes.ensures.block c.grace_bytes.ensures.inode in
     let files = (g.S.Store.seen c.args.store.now).files in
-    let tree = c.in-Ok.tree in
-    let after = replaced_files files (string_bytes c.args.self.now.name) tree.bytes.items in
-    let long : length tree.bytes.items ≡ length c.args.self.now.tree.bytes.items = omega (arith, c.in-Ok.ensures.long, tree.bytes.ok.0, c.args.self.now.tree.bytes.ok.0) in
-    on_store_fault c.rewrite.result
+    let bytes : List ℕ = overwritten tree.bytes.items 8 span in
+    let after = replaced_files files (string_bytes c.args.self.now.name) bytes in
+    on_store_fault c.rewrite_span.result
     (λ kept value held. left_as_before _ files _ after _
-    (writes_whole (IsGraced c.args.grace) files after _ held.file tree.bytes.items held.there refl
-    (is_graced c.args.grace held.file c.args.self.now.tree.bytes.items tree.bytes.items held.same long c.in-Ok.ensures.others c.in-Ok.ensures.block c.in-Ok.ensures.inode))
+    (writes_whole (IsGraced c.args.grace) files after _ held.file bytes held.there refl (is_graced c.args.grace held.file tree.bytes.items bytes held.same w.long w.others w.block w.inode))
     kept)
-    c.rewrite.ensures.unchanged
+    c.rewrite_span.ensures.unchanged
 
-pub returns-in-Ok-clause-between : goal.returns-in-Ok-clause-between
-returns-in-Ok-clause-between g c = left_between c.rewrite.result _ _ _ (string_bytes c.args.self.now.name) c.rewrite.ensures.unchanged
+pub returns-clause-between : goal.returns-clause-between
+returns-clause-between g c = left_between c.rewrite_span.result _ _ _ (string_bytes c.args.self.now.name) c.rewrite_span.ensures.unchanged

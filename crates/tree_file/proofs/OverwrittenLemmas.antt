@@ -1,0 +1,374 @@
+-- An entry that is overwritten where it stands changes the record of its identifier and nothing else.
+use Rattle.std.proofs.Common.{◌≡◌, ◌≢◌, ℕ, zero, suc, ◌+◌, ◌*◌, ◌<◌, ◌≤◌, Bool, true, false, cond, ◌||◌, ◌==◌, List, [], ◌∷◌, ◌++◌, length, map, find, take, drop, replicate, Option, Some, None, option_and_then, option_map, refl, sym, ap, subst, ◌∙◌, inl, inr, arith, ne_eqb, eq-eqb, if◌then◌else◌, length-take, length-drop, length-append}
+use Rattle.std.proofs.Math.Nat.{mul-le-mul_left}
+use Rattle.std.proofs.lemmas.Bool.{cases_Bool, cases_eq, cases_lt}
+use Rattle.std.proofs.lemmas.Bool.Decides.{eqb_tells}
+use Rattle.std.proofs.lemmas.Grind.{same_number_lists}
+use Rattle.std.proofs.lemmas.List.{get_or-drop, get_or-take, length-replicate}
+use Rattle.std.specs.FinMap.{get, insert}
+use Rattle.std.specs.List.{cons_option, filter_map, list_any, range_with_len}
+use Rattle.std.specs.Option.{option_or}
+use Rattle.std.specs.Prelude.{IsSome, nat_lt}
+use Rattle.quota_types.specs.Bytes.{byte_at, number_at}
+use Rattle.quota_types.specs.Kept.{without_marker}
+use Rattle.quota_types.specs.declared.file_kind.Format.{Format}
+use Rattle.quota_types.specs.declared.file_kind.Format.TheVariants.{V1, V2R0, V2R1}
+use Rattle.quota_types.specs.declared.record.Entry.{Entry}
+use Rattle.quota_types.specs.declared.record.Rec.{Rec}
+use Rattle.quota_blocks.specs.QuotaValue.{QuotaValue}
+use Rattle.quota_blocks.specs.Span.{KeepsOutside}
+use Rattle.entry_codec.specs.Entry.{IsEntry, entries_per_block, entry_size, is_unused, stored_id}
+use Rattle.entry_codec.specs.Header.{AreOf, HeaderNumbers, format_of, header_of}
+use Rattle.entry_codec.specs.declared.header.Header.{Header}
+use Rattle.tree_file.specs.declared.tree_path.TreePath.{TreePath}
+use Rattle.tree_file.specs.Block.{block_of}
+use Rattle.tree_file.specs.Count.{StandsIn, times}
+use Rattle.tree_file.specs.Entries.{entry_bytes, entry_of, has_unused, stored_record, used_by, used_entries, used_ids}
+use Rattle.tree_file.specs.Overwritten.{HasEntryAt}
+use Rattle.tree_file.specs.Roles.{OneRole, roles}
+use Rattle.tree_file.specs.Tree.{data_blocks, ids_at, leaves, level, lower_blocks, tree_blocks}
+use Rattle.tree_file.specs.TreeFile.{TreeStandsFor, record_in, tree_record}
+use Rattle.tree_file.proofs.CountLemmas.{times-append, times-cons, times-cons-other, times-cons-same, stands_left, stands_right}
+use Rattle.tree_file.proofs.DataBlockLemmas.{number_same, same_part, used_is}
+use Rattle.tree_file.proofs.GracedLemmas.{same_header}
+use Rattle.tree_file.proofs.HeaderKeptLemmas.{KeepsHeader, same_numbers, sound_kept}
+use Rattle.tree_file.proofs.ListingLemmas.{inserted_own, inserted_rest}
+use Rattle.tree_file.proofs.LookupLemmas.{each_found, found_or_later}
+use Rattle.tree_file.proofs.PathLemmas.{data_block_of_id, leaves_lead}
+use Rattle.tree_file.proofs.SameBlocksLemmas.{IsInside, KeepsTree, listed_inside, paths_same, record_same}
+use Rattle.tree_file.proofs.WordLemmas.{byte_in_block}
+
+-- an entry lies within its block
+entry_fits : (format : Format) (place : ℕ) → place < entries_per_block format → 16 + entry_size format * place + entry_size format ≤ 1024
+entry_fits V1 place low = absurd (omega (arith, low))
+entry_fits V2R0 place low = omega (arith, low)
+entry_fits V2R1 place low = omega (arith, low)
+
+-- a block has 1,024 bytes
+length_block : (file : List ℕ) (number : ℕ) → length (block_of file number) ≡ 1024
+unfolding block_of
+length_block file number =
+    omega (arith, length-take 1024 (drop (1024 * number) file ++ replicate 1024 0), length-append (drop (1024 * number) file) (replicate 1024 0), length-replicate {A = ℕ} 1024 0)
+
+-- the identifier of an entry, where there is one
+abbrev id_of : Option Entry → Option ℕ
+id_of o = option_map (λ (entry : Entry). entry.id) o
+
+-- the identifiers of the entries at so many places from one on, and the record of the first entry there of an identifier
+abbrev ids_from : (ℕ → Option Entry) → ℕ → ℕ → List ℕ
+ids_from f low count = map (λ (entry : Entry). entry.id) (filter_map f (range_with_len low count))
+
+abbrev rec_from : ℕ → (ℕ → Option Entry) → ℕ → ℕ → Option Rec
+rec_from id f low count = option_map (λ (entry : Entry). entry.rec) (find (λ (entry : Entry). entry.id == id) (filter_map f (range_with_len low count)))
+
+ids_cons : (o : Option Entry) (entries : List Entry) → map (λ (entry : Entry). entry.id) (cons_option o entries) ≡ cons_option (id_of o) (map (λ (entry : Entry). entry.id) entries)
+ids_cons None entries = refl
+ids_cons (Some e) entries = refl
+
+-- places with the same identifiers
+ids_of_same : (f g : ℕ → Option Entry) (low count : ℕ) → ((k : ℕ) → low ≤ k → k < low + count → id_of (f k) ≡ id_of (g k)) → ids_from f low count ≡ ids_from g low count
+ids_of_same f g low zero same = refl
+ids_of_same f g low (suc count) same =
+    let here : id_of (f low) ≡ id_of (g low) = same low (omega arith) (omega arith) in
+    let rest : ids_from f (low + 1) count ≡ ids_from g (low + 1) count = ids_of_same f g (low + 1) count (λ k from to. same k (omega arith) (omega arith)) in
+    ids_cons (f low) (filter_map f (range_with_len (low + 1) count))
+    ∙ (λ i. cons_option (here i) (rest i))
+    ∙ sym (ids_cons (g low) (filter_map g (range_with_len (low + 1) count)))
+
+-- places at which two tests agree
+any_same : (f g : ℕ → Bool) (low count : ℕ) → ((k : ℕ) → low ≤ k → k < low + count → f k ≡ g k) → list_any f (range_with_len low count) ≡ list_any g (range_with_len low count)
+any_same f g low zero same = refl
+any_same f g low (suc count) same =
+    let here : f low ≡ g low = same low (omega arith) (omega arith) in
+    let rest : list_any f (range_with_len (low + 1) count) ≡ list_any g (range_with_len (low + 1) count) = any_same f g (low + 1) count (λ k from to. same k (omega arith) (omega arith)) in
+    λ i. here i || rest i
+
+-- places with the same records of an identifier
+rec_of_same : (id : ℕ) (f g : ℕ → Option Entry) (low count : ℕ) → ((k : ℕ) → low ≤ k → k < low + count → option_and_then (used_by id) (f k) ≡ option_and_then (used_by id) (g k))
+    → rec_from id f low count ≡ rec_from id g low count
+rec_of_same id f g low zero same = refl
+rec_of_same id f g low (suc count) same =
+    let here : option_and_then (used_by id) (f low) ≡ option_and_then (used_by id) (g low) = same low (omega arith) (omega arith) in
+    let rest : rec_from id f (low + 1) count ≡ rec_from id g (low + 1) count = rec_of_same id f g (low + 1) count (λ k from to. same k (omega arith) (omega arith)) in
+    found_or_later id (f low) (filter_map f (range_with_len (low + 1) count))
+    ∙ (λ i. option_or (here i) (rest i))
+    ∙ sym (found_or_later id (g low) (filter_map g (range_with_len (low + 1) count)))
+
+-- an identifier that uses an entry is one of those of the entries
+used_stands : (id : ℕ) (rec : Rec) (f : ℕ → Option Entry) (low count k : ℕ) → low ≤ k → k < low + count → f k ≡ Some (record { id = id; rec = rec }) → StandsIn (ids_from f low count) id
+used_stands id rec f low zero k from to is = absurd (omega (arith, from, to))
+used_stands id rec f low (suc count) k from to is =
+    let rest : List ℕ = ids_from f (low + 1) count in
+    let split : ids_from f low (suc count) ≡ cons_option (id_of (f low)) rest = ids_cons (f low) (filter_map f (range_with_len (low + 1) count)) in
+    elim (cases_eq k low) [
+      | inl same ↦
+          let first : ids_from f low (suc count) ≡ id ∷ rest = split ∙ ap (λ (n : ℕ). cons_option (id_of (f n)) rest) (sym same) ∙ ap (λ (o : Option Entry). cons_option (id_of o) rest) is in
+          subst (λ (xs : List ℕ). StandsIn xs id) (sym first) (omega (arith, times-cons-same id rest))
+      | inr other ↦
+          let later : StandsIn rest id = used_stands id rec f (low + 1) count k (omega (arith, other, from)) (omega (arith, to)) is in
+          subst (λ (xs : List ℕ). StandsIn xs id) (sym split) (either (id_of (f low)) rest later)
+    ]
+  where
+    either : (o : Option ℕ) (xs : List ℕ) → StandsIn xs id → StandsIn (cons_option o xs) id
+    either None xs stands = stands
+    either (Some x) xs stands = stands_right (x ∷ []) xs id stands
+
+-- the entry that an identifier uses once is the one that is found
+used_found : (id : ℕ) (rec : Rec) (f : ℕ → Option Entry) (low count k : ℕ) → low ≤ k → k < low + count → f k ≡ Some (record { id = id; rec = rec }) → times (ids_from f low count) id ≤ 1
+    → rec_from id f low count ≡ Some rec
+used_found id rec f low zero k from to is once = absurd (omega (arith, from, to))
+used_found id rec f low (suc count) k from to is once =
+    let rest : List Entry = filter_map f (range_with_len (low + 1) count) in
+    let split : ids_from f low (suc count) ≡ cons_option (id_of (f low)) (ids_from f (low + 1) count) = ids_cons (f low) rest in
+    found_or_later id (f low) rest
+    ∙ elim (cases_eq k low) [
+      | inl same ↦ ap (λ (n : ℕ). option_or (option_and_then (used_by id) (f n)) (rec_from id f (low + 1) count)) (sym same)
+          ∙ ap (λ (o : Option Entry). option_or (option_and_then (used_by id) o) (rec_from id f (low + 1) count)) is
+          ∙ ap (λ (b : Bool). option_or (cond b (Some rec) None) (rec_from id f (low + 1) count)) (eq-eqb id id refl)
+      | inr other ↦
+          let later : StandsIn (ids_from f (low + 1) count) id = used_stands id rec f (low + 1) count k (omega (arith, other, from)) (omega (arith, to)) is in
+          let few : times (cons_option (id_of (f low)) (ids_from f (low + 1) count)) id ≤ 1 = subst (λ (xs : List ℕ). times xs id ≤ 1) split once in
+          behind (f low) (ids_from f (low + 1) count) (rec_from id f (low + 1) count) later few
+          (λ still. used_found id rec f (low + 1) count k (omega (arith, other, from)) (omega (arith, to)) is still)
+    ]
+  where
+    behind : (o : Option Entry) (xs : List ℕ) (found : Option Rec) → StandsIn xs id → times (cons_option (id_of o) xs) id ≤ 1 → (times xs id ≤ 1 → found ≡ Some rec)
+        → option_or (option_and_then (used_by id) o) found ≡ Some rec
+    behind None xs found stands few next = next few
+    behind (Some e) xs found stands few next = elim (eqb_tells e.id id) [
+      | inl same ↦ absurd (omega (arith, stands, few, times-cons e.id xs id, ap {B = ℕ} (λ (b : Bool). cond b 1 0) same.0))
+      | inr other ↦ ap (λ (b : Bool). option_or (cond b (Some e.rec) None) found) other.0 ∙ next (omega (arith, few, times-cons-other e.id xs id other.1))
+    ]
+
+-- the entry that an identifier uses
+used_there : (format : Format) (bytes : List ℕ) (id : ℕ) → IsSome (option_and_then (used_by id) (entry_of format bytes))
+    → (is_unused bytes ≡ false) × ((rec : Rec) × (entry_of format bytes ≡ Some (record { id = id; rec = rec })))
+used_there format bytes id some =
+    let e : Entry = record { id = stored_id bytes; rec = without_marker (stored_id bytes) (stored_record format bytes) } in
+    elim (cases_Bool (is_unused bytes)) [
+      | inl unused ↦ absurd (not_there (subst (λ (b : Bool). IsSome (option_and_then (used_by id) (cond b None (Some e)))) unused some))
+      | inr used ↦
+          let there : IsSome (cond (e.id == id) (Some e.rec) None) = subst (λ (b : Bool). IsSome (option_and_then (used_by id) (cond b None (Some e)))) used some in
+          elim (eqb_tells e.id id) [
+            | inl same ↦ (used, (e.rec, ap (λ (b : Bool). cond b None (Some e)) used ∙ ap (λ (n : ℕ). Some (record { id = n; rec = e.rec })) same.1))
+            | inr other ↦ absurd (not_there (subst (λ (b : Bool). IsSome (cond b (Some e.rec) None)) other.0 there))
+          ]
+    ]
+  where
+    not_there : IsSome {T = Rec} None → ⊥
+    not_there h = absurd cc
+
+-- a file of which the bytes of an entry of a block were written
+module _ (format : Format) (old new : List ℕ) (block place : ℕ) (low : place < entries_per_block format)
+    (keeps : KeepsOutside (1024 * block + (16 + entry_size format * place)) (1024 * block + (16 + entry_size format * place) + entry_size format) old new) where
+  fits : 16 + entry_size format * place + entry_size format ≤ 1024
+  fits = entry_fits format place low
+
+  -- a byte of a block that is none of the entry
+  other_byte : (number at : ℕ) → at < 1024
+      → (1024 * block + (16 + entry_size format * place) ≤ 1024 * number + at → 1024 * block + (16 + entry_size format * place) + entry_size format ≤ 1024 * number + at)
+      → byte_at (block_of new number) at ≡ byte_at (block_of old number) at
+  other_byte number at within past =
+      byte_in_block new number at within
+      ∙ elim (cases_lt (1024 * number + at) (1024 * block + (16 + entry_size format * place))) [
+        | inl less ↦ keeps.before (1024 * number + at) less
+        | inr more ↦ keeps.behind (1024 * number + at) (past more)
+      ]
+      ∙ sym (byte_in_block old number at within)
+
+  other_block : (number : ℕ) → number ≢ block → block_of new number ≡ block_of old number
+  other_block number other =
+      same_number_lists (block_of new number) (block_of old number) (length_block new number ∙ sym (length_block old number))
+      (λ at lt. other_byte number at (omega (arith, lt, length_block new number)) (λ from. omega (arith, other, lt, length_block new number, from, fits)))
+
+  -- what stands before the entries of a block
+  first_number : (width at number : ℕ) → at + width ≤ 16 → number_at width (block_of new number) at ≡ number_at width (block_of old number) at
+  first_number width at number le =
+      number_same width at (block_of new number) (block_of old number)
+      (λ k from to. other_byte number k (omega (arith, le, to)) (λ above. omega (arith, le, to, above, fits)))
+
+  -- the other entries of the block
+  other_entry : (at : ℕ) → at < entries_per_block format → at ≢ place → entry_bytes format (block_of new block) at ≡ entry_bytes format (block_of old block) at
+  other_entry at few other =
+      let size : ℕ = entry_size format in
+      same_part size (16 + size * at) (block_of new block) (block_of old block) (length_block new block ∙ sym (length_block old block))
+      (λ k from to. other_byte block k (omega (arith, to, entry_fits format at few)) (λ above. elim (cases_lt at place) [
+        | inl less ↦ let room : size * suc at ≤ size * place = mul-le-mul_left size less in absurd (omega (arith, room, above, to))
+        | inr more ↦ let room : size * suc place ≤ size * at = mul-le-mul_left size (omega (arith, more, other)) in omega (arith, room, from)
+      ]))
+
+  -- the bytes of the entry
+  own_bytes : 1024 * suc block ≤ length new → take (entry_size format) (drop (1024 * block + (16 + entry_size format * place)) new) ≡ entry_bytes format (block_of new block) place
+  own_bytes long =
+      let size : ℕ = entry_size format in
+      let first : ℕ = 16 + size * place in
+      let length_one : length (take size (drop (1024 * block + first) new)) ≡ size =
+      omega (arith, length-take size (drop (1024 * block + first) new), length-drop (1024 * block + first) new, fits, long) in
+      let length_other : length (take size (drop first (block_of new block))) ≡ size =
+      omega (arith, length-take size (drop first (block_of new block)), length-drop first (block_of new block), length_block new block, fits) in
+      same_number_lists (take size (drop (1024 * block + first) new)) (take size (drop first (block_of new block))) (length_one ∙ sym length_other)
+      (λ k lt.
+      let few : k < size = omega (arith, lt, length_one) in
+      let same : 1024 * block + first + k ≡ 1024 * block + (first + k) = omega arith in
+      get_or-take size (drop (1024 * block + first) new) k 0 few ∙ get_or-drop (1024 * block + first) new k 0
+      ∙ ap (byte_at new) same ∙ sym (byte_in_block new block (first + k) (omega (arith, few, fits)))
+      ∙ sym (get_or-take size (drop first (block_of new block)) k 0 few ∙ get_or-drop first (block_of new block) k 0))
+
+  -- one identifier used the entry before and uses it now
+  module _ (id : ℕ) (before rec : Rec) (was : entry_of format (entry_bytes format (block_of old block) place) ≡ Some (record { id = id; rec = before }))
+      (is : entry_of format (entry_bytes format (block_of new block) place) ≡ Some (record { id = id; rec = rec })) where
+    block_ids : used_ids format (block_of new block) ≡ used_ids format (block_of old block)
+    unfolding used_entries
+    block_ids = ids_of_same (λ at. entry_of format (entry_bytes format (block_of new block) at)) (λ at. entry_of format (entry_bytes format (block_of old block) at)) 0 (entries_per_block format)
+        (λ at from to. elim (cases_eq at place) [
+          | inl same ↦ ap (λ (n : ℕ). id_of (entry_of format (entry_bytes format (block_of new block) n))) same ∙ ap id_of is ∙ sym (ap id_of was)
+              ∙ ap (λ (n : ℕ). id_of (entry_of format (entry_bytes format (block_of old block) n))) (sym same)
+          | inr other ↦ ap (λ (bytes : List ℕ). id_of (entry_of format bytes)) (other_entry at (omega (arith, to)) other)
+        ])
+
+    number_ids : (number : ℕ) → used_ids format (block_of new number) ≡ used_ids format (block_of old number)
+    number_ids number = elim (cases_eq number block) [
+      | inl same ↦ ap (λ (n : ℕ). used_ids format (block_of new n)) same ∙ block_ids ∙ ap (λ (n : ℕ). used_ids format (block_of old n)) (sym same)
+      | inr other ↦ ap (used_ids format) (other_block number other)
+    ]
+
+    block_room : is_unused (entry_bytes format (block_of old block) place) ≡ is_unused (entry_bytes format (block_of new block) place)
+        → has_unused format (block_of new block) ≡ has_unused format (block_of old block)
+    unfolding has_unused
+    block_room still = any_same (λ at. is_unused (entry_bytes format (block_of new block) at)) (λ at. is_unused (entry_bytes format (block_of old block) at)) 0 (entries_per_block format)
+        (λ at from to. elim (cases_eq at place) [
+          | inl same ↦ ap (λ (n : ℕ). is_unused (entry_bytes format (block_of new block) n)) same ∙ sym still ∙ ap (λ (n : ℕ). is_unused (entry_bytes format (block_of old block) n)) (sym same)
+          | inr other ↦ ap is_unused (other_entry at (omega (arith, to)) other)
+        ])
+
+    number_room : is_unused (entry_bytes format (block_of old block) place) ≡ is_unused (entry_bytes format (block_of new block) place)
+        → (number : ℕ) → has_unused format (block_of new number) ≡ has_unused format (block_of old number)
+    number_room still number = elim (cases_eq number block) [
+      | inl same ↦ ap (λ (n : ℕ). has_unused format (block_of new n)) same ∙ block_room still ∙ ap (λ (n : ℕ). has_unused format (block_of old n)) (sym same)
+      | inr other ↦ ap (has_unused format) (other_block number other)
+    ]
+
+    -- the record of another identifier
+    block_rec : (other : ℕ) → other ≢ id → record_in format (block_of new block) other ≡ record_in format (block_of old block) other
+    unfolding used_entries
+    block_rec other apart =
+        let not_its : (r : Rec) → option_and_then (used_by other) (Some (record { id = id; rec = r })) ≡ None =
+        λ r. ap (λ (b : Bool). cond b (Some r) None) (ne_eqb id other (λ e. apart (sym e))) in
+        rec_of_same other (λ at. entry_of format (entry_bytes format (block_of new block) at)) (λ at. entry_of format (entry_bytes format (block_of old block) at)) 0 (entries_per_block format)
+        (λ at from to. elim (cases_eq at place) [
+          | inl same ↦ ap (λ (n : ℕ). option_and_then (used_by other) (entry_of format (entry_bytes format (block_of new block) n))) same
+              ∙ ap (option_and_then (used_by other)) is ∙ not_its rec
+              ∙ sym (ap (λ (n : ℕ). option_and_then (used_by other) (entry_of format (entry_bytes format (block_of old block) n))) same
+              ∙ ap (option_and_then (used_by other)) was ∙ not_its before)
+          | inr different ↦ ap (λ (bytes : List ℕ). option_and_then (used_by other) (entry_of format bytes)) (other_entry at (omega (arith, to)) different)
+        ])
+
+    number_rec : (other : ℕ) → other ≢ id → (number : ℕ) → record_in format (block_of new number) other ≡ record_in format (block_of old number) other
+    number_rec other apart number = elim (cases_eq number block) [
+      | inl same ↦ ap (λ (n : ℕ). record_in format (block_of new n) other) same ∙ block_rec other apart ∙ ap (λ (n : ℕ). record_in format (block_of old n) other) (sym same)
+      | inr different ↦ ap (λ (bytes : List ℕ). record_in format bytes other) (other_block number different)
+    ]
+
+    -- the record of the identifier whose entry it is
+    own_rec : times (used_ids format (block_of old block)) id ≡ 1 → record_in format (block_of new block) id ≡ Some rec
+    unfolding used_entries
+    own_rec once =
+        let few : times (used_ids format (block_of new block)) id ≡ 1 = subst (λ (ids : List ℕ). times ids id ≡ 1) (sym block_ids) once in
+        used_found id rec (λ at. entry_of format (entry_bytes format (block_of new block) at)) 0 (entries_per_block format) place (omega arith) (omega (arith, low)) is (omega (arith, few))
+
+    -- the tree and the lists stay, where the block is none of the tree
+    overwritten_tree : (blocks : ℕ) → ((number : ℕ) → StandsIn (tree_blocks old blocks) number → number ≢ block)
+        → is_unused (entry_bytes format (block_of old block) place) ≡ is_unused (entry_bytes format (block_of new block) place) → KeepsTree format blocks old new
+    overwritten_tree blocks apart still = record {
+      tree = λ number stands. other_block number (apart number stands);
+      next = λ number some within. first_number 4 0 number (omega arith);
+      previous = λ number some within. first_number 4 4 number (omega arith);
+      stated = λ number some within. first_number 2 8 number (omega arith);
+      ids = λ number some within. number_ids number;
+      room = λ number some within. number_room still number;
+    }
+
+-- a data block is none of the tree
+apart_from_tree : (file : List ℕ) (blocks head block : ℕ) → OneRole file blocks head → StandsIn (data_blocks file blocks) block → (number : ℕ) → StandsIn (tree_blocks file blocks) number → number ≢ block
+apart_from_tree file blocks head block role data_stands number stands same =
+    let tree : List ℕ = tree_blocks file blocks in
+    let data_ones : List ℕ = data_blocks file blocks in
+    let there : StandsIn tree block = subst (λ (n : ℕ). StandsIn tree n) same stands in
+    let most : times (roles file blocks role.free) block ≤ 1 = subst (λ (n : ℕ). n ≤ 1) (sym (role.once block)) (one_at_most (nat_lt block blocks)) in
+    omega (arith, there, data_stands, most, times-cons 0 (tree ++ data_ones ++ role.free) block, times-append (tree ++ data_ones) role.free block, times-append tree data_ones block)
+  where
+    one_at_most : (b : Bool) → (if b then 1 else 0) ≤ 1
+    one_at_most true = omega arith
+    one_at_most false = omega arith
+
+-- the identifier of the entry leads to its block, which is one behind the header
+leaf_stands : (format : Format) (file : List ℕ) (blocks id at : ℕ) (has : HasEntryAt format file blocks id at) → StandsIn (ids_at (leaves file blocks) has.block) id
+leaf_stands format file blocks id at has =
+    each_found (λ (leaf : TreePath). StandsIn (ids_at (leaves file blocks) leaf.block) leaf.number) (λ (leaf : TreePath). leaf.number == id) (leaves file blocks)
+    (record { number = id; block = has.block }) has.leads (leaves_lead file blocks)
+
+leaf_inside : (format : Format) (file : List ℕ) (blocks id at : ℕ) (has : HasEntryAt format file blocks id at) → IsInside blocks has.block
+leaf_inside format file blocks id at has = listed_inside file blocks has.block (data_block_of_id file blocks has.block id (leaf_stands format file blocks id at has))
+
+-- the span of an entry is none of the header's
+overwritten_header : (old new : List ℕ) (format : Format) (blocks id at : ℕ) → HasEntryAt format old blocks id at → KeepsOutside at (at + entry_size format) old new → header_of new ≡ header_of old
+overwritten_header old new format blocks id at has keeps =
+    let inside : IsInside blocks has.block = leaf_inside format old blocks id at has in
+    let some : 0 < has.block = inside.0 in
+    same_header new old (λ k low. keeps.before k (omega (arith, has.begins, some, low)))
+
+-- an entry that is overwritten leaves what the header says
+pub are_overwritten : (old new : List ℕ) (header : Header) (format : Format) (blocks id at : ℕ) → AreOf header (header_of old) → HasEntryAt format old blocks id at
+    → KeepsOutside at (at + entry_size format) old new → AreOf header (header_of new)
+are_overwritten old new header format blocks id at are has keeps = subst (AreOf header) (sym (overwritten_header old new format blocks id at has keeps)) are
+
+-- an entry that is overwritten with one of the same identifier changes the identifier's record, and nothing else
+pub stands_overwritten : (old new : List ℕ) (value : QuotaValue) (id at : ℕ) (rec : Rec) → TreeStandsFor old value → HasEntryAt value.format old (header_of old).blocks id at
+    → length new ≡ length old → KeepsOutside at (at + entry_size value.format) old new → IsEntry value.format (take (entry_size value.format) (drop at new)) id rec
+    → TreeStandsFor new (record value { records = insert value.records id rec }) × (leaves new (header_of old).blocks ≡ leaves old (header_of old).blocks)
+stands_overwritten old new value id at rec stands has long keeps entry =
+    let format : Format = value.format in
+    let blocks : ℕ = (header_of old).blocks in
+    let block : ℕ = has.block in
+    let place : ℕ = has.place in
+    let size : ℕ = entry_size format in
+    let first : ℕ = 1024 * block + (16 + size * place) in
+    let leads_to : StandsIn (ids_at (leaves old blocks) block) id = leaf_stands format old blocks id at has in
+    let is_data_block : StandsIn (data_blocks old blocks) block = data_block_of_id old blocks block id leads_to in
+    let inside : IsInside blocks block = listed_inside old blocks block is_data_block in
+    let apart : (number : ℕ) → StandsIn (tree_blocks old blocks) number → number ≢ block = apart_from_tree old blocks (header_of old).free block stands.sound.roles is_data_block in
+    let not_root : 1 ≢ block = apart 1 (stands_left (level old blocks 0) (lower_blocks old blocks) 1 (omega (arith, times-cons-same 1 []))) in
+    let more : 2 < blocks = omega (arith, inside.0, inside.1, not_root) in
+    let room : 1024 * blocks ≤ length old = stands.sound.long more in
+    let span : KeepsOutside first (first + size) old new = subst (λ (n : ℕ). KeepsOutside n (n + size) old new) has.begins keeps in
+    let bytes : take size (drop at new) ≡ entry_bytes format (block_of new block) place =
+    ap (λ (n : ℕ). take size (drop n new)) has.begins ∙ own_bytes format old new block place has.low span (omega (arith, room, long, inside.1)) in
+    let now = used_is format (entry_bytes format (block_of new block) place) id rec (subst (λ (b : List ℕ). IsEntry format b id rec) bytes entry) in
+    let was = used_there format (entry_bytes format (block_of old block) place) id has.used in
+    let head : header_of new ≡ header_of old = overwritten_header old new format blocks id at has keeps in
+    let kept : KeepsHeader (header_of old) (header_of new) = same_numbers (header_of old) (header_of new) head in
+    let tree : KeepsTree format blocks old new = overwritten_tree format old new block place has.low span id was.1.0 rec was.1.1 now.1 blocks apart (was.0 ∙ sym now.0) in
+    let once : times (used_ids format (block_of old block)) id ≡ 1 = stands.sound.filled.one_entry block id leads_to in
+    let read : TreePath → Option Rec = λ leaf. record_in format (block_of new leaf.block) id in
+    let same : leaves new blocks ≡ leaves old blocks = paths_same format old new blocks stands.sound.two tree 4 (omega arith) in
+    let own_is : tree_record format new blocks id ≡ Some rec =
+    ap (λ (ps : List TreePath). option_and_then read (find (λ (leaf : TreePath). leaf.number == id) ps)) same
+    ∙ ap (option_and_then read) has.leads
+    ∙ own_rec format old new block place has.low span id was.1.0 rec was.1.1 now.1 once in (
+      record {
+        magic = kept.magic ∙ stands.magic;
+        version = ap format_of kept.version ∙ stands.version;
+        block_grace = stands.block_grace ∙ ap (λ (n : HeaderNumbers). n.block_grace) (sym head);
+        inode_grace = stands.inode_grace ∙ ap (λ (n : HeaderNumbers). n.inode_grace) (sym head);
+        flags = stands.flags ∙ sym kept.flags;
+        sound = sound_kept format old new stands.sound kept tree (λ _. omega (arith, room, long));
+        records = λ k. elim (eqb_tells k id) [
+          | inl own ↦ ap (get (insert value.records id rec)) own.1 ∙ inserted_own value.records id rec ∙ sym own_is
+              ∙ (λ i. tree_record format new (sym kept.blocks i) (sym own.1 i))
+          | inr other ↦ inserted_rest value.records id k rec other.1 ∙ stands.records k
+              ∙ sym (record_same format old new blocks stands.sound.two tree k (λ number some within. number_rec format old new block place has.low span id was.1.0 rec was.1.1 now.1 k other.1 number))
+              ∙ ap (λ (n : ℕ). tree_record format new n k) (sym kept.blocks)
+        ];
+      },
+      same,
+    )

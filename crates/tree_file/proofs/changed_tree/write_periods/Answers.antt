@@ -1,7 +1,0 @@
-use Rattle.std.proofs.Common.{◌∙◌, arith}
-use Rattle.tree_file.proofs.DataBlockLemmas.{number_same}
-use Rattle.tree_file.proofs.changed_tree.write_periods.Goals as goal
-
-pub returns-clause-block : goal.returns-clause-block
-returns-clause-block c =
-    number_same 4 8 c.write4-2.new.bytes c.write4.new.bytes (λ k from to. c.write4-2.ensures.kept.before k (omega (arith, to))) ∙ c.write4.ensures.value

@@ -1,0 +1,17 @@
+use Rattle.std.proofs.Common.{◌≡◌, List}
+use Rattle.quota_types.specs.declared.record.Entry.{Entry}
+use Rattle.quota_blocks.specs.QuotaValue.{QuotaValue}
+use Rattle.quota_blocks.specs.Listed.{ids_of}
+use Rattle.tree_file.specs.Needed.{HasMet}
+use Rattle.tree_file.specs.TreeFile.{TreeStandsFor}
+use Rattle.tree_file.proofs.ListingLemmas.{IsListedUpTo, ids_after}
+use Rattle.tree_file.proofs.overwriting.count_needed.Given as goal
+
+abbrev pub invariant-ids : goal.invariant-ids
+invariant-ids l =
+    (list : List Entry)
+    × HasMet (ids_of list) l.needed
+    × ((value : QuotaValue) → TreeStandsFor l.tree.bytes.items value → IsListedUpTo value.records l.needed.last list)
+
+abbrev pub decreases-ids : goal.decreases-ids
+decreases-ids l = ids_after l.needed.last

@@ -1,0 +1,17 @@
+-- An entry that is overwritten where it stands in a file.
+use Rattle.std.specs.Prelude.{◌≡◌, ℕ, ◌+◌, ◌*◌, ◌<◌, ◌==◌, IsSome, List, find, Some}
+use Rattle.quota_types.specs.declared.file_kind.Format.{Format}
+use Rattle.entry_codec.specs.Entry.{entries_per_block, entry_size}
+use Rattle.tree_file.specs.declared.tree_path.TreePath.{TreePath}
+use Rattle.tree_file.specs.Block.{block_of}
+use Rattle.tree_file.specs.Entries.{record_by}
+use Rattle.tree_file.specs.Tree.{leaves}
+
+-- An identifier leads to a data block, and an entry of that block which it uses begins at a place of the file.
+pub record HasEntryAt (format : Format) (file : List ℕ) (blocks id at : ℕ) : Type 0 where
+  pub block : ℕ
+  pub leads : find (λ (leaf : TreePath). leaf.number == id) (leaves file blocks) ≡ Some (record { number = id; block = block })
+  pub place : ℕ
+  pub low : place < entries_per_block format
+  pub used : IsSome (record_by format (block_of file block) id place)
+  pub begins : at ≡ 1024 * block + (16 + entry_size format * place)

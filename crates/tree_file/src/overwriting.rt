@@ -1,0 +1,56 @@
+ghost use Rattle.std.specs.Prelude.{◌≡◌, ◌+◌, ◌*◌, ◌≤◌, IfOk, IfSome, IsSome, vec_len};
+ghost use Rattle.std.specs.Bool.{OnTrue};
+ghost use Rattle.entry_codec.specs.Entry.{entry_size};
+ghost use Rattle.quota_blocks.specs.QuotaValue.{QuotaValue};
+ghost use Rattle.tree_file.specs.Needed.{HasMet};
+ghost use Rattle.tree_file.specs.Opened.{ids_in};
+ghost use Rattle.tree_file.specs.Overwritten.{HasEntryAt};
+ghost use Rattle.tree_file.specs.Size.{blocks_needed};
+ghost use Rattle.tree_file.specs.TreeFile.{TreeStandsFor};
+
+use crate::loaded::LoadedTree;
+use crate::needed::Needed;
+use quota_types::Damage;
+
+/// Where in a file that would not have fewer blocks if it was built anew the entry of an identifier begins, where it has one.
+pub(crate) fn place_to_overwrite(tree: &LoadedTree, id: u32) -> Option<usize>
+    ensures there { IfSome result (HasEntryAt tree.now.header.format tree.now.bytes.items tree.now.header.blocks id) }
+    ensures whole { IfSome result (λ at. at + entry_size tree.now.header.format ≤ vec_len tree.now.bytes) }
+    ensures long { IsSome result → vec_len tree.now.bytes ≡ 1024 * tree.now.header.blocks }
+    ensures needed { IsSome result → (value : QuotaValue) → TreeStandsFor tree.now.bytes.items value
+        → tree.now.header.blocks ≡ blocks_needed value.format (ids_in value.records) }
+{
+    let at = tree.place_of(id)?;
+    if has_fewest_blocks(tree) {
+        Some(at)
+    } else {
+        None
+    }
+}
+
+/// Whether a file has no more blocks than its identifiers need, and no byte behind them.
+fn has_fewest_blocks(tree: &LoadedTree) -> bool
+    ensures long { OnTrue result (vec_len tree.now.bytes ≡ 1024 * tree.now.header.blocks) }
+    ensures needed { OnTrue result ((value : QuotaValue) → TreeStandsFor tree.now.bytes.items value
+        → tree.now.header.blocks ≡ blocks_needed value.format (ids_in value.records)) }
+{
+    if tree.bytes.len() != 1024 * tree.header.blocks as usize {
+        return false;
+    }
+    match count_needed(tree) {
+        Ok(needed) => needed.blocks(tree.header.format) == u64::from(tree.header.blocks),
+        Err(_) => false,
+    }
+}
+
+/// Meets the identifiers of a file one after another.
+fn count_needed(tree: &LoadedTree) -> Result<Needed, Damage>
+    ensures { IfOk result (λ needed. (value : QuotaValue) → TreeStandsFor tree.now.bytes.items value
+        → HasMet (ids_in value.records) needed) }
+{
+    let mut needed = Needed::none();
+    'ids: while let Some(entry) = tree.next_record(needed.last)? {
+        needed.add(entry.id);
+    }
+    Ok(needed)
+}
