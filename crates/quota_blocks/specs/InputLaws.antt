@@ -1,6 +1,6 @@
 -- What a file of a store as a source keeps along its calls is kept by no call, by two in a row, and whether or not they
 -- answered Ok.
-use Rattle.std.specs.Prelude.{◌≤◌, ◌⊎◌, ◌&&◌, Bool, true, false, IsTrue, List, ℕ, refl}
+use Rattle.std.specs.Prelude.{◌≤◌, ◌⊎◌, ◌&&◌, Bool, true, false, List, ℕ, refl}
 use Rattle.std.proofs.Common.{◌∙◌, inl, inr, arith, subst}
 use Rattle.std.proofs.Math.Nat.{le_refl, le_trans}
 use Rattle.std.proofs.lemmas.Bool.{and_parts, false≢true}
@@ -13,7 +13,7 @@ use Rattle.quota_blocks.specs.StoreInput.{KeepsInput}
 use Rattle.quota_blocks.specs.Unsynced.{AddsNone, Names}
 use Rattle.quota_blocks.specs.declared.store_input.StoreInput.{StoreInput}
 
--- no name is unsynced that was not, unless the count of faults rose: by no call, and by two in a row
+-- no name is unsynced that was not, unless the count of faults rose: so along two calls in a row where it is so along each
 unsynced_on : (faults faults_between faults_last : ℕ) (names names_between names_last : Names) → faults ≤ faults_between → faults_between ≤ faults_last
     → (Rose faults faults_between ⊎ AddsNone names names_between) → (Rose faults_between faults_last ⊎ AddsNone names_between names_last)
     → Rose faults faults_last ⊎ AddsNone names names_last

@@ -2,6 +2,8 @@
 use Rattle.std.specs.Prelude.{ℕ, List, ◌++◌, None, Some, codes, ⊤}
 use Rattle.quota_blocks.specs.Count.{Rose}
 use Rattle.quota_blocks.specs.World.{KeepsOtherTwo, World, with_file}
+use Rattle.quota_blocks.specs.declared.quota_file.FileFault.{FileFault}
+use Rattle.quota_blocks.specs.declared.quota_file.FileFault.TheVariants.{Store as StoreFailed, Full as FullFor, Memory as NoMemory}
 use Rattle.quota_blocks.specs.declared.replacement.ReplaceFault.{ReplaceFault}
 use Rattle.quota_blocks.specs.declared.replacement.ReplaceFault.TheVariants.{Store, Full, Memory}
 
@@ -29,3 +31,9 @@ abbrev pub OnNoMemory : ReplaceFault → Type 0 → Type 0
 OnNoMemory Store P = ⊤
 OnNoMemory (Full _ _) P = ⊤
 OnNoMemory Memory P = P
+
+-- why a call on an opened file was refused, where its file could not be replaced
+abbrev pub file_fault : ReplaceFault → FileFault
+file_fault Store = StoreFailed
+file_fault (Full blocks limit) = FullFor blocks limit
+file_fault Memory = NoMemory

@@ -23,8 +23,8 @@ module _ {S : Type 0} (seen : S → StoreSeen) where
   }
 
 -- Both references stay, and the name; the store is only read. No name is unsynced that was not, unless the store's count
--- of faults rose; and none where each call answered Ok. Of a store that tells, bytes are taken from the front of what is
--- left.
+-- of faults rose; where each call answered Ok, not even then. Of a store that tells, bytes are taken from the front of what
+-- is left.
 pub record KeepsInput {S : Type 0} (tells : Bool) (seen : S → StoreSeen) (ok : Bool) (old new : StoreInput S) : Type 0 where
   pub source : new.source.ghost_name ≡ old.source.ghost_name
   pub store : new.store.ghost_name ≡ old.store.ghost_name

@@ -12,7 +12,7 @@ ghost use Rattle.quota_blocks.specs.Unsynced.{AddsNone};
 ghost use Rattle.quota_blocks.specs.World.{World};
 ghost use Rattle.quota_blocks.specs.declared.quota_file.FileFault.{FileFault};
 
-use crate::Store;
+use crate::{ReplaceFault, Store};
 use quota_types::{Damage, Entry, Format, Grace, Rec};
 
 /// Why a call on an opened quota file was refused.
@@ -31,6 +31,20 @@ pub enum FileFault {
     },
     /// There was not enough memory.
     Memory,
+}
+
+impl From<ReplaceFault> for FileFault {
+    ghost use Rattle.quota_blocks.specs.Replace.{file_fault};
+
+    ghost from_gives = { λ fault gives. gives ≡ file_fault fault };
+
+    fn from(fault: ReplaceFault) -> Self {
+        match fault {
+            ReplaceFault::Store => FileFault::Store,
+            ReplaceFault::Full { blocks, limit } => FileFault::Full { blocks, limit },
+            ReplaceFault::Memory => FileFault::Memory,
+        }
+    }
 }
 
 /// Why a quota file could not be opened.

@@ -108,6 +108,8 @@ pub fn run<S: Store, I: Source, O: Sink, E: Sink, L: Link>(
     // No count of faults falls.
     ensures later { IsLater (seen_of (S.seen store.old) (I.seen input.old) (O.seen out.old) (E.seen err.old) (L.seen link.old))
         (seen_of (S.seen store.new) (I.seen input.new) (O.seen out.new) (E.seen err.new) (L.seen link.new)) }
+    // What the input keeps along its calls is kept, such as the files of a store that it reads from.
+    ensures keeps { I.keeps false input.old input.new }
 {
     let done = carry_out_words(alloc, words, store, input, out, err, link, now);
     finish(err, done)
@@ -141,6 +143,7 @@ fn carry_out_words<S: Store, I: Source, O: Sink, E: Sink, L: Link>(
     ensures store { (refusal : Refusal) → faulty_asked (built_command (texts_of words.now)) ≡ Some refusal
         → store.new ≡ store.old }
     ensures input { (asked_uses (built_command (texts_of words.now))).input ≡ false → input.new ≡ input.old }
+    ensures keeps { I.keeps false input.old input.new }
     ensures out { (asked_uses (built_command (texts_of words.now))).out ≡ false → out.new ≡ out.old }
     ensures link { (asked_uses (built_command (texts_of words.now))).link ≡ false → link.new ≡ link.old }
 {

@@ -12,7 +12,7 @@ ghost use Rattle.quota_v1.specs.View.{flat_limit};
 
 use crate::flat_change::{with_grace, with_record};
 use crate::flat_record::{grace_of, next_record, record_of};
-use quota_blocks::{FileFault, QuotaFile, ReplaceFault, Store, replace};
+use quota_blocks::{FileFault, QuotaFile, Store, replace};
 use quota_types::{Entry, Format, Grace, Rec};
 
 /// An opened flat file, which keeps the file's name and its bytes.
@@ -74,11 +74,7 @@ impl V1File {
                 self.bytes = bytes;
                 Ok(())
             }
-            Err(ReplaceFault::Store) => Err(self.refused(FileFault::Store)),
-            Err(ReplaceFault::Full { blocks, limit }) => {
-                Err(self.refused(FileFault::Full { blocks, limit }))
-            }
-            Err(ReplaceFault::Memory) => Err(self.refused(FileFault::Memory)),
+            Err(fault) => Err(self.refused(FileFault::from(fault))),
         }
     }
 }

@@ -1,4 +1,5 @@
--- An entry that is overwritten where it stands in a file.
+-- An entry that is overwritten where it stands in a file. Source: the kernel's `fs/quota/quota_tree.c` (entries fill a data
+-- block behind its header of 16 bytes).
 use Rattle.std.specs.Prelude.{◌≡◌, ℕ, ◌+◌, ◌*◌, ◌<◌, ◌==◌, IsSome, List, find, Some}
 use Rattle.quota_types.specs.declared.file_kind.Format.{Format}
 use Rattle.entry_codec.specs.Entry.{entries_per_block, entry_size}

@@ -10,14 +10,13 @@ use Rattle.quota_blocks.specs.Span.{KeepsOutside}
 use Rattle.quota_blocks.specs.World.{World}
 use Rattle.quota_blocks.specs.declared.quota_file.FileFault.{FileFault}
 use Rattle.quota_blocks.specs.declared.quota_file.FileFault.TheVariants.{Store, Damage, Full, Memory}
-use Rattle.quota_blocks.specs.declared.replacement.ReplaceFault.{ReplaceFault}
-use Rattle.quota_blocks.specs.declared.replacement.ReplaceFault.TheVariants.{Store as StoreFailed, Full as FullFor, Memory as NoMemory}
 use Rattle.entry_codec.specs.Header.{header_of}
 use Rattle.tree_file.specs.Opened.{ids_in, whole_blocks}
 use Rattle.tree_file.specs.Size.{blocks_needed}
 use Rattle.tree_file.specs.TreeFile.{TreeStandsFor}
 
--- The file was built anew, whatever it was before: it has as many blocks as its identifiers need, and no byte behind them.
+-- The file is as small as one that is built anew, whatever it was before: it has as many blocks as its identifiers need, and
+-- no byte behind them.
 pub record IsBuiltAnew (before after : List ℕ) : Type 0 where
   pub long : length after ≡ 1024 * (header_of after).blocks
   pub needed : (value : QuotaValue) → TreeStandsFor after value → (header_of after).blocks ≡ blocks_needed value.format (ids_in value.records)
@@ -48,9 +47,3 @@ IsRewriteFault before now Store = Rose before now
 IsRewriteFault before now (Damage _) = ⊥
 IsRewriteFault before now (Full _ _) = ⊥
 IsRewriteFault before now Memory = ⊤
-
--- why a change of a file was refused that could not be replaced
-abbrev pub fault_of : ReplaceFault → FileFault
-fault_of StoreFailed = Store
-fault_of (FullFor blocks limit) = Full blocks limit
-fault_of NoMemory = Memory

@@ -13,12 +13,16 @@ use quota_types::{Entry, Format};
 /// each level below the root, which are as many as the beginnings of one, two or three bytes that the identifiers have.
 #[derive(Clone, Copy, Debug)]
 pub(crate) struct Needed {
+    /// How many identifiers were met.
     entries: u64,
+    /// How many beginnings of one byte they have.
     firsts: u64,
+    /// How many beginnings of two bytes.
     seconds: u64,
+    /// How many beginnings of three bytes.
     thirds: u64,
     /// The last identifier that was met.
-    pub last: Option<u32>,
+    pub(crate) last: Option<u32>,
     ghost few: { entries ≤ room_up_to last },
     ghost few_firsts: { firsts ≤ entries },
     ghost few_seconds: { seconds ≤ entries },
@@ -66,7 +70,7 @@ impl Needed {
 }
 
 /// How many more beginnings there are once an identifier comes after the last one: none where both begin alike, and else one.
-/// The beginning is what a division leaves.
+/// An identifier's beginning is its quotient by `divisor`.
 fn new_beginnings(last: Option<u32>, id: u32, divisor: u32) -> u64
     requires { 0 < divisor }
     ensures { result ≡ new_beginnings divisor last id }

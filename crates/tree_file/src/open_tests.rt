@@ -241,28 +241,28 @@ fn a_record_is_written_over_the_old_one(rt: HostRuntime) -> Result<(), Fail> {
     let unnamed = (1000, 7);
     let mut changes = Vec::from_slice(rt.alloc(), &ENTRY_WITH_LIMITS)?;
     changes.push(unnamed)?;
-    let file = changed(rt.alloc(), 6144, &[unnamed])?;
     let want = changed(rt.alloc(), 6144, changes.as_slice())?;
-    let mut store = store_of(rt.alloc(), file.as_slice(), &[])?;
-    let mut opened = open_users(rt.alloc(), &mut store, 6)?;
-    assert_eq!(rt; opened.put(&mut store, 1000, LIMITS), Ok(()));
-    assert_eq!(rt; store.file("q"), Some(want.as_slice()));
-    assert_eq!(rt; opened.tree.record_of(1000), Ok(Some(LIMITS)));
+    for len in [6144, 6200] {
+        let file = changed(rt.alloc(), len, &[unnamed])?;
+        let mut store = store_of(rt.alloc(), file.as_slice(), &[])?;
+        let mut opened = open_users(rt.alloc(), &mut store, 6)?;
+        assert_eq!(rt; opened.put(&mut store, 1000, USED), Ok(()));
+        assert_eq!(rt; opened.put(&mut store, 1000, LIMITS), Ok(()));
+        assert_eq!(rt; store.file("q"), Some(want.as_slice()), "{len}");
+        assert_eq!(rt; opened.tree.record_of(1000), Ok(Some(LIMITS)));
+    }
     Ok(())
 }
 
 #[test]
-fn a_file_with_blocks_to_spare_is_built_anew(rt: HostRuntime) -> Result<(), Fail> {
-    let want = changed(rt.alloc(), 6144, &ENTRY_WITH_LIMITS)?;
-    let free_block = [(BLOCKS, 7), (FREE, 6)];
-    for (len, changes) in [(7168, free_block.as_slice()), (6200, &[])] {
-        let file = changed(rt.alloc(), len, changes)?;
-        let mut store = store_of(rt.alloc(), file.as_slice(), &[])?;
-        let mut opened = open_users(rt.alloc(), &mut store, 100)?;
-        assert_eq!(rt; opened.put(&mut store, 1000, LIMITS), Ok(()));
-        assert_eq!(rt; store.file("q").map(|new| new.len()), Some(want.len()));
-        assert_eq!(rt; opened.tree.record_of(1000), Ok(Some(LIMITS)), "{len}");
-    }
+fn a_file_with_a_free_block_is_built_anew(rt: HostRuntime) -> Result<(), Fail> {
+    let file = changed(rt.alloc(), 7168, &[(BLOCKS, 7), (FREE, 6), (1000, 7)])?;
+    let mut store = store_of(rt.alloc(), file.as_slice(), &[])?;
+    let mut opened = open_users(rt.alloc(), &mut store, 100)?;
+    assert_eq!(rt; opened.put(&mut store, 1000, LIMITS), Ok(()));
+    let new = store.file("q").unwrap_or(b"");
+    assert_eq!(rt; (new.len(), new.get(1000).copied()), (6144, Some(0)));
+    assert_eq!(rt; opened.tree.record_of(1000), Ok(Some(LIMITS)));
     Ok(())
 }
 
@@ -320,11 +320,29 @@ fn a_file_is_full_at_its_limit(rt: HostRuntime) -> Result<(), Fail> {
     Ok(())
 }
 
-/// Asserts that a file is as before, or has one record more, after a change of which the call of the store with this number
-/// fails.
-fn assert_old_or_new(rt: &impl Abort, alloc: Global, call: u64) -> Result<(), Fail> {
+/// Changes the limits of an identifier, or the grace periods where none is given.
+fn change(opened: &mut TreeFile, store: &mut MemStore, id: Option<u32>) -> Result<(), FileFault>
+    requires usable { opened.old.usable ≡ true }
+    requires format { opened.old.tree.header.format ≡ Format.V2R1 }
+{
+    match id {
+        Some(id) => opened.put(store, id, LIMITS),
+        None => opened.set_grace(store, Grace { block: 7, inode: 9 }),
+    }
+}
+
+/// Asserts that a file is as before, or is changed, after a change of which the call of the store with this number fails,
+/// and that the opened file is likewise.
+fn assert_old_or_new(
+    rt: &impl Abort,
+    alloc: Global,
+    id: Option<u32>,
+    call: u64,
+) -> Result<(), Fail> {
     let file = changed(alloc, 6144, &[])?;
-    let new = with_one_more(alloc, file.as_slice(), 7)?;
+    let mut sound = store_of(alloc, file.as_slice(), &[])?;
+    let mut opened = open_users(alloc, &mut sound, 100)?;
+    assert_eq!(rt; change(&mut opened, &mut sound, id), Ok(()));
     let mut store = store_of(alloc, file.as_slice(), &[call])?;
     let mut opened = match open_users(alloc, &mut store, 100) {
         Ok(opened) => opened,
@@ -334,20 +352,24 @@ fn assert_old_or_new(rt: &impl Abort, alloc: Global, call: u64) -> Result<(), Fa
             return Ok(());
         }
     };
-    if opened.put(&mut store, 7, USED).is_ok() {
-        assert_eq!(rt; store.file("q"), Some(new.as_slice()));
+    if change(&mut opened, &mut store, id).is_ok() {
+        assert_eq!(rt; store.file("q"), sound.file("q"));
     } else {
         assert!(rt; !opened.usable);
         assert_eq!(rt; opened.refusals, 1);
         assert_eq!(rt; store.file("q"), Some(file.as_slice()));
+        assert_eq!(rt; opened.tree.bytes.as_slice(), file.as_slice());
+        assert_eq!(rt; opened.tree.header.grace.block, 604_800);
     }
     Ok(())
 }
 
 #[test]
 fn a_fault_of_the_store_leaves_the_old_file(rt: HostRuntime) -> Result<(), Fail> {
-    for call in 1..40 {
-        assert_old_or_new(&rt, rt.alloc(), call)?;
+    for id in [Some(7), Some(1000), None] {
+        for call in 1..40 {
+            assert_old_or_new(&rt, rt.alloc(), id, call)?;
+        }
     }
     Ok(())
 }

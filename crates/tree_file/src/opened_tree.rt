@@ -11,22 +11,23 @@ ghost use Rattle.quota_blocks.specs.World.{KeepsOthers, overwritten};
 ghost use Rattle.entry_codec.specs.Header.{AreOf, header_of};
 ghost use Rattle.tree_file.specs.Opened.{HoldsTree, LacksRoom, MayRefuse, tree_seen};
 ghost use Rattle.tree_file.specs.Rebuilt.{value_changed};
-ghost use Rattle.tree_file.specs.TreeChange.{IsBuiltAnew, IsRewriteFault, WritesWhole, fault_of};
+ghost use Rattle.tree_file.specs.TreeChange.{IsBuiltAnew, IsRewriteFault, WritesWhole};
 ghost use Rattle.tree_file.specs.TreeFile.{TreeStandsFor};
 
 use crate::changed_tree::{GRACE_AT, grace_bytes, rebuilt};
 use crate::loaded::LoadedTree;
 use crate::overwriting::place_to_overwrite;
 use entry_codec::{entry_size, write_entry};
-use quota_blocks::{FileFault, QuotaFile, ReplaceFault, Store, replace};
+use quota_blocks::{FileFault, QuotaFile, Store, replace};
 use quota_types::{Damage, Entry, Format, Grace, Rec};
 
 /// An opened tree file, which keeps the file's name and its blocks.
 ///
 /// A change writes the whole file anew and renames it, so that a fault leaves the named file as it was. A look-up reads
 /// nothing of the store. A file into which a record is put, or out of which one is taken, is built anew with as few blocks
-/// as can be; its flags stay, and its null records too. Where it has so few already and the identifier has a record, that
-/// record is written over in the loaded blocks, and so are grace periods; then no second copy of them is held.
+/// as can be; its flags stay, and its null records too. A record that is put in place of another one, in a file that has so
+/// few blocks already, is written over it in the loaded blocks. Grace periods always are. Then no second copy of the blocks
+/// is held.
 #[derive(Debug, Drop)]
 pub struct TreeFile {
     pub(crate) name: String,
@@ -107,7 +108,7 @@ impl TreeFile {
                 self.tree = tree;
                 Ok(())
             }
-            Err(fault) => Err(self.refused(file_fault(fault))),
+            Err(fault) => Err(self.refused(FileFault::from(fault))),
         }
     }
 
@@ -160,13 +161,13 @@ impl TreeFile {
             Ok(()) => Ok(()),
             Err(fault) => {
                 self.tree.exchange(at, span, &mut grace);
-                Err(self.refused(file_fault(fault)))
+                Err(self.refused(FileFault::from(fault)))
             }
         }
     }
 
-    /// Puts in the place of the named file the one that is built anew once the record of an identifier is this one, or is
-    /// not there.
+    /// Puts in the place of the named file one with as few blocks as can be, in which the record of an identifier is this
+    /// one, or is not there. It is built anew, unless the record can be written over the old one.
     fn rebuild<S: Store>(
         &mut self,
         store: &mut S,
@@ -245,17 +246,6 @@ impl TreeFile {
             Ok(tree) => self.rewrite(store, tree),
             Err(fault) => Err(self.refused(fault)),
         }
-    }
-}
-
-/// Why a file that could not be replaced could not be changed.
-fn file_fault(fault: ReplaceFault) -> FileFault
-    ensures { result ≡ fault_of fault }
-{
-    match fault {
-        ReplaceFault::Store => FileFault::Store,
-        ReplaceFault::Full { blocks, limit } => FileFault::Full { blocks, limit },
-        ReplaceFault::Memory => FileFault::Memory,
     }
 }
 

@@ -34,11 +34,12 @@ fn has_fewest_blocks(tree: &LoadedTree) -> bool
     ensures needed { OnTrue result ((value : QuotaValue) → TreeStandsFor tree.now.bytes.items value
         → tree.now.header.blocks ≡ blocks_needed value.format (ids_in value.records)) }
 {
-    if tree.bytes.len() != 1024 * tree.header.blocks as usize {
+    let header = &tree.header;
+    if header.free != 0 || tree.bytes.len() != 1024 * header.blocks as usize {
         return false;
     }
     match count_needed(tree) {
-        Ok(needed) => needed.blocks(tree.header.format) == u64::from(tree.header.blocks),
+        Ok(needed) => needed.blocks(header.format) == u64::from(header.blocks),
         Err(_) => false,
     }
 }

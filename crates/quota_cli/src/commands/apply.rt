@@ -1,4 +1,4 @@
-ghost use Rattle.std.specs.Prelude.{ℕ, Option, ◌≡◌, Bool, Err, IsSome, IsTrue, OnErr, OnOk, Some};
+ghost use Rattle.std.specs.Prelude.{ℕ, Option, ◌≡◌, Bool, false, Err, IsSome, IsTrue, OnErr, OnOk, Some};
 ghost use Rattle.quota_blocks.specs.Seen.{LinkSeen, SinkSeen};
 ghost use Rattle.quota_blocks.specs.Unsynced.{AddsNone};
 ghost use Rattle.quota_cli.specs.declared.refusal.reason.Refusal.{Refusal};
@@ -52,6 +52,7 @@ pub fn apply_by_word<S: Store, I: Source, E: Sink>(
     ensures synced { OnOk result (IsTrue S.tells
         → AddsNone (S.seen store.old).unsynced (S.seen store.new).unsynced) }
     ensures untouched { IsSome from → input.new ≡ input.old }
+    ensures keeps { I.keeps false input.old input.new }
     ensures quiet { err.new ≡ err.old }
 {
     let Common {
@@ -93,6 +94,7 @@ fn apply_named<S: Store, I: Source, E: Sink>(
     ensures synced { OnOk result (IsTrue S.tells
         → AddsNone (S.seen store.old).unsynced (S.seen store.new).unsynced) }
     ensures untouched { IsSome from → input.new ≡ input.old }
+    ensures keeps { I.keeps false input.old input.new }
     ensures quiet { err.new ≡ err.old }
 {
     match read_identifier(names, word) {
@@ -126,6 +128,7 @@ fn apply_form<S: Store, I: Source, E: Sink>(
     ensures synced { OnOk result (IsTrue S.tells
         → AddsNone (S.seen store.old).unsynced (S.seen store.new).unsynced) }
     ensures untouched { IsSome from → input.new ≡ input.old }
+    ensures keeps { I.keeps false input.old input.new }
     ensures quiet { err.new ≡ err.old }
 {
     match take_form(alloc, names, kind, id, file.as_str(), from, store, input) {

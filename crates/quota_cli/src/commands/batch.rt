@@ -1,4 +1,4 @@
-ghost use Rattle.std.specs.Prelude.{ℕ, Option, ◌≡◌, Bool, IsSome, IsTrue, OnOk};
+ghost use Rattle.std.specs.Prelude.{ℕ, Option, ◌≡◌, Bool, false, IsSome, IsTrue, OnOk};
 ghost use Rattle.quota_types.specs.declared.file_kind.Format.{Format as FormatOf};
 ghost use Rattle.quota_blocks.specs.QuotaValue.{QuotaValue};
 ghost use Rattle.quota_blocks.specs.Seen.{LinkSeen, SinkSeen, SourceSeen};
@@ -47,6 +47,7 @@ pub fn apply_lines<S: Store, I: Source>(
     ensures synced { OnOk result (IsTrue S.tells
         → AddsNone (S.seen store.old).unsynced (S.seen store.new).unsynced) }
     ensures untouched { IsSome from → input.new ≡ input.old }
+    ensures keeps { I.keeps false input.old input.new }
 {
     let Common {
         kind,
@@ -80,6 +81,7 @@ fn apply_named<S: Store, I: Source>(
     ensures synced { OnOk result (IsTrue S.tells
         → AddsNone (S.seen store.old).unsynced (S.seen store.new).unsynced) }
     ensures untouched { IsSome from → input.new ≡ input.old }
+    ensures keeps { I.keeps false input.old input.new }
 {
     match open_file(alloc, store, file.as_str(), kind, format) {
         Ok(opened) => apply_opened(alloc, names, opened, from, file, store, input, now),
@@ -109,6 +111,7 @@ fn apply_opened<S: Store, I: Source>(
     ensures synced { OnOk result (IsTrue S.tells
         → AddsNone (S.seen store.old).unsynced (S.seen store.new).unsynced) }
     ensures untouched { IsSome from → input.new ≡ input.old }
+    ensures keeps { I.keeps false input.old input.new }
 {
     match take_batch(alloc, names, from, store, input) {
         Ok(batch) => {

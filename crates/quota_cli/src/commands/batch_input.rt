@@ -72,6 +72,7 @@ pub fn take_batch<S: Store, I: Source>(
     ensures leaves { OnlyReads (unwrap_or from []) (S.seen store.old) (S.seen store.new) }
     ensures synced { IfOk result (λ batch. batch.refusal ≡ None → AddsNone (S.seen store.old).unsynced (S.seen store.new).unsynced) }
     ensures later { (I.seen input.old).faults ≤ (I.seen input.new).faults }
+    ensures keeps { I.keeps false input.old input.new }
 {
     match from {
         Some(name) => take_file(alloc, names, name, store),
@@ -91,6 +92,7 @@ fn take_input<I: Source>(alloc: Global, names: &Names, input: &mut I) -> Result<
     ensures may { IfErr result (λ refusal. InputMayRefuse Lines None refusal.cause refusal.name) }
     ensures placed { IfErr result (λ refusal. refusal.place ≡ nowhere) }
     ensures later { (I.seen input.old).faults ≤ (I.seen input.new).faults }
+    ensures keeps { I.keeps false input.old input.new }
 {
     match read_batch(alloc, names, "", input) {
         Ok(batch) => Ok(batch),

@@ -52,6 +52,7 @@ pub fn check_file<S: Store, I: Source>(
     ensures synced { OnOk result (IsTrue S.tells
         → AddsNone (S.seen store.old).unsynced (S.seen store.new).unsynced) }
     ensures untouched { IsSome from → input.new ≡ input.old }
+    ensures keeps { I.keeps false input.old input.new }
 {
     let Common { kind, format, .. } = common;
     if fresh {
@@ -86,6 +87,7 @@ fn check_opened<S: Store, I: Source>(
     ensures synced { OnOk result (IsTrue S.tells
         → AddsNone (S.seen store.old).unsynced (S.seen store.new).unsynced) }
     ensures untouched { IsSome from → input.new ≡ input.old }
+    ensures keeps { I.keeps false input.old input.new }
 {
     match open_file(alloc, store, file.as_str(), kind, format) {
         Ok(opened) => match read_value(alloc, kind, opened, store) {
@@ -120,6 +122,7 @@ fn check_value<S: Store, I: Source>(
     ensures synced { OnOk result (IsTrue S.tells
         → AddsNone (S.seen store.old).unsynced (S.seen store.new).unsynced) }
     ensures untouched { IsSome from → input.new ≡ input.old }
+    ensures keeps { I.keeps false input.old input.new }
 {
     match take_usage(alloc, value.kind, device, from, store, input) {
         Ok(usage) => replace_usage(alloc, value, usage, file, store, now),

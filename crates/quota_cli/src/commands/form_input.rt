@@ -1,4 +1,4 @@
-ghost use Rattle.std.specs.Prelude.{◌≡◌, ◌≤◌, [], is_ok, IfErr, IfOk, IsSome, IsTrue, None, OnOk, Some, unwrap_or};
+ghost use Rattle.std.specs.Prelude.{◌≡◌, ◌≤◌, [], false, is_ok, IfErr, IfOk, IsSome, IsTrue, None, OnOk, Some, unwrap_or};
 ghost use Rattle.id_names.specs.FirstMatch.{first_name};
 ghost use Rattle.quota_blocks.specs.Behind.{IsBehind};
 ghost use Rattle.quota_blocks.specs.Count.{Rose};
@@ -51,6 +51,7 @@ pub fn take_form<S: Store, I: Source>(
     ensures leaves { OnlyReads (unwrap_or from []) (S.seen store.old) (S.seen store.new) }
     ensures synced { OnOk result (AddsNone (S.seen store.old).unsynced (S.seen store.new).unsynced) }
     ensures later { (I.seen input.old).faults ≤ (I.seen input.new).faults }
+    ensures keeps { I.keeps false input.old input.new }
 {
     match from {
         Some(name) => read_form_file(names, kind, id, file, name, store),
@@ -77,6 +78,7 @@ fn read_form_input<I: Source>(
     ensures may { IfErr result (λ refusal. FormMayRefuse None refusal.cause refusal.name) }
     ensures placed { IfErr result (λ refusal. refusal.place ≡ nowhere) }
     ensures later { (I.seen input.old).faults ≤ (I.seen input.new).faults }
+    ensures keeps { I.keeps false input.old input.new }
 {
     match read_form_of(input, names, kind, id, file) {
         Ok(limits) => Ok(limits),

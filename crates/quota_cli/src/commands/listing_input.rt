@@ -1,4 +1,4 @@
-ghost use Rattle.std.specs.Prelude.{◌≡◌, ◌≤◌, [], IfErr, IfOk, IsSome, IsTrue, None, OnOk, Some, unwrap_or};
+ghost use Rattle.std.specs.Prelude.{◌≡◌, ◌≤◌, [], false, IfErr, IfOk, IsSome, IsTrue, None, OnOk, Some, unwrap_or};
 ghost use Rattle.quota_blocks.specs.Behind.{IsBehind};
 ghost use Rattle.quota_blocks.specs.Count.{Rose};
 ghost use Rattle.quota_blocks.specs.Frame.{OnlyReads};
@@ -45,6 +45,7 @@ pub fn take_usage<S: Store, I: Source>(
     ensures leaves { OnlyReads (unwrap_or from []) (S.seen store.old) (S.seen store.new) }
     ensures synced { OnOk result (AddsNone (S.seen store.old).unsynced (S.seen store.new).unsynced) }
     ensures later { (I.seen input.old).faults ≤ (I.seen input.new).faults }
+    ensures keeps { I.keeps false input.old input.new }
 {
     match from {
         Some(name) => scan_file(alloc, kind, device, name, store),
@@ -68,6 +69,7 @@ fn scan_input<I: Source>(
     ensures may { IfErr result (λ refusal. InputMayRefuse AListing None refusal.cause refusal.name) }
     ensures placed { IfErr result (λ refusal. refusal.place ≡ nowhere) }
     ensures later { (I.seen input.old).faults ≤ (I.seen input.new).faults }
+    ensures keeps { I.keeps false input.old input.new }
 {
     match scan(alloc, input, kind, device) {
         Ok(usage) => Ok(usage),

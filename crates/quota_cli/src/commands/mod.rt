@@ -56,6 +56,7 @@ pub fn carry_out<S: Store, I: Source, O: Sink, E: Sink, L: Link>(
         → AddsNone (S.seen store.old).unsynced (S.seen store.new).unsynced) }
     ensures store { (refusal : Refusal) → faulty_word command ≡ Some refusal → store.new ≡ store.old }
     ensures input { (uses_of command).input ≡ false → input.new ≡ input.old }
+    ensures keeps { I.keeps false input.old input.new }
     ensures out { (uses_of command).out ≡ false → out.new ≡ out.old }
     ensures err { (uses_of command).warns ≡ false → err.new ≡ err.old }
     ensures quiet { (refusal : Refusal) → faulty_word command ≡ Some refusal → err.new ≡ err.old }
