@@ -1,5 +1,5 @@
 -- The lines of an input and the edits that they ask for.
-use Rattle.std.proofs.Common.{◌≡◌, ℕ, ◌+◌, Bool, true, false, cond, if◌then◌else◌, nat_lt, ◌^◌, List, [], ◌∷◌, ◌++◌, length, Option, None, Some, Ok, Err, Result, ◌⊎◌, inl, inr, refl, sym, ap, subst, ◌∙◌, arith, append-nil, append_assoc}
+use Rattle.std.proofs.Common.{◌≡◌, ℕ, ◌+◌, Bool, true, false, cond, if◌then◌else◌, nat_lt, ◌^◌, List, [], ◌∷◌, ◌++◌, length, Option, None, Some, Ok, Err, Result, ◌⊎◌, inl, inr, refl, sym, ap, subst, ◌∙◌, append-nil, append_assoc}
 use Rattle.std.specs.Prelude.{⊤, ◌&&◌, IfOk, IfSome, MatchResult}
 use Rattle.std.specs.Str.{all_ascii_digits}
 use Rattle.id_names.specs.FirstMatch.{first_id}
@@ -9,7 +9,6 @@ use Rattle.quota_blocks.specs.Lines.{LinesSeen}
 use Rattle.quota_blocks.specs.Numeral.{value_of}
 use Rattle.quota_blocks.specs.Words.{words_of}
 use Rattle.set_edit.specs.Number.{limit_of}
-use Rattle.set_edit.specs.declared.limits.Limits.{Limits as FourLimits}
 use Rattle.quota_cli.specs.declared.commands.batch_input.InputFault.{InputFault}
 use Rattle.quota_cli.specs.declared.commands.batch_input.InputFault.TheVariants.{Memory as NoMemory}
 use Rattle.quota_cli.specs.declared.commands.batch_line.FiveWords.{FiveWords}
@@ -17,10 +16,10 @@ use Rattle.quota_cli.specs.declared.commands.batch_line.LineEdit.{LineEdit}
 use Rattle.quota_cli.specs.declared.commands.batch_line.LineRead.{LineRead}
 use Rattle.quota_cli.specs.declared.commands.batch_line.LineRead.TheVariants.{Nothing, Edit as Found, Refused as Faulty}
 use Rattle.quota_cli.specs.declared.refusal.cause.Cause.{Cause}
-use Rattle.quota_cli.specs.declared.refusal.cause.Cause.TheVariants.{TooLarge, LongLine, BadLine, UnknownName, BadNumber}
+use Rattle.quota_cli.specs.declared.refusal.cause.Cause.TheVariants.{TooLarge, LongLine, UnknownName, BadNumber}
 use Rattle.quota_cli.specs.declared.refusal.reason.Refusal.{Refusal}
 use Rattle.quota_cli.specs.Outcome.{Outcome, Passed, Refused, and_then}
-use Rattle.quota_cli.specs.commands.Batch.{Asked, IsOfLine, LineMayRefuse, asks_then, at_line, ends_with, five_of, limits_asked, line_asks, line_named, line_outcome, lines_ask, read_at, read_then, refusal_read, says_nothing, words_ask}
+use Rattle.quota_cli.specs.commands.Batch.{Asked, IsOfLine, LineMayRefuse, asks_then, ends_with, five_of, limits_asked, line_asks, line_named, line_outcome, lines_ask, read_at, read_then, refusal_read, says_nothing, words_ask}
 use Rattle.quota_cli.specs.refusal.Refusals.{refusal_of, stands_in_line}
 use Rattle.quota_cli.specs.words.Numbers.{identifier_of, known, limit_read, limits_read, number_or_refused}
 

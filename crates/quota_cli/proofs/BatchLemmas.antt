@@ -1,13 +1,11 @@
 -- Edits of lines, one after another: what they have done up to one of them, and what a command does that makes them.
 use Rattle.std.proofs.Common.{◌≡◌, ◌≢◌, ℕ, ◌≤◌, Bool, true, false, IsTrue, List, [], ◌∷◌, ◌++◌, take, Option, None, Some, Ok, Err, Result, ◌⊎◌, inl, inr, if◌then◌else◌, refl, sym, ap, subst, ◌∙◌, arith, append-nil, append_assoc}
-use Rattle.std.specs.Prelude.{IfErr, IfSome, IsOkAnd, is_none}
+use Rattle.std.specs.Prelude.{IsOkAnd, is_none}
 use Rattle.std.proofs.lemmas.Bool.{false≢true}
 use Rattle.std.proofs.lemmas.Option.{none-some}
 use Rattle.id_names.specs.NamesFile.{NameLine}
 use Rattle.quota_types.specs.declared.field.Field.{Field}
-use Rattle.quota_types.specs.declared.field.NoRoom.{NoRoom}
 use Rattle.quota_types.specs.declared.file_kind.Format.{Format}
-use Rattle.quota_blocks.specs.Count.{Rose}
 use Rattle.quota_blocks.specs.Frame.{OnlyReads, ReplacesOne}
 use Rattle.quota_blocks.specs.QuotaFile.{FileSeen}
 use Rattle.quota_blocks.specs.QuotaValue.{QuotaValue}
@@ -15,7 +13,7 @@ use Rattle.quota_blocks.specs.Seen.{SourceSeen, StoreSeen}
 use Rattle.quota_blocks.specs.declared.quota_file.FileFault.TheVariants.{Store, Damage, Full, Memory}
 use Rattle.quota_map.specs.AnyFile.{HoldsAny, any_seen}
 use Rattle.quota_map.specs.declared.any_file.AnyFile.{AnyFile}
-use Rattle.quota_map.specs.View.{IsOpenedAs, IsView, fresh_seen, most_blocks}
+use Rattle.quota_map.specs.View.{IsOpenedAs, IsView, fresh_seen}
 use Rattle.set_edit.specs.Editing.{Edit, HasCause, file_at}
 use Rattle.set_edit.specs.Edits.{limits_edit}
 use Rattle.set_edit.specs.declared.limits.Limits.{Limits as FourLimits}
@@ -28,12 +26,12 @@ use Rattle.quota_cli.specs.declared.refusal.reason.Refusal.{Refusal}
 use Rattle.quota_cli.specs.refusal.Refusals.{refusal_of}
 use Rattle.quota_cli.specs.refusal.Status.{status_of}
 use Rattle.quota_cli.specs.Act.{Act, Change, ChangesNone, FollowsInPart}
-use Rattle.quota_cli.specs.Done.{AreDoneInPart, IsWorldTold, Outside, RunSeen, RunTells, outside_of}
+use Rattle.quota_cli.specs.Done.{AreDoneInPart, IsWorldTold, RunSeen, RunTells, outside_of}
 use Rattle.quota_cli.specs.Outcome.{Outcome, Passed, Refused}
 use Rattle.quota_cli.specs.Run.{CarriesOut, HasReason, HasSteps, IsFault}
 use Rattle.quota_cli.specs.commands.Batch.{Applied, Applying, AreDoneThen, Asked, IsOfLine, LineEditMayRefuse, LineSteps, LineMayRefuse, applied, at_line, does_then, edit_of, first_of, is_to_end, line_uses, met_at, value_left}
 use Rattle.quota_cli.specs.Opening.{MayRefuseOpening}
-use Rattle.quota_cli.specs.commands.Edits.{ChangeMayRefuse, changed, edit_cause, edit_step, is_too_large, written, blocks_of}
+use Rattle.quota_cli.specs.commands.Edits.{ChangeMayRefuse, changed, edit_cause, edit_step, is_too_large, written}
 use Rattle.quota_cli.proofs.ActLemmas.{all_done, none_in_part}
 use Rattle.quota_cli.proofs.BatchInputLemmas.{unnamed}
 use Rattle.quota_cli.proofs.DoingLemmas.{AreWritten, done_of, done_steps, doing_ended, doing_ends, doing_moved, doing_then, part_of, written_both, written_none}

@@ -1,6 +1,6 @@
 -- Listings that become the usage of a file: why one was not read, which value it leaves, and why a file was not read.
-use Rattle.std.proofs.Common.{◌≡◌, ◌≢◌, ℕ, suc, ◌≤◌, Bool, true, false, IsTrue, List, [], ◌∷◌, map, Option, None, Some, Ok, Err, Result, ◌⊎◌, inl, inr, refl, sym, ap, subst, ◌∙◌, arith}
-use Rattle.std.specs.Prelude.{⊤, T, ◌==◌, ◌&&◌, All, IfSome, cond, slice_get}
+use Rattle.std.proofs.Common.{◌≡◌, ◌≢◌, ℕ, suc, ◌≤◌, Bool, true, false, IsTrue, List, [], ◌∷◌, map, Option, None, Some, Err, Result, ◌⊎◌, inl, inr, refl, sym, ap, subst, ◌∙◌, arith}
+use Rattle.std.specs.Prelude.{T, ◌==◌, ◌&&◌, All, IfSome, cond, slice_get}
 use Rattle.std.specs.Cmp.{nat_cmp_total, unsigned_tied}
 use Rattle.std.specs.FinMap.{entries, entries_sorted, find, get, get-entries, get-from_entries, is_sorted}
 use Rattle.std.specs.FinMap.Entries.{below_all}
@@ -24,7 +24,7 @@ use Rattle.quota_types.specs.declared.file_kind.Kind.{Kind}
 use Rattle.quota_types.specs.declared.record.Rec.{Rec}
 use Rattle.quota_blocks.specs.Count.{Rose}
 use Rattle.quota_blocks.specs.Frame.{OnlyReads}
-use Rattle.quota_blocks.specs.QuotaValue.{QuotaValue, Records}
+use Rattle.quota_blocks.specs.QuotaValue.{QuotaValue}
 use Rattle.quota_blocks.specs.Seen.{StoreSeen}
 use Rattle.quota_blocks.proofs.FrameLemmas.{only_reads-none}
 use Rattle.quota_blocks.specs.declared.quota_file.FileFault.{FileFault}
@@ -46,14 +46,12 @@ use Rattle.inode_scan.specs.declared.fault.ScanFault.TheVariants.{Source, TooLar
 use Rattle.quota_cli.specs.declared.refusal.cause.Cause.{Cause}
 use Rattle.quota_cli.specs.declared.refusal.cause.Cause.TheVariants.{StoreFault, SourceFault, NoRoom}
 use Rattle.quota_cli.specs.declared.refusal.reason.Refusal.{Refusal}
-use Rattle.quota_cli.specs.Act.{Act}
-use Rattle.quota_cli.specs.Done.{IsWorldTold, Outside, RunSeen, RunTells, outside_of}
+use Rattle.quota_cli.specs.Done.{IsWorldTold, RunSeen, RunTells, outside_of}
 use Rattle.quota_cli.specs.Opening.{MayRefuseOpening, file_cause}
-use Rattle.quota_cli.specs.Outcome.{Outcome}
 use Rattle.quota_cli.specs.Run.{CarriesOut, HasReason, IsFault, Uses}
-use Rattle.quota_cli.specs.Steps.{Opening, Steps, Stop, Then}
+use Rattle.quota_cli.specs.Steps.{Opening, Steps}
 use Rattle.quota_cli.specs.Taking.{AListing, InputMayRefuse, IsInputFault}
-use Rattle.quota_cli.specs.commands.Check.{ReplaceSteps, UnfitMayRefuse, UsageMayLack, apply_cause, checked, replaced, scan_cause, scan_outcome, with_applied}
+use Rattle.quota_cli.specs.commands.Check.{ReplaceSteps, UnfitMayRefuse, UsageMayLack, apply_cause, checked, scan_cause, scan_outcome, with_applied}
 use Rattle.quota_cli.specs.commands.Edits.{edit_uses}
 use Rattle.quota_cli.specs.commands.FileValue.{IsMadeAnew, WritingMayRefuse}
 use Rattle.quota_cli.specs.refusal.Refusals.{refusal_of}

@@ -1,8 +1,7 @@
 -- Commands whose words are refused, and what all commands share.
-use Rattle.std.proofs.Common.{◌≡◌, ◌≢◌, ℕ, Bool, true, false, if◌then◌else◌, List, [], Option, None, Some, Ok, Err, Result, ◌⊎◌, inl, inr, refl, sym, ap, subst, ◌∙◌, arith}
-use Rattle.std.specs.Prelude.{⊤, IfErr, IfOk, IfSome, IsTrue, IsErr, IsErrAnd, ◌↔◌}
+use Rattle.std.proofs.Common.{◌≡◌, ◌≢◌, ℕ, Bool, true, false, if◌then◌else◌, List, Option, None, Some, Ok, Err, Result, inl, inr, refl, sym, ap, subst, arith}
+use Rattle.std.specs.Prelude.{IfErr, IfOk, IfSome, IsTrue, IsErr, IsErrAnd, ◌↔◌}
 use Rattle.quota_types.specs.declared.file_kind.Format.{Format}
-use Rattle.quota_types.specs.declared.file_kind.Format.TheVariants.{V1, V2R0, V2R1}
 use Rattle.id_names.specs.NamesFile.{NameLine}
 use Rattle.quota_blocks.specs.QuotaValue.{QuotaValue}
 use Rattle.set_edit.specs.Editing.{Edit}
@@ -21,18 +20,17 @@ use Rattle.quota_cli.specs.declared.words.reading.UsageFault.{UsageFault}
 use Rattle.quota_cli.specs.declared.words.reading.UsageFault.TheVariants.{Usage as UsageOf, Memory as NoMemory}
 use Rattle.quota_cli.specs.refusal.Refusals.{refusal_of}
 use Rattle.quota_cli.specs.refusal.Status.{status_of}
-use Rattle.quota_cli.specs.Act.{Act}
-use Rattle.quota_cli.specs.Done.{IsWorldTold, Outside, RunSeen, RunTells, outside_of}
+use Rattle.quota_cli.specs.Done.{RunSeen, RunTells}
 use Rattle.quota_cli.specs.Naming.{NamesMayRefuse}
 use Rattle.quota_cli.specs.Opening.{MayRefuseOpening}
-use Rattle.quota_cli.specs.Run.{CarriesOut, HasReason, HasSteps, IsFault, Uses}
+use Rattle.quota_cli.specs.Run.{CarriesOut, Uses}
 use Rattle.quota_cli.specs.Steps.{Steps, Stop}
 use Rattle.quota_cli.specs.declared.commands.occasion.Occasion.{Occasion}
 use Rattle.quota_cli.specs.commands.Apply.{ApplyMayRefuse}
 use Rattle.quota_cli.specs.commands.Batch.{BatchMayRefuse, LineMayRefuse}
 use Rattle.quota_cli.specs.commands.Built.{if_built, is_built, unknown_command}
 use Rattle.quota_cli.specs.commands.Check.{CheckMayRefuse, UnfitMayRefuse, UsageMayRefuse, new_value}
-use Rattle.quota_cli.specs.commands.Edits.{ChangeMayRefuse, EditMayRefuse, FileEditMayRefuse, NamedEditMayRefuse}
+use Rattle.quota_cli.specs.commands.Edits.{ChangeMayRefuse, EditMayRefuse, FileEditMayRefuse}
 use Rattle.quota_cli.specs.commands.FileValue.{WritingMayRefuse}
 use Rattle.quota_cli.specs.commands.Print.{PrintMayRefuse}
 use Rattle.quota_cli.specs.commands.Report.{ReportMayRefuse}

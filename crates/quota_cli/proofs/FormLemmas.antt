@@ -1,7 +1,5 @@
 -- Forms: why one was not read, and which limits it asks for.
-use Rattle.std.proofs.Common.{◌≡◌, ℕ, Bool, IsTrue, List, [], Option, None, Some, Ok, Err, Result, refl, sym, ap, subst, ◌∙◌}
-use Rattle.quota_types.specs.declared.file_kind.Kind.{Kind}
-use Rattle.id_names.specs.NamesFile.{NameLine}
+use Rattle.std.proofs.Common.{◌≡◌, ℕ, Bool, IsTrue, List, [], None, Some, Result, refl, sym, ap, subst}
 use Rattle.quota_blocks.specs.Count.{Rose}
 use Rattle.quota_blocks.specs.declared.line_reader.LineFault.TheVariants.{Source, Long, TooLarge as PastTotal}
 use Rattle.set_edit.specs.FormReading.{IsFormFault}
@@ -11,8 +9,8 @@ use Rattle.set_edit.specs.declared.limits.Limits.{Limits as FourLimits}
 use Rattle.quota_cli.specs.declared.refusal.cause.Cause.{Cause}
 use Rattle.quota_cli.specs.declared.refusal.cause.Cause.TheVariants.{StoreFault, SourceFault, SinkFault, LinkFault, Memory, NoFile, TooLarge, NotQuota, WrongKind, UnknownVersion, BadBlockCount, OtherFormat, Damaged, Full, NoRoom, UnknownName, BadNumber, TargetExists, SameName, BadForm, BadLine, LongLine, Conflict, Usage}
 use Rattle.quota_cli.specs.declared.refusal.reason.Refusal.{Refusal}
-use Rattle.quota_cli.specs.Outcome.{Outcome, Passed, Refused}
-use Rattle.quota_cli.specs.Taking.{IsInputFault, input_name}
+use Rattle.quota_cli.specs.Outcome.{Outcome}
+use Rattle.quota_cli.specs.Taking.{IsInputFault}
 use Rattle.quota_cli.specs.commands.Apply.{FormMayRefuse, form_cause, form_outcome}
 use Rattle.quota_cli.specs.refusal.Refusals.{refusal_of}
 

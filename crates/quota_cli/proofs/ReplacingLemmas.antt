@@ -1,6 +1,6 @@
 -- Commands that put a file of another value in the place of one: what was done where it was replaced, and where it was not.
-use Rattle.std.proofs.Common.{◌≡◌, ◌≢◌, ℕ, suc, ◌<◌, ◌≤◌, Bool, true, false, IsTrue, nat_lt, List, [], ◌∷◌, map, Option, None, Some, Ok, Err, Result, refl, sym, ap, subst, ◌∙◌, arith}
-use Rattle.std.specs.Prelude.{⊤, T, ◌&&◌, All, IfErr}
+use Rattle.std.proofs.Common.{◌≡◌, ℕ, suc, ◌<◌, ◌≤◌, Bool, true, false, IsTrue, nat_lt, List, [], ◌∷◌, map, Option, None, Some, Ok, Err, Result, refl, sym, ap, subst, ◌∙◌, arith}
+use Rattle.std.specs.Prelude.{T, ◌&&◌}
 use Rattle.std.specs.FinMap.{entries, entries_sorted, get-entries, get-from_entries, is_sorted, nat_cmp-IsAntisymmetric}
 use Rattle.std.specs.FinMap.Entries.{below_all, same_entries}
 use Rattle.std.specs.List.Sorted.{IsStrictlyIncreasing}
@@ -13,7 +13,7 @@ use Rattle.quota_types.specs.declared.field.NoRoom.{NoRoom}
 use Rattle.quota_types.specs.declared.record.Entry.{Entry}
 use Rattle.quota_types.specs.declared.record.Rec.{Rec}
 use Rattle.quota_types.specs.declared.file_kind.Format.{Format}
-use Rattle.quota_types.specs.declared.file_kind.Format.TheVariants.{V1, V2R0, V2R1}
+use Rattle.quota_types.specs.declared.file_kind.Format.TheVariants.{V1}
 use Rattle.quota_blocks.specs.Count.{Rose}
 use Rattle.quota_blocks.specs.Frame.{ReplacesOne}
 use Rattle.quota_blocks.specs.Listed.{ids_of, records_of}
@@ -32,8 +32,7 @@ use Rattle.quota_cli.specs.declared.refusal.cause.Cause.{Cause}
 use Rattle.quota_cli.specs.declared.refusal.cause.Cause.TheVariants.{StoreFault, Full, Memory}
 use Rattle.quota_cli.specs.declared.refusal.reason.Refusal.{Refusal}
 use Rattle.quota_cli.specs.Act.{Act, Change}
-use Rattle.quota_cli.specs.Done.{AreDoneInPart, IsWorldTold, Outside, RunSeen, RunTells, outside_of}
-use Rattle.quota_cli.specs.Outcome.{Outcome, Refused}
+use Rattle.quota_cli.specs.Done.{AreDoneInPart, Outside, RunSeen, RunTells, outside_of}
 use Rattle.quota_cli.specs.Run.{CarriesOut, HasSteps}
 use Rattle.quota_cli.specs.Steps.{DoingAll, Finish, Stop, Then}
 use Rattle.quota_cli.specs.commands.Check.{ReplaceSteps}

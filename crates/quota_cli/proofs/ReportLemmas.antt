@@ -1,5 +1,5 @@
 -- Why a report was not written whole.
-use Rattle.std.proofs.Common.{◌≡◌, ℕ, ◌≤◌, Bool, false, inl, inr, IsTrue, List, Option, refl}
+use Rattle.std.proofs.Common.{ℕ, ◌≤◌, false, inl, inr, IsTrue, List, Option, refl}
 use Rattle.std.specs.Prelude.{IfSome}
 use Rattle.quota_types.specs.declared.file_kind.Format.{Format}
 use Rattle.quota_blocks.specs.QuotaValue.{QuotaValue}

@@ -1,5 +1,5 @@
 -- From a text about an opened file to what a command does that shows it.
-use Rattle.std.proofs.Common.{Bool, None, Some, ◌≡◌, ◌≢◌, ℕ, ◌≤◌, false, inl, inr, IsTrue, List, [], ◌∷◌, ◌++◌, Option, Ok, Err, Result, refl, sym, ap, subst, ◌∙◌, arith, append-nil}
+use Rattle.std.proofs.Common.{Bool, None, Some, ◌≡◌, ℕ, ◌≤◌, false, IsTrue, List, [], ◌∷◌, ◌++◌, Option, Ok, Err, Result, refl, sym, ap, subst, ◌∙◌, arith, append-nil}
 use Rattle.quota_types.specs.declared.damage.Damage.{Damage}
 use Rattle.quota_types.specs.declared.file_kind.Kind.{Kind}
 use Rattle.quota_types.specs.declared.file_kind.Format.{Format}
@@ -16,7 +16,6 @@ use Rattle.quota_map.specs.AnyFile.{MayRefuse}
 use Rattle.quota_map.specs.View.{IsOpenedAs, IsView}
 use Rattle.quota_map.proofs.SeenLemmas.{view_or_refused}
 use Rattle.quota_cli.specs.declared.refusal.cause.Cause.{Cause}
-use Rattle.quota_cli.specs.declared.refusal.cause.Cause.TheVariants.{SinkFault}
 use Rattle.quota_cli.specs.declared.refusal.reason.Refusal.{Refusal}
 use Rattle.quota_cli.specs.refusal.Refusals.{refusal_of}
 use Rattle.quota_cli.specs.Act.{Act, ToOut}

@@ -1,7 +1,7 @@
 -- Steps that read an input: what was carried out where it was refused, and where it was read and the next steps were carried
 -- out.
 use Rattle.std.proofs.Common.{◌≡◌, ℕ, ◌≤◌, Bool, IsTrue, List, [], ◌++◌, Option, None, Some, Ok, Err, Result, refl, sym, ap, subst, ◌∙◌, arith, append-nil}
-use Rattle.std.specs.Prelude.{⊤, IfErr, IsSome}
+use Rattle.std.specs.Prelude.{IfErr, IsSome}
 use Rattle.quota_blocks.specs.Behind.{IsBehind}
 use Rattle.quota_blocks.specs.Count.{Rose}
 use Rattle.quota_blocks.specs.Frame.{OnlyReads}

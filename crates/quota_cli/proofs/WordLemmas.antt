@@ -1,5 +1,5 @@
 -- Words that stand for identifiers, limits and times, of which one is faulty.
-use Rattle.std.proofs.Common.{◌≡◌, ◌≢◌, ℕ, Bool, true, false, cond, if◌then◌else◌, nat_lt, ◌^◌, List, [], ◌∷◌, length, Option, None, Some, Err, ◌⊎◌, inl, inr, refl, sym, ap, subst, ◌∙◌, arith}
+use Rattle.std.proofs.Common.{◌≡◌, ℕ, Bool, true, false, cond, if◌then◌else◌, nat_lt, ◌^◌, List, [], ◌∷◌, length, Option, None, Some, Err, ◌⊎◌, inl, inr, refl, sym, ap, subst, ◌∙◌}
 use Rattle.std.specs.Prelude.{⊤, ◌&&◌, codes, is_none}
 use Rattle.std.proofs.lemmas.Option.{none-some}
 use Rattle.std.specs.Str.{all_ascii_digits, bytes_eq}
@@ -7,7 +7,6 @@ use Rattle.id_names.specs.FirstMatch.{first_id}
 use Rattle.id_names.specs.NamesFile.{NameLine}
 use Rattle.quota_blocks.specs.Numeral.{number_of, value_of}
 use Rattle.set_edit.specs.Number.{limit_of}
-use Rattle.set_edit.specs.declared.time_word.TimeWord.{TimeWord}
 use Rattle.set_edit.specs.declared.time_word.TimeWord.TheVariants.{Seconds, Unset}
 use Rattle.quota_cli.specs.declared.refusal.cause.Cause.{Cause}
 use Rattle.quota_cli.specs.declared.refusal.cause.Cause.TheVariants.{UnknownName, BadNumber}
@@ -18,10 +17,10 @@ use Rattle.quota_cli.specs.declared.words.edit.EditWords.TheVariants.{Limits, Co
 use Rattle.quota_cli.specs.declared.words.edit.FileEdit.{FileEdit}
 use Rattle.quota_cli.specs.refusal.Refusals.{nowhere, refusal_of}
 use Rattle.quota_cli.specs.refusal.Status.{status_of}
-use Rattle.quota_cli.specs.Done.{IsWorldTold, RunSeen, RunTells}
+use Rattle.quota_cli.specs.Done.{RunSeen, RunTells}
 use Rattle.quota_cli.specs.Outcome.{Outcome, Passed, Refused, and_then, refusal_in}
 use Rattle.quota_cli.specs.Run.{CarriesOut, HasReason, Uses}
-use Rattle.quota_cli.specs.Steps.{Steps, Stop, Then}
+use Rattle.quota_cli.specs.Steps.{Steps, Then}
 use Rattle.quota_cli.specs.Naming.{MayBeNames}
 use Rattle.quota_cli.specs.words.Edits.{edit_read, edit_warns, words_warn}
 use Rattle.quota_cli.specs.words.Numbers.{grace_read, identifier_of, known, limit_read, limits_read, number_or_refused, seconds_read, time_read}

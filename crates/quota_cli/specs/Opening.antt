@@ -1,5 +1,5 @@
 -- What is said where a file is not opened, or where a call on an opened file was refused.
-use Rattle.std.specs.Prelude.{◌≡◌, ℕ, Bool, true, false, IsTrue, IsSome, List, Option, Some, None, Result, Ok, Err, ⊤}
+use Rattle.std.specs.Prelude.{◌≡◌, ℕ, Bool, true, false, IsTrue, IsSome, List, Option, Some, Result, Ok, Err, ⊤}
 use Rattle.quota_types.specs.declared.damage.Damage.{Damage}
 use Rattle.quota_types.specs.declared.damage.DamageKind.TheVariants.{PartialRecord}
 use Rattle.quota_types.specs.declared.file_kind.Format.{Format}

@@ -7,7 +7,6 @@ use Rattle.quota_cli.specs.declared.refusal.cause.Cause.{Cause}
 use Rattle.quota_cli.specs.declared.refusal.cause.Cause.TheVariants.{NoFile, StoreFault, SourceFault, Memory, TooLarge, LongLine, BadForm, BadLine, Conflict}
 use Rattle.quota_cli.specs.declared.refusal.reason.Refusal.{Refusal}
 use Rattle.quota_cli.specs.refusal.Refusals.{refusal_of}
-use Rattle.quota_cli.specs.Done.{Outside}
 use Rattle.quota_cli.specs.Outcome.{Outcome, Passed, Refused}
 use Rattle.quota_cli.specs.Run.{Uses}
 use Rattle.quota_cli.specs.Steps.{Steps, Then}

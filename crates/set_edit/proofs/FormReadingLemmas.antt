@@ -1,10 +1,10 @@
 -- A form that is read, line by line.
-use Rattle.std.proofs.Common.{◌≡◌, ℕ, zero, suc, ◌+◌, ◌-◌, ◌<◌, ◌≤◌, Bool, true, false, if◌then◌else◌, List, [], ◌∷◌, ◌++◌, length, get_or, map, Option, Some, None, Result, Ok, Err, Bor, IsTrue, codes, decimal, refl, sym, ap, subst, ◌∙◌, arith, append_assoc, append-nil}
+use Rattle.std.proofs.Common.{◌≡◌, ℕ, ◌+◌, ◌-◌, ◌≤◌, Bool, true, false, if◌then◌else◌, List, [], ◌∷◌, ◌++◌, length, get_or, map, Some, None, Result, Ok, Err, Bor, IsTrue, codes, decimal, refl, sym, ap, ◌∙◌, arith, append_assoc, append-nil}
 use Rattle.std.specs.Prelude.{◌&&◌, is_some, IfOk, IfErr, OnOk}
 use Rattle.std.specs.Str.{bytes_eq}
 use Rattle.quota_types.specs.declared.file_kind.Kind.{Kind}
 use Rattle.quota_types.specs.declared.file_kind.Kind.TheVariants.{User, Group}
-use Rattle.quota_blocks.specs.InputLines.{InputLines, NoLine, LineThen, LongNext, PastNext, line_then}
+use Rattle.quota_blocks.specs.InputLines.{line_then}
 use Rattle.quota_blocks.specs.Lines.{IsLineFault, LinesSeen, NamesLine, line_given, next_line_of}
 use Rattle.quota_blocks.specs.Numeral.{number_of}
 use Rattle.quota_blocks.specs.Words.{words_behind, words_eq, words_of}
@@ -12,7 +12,6 @@ use Rattle.quota_blocks.specs.declared.line_reader.LineFault.{LineFault}
 use Rattle.quota_blocks.specs.declared.line_reader.LineFault.TheVariants.{Source, Long, TooLarge}
 use Rattle.quota_blocks.proofs.InputLinesLemmas.{input_lines-long, input_lines-past, lines_left-next}
 use Rattle.quota_blocks.proofs.WordsLemmas.{words_eq_front, words_eq_front_none, words_of-append, words_of-blank, words_of-nil}
-use Rattle.set_edit.specs.declared.limits.Limits.{Limits}
 use Rattle.set_edit.specs.Form.{form_title, id_front, name_front}
 use Rattle.set_edit.specs.FormReading.{IsFormFault, IsLinesFault, all_limits, form_in, form_lines, form_read, limits_in, then_read}
 use Rattle.set_edit.specs.declared.form_reading.FormFault.{FormFault}

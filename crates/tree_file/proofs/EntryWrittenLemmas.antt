@@ -1,5 +1,5 @@
 -- An entry of some bytes that is written over the one of its identifier, in a file with a header.
-use Rattle.std.proofs.Common.{◌≡◌, ℕ, ◌+◌, ◌*◌, ◌≤◌, List, length, take, drop, Some, sym, ap, subst, ◌∙◌, arith}
+use Rattle.std.proofs.Common.{◌≡◌, ℕ, ◌+◌, ◌≤◌, List, length, take, drop, Some, sym, ap, subst, ◌∙◌, arith}
 use Rattle.quota_types.specs.declared.file_kind.Format.{Format}
 use Rattle.quota_types.specs.declared.record.Rec.{Rec}
 use Rattle.quota_blocks.specs.QuotaValue.{QuotaValue}
@@ -8,7 +8,6 @@ use Rattle.quota_blocks.specs.World.{overwritten}
 use Rattle.entry_codec.specs.declared.header.Header.{Header}
 use Rattle.entry_codec.specs.Entry.{IsEntry, entry_size}
 use Rattle.entry_codec.specs.Header.{AreOf, header_of}
-use Rattle.tree_file.specs.declared.tree_path.TreePath.{TreePath}
 use Rattle.tree_file.specs.NewFile.{numbers_of}
 use Rattle.tree_file.specs.Opened.{ids_in}
 use Rattle.tree_file.specs.Overwritten.{HasEntryAt}

@@ -1,5 +1,5 @@
 -- `edquota --apply`. Source: the manual page of edquota; that the limits are read from a form is this project's own.
-use Rattle.std.specs.Prelude.{◌≡◌, ◌⊎◌, ℕ, true, false, List, Option, Some, None, Result, Ok, Err}
+use Rattle.std.specs.Prelude.{◌≡◌, ◌⊎◌, ℕ, true, false, List, Option, Result, Ok, Err}
 use Rattle.id_names.specs.FirstMatch.{first_name}
 use Rattle.id_names.specs.NamesFile.{NameLine}
 use Rattle.quota_blocks.specs.declared.line_reader.LineFault.TheVariants.{Source, Long, TooLarge as PastTotal}

@@ -1,6 +1,6 @@
 -- `quotacheck`. Source: the manual page of quotacheck; that the usage is read from a listing of inodes, and not from a mounted
 -- file system, is this project's own.
-use Rattle.std.specs.Prelude.{◌≡◌, ◌⊎◌, ℕ, Bool, true, false, nat_lt, IfSome, List, Option, Some, None, unwrap_or, Result, Ok, Err}
+use Rattle.std.specs.Prelude.{◌≡◌, ◌⊎◌, ℕ, Bool, true, false, nat_lt, IfSome, List, Option, Some, unwrap_or, Result, Ok, Err}
 use Rattle.std.specs.FinMap.{empty, get}
 use Rattle.quota_types.specs.Kept.{IsKept}
 use Rattle.quota_types.specs.Range.{unfit}

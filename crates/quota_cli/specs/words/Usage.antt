@@ -1,5 +1,5 @@
 -- Why words were not read.
-use Rattle.std.specs.Prelude.{None, ◌≡◌, [], Result, Err, IsOk}
+use Rattle.std.specs.Prelude.{◌≡◌, [], Result, Err, IsOk}
 use Rattle.quota_cli.specs.declared.refusal.cause.Cause.TheVariants.{Usage as UsageCause, Memory as WantOfMemory}
 use Rattle.quota_cli.specs.declared.refusal.reason.Refusal.{Refusal}
 use Rattle.quota_cli.specs.declared.words.command.Command.{Command}

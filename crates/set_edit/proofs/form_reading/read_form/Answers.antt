@@ -1,4 +1,4 @@
-use Rattle.std.proofs.Common.{◌≡◌, ℕ, Ok, ap, subst, sym, ◌∙◌, arith}
+use Rattle.std.proofs.Common.{ℕ, ap, subst, sym, ◌∙◌, arith}
 use Rattle.std.proofs.lemmas.Result.{err_from_is_err_and}
 use Rattle.set_edit.specs.FormReading.{IsFormFault, form_lines, no_more_words}
 use Rattle.set_edit.proofs.FormReadingLemmas.{fault-then, form_read-start, step_on}

@@ -1,6 +1,5 @@
-use Rattle.std.proofs.Common.{[], IsTrue, inl, inr, ap, ◌∙◌}
+use Rattle.std.proofs.Common.{[], inl, inr, ◌∙◌}
 use Rattle.std.specs.Prelude.{unwrap_or}
-use Rattle.quota_blocks.specs.World.{World}
 use Rattle.quota_cli.specs.Done.{seen_of, tells_of}
 use Rattle.quota_cli.proofs.PhaseLemmas.{carries_naming, naming_refused}
 use Rattle.quota_cli.proofs.WordLemmas.{faulty_word_given, faulty_word_none}

@@ -1,7 +1,5 @@
-use Rattle.std.proofs.Common.{Err, IsTrue, true, [], inl, inr, refl, ap, ◌∙◌}
+use Rattle.std.proofs.Common.{true, [], inl, inr, refl, ap}
 use Rattle.std.specs.Prelude.{unwrap_or}
-use Rattle.quota_blocks.specs.Seen.{SourceSeen}
-use Rattle.quota_blocks.specs.World.{World}
 use Rattle.set_edit.specs.declared.limits.Limits.{Limits as FourLimits}
 use Rattle.quota_cli.specs.Done.{IsWorldTold, seen_of, tells_of}
 use Rattle.quota_cli.specs.Outcome.{Passed}

@@ -1,4 +1,4 @@
-use Rattle.std.proofs.Common.{Ok, inl, inr, sym}
+use Rattle.std.proofs.Common.{inl, inr, sym}
 use Rattle.quota_cli.specs.Done.{seen_of, tells_of}
 use Rattle.quota_cli.proofs.OpeningLemmas.{not_opened}
 use Rattle.quota_cli.proofs.PhaseLemmas.{carries_opening}

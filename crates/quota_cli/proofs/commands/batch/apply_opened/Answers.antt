@@ -1,11 +1,10 @@
-use Rattle.std.proofs.Common.{◌≡◌, ℕ, List, [], false, IsTrue, Option, Ok, Err, Some, None, inl, inr, refl, sym, ap, subst, ◌∙◌}
+use Rattle.std.proofs.Common.{[], Option, Ok, Err, inl, inr, sym, ap, subst}
 use Rattle.std.specs.Prelude.{IfSome, unwrap_or}
 use Rattle.quota_blocks.specs.World.{World}
 use Rattle.quota_map.specs.AnyFile.{HoldsAny}
 use Rattle.quota_cli.specs.declared.refusal.reason.Refusal.{Refusal}
-use Rattle.quota_cli.specs.Done.{IsWorldTold, seen_of, tells_of}
-use Rattle.quota_cli.specs.Outcome.{Passed}
-use Rattle.quota_cli.specs.Taking.{HasTaken, Lines, input_name}
+use Rattle.quota_cli.specs.Done.{seen_of, tells_of}
+use Rattle.quota_cli.specs.Taking.{Lines, input_name}
 use Rattle.quota_cli.specs.commands.Batch.{Applying, Asked, IsOfLine, LineEditMayRefuse, is_to_end, line_uses}
 use Rattle.quota_cli.proofs.BatchLemmas.{applying_moved, ends_none, then_ended, then_refused, then_stopped}
 use Rattle.quota_cli.proofs.FormLemmas.{fault_more}

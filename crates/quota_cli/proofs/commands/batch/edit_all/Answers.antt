@@ -1,19 +1,13 @@
-use Rattle.std.proofs.Common.{◌≡◌, ℕ, ◌+◌, ◌<◌, IsTrue, List, [], ◌∷◌, drop, length, get_or, Ok, Err, refl, sym, ap, subst, ◌∙◌, arith}
-use Rattle.std.specs.Prelude.{IsOkAnd}
+use Rattle.std.proofs.Common.{◌≡◌, ◌+◌, List, [], drop, Err, refl, ap, subst, ◌∙◌, arith}
 use Rattle.std.proofs.lemmas.List.{drop_all, drop_more}
-use Rattle.quota_types.specs.declared.file_kind.Format.{Format}
-use Rattle.quota_blocks.specs.Frame.{OnlyReads, ReplacesOne}
+use Rattle.quota_blocks.specs.Frame.{ReplacesOne}
 use Rattle.quota_blocks.specs.QuotaFile.{FileSeen}
-use Rattle.quota_blocks.specs.QuotaValue.{QuotaValue}
 use Rattle.quota_blocks.proofs.FrameLemmas.{adds_none-then, only_reads-none, replaces_one-none, replaces_one-then}
 use Rattle.quota_map.specs.AnyFile.{HoldsAny, any_seen}
 use Rattle.quota_map.specs.View.{fresh_seen}
-use Rattle.set_edit.specs.Editing.{Edit}
 use Rattle.quota_cli.specs.declared.commands.batch_line.LineEdit.{LineEdit}
 use Rattle.quota_cli.specs.declared.words.edit.FileEdit.TheVariants.{Limits}
 use Rattle.quota_cli.specs.Done.{seen_of, tells_of}
-use Rattle.quota_cli.specs.commands.Batch.{edit_of}
-use Rattle.quota_cli.specs.commands.Edits.{edit_cause}
 use Rattle.quota_cli.proofs.BatchLemmas.{AreMade, all_carried, line_may_fail, line_refused, made_more, made_none}
 use Rattle.quota_cli.proofs.EditFileLemmas.{any_cause, any_edited, keeps_format, refused_at}
 use Rattle.quota_cli.proofs.commands.batch.edit_all.Goals as goal

@@ -1,4 +1,4 @@
-use Rattle.std.proofs.Common.{◌≡◌, ◌≤◌, ◌-◌, IsTrue, true, List, ℕ}
+use Rattle.std.proofs.Common.{◌≡◌, ◌≤◌, ◌-◌, IsTrue, true}
 use Rattle.quota_blocks.specs.InputLines.{lines_left}
 use Rattle.quota_cli.specs.commands.Batch.{input_asks, lines_ask}
 use Rattle.quota_cli.proofs.BatchInputLemmas.{asked_with}

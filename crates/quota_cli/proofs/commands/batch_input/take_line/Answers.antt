@@ -1,4 +1,4 @@
-use Rattle.std.proofs.Common.{◌≡◌, ℕ, ◌+◌, None, Some, arith}
+use Rattle.std.proofs.Common.{◌≡◌, ◌+◌, None, Some, arith}
 use Rattle.quota_blocks.proofs.InputLinesLemmas.{input_lines-long, input_lines-past, lines_left-next}
 use Rattle.quota_cli.specs.declared.refusal.cause.Cause.TheVariants.{TooLarge, LongLine}
 use Rattle.quota_cli.specs.declared.commands.batch_line.LineRead.TheVariants.{Refused as Faulty}

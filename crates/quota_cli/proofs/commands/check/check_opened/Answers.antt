@@ -1,12 +1,11 @@
-use Rattle.std.proofs.Common.{◌≡◌, ℕ, List, Option, Ok, IsTrue, inl, inr, sym, ap, subst, ◌∙◌}
+use Rattle.std.proofs.Common.{◌≡◌, inl, inr, sym, ap, subst, ◌∙◌}
 use Rattle.std.proofs.lemmas.Result.{on_ok_weaker}
 use Rattle.quota_types.specs.declared.file_kind.Format.{Format}
 use Rattle.quota_types.specs.declared.file_kind.Kind.{Kind}
 use Rattle.quota_blocks.specs.QuotaFile.{FileSeen}
-use Rattle.quota_blocks.specs.QuotaValue.{QuotaValue}
 use Rattle.quota_blocks.proofs.FrameLemmas.{adds_none-then, only_reads-then}
 use Rattle.quota_map.specs.AnyFile.{any_seen}
-use Rattle.quota_map.specs.View.{IsOpenedAs, IsView}
+use Rattle.quota_map.specs.View.{IsOpenedAs}
 use Rattle.quota_map.proofs.SeenLemmas.{view_kind}
 use Rattle.quota_cli.specs.Done.{seen_of, tells_of}
 use Rattle.quota_cli.specs.Run.{CarriesOut}

@@ -1,4 +1,4 @@
-use Rattle.std.proofs.Common.{◌≡◌, IsTrue, true, [], inl, inr, refl, ap}
+use Rattle.std.proofs.Common.{◌≡◌, true, [], inl, inr, refl, ap}
 use Rattle.std.specs.Prelude.{unwrap_or}
 use Rattle.std.proofs.lemmas.Result.{on_ok_weaker}
 use Rattle.quota_blocks.proofs.FrameLemmas.{adds_none-then}

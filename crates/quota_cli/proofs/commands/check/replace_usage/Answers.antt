@@ -1,4 +1,4 @@
-use Rattle.std.proofs.Common.{Ok, ap, false, inr, sym, subst}
+use Rattle.std.proofs.Common.{ap, false, inr, sym, subst}
 use Rattle.std.specs.Prelude.{Result}
 use Rattle.quota_types.specs.declared.field.NoRoom.{NoRoom}
 use Rattle.quota_blocks.specs.QuotaValue.{QuotaValue}

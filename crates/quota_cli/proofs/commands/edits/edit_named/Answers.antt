@@ -1,4 +1,4 @@
-use Rattle.std.proofs.Common.{◌≡◌, Bool, Err, Result, inl, inr, sym, ap, subst, ◌∙◌}
+use Rattle.std.proofs.Common.{Bool, Err, inl, inr, sym, ap, subst, ◌∙◌}
 use Rattle.quota_cli.specs.declared.refusal.reason.Refusal.{Refusal}
 use Rattle.quota_cli.specs.declared.words.edit.FileEdit.{FileEdit}
 use Rattle.quota_cli.specs.Done.{seen_of, tells_of}

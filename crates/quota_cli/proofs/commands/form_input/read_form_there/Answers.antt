@@ -1,4 +1,4 @@
-use Rattle.std.proofs.Common.{List, ℕ, sym, ap, subst, ◌∙◌}
+use Rattle.std.proofs.Common.{List, ℕ, sym, ap, ◌∙◌}
 use Rattle.std.specs.String.{string_bytes}
 use Rattle.quota_blocks.specs.declared.store_source.StoreSource.{StoreSource}
 use Rattle.quota_cli.specs.commands.Apply.{form_cause}

@@ -1,12 +1,10 @@
-use Rattle.std.proofs.Common.{◌≡◌, ◌+◌, ◌*◌, ◌∙◌, ◌≤◌, List, ℕ, length, take, drop, sym, ap, subst, arith}
+use Rattle.std.proofs.Common.{◌≡◌, ◌+◌, ◌*◌, ◌∙◌, ◌≤◌, List, ℕ, length, sym, ap, subst, arith}
 use Rattle.std.proofs.lemmas.List.{take_all}
 use Rattle.std.specs.String.{string_bytes}
-use Rattle.quota_types.specs.declared.record.Grace.{Grace}
 use Rattle.quota_blocks.specs.Replace.{replaced_files}
 use Rattle.quota_blocks.specs.World.{overwritten}
 use Rattle.entry_codec.specs.Header.{AreOf, header_of}
 use Rattle.entry_codec.specs.declared.header.Header.{Header}
-use Rattle.tree_file.specs.TreeFile.{TreeStandsFor}
 use Rattle.tree_file.proofs.MakesLemmas.{loaded_stands, rewritten-at}
 use Rattle.tree_file.proofs.SpanLemmas.{length-overwritten, overwritten-back}
 use Rattle.tree_file.proofs.opened_tree.TreeFile.rewrite_span.Goals as goal

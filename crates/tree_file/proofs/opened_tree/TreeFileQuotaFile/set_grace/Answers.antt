@@ -1,4 +1,4 @@
-use Rattle.std.proofs.Common.{◌≡◌, ◌≤◌, List, ℕ, length, refl, arith}
+use Rattle.std.proofs.Common.{◌≤◌, List, ℕ, length, refl, arith}
 use Rattle.std.proofs.lemmas.Result.{on_ok_weaker}
 use Rattle.std.specs.String.{string_bytes}
 use Rattle.quota_blocks.specs.QuotaValue.{with_grace}
