@@ -9,16 +9,16 @@ use Rattle.quota_types.specs.declared.file_kind.Format.{Format}
 use Rattle.tree_file.specs.declared.checked.CheckFault.{CheckFault}
 use Rattle.tree_file.specs.declared.checked.CheckFault.TheVariants.{Store, Damage as Damaged, Memory}
 use Rattle.tree_file.specs.declared.roles.Roles.{Roles}
-use Rattle.tree_file.specs.Chain.{IsChain}
+use Rattle.tree_layout.specs.Chain.{IsChain}
 use Rattle.tree_file.specs.Check.{IsCheckFault, IsChecked}
-use Rattle.tree_file.specs.Defect.{IsTreeDefect}
+use Rattle.tree_layout.specs.Defect.{IsTreeDefect}
 use Rattle.tree_file.specs.Found.{AreRoles, IsLengthDefect, IsListedDefect, IsRoleDefect}
 use Rattle.tree_file.specs.Groups.{AreGroupsOf}
-use Rattle.tree_file.specs.Roles.{Chained, Filled, OneRole}
-use Rattle.tree_file.specs.Tree.{leaves}
-use Rattle.tree_file.specs.TreeFile.{IsSound, TreeStandsFor}
-use Rattle.tree_file.proofs.DefectLemmas.{no_defect_of_sound}
-use Rattle.tree_file.proofs.ValueLemmas.{sound_value}
+use Rattle.tree_layout.specs.Roles.{Chained, Filled}
+use Rattle.tree_layout.specs.Tree.{leaves}
+use Rattle.tree_layout.specs.TreeFile.{IsSound, TreeStandsFor}
+use Rattle.tree_layout.proofs.DefectLemmas.{no_defect_of_sound}
+use Rattle.tree_layout.proofs.ValueLemmas.{sound_value, sound}
 
 -- what the check of the length was refused for
 pub length_refused : (before now : ℕ) (tells : Bool) (file : List ℕ) (header : Header) (fault : CheckFault)
@@ -76,17 +76,6 @@ only_damaged before now tells file header (Ok found) is = tt
 only_damaged before now tells file header (Err (Damaged damage)) is = λ named same told are value. stands_for_none file header are damage (is.1 told are) value
 only_damaged before now tells file header (Err Store) is = λ named same. absurd cc
 only_damaged before now tells file header (Err Memory) is = λ named same. absurd cc
-
-pub sound : (file : List ℕ) (header : Header) → AreOf header (header_of file) → 2 ≤ header.blocks → (2 < header.blocks → 1024 * header.blocks ≤ length file)
-    → OneRole file header.blocks header.free → Chained header.format file header.blocks header.first → Filled header.format file header.blocks
-    → IsSound header.format file (header_of file)
-sound file header are two long roles chained filled = record {
-  two = subst (λ (b : ℕ). 2 ≤ b) (sym are.blocks) two;
-  long = subst (λ (b : ℕ). 2 < b → 1024 * b ≤ length file) (sym are.blocks) long;
-  roles = subst (λ (b : ℕ). OneRole file b (header_of file).free) (sym are.blocks) (subst (λ (h : ℕ). OneRole file header.blocks h) (sym are.free) roles);
-  chained = subst (λ (b : ℕ). Chained header.format file b (header_of file).first) (sym are.blocks) (subst (λ (h : ℕ). Chained header.format file header.blocks h) (sym are.first) chained);
-  filled = subst (λ (b : ℕ). Filled header.format file b) (sym are.blocks) filled;
-}
 
 -- a file whose length, roles and lists were checked
 pub is_checked : (file : List ℕ) (header : Header) (roles : Roles) → AreOf header (header_of file) → 2 ≤ header.blocks → (2 < header.blocks → 1024 * header.blocks ≤ length file)

@@ -4,11 +4,11 @@ use Rattle.std.proofs.lemmas.List.Concat.{flat_map-append}
 use Rattle.std.proofs.lemmas.List.Elements.{filter_map-append}
 use Rattle.std.specs.List.{cons_option, filter_map, flat_map, range_with_len}
 use Rattle.std.specs.Option.{option_or}
-use Rattle.tree_file.specs.declared.tree_path.TreePath.{TreePath}
+use Rattle.tree_layout.specs.declared.tree_path.TreePath.{TreePath}
 use Rattle.tree_file.specs.Descent.{later_steps, path_from, paths_below, with_digits}
-use Rattle.tree_file.specs.Tree.{step, steps}
+use Rattle.tree_layout.specs.Tree.{step, steps}
 use Rattle.tree_file.proofs.DescentLemmas.{Rises-below, all_from, from-append, none_from, not_some, some_same}
-use Rattle.tree_file.proofs.PathLemmas.{rising_steps}
+use Rattle.tree_layout.proofs.PathLemmas.{rising_steps}
 use Rattle.tree_file.proofs.WayLemmas.{first_here, later_here, step_is}
 
 -- the first of what goes on from some paths is the first of what goes on from their first, where that has any
@@ -109,14 +109,6 @@ first_by_digit file blocks digit rest path low digits =
         → path_from from (flat_map on (cons_option o behind)) ≡ option_or (option_and_then (λ next. path_from from (on next)) o) (path_from 0 (flat_map on behind))
     go from on behind all None = all
     go from on behind all (Some next) = from-append from (on next) (flat_map on behind) ∙ ap (option_or (path_from from (on next))) all
-
-pub some_or : {X : Type 0} (one other : Option X) → true ≡ is_some one → option_or one other ≡ one
-some_or None other some = absurd (true≢false some)
-some_or (Some x) other some = refl
-
-pub none_or : {X : Type 0} (one other : Option X) → false ≡ is_some one → option_or one other ≡ other
-none_or None other none = refl
-none_or (Some x) other none = absurd (true≢false (sym none))
 
 -- the first path from the number on that digits make, by the first of them and the others
 module _ (file : List ℕ) (blocks digit : ℕ) (digits rest : List ℕ) (path : TreePath) (are : digits ≡ digit ∷ rest) (bytes : (k : ℕ) → get_or digits k 0 < 256) where

@@ -13,35 +13,21 @@ use Rattle.quota_types.specs.declared.file_kind.Format.{Format}
 use Rattle.tree_file.specs.declared.checked.CheckFault.{CheckFault}
 use Rattle.tree_file.specs.declared.checked.CheckFault.TheVariants.{Store, Damage as Damaged, Memory}
 use Rattle.tree_file.specs.declared.link.Link.{Link}
-use Rattle.tree_file.specs.declared.tree_path.TreePath.{TreePath}
-use Rattle.tree_file.specs.Block.{block_of, previous_of, stated_count}
-use Rattle.tree_file.specs.Chain.{IsChain}
-use Rattle.tree_file.specs.Check.{IsCheckFault, bytes_of}
-use Rattle.tree_file.specs.Compared.{AreEntriesOf, HasEntriesOf, IsDataDefect, IsEntryDefect, leading_ids, is_room, rooms}
-use Rattle.tree_file.specs.Count.{StandsIn, times}
-use Rattle.tree_file.specs.Defect.{IsDefectOf, IsLoop, IsOut, IsTreeDefect, NamesItsId}
-use Rattle.tree_file.specs.Entries.{has_unused, used_ids}
+use Rattle.tree_layout.specs.declared.tree_path.TreePath.{TreePath}
+use Rattle.tree_layout.specs.Block.{block_of, previous_of, stated_count, bytes_of}
+use Rattle.tree_layout.specs.Chain.{IsChain}
+use Rattle.tree_file.specs.Check.{IsCheckFault}
+use Rattle.tree_layout.specs.Compared.{AreEntriesOf, HasEntriesOf, IsDataDefect, IsEntryDefect, leading_ids, is_room, rooms}
+use Rattle.tree_layout.specs.Count.{StandsIn, times}
+use Rattle.tree_layout.specs.Defect.{IsDefectOf, IsLoop, IsOut, IsTreeDefect, NamesItsId}
+use Rattle.tree_layout.specs.Entries.{has_unused, used_ids}
 use Rattle.tree_file.specs.Found.{HasNoEmptyBlock, IsListedDefect}
 use Rattle.tree_file.specs.Groups.{AreGroupsOf}
-use Rattle.tree_file.specs.Roles.{Chained, Filled, has_room}
-use Rattle.tree_file.specs.Tree.{data_blocks, ids_at, is_data, leads, leaves, level}
+use Rattle.tree_layout.specs.Roles.{Chained, Filled, has_room}
+use Rattle.tree_layout.specs.Tree.{data_blocks, ids_at, is_data, leads, leaves, level}
 use Rattle.tree_file.specs.Walk.{AreLinksTo, AreListed, IsListDefect, IsListDefectOf, IsWalkDefect, IsWalkDefectOf, linked_blocks, previous_in}
-use Rattle.tree_file.proofs.CountLemmas.{length_same_times, times-cons-same, times-cons-other, times-filter-no, times-filter-yes, times-range-high, times-range-within}
-use Rattle.tree_file.proofs.PathLemmas.{data_block_of_id, data_within, ids_distinct, times-data_blocks}
-
--- as many identifiers lead to a block as paths come to it
-pub length_ids : (ps : List TreePath) (block : ℕ) → length (ids_at ps block) ≡ times (map (λ path. path.block) ps) block
-length_ids [] block = refl
-length_ids (p ∷ ps) block = elim (eqb_tells p.block block) [
-  | inl same ↦
-      ap (λ (b : Bool). length (map (λ path. path.number) (cond b (p ∷ filter (λ path. path.block == block) ps) (filter (λ path. path.block == block) ps)))) same.0
-      ∙ ap suc (length_ids ps block)
-      ∙ sym (ap (λ (b : ℕ). times (b ∷ map (λ path. path.block) ps) block) same.1 ∙ times-cons-same block (map (λ path. path.block) ps))
-  | inr other ↦
-      ap (λ (b : Bool). length (map (λ path. path.number) (cond b (p ∷ filter (λ path. path.block == block) ps) (filter (λ path. path.block == block) ps)))) other.0
-      ∙ length_ids ps block
-      ∙ sym (times-cons-other p.block (map (λ path. path.block) ps) block other.1)
-]
+use Rattle.tree_layout.proofs.CountLemmas.{length_same_times, times-filter-no, times-filter-yes, times-range-high, times-range-within}
+use Rattle.tree_layout.proofs.PathLemmas.{data_block_of_id, data_within, ids_distinct, times-data_blocks, length_ids}
 
 ids_there : (blocks : ℕ) (ps : List TreePath) (groups : List (List ℕ)) (block : ℕ) → AreGroupsOf blocks ps groups → block < blocks → leading_ids groups block ≡ ids_at ps block
 ids_there blocks ps groups block are low =

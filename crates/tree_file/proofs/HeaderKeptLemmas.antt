@@ -8,12 +8,12 @@ use Rattle.quota_types.specs.declared.file_kind.Format.{Format}
 use Rattle.quota_types.specs.declared.record.Grace.{Grace}
 use Rattle.quota_blocks.specs.QuotaValue.{QuotaValue, with_grace}
 use Rattle.entry_codec.specs.Header.{HeaderNumbers, format_of, header_of}
-use Rattle.tree_file.specs.Block.{block_of}
-use Rattle.tree_file.specs.NewFile.{KeepsBlocks}
+use Rattle.tree_layout.specs.Block.{block_of}
+use Rattle.tree_build.specs.NewFile.{KeepsBlocks}
 use Rattle.tree_file.specs.Opened.{whole_blocks}
-use Rattle.tree_file.specs.Roles.{Chained, Filled, OneRole}
-use Rattle.tree_file.specs.TreeFile.{IsSound, TreeStandsFor, record_in, tree_record}
-use Rattle.tree_file.proofs.NewFileLemmas.{kept_append}
+use Rattle.tree_layout.specs.Roles.{Chained, Filled, OneRole}
+use Rattle.tree_layout.specs.TreeFile.{IsSound, TreeStandsFor, record_in, tree_record}
+use Rattle.tree_build.proofs.NewFileLemmas.{kept_append}
 use Rattle.tree_file.proofs.SameBlocksLemmas.{KeepsTree, SameBlocks, chained_same, filled_same, one_role_same, record_same, same_tree}
 
 -- a header says the same, but maybe for the grace periods

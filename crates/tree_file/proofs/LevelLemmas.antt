@@ -8,18 +8,14 @@ use Rattle.tree_file.specs.declared.checked.CheckFault.{CheckFault}
 use Rattle.tree_file.specs.declared.checked.CheckFault.TheVariants.{Store, Damage as Damaged, Memory}
 use Rattle.std.proofs.lemmas.Bool.Decides.{nat_tests}
 use Rattle.std.specs.Prelude.{Bool}
-use Rattle.tree_file.specs.declared.tree_path.TreePath.{TreePath}
+use Rattle.tree_layout.specs.declared.tree_path.TreePath.{TreePath}
 use Rattle.tree_file.specs.BlockSet.{AreFlagsOf}
-use Rattle.tree_file.specs.Check.{IsCheckFault, bytes_of}
-use Rattle.tree_file.specs.Block.{block_of}
-use Rattle.tree_file.specs.Count.{StandsIn, StandsTwiceIn, times}
-use Rattle.tree_file.specs.Levels.{IsLevelDefect, IsStepFault, blocks_of}
-use Rattle.tree_file.specs.Tree.{leads, steps}
-use Rattle.tree_file.proofs.CountLemmas.{times-append, times-cons-same, times_cases}
-
--- what leads to a block is below the number of blocks
-pub leads_below : (blocks reference : ℕ) → IsTrue (leads blocks reference) → reference < blocks
-leads_below blocks reference h = grind (arith, nat_tests)
+use Rattle.tree_file.specs.Check.{IsCheckFault}
+use Rattle.tree_layout.specs.Block.{bytes_of, block_of}
+use Rattle.tree_layout.specs.Count.{StandsIn, StandsTwiceIn, times}
+use Rattle.tree_file.specs.Levels.{IsLevelDefect, IsStepFault}
+use Rattle.tree_layout.specs.Tree.{blocks_of, steps}
+use Rattle.tree_layout.proofs.CountLemmas.{times-append, times-cons-same, only_one}
 
 -- the set after one more block of a level
 pub met_more : (blocks : ℕ) (flags : List Bool) (numbers : List ℕ) (paths : List TreePath) (i : ℕ) (d : TreePath) → i < length paths
@@ -71,10 +67,6 @@ met_twice numbers paths i d low stands =
       times-append first (block ∷ behind) block,
       times-cons-same block behind,
     )
-
--- the one number of a list that has one
-pub only_one : (x n : ℕ) → StandsIn (x ∷ []) n → x ≡ n
-only_one x n stands = elim (times_cases x [] n) [ inl same ↦ same.0 | inr other ↦ absurd (omega (arith, stands, other.1)) ]
 
 -- a damage of one block of a level is one of the level
 pub defect_in_level : (file : List ℕ) (blocks : ℕ) (paths : List TreePath) (i : ℕ) (d : TreePath) → i < length paths → (damage : Damage)

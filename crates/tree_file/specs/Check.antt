@@ -10,9 +10,9 @@ use Rattle.entry_codec.specs.Header.{header_of}
 use Rattle.tree_file.specs.declared.checked.Checked.{Checked}
 use Rattle.tree_file.specs.declared.checked.CheckFault.{CheckFault}
 use Rattle.tree_file.specs.declared.checked.CheckFault.TheVariants.{Store, Damage as Damaged, Memory}
-use Rattle.tree_file.specs.Chain.{IsChain}
-use Rattle.tree_file.specs.Defect.{NamesItsId}
-use Rattle.tree_file.specs.TreeFile.{TreeStandsFor}
+use Rattle.tree_layout.specs.Chain.{IsChain}
+use Rattle.tree_layout.specs.Defect.{NamesItsId}
+use Rattle.tree_layout.specs.TreeFile.{TreeStandsFor}
 
 -- The file stands for a value, which has so many records, and its free list has so many blocks.
 pub record IsChecked (file : List ℕ) (checked : Checked) : Type 0 where
@@ -29,10 +29,6 @@ abbrev pub IsCheckFault : ℕ → ℕ → (Damage → Type 0) → CheckFault →
 IsCheckFault before now defect Store = Rose before now
 IsCheckFault before now defect Memory = ⊤
 IsCheckFault before now defect (Damaged damage) = NamesItsId damage.kind damage.id × defect damage
-
--- the bytes of a file that may be absent
-abbrev pub bytes_of : Option (List ℕ) → List ℕ
-bytes_of file = unwrap_or file []
 
 -- why a file is not opened whose check was refused so
 abbrev pub open_fault : CheckFault → OpenFault

@@ -5,16 +5,12 @@ use Rattle.quota_types.specs.declared.damage.DamageKind.{DamageKind}
 use Rattle.quota_types.specs.declared.damage.DamageKind.TheVariants.{RefOut, EmptyTree, TwoRoles}
 use Rattle.tree_file.specs.declared.checked.CheckFault.{CheckFault}
 use Rattle.tree_file.specs.declared.checked.CheckFault.TheVariants.{Store, Damage as Damaged, Memory}
-use Rattle.tree_file.specs.declared.tree_path.TreePath.{TreePath}
-use Rattle.tree_file.specs.Block.{word_at}
-use Rattle.tree_file.specs.Count.{StandsIn, StandsTwiceIn}
-use Rattle.tree_file.specs.Defect.{IsEmptyTree, IsRefOut, NamesItsId}
-use Rattle.tree_file.specs.Roles.{IsEmpty}
-use Rattle.tree_file.specs.Tree.{leads, lower_blocks, tree_blocks}
-
--- the blocks to which some paths come, in order
-abbrev pub blocks_of : List TreePath → List ℕ
-blocks_of paths = map (λ path. path.block) paths
+use Rattle.tree_layout.specs.declared.tree_path.TreePath.{TreePath}
+use Rattle.tree_layout.specs.Block.{word_at}
+use Rattle.tree_layout.specs.Count.{StandsIn, StandsTwiceIn}
+use Rattle.tree_layout.specs.Defect.{IsEmptyTree, IsRefOut, NamesItsId}
+use Rattle.tree_layout.specs.Roles.{IsEmpty}
+use Rattle.tree_layout.specs.Tree.{leads, lower_blocks, tree_blocks}
 
 -- each of some paths has a number below a bound, and comes to a block other than that of the header
 abbrev pub AreWithin : ℕ → ℕ → List TreePath → Type 0

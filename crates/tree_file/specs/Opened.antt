@@ -7,9 +7,9 @@ use Rattle.quota_blocks.specs.QuotaValue.{QuotaValue, Records}
 use Rattle.quota_blocks.specs.declared.quota_file.FileFault.{FileFault}
 use Rattle.quota_blocks.specs.declared.quota_file.FileFault.TheVariants.{Store, Damage, Full, Memory}
 use Rattle.entry_codec.specs.Header.{header_of}
-use Rattle.tree_file.specs.Defect.{NamesItsId}
-use Rattle.tree_file.specs.Size.{blocks_needed}
-use Rattle.tree_file.specs.TreeFile.{TreeStandsFor}
+use Rattle.tree_layout.specs.Defect.{NamesItsId}
+use Rattle.tree_layout.specs.Size.{blocks_needed, ids_in}
+use Rattle.tree_layout.specs.TreeFile.{TreeStandsFor}
 
 -- the blocks of a file, or what it has of them; bytes after the last block are left out
 abbrev pub whole_blocks : List ℕ → List ℕ
@@ -28,10 +28,6 @@ pub record HoldsTree (tells : Bool) (named : Option (List ℕ)) (loaded : List �
 -- what is seen of one
 abbrev pub tree_seen : (name : List ℕ) (format : Format) (usable : Bool) (limit refusals : ℕ) → FileSeen
 tree_seen name format usable limit refusals = record { name = name; format = format; usable = usable; limit = limit; refusals = refusals }
-
--- the identifiers that have a record, ascending
-abbrev pub ids_in : Records → List ℕ
-ids_in records = map (λ entry. entry.0) (entries records)
 
 -- A file that is written whole has no room for a value: it needs so many blocks and may have only so many.
 pub record LacksRoom (seen : FileSeen) (value : QuotaValue) (blocks limit : ℕ) : Type 0 where

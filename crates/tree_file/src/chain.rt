@@ -2,19 +2,20 @@ ghost use Rattle.std.specs.Prelude.{◌≡◌, ◌≢◌, ℕ, List, ◌+◌, �
 ghost use Rattle.quota_blocks.specs.Frame.{OnlyReads};
 ghost use Rattle.quota_blocks.specs.Unsynced.{AddsNone};
 ghost use Rattle.tree_file.specs.BlockSet.{AreFlagsOf};
-ghost use Rattle.tree_file.specs.Check.{IsCheckFault, bytes_of};
-ghost use Rattle.tree_file.specs.Count.{StandsIn, times};
-ghost use Rattle.tree_file.specs.Defect.{NamesItsId};
+ghost use Rattle.tree_file.specs.Check.{IsCheckFault};
+ghost use Rattle.tree_layout.specs.Block.{bytes_of};
+ghost use Rattle.tree_layout.specs.Count.{StandsIn, times};
+ghost use Rattle.tree_layout.specs.Defect.{NamesItsId};
 ghost use Rattle.tree_file.specs.Levels.{IsSecondRole};
 ghost use Rattle.tree_file.specs.Walk.{AreLinksTo, IsWalk, IsWalkDefect, linked_blocks};
 
-use crate::block::read_block;
 use crate::block_set::BlockSet;
-use crate::checked::{CheckFault, damage_at};
+use crate::checked::CheckFault;
 use crate::link::Link;
 use quota_blocks::{Store, le32};
 use quota_types::{Damage, DamageKind};
 use std::alloc::{AllocError, Global};
+use tree_layout::{damage_at, read_block};
 
 /// A walk along a list of blocks: those that it has met, in order.
 #[derive(Drop)]

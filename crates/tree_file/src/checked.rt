@@ -2,7 +2,7 @@ ghost use Rattle.std.specs.Prelude.{◌≡◌};
 ghost use Rattle.tree_file.specs.declared.checked.CheckFault.TheVariants.{Store as StoreFailed, Damage as Damaged, Memory};
 
 use quota_blocks::StoreFault;
-use quota_types::{Damage, DamageKind};
+use quota_types::Damage;
 use std::alloc::{AllocError, AllocFailed};
 
 /// What a check of a tree file found.
@@ -55,11 +55,4 @@ impl From<Damage> for CheckFault {
     fn from(damage: Damage) -> Self {
         CheckFault::Damage(damage)
     }
-}
-
-/// The damage of a block, of a kind that names no identifier.
-pub(crate) fn damage_at(kind: DamageKind, block: u32) -> Damage
-    ensures { result ≡ record { kind = kind; block = block; id = 0 } }
-{
-    Damage { kind, block, id: 0 }
 }

@@ -1,14 +1,14 @@
 ghost use Rattle.std.specs.Prelude.{◌<◌, ◌++◌, [], ◌^◌, ℕ, List, length, map, OnOk, IfOk, IfErr};
-ghost use Rattle.tree_file.specs.declared.tree_path.TreePath.{TreePath};
+ghost use Rattle.tree_layout.specs.declared.tree_path.TreePath.{TreePath};
 ghost use Rattle.tree_file.specs.BlockSet.{AreFlagsOf};
 ghost use Rattle.tree_file.specs.Groups.{AreGroupsOf, named_blocks};
 ghost use Rattle.tree_file.specs.Levels.{AreWithin, IsSecondRole, IsStepFault};
 
 use crate::block_set::BlockSet;
-use crate::checked::damage_at;
 use crate::{CheckFault, TreePath};
 use quota_types::DamageKind;
 use std::alloc::{AllocError, Global};
+use tree_layout::damage_at;
 
 /// For each block of a file the identifiers that lead to it, in the order of the leaves.
 pub(crate) fn group(

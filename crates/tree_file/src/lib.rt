@@ -1,15 +1,12 @@
 //! Tree quota files, vfsv0 and vfsv1: blocks of 1,024 bytes in a tree by which each identifier's entry is found.
 //!
-//! The one promise: a file that is checked or built stands for a map from identifiers to records, with every block in one
-//! role; what is said to be wrong with a file is wrong with it; and an opened file is that map, which its changes change.
+//! The one promise: a file that is checked stands for a map from identifiers to records, with every block in one role;
+//! what is said to be wrong with a file is wrong with it; and an opened file is that map, which its changes change.
 #![tactic(auto)]
 
-mod block;
 mod block_set;
-mod build_fault;
 #[cfg(test)]
 mod build_tests;
-mod building;
 mod chain;
 mod changed_list;
 mod changed_tree;
@@ -17,10 +14,8 @@ mod checked;
 mod checking;
 mod data;
 mod descent;
-mod entries;
 mod file_header;
 mod groups;
-pub mod laws;
 mod levels;
 mod link;
 mod lists;
@@ -28,10 +23,6 @@ mod loaded;
 mod loading;
 #[cfg(test)]
 mod lookup_tests;
-mod needed;
-mod new_data;
-mod new_file;
-mod new_tree;
 #[cfg(test)]
 mod open_tests;
 mod opened_tree;
@@ -47,12 +38,10 @@ mod test_files;
 #[cfg(test)]
 mod tests;
 mod tree;
-mod tree_path;
 
-pub use build_fault::BuildFault;
-pub use building::build;
 pub use checked::{CheckFault, Checked};
 pub use checking::check;
 pub use opened_tree::TreeFile;
 pub use opening::open_tree;
-pub use tree_path::TreePath;
+pub use tree_build::{BuildFault, build};
+pub use tree_layout::{TreePath, laws};

@@ -1,6 +1,5 @@
 ghost use Rattle.std.specs.Prelude.{◌≢◌, ◌<◌};
 
-use crate::block::block_of;
 use crate::build;
 use crate::build_tests::*;
 use crate::loaded::LoadedTree;
@@ -11,6 +10,7 @@ use quota_types::{Damage, Entry, Format, Kind, Rec};
 use std::alloc::Global;
 use std::process::Abort;
 use std::test::Fail;
+use tree_layout::block_of;
 
 /// The record of identifier 1000 in the six-block file.
 const REC: Rec = Rec {

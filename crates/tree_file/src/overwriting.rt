@@ -2,15 +2,14 @@ ghost use Rattle.std.specs.Prelude.{◌≡◌, ◌+◌, ◌*◌, ◌≤◌, IfOk
 ghost use Rattle.std.specs.Bool.{OnTrue};
 ghost use Rattle.entry_codec.specs.Entry.{entry_size};
 ghost use Rattle.quota_blocks.specs.QuotaValue.{QuotaValue};
-ghost use Rattle.tree_file.specs.Needed.{HasMet};
-ghost use Rattle.tree_file.specs.Opened.{ids_in};
+ghost use Rattle.tree_build.specs.Needed.{HasMet};
+ghost use Rattle.tree_layout.specs.Size.{ids_in, blocks_needed};
 ghost use Rattle.tree_file.specs.Overwritten.{HasEntryAt};
-ghost use Rattle.tree_file.specs.Size.{blocks_needed};
-ghost use Rattle.tree_file.specs.TreeFile.{TreeStandsFor};
+ghost use Rattle.tree_layout.specs.TreeFile.{TreeStandsFor};
 
 use crate::loaded::LoadedTree;
-use crate::needed::Needed;
 use quota_types::Damage;
+use tree_build::Needed;
 
 /// Where in a file that would not have fewer blocks if it was built anew the entry of an identifier begins, where it has one.
 pub(crate) fn place_to_overwrite(tree: &LoadedTree, id: u32) -> Option<usize>

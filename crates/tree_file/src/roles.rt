@@ -1,18 +1,20 @@
 ghost use Rattle.std.specs.Prelude.{◌≡◌, ◌+◌, ◌*◌, ◌≤◌, map, IsTrue, IfOk, IfErr, vec_len, OnOk};
 ghost use Rattle.quota_blocks.specs.Frame.{OnlyReads};
 ghost use Rattle.quota_blocks.specs.Unsynced.{AddsNone};
-ghost use Rattle.tree_file.specs.Check.{IsCheckFault, bytes_of};
+ghost use Rattle.tree_file.specs.Check.{IsCheckFault};
+ghost use Rattle.tree_layout.specs.Block.{bytes_of};
 ghost use Rattle.tree_file.specs.Found.{AreRoles, IsRoleDefect};
 ghost use Rattle.tree_file.specs.Reads.{led_blocks};
 
 use crate::block_set::BlockSet;
 use crate::chain::{first_without, mark_links, walk_chain};
-use crate::checked::{CheckFault, damage_at};
+use crate::checked::CheckFault;
 use crate::groups::{group, mark_data};
 use crate::tree::find_leaves;
 use quota_blocks::Store;
 use quota_types::DamageKind;
 use std::alloc::Global;
+use tree_layout::damage_at;
 
 /// The block of the header.
 const HEADER: u32 = 0;

@@ -3,7 +3,7 @@ use Rattle.std.proofs.lemmas.List.{map-append}
 use Rattle.quota_types.specs.declared.record.Entry.{Entry}
 use Rattle.quota_blocks.specs.QuotaValue.{IsNextAfter}
 use Rattle.quota_blocks.specs.Listed.{ids_of}
-use Rattle.tree_file.specs.Needed.{HasMet}
+use Rattle.tree_build.specs.Needed.{HasMet}
 use Rattle.tree_file.proofs.ListingLemmas.{IsListedUpTo, ids_listed, listed_all, listed_more, listed_none}
 use Rattle.tree_file.proofs.overwriting.count_needed.Goals as goal
 

@@ -1,0 +1,10 @@
+pub mod BuiltLemmas
+pub mod DataAddedLemmas
+pub mod DataBlockLemmas
+pub mod LevelAddedLemmas
+pub mod NeededLemmas
+pub mod NewFileLemmas
+pub mod OnceLemmas
+pub mod PartsLemmas
+pub mod TreeBlockLemmas
+pub mod WrittenLemmas

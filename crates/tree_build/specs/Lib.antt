@@ -1,0 +1,12 @@
+pub mod Beginnings
+pub mod Build
+pub mod Needed
+pub mod NewFile
+pub use Rattle.quota_types.specs.Kept
+pub use Rattle.quota_types.specs.Range
+pub use Rattle.quota_blocks.specs.Listed
+pub use Rattle.quota_blocks.specs.QuotaValue
+pub use Rattle.entry_codec.specs.Entry
+pub use Rattle.entry_codec.specs.Header
+pub use Rattle.tree_layout.specs.Size
+pub use Rattle.tree_layout.specs.TreeFile

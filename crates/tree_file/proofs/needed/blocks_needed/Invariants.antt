@@ -1,7 +1,0 @@
-use Rattle.std.proofs.Common.{take}
-use Rattle.quota_blocks.specs.Listed.{ids_of}
-use Rattle.tree_file.specs.Needed.{HasMet}
-use Rattle.tree_file.proofs.needed.blocks_needed.Given as goal
-
-abbrev pub invariant-loop-entry : goal.invariant-loop-entry
-invariant-loop-entry l = HasMet (ids_of (take l.entry-index l.list)) l.needed

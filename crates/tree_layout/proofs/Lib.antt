@@ -1,0 +1,14 @@
+pub mod BlockLemmas
+pub mod ChainLemmas
+pub mod CountLemmas
+pub mod DefectLemmas
+pub mod EntryLemmas
+pub mod FindLemmas
+pub mod MeaningLemmas
+pub mod OrderLemmas
+pub mod PathLemmas
+pub mod RecordLemmas
+pub mod SoundLemmas
+pub mod StepLemmas
+pub mod ValueLemmas
+pub mod WordLemmas
