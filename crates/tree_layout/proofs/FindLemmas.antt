@@ -1,5 +1,5 @@
 -- What is found in joined lists, and the first of two values that may be there.
-use Rattle.std.proofs.Common.{◌≡◌, ◌+◌, ◌-◌, Bool, true, false, cond, List, [], ◌∷◌, ◌++◌, find, Some, None, refl, sym, ap, ◌∙◌, ◌⊎◌, inl, inr, is_some, true≢false, Option}
+use Rattle.std.proofs.Common.{◌≡◌, Bool, true, false, cond, List, [], ◌∷◌, ◌++◌, find, Some, None, refl, sym, ap, ◌∙◌, ◌⊎◌, inl, inr, is_some, true≢false, Option}
 use Rattle.std.specs.Option.{option_or}
 
 -- what is found in a joined list
