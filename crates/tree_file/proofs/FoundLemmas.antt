@@ -1,7 +1,6 @@
 -- What the parts of a check find, as the damages of a file and as the parts of a sound one.
-use Rattle.std.proofs.Common.{IsTrue, true≢false, ◌≡◌, ℕ, suc, ◌<◌, ◌≤◌, Bool, true, cond, ◌&&◌, ◌==◌, nat_le, if◌then◌else◌, List, [], ◌∷◌, ◌++◌, length, get_or, map, filter, Option, refl, sym, ap, subst, ◌∙◌, ◌⊎◌, inl, inr, arith, zero-le}
+use Rattle.std.proofs.Common.{IsTrue, true≢false, ◌≡◌, ℕ, ◌<◌, ◌≤◌, Bool, true, ◌&&◌, nat_le, if◌then◌else◌, List, [], ◌∷◌, ◌++◌, length, get_or, map, Option, refl, sym, ap, subst, ◌∙◌, ◌⊎◌, inl, inr, arith, zero-le}
 use Rattle.std.proofs.lemmas.Bool.{cases_Bool, cases_lt, le-leb, leb-true}
-use Rattle.std.proofs.lemmas.Bool.Decides.{eqb_tells}
 use Rattle.std.proofs.lemmas.List.{get_or_past}
 use Rattle.std.proofs.lemmas.List.FromFn.{get_or-map-range_with_len, length-map-range_with_len}
 use Rattle.std.specs.List.{range_with_len}

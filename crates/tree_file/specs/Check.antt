@@ -1,5 +1,5 @@
 -- What a check of a tree file answers.
-use Rattle.std.specs.Prelude.{◌≡◌, ℕ, List, [], length, Option, unwrap_or, ⊤}
+use Rattle.std.specs.Prelude.{◌≡◌, ℕ, List, length, ⊤}
 use Rattle.std.specs.FinMap.{len}
 use Rattle.quota_types.specs.declared.damage.Damage.{Damage}
 use Rattle.quota_blocks.specs.Count.{Rose}

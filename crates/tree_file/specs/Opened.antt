@@ -1,9 +1,8 @@
 -- What an opened tree file holds, and what is seen of it.
-use Rattle.std.specs.Prelude.{◌≡◌, ℕ, ◌*◌, ◌<◌, ◌≤◌, Bool, IsTrue, List, map, take, Option, Some, ⊤}
-use Rattle.std.specs.FinMap.{entries}
+use Rattle.std.specs.Prelude.{◌≡◌, ℕ, ◌*◌, ◌<◌, ◌≤◌, Bool, IsTrue, List, take, Option, Some, ⊤}
 use Rattle.quota_types.specs.declared.file_kind.Format.{Format}
 use Rattle.quota_blocks.specs.QuotaFile.{FileSeen}
-use Rattle.quota_blocks.specs.QuotaValue.{QuotaValue, Records}
+use Rattle.quota_blocks.specs.QuotaValue.{QuotaValue}
 use Rattle.quota_blocks.specs.declared.quota_file.FileFault.{FileFault}
 use Rattle.quota_blocks.specs.declared.quota_file.FileFault.TheVariants.{Store, Damage, Full, Memory}
 use Rattle.entry_codec.specs.Header.{header_of}
