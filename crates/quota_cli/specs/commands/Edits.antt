@@ -6,8 +6,7 @@ use Rattle.id_names.specs.NamesFile.{NameLine}
 use Rattle.quota_types.specs.declared.field.Field.{Field}
 use Rattle.quota_blocks.specs.QuotaValue.{QuotaValue}
 use Rattle.quota_blocks.specs.Text.{AppendsPrefix}
-use Rattle.tree_file.specs.Opened.{ids_in}
-use Rattle.tree_file.specs.Size.{blocks_needed}
+use Rattle.tree_layout.specs.Size.{blocks_needed, ids_in}
 use Rattle.quota_map.specs.View.{IsOpenedAs, most_blocks}
 use Rattle.set_edit.specs.Editing.{Edit}
 use Rattle.set_edit.specs.declared.fault.EditFault.{EditFault}
