@@ -1,9 +1,8 @@
 ghost use Rattle.std.specs.Prelude.{◌≡◌, ◌++◌, ◌⊎◌, length, IfSome, IsTrue};
 ghost use Rattle.quota_blocks.specs.Count.{Rose};
 
-use crate::refusal::{Cause, Refusal};
 use crate::run::refuse;
-use crate::words::Word;
+use refusals::{Cause, Refusal, Word};
 use quota_blocks::Sink;
 use std::alloc::Global;
 

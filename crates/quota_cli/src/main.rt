@@ -2,23 +2,19 @@
 //! promises.
 #![tactic(auto)]
 
-use adapters::{FileStore, StreamSink, StreamSource, UdpLink, moment};
 use quota_blocks::Sink;
-use refusal::{Cause, Refusal, UsageKind};
+use refusals::{Cause, Refusal, UsageKind, Word};
 use std::alloc::Global;
 use std::io::ErrorKind;
 use std::process::ExitCode;
 use std::{env, io};
-use words::Word;
+use system_objects::{FileStore, StreamSink, StreamSource, UdpLink, moment};
 
-mod adapters;
 mod commands;
 mod help;
-mod refusal;
 mod run;
 #[cfg(test)]
 mod tests;
-mod words;
 
 /// The words of the command line without the program's own name.
 fn given_words<R: env::Env + AllocGlobal>(rt: &R) -> io::Result<Vec<String>> {

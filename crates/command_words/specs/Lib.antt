@@ -1,0 +1,5 @@
+pub mod Asked
+pub mod Built
+pub mod BuiltForms
+pub mod Forms
+pub mod Usage

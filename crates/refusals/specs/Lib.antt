@@ -1,0 +1,5 @@
+pub mod Line
+pub mod Outcome
+pub mod Piece
+pub mod Refusals
+pub mod Status

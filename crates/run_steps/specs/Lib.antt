@@ -1,0 +1,10 @@
+pub mod Act
+pub mod Changing
+pub mod Done
+pub mod Naming
+pub mod Numbers
+pub mod Opening
+pub mod Run
+pub mod Showing
+pub mod Steps
+pub mod Taking
