@@ -65,7 +65,7 @@ fn warn_if<E: Sink>(
     }
 }
 
-#[tactic(auto, unfolding(crate::specs::commands::Edits::warning_line))]
+#[tactic(auto, unfolding(crate::specs::Edits::warning_line))]
 /// Writes a warning.
 fn write_warning<E: Sink>(err: &mut E, line: Option<u64>, text: &[u8]) -> Result<(), SinkFault>
     ensures ok { OnOk result (IsTrue E.tells → (E.seen err.new).written

@@ -1,2 +1,4 @@
+pub mod About
 pub mod Headline
+pub mod Starting
 pub mod Table

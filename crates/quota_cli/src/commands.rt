@@ -10,9 +10,9 @@ ghost use Rattle.refusals.specs.declared.reason.Refusal.{Refusal};
 use command_words::Command;
 use edit_commands::{EditWords, apply_by_word, apply_lines, edit_by_words, print_by_word};
 use file_commands::{check_file, report_file};
+use quota_blocks::{Link, Sink, Source, Store};
 use refusals::Refusal;
 use run_steps::Occasion;
-use quota_blocks::{Link, Sink, Source, Store};
 use std::alloc::Global;
 
 /// Carries out a command, but for its error line.

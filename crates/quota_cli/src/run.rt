@@ -15,11 +15,12 @@ ghost use Rattle.refusals.specs.Status.{end_status, status_of};
 ghost use Rattle.option_words.specs.Items.{texts_of};
 ghost use Rattle.command_words.specs.Usage.{IsUsageFault, usage_refusal};
 
-use command_words::{Command, UsageFault, asks_built, read_words};
 use crate::commands::carry_out;
-use refusals::{Cause, Refusal, UsageKind, write_error_line, Word};
-use run_steps::Occasion;
+use command_words::{Command, asks_built};
+pub use command_words::{UsageFault, read_words};
 use quota_blocks::{Link, Sink, Source, Store};
+use refusals::{Cause, Refusal, UsageKind, Word, write_error_line};
+use run_steps::Occasion;
 use std::alloc::Global;
 
 /// What is said of a command that is not built.

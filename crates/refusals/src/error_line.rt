@@ -28,7 +28,7 @@ pub fn write_error_line<O: Sink>(sink: &mut O, refusal: &Refusal) -> Result<(), 
     write_cause(sink, refusal.place, refusal.cause, name)
 }
 
-#[tactic(auto, unfolding(crate::specs::refusal::Line::error_line))]
+#[tactic(auto, unfolding(crate::specs::Line::error_line))]
 /// Writes the line on a cause and the name that it is about.
 fn write_cause<O: Sink>(
     sink: &mut O,
