@@ -3,3 +3,5 @@ pub mod Outcome
 pub mod Piece
 pub mod Refusals
 pub mod Status
+pub use Rattle.quota_blocks.specs.Count
+pub use Rattle.quota_blocks.specs.Text

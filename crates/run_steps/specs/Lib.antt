@@ -8,3 +8,7 @@ pub mod Run
 pub mod Showing
 pub mod Steps
 pub mod Taking
+pub use Rattle.quota_blocks.specs.Frame
+pub use Rattle.quota_blocks.specs.Unsynced
+pub use Rattle.refusals.specs.Outcome
+pub use Rattle.refusals.specs.Refusals
