@@ -19,7 +19,7 @@ use Rattle.option_words.specs.declared.tool.Tool.TheVariants.{Repquota as Repquo
 use Rattle.option_words.specs.Fault.{fault, unless, with_value}
 use Rattle.option_words.specs.FileName.{is_file_name}
 use Rattle.option_words.specs.Given.{Told}
-use Rattle.option_words.specs.Items.{Item, Plain}
+use Rattle.option_words.specs.Items.{Operand}
 use Rattle.option_words.specs.Values.{number_within}
 
 -- two of four hold

@@ -27,7 +27,7 @@ use Rattle.run_steps.specs.Opening.{MayRefuseOpening, asks_tree, file_cause}
 use Rattle.refusals.specs.Outcome.{Outcome, Passed, Refused, refusal_in}
 use Rattle.refusals.specs.Line.{front_of}
 use Rattle.refusals.specs.Refusals.{refusal_of}
-use Rattle.run_steps.specs.Run.{Uses}
+use Rattle.run_steps.specs.Changing.{blocks_of, written}
 use Rattle.run_steps.specs.Steps.{DoingAll, Finish, Naming, Opening, Steps, Then}
 use Rattle.run_steps.specs.declared.occasion.Occasion.{Occasion}
 use Rattle.edit_commands.specs.EditWords.{edit_meant, edit_read, edit_warns, names_wanted, skipped_by, skips_none}
