@@ -1,6 +1,5 @@
 -- Operands of which the first seven are kept, and forms that have no more than six.
-use Rattle.std.proofs.Common.{◌≡◌, ◌∙◌, ℕ, ◌+◌, ◌≤◌, Bool, true, false, List, [], ◌∷◌, ◌++◌, length, get_or, take, Result, Ok, IsOk, refl, sym, ap, arith, append_assoc}
-use Rattle.std.proofs.lemmas.List.{length-map, map-append, take-append-le}
+use Rattle.std.proofs.Common.{◌≡◌, ◌∙◌, ℕ, ◌+◌, Bool, true, false, List, [], ◌∷◌, length, get_or, take, Result, Ok, IsOk, refl, sym, ap, arith}
 use Rattle.command_words.specs.declared.form.Form.{Form}
 use Rattle.command_words.specs.declared.form.Form.TheVariants.{Reporting, Limiting, Copying, Batching, SettingGrace, SettingTimes, Printing, Applying, Checking, Converting, Serving, Scripting, Generating}
 use Rattle.option_words.specs.declared.scan.OperandWord.{OperandWord}
@@ -15,7 +14,7 @@ use Rattle.option_words.specs.Items.{Operand, operands_in}
 use Rattle.command_words.specs.Forms.{common_of, excludes, form_of, formed, lacks}
 use Rattle.option_words.specs.Given.{Told, nothing_told, with_items}
 use Rattle.option_words.specs.Items.{AnyWord, items_of}
-use Rattle.option_words.specs.Reads.{operand_seen, operands_seen}
+use Rattle.option_words.specs.Reads.{operands_seen}
 
 -- seven operands are too many for each form
 too_many : (form : Form) (told : Told) (words : ℕ) (a b c d e f g : Operand) (more other : List Operand)

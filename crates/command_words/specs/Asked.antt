@@ -1,7 +1,5 @@
 -- What the words of a command line ask for.
-use Rattle.std.specs.Prelude.{ℕ, ◌+◌, Bool, true, false, not, List, [], ◌∷◌, length, map, Result, Ok, Err, String}
-use Rattle.std.specs.String.{string_bytes}
-use Rattle.std.specs.declared.alloc.Global.{Global}
+use Rattle.std.specs.Prelude.{ℕ, ◌+◌, Bool, true, false, not, List, [], ◌∷◌, length, Result, Ok, Err}
 use Rattle.refusals.specs.declared.cause.Cause.TheVariants.{Usage}
 use Rattle.refusals.specs.declared.cause.UsageKind.TheVariants.{NoCommand, UnknownCommand, Excludes, MissingOption}
 use Rattle.refusals.specs.declared.reason.Refusal.{Refusal}

@@ -6,10 +6,8 @@ use Rattle.set_edit.specs.FormReading.{IsFormFault}
 use Rattle.set_edit.specs.declared.form_reading.FormFault.{FormFault}
 use Rattle.set_edit.specs.declared.form_reading.FormFault.TheVariants.{Lines, BadForm as WrongLine}
 use Rattle.set_edit.specs.declared.limits.Limits.{Limits as FourLimits}
-use Rattle.refusals.specs.declared.cause.Cause.{Cause}
-use Rattle.refusals.specs.declared.cause.Cause.TheVariants.{StoreFault, SourceFault, SinkFault, LinkFault, Memory, NoFile, TooLarge, NotQuota, WrongKind, UnknownVersion, BadBlockCount, OtherFormat, Damaged, Full, NoRoom, UnknownName, BadNumber, TargetExists, SameName, BadForm, BadLine, LongLine, Conflict, Usage}
+use Rattle.refusals.specs.declared.cause.Cause.TheVariants.{StoreFault, SourceFault}
 use Rattle.refusals.specs.declared.reason.Refusal.{Refusal}
-use Rattle.refusals.specs.Outcome.{Outcome}
 use Rattle.run_steps.specs.Taking.{IsInputFault}
 use Rattle.edit_commands.specs.Apply.{FormMayRefuse, form_cause, form_outcome}
 use Rattle.refusals.specs.Refusals.{refusal_of}

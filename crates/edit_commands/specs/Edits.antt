@@ -1,13 +1,11 @@
 -- Commands that edit a file: new limits, those of another identifier, new grace periods, and new times. Source: the manual
 -- page of setquota; that the words are read from left to right, all before the file is opened, is this project's own.
-use Rattle.std.specs.Prelude.{◌≡◌, ◌<◌, ◌⊎◌, ℕ, IsTrue, Bool, nat_lt, true, false, ◌&&◌, if◌then◌else◌, List, [], ◌∷◌, ◌++◌, map, codes, Option, None, is_none, Result, Ok, Err}
+use Rattle.std.specs.Prelude.{◌≡◌, ◌<◌, ◌⊎◌, ℕ, IsTrue, Bool, nat_lt, ◌&&◌, if◌then◌else◌, List, [], ◌∷◌, ◌++◌, map, codes, Option, None, is_none, Result, Ok, Err}
 use Rattle.std.specs.List.{concat}
 use Rattle.id_names.specs.NamesFile.{NameLine}
 use Rattle.quota_types.specs.declared.field.Field.{Field}
 use Rattle.quota_blocks.specs.QuotaValue.{QuotaValue}
 use Rattle.quota_blocks.specs.Text.{AppendsPrefix}
-use Rattle.tree_file.specs.Opened.{ids_in}
-use Rattle.tree_file.specs.Size.{blocks_needed}
 use Rattle.quota_map.specs.View.{IsOpenedAs, most_blocks}
 use Rattle.set_edit.specs.Editing.{Edit}
 use Rattle.set_edit.specs.declared.fault.EditFault.{EditFault}
@@ -21,7 +19,7 @@ use Rattle.refusals.specs.declared.reason.Refusal.{Refusal}
 use Rattle.command_words.specs.declared.command.Common.{Common}
 use Rattle.edit_commands.specs.declared.edit.EditWords.{EditWords}
 use Rattle.edit_commands.specs.declared.edit.FileEdit.{FileEdit}
-use Rattle.run_steps.specs.Act.{Act, Change, ToErr}
+use Rattle.run_steps.specs.Act.{Act, ToErr}
 use Rattle.run_steps.specs.Naming.{MayBeNames, NamesMayRefuse}
 use Rattle.run_steps.specs.Opening.{MayRefuseOpening, asks_tree, file_cause}
 use Rattle.refusals.specs.Outcome.{Outcome, Passed, Refused, refusal_in}

@@ -23,8 +23,8 @@ use Rattle.refusals.specs.Status.{status_of}
 use Rattle.run_steps.specs.Done.{RunSeen, RunTells}
 use Rattle.run_steps.specs.Naming.{NamesMayRefuse}
 use Rattle.run_steps.specs.Opening.{MayRefuseOpening}
-use Rattle.run_steps.specs.Run.{CarriesOut, Uses}
-use Rattle.run_steps.specs.Steps.{Steps, Stop}
+use Rattle.run_steps.specs.Run.{CarriesOut}
+use Rattle.run_steps.specs.Steps.{Stop}
 use Rattle.run_steps.specs.declared.occasion.Occasion.{Occasion}
 use Rattle.edit_commands.specs.Apply.{ApplyMayRefuse}
 use Rattle.edit_commands.specs.Batch.{BatchMayRefuse, LineMayRefuse}
