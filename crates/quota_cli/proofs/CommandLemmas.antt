@@ -6,69 +6,41 @@ use Rattle.id_names.specs.NamesFile.{NameLine}
 use Rattle.quota_blocks.specs.QuotaValue.{QuotaValue}
 use Rattle.set_edit.specs.Editing.{Edit}
 use Rattle.set_edit.specs.Edits.{limits_edit}
-use Rattle.quota_cli.specs.declared.refusal.cause.Cause.{Cause}
-use Rattle.quota_cli.specs.declared.refusal.cause.Cause.TheVariants.{StoreFault, SourceFault, SinkFault, LinkFault, Memory, NoFile, TooLarge, NotQuota, WrongKind, UnknownVersion, BadBlockCount, OtherFormat, Damaged, Full, NoRoom, UnknownName, BadNumber, TargetExists, SameName, BadForm, BadLine, LongLine, Conflict, Usage}
-use Rattle.quota_cli.specs.declared.refusal.reason.Refusal.{Refusal}
-use Rattle.quota_cli.specs.declared.words.command.Command.{Command}
-use Rattle.quota_cli.specs.declared.words.command.Common.{Common}
-use Rattle.quota_cli.specs.declared.words.command.Command.TheVariants.{Report, SetLimits, CopyLimits, SetGrace, SetTimes, Batch, PrintForm, ApplyForm, Check}
-use Rattle.quota_cli.specs.declared.words.edit.EditWords.{EditWords}
-use Rattle.quota_cli.specs.declared.words.edit.EditWords.TheVariants.{Limits, Copy, Grace, Times}
-use Rattle.quota_cli.specs.declared.words.edit.FileEdit.{FileEdit}
-use Rattle.quota_cli.specs.declared.words.edit.FileEdit.TheVariants.{Limits as LimitsEdit}
-use Rattle.quota_cli.specs.declared.words.reading.UsageFault.{UsageFault}
-use Rattle.quota_cli.specs.declared.words.reading.UsageFault.TheVariants.{Usage as UsageOf, Memory as NoMemory}
-use Rattle.quota_cli.specs.refusal.Refusals.{refusal_of}
-use Rattle.quota_cli.specs.refusal.Status.{status_of}
-use Rattle.quota_cli.specs.Done.{RunSeen, RunTells}
-use Rattle.quota_cli.specs.Naming.{NamesMayRefuse}
-use Rattle.quota_cli.specs.Opening.{MayRefuseOpening}
-use Rattle.quota_cli.specs.Run.{CarriesOut, Uses}
-use Rattle.quota_cli.specs.Steps.{Steps, Stop}
-use Rattle.quota_cli.specs.declared.commands.occasion.Occasion.{Occasion}
-use Rattle.quota_cli.specs.commands.Apply.{ApplyMayRefuse}
-use Rattle.quota_cli.specs.commands.Batch.{BatchMayRefuse, LineMayRefuse}
-use Rattle.quota_cli.specs.commands.Built.{if_built, is_built, unknown_command}
-use Rattle.quota_cli.specs.commands.Check.{CheckMayRefuse, UnfitMayRefuse, UsageMayRefuse, new_value}
-use Rattle.quota_cli.specs.commands.Edits.{ChangeMayRefuse, EditMayRefuse, FileEditMayRefuse}
-use Rattle.quota_cli.specs.commands.FileValue.{WritingMayRefuse}
-use Rattle.quota_cli.specs.commands.Print.{PrintMayRefuse}
-use Rattle.quota_cli.specs.commands.Report.{ReportMayRefuse}
-use Rattle.quota_cli.specs.commands.Showing.{ShowingMayRefuse}
-use Rattle.quota_cli.specs.commands.Table.{AskedSteps, MayRefuseAsked, MayRefuseCommand, StepsOf, asked_uses}
-use Rattle.quota_cli.specs.Taking.{AForm, AListing, InputKind, InputMayRefuse, Lines, input_name}
-use Rattle.quota_cli.specs.words.Edits.{edit_meant}
-use Rattle.quota_cli.specs.words.Usage.{IsUsageFault, usage_refusal}
-use Rattle.quota_cli.proofs.PhaseLemmas.{nothing_carried, stop_carried}
-use Rattle.quota_cli.proofs.WordLemmas.{edit_refusal, identifier_refusal, word_status}
-
--- what a command may be refused for, where another one may be
-pub carries_more : (steps : Steps) (uses : Uses) (may more : Cause → List ℕ → Type 0) (tells : RunTells) (old new : RunSeen) (result : Result (Unit {0}) Refusal)
-    → ((cause : Cause) (name : List ℕ) → may cause name → more cause name) → CarriesOut steps uses may tells old new result → CarriesOut steps uses more tells old new result
-carries_more steps uses may more tells old new (Ok value) allows carries = record {
-  done = carries.done;
-  refused = tt;
-  part = carries.part;
-  complete = carries.complete;
-  may_refuse = tt;
-  placed = carries.placed;
-  only_reads = carries.only_reads;
-  all_or_nothing = carries.all_or_nothing;
-  quiet = carries.quiet;
-  later = carries.later;
-}
-carries_more steps uses may more tells old new (Err refusal) allows carries = record {
-  done = tt;
-  refused = carries.refused;
-  part = carries.part;
-  complete = carries.complete;
-  may_refuse = allows refusal.cause refusal.name carries.may_refuse;
-  placed = carries.placed;
-  only_reads = carries.only_reads;
-  all_or_nothing = carries.all_or_nothing;
-  quiet = carries.quiet;
-  later = carries.later;
-}
+use Rattle.refusals.specs.declared.cause.Cause.{Cause}
+use Rattle.refusals.specs.declared.cause.Cause.TheVariants.{StoreFault, SourceFault, SinkFault, LinkFault, Memory, NoFile, TooLarge, NotQuota, WrongKind, UnknownVersion, BadBlockCount, OtherFormat, Damaged, Full, NoRoom, UnknownName, BadNumber, TargetExists, SameName, BadForm, BadLine, LongLine, Conflict, Usage}
+use Rattle.refusals.specs.declared.reason.Refusal.{Refusal}
+use Rattle.command_words.specs.declared.command.Command.{Command}
+use Rattle.command_words.specs.declared.command.Common.{Common}
+use Rattle.command_words.specs.declared.command.Command.TheVariants.{Report, SetLimits, CopyLimits, SetGrace, SetTimes, Batch, PrintForm, ApplyForm, Check}
+use Rattle.edit_commands.specs.declared.edit.EditWords.{EditWords}
+use Rattle.edit_commands.specs.declared.edit.EditWords.TheVariants.{Limits, Copy, Grace, Times}
+use Rattle.edit_commands.specs.declared.edit.FileEdit.{FileEdit}
+use Rattle.edit_commands.specs.declared.edit.FileEdit.TheVariants.{Limits as LimitsEdit}
+use Rattle.command_words.specs.declared.reading.UsageFault.{UsageFault}
+use Rattle.command_words.specs.declared.reading.UsageFault.TheVariants.{Usage as UsageOf, Memory as NoMemory}
+use Rattle.refusals.specs.Refusals.{refusal_of}
+use Rattle.refusals.specs.Status.{status_of}
+use Rattle.run_steps.specs.Done.{RunSeen, RunTells}
+use Rattle.run_steps.specs.Naming.{NamesMayRefuse}
+use Rattle.run_steps.specs.Opening.{MayRefuseOpening}
+use Rattle.run_steps.specs.Run.{CarriesOut}
+use Rattle.run_steps.specs.Steps.{Stop}
+use Rattle.run_steps.specs.declared.occasion.Occasion.{Occasion}
+use Rattle.edit_commands.specs.Apply.{ApplyMayRefuse}
+use Rattle.edit_commands.specs.Batch.{BatchMayRefuse, LineMayRefuse}
+use Rattle.command_words.specs.Built.{if_built, is_built, unknown_command}
+use Rattle.file_commands.specs.Check.{CheckMayRefuse, UnfitMayRefuse, UsageMayRefuse, new_value}
+use Rattle.edit_commands.specs.Edits.{ChangeMayRefuse, EditMayRefuse, FileEditMayRefuse}
+use Rattle.file_commands.specs.FileValue.{WritingMayRefuse}
+use Rattle.edit_commands.specs.Print.{PrintMayRefuse}
+use Rattle.file_commands.specs.Report.{ReportMayRefuse}
+use Rattle.run_steps.specs.Showing.{ShowingMayRefuse}
+use Rattle.quota_cli.specs.Table.{AskedSteps, MayRefuseAsked, MayRefuseCommand, StepsOf, asked_uses}
+use Rattle.run_steps.specs.Taking.{AForm, AListing, InputKind, InputMayRefuse, Lines, input_name}
+use Rattle.edit_commands.specs.EditWords.{edit_meant}
+use Rattle.command_words.specs.Usage.{IsUsageFault, usage_refusal}
+use Rattle.run_steps.proofs.PhaseLemmas.{nothing_carried, stop_carried}
+use Rattle.edit_commands.proofs.WordLemmas.{edit_refusal, identifier_refusal, word_status}
 
 -- what words ask for among the commands that are built is one that is built
 pub asked_built : (asked : Result Command Refusal) → IfOk (if_built asked) (λ (command : Command). IsTrue (is_built command))

@@ -4,20 +4,20 @@ use Rattle.std.specs.Prelude.{⊤, ◌↔◌, IfErr, IfSome, IsErrAnd, OnErr, On
 use Rattle.std.specs.Result.{result_err}
 use Rattle.quota_blocks.specs.Count.{Rose}
 use Rattle.quota_blocks.specs.Seen.{SinkSeen}
-use Rattle.quota_cli.specs.declared.refusal.cause.Cause.{Cause}
-use Rattle.quota_cli.specs.declared.refusal.cause.Cause.TheVariants.{StoreFault, SourceFault, SinkFault, LinkFault, Memory, NoFile, TooLarge, NotQuota, WrongKind, UnknownVersion, BadBlockCount, OtherFormat, Damaged, Full, NoRoom, UnknownName, BadNumber, TargetExists, SameName, BadForm, BadLine, LongLine, Conflict, Usage}
-use Rattle.quota_cli.specs.declared.refusal.reason.Refusal.{Refusal}
-use Rattle.quota_cli.specs.refusal.Line.{closing_line, error_line}
-use Rattle.quota_cli.specs.refusal.Status.{end_status, status_of}
-use Rattle.quota_cli.specs.Act.{Act, err_bytes}
-use Rattle.quota_cli.specs.Done.{AppendsUnless, AreDoneInPart, IsAllTold, IsLater, IsUnwritten, IsWorldTold, NoFault, Outside, RunSeen, RunTells, outside_of}
+use Rattle.refusals.specs.declared.cause.Cause.{Cause}
+use Rattle.refusals.specs.declared.cause.Cause.TheVariants.{StoreFault, SourceFault, SinkFault, LinkFault, Memory, NoFile, TooLarge, NotQuota, WrongKind, UnknownVersion, BadBlockCount, OtherFormat, Damaged, Full, NoRoom, UnknownName, BadNumber, TargetExists, SameName, BadForm, BadLine, LongLine, Conflict, Usage}
+use Rattle.refusals.specs.declared.reason.Refusal.{Refusal}
+use Rattle.refusals.specs.Line.{closing_line, error_line}
+use Rattle.refusals.specs.Status.{end_status, status_of}
+use Rattle.run_steps.specs.Act.{Act, err_bytes}
+use Rattle.run_steps.specs.Done.{AppendsUnless, AreDoneInPart, IsAllTold, IsLater, IsUnwritten, IsWorldTold, NoFault, Outside, RunSeen, RunTells, outside_of}
 use Rattle.quota_cli.specs.Headline.{Effect, HasEffect, HasEffectUpToErr, HasSaid, IsRefusedWord, IsStopped, Setting, asked_warns}
-use Rattle.quota_cli.specs.Run.{CarriesOut, HasReason, HasSteps, IsFault, Uses}
-use Rattle.quota_cli.specs.Steps.{closing}
-use Rattle.quota_cli.specs.commands.Table.{AskedSteps, MayRefuseAsked, asked_uses}
-use Rattle.quota_cli.specs.commands.Built.{built_command}
-use Rattle.quota_cli.proofs.ActLemmas.{done_and_said, more_err, nothing_before, part_but_err, part_of_more}
-use Rattle.quota_cli.proofs.ReasonLemmas.{ByFault, ByMemory, ByStep, CauseCase, cause_case, reason_but_stated}
+use Rattle.run_steps.specs.Run.{CarriesOut, HasReason, HasSteps, IsFault, Uses}
+use Rattle.run_steps.specs.Steps.{closing}
+use Rattle.quota_cli.specs.Table.{AskedSteps, MayRefuseAsked, asked_uses}
+use Rattle.command_words.specs.Built.{built_command}
+use Rattle.run_steps.proofs.ActLemmas.{done_and_said, more_err, nothing_before, part_but_err, part_of_more}
+use Rattle.run_steps.proofs.ReasonLemmas.{ByFault, ByMemory, ByStep, CauseCase, cause_case, reason_but_stated}
 
 -- what the words of a setting ask for was carried out
 abbrev pub IsCarriedOut : Setting → RunTells → RunSeen → RunSeen → Result (Unit {0}) Refusal → Type 0

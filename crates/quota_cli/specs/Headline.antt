@@ -2,16 +2,16 @@
 use Rattle.std.specs.Prelude.{◌≡◌, ◌⊎◌, ℕ, Bool, false, IsTrue, List, Option, None, ⊤}
 use Rattle.quota_blocks.specs.Count.{Rose}
 use Rattle.quota_blocks.specs.Seen.{SinkSeen}
-use Rattle.quota_cli.specs.declared.refusal.reason.Refusal.{Refusal}
-use Rattle.quota_cli.specs.refusal.Line.{closing_line, error_line}
-use Rattle.quota_cli.specs.refusal.Status.{end_status, status_of}
-use Rattle.quota_cli.specs.Act.{Act}
-use Rattle.quota_cli.specs.Done.{AppendsUnless, AreDone, AreDoneInPart, IsWorldTold, Outside, RunSeen, RunTells, outside_of}
-use Rattle.quota_cli.specs.Run.{HasReason, HasSteps, IsPlacedBy}
-use Rattle.quota_cli.specs.Steps.{HasEffectOf}
-use Rattle.quota_cli.specs.declared.commands.occasion.Occasion.{Occasion}
-use Rattle.quota_cli.specs.commands.Table.{AskedSteps, MayRefuseAsked, asked_uses}
-use Rattle.quota_cli.specs.commands.Built.{built_command}
+use Rattle.refusals.specs.declared.reason.Refusal.{Refusal}
+use Rattle.refusals.specs.Line.{closing_line, error_line}
+use Rattle.refusals.specs.Status.{end_status, status_of}
+use Rattle.run_steps.specs.Act.{Act}
+use Rattle.run_steps.specs.Done.{AppendsUnless, AreDone, AreDoneInPart, IsWorldTold, Outside, RunSeen, RunTells, outside_of}
+use Rattle.run_steps.specs.Run.{HasReason, HasSteps, IsPlacedBy}
+use Rattle.run_steps.specs.Steps.{HasEffectOf}
+use Rattle.run_steps.specs.declared.occasion.Occasion.{Occasion}
+use Rattle.quota_cli.specs.Table.{AskedSteps, MayRefuseAsked, asked_uses}
+use Rattle.command_words.specs.Built.{built_command}
 
 -- what a run is given: the words, and when it takes place
 pub record Setting : Type 0 where

@@ -1,12 +1,4 @@
-pub mod Outcome
-pub mod Act
-pub mod Done
-pub mod Naming
-pub mod Opening
-pub mod Steps
-pub mod Run
-pub mod Taking
+pub mod About
 pub mod Headline
-pub mod commands
-pub mod refusal
-pub mod words
+pub mod Starting
+pub mod Table

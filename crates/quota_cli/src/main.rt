@@ -2,23 +2,28 @@
 //! promises.
 #![tactic(auto)]
 
-use adapters::{FileStore, StreamSink, StreamSource, UdpLink, moment};
+ghost use Rattle.std.specs.Prelude.{◌≡◌, ◌≤◌, [], IsTrue};
+ghost use Rattle.quota_blocks.specs.Count.{Rose};
+ghost use Rattle.quota_cli.specs.Starting.{starting_cause, words_cause};
+ghost use Rattle.refusals.specs.Line.{error_line};
+ghost use Rattle.refusals.specs.Refusals.{refusal_of};
+ghost use Rattle.refusals.specs.Status.{status_of};
+ghost use Rattle.run_steps.specs.Done.{AppendsUnless};
+
+use help::{About, tell};
 use quota_blocks::Sink;
-use refusal::{Cause, Refusal, UsageKind};
+use refusals::{Cause, Refusal, UsageKind, Word};
 use std::alloc::Global;
 use std::io::ErrorKind;
 use std::process::ExitCode;
 use std::{env, io};
-use words::Word;
+use system_objects::{FileStore, StreamSink, StreamSource, UdpLink, moment};
 
-mod adapters;
 mod commands;
 mod help;
-mod refusal;
 mod run;
 #[cfg(test)]
 mod tests;
-mod words;
 
 /// The words of the command line without the program's own name.
 fn given_words<R: env::Env + AllocGlobal>(rt: &R) -> io::Result<Vec<String>> {
@@ -26,7 +31,9 @@ fn given_words<R: env::Env + AllocGlobal>(rt: &R) -> io::Result<Vec<String>> {
 }
 
 /// Why the program stops where the system does not give it its words. Words that are not all UTF-8 are no command.
-fn words_cause(kind: ErrorKind) -> Cause {
+fn words_cause(kind: ErrorKind) -> Cause
+    ensures { result ≡ words_cause kind }
+{
     match kind {
         ErrorKind::InvalidData => Cause::Usage {
             kind: UsageKind::UnknownCommand,
@@ -37,7 +44,9 @@ fn words_cause(kind: ErrorKind) -> Cause {
 }
 
 /// Why the program stops where the system fails to give it its words or the moment.
-fn starting_cause(kind: ErrorKind) -> Cause {
+fn starting_cause(kind: ErrorKind) -> Cause
+    ensures { result ≡ starting_cause kind }
+{
     match kind {
         ErrorKind::OutOfMemory => Cause::Memory,
         _ => Cause::StoreFault,
@@ -45,7 +54,12 @@ fn starting_cause(kind: ErrorKind) -> Cause {
 }
 
 /// Says why the program stops before it has begun, and answers its status.
-fn stop<E: Sink>(err: &mut E, cause: Cause, alloc: Global) -> u8 {
+fn stop<E: Sink>(err: &mut E, cause: Cause, alloc: Global) -> u8
+    ensures status { result ≡ status_of cause }
+    ensures line { IsTrue E.tells → AppendsUnless (Rose (E.seen err.old).faults (E.seen err.new).faults)
+        (E.seen err.old).written (E.seen err.new).written (error_line (refusal_of cause [])) }
+    ensures later { (E.seen err.old).faults ≤ (E.seen err.new).faults }
+{
     run::refuse(err, &Refusal::of(cause, Word::empty(alloc)))
 }
 
@@ -54,8 +68,8 @@ fn main(rt: HostRuntime) -> ExitCode {
     let status = match (given_words(&rt), moment(&rt)) {
         (Ok(words), Ok(now)) => {
             let mut out = StreamSink::new(rt.stdout());
-            if let Some(text) = help::text_for(&words) {
-                return ExitCode::from(help::tell(&mut out, &mut err, text, rt.alloc()));
+            if let Some(about) = About::asked(&words) {
+                return ExitCode::from(tell(&mut out, &mut err, about.text(), rt.alloc()));
             }
             let mut store = FileStore::new(rt.alloc(), &rt);
             let mut input = StreamSource::new(rt.stdin());

@@ -2,23 +2,25 @@ ghost use Rattle.std.specs.Prelude.{◌≡◌, ◌≢◌, ◌≤◌, ◌⊎◌, 
 ghost use Rattle.std.specs.Result.{result_err};
 ghost use Rattle.quota_blocks.specs.Count.{Rose};
 ghost use Rattle.quota_blocks.specs.Unsynced.{AddsNone};
-ghost use Rattle.quota_cli.specs.Act.{Act};
-ghost use Rattle.quota_cli.specs.Done.{AppendsUnless, AreDoneInPart, IsAllTold, IsLater, IsUnwritten, IsWorldTold, NoFault, Outside, outside_of, seen_of, tells_of};
+ghost use Rattle.run_steps.specs.Act.{Act};
+ghost use Rattle.run_steps.specs.Done.{AppendsUnless, AreDoneInPart, IsAllTold, IsLater, IsUnwritten, IsWorldTold, NoFault, Outside, outside_of, seen_of, tells_of};
 ghost use Rattle.quota_cli.specs.Headline.{Effect, HasEffect, HasEffectUpToErr, HasSaid, IsRefusedWord, IsStopped, setting_of};
-ghost use Rattle.quota_cli.specs.Run.{CarriesOut};
-ghost use Rattle.quota_cli.specs.commands.Built.{built_command, is_built};
-ghost use Rattle.quota_cli.specs.commands.Table.{AskedSteps, MayRefuseAsked, asked_replaced, asked_uses, faulty_asked};
-ghost use Rattle.quota_cli.specs.declared.refusal.cause.Cause.TheVariants.{Memory};
-ghost use Rattle.quota_cli.specs.declared.refusal.reason.Refusal.{Refusal};
-ghost use Rattle.quota_cli.specs.refusal.Line.{closing_line, error_line};
-ghost use Rattle.quota_cli.specs.refusal.Status.{end_status, status_of};
-ghost use Rattle.quota_cli.specs.words.Asked.{texts_of};
-ghost use Rattle.quota_cli.specs.words.Usage.{IsUsageFault, usage_refusal};
+ghost use Rattle.run_steps.specs.Run.{CarriesOut};
+ghost use Rattle.command_words.specs.Built.{built_command, is_built};
+ghost use Rattle.quota_cli.specs.Table.{AskedSteps, MayRefuseAsked, asked_replaced, asked_uses, faulty_asked};
+ghost use Rattle.refusals.specs.declared.cause.Cause.TheVariants.{Memory};
+ghost use Rattle.refusals.specs.declared.reason.Refusal.{Refusal};
+ghost use Rattle.refusals.specs.Line.{closing_line, error_line};
+ghost use Rattle.refusals.specs.Status.{end_status, status_of};
+ghost use Rattle.option_words.specs.Items.{texts_of};
+ghost use Rattle.command_words.specs.Usage.{IsUsageFault, usage_refusal};
 
-use crate::commands::{Occasion, carry_out};
-use crate::refusal::{Cause, Refusal, UsageKind, write_error_line};
-use crate::words::{Command, UsageFault, Word, asks_built, read_words};
+use crate::commands::carry_out;
+use command_words::{Command, asks_built};
+pub use command_words::{UsageFault, read_words};
 use quota_blocks::{Link, Sink, Source, Store};
+use refusals::{Cause, Refusal, UsageKind, Word, write_error_line};
+use run_steps::Occasion;
 use std::alloc::Global;
 
 /// What is said of a command that is not built.

@@ -1,4 +1,6 @@
-use crate::words::{Command, Common, ExportList, Word};
+use command_words::{Command, Common};
+use option_words::ExportList;
+use refusals::Word;
 use report_text::Options;
 use std::alloc::{AllocError, Global};
 

@@ -1,8 +1,8 @@
-use crate::adapters::UdpLink;
 use quota_blocks::{Link, LinkFault};
 use std::net::{Ipv4Addr, UdpSocket};
 use std::test::Fail;
 use std::time::{Duration, SystemTime};
+use system_objects::UdpLink;
 
 #[test]
 fn a_udp_link_takes_datagrams_and_answers_their_sender(rt: HostRuntime) -> Result<(), Fail> {

@@ -1,6 +1,6 @@
 use super::runs::words_of;
 use super::shown::shown;
-use crate::words::{UsageFault, read_words};
+use crate::run::{UsageFault, read_words};
 use std::alloc::{AllocError, Global};
 use std::process::Abort;
 use std::test::Fail;

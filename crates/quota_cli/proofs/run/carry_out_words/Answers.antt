@@ -1,12 +1,14 @@
 use Rattle.std.proofs.Common.{None, false, Result, inr, refl, sym, subst}
-use Rattle.quota_cli.specs.Done.{seen_of, tells_of}
-use Rattle.quota_cli.specs.Run.{CarriesOut}
-use Rattle.quota_cli.specs.commands.Table.{AskedSteps, MayRefuseAsked, asked_replaced, asked_uses}
-use Rattle.quota_cli.specs.declared.refusal.reason.Refusal.{Refusal}
-use Rattle.quota_cli.specs.declared.words.command.Command.{Command}
-use Rattle.quota_cli.specs.commands.Built.{built_command}
-use Rattle.quota_cli.specs.words.Asked.{command_of, texts_of}
-use Rattle.quota_cli.proofs.CommandLemmas.{asked_built, carries_more, holds_of_one, not_read, usage_not_read, usage_read}
+use Rattle.run_steps.specs.Done.{seen_of, tells_of}
+use Rattle.run_steps.specs.Run.{CarriesOut}
+use Rattle.quota_cli.specs.Table.{AskedSteps, MayRefuseAsked, asked_replaced, asked_uses}
+use Rattle.refusals.specs.declared.reason.Refusal.{Refusal}
+use Rattle.command_words.specs.declared.command.Command.{Command}
+use Rattle.command_words.specs.Built.{built_command}
+use Rattle.command_words.specs.Asked.{command_of}
+use Rattle.option_words.specs.Items.{texts_of}
+use Rattle.quota_cli.proofs.CommandLemmas.{asked_built, holds_of_one, not_read, usage_not_read, usage_read}
+use Rattle.run_steps.proofs.PhaseLemmas.{carries_more}
 use Rattle.quota_cli.proofs.run.carry_out_words.Goals as goal
 
 pub returns-in-Ok-clause-carries : goal.returns-in-Ok-clause-carries

@@ -1,6 +1,7 @@
 use Rattle.std.proofs.Common.{false}
-use Rattle.quota_cli.specs.words.Asked.{command_of, texts_of}
-use Rattle.quota_cli.proofs.BuiltLemmas.{kept_read, wanting_read}
+use Rattle.command_words.specs.Asked.{command_of}
+use Rattle.option_words.specs.Items.{texts_of}
+use Rattle.command_words.proofs.BuiltLemmas.{kept_read, wanting_read}
 use Rattle.quota_cli.proofs.run.read_built.Goals as goal
 
 pub returns-in-Ok-clause-read : goal.returns-in-Ok-clause-read

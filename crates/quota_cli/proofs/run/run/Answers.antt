@@ -1,10 +1,10 @@
 use Rattle.std.proofs.Common.{◌≡◌, List, ℕ, IsTrue, ap}
 use Rattle.quota_blocks.specs.Unsynced.{AddsNone}
-use Rattle.quota_cli.specs.commands.Table.{asked_replaced}
-use Rattle.quota_cli.specs.Done.{seen_of, tells_of}
+use Rattle.quota_cli.specs.Table.{asked_replaced}
+use Rattle.run_steps.specs.Done.{seen_of, tells_of}
 use Rattle.quota_cli.specs.Headline.{setting_of}
-use Rattle.quota_cli.specs.commands.Built.{built_command}
-use Rattle.quota_cli.specs.words.Asked.{texts_of}
+use Rattle.command_words.specs.Built.{built_command}
+use Rattle.option_words.specs.Items.{texts_of}
 use Rattle.quota_cli.proofs.RunLemmas.{IsFinished, run_complete, run_done, run_headline, run_later, run_named, run_part, run_says, run_stopped, run_synced, run_words, run_writes, status_2}
 use Rattle.quota_cli.proofs.run.run.Goals as goal
 

@@ -1,0 +1,125 @@
+-- Which commands are built, told from the form and the options that ask for them.
+use Rattle.std.proofs.Common.{◌≡◌, ◌∙◌, ℕ, ◌+◌, Bool, true, false, not, if◌then◌else◌, IsOk, MatchResult, List, [], ◌∷◌, length, Option, None, Some, Result, Ok, Err, refl, sym, ap}
+use Rattle.command_words.specs.Built.{if_built, is_built, unknown_command}
+use Rattle.refusals.specs.declared.reason.Refusal.{Refusal}
+use Rattle.command_words.specs.declared.command.Command.{Command}
+use Rattle.command_words.specs.declared.command.Command.TheVariants.{CopyLimits, Batch, Convert, Serve, Generate}
+use Rattle.refusals.specs.declared.cause.UsageKind.TheVariants.{UnknownCommand, Excludes, MissingOption, BadValue, BadFileName}
+use Rattle.option_words.specs.declared.fault.Fault.{Fault}
+use Rattle.option_words.specs.declared.given.Conversion.{Conversion}
+use Rattle.quota_blocks.specs.Numeral.{number_of}
+use Rattle.command_words.specs.declared.form.Form.{Form}
+use Rattle.command_words.specs.declared.form.Form.TheVariants.{Reporting, Limiting, Copying, Batching, SettingGrace, SettingTimes, Printing, Applying, Checking, Converting, Serving, Scripting, Generating}
+use Rattle.option_words.specs.declared.tool.Tool.{Tool}
+use Rattle.command_words.specs.declared.reading.UsageFault.{UsageFault}
+use Rattle.command_words.specs.declared.reading.UsageFault.TheVariants.{Usage, Memory}
+use Rattle.command_words.specs.Asked.{asked, asked_of, command_of, may_stand, refused, settled}
+use Rattle.command_words.specs.BuiltForms.{is_built_form}
+use Rattle.option_words.specs.Fault.{fault, unless, with_value, ◌>>=◌}
+use Rattle.option_words.specs.Items.{Operand, operands_in}
+use Rattle.command_words.specs.Forms.{common_of, excludes, form_of, formed, is_value, kind_asked, lacks, named}
+use Rattle.option_words.specs.Given.{Told, nothing_told, with_items}
+use Rattle.option_words.specs.Items.{AnyWord, items_of}
+use Rattle.option_words.specs.Tools.{tool_of}
+use Rattle.command_words.specs.Usage.{IsUsageFault}
+use Rattle.option_words.specs.Values.{number_within}
+
+-- a step that met no fault had none before it
+unless_ok : {A : Type 0} (wrong : Bool) (met : Fault) (next : Result A Fault) (value : A) → unless wrong met next ≡ Ok value → next ≡ Ok value
+unless_ok true met next value is = absurd (cc)
+unless_ok false met next value is = is
+
+-- a step over a value that met no fault had the value
+with_value_ok : {A B : Type 0} (given : Option A) (met : Fault) (next : A → Result B Fault) (value : B) → with_value given met next ≡ Ok value
+    → (x : A) × (given ≡ Some x) × (next x ≡ Ok value)
+with_value_ok (Some x) met next value is = (x, refl, is)
+with_value_ok None met next value is = absurd (cc)
+
+-- a command that was asked for is this one
+built_as : (this command : Command) → ◌≡◌ {A = Result Command Fault} (Ok this) (Ok command) → is_built command ≡ is_built this
+built_as this command is = let same : this ≡ command = cc in ap is_built (sym same)
+
+-- a form asks for a command that is built where the form with its options is
+built_formed : (form : Form) (told : Told) (words : ℕ) (operands : List Operand) (command : Command)
+    → formed form told words operands ≡ Ok command → is_built command ≡ is_built_form form
+built_formed Reporting told words (file ∷ []) command is = built_as _ command (unless_ok _ _ _ command is)
+built_formed Limiting told words (name ∷ bsoft ∷ bhard ∷ isoft ∷ ihard ∷ file ∷ []) command is = built_as _ command (unless_ok _ _ _ command is)
+built_formed Copying told words (name ∷ file ∷ []) command is =
+    let next : List ℕ → Result Command Fault = λ proto. Ok (CopyLimits (common_of told) proto name.text file.text) in
+    let inner : with_value told.proto (fault MissingOption words) next ≡ Ok command = unless_ok _ _ _ command is in
+    built_as _ command (with_value_ok told.proto (fault MissingOption words) next command inner).2
+built_formed Batching told words (file ∷ []) command is =
+    let inner : unless (is_value file told.input) (fault BadFileName file.word) (Ok (Batch (common_of told) told.input file.text)) ≡ Ok command =
+    unless_ok _ _ _ command is in
+    built_as _ command (unless_ok _ _ _ command inner)
+built_formed SettingGrace told words (block ∷ inode ∷ file ∷ []) command is = built_as _ command (unless_ok _ _ _ command is)
+built_formed SettingTimes told words (name ∷ block ∷ inode ∷ file ∷ []) command is = built_as _ command (unless_ok _ _ _ command is)
+built_formed Printing told words (name ∷ file ∷ []) command is = built_as _ command (unless_ok _ _ _ command is)
+built_formed Applying told words (name ∷ file ∷ []) command is = built_as _ command (unless_ok _ _ _ command is)
+built_formed Checking told words (file ∷ []) command is = built_as _ command (unless_ok _ _ _ command is)
+built_formed Converting told words (source ∷ target ∷ []) command is =
+    let next : Conversion → Result Command Fault = λ formats. Ok (Convert (kind_asked told.flags) formats.old formats.new source.text target.text) in
+    let outer : named target (with_value told.conversion (fault MissingOption words) next) ≡ Ok command = unless_ok _ _ _ command is in
+    let inner : with_value told.conversion (fault MissingOption words) next ≡ Ok command = unless_ok _ _ _ command outer in
+    built_as _ command (with_value_ok told.conversion (fault MissingOption words) next command inner).2
+built_formed Serving told words [] command is =
+    let next : ℕ → ℕ → Result Command Fault = λ calls port. Ok (Serve told.format calls port told.exports) in
+    let outer = with_value_ok told.calls (fault MissingOption words) (λ calls. with_value told.port (fault MissingOption words) (next calls)) command is in
+    built_as _ command (with_value_ok told.port (fault MissingOption words) (next outer.0) command outer.2).2
+built_formed Scripting told words [] command is = built_as _ command is
+built_formed Generating told words (seed ∷ count ∷ file ∷ []) command is =
+    let last : ℕ → ℕ → Result Command Fault = λ s c. named file (Ok (Generate s c file.text)) in
+    let lines : ℕ → Result Command Fault = λ s. with_value (number_within 1 1000000 count.text) (fault BadValue count.word) (last s) in
+    let outer = with_value_ok (number_of seed.text) (fault BadValue seed.word) lines command is in
+    let inner = with_value_ok (number_within 1 1000000 count.text) (fault BadValue count.word) (last outer.0) command outer.2 in
+    built_as _ command (unless_ok _ _ _ command inner.2)
+built_formed _ told words operands command is = absurd (cc)
+
+-- words with a refusal that is made ask for what they asked for before
+refused_ok : (asked : Result Command Fault) (command : Command) → refused asked ≡ Ok command → asked ≡ Ok command
+refused_ok (Ok this) command is = let same : this ≡ command = cc in ap (λ (c : Command). Ok c) same
+refused_ok (Err met) command is = absurd (cc)
+
+-- what a name and the words behind it ask for, where the name is that of a command
+asked_tool : (name : List ℕ) (texts : List (List ℕ)) (tool : Tool) (command : Command) → tool_of name ≡ Some tool
+    → command_of false (name ∷ texts) ≡ Ok command → asked_of false tool texts ≡ Ok command
+asked_tool name texts tool command is asks =
+    let next : Tool → Result Command Fault = λ t. unless (not (may_stand false t)) (fault UnknownCommand 0) (asked_of false t texts) in
+    let found = with_value_ok (tool_of name) (fault UnknownCommand 0) next command (refused_ok (asked false (name ∷ texts)) command asks) in
+    let same : found.0 ≡ tool = cc (found.1, is) in
+    ap (λ (t : Tool). asked_of false t texts) (sym same)
+    ∙ unless_ok (not (may_stand false found.0)) (fault UnknownCommand 0) (asked_of false found.0 texts) command found.2
+
+-- words that ask for a command ask for one that is built where the form with its options is
+pub built_asked : (name : List ℕ) (texts : List (List ℕ)) (tool : Tool) (told : Told) (command : Command) → tool_of name ≡ Some tool
+    → with_items (items_of tool AnyWord 1 texts) nothing_told ≡ Ok told → command_of false (name ∷ texts) ≡ Ok command
+    → is_built_form (form_of tool told) ≡ is_built command
+built_asked name texts tool told command is given asks =
+    let items = items_of tool AnyWord 1 texts in
+    let settles : settled false tool told (length texts + 1) items ≡ Ok command =
+    sym (ap (λ (r : Result Told Fault). r >>= λ (t : Told). settled false tool t (length texts + 1) items) given)
+    ∙ asked_tool name texts tool command is asks in
+    let form = form_of tool told in
+    let words = length texts + 1 in
+    let outer : unless (lacks false tool told) (fault MissingOption words) (formed form told words (operands_in items)) ≡ Ok command =
+    unless_ok (excludes tool told) (fault Excludes words) _ command settles in
+    let inner : formed form told words (operands_in items) ≡ Ok command =
+    unless_ok (lacks false tool told) (fault MissingOption words) _ command outer in
+    sym (built_formed form told words (operands_in items) command inner)
+
+-- a command that was read is kept where it is built
+pub kept_read : (asks : Result Command Refusal) (command : Command) (built : Bool) (result : Result Command UsageFault)
+    → asks ≡ Ok command → built ≡ is_built command → result ≡ (if built then Ok command else Err (Usage UnknownCommand 0))
+    → MatchResult result (λ (kept : Command). if_built asks ≡ Ok kept) (IsUsageFault (if_built asks))
+kept_read asks command true result is built said =
+    rw said (ap if_built is ∙ ap (λ (b : Bool). if b then Ok command else Err unknown_command) (sym built))
+kept_read asks command false result is built said =
+    rw said (ap if_built is ∙ ap (λ (b : Bool). if b then Ok command else Err unknown_command) (sym built))
+
+-- where memory was wanting for a command, that is said of one that is built
+pub wanting_read : (asks : Result Command Refusal) (built : Bool) (said : UsageFault) → IsOk asks
+    → ((command : Command) → asks ≡ Ok command → built ≡ is_built command)
+    → said ≡ (if built then Memory else Usage UnknownCommand 0) → IsUsageFault (if_built asks) said
+wanting_read (Ok command) true said ok is told = let built : is_built command ≡ true = sym (is command refl) in rw (told, built) refl
+wanting_read (Ok command) false said ok is told = let built : is_built command ≡ false = sym (is command refl) in rw (told, built) refl
+wanting_read (Err refusal) built said ok is told = absurd (cc)

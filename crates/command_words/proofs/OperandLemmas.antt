@@ -1,0 +1,85 @@
+-- Operands of which the first seven are kept, and forms that have no more than six.
+use Rattle.std.proofs.Common.{◌≡◌, ◌∙◌, ℕ, ◌+◌, Bool, true, false, List, [], ◌∷◌, length, get_or, take, Result, Ok, IsOk, refl, sym, ap, arith}
+use Rattle.command_words.specs.declared.form.Form.{Form}
+use Rattle.command_words.specs.declared.form.Form.TheVariants.{Reporting, Limiting, Copying, Batching, SettingGrace, SettingTimes, Printing, Applying, Checking, Converting, Serving, Scripting, Generating}
+use Rattle.option_words.specs.declared.scan.OperandWord.{OperandWord}
+use Rattle.command_words.specs.declared.command.Command.TheVariants.{SetLimits}
+use Rattle.refusals.specs.declared.cause.UsageKind.TheVariants.{Excludes, MissingOption}
+use Rattle.option_words.specs.declared.fault.Fault.{Fault}
+use Rattle.option_words.specs.declared.tool.Tool.{Tool}
+use Rattle.command_words.specs.Asked.{asked_of, settled}
+use Rattle.option_words.specs.Fault.{fault, unless, ◌>>=◌}
+use Rattle.option_words.specs.FileName.{is_file_name}
+use Rattle.option_words.specs.Items.{Operand, operands_in}
+use Rattle.command_words.specs.Forms.{common_of, excludes, form_of, formed, lacks}
+use Rattle.option_words.specs.Given.{Told, nothing_told, with_items}
+use Rattle.option_words.specs.Items.{AnyWord, items_of}
+use Rattle.option_words.specs.Reads.{operands_seen}
+
+-- seven operands are too many for each form
+too_many : (form : Form) (told : Told) (words : ℕ) (a b c d e f g : Operand) (more other : List Operand)
+    → formed form told words (a ∷ b ∷ c ∷ d ∷ e ∷ f ∷ g ∷ more) ≡ formed form told words (a ∷ b ∷ c ∷ d ∷ e ∷ f ∷ g ∷ other)
+too_many Reporting told words a b c d e f g more other = refl
+too_many Limiting told words a b c d e f g more other = refl
+too_many Copying told words a b c d e f g more other = refl
+too_many Batching told words a b c d e f g more other = refl
+too_many SettingGrace told words a b c d e f g more other = refl
+too_many SettingTimes told words a b c d e f g more other = refl
+too_many Printing told words a b c d e f g more other = refl
+too_many Applying told words a b c d e f g more other = refl
+too_many Checking told words a b c d e f g more other = refl
+too_many Converting told words a b c d e f g more other = refl
+too_many Serving told words a b c d e f g more other = refl
+too_many Scripting told words a b c d e f g more other = refl
+too_many Generating told words a b c d e f g more other = refl
+
+-- the first seven operands are enough to tell what a form asks for
+pub formed-take : (form : Form) (told : Told) (words : ℕ) (operands : List Operand)
+    → formed form told words (take 7 operands) ≡ formed form told words operands
+formed-take form told words [] = refl
+formed-take form told words (a ∷ []) = refl
+formed-take form told words (a ∷ b ∷ []) = refl
+formed-take form told words (a ∷ b ∷ c ∷ []) = refl
+formed-take form told words (a ∷ b ∷ c ∷ d ∷ []) = refl
+formed-take form told words (a ∷ b ∷ c ∷ d ∷ e ∷ []) = refl
+formed-take form told words (a ∷ b ∷ c ∷ d ∷ e ∷ f ∷ []) = refl
+formed-take form told words (a ∷ b ∷ c ∷ d ∷ e ∷ f ∷ g ∷ more) = too_many form told words a b c d e f g [] more
+
+-- what six operands ask for as new limits, each by its place
+pub limits_formed : (told : Told) (words : ℕ) (operands : List OperandWord) (any : OperandWord) → length operands ≡ 6
+    → is_file_name (get_or operands 5 any).text.now ≡ true
+    → formed Limiting told words (operands_seen operands)
+    ≡ Ok (SetLimits (common_of told) (get_or operands 0 any).text.now
+    ((get_or operands 1 any).text.now ∷ (get_or operands 2 any).text.now ∷ (get_or operands 3 any).text.now ∷ (get_or operands 4 any).text.now ∷ [])
+    (get_or operands 5 any).text.now)
+limits_formed told words [] any six named = cc
+limits_formed told words (a ∷ []) any six named = cc
+limits_formed told words (a ∷ b ∷ []) any six named = cc
+limits_formed told words (a ∷ b ∷ c ∷ []) any six named = cc
+limits_formed told words (a ∷ b ∷ c ∷ d ∷ []) any six named = cc
+limits_formed told words (a ∷ b ∷ c ∷ d ∷ e ∷ []) any six named = cc
+limits_formed told words (a ∷ b ∷ c ∷ d ∷ e ∷ f ∷ []) any six named = rw named refl
+limits_formed told words (a ∷ b ∷ c ∷ d ∷ e ∷ f ∷ g ∷ more) any six named = absurd (omega arith)
+
+-- they ask for a command
+pub limits_ok : (told : Told) (words : ℕ) (operands : List OperandWord) (any : OperandWord) → length operands ≡ 6
+    → is_file_name (get_or operands 5 any).text.now ≡ true → IsOk (formed Limiting told words (operands_seen operands))
+limits_ok told words operands any six named = rw (limits_formed told words operands any six named) refl
+
+-- what is asked for where the options have no fault: what their form asks for by the operands that were kept
+pub asked_formed : (in_script : Bool) (tool : Tool) (texts : List (List ℕ)) (told : Told) (form : Form) (words : ℕ) (kept : List Operand)
+    → with_items (items_of tool AnyWord 1 texts) nothing_told ≡ Ok told
+    → take 7 kept ≡ take 7 (operands_in (items_of tool AnyWord 1 texts))
+    → excludes tool told ≡ false → lacks in_script tool told ≡ false → form ≡ form_of tool told → words ≡ length texts + 1
+    → asked_of in_script tool texts ≡ formed form told words kept
+asked_formed in_script tool texts told form words kept given operands none complete is count =
+    let items = items_of tool AnyWord 1 texts in
+    ap (λ (r : Result Told Fault). r >>= λ (t : Told). settled in_script tool t (length texts + 1) items) given
+    ∙ ap (λ (b : Bool). unless b (fault Excludes (length texts + 1)) (unless (lacks in_script tool told) (fault MissingOption (length texts + 1))
+    (formed (form_of tool told) told (length texts + 1) (operands_in items)))) none
+    ∙ ap (λ (b : Bool). unless b (fault MissingOption (length texts + 1)) (formed (form_of tool told) told (length texts + 1) (operands_in items))) complete
+    ∙ sym (formed-take (form_of tool told) told (length texts + 1) (operands_in items))
+    ∙ ap (formed (form_of tool told) told (length texts + 1)) (sym operands)
+    ∙ formed-take (form_of tool told) told (length texts + 1) kept
+    ∙ ap (λ (n : ℕ). formed (form_of tool told) told n kept) (sym count)
+    ∙ ap (λ (f : Form). formed f told words kept) (sym is)

@@ -1,0 +1,124 @@
+-- The forms of the commands: which options go together, which operands they have, and what they ask for. Source: the
+-- manual pages of the commands.
+use Rattle.std.specs.Prelude.{ℕ, Bool, false, not, ◌&&◌, ◌||◌, nat_lt, if◌then◌else◌, List, [], ◌∷◌, length, Option, Some, None, is_some, is_none, Result, Ok, Err}
+use Rattle.std.specs.Str.{bytes_eq}
+use Rattle.quota_types.specs.declared.file_kind.Kind.{Kind}
+use Rattle.quota_types.specs.declared.file_kind.Kind.TheVariants.{User, Group}
+use Rattle.report_text.specs.declared.options.Options.{Options}
+use Rattle.quota_blocks.specs.Numeral.{number_of}
+use Rattle.refusals.specs.declared.cause.UsageKind.TheVariants.{MissingOption, WrongOperands, BadValue, BadFileName}
+use Rattle.command_words.specs.declared.command.Command.{Command}
+use Rattle.command_words.specs.declared.command.Command.TheVariants.{Report, SetLimits, CopyLimits, Batch, SetGrace, SetTimes, PrintForm, ApplyForm, Check, Convert, Serve, Script, Generate}
+use Rattle.command_words.specs.declared.command.Common.{Common}
+use Rattle.option_words.specs.declared.fault.Fault.{Fault}
+use Rattle.command_words.specs.declared.form.Form.{Form}
+use Rattle.command_words.specs.declared.form.Form.TheVariants.{Reporting, Limiting, Copying, Batching, SettingGrace, SettingTimes, Printing, Applying, Checking, Converting, Serving, Scripting, Generating}
+use Rattle.option_words.specs.declared.switch.Flags.{Flags}
+use Rattle.option_words.specs.declared.tool.Tool.{Tool}
+use Rattle.option_words.specs.declared.tool.Tool.TheVariants.{Repquota as RepquotaTool, Setquota as SetquotaTool, Edquota as EdquotaTool, Quotacheck as QuotacheckTool, Convertquota as ConvertquotaTool, Rquotad as RquotadTool, Script as ScriptTool, Generate as GenerateTool}
+use Rattle.option_words.specs.Fault.{fault, unless, with_value}
+use Rattle.option_words.specs.FileName.{is_file_name}
+use Rattle.option_words.specs.Given.{Told}
+use Rattle.option_words.specs.Items.{Operand}
+use Rattle.option_words.specs.Values.{number_within}
+
+-- two of four hold
+abbrev pub two_of : Bool → Bool → Bool → Bool → Bool
+two_of a b c d = (a && (b || c || d)) || (b && (c || d)) || (c && d)
+
+-- Options that exclude each other: users and groups; two forms of one command; and an input where the form reads none.
+abbrev pub excludes : Tool → Told → Bool
+excludes SetquotaTool told =
+    (told.flags.users && told.flags.groups)
+    || two_of (is_some told.proto) told.flags.batch told.flags.grace told.flags.times
+    || (is_some told.input && not told.flags.batch)
+excludes EdquotaTool told =
+    (told.flags.users && told.flags.groups)
+    || (told.flags.print && told.flags.apply)
+    || (is_some told.input && told.flags.print)
+excludes _ told = told.flags.users && told.flags.groups
+
+-- A required option is not there. In a script the standard input is the script's, so what reads an input has to name it.
+abbrev pub lacks : (in_script : Bool) → Tool → Told → Bool
+lacks in_script SetquotaTool told = in_script && told.flags.batch && is_none told.input
+lacks in_script EdquotaTool told =
+    not (told.flags.print || told.flags.apply) || (in_script && told.flags.apply && is_none told.input)
+lacks in_script QuotacheckTool told = in_script && is_none told.input
+lacks in_script ConvertquotaTool told = is_none told.conversion
+lacks in_script RquotadTool told = is_none told.calls || is_none told.port || not (nat_lt 0 (length told.exports))
+lacks in_script _ told = false
+
+-- the form of a command that its options choose
+abbrev pub form_of : Tool → Told → Form
+form_of RepquotaTool told = Reporting
+form_of SetquotaTool told =
+    if is_some told.proto then Copying
+    else if told.flags.batch then Batching
+    else if told.flags.grace then SettingGrace
+    else if told.flags.times then SettingTimes
+    else Limiting
+form_of EdquotaTool told = if told.flags.print then Printing else Applying
+form_of QuotacheckTool told = Checking
+form_of ConvertquotaTool told = Converting
+form_of RquotadTool told = Serving
+form_of ScriptTool told = Scripting
+form_of GenerateTool told = Generating
+
+-- users, unless groups are asked for
+abbrev pub kind_asked : Flags → Kind
+kind_asked flags = if flags.groups then Group else User
+
+-- what the options say of the file
+abbrev pub common_of : Told → Common
+common_of told = record { kind = kind_asked told.flags; format = told.format; names = told.names }
+
+-- what a report shows
+abbrev pub options_of : Flags → Options
+options_of flags = record { verbose = flags.verbose; numeric = flags.numeric; raw = flags.raw }
+
+-- an operand that is the name of a file, and the next step
+abbrev pub named : {A : Type 0} → Operand → Result A Fault → Result A Fault
+named operand next = unless (not (is_file_name operand.text)) (fault BadFileName operand.word) next
+
+-- an operand is the value of an option
+abbrev pub is_value : Operand → Option (List ℕ) → Bool
+is_value operand (Some value) = bytes_eq operand.text value
+is_value operand None = false
+
+-- The command that a form asks for by its operands, which are as many as stand here. A file is the name of one; the seed
+-- of a listing is below 2^64, and it has 1 to 1,000,000 lines. What is wrong with their number is said at the number of
+-- all words.
+abbrev pub formed : Form → Told → (words : ℕ) → List Operand → Result Command Fault
+formed Reporting told words (file ∷ []) =
+    named file (Ok (Report (common_of told) (options_of told.flags) file.text))
+formed Limiting told words (name ∷ bsoft ∷ bhard ∷ isoft ∷ ihard ∷ file ∷ []) =
+    named file (Ok (SetLimits (common_of told) name.text (bsoft.text ∷ bhard.text ∷ isoft.text ∷ ihard.text ∷ []) file.text))
+formed Copying told words (name ∷ file ∷ []) =
+    named file (with_value told.proto (fault MissingOption words) (λ proto.
+    Ok (CopyLimits (common_of told) proto name.text file.text)))
+formed Batching told words (file ∷ []) =
+    named file (unless (is_value file told.input) (fault BadFileName file.word)
+    (Ok (Batch (common_of told) told.input file.text)))
+formed SettingGrace told words (block ∷ inode ∷ file ∷ []) =
+    named file (Ok (SetGrace (common_of told) block.text inode.text file.text))
+formed SettingTimes told words (name ∷ block ∷ inode ∷ file ∷ []) =
+    named file (Ok (SetTimes (common_of told) name.text block.text inode.text file.text))
+formed Printing told words (name ∷ file ∷ []) =
+    named file (Ok (PrintForm (common_of told) name.text file.text))
+formed Applying told words (name ∷ file ∷ []) =
+    named file (Ok (ApplyForm (common_of told) told.input name.text file.text))
+formed Checking told words (file ∷ []) =
+    named file (Ok (Check (common_of told) told.flags.fresh told.device told.input file.text))
+formed Converting told words (source ∷ target ∷ []) =
+    named source (named target (with_value told.conversion (fault MissingOption words) (λ formats.
+    Ok (Convert (kind_asked told.flags) formats.old formats.new source.text target.text))))
+formed Serving told words [] =
+    with_value told.calls (fault MissingOption words) (λ calls.
+    with_value told.port (fault MissingOption words) (λ port.
+    Ok (Serve told.format calls port told.exports)))
+formed Scripting told words [] = Ok Script
+formed Generating told words (seed ∷ count ∷ file ∷ []) =
+    with_value (number_of seed.text) (fault BadValue seed.word) (λ s.
+    with_value (number_within 1 1000000 count.text) (fault BadValue count.word) (λ c.
+    named file (Ok (Generate s c file.text))))
+formed _ told words operands = Err (fault WrongOperands words)

@@ -1,0 +1,138 @@
+ghost use Rattle.std.specs.Prelude.{◌≡◌};
+ghost use Rattle.command_words.specs.Forms.{excludes, form_of, kind_asked, lacks, options_of, two_of};
+ghost use Rattle.option_words.specs.Given.{told};
+
+use option_words::{Flags, Given, Tool};
+use quota_types::Kind;
+use report_text::Options;
+
+/// A form of a command: what its options choose, with its own operands.
+#[derive(Clone, Copy, Debug, PartialEq, Eq)]
+pub enum Form {
+    /// `repquota`.
+    Reporting,
+    /// `setquota` with four limits.
+    Limiting,
+    /// `setquota -p`.
+    Copying,
+    /// `setquota -b`.
+    Batching,
+    /// `setquota -t`.
+    SettingGrace,
+    /// `setquota -T`.
+    SettingTimes,
+    /// `edquota --print`.
+    Printing,
+    /// `edquota --apply`.
+    Applying,
+    /// `quotacheck`.
+    Checking,
+    /// `convertquota`.
+    Converting,
+    /// `rquotad`.
+    Serving,
+    /// `script`.
+    Scripting,
+    /// `generate`.
+    Generating,
+}
+
+/// Whether options were given that exclude each other.
+pub fn excludes(tool: Tool, given: &Given<'_>) -> bool
+    ensures { result ≡ excludes tool (told given.now) }
+{
+    let flags = &given.flags;
+    let both_kinds = flags.users && flags.groups;
+    match tool {
+        Tool::Setquota => {
+            both_kinds
+                || two_of(given.proto.is_some(), flags.batch, flags.grace, flags.times)
+                || (given.input.is_some() && !flags.batch)
+        }
+        Tool::Edquota => {
+            both_kinds || (flags.print && flags.apply) || (given.input.is_some() && flags.print)
+        }
+        _ => both_kinds,
+    }
+}
+
+/// Whether two of four hold.
+fn two_of(a: bool, b: bool, c: bool, d: bool) -> bool
+    ensures { result ≡ two_of a b c d }
+{
+    (a && (b || c || d)) || (b && (c || d)) || (c && d)
+}
+
+/// Whether a required option was not given. In a script what reads an input has to name it.
+pub fn lacks(in_script: bool, tool: Tool, given: &Given<'_>) -> bool
+    ensures { result ≡ lacks in_script tool (told given.now) }
+{
+    let flags = &given.flags;
+    let unnamed_input = in_script && given.input.is_none();
+    match tool {
+        Tool::Setquota => flags.batch && unnamed_input,
+        Tool::Edquota => !(flags.print || flags.apply) || (flags.apply && unnamed_input),
+        Tool::Quotacheck => unnamed_input,
+        Tool::Convertquota => given.conversion.is_none(),
+        Tool::Rquotad => {
+            given.calls.is_none() || given.port.is_none() || given.exports.is_empty()
+        }
+        Tool::Repquota | Tool::Script | Tool::Generate => false,
+    }
+}
+
+/// The form that the options choose.
+pub fn form_of(tool: Tool, given: &Given<'_>) -> Form
+    ensures { result ≡ form_of tool (told given.now) }
+{
+    match tool {
+        Tool::Repquota => Form::Reporting,
+        Tool::Setquota => setquota_form(given),
+        Tool::Edquota if given.flags.print => Form::Printing,
+        Tool::Edquota => Form::Applying,
+        Tool::Quotacheck => Form::Checking,
+        Tool::Convertquota => Form::Converting,
+        Tool::Rquotad => Form::Serving,
+        Tool::Script => Form::Scripting,
+        Tool::Generate => Form::Generating,
+    }
+}
+
+/// The form of `setquota` that the options choose.
+fn setquota_form(given: &Given<'_>) -> Form
+    ensures { result ≡ form_of Tool.Setquota (told given.now) }
+{
+    if given.proto.is_some() {
+        Form::Copying
+    } else if given.flags.batch {
+        Form::Batching
+    } else if given.flags.grace {
+        Form::SettingGrace
+    } else if given.flags.times {
+        Form::SettingTimes
+    } else {
+        Form::Limiting
+    }
+}
+
+/// Users, unless groups are asked for.
+pub fn kind_asked(flags: &Flags) -> Kind
+    ensures { result ≡ kind_asked flags.now }
+{
+    if flags.groups {
+        Kind::Group
+    } else {
+        Kind::User
+    }
+}
+
+/// What a report shows.
+pub fn options_of(flags: &Flags) -> Options
+    ensures { result ≡ options_of flags.now }
+{
+    Options {
+        verbose: flags.verbose,
+        numeric: flags.numeric,
+        raw: flags.raw,
+    }
+}

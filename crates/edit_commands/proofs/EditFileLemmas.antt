@@ -1,0 +1,299 @@
+-- From what an edit says of an opened file of any format to what a command says of the file.
+use Rattle.std.proofs.Common.{◌⊎◌, inl, inr, ◌≡◌, ◌≢◌, ℕ, Bool, true, false, IsTrue, List, Option, None, Some, Ok, Err, Result, if◌then◌else◌, refl, sym, ap, subst, ◌∙◌, arith}
+use Rattle.std.specs.Prelude.{◌&&◌, ◌<◌, nat_lt, IfOk, IfSome, IsOk, IsOkAnd}
+use Rattle.std.proofs.lemmas.Bool.{false≢true}
+use Rattle.std.proofs.lemmas.Bool.Decides.{nat_tests}
+use Rattle.std.specs.String.{string_bytes}
+use Rattle.quota_types.specs.Kept.{kept_of}
+use Rattle.quota_types.specs.Rec.{is_null_of}
+use Rattle.quota_types.specs.declared.field.Field.{Field}
+use Rattle.quota_types.specs.declared.file_kind.Kind.{Kind}
+use Rattle.quota_types.specs.declared.file_kind.Format.{Format}
+use Rattle.quota_types.specs.declared.file_kind.Format.TheVariants.{V1}
+use Rattle.quota_types.specs.declared.record.Rec.{Rec}
+use Rattle.quota_blocks.specs.FileChange.{Put, Remove, changed_value}
+use Rattle.quota_blocks.specs.Frame.{OnlyReads}
+use Rattle.quota_blocks.specs.QuotaFile.{FileSeen, IsChangeFault}
+use Rattle.quota_blocks.specs.QuotaValue.{QuotaValue}
+use Rattle.quota_blocks.specs.Seen.{StoreSeen}
+use Rattle.quota_blocks.specs.World.{World}
+use Rattle.quota_blocks.proofs.FrameLemmas.{only_reads-then, replaces_one-after_read}
+use Rattle.quota_blocks.specs.declared.quota_file.FileFault.TheVariants.{Store, Damage, Full, Memory}
+use Rattle.tree_file.specs.Opened.{LacksRoom}
+use Rattle.tree_layout.specs.Size.{blocks_needed, ids_in}
+use Rattle.quota_map.specs.AnyFile.{AnyMakes, HoldsAny, MayRefuse, any_seen}
+use Rattle.quota_map.specs.declared.any_file.AnyFile.{AnyFile}
+use Rattle.quota_map.specs.declared.any_file.AnyFile.TheVariants.{V1 as FlatFile, Tree as TreeFile}
+use Rattle.quota_map.specs.View.{IsView, fresh_seen, most_blocks}
+use Rattle.quota_map.proofs.SeenLemmas.{any_held_seen, tree_limit}
+use Rattle.set_edit.specs.EditFault.{OnBroken, OnUnchanged, file_fault}
+use Rattle.set_edit.specs.Edited.{unless_unfit, with_kept}
+use Rattle.set_edit.specs.Editing.{Edit, Edits, FileLaws, HasCause, IsDone, Leaves, file_at, laws_of}
+use Rattle.set_edit.specs.Times.{skips_both_of, wanted_times}
+use Rattle.set_edit.specs.declared.fault.EditFault.{EditFault}
+use Rattle.set_edit.specs.declared.fault.EditFault.TheVariants.{File, NoRoom as Unfit}
+use Rattle.edit_commands.specs.declared.edit.FileEdit.{FileEdit}
+use Rattle.edit_commands.specs.declared.edit.FileEdit.TheVariants.{Limits, Copy, Grace as Periods, Times}
+use Rattle.refusals.specs.Status.{status_of}
+use Rattle.run_steps.specs.Done.{RunSeen, RunTells}
+use Rattle.set_edit.specs.declared.skipped.Skipped.{Skipped}
+use Rattle.refusals.specs.declared.cause.Cause.{Cause}
+use Rattle.run_steps.specs.Opening.{MayRefuseOpening}
+use Rattle.edit_commands.specs.Edits.{ChangeMayRefuse, FileEditMayRefuse, edit_cause, is_too_large, unskipped}
+use Rattle.run_steps.specs.Changing.{blocks_of}
+use Rattle.edit_commands.specs.EditWords.{MaySkip, edit_meant, edit_warns, skips_none}
+use Rattle.edit_commands.proofs.EditLemmas.{EditedSeen, HasEditCause, IsEditRefused, IsEditing, IsLacking}
+
+-- An edit keeps the format.
+
+kept_format : (value : QuotaValue) (id : ℕ) (kept : Rec) (null : Bool) → (changed_value (if null then Remove id else Put id kept) value).format ≡ value.format
+kept_format value id kept true = refl
+kept_format value id kept false = refl
+
+fits_format : (value next new : QuotaValue) (out : Option (Field × ℕ)) → next.format ≡ value.format → unless_unfit out next ≡ Ok new → new.format ≡ value.format
+fits_format value next new None same is = let next_is : next ≡ new = cc in ap (λ (v : QuotaValue). v.format) (sym next_is) ∙ same
+fits_format value next new (Some field) same is = absurd (cc)
+
+skipped_format : (value : QuotaValue) (id : ℕ) (rec : Rec) (skips : Bool) → (if skips then value else with_kept value id rec).format ≡ value.format
+skipped_format value id rec true = refl
+skipped_format value id rec false = kept_format value id (kept_of value.format id rec) (is_null_of rec)
+
+-- an edited value has the format of the value
+abbrev pub KeepsFormat : Edit → Type 0
+KeepsFormat edit = (value new : QuotaValue) → edit.edited value ≡ Ok new → new.format ≡ value.format
+
+pub keeps_format : (edit : FileEdit) (now : ℕ) → KeepsFormat (edit_meant edit now)
+keeps_format (Limits id limits) now = λ value new is. fits_format value _ new _ (kept_format value id _ _) is
+keeps_format (Copy from to) now = λ value new is. fits_format value _ new _ (kept_format value to _ _) is
+keeps_format (Periods grace) now = λ value new is. fits_format value _ new _ refl is
+keeps_format (Times id block inode) now = λ value new is. fits_format value _ new _ (skipped_format value id (wanted_times value id block inode now) (skips_both_of value id)) is
+
+-- Room in an opened file.
+
+-- a flat file needs no blocks
+flat_blocks : (new : QuotaValue) (format : Format) → new.format ≡ format → format ≡ V1 → blocks_of new ≡ 0
+flat_blocks new format is flat = ap (λ (f : Format). blocks_needed f (ids_in new.records)) (is ∙ flat)
+
+-- what an opened file that has no room tells of the value
+lacking : (tells : Bool) (files : World) (file : AnyFile) (value new : QuotaValue) (name : List ℕ) (format : Format) (blocks limit : ℕ) → any_seen file ≡ fresh_seen name format
+    → HoldsAny tells files file value → new.format ≡ value.format → LacksRoom (any_seen file) new blocks limit → IsLacking new blocks limit
+lacking tells files (FlatFile file) value new name format blocks limit seen held same lacks = absurd (omega (arith, lacks.passes, lacks.needs, flat_blocks new value.format same held.stands.format))
+lacking tells files (TreeFile file) value new name format blocks limit seen held same lacks =
+    let most = lacks.may ∙ tree_limit tells (files (string_bytes file.name)) file.tree.bytes.items file.limit value format (ap (λ (s : FileSeen). s.limit) seen) held in
+    (lacks.needs, most, subst (λ (l : ℕ). l < blocks) most lacks.passes)
+
+-- an opened file has no room for a value that needs more than the most blocks
+lacks_most : (tells : Bool) (files : World) (file : AnyFile) (value new : QuotaValue) (name : List ℕ) (format : Format) → any_seen file ≡ fresh_seen name format
+    → HoldsAny tells files file value → new.format ≡ value.format → most_blocks < blocks_of new → LacksRoom (any_seen file) new (blocks_of new) most_blocks
+lacks_most tells files (FlatFile file) value new name format seen held same more = absurd (omega (arith, more, flat_blocks new value.format same held.stands.format))
+lacks_most tells files (TreeFile file) value new name format seen held same more = record {
+  needs = refl;
+  may = sym (tree_limit tells (files (string_bytes file.name)) file.tree.bytes.items file.limit value format (ap (λ (s : FileSeen). s.limit) seen) held);
+  passes = more;
+}
+
+-- a number that was found to be less
+less_of : (a b : ℕ) → nat_lt a b ≡ true → a < b
+less_of a b is = grind (arith, nat_tests)
+
+both_of : (one other : Bool) → IsTrue (one && other) → IsTrue one × IsTrue other
+both_of true other is = (refl, is)
+both_of false other is = absurd (false≢true is)
+
+-- what is not found to be so is found not to be so
+pub not_so : (found : Bool) → (IsTrue found → ⊥) → found ≡ false
+not_so true never = absurd (never refl)
+not_so false never = refl
+
+-- What an edit of an opened file says.
+
+-- the laws of opened files of any format
+abbrev pub any_laws : Bool → FileLaws
+any_laws tells = laws_of tells AnyMakes (λ _ old _ left. left ≡ old) (λ seen _ value blocks limit. LacksRoom seen value blocks limit) MayRefuse
+
+-- an edit was made of an opened file of any format
+abbrev pub AnyEdits : {T : Type 0} → Edit → Bool → (opened file : AnyFile) (before after : StoreSeen) → Result T EditFault → Type 0
+AnyEdits edit tells opened file before after result =
+    Edits edit (any_laws tells) (file_at (HoldsAny tells before.files opened) (any_seen opened) before) (file_at (HoldsAny tells after.files file) (any_seen file) after) result
+
+-- a value that is seen of the named file is held by the opened one
+abbrev pub IsHeld : Kind → Option Format → List ℕ → RunTells → RunSeen → StoreSeen → AnyFile → Type 0
+IsHeld kind asked name tells old before opened =
+    IsTrue tells.store → (value : QuotaValue) → IsView (old.store.files name) kind asked (Ok value) → HoldsAny tells.store before.files opened value
+
+pub any_editing : {T : Type 0} (kind : Kind) (asked : Option Format) (name : List ℕ) (edit : Edit) (tells : RunTells) (old : RunSeen) (opened file : AnyFile) (before after : StoreSeen) (format : Format) (result : Result T EditFault)
+    → any_seen opened ≡ fresh_seen name format → OnlyReads name old.store before → (IsTrue tells.store → (value : QuotaValue) × IsView (old.store.files name) kind asked (Ok value))
+    → IsHeld kind asked name tells old before opened → AnyEdits edit tells.store opened file before after result → IsEditing kind asked name edit tells old after
+any_editing kind asked name edit tells old opened file before after format result was first seen held edits =
+    let named : (any_seen opened).name ≡ name = ap (λ (s : FileSeen). s.name) was in
+    record {
+      seen = seen;
+      idle = λ told value view is. only_reads-then name old.store before after first (rw named at (edits.idle value (held told value view) is));
+      leaves = replaces_one-after_read name old.store before after first (rw named at edits.leaves);
+    }
+
+-- an edited value that the opened file holds is seen of the file, which is not too large
+edited_seen : (tells : Bool) (edit : Edit) (opened file : AnyFile) (before after : StoreSeen) (name : List ℕ) (format : Format) (value : QuotaValue) (edited : Result QuotaValue (Field × ℕ))
+    → edit.edited value ≡ edited → KeepsFormat edit → any_seen opened ≡ fresh_seen name format → any_seen file ≡ fresh_seen name format → HoldsAny tells before.files opened value
+    → IsOkAnd edited (λ (new : QuotaValue). HoldsAny tells after.files file new)
+    → (IsTrue edit.needs_room → (blocks limit : ℕ) → edit.is_idle value ≡ false → IfOk edited (λ (new : QuotaValue). ¬ LacksRoom (any_seen opened) new blocks limit))
+    → EditedSeen name after edit value edited
+edited_seen tells edit opened file before after name format value (Ok new) set keeps was is held holds room = (
+  any_held_seen tells after.files file new name format is holds,
+  λ some. not_so (is_too_large edit new) (λ large.
+      let both = both_of edit.needs_room (nat_lt most_blocks (blocks_of new)) large in
+      room both.0 (blocks_of new) most_blocks some
+      (lacks_most tells before.files opened value new name format was held (keeps value new set) (less_of most_blocks (blocks_of new) both.1))),
+)
+edited_seen tells edit opened file before after name format value (Err out) set keeps was is held holds room = absurd holds
+
+pub any_edited : (tells : Bool) (edit : Edit) (opened file : AnyFile) (before after : StoreSeen) (name : List ℕ) (format : Format) (value : QuotaValue) → KeepsFormat edit
+    → any_seen opened ≡ fresh_seen name format → HoldsAny tells before.files opened value
+    → IsDone edit (any_laws tells) (file_at (HoldsAny tells before.files opened) (any_seen opened) before) (file_at (HoldsAny tells after.files file) (any_seen file) after)
+    → EditedSeen name after edit value (edit.edited value)
+any_edited tells edit opened file before after name format value keeps was held done =
+    edited_seen tells edit opened file before after name format value (edit.edited value) refl keeps was (done.same ∙ was) held (done.set value held)
+    (λ needs blocks limit some. done.room needs value blocks limit held some)
+
+-- Refused edits.
+
+-- what an edit leaves that was refused, but for a fault of the store
+whole_unless_fault : (usable : Bool) (same : Type 0) (fault : EditFault) → OnUnchanged fault usable same → status_of (edit_cause fault) ≢ 4 → same
+whole_unless_fault usable same (File Store) kept other = absurd (other refl)
+whole_unless_fault usable same (File (Damage damage)) kept other = kept
+whole_unless_fault usable same (File (Full blocks limit)) kept other = kept
+whole_unless_fault usable same (File Memory) kept other = kept
+whole_unless_fault usable same (Unfit out) kept other = kept
+
+no_err : (edited : Result QuotaValue (Field × ℕ)) (out : Field × ℕ) → IsOk edited → edited ≡ Err out → ⊥
+no_err (Ok new) out ok is = absurd (cc)
+no_err (Err other) out ok is = absurd (cc)
+
+-- where the value does not fit nothing was written
+same_where_unfit : (usable : Bool) (same : Type 0) (fault : EditFault) (edited : Result QuotaValue (Field × ℕ)) (out : Field × ℕ)
+    → OnUnchanged fault usable same → OnBroken fault usable (IsOk edited) → edited ≡ Err out → same
+same_where_unfit true same (File Store) edited out kept broken is = kept refl
+same_where_unfit false same (File Store) edited out kept broken is = absurd (no_err edited out (broken refl) is)
+same_where_unfit usable same (File (Damage damage)) edited out kept broken is = kept
+same_where_unfit usable same (File (Full blocks limit)) edited out kept broken is = kept
+same_where_unfit usable same (File Memory) edited out kept broken is = kept
+same_where_unfit usable same (Unfit other) edited out kept broken is = kept
+
+-- where there is no room for the value nothing was written
+same_where_full : (same : Type 0) (edited : Result QuotaValue (Field × ℕ)) (lacks : QuotaValue → Type 0) (new : QuotaValue)
+    → IfOk edited (λ (value : QuotaValue). lacks value → same) → edited ≡ Ok new → lacks new → same
+same_where_full same (Ok value) lacks new full is lacks_it = full (subst (λ (v : QuotaValue). lacks v) (cc) lacks_it)
+same_where_full same (Err out) lacks new full is lacks_it = absurd (cc)
+
+-- what holds where an opened file is no longer used, for one value that it holds
+broken_at : (fault : EditFault) (usable : Bool) (holds : QuotaValue → Type 0) (fact : QuotaValue → Type 0) (value : QuotaValue)
+    → OnBroken fault usable ((v : QuotaValue) → holds v → fact v) → holds value → OnBroken fault usable (fact value)
+broken_at (File Store) usable holds fact value broken held = λ no. broken no value held
+broken_at (File (Damage damage)) usable holds fact value broken held = tt
+broken_at (File (Full blocks limit)) usable holds fact value broken held = tt
+broken_at (File Memory) usable holds fact value broken held = tt
+broken_at (Unfit out) usable holds fact value broken held = tt
+
+pub any_refused : {T : Type 0} (kind : Kind) (asked : Option Format) (name : List ℕ) (edit : Edit) (tells : RunTells) (old : RunSeen) (opened file : AnyFile) (before after : StoreSeen) (format : Format) (result : Result T EditFault) (fault : EditFault)
+    → KeepsFormat edit → any_seen opened ≡ fresh_seen name format → OnlyReads name old.store before → IsHeld kind asked name tells old before opened
+    → AnyEdits edit tells.store opened file before after result
+    → Leaves edit (any_laws tells.store) (file_at (HoldsAny tells.store before.files opened) (any_seen opened) before) (file_at (HoldsAny tells.store after.files file) (any_seen file) after) fault
+    → IsEditRefused kind asked name edit tells old after (edit_cause fault)
+any_refused kind asked name edit tells old opened file before after format result fault keeps was first held edits left =
+    let named : (any_seen opened).name ≡ name = ap (λ (s : FileSeen). s.name) was in
+    let kept = only_reads-then name old.store before after first in
+    record {
+      whole = λ other. kept (rw named at (whole_unless_fault _ _ fault left.unwritten other));
+      named = λ told. rw named at (left.unchanged (λ b a l same. same) told) ∙ ap (λ (w : World). w name) first.files;
+      unfit = λ told value out view is.
+          kept (rw named at (same_where_unfit _ _ fault _ out left.unwritten
+          (broken_at fault _ _ (λ (v : QuotaValue). IsOk (edit.edited v)) value left.fits (held told value view)) is));
+      full = λ told value new view is large.
+          let both = both_of edit.needs_room (nat_lt most_blocks (blocks_of new)) large in
+          kept (rw named at (same_where_full _ (edit.edited value) (λ (v : QuotaValue). LacksRoom (any_seen opened) v (blocks_of new) most_blocks) new
+          (edits.full both.0 value (blocks_of new) most_blocks (held told value view)) is
+          (lacks_most tells.store before.files opened value new name format was (held told value view) (keeps value new is) (less_of most_blocks (blocks_of new) both.1))));
+    }
+
+-- What an edit left that was refused, of a file that held this value: nothing was written unless the store failed, nor where
+-- the value does not fit or there is no room for it; and the named file is as it was.
+pub record IsRefusedAt (name : List ℕ) (edit : Edit) (value : QuotaValue) (before after : StoreSeen) (cause : Cause) : Type 0 where
+  pub whole : status_of cause ≢ 4 → OnlyReads name before after
+  pub named : after.files name ≡ before.files name
+  pub unfit : (out : Field × ℕ) → edit.edited value ≡ Err out → OnlyReads name before after
+  pub full : (new : QuotaValue) → edit.edited value ≡ Ok new → IsTrue (is_too_large edit new) → OnlyReads name before after
+
+pub refused_at : {T : Type 0} (name : List ℕ) (edit : Edit) (tells : Bool) (opened file : AnyFile) (before after : StoreSeen) (format : Format) (value : QuotaValue) (result : Result T EditFault) (fault : EditFault)
+    → KeepsFormat edit → any_seen opened ≡ fresh_seen name format → IsTrue tells → HoldsAny tells before.files opened value → AnyEdits edit tells opened file before after result
+    → Leaves edit (any_laws tells) (file_at (HoldsAny tells before.files opened) (any_seen opened) before) (file_at (HoldsAny tells after.files file) (any_seen file) after) fault
+    → IsRefusedAt name edit value before after (edit_cause fault)
+refused_at name edit tells opened file before after format value result fault keeps was told held edits left =
+    let named : (any_seen opened).name ≡ name = ap (λ (s : FileSeen). s.name) was in
+    record {
+      whole = λ other. rw named at (whole_unless_fault _ _ fault left.unwritten other);
+      named = rw named at (left.unchanged (λ b a l same. same) told);
+      unfit = λ out is. rw named at (same_where_unfit _ _ fault _ out left.unwritten
+          (broken_at fault _ _ (λ (v : QuotaValue). IsOk (edit.edited v)) value left.fits held) is);
+      full = λ new is large.
+          let both = both_of edit.needs_room (nat_lt most_blocks (blocks_of new)) large in
+          rw named at (same_where_full _ (edit.edited value) (λ (v : QuotaValue). LacksRoom (any_seen opened) v (blocks_of new) most_blocks) new
+          (edits.full both.0 value (blocks_of new) most_blocks held) is
+          (lacks_most tells before.files opened value new name format was held (keeps value new is) (less_of most_blocks (blocks_of new) both.1)));
+    }
+
+-- an edited value that is lacking
+set_lacking : (tells : Bool) (files : World) (opened : AnyFile) (name : List ℕ) (format : Format) (value : QuotaValue) (edit : Edit) (edited : Result QuotaValue (Field × ℕ)) (blocks limit : ℕ)
+    → edit.edited value ≡ edited → KeepsFormat edit → any_seen opened ≡ fresh_seen name format → HoldsAny tells files opened value
+    → IsOkAnd edited (λ (new : QuotaValue). LacksRoom (any_seen opened) new blocks limit) → IsOkAnd edited (λ (new : QuotaValue). IsLacking new blocks limit)
+set_lacking tells files opened name format value edit (Ok new) blocks limit set keeps was held lacks = lacking tells files opened value new name format blocks limit was held (keeps value new set) lacks
+set_lacking tells files opened name format value edit (Err out) blocks limit set keeps was held lacks = lacks
+
+-- what is said of the room of an opened file, where a call on it was refused
+fault_lacking : (before now : ℕ) (holds : QuotaValue → Type 0) (lacks says : ℕ → ℕ → Type 0) (fault : EditFault) → ((blocks limit : ℕ) → lacks blocks limit → says blocks limit)
+    → IfSome (file_fault fault) (IsChangeFault before now holds lacks) → IfSome (file_fault fault) (IsChangeFault before now holds says)
+fault_lacking before now holds lacks says (File Store) so cause = cause
+fault_lacking before now holds lacks says (File (Damage damage)) so cause = cause
+fault_lacking before now holds lacks says (File (Full blocks limit)) so cause = so blocks limit cause
+fault_lacking before now holds lacks says (File Memory) so cause = cause
+fault_lacking before now holds lacks says (Unfit out) so cause = cause
+
+pub any_cause : (tells : Bool) (edit : Edit) (opened file : AnyFile) (before after : StoreSeen) (name : List ℕ) (format : Format) (fault : EditFault) → KeepsFormat edit → any_seen opened ≡ fresh_seen name format
+    → HasCause edit (any_laws tells) (file_at (HoldsAny tells before.files opened) (any_seen opened) before) (file_at (HoldsAny tells after.files file) (any_seen file) after) fault
+    → HasEditCause edit before.faults after.faults (HoldsAny tells before.files opened) fault
+any_cause tells edit opened file before after name format fault keeps was cause = record {
+  no_room = cause.no_room;
+  id = cause.id;
+  refused = fault_lacking _ _ _ _ _ fault (λ blocks limit lacks. (
+    lacks.0,
+    λ value holds. set_lacking tells before.files opened name format value edit (edit.edited value) blocks limit refl keeps was holds (lacks.1 value holds),
+  )) cause.refused;
+  wanted = cause.present;
+}
+
+-- an edit that skips no time says the same of its answer
+pub edits_unskipped : (edit : Edit) (tells : Bool) (opened file : AnyFile) (before after : StoreSeen) (done : Result (Unit {0}) EditFault) → AnyEdits edit tells opened file before after done
+    → AnyEdits edit tells opened file before after (unskipped done)
+edits_unskipped edit tells opened file before after (Ok done) edits = record { done = edits.done; cause = tt; left = tt; idle = edits.idle; full = edits.full; leaves = edits.leaves }
+edits_unskipped edit tells opened file before after (Err fault) edits = record { done = tt; cause = edits.cause; left = edits.left; idle = edits.idle; full = edits.full; leaves = edits.leaves }
+
+-- Times that are skipped.
+
+-- an edit that does not warn skips no time
+pub skips_quiet : (edit : FileEdit) (skipped : Skipped) → MaySkip edit skipped → edit_warns edit ≡ false → skipped ≡ skips_none
+skips_quiet (Limits id limits) skipped may quiet = may
+skips_quiet (Copy from to) skipped may quiet = may
+skips_quiet (Periods grace) skipped may quiet = may
+skips_quiet (Times id block inode) skipped may quiet = absurd (false≢true (sym quiet))
+
+-- an edit that skips a time warns
+pub skips_warn : (edit : FileEdit) (skipped : Skipped) → MaySkip edit skipped → skipped ≢ skips_none → IsTrue (edit_warns edit)
+skips_warn (Limits id limits) skipped may some = absurd (some may)
+skips_warn (Copy from to) skipped may some = absurd (some may)
+skips_warn (Periods grace) skipped may some = absurd (some may)
+skips_warn (Times id block inode) skipped may some = refl
+
+-- for what the edit of a file may be refused, by the edit at a moment
+pub file_edit_may : (asked : Option Format) (edit : FileEdit) (file : List ℕ) (now : ℕ) (cause : Cause) (said : List ℕ)
+    → ChangeMayRefuse asked (edit_meant edit now) file cause said ⊎ MayRefuseOpening asked file cause said → FileEditMayRefuse asked edit file cause said
+file_edit_may asked edit file now cause said (inl may) = inl (now, may)
+file_edit_may asked edit file now cause said (inr may) = inr (inl may)

@@ -1,0 +1,7 @@
+pub mod BatchInputLemmas
+pub mod BatchLemmas
+pub mod EditFileLemmas
+pub mod EditLemmas
+pub mod FormLemmas
+pub mod WarningLemmas
+pub mod WordLemmas

@@ -1,0 +1,47 @@
+use Rattle.std.proofs.Common.{[], inl, inr, ◌∙◌}
+use Rattle.std.specs.Prelude.{unwrap_or}
+use Rattle.run_steps.specs.Done.{seen_of, tells_of}
+use Rattle.run_steps.proofs.PhaseLemmas.{carries_naming, naming_refused}
+use Rattle.edit_commands.proofs.WordLemmas.{faulty_word_given, faulty_word_none}
+use Rattle.edit_commands.proofs.apply.apply_by_word.Goals as goal
+
+pub returns-in-Ok-clause-carries : goal.returns-in-Ok-clause-carries
+returns-in-Ok-clause-carries g c = λ out link out_tells link_tells.
+    let S = g.S.Store in
+    let I = g.I.Source in
+    let E = g.E.Sink in
+    let read = c.in-Ok.ensures in
+    carries_naming (unwrap_or c.args.common.names []) c.args.common.kind c.args.common.names c.in-Ok.names _ _ _ _
+    (tells_of S.tells I.tells out_tells E.tells link_tells)
+    (seen_of (S.seen c.args.store.now) (I.seen c.args.input.now) out (E.seen c.args.err.now) link) (S.seen c.read_names.new.store)
+    (seen_of (S.seen c.apply_named.new.store) (I.seen c.apply_named.new.input) out (E.seen c.apply_named.new.err) link) c.apply_named.result
+    read.leaves read.read (λ cause said may. inr (c.in-Ok.names, read.given, may))
+    (c.apply_named.ensures.carries out link out_tells link_tells)
+
+pub returns-in-Ok-clause-word : goal.returns-in-Ok-clause-word
+returns-in-Ok-clause-word g c = λ refusal faulty.
+    c.apply_named.ensures.word refusal (faulty_word_given c.args.word c.args.common.names c.in-Ok.names refusal c.in-Ok.ensures.given faulty)
+
+pub returns-in-Ok-clause-store : goal.returns-in-Ok-clause-store
+returns-in-Ok-clause-store g c = λ refusal faulty.
+    c.apply_named.ensures.store refusal (faulty_word_given c.args.word c.args.common.names c.in-Ok.names refusal c.in-Ok.ensures.given faulty)
+    ∙ c.in-Ok.ensures.untouched (faulty_word_none c.args.word c.args.common.names refusal faulty)
+
+pub returns-in-Err-clause-carries : goal.returns-in-Err-clause-carries
+returns-in-Err-clause-carries g c = λ out link out_tells link_tells.
+    let S = g.S.Store in
+    let I = g.I.Source in
+    let E = g.E.Sink in
+    let read = c.in-Err.ensures in
+    naming_refused c.args.common.kind c.args.common.names _ _ _
+    (tells_of S.tells I.tells out_tells E.tells link_tells)
+    (seen_of (S.seen c.args.store.now) (I.seen c.args.input.now) out (E.seen c.args.err.now) link) (S.seen c.read_names.new.store) c.in-Err.refusal
+    read.leaves read.refused read.may (λ may. inl may) read.placed
+
+pub returns-in-Err-clause-word : goal.returns-in-Err-clause-word
+returns-in-Err-clause-word g c = λ refusal faulty.
+    absurd (rw (faulty_word_none c.args.word c.args.common.names refusal faulty) at c.in-Err.ensures.may)
+
+pub returns-in-Err-clause-store : goal.returns-in-Err-clause-store
+returns-in-Err-clause-store g c = λ refusal faulty.
+    c.in-Err.ensures.untouched (faulty_word_none c.args.word c.args.common.names refusal faulty)

@@ -1,0 +1,83 @@
+use Rattle.std.proofs.Common.{◌≡◌, ◌+◌, List, [], drop, Err, refl, ap, subst, ◌∙◌, arith}
+use Rattle.std.proofs.lemmas.List.{drop_all, drop_more}
+use Rattle.quota_blocks.specs.Frame.{ReplacesOne}
+use Rattle.quota_blocks.specs.QuotaFile.{FileSeen}
+use Rattle.quota_blocks.proofs.FrameLemmas.{adds_none-then, only_reads-none, replaces_one-none, replaces_one-then}
+use Rattle.quota_map.specs.AnyFile.{HoldsAny, any_seen}
+use Rattle.quota_map.specs.View.{fresh_seen}
+use Rattle.edit_commands.specs.declared.batch_line.LineEdit.{LineEdit}
+use Rattle.edit_commands.specs.declared.edit.FileEdit.TheVariants.{Limits}
+use Rattle.run_steps.specs.Done.{seen_of, tells_of}
+use Rattle.edit_commands.proofs.BatchLemmas.{AreMade, all_carried, line_may_fail, line_refused, made_more, made_none}
+use Rattle.edit_commands.proofs.EditFileLemmas.{any_cause, any_edited, keeps_format, refused_at}
+use Rattle.edit_commands.proofs.batch.edit_all.Goals as goal
+
+pub loop-line-init : goal.loop-line-init
+loop-line-init g c = record {
+  made = λ told start held. made_none c.args.file c.args.now c.args.lines.now start [] (g.S.Store.seen c.args.store.now) (g.S.Store.seen c.args.store.now) _ (only_reads-none _ _) held;
+  same = refl;
+  leaves = replaces_one-none _ _;
+  synced = λ told name is. is;
+}
+
+pub loop-line-preserved : goal.loop-line-preserved
+loop-line-preserved g c =
+    let S = g.S.Store in
+    let kept = c.loop-line.invariant in
+    let edits = c.set_limits.ensures.edits in
+    let done = c.in-Ok.ensures.edits.done in
+    let file = c.args.file in
+    let before = S.seen c.loop-line.store in
+    let after = S.seen c.set_limits.new.store in
+    let format = (any_seen c.args.opened.now).format in
+    let was : any_seen c.loop-line.opened ≡ fresh_seen file format = kept.same ∙ c.requires in
+    let named : (any_seen c.loop-line.opened).name ≡ file = ap (λ (s : FileSeen). s.name) was in
+    let leaves : ReplacesOne file before after = rw named at edits.leaves in
+    record {
+      made = λ told start held.
+          let are = subst (λ (l : List LineEdit). AreMade file c.args.now c.args.lines.now l start (S.seen c.args.store.now) before (HoldsAny S.tells before.files c.loop-line.opened))
+          (drop_more c.args.lines.now c.loop-line.line-index _ c.loop-line-test.true) (kept.made told start held) in
+          made_more file c.args.now c.args.lines.now _ (drop (c.loop-line.line-index + 1) c.args.lines.now) start (S.seen c.args.store.now) before after _ (HoldsAny S.tells after.files c.set_limits.new.file) are
+          (λ idle. rw named at (edits.idle are.value are.held idle))
+          (any_edited S.tells _ c.loop-line.opened c.set_limits.new.file before after file format are.value (keeps_format (Limits _ _) c.args.now) was are.held done)
+          (done.set are.value are.held) leaves;
+      same = done.same ∙ kept.same;
+      leaves = replaces_one-then _ _ _ _ kept.leaves leaves;
+      synced = λ told. adds_none-then _ _ _ (kept.synced told) (done.synced told).none;
+    }
+
+pub returns-clause-carries : goal.returns-clause-carries
+returns-clause-carries g c = λ asked as_asked value held input out err link input_tells out_tells err_tells link_tells.
+    let S = g.S.Store in
+    let kept = c.loop-line.invariant in
+    let at_end : drop c.loop-line.line-index c.args.lines.now ≡ [] = drop_all c.loop-line.line-index c.args.lines.now (omega arith) in
+    all_carried c.args.file c.args.now c.args.lines.now value _ (tells_of S.tells input_tells out_tells err_tells link_tells)
+    (seen_of (S.seen c.args.store.now) input out err link) (S.seen c.loop-line.store) (HoldsAny S.tells (S.seen c.loop-line.store).files c.loop-line.opened)
+    (λ told. rw at_end at (kept.made told value (held told))) kept.leaves
+
+pub returns-in-Err-clause-carries : goal.returns-in-Err-clause-carries
+returns-in-Err-clause-carries g c = λ asked as_asked value held input out err link input_tells out_tells err_tells link_tells.
+    let S = g.S.Store in
+    let kept = c.loop-line.invariant in
+    let edits = c.set_limits.ensures.edits in
+    let refused = c.in-Err.ensures.edits in
+    let fault = c.in-Err.fault in
+    let file = c.args.file in
+    let before = S.seen c.loop-line.store in
+    let after = S.seen c.set_limits.new.store in
+    let format = (any_seen c.args.opened.now).format in
+    let was : any_seen c.loop-line.opened ≡ fresh_seen file format = kept.same ∙ c.requires in
+    let named : (any_seen c.loop-line.opened).name ≡ file = ap (λ (s : FileSeen). s.name) was in
+    let leaves : ReplacesOne file before after = rw named at edits.leaves in
+    let tells = tells_of S.tells input_tells out_tells err_tells link_tells in
+    let keeps = keeps_format (Limits _ _) c.args.now in
+    rw (c.at_line.ensures, c.of.ensures, c.edit_cause.ensures)
+    (line_refused file c.args.now c.args.lines.now _ (drop (c.loop-line.line-index + 1) c.args.lines.now) value _ tells
+    (seen_of (S.seen c.args.store.now) input out err link) before after (HoldsAny S.tells before.files c.loop-line.opened) fault
+    (λ told. subst (λ (l : List LineEdit). AreMade file c.args.now c.args.lines.now l value (S.seen c.args.store.now) before (HoldsAny S.tells before.files c.loop-line.opened))
+    (drop_more c.args.lines.now c.loop-line.line-index _ c.loop-line-test.true) (kept.made told value (held told)))
+    (λ told v holds idle. rw named at (edits.idle v holds idle))
+    (λ told v holds. refused_at file _ S.tells c.loop-line.opened c.set_limits.new.file before after format v (Err fault) fault keeps was told holds refused refused.left)
+    (any_cause S.tells _ c.loop-line.opened c.set_limits.new.file before after file format fault keeps was refused.cause)
+    kept.leaves leaves
+    (line_may_fail asked file _ _ c.args.now S.tells c.loop-line.opened c.set_limits.new.file before after format fault was as_asked refused.cause))

@@ -1,0 +1,64 @@
+use Rattle.std.proofs.Common.{[], inl, inr, ap, ◌∙◌}
+use Rattle.std.specs.Prelude.{unwrap_or}
+use Rattle.std.proofs.lemmas.Result.{on_err_weaker}
+use Rattle.quota_blocks.specs.World.{World}
+use Rattle.run_steps.specs.Done.{seen_of, tells_of}
+use Rattle.edit_commands.specs.EditWords.{names_wanted}
+use Rattle.run_steps.proofs.PhaseLemmas.{carries_naming, naming_refused}
+use Rattle.edit_commands.proofs.WordLemmas.{faulty_given, faulty_none}
+use Rattle.edit_commands.proofs.edits.edit_by_words.Goals as goal
+
+pub returns-in-Ok-clause-carries : goal.returns-in-Ok-clause-carries
+returns-in-Ok-clause-carries g c = λ input out link input_tells out_tells link_tells.
+    let S = g.S.Store in
+    let E = g.E.Sink in
+    let read = rw c.names_wanted-names.ensures at c.in-Ok.ensures in
+    let wanted = names_wanted c.args.words c.args.common.names in
+    carries_naming (unwrap_or wanted []) c.args.common.kind wanted c.in-Ok.names _ _ _ _
+    (tells_of S.tells input_tells out_tells E.tells link_tells)
+    (seen_of (S.seen c.args.store.now) input out (E.seen c.args.err.now) link) (S.seen c.read_names.new.store)
+    (seen_of (S.seen c.edit_named.new.store) input out (E.seen c.edit_named.new.err) link) c.edit_named.result
+    read.leaves read.read (λ cause said may. inr (c.in-Ok.names, read.given, may))
+    (c.edit_named.ensures.carries input out link input_tells out_tells link_tells)
+
+pub returns-in-Ok-clause-word : goal.returns-in-Ok-clause-word
+returns-in-Ok-clause-word g c = λ refusal faulty.
+    let read = rw c.names_wanted-names.ensures at c.in-Ok.ensures in
+    c.edit_named.ensures.word refusal (faulty_given c.args.words (names_wanted c.args.words c.args.common.names) c.in-Ok.names refusal read.given faulty)
+
+pub returns-in-Ok-clause-store : goal.returns-in-Ok-clause-store
+returns-in-Ok-clause-store g c = λ refusal faulty.
+    let read = rw c.names_wanted-names.ensures at c.in-Ok.ensures in
+    let wanted = names_wanted c.args.words c.args.common.names in
+    c.edit_named.ensures.store refusal (faulty_given c.args.words wanted c.in-Ok.names refusal read.given faulty) ∙ read.untouched (faulty_none c.args.words wanted refusal faulty)
+
+pub returns-in-Ok-clause-silent : goal.returns-in-Ok-clause-silent
+returns-in-Ok-clause-silent g c = λ refusal faulty.
+    let read = rw c.names_wanted-names.ensures at c.in-Ok.ensures in
+    c.edit_named.ensures.silent refusal (faulty_given c.args.words (names_wanted c.args.words c.args.common.names) c.in-Ok.names refusal read.given faulty)
+
+pub returns-in-Ok-clause-named : goal.returns-in-Ok-clause-named
+returns-in-Ok-clause-named g c = λ no.
+    on_err_weaker c.edit_named.result (λ same told. same told ∙ ap (λ (w : World). w c.args.file) c.in-Ok.ensures.leaves.files) (c.edit_named.ensures.named no)
+
+pub returns-in-Err-clause-carries : goal.returns-in-Err-clause-carries
+returns-in-Err-clause-carries g c = λ input out link input_tells out_tells link_tells.
+    let S = g.S.Store in
+    let E = g.E.Sink in
+    let read = rw c.names_wanted-names.ensures at c.in-Err.ensures in
+    naming_refused c.args.common.kind (names_wanted c.args.words c.args.common.names) _ _ _
+    (tells_of S.tells input_tells out_tells E.tells link_tells)
+    (seen_of (S.seen c.args.store.now) input out (E.seen c.args.err.now) link) (S.seen c.read_names.new.store) c.in-Err.refusal
+    read.leaves read.refused read.may (λ may. inl may) read.placed
+
+pub returns-in-Err-clause-word : goal.returns-in-Err-clause-word
+returns-in-Err-clause-word g c = λ refusal faulty.
+    let none = faulty_none c.args.words (names_wanted c.args.words c.args.common.names) refusal faulty in
+    absurd (rw (c.names_wanted-names.ensures ∙ none) at c.in-Err.ensures.may)
+
+pub returns-in-Err-clause-store : goal.returns-in-Err-clause-store
+returns-in-Err-clause-store g c = λ refusal faulty.
+    c.in-Err.ensures.untouched (c.names_wanted-names.ensures ∙ faulty_none c.args.words (names_wanted c.args.words c.args.common.names) refusal faulty)
+
+pub returns-in-Err-clause-named : goal.returns-in-Err-clause-named
+returns-in-Err-clause-named g c = λ no told. ap (λ (w : World). w c.args.file) c.in-Err.ensures.leaves.files

@@ -1,0 +1,82 @@
+-- `edquota --apply`. Source: the manual page of edquota; that the limits are read from a form is this project's own.
+use Rattle.std.specs.Prelude.{◌≡◌, ◌⊎◌, ℕ, true, false, List, Option, Result, Ok, Err}
+use Rattle.id_names.specs.FirstMatch.{first_name}
+use Rattle.id_names.specs.NamesFile.{NameLine}
+use Rattle.quota_blocks.specs.declared.line_reader.LineFault.TheVariants.{Source, Long, TooLarge as PastTotal}
+use Rattle.quota_types.specs.declared.file_kind.Format.{Format}
+use Rattle.quota_types.specs.declared.file_kind.Kind.{Kind}
+use Rattle.report_text.specs.Report.{shown_name}
+use Rattle.set_edit.specs.FormReading.{form_read}
+use Rattle.set_edit.specs.declared.form_reading.FormFault.{FormFault}
+use Rattle.set_edit.specs.declared.form_reading.FormFault.TheVariants.{Lines, BadForm as WrongLine}
+use Rattle.set_edit.specs.declared.limits.Limits.{Limits as FourLimits}
+use Rattle.refusals.specs.declared.cause.Cause.{Cause}
+use Rattle.refusals.specs.declared.cause.Cause.TheVariants.{SourceFault, LongLine, TooLarge, BadForm}
+use Rattle.command_words.specs.declared.command.Common.{Common}
+use Rattle.edit_commands.specs.declared.edit.FileEdit.TheVariants.{Limits}
+use Rattle.run_steps.specs.Naming.{MayBeNames, NamesMayRefuse}
+use Rattle.refusals.specs.Outcome.{Outcome, Passed, Refused}
+use Rattle.run_steps.specs.Run.{Uses}
+use Rattle.run_steps.specs.Steps.{Naming, Steps, Then}
+use Rattle.run_steps.specs.Taking.{AForm, InputMayRefuse, Taking, input_name, reading}
+use Rattle.refusals.specs.Refusals.{refusal_of}
+use Rattle.run_steps.specs.declared.occasion.Occasion.{Occasion}
+use Rattle.edit_commands.specs.Edits.{FileEditMayRefuse, FileEditSteps}
+use Rattle.run_steps.specs.Changing.{edit_uses}
+use Rattle.run_steps.specs.Numbers.{identifier_of}
+
+-- what is said of a form that gives no limits, where this is said of what it is read from
+abbrev pub form_cause : Cause → FormFault → Cause
+form_cause failed (Lines Source) = failed
+form_cause failed (Lines (Long line)) = LongLine line
+form_cause failed (Lines PastTotal) = TooLarge
+form_cause failed (WrongLine line) = BadForm line
+
+-- the step that a form is which was read so
+abbrev pub form_outcome : List ℕ → Result FourLimits FormFault → Outcome FourLimits
+form_outcome name (Ok limits) = Passed limits
+form_outcome name (Err fault) = Refused (refusal_of (form_cause SourceFault fault) name)
+
+-- the step that reads the form of an identifier in a file of this name
+abbrev pub form_step : Kind → List NameLine → List ℕ → ℕ → Option (List ℕ) → List ℕ → Outcome FourLimits
+form_step kind names file id from bytes =
+    form_outcome (input_name from) (form_read kind (shown_name (first_name names) id) id file bytes)
+
+-- the form of an identifier is read, the file is opened, and the limits are set
+abbrev pub FormSteps : Kind → Option Format → List NameLine → Option (List ℕ) → ℕ → List ℕ → Occasion → Steps
+FormSteps kind format names from id file occasion =
+    Taking from (λ limits. true) (form_step kind names file id from) (λ (limits : FourLimits).
+    FileEditSteps kind format (Limits id limits) file occasion)
+
+-- the names are read, then the word for the identifier, and then the form, which has to be the one that is printed for it
+abbrev pub ApplySteps : Common → Option (List ℕ) → List ℕ → List ℕ → Occasion → Steps
+ApplySteps common from word file occasion =
+    Naming common.kind common.names (λ (names : List NameLine).
+    Then (identifier_of names word) (λ (id : ℕ).
+    FormSteps common.kind common.format names from id file occasion))
+
+-- a form is read from an input, and changes the store as other edits do
+abbrev pub apply_uses : Option (List ℕ) → Uses
+apply_uses from = reading from (edit_uses false)
+
+-- the causes for which a form may not be read, whatever is told
+abbrev pub FormMayRefuse : Option (List ℕ) → Cause → List ℕ → Type 0
+FormMayRefuse = InputMayRefuse AForm
+
+-- the causes for which the form of an identifier may not be applied, whatever is told
+abbrev pub FormEditMayRefuse : Option Format → Option (List ℕ) → ℕ → List ℕ → Cause → List ℕ → Type 0
+FormEditMayRefuse asked from id file cause name =
+    FormMayRefuse from cause name
+    ⊎ ((limits : FourLimits) × FileEditMayRefuse asked (Limits id limits) file cause name)
+
+-- the same, where these are the names
+abbrev pub NamedApplyMayRefuse : Option Format → Option (List ℕ) → List ℕ → List ℕ → List NameLine → Cause → List ℕ → Type 0
+NamedApplyMayRefuse asked from word file names cause name =
+    (identifier_of names word ≡ Refused (refusal_of cause name))
+    ⊎ ((id : ℕ) × (identifier_of names word ≡ Passed id) × FormEditMayRefuse asked from id file cause name)
+
+-- the causes for which a form may not be applied, whatever is told
+abbrev pub ApplyMayRefuse : Common → Option (List ℕ) → List ℕ → List ℕ → Cause → List ℕ → Type 0
+ApplyMayRefuse common from word file cause name =
+    NamesMayRefuse common.names cause name
+    ⊎ ((names : List NameLine) × MayBeNames common.names names × NamedApplyMayRefuse common.format from word file names cause name)

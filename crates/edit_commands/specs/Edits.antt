@@ -1,0 +1,135 @@
+-- Commands that edit a file: new limits, those of another identifier, new grace periods, and new times. Source: the manual
+-- page of setquota; that the words are read from left to right, all before the file is opened, is this project's own.
+use Rattle.std.specs.Prelude.{◌≡◌, ◌<◌, ◌⊎◌, ℕ, IsTrue, Bool, nat_lt, ◌&&◌, if◌then◌else◌, List, [], ◌∷◌, ◌++◌, map, codes, Option, None, is_none, Result, Ok, Err}
+use Rattle.std.specs.List.{concat}
+use Rattle.id_names.specs.NamesFile.{NameLine}
+use Rattle.quota_types.specs.declared.field.Field.{Field}
+use Rattle.quota_blocks.specs.QuotaValue.{QuotaValue}
+use Rattle.quota_blocks.specs.Text.{AppendsPrefix}
+use Rattle.quota_map.specs.View.{IsOpenedAs, most_blocks}
+use Rattle.set_edit.specs.Editing.{Edit}
+use Rattle.set_edit.specs.declared.fault.EditFault.{EditFault}
+use Rattle.set_edit.specs.declared.fault.EditFault.TheVariants.{File, NoRoom as Unfit}
+use Rattle.set_edit.specs.declared.skipped.Skipped.{Skipped}
+use Rattle.quota_types.specs.declared.file_kind.Format.{Format}
+use Rattle.quota_types.specs.declared.file_kind.Kind.{Kind}
+use Rattle.refusals.specs.declared.cause.Cause.{Cause}
+use Rattle.refusals.specs.declared.cause.Cause.TheVariants.{SinkFault, NoRoom, Full}
+use Rattle.refusals.specs.declared.reason.Refusal.{Refusal}
+use Rattle.command_words.specs.declared.command.Common.{Common}
+use Rattle.edit_commands.specs.declared.edit.EditWords.{EditWords}
+use Rattle.edit_commands.specs.declared.edit.FileEdit.{FileEdit}
+use Rattle.run_steps.specs.Act.{Act, ToErr}
+use Rattle.run_steps.specs.Naming.{MayBeNames, NamesMayRefuse}
+use Rattle.run_steps.specs.Opening.{MayRefuseOpening, asks_tree, file_cause}
+use Rattle.refusals.specs.Outcome.{Outcome, Passed, Refused, refusal_in}
+use Rattle.refusals.specs.Line.{front_of}
+use Rattle.refusals.specs.Refusals.{refusal_of}
+use Rattle.run_steps.specs.Changing.{blocks_of, written}
+use Rattle.run_steps.specs.Steps.{DoingAll, Finish, Naming, Opening, Steps, Then}
+use Rattle.run_steps.specs.declared.occasion.Occasion.{Occasion}
+use Rattle.edit_commands.specs.EditWords.{edit_meant, edit_read, edit_warns, names_wanted, skipped_by, skips_none}
+
+-- The edit.
+
+-- there is no room for the value in a file
+abbrev pub is_too_large : Edit → QuotaValue → Bool
+is_too_large edit new = edit.needs_room && nat_lt most_blocks (blocks_of new)
+
+-- a value was edited, or the format has no room for a field
+abbrev pub changed : List ℕ → Edit → QuotaValue → Result QuotaValue (Field × ℕ) → Outcome (List Act)
+changed name edit value (Ok new) = written name new (edit.is_idle value) (is_too_large edit new)
+changed name edit value (Err out) = Refused (refusal_of (NoRoom (record { id = edit.id; field = out.0; value = out.1 })) name)
+
+-- the value of the file of this name is edited
+abbrev pub edit_step : List ℕ → Edit → QuotaValue → Outcome (List Act)
+edit_step name edit value = changed name edit value (edit.edited value)
+
+-- The warnings.
+
+-- a warning, in a line of a script or outside of one
+unfoldable pub warning_line : Option ℕ → List ℕ → List ℕ
+warning_line line text = codes "quota: " ++ front_of (record { line = line; input_line = None }) ++ text ++ codes "\n"
+
+-- a warning where something was skipped
+abbrev pub warning_if : Bool → List ℕ → List (List ℕ)
+warning_if skipped line = if skipped then line ∷ [] else []
+
+-- the warnings of times that were skipped, that of blocks first
+abbrev pub warnings : Option ℕ → Skipped → List (List ℕ)
+warnings line skipped =
+    warning_if skipped.block (warning_line line (codes "block time not set, soft limit not exceeded"))
+    ++ warning_if skipped.inode (warning_line line (codes "inode time not set, soft limit not exceeded"))
+
+-- lines are said
+abbrev pub said_acts : List (List ℕ) → List Act
+said_acts lines = map ToErr lines
+
+-- Lines were said up to one of them, of which a prefix may have been said too.
+pub record IsSaidInPart (lines : List (List ℕ)) (old new : List ℕ) : Type 0 where
+  pub said : List (List ℕ)
+  pub unsaid : List (List ℕ)
+  pub whole : lines ≡ said ++ unsaid
+  pub line : List ℕ
+  pub more : List (List ℕ)
+  pub next : unsaid ≡ line ∷ more
+  pub written : AppendsPrefix (old ++ concat said) new line
+
+-- The steps.
+
+-- the file is opened and edited, and what was skipped is warned of
+abbrev pub FileEditSteps : Kind → Option Format → FileEdit → List ℕ → Occasion → Steps
+FileEditSteps kind asked edit file occasion =
+    Opening kind asked file (λ (value : QuotaValue).
+    Then (edit_step file (edit_meant edit occasion.now) value) (λ (acts : List Act).
+    DoingAll (acts ++ said_acts (warnings occasion.line (skipped_by edit value))) Finish))
+
+-- the names are read, and then the words, and then the file is edited
+abbrev pub EditSteps : Common → EditWords → List ℕ → Occasion → Steps
+EditSteps common words file occasion =
+    Naming common.kind (names_wanted words common.names) (λ (names : List NameLine).
+    Then (edit_read names words) (λ (edit : FileEdit).
+    FileEditSteps common.kind common.format edit file occasion))
+
+-- the refusal of the first faulty word, where it rests on no file of names
+abbrev pub faulty_edit : Common → EditWords → Option Refusal
+faulty_edit common words = if is_none (names_wanted words common.names) then refusal_in (edit_read [] words) else None
+
+-- what is said where an edit of an opened file was refused
+abbrev pub edit_cause : EditFault → Cause
+edit_cause (File fault) = file_cause fault
+edit_cause (Unfit out) = NoRoom out
+
+-- the causes for which the change of an opened file may be refused, whatever is told: a field of its format for which there
+-- may be no room, or blocks of a tree file
+abbrev pub ChangeMayRefuse : Option Format → Edit → List ℕ → Cause → List ℕ → Type 0
+ChangeMayRefuse asked edit file (NoRoom out) name =
+    (name ≡ file) × (out.id ≡ edit.id)
+    × ((format : Format) × IsOpenedAs asked format × edit.may_lack format (out.field, out.value))
+ChangeMayRefuse asked edit file (Full blocks limit) name =
+    IsTrue edit.needs_room × IsTrue (asks_tree asked) × (limit < blocks) × (name ≡ file)
+ChangeMayRefuse asked edit file _ name = ⊥
+
+-- the causes for which the edit of a file may be refused, whatever is told
+abbrev pub FileEditMayRefuse : Option Format → FileEdit → List ℕ → Cause → List ℕ → Type 0
+FileEditMayRefuse asked edit file cause name =
+    ((now : ℕ) × ChangeMayRefuse asked (edit_meant edit now) file cause name)
+    ⊎ (MayRefuseOpening asked file cause name
+    ⊎ (IsTrue (edit_warns edit) × (cause ≡ SinkFault)))
+
+-- the same of words, where these are the names
+abbrev pub NamedEditMayRefuse : Option Format → EditWords → List ℕ → List NameLine → Cause → List ℕ → Type 0
+NamedEditMayRefuse asked words file names cause name =
+    (edit_read names words ≡ Refused (refusal_of cause name))
+    ⊎ ((edit : FileEdit) × (edit_read names words ≡ Passed edit) × FileEditMayRefuse asked edit file cause name)
+
+-- the causes for which words that ask for an edit may be refused, whatever is told
+abbrev pub EditMayRefuse : Common → EditWords → List ℕ → Cause → List ℕ → Type 0
+EditMayRefuse common words file cause name =
+    NamesMayRefuse (names_wanted words common.names) cause name
+    ⊎ ((names : List NameLine) × MayBeNames (names_wanted words common.names) names × NamedEditMayRefuse common.format words file names cause name)
+
+-- the answer of an edit that skips no time
+abbrev pub unskipped : Result (Unit {0}) EditFault → Result Skipped EditFault
+unskipped (Ok done) = Ok skips_none
+unskipped (Err fault) = Err fault

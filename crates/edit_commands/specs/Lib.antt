@@ -1,0 +1,11 @@
+pub mod Apply
+pub mod Batch
+pub mod EditWords
+pub mod Edits
+pub mod Print
+pub use Rattle.quota_blocks.specs.Seen
+pub use Rattle.quota_blocks.specs.Unsynced
+pub use Rattle.run_steps.specs.Changing
+pub use Rattle.run_steps.specs.Done
+pub use Rattle.run_steps.specs.Run
+pub use Rattle.run_steps.specs.Showing

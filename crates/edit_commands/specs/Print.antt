@@ -1,0 +1,47 @@
+-- `edquota --print`. Source: the manual page of edquota; that the limits are shown as a form is this project's own.
+use Rattle.std.specs.Prelude.{◌≡◌, ◌⊎◌, ℕ, List, [], Option, None, is_none, if◌then◌else◌}
+use Rattle.id_names.specs.FirstMatch.{first_name}
+use Rattle.id_names.specs.NamesFile.{NameLine}
+use Rattle.quota_types.specs.declared.file_kind.Format.{Format}
+use Rattle.quota_types.specs.declared.file_kind.Kind.{Kind}
+use Rattle.quota_blocks.specs.QuotaValue.{QuotaValue}
+use Rattle.report_text.specs.Report.{shown_name}
+use Rattle.set_edit.specs.Form.{form_of}
+use Rattle.set_edit.specs.Times.{record_in}
+use Rattle.refusals.specs.declared.cause.Cause.{Cause}
+use Rattle.refusals.specs.declared.reason.Refusal.{Refusal}
+use Rattle.command_words.specs.declared.command.Common.{Common}
+use Rattle.run_steps.specs.Naming.{MayBeNames, NamesMayRefuse}
+use Rattle.refusals.specs.Outcome.{Passed, Refused, refusal_in}
+use Rattle.refusals.specs.Refusals.{refusal_of}
+use Rattle.run_steps.specs.Steps.{Naming, Steps, Then}
+use Rattle.run_steps.specs.declared.occasion.Occasion.{Occasion}
+use Rattle.run_steps.specs.Showing.{ShowingMayRefuse, ShowingSteps}
+use Rattle.run_steps.specs.Numbers.{identifier_of}
+
+-- the form of an identifier in a file of this name: of its record, or of one of zeros
+abbrev pub form_on : Kind → List NameLine → List ℕ → ℕ → QuotaValue → List ℕ
+form_on kind names file id value = form_of kind (shown_name (first_name names) id) id file (record_in value id)
+
+-- the names are read, and then the word for the identifier; the file is opened, and the form goes to the output
+abbrev pub PrintSteps : Common → List ℕ → List ℕ → Occasion → Steps
+PrintSteps common word file occasion =
+    Naming common.kind common.names (λ (names : List NameLine).
+    Then (identifier_of names word) (λ (id : ℕ).
+    ShowingSteps common.kind common.format file (form_on common.kind names file id)))
+
+-- the refusal of the word for the identifier, where it rests on no file of names
+abbrev pub faulty_print : Common → List ℕ → Option Refusal
+faulty_print common word = if is_none common.names then refusal_in (identifier_of [] word) else None
+
+-- the causes for which a form may not be shown, whatever is told, where these are the names
+abbrev pub NamedPrintMayRefuse : Option Format → List ℕ → List ℕ → List NameLine → Cause → List ℕ → Type 0
+NamedPrintMayRefuse asked word file names cause name =
+    (identifier_of names word ≡ Refused (refusal_of cause name))
+    ⊎ ((id : ℕ) × (identifier_of names word ≡ Passed id) × ShowingMayRefuse asked file cause name)
+
+-- the causes for which a form may not be shown, whatever is told
+abbrev pub PrintMayRefuse : Common → List ℕ → List ℕ → Cause → List ℕ → Type 0
+PrintMayRefuse common word file cause name =
+    NamesMayRefuse common.names cause name
+    ⊎ ((names : List NameLine) × MayBeNames common.names names × NamedPrintMayRefuse common.format word file names cause name)

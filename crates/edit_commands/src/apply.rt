@@ -1,0 +1,141 @@
+ghost use Rattle.std.specs.Prelude.{ℕ, Option, ◌≡◌, Bool, false, Err, IsSome, IsTrue, OnErr, OnOk, Some};
+ghost use Rattle.quota_blocks.specs.Seen.{LinkSeen, SinkSeen};
+ghost use Rattle.quota_blocks.specs.Unsynced.{AddsNone};
+ghost use Rattle.refusals.specs.declared.reason.Refusal.{Refusal};
+ghost use Rattle.run_steps.specs.Done.{seen_of, tells_of};
+ghost use Rattle.refusals.specs.Outcome.{refusal_in};
+ghost use Rattle.run_steps.specs.Run.{CarriesOut};
+ghost use Rattle.run_steps.specs.Steps.{Then};
+ghost use Rattle.edit_commands.specs.Apply.{ApplyMayRefuse, ApplySteps, FormEditMayRefuse, FormSteps, NamedApplyMayRefuse, apply_uses};
+ghost use Rattle.edit_commands.specs.Print.{faulty_print};
+ghost use Rattle.run_steps.specs.Numbers.{identifier_of};
+
+use crate::edit::FileEdit;
+use crate::edits::edit_file;
+use crate::form_input::take_form;
+use command_words::Common;
+use id_names::Names;
+use quota_blocks::{Sink, Source, Store};
+use quota_types::{Format, Kind};
+use refusals::{Refusal, Word};
+use run_steps::{Occasion, read_identifier, read_names};
+use std::alloc::Global;
+
+/// Sets the limits of an identifier that its form asks for.
+///
+/// # Errors
+///
+/// The names are not read, the word for the identifier is faulty, the form is not read, the file is not opened, or the edit
+/// is refused.
+pub fn apply_by_word<S: Store, I: Source, E: Sink>(
+    alloc: Global,
+    common: Common,
+    from: Option<Word>,
+    word: Word,
+    file: Word,
+    store: &mut S,
+    input: &mut I,
+    err: &mut E,
+    occasion: Occasion,
+) -> Result<(), Refusal>
+    ensures carries { (out : SinkSeen) (link : LinkSeen) (out_tells link_tells : Bool)
+        → CarriesOut (ApplySteps common from word file occasion) (apply_uses from) (ApplyMayRefuse common from word file)
+        (tells_of S.tells I.tells out_tells E.tells link_tells)
+        (seen_of (S.seen store.old) (I.seen input.old) out (E.seen err.old) link)
+        (seen_of (S.seen store.new) (I.seen input.new) out (E.seen err.new) link) result }
+    // A faulty word is refused before anything is read, where its refusal rests on nothing but the words.
+    ensures word { (refusal : Refusal) → faulty_print common word ≡ Some refusal → result ≡ Err refusal }
+    ensures store { (refusal : Refusal) → faulty_print common word ≡ Some refusal → store.new ≡ store.old }
+    // Where it was refused, for whichever cause, the file is as it was.
+    ensures named { OnErr result (IsTrue S.tells → (S.seen store.new).files file ≡ (S.seen store.old).files file) }
+    // Where it was done, what was written has been synced.
+    ensures synced { OnOk result (IsTrue S.tells
+        → AddsNone (S.seen store.old).unsynced (S.seen store.new).unsynced) }
+    ensures untouched { IsSome from → input.new ≡ input.old }
+    ensures keeps { I.keeps false input.old input.new }
+    ensures quiet { err.new ≡ err.old }
+{
+    let Common {
+        kind,
+        format,
+        names,
+    } = common;
+    match read_names(alloc, kind, names, store) {
+        Ok(names) => apply_named(
+            alloc, &names, kind, format, from, word, file, store, input, err, occasion,
+        ),
+        Err(refusal) => Err(refusal),
+    }
+}
+
+/// The same, where these are the names.
+fn apply_named<S: Store, I: Source, E: Sink>(
+    alloc: Global,
+    names: &Names,
+    kind: Kind,
+    format: Option<Format>,
+    from: Option<Word>,
+    word: Word,
+    file: Word,
+    store: &mut S,
+    input: &mut I,
+    err: &mut E,
+    occasion: Occasion,
+) -> Result<(), Refusal>
+    ensures carries { (out : SinkSeen) (link : LinkSeen) (out_tells link_tells : Bool)
+        → CarriesOut (Then (identifier_of names.now word) (λ (id : ℕ). FormSteps kind format names.now from id file occasion))
+        (apply_uses from) (NamedApplyMayRefuse format from word file names.now)
+        (tells_of S.tells I.tells out_tells E.tells link_tells)
+        (seen_of (S.seen store.old) (I.seen input.old) out (E.seen err.old) link)
+        (seen_of (S.seen store.new) (I.seen input.new) out (E.seen err.new) link) result }
+    ensures word { (refusal : Refusal) → refusal_in (identifier_of names.now word) ≡ Some refusal → result ≡ Err refusal }
+    ensures store { (refusal : Refusal) → refusal_in (identifier_of names.now word) ≡ Some refusal → store.new ≡ store.old }
+    ensures named { OnErr result (IsTrue S.tells → (S.seen store.new).files file ≡ (S.seen store.old).files file) }
+    ensures synced { OnOk result (IsTrue S.tells
+        → AddsNone (S.seen store.old).unsynced (S.seen store.new).unsynced) }
+    ensures untouched { IsSome from → input.new ≡ input.old }
+    ensures keeps { I.keeps false input.old input.new }
+    ensures quiet { err.new ≡ err.old }
+{
+    match read_identifier(names, word) {
+        Ok(id) => apply_form(
+            alloc, names, kind, format, from, id, file, store, input, err, occasion,
+        ),
+        Err(refusal) => Err(refusal),
+    }
+}
+
+/// Reads the form of an identifier, and sets the limits that it asks for.
+fn apply_form<S: Store, I: Source, E: Sink>(
+    alloc: Global,
+    names: &Names,
+    kind: Kind,
+    format: Option<Format>,
+    from: Option<Word>,
+    id: u32,
+    file: Word,
+    store: &mut S,
+    input: &mut I,
+    err: &mut E,
+    occasion: Occasion,
+) -> Result<(), Refusal>
+    ensures carries { (out : SinkSeen) (link : LinkSeen) (out_tells link_tells : Bool)
+        → CarriesOut (FormSteps kind format names.now from id file occasion) (apply_uses from) (FormEditMayRefuse format from id file)
+        (tells_of S.tells I.tells out_tells E.tells link_tells)
+        (seen_of (S.seen store.old) (I.seen input.old) out (E.seen err.old) link)
+        (seen_of (S.seen store.new) (I.seen input.new) out (E.seen err.new) link) result }
+    ensures named { OnErr result (IsTrue S.tells → (S.seen store.new).files file ≡ (S.seen store.old).files file) }
+    ensures synced { OnOk result (IsTrue S.tells
+        → AddsNone (S.seen store.old).unsynced (S.seen store.new).unsynced) }
+    ensures untouched { IsSome from → input.new ≡ input.old }
+    ensures keeps { I.keeps false input.old input.new }
+    ensures quiet { err.new ≡ err.old }
+{
+    match take_form(alloc, names, kind, id, file.as_str(), from, store, input) {
+        Ok(limits) => {
+            let edit = FileEdit::Limits { id, limits };
+            edit_file(alloc, kind, format, &edit, file, store, err, occasion)
+        }
+        Err(refusal) => Err(refusal),
+    }
+}

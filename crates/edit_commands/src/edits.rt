@@ -1,0 +1,195 @@
+ghost use Rattle.std.specs.Prelude.{ℕ, Option, ◌≡◌, Bool, Err, IfOk, IsTrue, None, OnErr, OnOk, Some, false};
+ghost use Rattle.id_names.specs.NamesFile.{NameLine};
+ghost use Rattle.quota_blocks.specs.QuotaValue.{QuotaValue};
+ghost use Rattle.quota_blocks.specs.Seen.{LinkSeen, SinkSeen, SourceSeen};
+ghost use Rattle.quota_blocks.specs.Unsynced.{AddsNone};
+ghost use Rattle.set_edit.specs.Editing.{Edits, file_at, laws_of};
+ghost use Rattle.refusals.specs.declared.reason.Refusal.{Refusal};
+ghost use Rattle.run_steps.specs.Done.{seen_of, tells_of};
+ghost use Rattle.refusals.specs.Outcome.{refusal_in};
+ghost use Rattle.run_steps.specs.Run.{CarriesOut};
+ghost use Rattle.run_steps.specs.Steps.{Then};
+ghost use Rattle.edit_commands.specs.Edits.{EditMayRefuse, EditSteps, FileEditMayRefuse, FileEditSteps, NamedEditMayRefuse, edit_cause, faulty_edit, unskipped};
+ghost use Rattle.run_steps.specs.Changing.{edit_uses};
+ghost use Rattle.edit_commands.specs.declared.edit.FileEdit.{FileEdit as FileEditOf};
+ghost use Rattle.edit_commands.specs.EditWords.{MaySkip, edit_meant, edit_read, edit_warns, skipped_by, words_warn};
+
+use crate::EditWords;
+use crate::edit::FileEdit;
+use crate::edit_words::{names_wanted, read_edit};
+use crate::warning::write_warnings;
+use command_words::Common;
+use id_names::Names;
+use quota_blocks::{QuotaFile, Sink, Store};
+use quota_map::{AnyFile, open_file};
+use quota_types::{Format, Kind};
+use refusals::{Cause, Refusal, Word};
+use run_steps::{Occasion, file_cause, opening_cause, read_names};
+use set_edit::{EditFault, Skipped, copy_limits, set_grace_periods, set_limits, set_times};
+use std::alloc::Global;
+
+/// Carries out the edit of a file that words ask for.
+///
+/// # Errors
+///
+/// The names are not read, a word is faulty, the file is not opened, or the edit is refused; or the error output fails in a
+/// warning.
+pub fn edit_by_words<S: Store, E: Sink>(
+    alloc: Global,
+    common: Common,
+    words: EditWords,
+    file: Word,
+    store: &mut S,
+    err: &mut E,
+    occasion: Occasion,
+) -> Result<(), Refusal>
+    ensures carries { (input : SourceSeen) (out : SinkSeen) (link : LinkSeen) (input_tells out_tells link_tells : Bool)
+        → CarriesOut (EditSteps common words file occasion) (edit_uses (words_warn words)) (EditMayRefuse common words file)
+        (tells_of S.tells input_tells out_tells E.tells link_tells)
+        (seen_of (S.seen store.old) input out (E.seen err.old) link)
+        (seen_of (S.seen store.new) input out (E.seen err.new) link) result }
+    // A faulty word is refused before anything is read, where its refusal rests on nothing but the words.
+    ensures word { (refusal : Refusal) → faulty_edit common words ≡ Some refusal → result ≡ Err refusal }
+    ensures store { (refusal : Refusal) → faulty_edit common words ≡ Some refusal → store.new ≡ store.old }
+    ensures silent { (refusal : Refusal) → faulty_edit common words ≡ Some refusal → err.new ≡ err.old }
+    // Where it was refused, for whichever cause, the file is as it was, unless it warns.
+    ensures named { words_warn words ≡ false → OnErr result (IsTrue S.tells
+        → (S.seen store.new).files file ≡ (S.seen store.old).files file) }
+    // Where it was done, what was written has been synced.
+    ensures synced { OnOk result (IsTrue S.tells
+        → AddsNone (S.seen store.old).unsynced (S.seen store.new).unsynced) }
+    ensures quiet { words_warn words ≡ false → err.new ≡ err.old }
+{
+    let Common {
+        kind,
+        format,
+        names,
+    } = common;
+    let names = names_wanted(&words, names);
+    match read_names(alloc, kind, names, store) {
+        Ok(names) => edit_named(
+            alloc, &names, kind, format, words, file, store, err, occasion,
+        ),
+        Err(refusal) => Err(refusal),
+    }
+}
+
+/// Carries out the edit of a file that words ask for, where these are the names.
+fn edit_named<S: Store, E: Sink>(
+    alloc: Global,
+    names: &Names,
+    kind: Kind,
+    format: Option<Format>,
+    words: EditWords,
+    file: Word,
+    store: &mut S,
+    err: &mut E,
+    occasion: Occasion,
+) -> Result<(), Refusal>
+    ensures carries { (input : SourceSeen) (out : SinkSeen) (link : LinkSeen) (input_tells out_tells link_tells : Bool)
+        → CarriesOut (Then (edit_read names.now words) (λ (edit : FileEditOf). FileEditSteps kind format edit file occasion))
+        (edit_uses (words_warn words)) (NamedEditMayRefuse format words file names.now)
+        (tells_of S.tells input_tells out_tells E.tells link_tells)
+        (seen_of (S.seen store.old) input out (E.seen err.old) link)
+        (seen_of (S.seen store.new) input out (E.seen err.new) link) result }
+    ensures word { (refusal : Refusal) → refusal_in (edit_read names.now words) ≡ Some refusal → result ≡ Err refusal }
+    ensures store { (refusal : Refusal) → refusal_in (edit_read names.now words) ≡ Some refusal → store.new ≡ store.old }
+    ensures silent { (refusal : Refusal) → refusal_in (edit_read names.now words) ≡ Some refusal → err.new ≡ err.old }
+    ensures named { words_warn words ≡ false → OnErr result (IsTrue S.tells
+        → (S.seen store.new).files file ≡ (S.seen store.old).files file) }
+    ensures synced { OnOk result (IsTrue S.tells
+        → AddsNone (S.seen store.old).unsynced (S.seen store.new).unsynced) }
+    ensures quiet { words_warn words ≡ false → err.new ≡ err.old }
+{
+    match read_edit(alloc, names, words) {
+        Ok(edit) => edit_file(alloc, kind, format, &edit, file, store, err, occasion),
+        Err(refusal) => Err(refusal),
+    }
+}
+
+/// Opens a file, edits it, and warns of the times that the edit skipped.
+///
+/// # Errors
+///
+/// The file is not opened, or the edit is refused; or the error output fails in a warning.
+pub fn edit_file<S: Store, E: Sink>(
+    alloc: Global,
+    kind: Kind,
+    format: Option<Format>,
+    edit: &FileEdit,
+    file: Word,
+    store: &mut S,
+    err: &mut E,
+    occasion: Occasion,
+) -> Result<(), Refusal>
+    ensures carries { (input : SourceSeen) (out : SinkSeen) (link : LinkSeen) (input_tells out_tells link_tells : Bool)
+        → CarriesOut (FileEditSteps kind format edit.now file occasion) (edit_uses (edit_warns edit.now)) (FileEditMayRefuse format edit.now file)
+        (tells_of S.tells input_tells out_tells E.tells link_tells)
+        (seen_of (S.seen store.old) input out (E.seen err.old) link)
+        (seen_of (S.seen store.new) input out (E.seen err.new) link) result }
+    ensures named { edit_warns edit.now ≡ false → OnErr result (IsTrue S.tells
+        → (S.seen store.new).files file ≡ (S.seen store.old).files file) }
+    ensures synced { OnOk result (IsTrue S.tells
+        → AddsNone (S.seen store.old).unsynced (S.seen store.new).unsynced) }
+    ensures quiet { edit_warns edit.now ≡ false → err.new ≡ err.old }
+{
+    match open_file(alloc, store, file.as_str(), kind, format) {
+        Ok(mut opened) => match make_edit(&mut opened, store, edit, occasion.now) {
+            Ok(skipped) => match write_warnings(err, occasion.line, skipped) {
+                Ok(()) => Ok(()),
+                Err(_) => Err(Refusal::of(Cause::SinkFault, file)),
+            },
+            Err(fault) => Err(Refusal::of(edit_cause(fault), file)),
+        },
+        Err(fault) => Err(Refusal::of(opening_cause(fault), file)),
+    }
+}
+
+/// Makes an edit of an opened file, and answers which times it skipped.
+fn make_edit<S: Store>(
+    opened: &mut AnyFile,
+    store: &mut S,
+    edit: &FileEdit,
+    now: u64,
+) -> Result<Skipped, EditFault>
+    requires { IsTrue (⟦<AnyFile as QuotaFile<S>>⟧.seen opened.old).usable }
+    ensures edits { Edits (edit_meant edit.now now)
+        (laws_of S.tells ⟦<AnyFile as QuotaFile<S>>⟧.makes ⟦<AnyFile as QuotaFile<S>>⟧.may_leave
+        ⟦<AnyFile as QuotaFile<S>>⟧.lacks_room ⟦<AnyFile as QuotaFile<S>>⟧.may_refuse)
+        (file_at (⟦<AnyFile as QuotaFile<S>>⟧.holds opened.old store.old) (⟦<AnyFile as QuotaFile<S>>⟧.seen opened.old) (S.seen store.old))
+        (file_at (⟦<AnyFile as QuotaFile<S>>⟧.holds opened.new store.new) (⟦<AnyFile as QuotaFile<S>>⟧.seen opened.new) (S.seen store.new))
+        result }
+    ensures skipped { IfOk result (λ skipped. (value : QuotaValue)
+        → ⟦<AnyFile as QuotaFile<S>>⟧.holds opened.old store.old value → skipped ≡ skipped_by edit.now value) }
+    ensures skips { IfOk result (MaySkip edit.now) }
+{
+    match *edit {
+        FileEdit::Limits { id, limits } => unskipped(set_limits(opened, store, id, &limits, now)),
+        FileEdit::Copy { from, to } => unskipped(copy_limits(opened, store, from, to, now)),
+        FileEdit::Grace { grace } => unskipped(set_grace_periods(opened, store, grace)),
+        FileEdit::Times { id, block, inode } => set_times(opened, store, id, block, inode, now),
+    }
+}
+
+/// The answer of an edit that skips no time.
+fn unskipped(done: Result<(), EditFault>) -> Result<Skipped, EditFault>
+    ensures { result ≡ unskipped done }
+{
+    match done {
+        Ok(()) => Ok(Skipped {
+            block: false,
+            inode: false,
+        }),
+        Err(fault) => Err(fault),
+    }
+}
+
+/// What is said where an edit was refused.
+pub fn edit_cause(fault: EditFault) -> Cause
+    ensures { result ≡ edit_cause fault }
+{
+    match fault {
+        EditFault::File(fault) => file_cause(fault),
+        EditFault::NoRoom(out) => Cause::NoRoom(out),
+    }
+}

@@ -1,0 +1,296 @@
+-- Listings that become the usage of a file: why one was not read, which value it leaves, and why a file was not read.
+use Rattle.std.proofs.Common.{◌≡◌, ◌≢◌, ℕ, suc, ◌≤◌, Bool, true, false, IsTrue, List, [], ◌∷◌, map, Option, None, Some, Err, Result, ◌⊎◌, inl, inr, refl, sym, ap, subst, ◌∙◌, arith}
+use Rattle.std.specs.Prelude.{T, ◌==◌, ◌&&◌, All, IfSome, cond, slice_get}
+use Rattle.std.specs.Cmp.{nat_cmp_total, unsigned_tied}
+use Rattle.std.specs.FinMap.{entries, entries_sorted, find, get, get-entries, get-from_entries, is_sorted}
+use Rattle.std.specs.FinMap.Entries.{below_all}
+use Rattle.std.specs.Ordering.{eq_by_cmp, is_eq, is_lt, nat_cmp}
+use Rattle.std.specs.declared.cmp.Ordering.{Ordering}
+use Rattle.std.specs.declared.cmp.Ordering.TheVariants.{Less, Equal, Greater}
+use Rattle.std.proofs.lemmas.Bool.Decides.{eqb_tells, nat_tests}
+use Rattle.std.proofs.lemmas.Option.{none-some}
+use Rattle.std.specs.List.{cons_option, filter_map}
+use Rattle.std.specs.Option.{option_map}
+use Rattle.quota_types.specs.Kept.{IsKept}
+use Rattle.quota_types.specs.Range.{unfit}
+use Rattle.quota_types.specs.declared.record.Entry.{Entry}
+use Rattle.quota_blocks.specs.Listed.{records_of}
+use Rattle.quota_blocks.specs.World.{World}
+use Rattle.quota_types.specs.declared.field.Field.{Field}
+use Rattle.quota_types.specs.declared.field.NoRoom.{NoRoom as NoRoomFor}
+use Rattle.quota_types.specs.declared.file_kind.Format.{Format}
+use Rattle.quota_types.specs.declared.file_kind.Format.TheVariants.{V1, V2R0, V2R1}
+use Rattle.quota_types.specs.declared.file_kind.Kind.{Kind}
+use Rattle.quota_types.specs.declared.record.Rec.{Rec}
+use Rattle.quota_blocks.specs.Count.{Rose}
+use Rattle.quota_blocks.specs.Frame.{OnlyReads}
+use Rattle.quota_blocks.specs.QuotaValue.{QuotaValue}
+use Rattle.quota_blocks.specs.Seen.{StoreSeen}
+use Rattle.quota_blocks.proofs.FrameLemmas.{only_reads-none}
+use Rattle.quota_blocks.specs.declared.quota_file.FileFault.{FileFault}
+use Rattle.quota_blocks.specs.declared.quota_file.FileFault.TheVariants.{Store as StoreFailed, Damage as FileDamaged, Full as NoBlocks, Memory as NoMemory}
+use Rattle.quota_map.specs.AnyFile.{MayRefuse}
+use Rattle.quota_map.specs.Reading.{IsReadFault, UnlessMemory}
+use Rattle.tree_layout.specs.Size.{ids_in}
+use Rattle.quota_map.specs.Replacing.{IsReplacedBy, built_size, flags_in}
+use Rattle.quota_map.specs.View.{IsOpenedAs}
+use Rattle.inode_scan.specs.Apply.{IsApplyFault, applied, first_no_room, no_room, wanted, wanted_record}
+use Rattle.inode_scan.proofs.ApplyLemmas.{wanted_at}
+use Rattle.inode_scan.specs.Faults.{unless}
+use Rattle.inode_scan.specs.Scan.{IsScanFault}
+use Rattle.inode_scan.specs.Usage.{UsageMap}
+use Rattle.inode_scan.specs.declared.fault.ApplyFault.{ApplyFault}
+use Rattle.inode_scan.specs.declared.fault.ApplyFault.TheVariants.{NoRoom as Unfit, Memory as ApplyWantsMemory}
+use Rattle.inode_scan.specs.declared.fault.ScanFault.{ScanFault}
+use Rattle.inode_scan.specs.declared.fault.ScanFault.TheVariants.{Source, TooLarge as PastTotal, BadLine as WrongLine, LongLine as TooLong, Conflict as Conflicting, Memory as ScanWantsMemory}
+use Rattle.refusals.specs.declared.cause.Cause.{Cause}
+use Rattle.refusals.specs.declared.cause.Cause.TheVariants.{StoreFault, SourceFault, NoRoom}
+use Rattle.refusals.specs.declared.reason.Refusal.{Refusal}
+use Rattle.run_steps.specs.Done.{IsWorldTold, RunSeen, RunTells, outside_of}
+use Rattle.run_steps.specs.Opening.{MayRefuseOpening, file_cause}
+use Rattle.run_steps.specs.Run.{CarriesOut, HasReason, IsFault, Uses}
+use Rattle.run_steps.specs.Steps.{Opening, Steps}
+use Rattle.run_steps.specs.Taking.{AListing, InputMayRefuse, IsInputFault}
+use Rattle.file_commands.specs.Check.{ReplaceSteps, UnfitMayRefuse, UsageMayLack, apply_cause, checked, scan_cause, scan_outcome, with_applied}
+use Rattle.run_steps.specs.Changing.{edit_uses}
+use Rattle.file_commands.specs.FileValue.{IsMadeAnew, WritingMayRefuse}
+use Rattle.refusals.specs.Refusals.{refusal_of}
+use Rattle.run_steps.proofs.OpeningLemmas.{nothing_read, store_later, unwritten, with_store}
+use Rattle.run_steps.proofs.PhaseLemmas.{carries_on, stop_carried}
+use Rattle.file_commands.proofs.ReplacingLemmas.{replace_wanting}
+use Rattle.run_steps.proofs.ShowingLemmas.{damage_may}
+
+-- Listings.
+
+-- a listing in the standard input that gave no usage
+pub listing_unread : (read : Result UsageMap ScanFault) (before now : ℕ) (tells : Bool) (fault : ScanFault) → IsScanFault before now tells read fault
+    → IsInputFault ⊥ (Rose before now) (IsTrue tells) (scan_outcome [] read) (refusal_of (scan_cause SourceFault fault) []) (scan_cause SourceFault fault)
+listing_unread read before now tells Source is = is
+listing_unread read before now tells PastTotal is = λ told. ap (scan_outcome []) (is told)
+listing_unread read before now tells (WrongLine line) is = λ told. ap (scan_outcome []) (is told)
+listing_unread read before now tells (TooLong line) is = λ told. ap (scan_outcome []) (is told)
+listing_unread read before now tells (Conflicting line first) is = λ told. ap (scan_outcome []) (is told)
+listing_unread read before now tells ScanWantsMemory is = tt
+
+-- a listing in a file that gave no usage
+listing_unread_of : (name : List ℕ) (read : Result UsageMap ScanFault) (before now : ℕ) (tells : Bool) (fault : ScanFault) → IsScanFault before now tells read fault
+    → IsInputFault (Rose before now) ⊥ (IsTrue tells) (scan_outcome name read) (refusal_of (scan_cause StoreFault fault) name) (scan_cause StoreFault fault)
+listing_unread_of name read before now tells Source is = is
+listing_unread_of name read before now tells PastTotal is = λ told. ap (scan_outcome name) (is told)
+listing_unread_of name read before now tells (WrongLine line) is = λ told. ap (scan_outcome name) (is told)
+listing_unread_of name read before now tells (TooLong line) is = λ told. ap (scan_outcome name) (is told)
+listing_unread_of name read before now tells (Conflicting line first) is = λ told. ap (scan_outcome name) (is told)
+listing_unread_of name read before now tells ScanWantsMemory is = tt
+
+-- the same of a refusal that says so
+pub listing_unread_at : (name : List ℕ) (read : Result UsageMap ScanFault) (before now : ℕ) (tells : Bool) (fault : ScanFault) (refusal : Refusal) → IsScanFault before now tells read fault
+    → refusal ≡ refusal_of (scan_cause StoreFault fault) name → IsInputFault (Rose before now) ⊥ (IsTrue tells) (scan_outcome name read) refusal refusal.cause
+listing_unread_at name read before now tells fault refusal is same =
+    subst (λ (r : Refusal). IsInputFault (Rose before now) ⊥ (IsTrue tells) (scan_outcome name read) r r.cause) (sym same) (listing_unread_of name read before now tells fault is)
+
+-- what may be said of a listing in the standard input, and of one in a file
+pub listing_may : (fault : ScanFault) → InputMayRefuse AListing None (scan_cause SourceFault fault) []
+listing_may Source = refl
+listing_may PastTotal = (refl, refl)
+listing_may (WrongLine line) = (refl, refl)
+listing_may (TooLong line) = (refl, refl)
+listing_may (Conflicting line first) = (refl, refl)
+listing_may ScanWantsMemory = refl
+
+pub listing_may_of : (name : List ℕ) (fault : ScanFault) → InputMayRefuse AListing (Some name) (scan_cause StoreFault fault) name
+listing_may_of name Source = refl
+listing_may_of name PastTotal = (refl, refl)
+listing_may_of name (WrongLine line) = (refl, refl)
+listing_may_of name (TooLong line) = (refl, refl)
+listing_may_of name (Conflicting line first) = (refl, refl)
+listing_may_of name ScanWantsMemory = refl
+
+-- Values for which there is no room.
+
+tied : (id n : ℕ) → id ≡ n → eq_by_cmp nat_cmp id n ≡ true
+tied id n own = unsigned_tied id n ∙ same_number id n own
+  where
+    same_number : (id n : ℕ) → id ≡ n → (id == n) ≡ true
+    same_number id n own = grind (arith, nat_tests)
+
+untied : (id n : ℕ) → id ≢ n → eq_by_cmp nat_cmp id n ≡ false
+untied id n other = unsigned_tied id n ∙ other_number id n other
+  where
+    other_number : (id n : ℕ) → id ≢ n → (id == n) ≡ false
+    other_number id n other = grind (arith, nat_tests)
+
+first_holds : (a b : Bool) → T (a && b) → T a
+first_holds true b both = tt
+first_holds false b both = absurd both
+
+second_holds : (a b : Bool) → T (a && b) → T b
+second_holds true b both = both
+second_holds false b both = absurd both
+
+not_tied : (order : Ordering) → T (is_lt order) → is_eq order ≡ false
+not_tied Less less = refl
+not_tied Equal less = absurd less
+not_tied Greater less = absurd less
+
+-- an identifier before all of them is none of them
+find_none : (id : ℕ) (pairs : List (ℕ × Rec)) → T (below_all nat_cmp id pairs) → find nat_cmp id pairs ≡ None
+find_none id [] below = refl
+find_none id (pair ∷ pairs) below =
+    ap (λ b. cond b (Some pair.1) (find nat_cmp id pairs)) (not_tied (nat_cmp id pair.0) (first_holds (is_lt (nat_cmp id pair.0)) (below_all nat_cmp id pairs) below))
+    ∙ find_none id pairs (second_holds (is_lt (nat_cmp id pair.0)) (below_all nat_cmp id pairs) below)
+
+-- what there is no room for is a value of a record that an identifier has
+abbrev Lacks : Format → List (ℕ × Rec) → NoRoomFor → Type 0
+Lacks format pairs out = (rec : Rec) × (find nat_cmp out.id pairs ≡ Some rec) × (unfit format out.id rec ≡ Some (out.field, out.value))
+
+lacks_here : (format : Format) (pair : ℕ × Rec) (pairs : List (ℕ × Rec)) (out : NoRoomFor) (found : Option (Field × ℕ)) → unfit format pair.0 pair.1 ≡ found
+    → option_map (λ (one : Field × ℕ). record { id = pair.0; field = one.0; value = one.1 }) found ≡ Some out → Lacks format (pair ∷ pairs) out
+lacks_here format pair pairs out None is named = absurd (cc)
+lacks_here format pair pairs out (Some one) is named =
+    let same : ◌≡◌ {A = NoRoomFor} (record { id = pair.0; field = one.0; value = one.1 }) out = cc in
+    subst (λ (o : NoRoomFor). Lacks format (pair ∷ pairs) o) same
+    (pair.1, ap (λ b. cond b (Some pair.1) (find nat_cmp pair.0 pairs)) (tied pair.0 pair.0 refl), is)
+
+lacks_later : (format : Format) (pair : ℕ × Rec) (pairs : List (ℕ × Rec)) (out : NoRoomFor) → T (below_all nat_cmp pair.0 pairs) → Lacks format pairs out → Lacks format (pair ∷ pairs) out
+lacks_later format pair pairs out below lacks = elim (eqb_tells out.id pair.0) [
+  | inl own ↦ absurd (none-some lacks.0 (sym (find_none pair.0 pairs below) ∙ ap (λ (n : ℕ). find nat_cmp n pairs) (sym own.1) ∙ lacks.1))
+  | inr other ↦ (lacks.0, ap (λ b. cond b (Some pair.1) (find nat_cmp out.id pairs)) (untied out.id pair.0 other.1) ∙ lacks.1, lacks.2)
+]
+
+first_lacking : (format : Format) (pairs : List (ℕ × Rec)) (out : NoRoomFor) → T (is_sorted nat_cmp pairs) → slice_get (filter_map (no_room format) pairs) 0 ≡ Some out → Lacks format pairs out
+first_lacking format [] out sorted is = absurd (cc)
+first_lacking format (pair ∷ pairs) out sorted is =
+    by_found (no_room format pair) refl (first_lacking format pairs out (second_holds (below_all nat_cmp pair.0 pairs) (is_sorted nat_cmp pairs) sorted)) is
+  where
+    by_found : (found : Option NoRoomFor) → no_room format pair ≡ found → (slice_get (filter_map (no_room format) pairs) 0 ≡ Some out → Lacks format pairs out)
+        → slice_get (cons_option found (filter_map (no_room format) pairs)) 0 ≡ Some out → Lacks format (pair ∷ pairs) out
+    by_found None found next first = lacks_later format pair pairs out (first_holds (below_all nat_cmp pair.0 pairs) (is_sorted nat_cmp pairs) sorted) (next first)
+    by_found (Some one) found next first = lacks_here format pair pairs out (unfit format pair.0 pair.1) refl (found ∙ first)
+
+refused_by : {A E : Type 0} (refusal : Option E) (value : A) (out : E) → unless refusal value ≡ Err out → refusal ≡ Some out
+refused_by None value out is = absurd (cc)
+refused_by (Some refusal) value out is = cc
+
+-- a record that is wanted of an identifier is made of what it has and uses
+made_of : (some : Bool) (made rec : Rec) → cond some (Some made) None ≡ Some rec → made ≡ rec
+made_of true made rec is = cc
+made_of false made rec is = absurd (cc)
+
+-- where the records are refused there is no room for a value of some record with some usage
+applied_lacks : (value : QuotaValue) (now : ℕ) (usage : UsageMap) (out : NoRoomFor) → applied value.format value.grace now value.records usage ≡ Err out → UsageMayLack value out
+unfolding applied
+applied_lacks value now usage out is =
+    let all = wanted value.grace now value.records usage in
+    let lacks = first_lacking value.format (entries all) out (entries_sorted all) (refused_by (first_no_room value.format all) _ out is) in
+    let made : wanted_record value.grace now (get value.records out.id) (get usage out.id) ≡ lacks.0 =
+    made_of _ _ lacks.0 (sym (wanted_at value.grace now value.records usage out.id) ∙ get-entries all out.id ∙ lacks.1) in
+    (get usage out.id, now, subst (λ (r : Rec). unfit value.format out.id r ≡ Some (out.field, out.value)) (sym made) lacks.2)
+
+-- the causes for which a file of a value may not be replaced
+abbrev pub ReplacingMayRefuse : QuotaValue → List ℕ → Cause → List ℕ → Type 0
+ReplacingMayRefuse value file cause name = UnfitMayRefuse value file cause name ⊎ WritingMayRefuse value.format file cause name
+
+-- there was no room for a value
+pub check_unfit : (name : List ℕ) (value : QuotaValue) (usage : UsageMap) (now : ℕ) (out : NoRoomFor) (tells : RunTells) (old : RunSeen)
+    → applied value.format value.grace now value.records usage ≡ Err out
+    → CarriesOut (ReplaceSteps name (checked value usage now)) (edit_uses false) (ReplacingMayRefuse value name) tells old old (Err (refusal_of (NoRoom out) name))
+check_unfit name value usage now out tells old is =
+    subst (λ (r : Result QuotaValue NoRoomFor). CarriesOut (ReplaceSteps name r) (edit_uses false) (ReplacingMayRefuse value name) tells old old (Err (refusal_of (NoRoom out) name)))
+    (sym (ap (with_applied value) is))
+    (stop_carried (edit_uses false) (ReplacingMayRefuse value name) tells old (refusal_of (NoRoom out) name) (λ stated fact. fact)
+    (inl (refl, applied_lacks value now usage out is)) (record { line = λ no. refl; input_line = λ no. refl }))
+
+-- Files that were opened and not read.
+
+read_reason : (warns : Bool) (old new : RunSeen) (tells : RunTells) (stated : Type 0) (before : ℕ) (holds : QuotaValue → Type 0) (fault : FileFault)
+    → old.store.faults ≤ before → (IsTrue tells.store → ((value : QuotaValue) → holds value → ⊥) → ⊥)
+    → IsReadFault before new.store.faults holds fault → HasReason warns old new (IsWorldTold tells → stated) (file_cause fault)
+read_reason warns old new tells stated before holds StoreFailed le seen cause = omega (arith, le, cause)
+read_reason warns old new tells stated before holds (FileDamaged damage) le seen cause = λ told. absurd (seen told.store cause)
+read_reason warns old new tells stated before holds (NoBlocks blocks limit) le seen cause = absurd cause
+read_reason warns old new tells stated before holds NoMemory le seen cause = tt
+
+read_fault : (before now : ℕ) (holds : QuotaValue → Type 0) (fault : FileFault) → (((value : QuotaValue) → holds value → ⊥) → ⊥) → IsReadFault before now holds fault → IsFault (file_cause fault)
+read_fault before now holds StoreFailed seen cause = tt
+read_fault before now holds (FileDamaged damage) seen cause = absurd (seen cause)
+read_fault before now holds (NoBlocks blocks limit) seen cause = absurd cause
+read_fault before now holds NoMemory seen cause = tt
+
+read_may : (asked : Option Format) (name : List ℕ) (format : Format) (before now : ℕ) (holds : QuotaValue → Type 0) (fault : FileFault) → IsOpenedAs asked format
+    → IsReadFault before now holds fault → UnlessMemory fault (MayRefuse format fault) → MayRefuseOpening asked name (file_cause fault) name
+read_may asked name format before now holds StoreFailed asks cause may = tt
+read_may asked name format before now holds (FileDamaged damage) asks cause may = (damage_may asked format damage asks may, refl)
+read_may asked name format before now holds (NoBlocks blocks limit) asks cause may = absurd cause
+read_may asked name format before now holds NoMemory asks cause may = tt
+
+-- a file was opened, and its records were not read
+pub not_read_whole : (kind : Kind) (asked : Option Format) (name : List ℕ) (next : QuotaValue → Steps) (uses : Uses) (may : Cause → List ℕ → Type 0) (tells : RunTells) (old : RunSeen) (store : StoreSeen)
+    (format : Format) (before : ℕ) (holds : QuotaValue → Type 0) (fault : FileFault)
+    → IsOpenedAs asked format → OnlyReads name old.store store → old.store.faults ≤ before → (IsTrue tells.store → ((value : QuotaValue) → holds value → ⊥) → ⊥)
+    → IsReadFault before store.faults holds fault → UnlessMemory fault (MayRefuse format fault) → ((cause : Cause) → MayRefuseOpening asked name cause name → may cause name)
+    → CarriesOut (Opening kind asked name next) uses may tells old (with_store old store) (Err (refusal_of (file_cause fault) name))
+not_read_whole kind asked name next uses may tells old store format before holds fault asks reads le seen cause may_be allowed = record {
+  done = tt;
+  refused = read_reason uses.warns old (with_store old store) tells _ before holds fault le seen cause;
+  part = λ told acts to ended steps. nothing_read name tells acts old store reads;
+  complete = λ told acts to steps. read_fault before store.faults holds fault (seen told.store) cause;
+  may_refuse = allowed (file_cause fault) (read_may asked name format before store.faults holds fault asks cause may_be);
+  placed = record { line = λ no. refl; input_line = λ no. refl };
+  only_reads = λ only. unwritten name old.store store reads;
+  all_or_nothing = λ whole other. unwritten name old.store store reads;
+  quiet = λ no. refl;
+  later = store_later old store reads.later;
+}
+
+-- Steps over a value that is known where the store tells.
+
+-- the steps over one value were carried out where those over the same one were
+pub carries_same : (name : List ℕ) (next : QuotaValue → Steps) (one other : QuotaValue) (uses : Uses) (may : Cause → List ℕ → Type 0) (tells : RunTells) (old new : RunSeen) (result : Result (Unit {0}) Refusal)
+    → (IsTrue tells.store → one ≡ other) → CarriesOut (next one) uses may tells old new result → CarriesOut (next other) uses may tells old new result
+carries_same name next one other uses may tells old new result same carries =
+    carries_on name (next one) (next other) uses may may tells old old.store new result (only_reads-none name old.store)
+    (λ told acts to ended by. subst (λ (v : QuotaValue). next v (outside_of old) acts to ended) (same told.store) by)
+    (λ told acts to ended by. subst (λ (v : QuotaValue). next v (outside_of old) acts to ended) (sym (same told.store)) by)
+    (λ cause said may. may) carries
+
+-- the value of a new file has no flags that its format does not have
+pub new_flags : (format : Format) → flags_in format 0 ≡ 0
+new_flags V1 = refl
+new_flags V2R0 = refl
+new_flags V2R1 = refl
+
+-- the records were not made, for want of memory or of room
+pub apply_refused : (name : List ℕ) (value : QuotaValue) (usage : UsageMap) (now : ℕ) (fault : ApplyFault) (tells : RunTells) (old : RunSeen)
+    → IsApplyFault (applied value.format value.grace now value.records usage) fault
+    → CarriesOut (ReplaceSteps name (checked value usage now)) (edit_uses false) (ReplacingMayRefuse value name) tells old old (Err (refusal_of (apply_cause fault) name))
+apply_refused name value usage now (Unfit out) tells old is = check_unfit name value usage now out tells old is
+apply_refused name value usage now ApplyWantsMemory tells old is =
+    replace_wanting name (checked value usage now) (ReplacingMayRefuse value name) tells old old.store refl (inr tt)
+
+-- what the format keeps of each entry of a list it keeps of each record
+found_kept : (format : Format) (list : List Entry) (id : ℕ) → All (λ (entry : Entry). IsKept format entry.id entry.rec) list
+    → IfSome (find nat_cmp id (map (λ (entry : Entry). (entry.id, entry.rec)) list)) (IsKept format id)
+found_kept format [] id all = tt
+found_kept format (entry ∷ list) id all =
+    let rest : List (ℕ × Rec) = map (λ (e : Entry). (e.id, e.rec)) list in
+    elim (eqb_tells id entry.id) [
+      | inl own ↦ subst (λ (b : Bool). IfSome (cond b (Some entry.rec) (find nat_cmp id rest)) (IsKept format id)) (sym (tied id entry.id own.1))
+          (subst (λ (n : ℕ). IsKept format n entry.rec) (sym own.1) (all 0 entry (omega arith)))
+      | inr other ↦ subst (λ (b : Bool). IfSome (cond b (Some entry.rec) (find nat_cmp id rest)) (IsKept format id)) (sym (untied id entry.id other.1))
+          (found_kept format list id (λ k d less. all (suc k) d (omega (arith, less))))
+    ]
+
+pub list_kept : (format : Format) (list : List Entry) → All (λ (entry : Entry). IsKept format entry.id entry.rec) list → (id : ℕ) → IfSome (get (records_of list) id) (IsKept format id)
+list_kept format list all id =
+    subst (λ (o : Option Rec). IfSome o (IsKept format id)) (sym (get-from_entries nat_cmp_total (map (λ (entry : Entry). (entry.id, entry.rec)) list) id))
+    (found_kept format list id all)
+
+-- a file is made anew, also after calls that only read
+pub anew_since : (kind other : Kind) (IsFormat IsOther : Format → Type 0) (read name : List ℕ) (old store new : StoreSeen) → OnlyReads read old store → kind ≡ other
+    → ((format : Format) → IsFormat format → IsOther format) → IsMadeAnew kind IsFormat name store.files new.files → IsMadeAnew other IsOther name old.files new.files
+anew_since kind other IsFormat IsOther read name old store new reads same so anew = record {
+  value = anew.value;
+  kind_is = anew.kind_is ∙ same;
+  format_is = so anew.value.format anew.format_is;
+  replaced = subst (λ (w : World). IsReplacedBy name anew.value (ids_in anew.value.records) (built_size anew.value.format (ids_in anew.value.records)) w new.files) reads.files anew.replaced;
+}

@@ -1,0 +1,3 @@
+pub mod CheckLemmas
+pub mod ReplacingLemmas
+pub mod ReportLemmas

@@ -1,0 +1,63 @@
+use Rattle.std.proofs.Common.{◌≡◌, true, [], inl, inr, refl, ap}
+use Rattle.std.specs.Prelude.{unwrap_or}
+use Rattle.std.proofs.lemmas.Result.{on_ok_weaker}
+use Rattle.quota_blocks.proofs.FrameLemmas.{adds_none-then}
+use Rattle.inode_scan.specs.Usage.{UsageMap}
+use Rattle.run_steps.specs.Done.{IsWorldTold, seen_of, tells_of}
+use Rattle.refusals.specs.Outcome.{Passed}
+use Rattle.run_steps.specs.Taking.{AListing, HasTaken}
+use Rattle.file_commands.specs.Check.{ReplaceSteps, checked}
+use Rattle.file_commands.specs.FileValue.{value_in}
+use Rattle.quota_types.specs.declared.file_kind.Format.{Format}
+use Rattle.file_commands.proofs.CheckLemmas.{anew_since}
+use Rattle.run_steps.proofs.TakingLemmas.{fault_more}
+use Rattle.run_steps.proofs.OpeningLemmas.{with_store}
+use Rattle.run_steps.proofs.PhaseLemmas.{placed_nowhere}
+use Rattle.run_steps.proofs.TakingLemmas.{carries_taking, has_taken, has_taken_refused, input_refused, whole_moved}
+use Rattle.file_commands.proofs.check.check_value.Goals as goal
+
+pub returns-in-Ok-clause-carries : goal.returns-in-Ok-clause-carries
+returns-in-Ok-clause-carries g c = λ out err link out_tells err_tells link_tells.
+    let S = g.S.Store in
+    let I = g.I.Source in
+    let took = c.in-Ok.ensures in
+    let usage : UsageMap = c.in-Ok.usage in
+    let tells = tells_of S.tells I.tells out_tells err_tells link_tells in
+    let old = seen_of (S.seen c.args.store.now) (I.seen c.args.input.now) out err link in
+    let taken : IsWorldTold tells → HasTaken c.args.from (λ (u : UsageMap). true) (Passed usage) (I.seen c.args.input.now).left (I.seen c.take_usage.new.input).left =
+    λ told. has_taken c.args.from (λ u. true) usage _ _ (took.behind told.input) (λ all none. took.ended none told.input) (λ some. ap (λ i. (I.seen i).left) (took.untouched some)) in
+    carries_taking (unwrap_or c.args.from []) c.args.from (λ (u : UsageMap). true) _ (λ (u : UsageMap). ReplaceSteps c.args.file (checked (value_in c.args.value) u c.args.now)) usage _ _ _
+    tells old (S.seen c.take_usage.new.store) (I.seen c.take_usage.new.input)
+    (seen_of (S.seen c.replace_usage.new.store) (I.seen c.take_usage.new.input) out err link) c.replace_usage.result
+    took.leaves took.later (λ told. took.read told.store told.input)
+    taken (λ told. whole_moved c.args.from (λ u. true) (λ (u : UsageMap). ReplaceSteps c.args.file (checked (value_in c.args.value) u c.args.now)) usage
+    (with_store old (S.seen c.take_usage.new.store)) (I.seen c.take_usage.new.input) refl (taken told))
+    (λ cause said may. inr may)
+    (c.replace_usage.ensures.carries (I.seen c.take_usage.new.input) out err link I.tells out_tells err_tells link_tells)
+
+pub returns-in-Err-clause-carries : goal.returns-in-Err-clause-carries
+returns-in-Err-clause-carries g c = λ out err link out_tells err_tells link_tells.
+    let S = g.S.Store in
+    let I = g.I.Source in
+    let took = c.in-Err.ensures in
+    input_refused (unwrap_or c.args.from []) AListing c.args.from (λ (u : UsageMap). true) _ _ _ _
+    (tells_of S.tells I.tells out_tells err_tells link_tells)
+    (seen_of (S.seen c.args.store.now) (I.seen c.args.input.now) out err link)
+    (S.seen c.take_usage.new.store) (I.seen c.take_usage.new.input) c.in-Err.refusal
+    took.leaves took.later
+    (fault_more _ _ _ _ _ _ _ c.in-Err.refusal c.in-Err.refusal.cause (λ rose. rose) (λ rose. rose) (λ told. (told.store, told.input)) took.refused)
+    (λ told. has_taken_refused c.args.from (λ u. true) c.in-Err.refusal _ _ (took.behind told.input) (λ some. ap (λ i. (I.seen i).left) (took.untouched some)))
+    took.may (inl took.may) (placed_nowhere _ c.in-Err.refusal took.placed)
+
+pub returns-in-Ok-clause-synced : goal.returns-in-Ok-clause-synced
+returns-in-Ok-clause-synced g c =
+    on_ok_weaker c.replace_usage.result (λ synced told. adds_none-then _ _ _ c.in-Ok.ensures.synced (synced told)) c.replace_usage.ensures.synced
+
+pub returns-in-Ok-clause-anew : goal.returns-in-Ok-clause-anew
+returns-in-Ok-clause-anew g c =
+    let S = g.S.Store in
+    on_ok_weaker c.replace_usage.result
+    (λ anew told. anew_since c.args.value.kind c.args.value.kind (λ (f : Format). f ≡ c.args.value.format) (λ (f : Format). f ≡ c.args.value.format)
+    (unwrap_or c.args.from []) c.args.file (S.seen c.args.store.now) (S.seen c.take_usage.new.store) (S.seen c.replace_usage.new.store)
+    c.in-Ok.ensures.leaves refl (λ f is. is) (anew told))
+    c.replace_usage.ensures.anew

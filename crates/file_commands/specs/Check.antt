@@ -1,0 +1,146 @@
+-- `quotacheck`. Source: the manual page of quotacheck; that the usage is read from a listing of inodes, and not from a mounted
+-- file system, is this project's own.
+use Rattle.std.specs.Prelude.{◌≡◌, ◌⊎◌, ℕ, Bool, true, false, nat_lt, IfSome, List, Option, Some, unwrap_or, Result, Ok, Err}
+use Rattle.std.specs.FinMap.{empty, get}
+use Rattle.quota_types.specs.Kept.{IsKept}
+use Rattle.quota_types.specs.Range.{unfit}
+use Rattle.quota_types.specs.declared.field.NoRoom.{NoRoom as NoRoomFor}
+use Rattle.quota_types.specs.declared.file_kind.Format.{Format}
+use Rattle.quota_types.specs.declared.file_kind.Format.TheVariants.{V2R1}
+use Rattle.quota_types.specs.declared.file_kind.Kind.{Kind}
+use Rattle.quota_blocks.specs.QuotaValue.{QuotaValue, Records}
+use Rattle.quota_map.specs.View.{IsOpenedAs, most_blocks}
+use Rattle.inode_scan.specs.Apply.{applied, wanted_record}
+use Rattle.inode_scan.specs.Scan.{scanned}
+use Rattle.inode_scan.specs.Usage.{UsageMap}
+use Rattle.inode_scan.specs.declared.fault.ApplyFault.{ApplyFault}
+use Rattle.inode_scan.specs.declared.fault.ApplyFault.TheVariants.{NoRoom as Unfit, Memory as ApplyWantsMemory}
+use Rattle.inode_scan.specs.declared.fault.ScanFault.{ScanFault}
+use Rattle.inode_scan.specs.declared.used.Used.{Used}
+use Rattle.inode_scan.specs.declared.fault.ScanFault.TheVariants.{Source, TooLarge as PastTotal, BadLine as WrongLine, LongLine as TooLong, Conflict as Conflicting, Memory as ScanWantsMemory}
+use Rattle.refusals.specs.declared.cause.Cause.{Cause}
+use Rattle.refusals.specs.declared.cause.Cause.TheVariants.{SourceFault, Memory, TooLarge, BadLine, LongLine, Conflict, NoRoom}
+use Rattle.command_words.specs.declared.command.Common.{Common}
+use Rattle.run_steps.specs.declared.occasion.Occasion.{Occasion}
+use Rattle.run_steps.specs.Act.{Act}
+use Rattle.run_steps.specs.Opening.{MayRefuseOpening}
+use Rattle.refusals.specs.Outcome.{Outcome, Passed, Refused}
+use Rattle.run_steps.specs.Run.{Uses}
+use Rattle.run_steps.specs.Steps.{DoingAll, Finish, Opening, Steps, Then}
+use Rattle.run_steps.specs.Taking.{AListing, InputMayRefuse, Taking, input_name, reading}
+use Rattle.refusals.specs.Refusals.{refusal_of}
+use Rattle.run_steps.specs.Changing.{blocks_of, edit_uses, written}
+use Rattle.file_commands.specs.FileValue.{WritingMayRefuse}
+
+-- The listing.
+
+-- what is said of a listing that gives no usage, where this is said of what it is read from
+abbrev pub scan_cause : Cause → ScanFault → Cause
+scan_cause failed Source = failed
+scan_cause failed PastTotal = TooLarge
+scan_cause failed (WrongLine line) = BadLine line
+scan_cause failed (TooLong line) = LongLine line
+scan_cause failed (Conflicting line first) = Conflict line first
+scan_cause failed ScanWantsMemory = Memory
+
+-- the step that a listing is which was read so
+abbrev pub scan_outcome : List ℕ → Result UsageMap ScanFault → Outcome UsageMap
+scan_outcome name (Ok usage) = Passed usage
+scan_outcome name (Err fault) = Refused (refusal_of (scan_cause SourceFault fault) name)
+
+-- the step that reads the usage of users or groups from a listing, of one device or of all
+abbrev pub scan_step : Kind → (device : Option ℕ) → Option (List ℕ) → List ℕ → Outcome UsageMap
+scan_step kind device from bytes = scan_outcome (input_name from) (scanned kind device bytes)
+
+-- The new value.
+
+-- a value with these records in place of its own, unless its format has no room
+abbrev pub with_applied : QuotaValue → Result Records NoRoomFor → Result QuotaValue NoRoomFor
+with_applied value (Ok records) = Ok (record value { records = records })
+with_applied value (Err out) = Err out
+
+-- the value with the usage of a listing at this moment, or the first value for which its format has no room
+abbrev pub checked : QuotaValue → UsageMap → (now : ℕ) → Result QuotaValue NoRoomFor
+checked value usage now = with_applied value (applied value.format value.grace now value.records usage)
+
+-- a file of this name stands for a value from then on, where it has room for it
+abbrev pub replaced : List ℕ → Result QuotaValue NoRoomFor → Outcome (List Act)
+replaced name (Ok new) = written name new false (nat_lt most_blocks (blocks_of new))
+replaced name (Err out) = Refused (refusal_of (NoRoom out) name)
+
+-- a file is replaced
+abbrev pub ReplaceSteps : List ℕ → Result QuotaValue NoRoomFor → Steps
+ReplaceSteps file new = Then (replaced file new) (λ (acts : List Act). DoingAll acts Finish)
+
+-- the format of a new file: the one that is asked for, or vfsv1
+abbrev pub new_format : Option Format → Format
+new_format asked = unwrap_or asked V2R1
+
+-- a format is that of a new file, or may be that of one that is opened
+abbrev pub IsFormatOf : (fresh : Bool) → Option Format → Format → Type 0
+IsFormatOf true asked format = format ≡ new_format asked
+IsFormatOf false asked format = IsOpenedAs asked format
+
+-- a new file has no records, no flags, and grace periods of 7 days each
+abbrev pub new_value : Kind → Option Format → QuotaValue
+new_value kind asked =
+    record { kind = kind; format = new_format asked; grace = record { block = 604800; inode = 604800 }; flags = 0; records = empty }
+
+-- The steps.
+
+-- the listing is read, and the file is replaced by one of this value with the usage of the listing
+abbrev pub UsageSteps : Kind → (device : Option ℕ) → Option (List ℕ) → List ℕ → (now : ℕ) → QuotaValue → Steps
+UsageSteps kind device from file now value =
+    Taking from (λ usage. true) (scan_step kind device from) (λ (usage : UsageMap). ReplaceSteps file (checked value usage now))
+
+-- a new file is made, whether there is one of its name or not; or the file is opened, and read whole, before the listing is
+abbrev pub CheckSteps : Common → (fresh : Bool) → (device : Option ℕ) → Option (List ℕ) → List ℕ → Occasion → Steps
+CheckSteps common true device from file occasion =
+    UsageSteps common.kind device from file occasion.now (new_value common.kind common.format)
+CheckSteps common false device from file occasion =
+    Opening common.kind common.format file (UsageSteps common.kind device from file occasion.now)
+
+-- a listing is read from an input, and changes the store as an edit does
+abbrev pub check_uses : Option (List ℕ) → Uses
+check_uses from = reading from (edit_uses false)
+
+-- What is said.
+
+-- what is said where a format has no room for the records, or memory was wanting
+abbrev pub apply_cause : ApplyFault → Cause
+apply_cause (Unfit out) = NoRoom out
+apply_cause ApplyWantsMemory = Memory
+
+-- the format of a value has no room for this value of an identifier's record, once the record has some usage and its timers
+-- are set at some moment
+abbrev pub UsageMayLack : QuotaValue → NoRoomFor → Type 0
+UsageMayLack value out =
+    (used : Option Used) × (now : ℕ)
+    × (unfit value.format out.id (wanted_record value.grace now (get value.records out.id) used) ≡ Some (out.field, out.value))
+
+-- the format of a value has room for each of its records, and keeps it as it is
+abbrev pub HasKept : QuotaValue → Type 0
+HasKept value = (id : ℕ) → IfSome (get value.records id) (IsKept value.format id)
+
+-- the causes for which a file of a value may not be replaced for want of room in the records, with the name that is said
+abbrev pub UnfitMayRefuse : QuotaValue → List ℕ → Cause → List ℕ → Type 0
+UnfitMayRefuse value file (NoRoom out) name = (name ≡ file) × UsageMayLack value out
+UnfitMayRefuse value file _ name = ⊥
+
+-- the causes for which the usage of a listing may not become that of a file of a value, whatever is told
+abbrev pub UsageMayRefuse : QuotaValue → Option (List ℕ) → List ℕ → Cause → List ℕ → Type 0
+UsageMayRefuse value from file cause name =
+    InputMayRefuse AListing from cause name
+    ⊎ (UnfitMayRefuse value file cause name
+    ⊎ WritingMayRefuse value.format file cause name)
+
+-- the same, of a file that is opened
+abbrev pub OpenedMayRefuse : Option Format → Option (List ℕ) → List ℕ → Cause → List ℕ → Type 0
+OpenedMayRefuse asked from file cause name =
+    MayRefuseOpening asked file cause name
+    ⊎ ((value : QuotaValue) × IsOpenedAs asked value.format × HasKept value × UsageMayRefuse value from file cause name)
+
+-- the causes for which the usage of a listing may not become that of a new file or of one that is opened, whatever is told
+abbrev pub CheckMayRefuse : Common → (fresh : Bool) → Option (List ℕ) → List ℕ → Cause → List ℕ → Type 0
+CheckMayRefuse common true from file = UsageMayRefuse (new_value common.kind common.format) from file
+CheckMayRefuse common false from file = OpenedMayRefuse common.format from file

@@ -1,0 +1,36 @@
+-- `repquota`. Source: the manual page of repquota.
+use Rattle.std.specs.Prelude.{◌⊎◌, ℕ, List}
+use Rattle.id_names.specs.FirstMatch.{first_name}
+use Rattle.id_names.specs.NamesFile.{NameLine}
+use Rattle.quota_blocks.specs.QuotaValue.{QuotaValue}
+use Rattle.report_text.specs.declared.fault.ReportFault.{ReportFault}
+use Rattle.report_text.specs.declared.fault.ReportFault.TheVariants.{Sink, File}
+use Rattle.report_text.specs.declared.options.Options.{Options}
+use Rattle.report_text.specs.Report.{report_of}
+use Rattle.refusals.specs.declared.cause.Cause.{Cause}
+use Rattle.refusals.specs.declared.cause.Cause.TheVariants.{SinkFault}
+use Rattle.command_words.specs.declared.command.Common.{Common}
+use Rattle.run_steps.specs.Naming.{NamesMayRefuse}
+use Rattle.run_steps.specs.Opening.{file_cause}
+use Rattle.run_steps.specs.Steps.{Naming, Steps}
+use Rattle.run_steps.specs.declared.occasion.Occasion.{Occasion}
+use Rattle.run_steps.specs.Showing.{ShowingMayRefuse, ShowingSteps}
+
+-- the report of a file of this name on a value, with these names
+abbrev pub report_on : List NameLine → List ℕ → ℕ → Options → QuotaValue → List ℕ
+report_on names file now options value = report_of value (first_name names) file now options
+
+-- the names are read, the file is opened, and its report goes to the output
+abbrev pub ReportSteps : Common → Options → List ℕ → Occasion → Steps
+ReportSteps common options file occasion =
+    Naming common.kind common.names (λ (names : List NameLine).
+    ShowingSteps common.kind common.format file (report_on names file occasion.now options))
+
+-- what is said where a report was not written whole
+abbrev pub report_cause : ReportFault → Cause
+report_cause Sink = SinkFault
+report_cause (File fault) = file_cause fault
+
+-- the causes for which a report may be refused, whatever is told
+abbrev pub ReportMayRefuse : Common → List ℕ → Cause → List ℕ → Type 0
+ReportMayRefuse common file cause name = NamesMayRefuse common.names cause name ⊎ ShowingMayRefuse common.format file cause name

@@ -1,0 +1,181 @@
+ghost use Rattle.std.specs.Prelude.{ℕ, Option, ◌≡◌, ◌⊎◌, Bool, IsSome, IsTrue, OnErr, OnOk, false};
+ghost use Rattle.quota_blocks.specs.Seen.{LinkSeen, SinkSeen, SourceSeen};
+ghost use Rattle.quota_blocks.specs.Unsynced.{AddsNone};
+ghost use Rattle.quota_map.specs.View.{IsOpenedAs};
+ghost use Rattle.run_steps.specs.Done.{seen_of, tells_of};
+ghost use Rattle.run_steps.specs.Run.{CarriesOut};
+ghost use Rattle.run_steps.specs.Steps.{Opening};
+ghost use Rattle.file_commands.specs.Check.{CheckMayRefuse, CheckSteps, IsFormatOf, OpenedMayRefuse, ReplaceSteps, UnfitMayRefuse, UsageMayRefuse, UsageSteps, apply_cause, check_uses, checked};
+ghost use Rattle.run_steps.specs.Changing.{edit_uses};
+ghost use Rattle.file_commands.specs.FileValue.{IsInOrder, IsMadeAnew, WritingMayRefuse, value_in};
+
+use crate::file_value::{FileValue, read_value, write_value};
+use crate::listing_input::take_usage;
+use command_words::Common;
+use inode_scan::{ApplyFault, Usage, apply};
+use quota_blocks::{Source, Store};
+use quota_map::open_file;
+use quota_types::{Format, Kind};
+use refusals::{Cause, Refusal, Word};
+use run_steps::{file_cause, opening_cause};
+use std::alloc::Global;
+
+/// Sets the usage in a quota file, or in a new one, to what a listing of inodes tells. The moment is in seconds since 1970.
+///
+/// # Errors
+///
+/// The file is not opened or not read, the listing is not read, the format has no room for a value, or the file is not
+/// replaced.
+pub fn check_file<S: Store, I: Source>(
+    alloc: Global,
+    common: Common,
+    fresh: bool,
+    device: Option<u64>,
+    from: Option<Word>,
+    file: Word,
+    store: &mut S,
+    input: &mut I,
+    now: u64,
+) -> Result<(), Refusal>
+    ensures carries { (out err : SinkSeen) (link : LinkSeen) (out_tells err_tells link_tells : Bool) (line : Option ℕ)
+        → CarriesOut (CheckSteps common fresh device from file (record { now = now; line = line })) (check_uses from)
+        (CheckMayRefuse common fresh from file)
+        (tells_of S.tells I.tells out_tells err_tells link_tells)
+        (seen_of (S.seen store.old) (I.seen input.old) out err link)
+        (seen_of (S.seen store.new) (I.seen input.new) out err link) result }
+    // The file is always made anew, also where nothing changes.
+    ensures anew { OnOk result (IsTrue S.tells → IsMadeAnew common.kind (IsFormatOf fresh common.format) file
+        (S.seen store.old).files (S.seen store.new).files) }
+    // Where it was refused, for whichever cause, the file is as it was.
+    ensures named { OnErr result ((S.seen store.new).files file ≡ (S.seen store.old).files file) }
+    // Where it was done, what was written has been synced.
+    ensures synced { OnOk result (IsTrue S.tells
+        → AddsNone (S.seen store.old).unsynced (S.seen store.new).unsynced) }
+    ensures untouched { IsSome from → input.new ≡ input.old }
+    ensures keeps { I.keeps false input.old input.new }
+{
+    let Common { kind, format, .. } = common;
+    if fresh {
+        let value = FileValue::new(alloc, kind, format);
+        check_value(alloc, value, device, from, file, store, input, now)
+    } else {
+        check_opened(alloc, kind, format, device, from, file, store, input, now)
+    }
+}
+
+/// The same, of a file that is there.
+fn check_opened<S: Store, I: Source>(
+    alloc: Global,
+    kind: Kind,
+    format: Option<Format>,
+    device: Option<u64>,
+    from: Option<Word>,
+    file: Word,
+    store: &mut S,
+    input: &mut I,
+    now: u64,
+) -> Result<(), Refusal>
+    ensures carries { (out err : SinkSeen) (link : LinkSeen) (out_tells err_tells link_tells : Bool)
+        → CarriesOut (Opening kind format file (UsageSteps kind device from file now)) (check_uses from)
+        (OpenedMayRefuse format from file)
+        (tells_of S.tells I.tells out_tells err_tells link_tells)
+        (seen_of (S.seen store.old) (I.seen input.old) out err link)
+        (seen_of (S.seen store.new) (I.seen input.new) out err link) result }
+    ensures anew { OnOk result (IsTrue S.tells → IsMadeAnew kind (IsOpenedAs format) file
+        (S.seen store.old).files (S.seen store.new).files) }
+    ensures named { OnErr result ((S.seen store.new).files file ≡ (S.seen store.old).files file) }
+    ensures synced { OnOk result (IsTrue S.tells
+        → AddsNone (S.seen store.old).unsynced (S.seen store.new).unsynced) }
+    ensures untouched { IsSome from → input.new ≡ input.old }
+    ensures keeps { I.keeps false input.old input.new }
+{
+    match open_file(alloc, store, file.as_str(), kind, format) {
+        Ok(opened) => match read_value(alloc, kind, opened, store) {
+            Ok(value) => check_value(alloc, value, device, from, file, store, input, now),
+            Err(fault) => Err(Refusal::of(file_cause(fault), file)),
+        },
+        Err(fault) => Err(Refusal::of(opening_cause(fault), file)),
+    }
+}
+
+/// Reads a listing, and puts a file of the value with the usage of the listing in the place of the one of this name.
+fn check_value<S: Store, I: Source>(
+    alloc: Global,
+    value: FileValue,
+    device: Option<u64>,
+    from: Option<Word>,
+    file: Word,
+    store: &mut S,
+    input: &mut I,
+    now: u64,
+) -> Result<(), Refusal>
+    requires { IsInOrder value }
+    ensures carries { (out err : SinkSeen) (link : LinkSeen) (out_tells err_tells link_tells : Bool)
+        → CarriesOut (UsageSteps value.kind device from file now (value_in value)) (check_uses from)
+        (UsageMayRefuse (value_in value) from file)
+        (tells_of S.tells I.tells out_tells err_tells link_tells)
+        (seen_of (S.seen store.old) (I.seen input.old) out err link)
+        (seen_of (S.seen store.new) (I.seen input.new) out err link) result }
+    ensures anew { OnOk result (IsTrue S.tells → IsMadeAnew value.kind (λ format. format ≡ value.format) file
+        (S.seen store.old).files (S.seen store.new).files) }
+    ensures named { OnErr result ((S.seen store.new).files file ≡ (S.seen store.old).files file) }
+    ensures synced { OnOk result (IsTrue S.tells
+        → AddsNone (S.seen store.old).unsynced (S.seen store.new).unsynced) }
+    ensures untouched { IsSome from → input.new ≡ input.old }
+    ensures keeps { I.keeps false input.old input.new }
+{
+    match take_usage(alloc, value.kind, device, from, store, input) {
+        Ok(usage) => replace_usage(alloc, value, usage, file, store, now),
+        Err(refusal) => Err(refusal),
+    }
+}
+
+/// Puts a file of the value with this usage in the place of the one of this name.
+fn replace_usage<S: Store>(
+    alloc: Global,
+    mut value: FileValue,
+    usage: Usage,
+    file: Word,
+    store: &mut S,
+    now: u64,
+) -> Result<(), Refusal>
+    requires { IsInOrder value }
+    ensures carries { (input : SourceSeen) (out err : SinkSeen) (link : LinkSeen) (input_tells out_tells err_tells link_tells : Bool)
+        → CarriesOut (ReplaceSteps file (checked (value_in value) usage now)) (edit_uses false)
+        (λ cause name. UnfitMayRefuse (value_in value) file cause name ⊎ WritingMayRefuse value.format file cause name)
+        (tells_of S.tells input_tells out_tells err_tells link_tells)
+        (seen_of (S.seen store.old) input out err link)
+        (seen_of (S.seen store.new) input out err link) result }
+    ensures anew { OnOk result (IsTrue S.tells → IsMadeAnew value.kind (λ format. format ≡ value.format) file
+        (S.seen store.old).files (S.seen store.new).files) }
+    ensures named { OnErr result ((S.seen store.new).files file ≡ (S.seen store.old).files file) }
+    ensures synced { OnOk result (IsTrue S.tells
+        → AddsNone (S.seen store.old).unsynced (S.seen store.new).unsynced) }
+{
+    match apply(
+        alloc,
+        value.entries.as_slice(),
+        &usage,
+        value.format,
+        value.grace,
+        now,
+    ) {
+        Ok(entries) => {
+            // what is not needed any more is let go before the file is built
+            drop(usage);
+            value.entries = entries;
+            write_value(alloc, &value, file, store)
+        }
+        Err(fault) => Err(Refusal::of(apply_cause(fault), file)),
+    }
+}
+
+/// What is said where the records with the usage of a listing have no room, or memory was wanting.
+fn apply_cause(fault: ApplyFault) -> Cause
+    ensures { result ≡ apply_cause fault }
+{
+    match fault {
+        ApplyFault::NoRoom(out) => Cause::NoRoom(out),
+        ApplyFault::Memory => Cause::Memory,
+    }
+}

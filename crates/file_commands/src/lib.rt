@@ -1,0 +1,12 @@
+//! The commands over whole files: `repquota` and `quotacheck`.
+//!
+//! The one promise: each of them carries out its steps.
+#![tactic(auto)]
+
+mod check;
+mod file_value;
+mod listing_input;
+mod report;
+
+pub use check::check_file;
+pub use report::report_file;

@@ -1,0 +1,155 @@
+ghost use Rattle.std.specs.Prelude.{◌≡◌, ◌≤◌, [], false, IfErr, IfOk, IsSome, IsTrue, None, OnOk, Some, unwrap_or};
+ghost use Rattle.quota_blocks.specs.Behind.{IsBehind};
+ghost use Rattle.quota_blocks.specs.Count.{Rose};
+ghost use Rattle.quota_blocks.specs.Frame.{OnlyReads};
+ghost use Rattle.quota_blocks.specs.StoreInput.{left_from};
+ghost use Rattle.quota_blocks.specs.Unsynced.{AddsNone};
+ghost use Rattle.refusals.specs.Outcome.{Passed};
+ghost use Rattle.run_steps.specs.Taking.{AListing, InputMayRefuse, IsInputFault, file_said, input_said};
+ghost use Rattle.file_commands.specs.Check.{scan_cause, scan_step};
+ghost use Rattle.refusals.specs.declared.cause.Cause.TheVariants.{StoreFault as StoreFailed};
+ghost use Rattle.refusals.specs.Refusals.{nowhere, refusal_of};
+
+use inode_scan::{ScanFault, Usage, scan};
+use quota_blocks::{Source, Store, StoreInput, StoreSource};
+use quota_types::Kind;
+use refusals::{Cause, Refusal, Word};
+use std::alloc::Global;
+
+/// The usage of users or groups that a listing tells, of one device or of all. It stands in the file of this name, or in the
+/// input where no file is named.
+///
+/// # Errors
+///
+/// The file is not there; a line is bad, too long, or conflicts with an earlier one; the listing is too large; the store or
+/// the input failed; or there is not enough memory.
+pub fn take_usage<S: Store, I: Source>(
+    alloc: Global,
+    kind: Kind,
+    device: Option<u64>,
+    from: Option<Word>,
+    store: &mut S,
+    input: &mut I,
+) -> Result<Usage, Refusal>
+    ensures read { IfOk result (λ usage. IsTrue S.tells → IsTrue I.tells
+        → input_said from (scan_step kind device from) (S.seen store.old).files (I.seen input.old).left ≡ Passed usage) }
+    ensures ended { OnOk result (from ≡ None → IsTrue I.tells → (I.seen input.new).left ≡ []) }
+    ensures behind { IsTrue I.tells → IsBehind (I.seen input.old).left (I.seen input.new).left }
+    ensures untouched { IsSome from → input.new ≡ input.old }
+    ensures refused { IfErr result (λ refusal. IsInputFault (Rose (S.seen store.old).faults (S.seen store.new).faults)
+        (Rose (I.seen input.old).faults (I.seen input.new).faults) (IsTrue S.tells × IsTrue I.tells)
+        (input_said from (scan_step kind device from) (S.seen store.old).files (I.seen input.old).left) refusal refusal.cause) }
+    ensures may { IfErr result (λ refusal. InputMayRefuse AListing from refusal.cause refusal.name) }
+    ensures placed { IfErr result (λ refusal. refusal.place ≡ nowhere) }
+    ensures leaves { OnlyReads (unwrap_or from []) (S.seen store.old) (S.seen store.new) }
+    ensures synced { OnOk result (AddsNone (S.seen store.old).unsynced (S.seen store.new).unsynced) }
+    ensures later { (I.seen input.old).faults ≤ (I.seen input.new).faults }
+    ensures keeps { I.keeps false input.old input.new }
+{
+    match from {
+        Some(name) => scan_file(alloc, kind, device, name, store),
+        None => scan_input(alloc, kind, device, input),
+    }
+}
+
+/// The usage that a listing in the input tells.
+fn scan_input<I: Source>(
+    alloc: Global,
+    kind: Kind,
+    device: Option<u64>,
+    input: &mut I,
+) -> Result<Usage, Refusal>
+    ensures read { IfOk result (λ usage. IsTrue I.tells → scan_step kind device None (I.seen input.old).left ≡ Passed usage) }
+    ensures ended { OnOk result (IsTrue I.tells → (I.seen input.new).left ≡ []) }
+    ensures behind { IsTrue I.tells → IsBehind (I.seen input.old).left (I.seen input.new).left }
+    ensures refused { IfErr result (λ refusal. IsInputFault ⊥
+        (Rose (I.seen input.old).faults (I.seen input.new).faults) (IsTrue I.tells)
+        (scan_step kind device None (I.seen input.old).left) refusal refusal.cause) }
+    ensures may { IfErr result (λ refusal. InputMayRefuse AListing None refusal.cause refusal.name) }
+    ensures placed { IfErr result (λ refusal. refusal.place ≡ nowhere) }
+    ensures later { (I.seen input.old).faults ≤ (I.seen input.new).faults }
+    ensures keeps { I.keeps false input.old input.new }
+{
+    match scan(alloc, input, kind, device) {
+        Ok(usage) => Ok(usage),
+        Err(fault) => Err(Refusal::of(scan_cause(Cause::SourceFault, fault), Word::empty(alloc))),
+    }
+}
+
+/// The usage that a listing in a file tells.
+fn scan_file<S: Store>(
+    alloc: Global,
+    kind: Kind,
+    device: Option<u64>,
+    name: Word,
+    store: &mut S,
+) -> Result<Usage, Refusal>
+    ensures read { IfOk result (λ usage. IsTrue S.tells
+        → file_said name (scan_step kind device (Some name)) ((S.seen store.old).files name) ≡ Passed usage) }
+    ensures refused { IfErr result (λ refusal. IsInputFault
+        (Rose (S.seen store.old).faults (S.seen store.new).faults) ⊥ (IsTrue S.tells)
+        (file_said name (scan_step kind device (Some name)) ((S.seen store.old).files name)) refusal refusal.cause) }
+    ensures may { IfErr result (λ refusal. InputMayRefuse AListing (Some name) refusal.cause refusal.name) }
+    ensures placed { IfErr result (λ refusal. refusal.place ≡ nowhere) }
+    ensures leaves { OnlyReads name (S.seen store.old) (S.seen store.new) }
+    ensures synced { OnOk result (AddsNone (S.seen store.old).unsynced (S.seen store.new).unsynced) }
+{
+    match store.size(name.as_str()) {
+        Ok(Some(_)) => scan_there(alloc, kind, device, name, store),
+        Ok(None) => Err(Refusal::of(Cause::NoFile, name)),
+        Err(_) => Err(Refusal::of(Cause::StoreFault, name)),
+    }
+}
+
+/// The same, of a file that is there.
+fn scan_there<S: Store>(
+    alloc: Global,
+    kind: Kind,
+    device: Option<u64>,
+    name: Word,
+    store: &mut S,
+) -> Result<Usage, Refusal>
+    ensures read { IfOk result (λ usage. IsTrue S.tells
+        → scan_step kind device (Some name) (left_from ((S.seen store.old).files name) 0) ≡ Passed usage) }
+    ensures refused { IfErr result (λ refusal. IsInputFault
+        (Rose (S.seen store.old).faults (S.seen store.new).faults) ⊥ (IsTrue S.tells)
+        (scan_step kind device (Some name) (left_from ((S.seen store.old).files name) 0)) refusal refusal.cause) }
+    ensures may { IfErr result (λ refusal. InputMayRefuse AListing (Some name) refusal.cause refusal.name) }
+    ensures placed { IfErr result (λ refusal. refusal.place ≡ nowhere) }
+    ensures leaves { OnlyReads name (S.seen store.old) (S.seen store.new) }
+    ensures synced { OnOk result (AddsNone (S.seen store.old).unsynced (S.seen store.new).unsynced) }
+{
+    let mut source = StoreSource {
+        name: name.into_string(),
+        at: 0,
+    };
+    let mut input = StoreInput {
+        source: &mut source,
+        store,
+    };
+    match scan(alloc, &mut input, kind, device) {
+        Ok(usage) => Ok(usage),
+        Err(fault) => Err(listing_refusal(fault, Word::of(source.name))),
+    }
+}
+
+/// The refusal of a listing in the file of this name.
+fn listing_refusal(fault: ScanFault, name: Word) -> Refusal
+    ensures { result ≡ refusal_of (scan_cause StoreFailed fault) name }
+{
+    Refusal::of(scan_cause(Cause::StoreFault, fault), name)
+}
+
+/// What is said of a listing that gives no usage, where this is said of what it is read from.
+fn scan_cause(failed: Cause, fault: ScanFault) -> Cause
+    ensures { result ≡ scan_cause failed fault }
+{
+    match fault {
+        ScanFault::Source => failed,
+        ScanFault::TooLarge => Cause::TooLarge,
+        ScanFault::BadLine(line) => Cause::BadLine(line),
+        ScanFault::LongLine(line) => Cause::LongLine(line),
+        ScanFault::Conflict { line, first } => Cause::Conflict { line, first },
+        ScanFault::Memory => Cause::Memory,
+    }
+}

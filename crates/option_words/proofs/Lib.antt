@@ -1,0 +1,4 @@
+pub mod ItemLemmas
+pub mod KeepLemmas
+pub mod LetterLemmas
+pub mod TableLemmas

@@ -1,0 +1,9 @@
+pub mod Fault
+pub mod FileName
+pub mod Given
+pub mod Items
+pub mod Parts
+pub mod Reads
+pub mod Switches
+pub mod Tools
+pub mod Values

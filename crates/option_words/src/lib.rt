@@ -1,0 +1,23 @@
+//! The words of a command line as options with their values, and operands.
+//!
+//! The one promise: what words give, and the first fault among them, are those of the items that they say.
+#![tactic(auto)]
+
+mod export;
+mod fault;
+mod file_name;
+mod given;
+mod parts;
+mod scan;
+mod switch;
+mod tool;
+mod values;
+
+pub use export::{Export, ExportList};
+pub use fault::Fault;
+pub use file_name::is_file_name;
+pub use given::{Conversion, ExportWords, Given};
+pub use scan::{OperandWord, Scan, scan_words};
+pub use switch::{Flag, Flags, Setting, Switch};
+pub use tool::Tool;
+pub use values::lines_of;

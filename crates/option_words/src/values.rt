@@ -1,0 +1,100 @@
+ghost use Rattle.std.specs.Prelude.{◌≡◌, ◌≤◌, IfSome};
+ghost use Rattle.option_words.specs.Values.{conversion, conversion_of, format_of, is_export_path, kind_of, number_within};
+
+use crate::Conversion;
+use crate::parts::parted;
+use quota_types::{Format, Kind};
+use set_edit::read_number;
+
+/// The format of a name.
+pub fn format_of(word: &str) -> Option<Format>
+    ensures { result ≡ format_of word.now }
+{
+    match word {
+        "vfsold" => Some(Format::V1),
+        "vfsv0" => Some(Format::V2R0),
+        "vfsv1" => Some(Format::V2R1),
+        _ => None,
+    }
+}
+
+/// The kind of files that is exported under a word.
+pub fn kind_of(word: &str) -> Option<Kind>
+    ensures { result ≡ kind_of word.now }
+{
+    match word {
+        "user" => Some(Kind::User),
+        "group" => Some(Kind::Group),
+        _ => None,
+    }
+}
+
+/// The old and the new format, with a comma between them.
+pub fn conversion_of(word: &str) -> Option<Conversion>
+    ensures { result ≡ conversion_of word.now }
+{
+    match parted(word, b',') {
+        Some((old, new)) => conversion(format_of(old), format_of(new)),
+        None => None,
+    }
+}
+
+/// The formats of a conversion.
+fn conversion(old: Option<Format>, new: Option<Format>) -> Option<Conversion>
+    ensures { result ≡ conversion old new }
+{
+    match (old, new) {
+        (Some(old), Some(new)) => Some(Conversion { old, new }),
+        _ => None,
+    }
+}
+
+/// How many calls a word asks for.
+pub fn calls_of(word: &str) -> Option<u32>
+    ensures { result ≡ number_within 1 4294967295 word.now }
+{
+    match number_within(1, 4_294_967_295, word) {
+        Some(calls) => Some(calls as u32),
+        None => None,
+    }
+}
+
+/// The port that a word names.
+pub fn port_of(word: &str) -> Option<u16>
+    ensures { result ≡ number_within 0 65535 word.now }
+{
+    match number_within(0, 65_535, word) {
+        Some(port) => Some(port as u16),
+        None => None,
+    }
+}
+
+/// How many lines a word asks for.
+pub fn lines_of(word: &str) -> Option<u32>
+    ensures { result ≡ number_within 1 1000000 word.now }
+{
+    match number_within(1, 1_000_000, word) {
+        Some(lines) => Some(lines as u32),
+        None => None,
+    }
+}
+
+/// The number that a word spells, where it is from one number to another.
+fn number_within(low: u64, high: u64, word: &str) -> Option<u64>
+    ensures number { result ≡ number_within low high word.now }
+    ensures high { IfSome result (λ number. number ≤ high) }
+{
+    let number = read_number(word)?;
+    if low <= number && number <= high {
+        Some(number)
+    } else {
+        None
+    }
+}
+
+/// Whether files can be exported under a path.
+pub fn is_export_path(path: &str) -> bool
+    ensures { result ≡ is_export_path path.now }
+{
+    !path.is_empty() && path.len() <= 1024
+}

@@ -1,0 +1,127 @@
+//! The commands, one module each, behind one contract that all of them share.
+ghost use Rattle.std.specs.Prelude.{ℕ, Option, ◌≡◌, ◌⊎◌, Bool, false, None, Some, Err, IsErrAnd, IsTrue, IfSome, OnOk, OnErr};
+ghost use Rattle.quota_blocks.specs.Unsynced.{AddsNone};
+ghost use Rattle.run_steps.specs.Done.{seen_of, tells_of};
+ghost use Rattle.run_steps.specs.Run.{CarriesOut};
+ghost use Rattle.command_words.specs.Built.{is_built};
+ghost use Rattle.quota_cli.specs.Table.{MayRefuseCommand, StepsOf, faulty_word, replaced_file, uses_of};
+ghost use Rattle.refusals.specs.declared.reason.Refusal.{Refusal};
+
+use command_words::Command;
+use edit_commands::{EditWords, apply_by_word, apply_lines, edit_by_words, print_by_word};
+use file_commands::{check_file, report_file};
+use quota_blocks::{Link, Sink, Source, Store};
+use refusals::Refusal;
+use run_steps::Occasion;
+use std::alloc::Global;
+
+/// Carries out a command, but for its error line.
+///
+/// # Errors
+///
+/// The command is refused at one of its steps, an object outside fails, or there is not enough memory.
+pub fn carry_out<S: Store, I: Source, O: Sink, E: Sink, L: Link>(
+    alloc: Global,
+    command: Command,
+    store: &mut S,
+    input: &mut I,
+    out: &mut O,
+    err: &mut E,
+    link: &mut L,
+    occasion: Occasion,
+) -> Result<(), Refusal>
+    requires { IsTrue (is_built command) }
+    ensures carries { CarriesOut (StepsOf command occasion) (uses_of command) (MayRefuseCommand command)
+        (tells_of S.tells I.tells O.tells E.tells L.tells)
+        (seen_of (S.seen store.old) (I.seen input.old) (O.seen out.old) (E.seen err.old) (L.seen link.old))
+        (seen_of (S.seen store.new) (I.seen input.new) (O.seen out.new) (E.seen err.new) (L.seen link.new)) result }
+    ensures word { (refusal : Refusal) → faulty_word command ≡ Some refusal → result ≡ Err refusal }
+    ensures named { IfSome (replaced_file command) (λ file. OnErr result (IsTrue S.tells
+        → (S.seen store.new).files file ≡ (S.seen store.old).files file)) }
+    ensures synced { OnOk result (IsTrue S.tells
+        → AddsNone (S.seen store.old).unsynced (S.seen store.new).unsynced) }
+    ensures store { (refusal : Refusal) → faulty_word command ≡ Some refusal → store.new ≡ store.old }
+    ensures input { (uses_of command).input ≡ false → input.new ≡ input.old }
+    ensures keeps { I.keeps false input.old input.new }
+    ensures out { (uses_of command).out ≡ false → out.new ≡ out.old }
+    ensures err { (uses_of command).warns ≡ false → err.new ≡ err.old }
+    ensures quiet { (refusal : Refusal) → faulty_word command ≡ Some refusal → err.new ≡ err.old }
+    ensures link { (uses_of command).link ≡ false → link.new ≡ link.old }
+{
+    match command {
+        Command::Report {
+            common,
+            options,
+            file,
+        } => report_file(alloc, common, &options, file, store, out, occasion.now),
+        Command::SetLimits {
+            common,
+            name,
+            limits,
+            file,
+        } => {
+            let words = EditWords::Limits { name, limits };
+            edit_by_words(alloc, common, words, file, store, err, occasion)
+        }
+        Command::CopyLimits {
+            common,
+            proto,
+            name,
+            file,
+        } => {
+            let words = EditWords::Copy { proto, name };
+            edit_by_words(alloc, common, words, file, store, err, occasion)
+        }
+        Command::SetGrace {
+            common,
+            block,
+            inode,
+            file,
+        } => {
+            let words = EditWords::Grace { block, inode };
+            edit_by_words(alloc, common, words, file, store, err, occasion)
+        }
+        Command::SetTimes {
+            common,
+            name,
+            block,
+            inode,
+            file,
+        } => {
+            let words = EditWords::Times { name, block, inode };
+            edit_by_words(alloc, common, words, file, store, err, occasion)
+        }
+        Command::Batch {
+            common,
+            input: from,
+            file,
+        } => apply_lines(alloc, common, from, file, store, input, occasion.now),
+        Command::PrintForm { common, name, file } => {
+            print_by_word(alloc, common, name, file, store, out)
+        }
+        Command::ApplyForm {
+            common,
+            input: from,
+            name,
+            file,
+        } => apply_by_word(alloc, common, from, name, file, store, input, err, occasion),
+        Command::Check {
+            common,
+            fresh,
+            device,
+            input: from,
+            file,
+        } => check_file(
+            alloc,
+            common,
+            fresh,
+            device,
+            from,
+            file,
+            store,
+            input,
+            occasion.now,
+        ),
+        _ => unreachable!(),
+    }
+}

@@ -1,0 +1,180 @@
+-- Acts in a row, and acts that were done in part.
+use Rattle.std.proofs.Common.{◌≡◌, ℕ, Bool, false, IsTrue, List, [], ◌∷◌, ◌++◌, take, Option, None, Some, refl, sym, ap, subst, ◌∙◌, append_assoc, append-nil}
+use Rattle.std.proofs.lemmas.Bool.{false≢true}
+use Rattle.quota_blocks.specs.Seen.{SinkSeen}
+use Rattle.quota_blocks.specs.Text.{AppendsPrefix}
+use Rattle.quota_blocks.specs.World.{World}
+use Rattle.refusals.specs.declared.reason.Refusal.{Refusal}
+use Rattle.refusals.specs.Line.{closing_line, error_line}
+use Rattle.run_steps.specs.Act.{Act, ToOut, ToErr, Answer, Change, ChangesNone, Follows, FollowsInPart, answers, err_bytes, out_bytes}
+use Rattle.run_steps.specs.Done.{AreDone, AreDoneInPart, RunSeen, RunTells}
+use Rattle.run_steps.specs.Steps.{closing}
+
+pub out_bytes-append : (acts more : List Act) → out_bytes (acts ++ more) ≡ out_bytes acts ++ out_bytes more
+out_bytes-append [] more = refl
+out_bytes-append (ToOut bytes ∷ acts) more = ap (λ (b : List ℕ). bytes ++ b) (out_bytes-append acts more) ∙ sym (append_assoc bytes (out_bytes acts) (out_bytes more))
+out_bytes-append (ToErr bytes ∷ acts) more = out_bytes-append acts more
+out_bytes-append (Answer bytes ∷ acts) more = out_bytes-append acts more
+out_bytes-append (Change name value ∷ acts) more = out_bytes-append acts more
+
+pub err_bytes-append : (acts more : List Act) → err_bytes (acts ++ more) ≡ err_bytes acts ++ err_bytes more
+err_bytes-append [] more = refl
+err_bytes-append (ToOut bytes ∷ acts) more = err_bytes-append acts more
+err_bytes-append (ToErr bytes ∷ acts) more = ap (λ (b : List ℕ). bytes ++ b) (err_bytes-append acts more) ∙ sym (append_assoc bytes (err_bytes acts) (err_bytes more))
+err_bytes-append (Answer bytes ∷ acts) more = err_bytes-append acts more
+err_bytes-append (Change name value ∷ acts) more = err_bytes-append acts more
+
+pub answers-append : (acts more : List Act) → answers (acts ++ more) ≡ answers acts ++ answers more
+answers-append [] more = refl
+answers-append (ToOut bytes ∷ acts) more = answers-append acts more
+answers-append (ToErr bytes ∷ acts) more = answers-append acts more
+answers-append (Answer bytes ∷ acts) more = ap (λ (b : List (List ℕ)). bytes ∷ b) (answers-append acts more)
+answers-append (Change name value ∷ acts) more = answers-append acts more
+
+-- where more acts change no file, the first ones change none
+pub changes_none_before : (acts more : List Act) → ChangesNone (acts ++ more) → ChangesNone acts
+changes_none_before [] more none = tt
+changes_none_before (ToOut bytes ∷ acts) more none = changes_none_before acts more none
+changes_none_before (ToErr bytes ∷ acts) more none = changes_none_before acts more none
+changes_none_before (Answer bytes ∷ acts) more none = changes_none_before acts more none
+changes_none_before (Change name value ∷ acts) more none = none
+
+-- files that follow an act and then others
+pub follows-append : (acts more : List Act) (old middle new : World) → Follows acts old middle → Follows more middle new → Follows (acts ++ more) old new
+follows-append [] more old middle new same then = subst (λ (w : World). Follows more w new) same then
+follows-append (act ∷ acts) more old middle new first then = (first.0, first.1, follows-append acts more first.0 middle new first.2 then)
+
+-- an error line leaves the files
+pub follows_closing : (refusal : Option Refusal) (files : World) → Follows (closing refusal) files files
+follows_closing None files = refl
+follows_closing (Some refusal) files = (files, refl, refl)
+
+pub out_bytes-closing : (refusal : Option Refusal) → out_bytes (closing refusal) ≡ []
+out_bytes-closing None = refl
+out_bytes-closing (Some refusal) = refl
+
+pub err_bytes-closing : (refusal : Option Refusal) → err_bytes (closing refusal) ≡ closing_line refusal
+err_bytes-closing None = refl
+err_bytes-closing (Some refusal) = append-nil (error_line refusal)
+
+pub answers-closing : (refusal : Option Refusal) → answers (closing refusal) ≡ []
+answers-closing None = refl
+answers-closing (Some refusal) = refl
+
+-- files that are as they were follow any acts of which none was begun
+pub none_in_part : (acts : List Act) (old new : World) → new ≡ old → FollowsInPart acts old new
+none_in_part [] old new same = same
+none_in_part (ToOut bytes ∷ acts) old new same = same
+none_in_part (ToErr bytes ∷ acts) old new same = same
+none_in_part (Answer bytes ∷ acts) old new same = same
+none_in_part (Change name value ∷ acts) old new same = (ap (λ (w : World). w name) same, λ other differ differs. ap (λ (w : World). w other) same)
+
+-- nothing is a prefix of all bytes
+pub appends_nothing : (old new bytes : List ℕ) → new ≡ old → AppendsPrefix old new bytes
+appends_nothing old new bytes same = record { done = []; rest = bytes; appended = same ∙ sym (append-nil old); prefix = refl }
+
+-- no act was begun
+pub nothing_done : (tells : RunTells) (acts : List Act) (old new : RunSeen) → new.store.files ≡ old.store.files → (IsTrue tells.out → new.out.written ≡ old.out.written)
+    → (IsTrue tells.err → new.err.written ≡ old.err.written) → new.link.answers ≡ old.link.answers → new.store.writes ≡ old.store.writes → AreDoneInPart tells acts old new
+nothing_done tells acts old new files out err sent writes = record {
+  done = [];
+  rest = acts;
+  whole = refl;
+  files = (old.store.files, refl, none_in_part acts old.store.files new.store.files files);
+  out = λ told. appends_nothing (old.out.written ++ []) new.out.written (out_bytes (take 1 acts)) (out told ∙ sym (append-nil old.out.written));
+  err = λ told. appends_nothing (old.err.written ++ []) new.err.written (err_bytes (take 1 acts)) (err told ∙ sym (append-nil old.err.written));
+  answered = sent ∙ sym (append-nil old.link.answers);
+  writes = λ none. writes;
+}
+
+-- all acts were done
+pub all_done : (tells : RunTells) (acts : List Act) (old new : RunSeen) → AreDone tells acts old new → AreDoneInPart tells acts old new
+all_done tells acts old new are = record {
+  done = acts;
+  rest = [];
+  whole = sym (append-nil acts);
+  files = (new.store.files, are.files, refl);
+  out = λ told. appends_nothing (old.out.written ++ out_bytes acts) new.out.written [] (are.out told);
+  err = λ told. appends_nothing (old.err.written ++ err_bytes acts) new.err.written [] (are.err told);
+  answered = are.answered;
+  writes = λ none. are.writes (changes_none_before acts [] none);
+}
+
+-- files of which more acts were to follow
+more_in_part : (rest more : List Act) (middle new : World) → FollowsInPart rest middle new → FollowsInPart (rest ++ more) middle new
+more_in_part [] more middle new same = none_in_part more middle new same
+more_in_part (ToOut bytes ∷ rest) more middle new same = same
+more_in_part (ToErr bytes ∷ rest) more middle new same = same
+more_in_part (Answer bytes ∷ rest) more middle new same = same
+more_in_part (Change name value ∷ rest) more middle new kept = kept
+
+-- what is nothing together is nothing
+pub nothing_before : (done rest : List ℕ) → done ++ rest ≡ [] → done ≡ []
+nothing_before [] rest is = refl
+nothing_before (b ∷ done) rest is = absurd (cc)
+
+none_appended : (old new : List ℕ) → AppendsPrefix old new [] → new ≡ old
+none_appended old new p = p.appended ∙ ap (λ (b : List ℕ). old ++ b) (nothing_before p.done p.rest p.prefix) ∙ append-nil old
+
+first_out : (rest more : List Act) (old new : List ℕ) → AppendsPrefix old new (out_bytes (take 1 rest)) → AppendsPrefix old new (out_bytes (take 1 (rest ++ more)))
+first_out [] more old new p = appends_nothing old new (out_bytes (take 1 more)) (none_appended old new p)
+first_out (act ∷ rest) more old new p = p
+
+first_err : (rest more : List Act) (old new : List ℕ) → AppendsPrefix old new (err_bytes (take 1 rest)) → AppendsPrefix old new (err_bytes (take 1 (rest ++ more)))
+first_err [] more old new p = appends_nothing old new (err_bytes (take 1 more)) (none_appended old new p)
+first_err (act ∷ rest) more old new p = p
+
+first_none : (done rest more : List Act) → ChangesNone (done ++ take 1 (rest ++ more)) → ChangesNone (done ++ take 1 rest)
+first_none done [] more none = subst (λ (acts : List Act). ChangesNone acts) (sym (append-nil done)) (changes_none_before done (take 1 more) none)
+first_none done (act ∷ rest) more none = none
+
+-- acts that were done in part are some of more acts
+pub part_of_more : (tells : RunTells) (acts more : List Act) (old new : RunSeen) → AreDoneInPart tells acts old new → AreDoneInPart tells (acts ++ more) old new
+part_of_more tells acts more old new part = record {
+  done = part.done;
+  rest = part.rest ++ more;
+  whole = ap (λ (a : List Act). a ++ more) part.whole ∙ append_assoc part.done part.rest more;
+  files = (part.files.0, part.files.1, more_in_part part.rest more part.files.0 new.store.files part.files.2);
+  out = λ told. first_out part.rest more (old.out.written ++ out_bytes part.done) new.out.written (part.out told);
+  err = λ told. first_err part.rest more (old.err.written ++ err_bytes part.done) new.err.written (part.err told);
+  answered = part.answered;
+  writes = λ none. part.writes (first_none part.done part.rest more none);
+}
+
+-- what is said does not count where the error output is left out
+pub part_but_err : (tells : RunTells) (acts : List Act) (old new : RunSeen) (said : SinkSeen) → AreDoneInPart tells acts old new
+    → AreDoneInPart (record tells { err = false }) acts old (record new { err = said })
+part_but_err tells acts old new said part = record {
+  done = part.done;
+  rest = part.rest;
+  whole = part.whole;
+  files = part.files;
+  out = part.out;
+  err = λ told. absurd (false≢true told);
+  answered = part.answered;
+  writes = part.writes;
+}
+
+pub more_out : (refusal : Option Refusal) (acts : List Act) → out_bytes (acts ++ closing refusal) ≡ out_bytes acts
+more_out refusal acts =
+    out_bytes-append acts (closing refusal) ∙ ap (λ (b : List ℕ). out_bytes acts ++ b) (out_bytes-closing refusal) ∙ append-nil (out_bytes acts)
+
+pub more_err : (refusal : Option Refusal) (acts : List Act) → err_bytes (acts ++ closing refusal) ≡ err_bytes acts ++ closing_line refusal
+more_err refusal acts =
+    err_bytes-append acts (closing refusal) ∙ ap (λ (b : List ℕ). err_bytes acts ++ b) (err_bytes-closing refusal)
+
+pub more_answers : (refusal : Option Refusal) (acts : List Act) → answers (acts ++ closing refusal) ≡ answers acts
+more_answers refusal acts =
+    answers-append acts (closing refusal) ∙ ap (λ (b : List (List ℕ)). answers acts ++ b) (answers-closing refusal) ∙ append-nil (answers acts)
+
+-- Acts were done, and then the error line of a refusal was written, where there is one.
+pub done_and_said : (tells : RunTells) (refusal : Option Refusal) (acts : List Act) (old new : RunSeen) (said : SinkSeen) (err_tells : Bool)
+    → AreDone tells acts old new → (IsTrue err_tells → said.written ≡ old.err.written ++ err_bytes (acts ++ closing refusal))
+    → AreDone (record tells { err = err_tells }) (acts ++ closing refusal) old (record new { err = said })
+done_and_said tells refusal acts old new said err_tells are whole = record {
+  files = follows-append acts (closing refusal) old.store.files new.store.files new.store.files are.files (follows_closing refusal new.store.files);
+  out = λ told. are.out told ∙ ap (λ (b : List ℕ). old.out.written ++ b) (sym (more_out refusal acts));
+  err = whole;
+  answered = are.answered ∙ ap (λ (b : List (List ℕ)). old.link.answers ++ b) (sym (more_answers refusal acts));
+  writes = λ none. are.writes (changes_none_before acts (closing refusal) none);
+}

@@ -1,0 +1,102 @@
+-- Acts that are done in order, and then a refusal, if there is one; and acts that only change files.
+use Rattle.std.proofs.Common.{◌≡◌, ℕ, List, [], ◌∷◌, ◌++◌, take, Option, refl, sym, ap, ◌∙◌, append-nil}
+use Rattle.quota_blocks.specs.Frame.{OnlyReads}
+use Rattle.quota_blocks.specs.Seen.{StoreSeen}
+use Rattle.quota_blocks.specs.World.{World}
+use Rattle.refusals.specs.declared.reason.Refusal.{Refusal}
+use Rattle.run_steps.specs.Act.{Act, ToOut, ToErr, Answer, Change, ChangesNone, Follows, FollowsInPart, answers, err_bytes, out_bytes}
+use Rattle.run_steps.specs.Done.{AreDone, AreDoneInPart, Outside, RunSeen, RunTells, outside_of}
+use Rattle.run_steps.specs.Run.{HasSteps}
+use Rattle.run_steps.specs.Steps.{AreDoneThen}
+use Rattle.run_steps.proofs.ActLemmas.{answers-append, appends_nothing, changes_none_before, err_bytes-append, follows-append, out_bytes-append}
+use Rattle.run_steps.proofs.OpeningLemmas.{with_store}
+
+-- the acts that were done are those that were stated
+pub doing_then : (acts : List Act) (end : Option Refusal) (from : Outside) (done : List Act) (to : Outside) (ended : Option Refusal) → AreDoneThen acts end from done to ended → done ≡ acts
+doing_then [] end from done to ended is = is.acts_none
+doing_then (act ∷ acts) end from done to ended doing =
+    doing.2 ∙ ap (λ (rest : List Act). act ∷ rest) (doing_then acts end (record from { files = doing.1 }) doing.0 to ended doing.4)
+
+-- and so is the end
+pub doing_ends : (acts : List Act) (end : Option Refusal) (from : Outside) (done : List Act) (to : Outside) (ended : Option Refusal) → AreDoneThen acts end from done to ended → ended ≡ end
+doing_ends [] end from done to ended is = is.ends
+doing_ends (act ∷ acts) end from done to ended doing = doing_ends acts end (record from { files = doing.1 }) doing.0 to ended doing.4
+
+-- the same acts with another end
+pub doing_ended : (acts : List Act) (end other : Option Refusal) (from : Outside) (done : List Act) (to : Outside) (ended : Option Refusal)
+    → AreDoneThen acts end from done to ended → AreDoneThen acts other from done to other
+doing_ended [] end other from done to ended is = record { acts_none = is.acts_none; same = is.same; ends = refl }
+doing_ended (act ∷ acts) end other from done to ended doing =
+    (doing.0, doing.1, doing.2, doing.3, doing_ended acts end other (record from { files = doing.1 }) doing.0 to ended doing.4)
+
+-- the same from another input
+pub doing_moved : (acts : List Act) (end : Option Refusal) (from : Outside) (left : List ℕ) (done : List Act) (to : Outside) (ended : Option Refusal)
+    → AreDoneThen acts end from done to ended → (moved : Outside) × AreDoneThen acts end (record from { input = left }) done moved ended
+doing_moved [] end from left done to ended is = (record from { input = left }, record { acts_none = is.acts_none; same = refl; ends = is.ends })
+doing_moved (act ∷ acts) end from left done to ended doing =
+    let more = doing_moved acts end (record from { files = doing.1 }) left doing.0 to ended doing.4 in
+    (more.0, (doing.0, doing.1, doing.2, doing.3, more.1))
+
+do_then : (acts : List Act) (end : Option Refusal) (from : Outside) (files : World) → Follows acts from.files files → AreDoneThen acts end from acts (record from { files = files }) end
+do_then [] end from files same = record { acts_none = refl; same = ap (λ (w : World). record from { files = w }) same; ends = refl }
+do_then (act ∷ acts) end from files follows = (acts, follows.0, refl, follows.1, do_then acts end (record from { files = follows.0 }) files follows.2)
+
+-- acts that were done, and then this end
+pub done_steps : (acts : List Act) (end : Option Refusal) (tells : RunTells) (old : RunSeen) (store : StoreSeen) → AreDone tells acts old (with_store old store)
+    → HasSteps (AreDoneThen acts end) tells end old (with_store old store)
+done_steps acts end tells old store done = record { acts = acts; by_steps = do_then acts end (outside_of old) store.files done.files; done = done }
+
+-- Acts that only change files.
+
+-- these acts were done to the store, and nothing else was done
+pub record AreWritten (acts : List Act) (old new : StoreSeen) : Type 0 where
+  pub files : Follows acts old.files new.files
+  pub writes : ChangesNone acts → new.writes ≡ old.writes
+  pub out : out_bytes acts ≡ []
+  pub err : err_bytes acts ≡ []
+  pub answered : answers acts ≡ []
+
+pub written_none : (name : List ℕ) (old new : StoreSeen) → OnlyReads name old new → AreWritten [] old new
+written_none name old new reads = record { files = reads.files; writes = λ none. reads.writes; out = refl; err = refl; answered = refl }
+
+changes_none_behind : (acts more : List Act) → ChangesNone (acts ++ more) → ChangesNone more
+changes_none_behind [] more none = none
+changes_none_behind (ToOut bytes ∷ acts) more none = changes_none_behind acts more none
+changes_none_behind (ToErr bytes ∷ acts) more none = changes_none_behind acts more none
+changes_none_behind (Answer bytes ∷ acts) more none = changes_none_behind acts more none
+changes_none_behind (Change name value ∷ acts) more none = absurd none
+
+pub written_both : (acts more : List Act) (old middle new : StoreSeen) → AreWritten acts old middle → AreWritten more middle new → AreWritten (acts ++ more) old new
+written_both acts more old middle new one two = record {
+  files = follows-append acts more old.files middle.files new.files one.files two.files;
+  writes = λ none. two.writes (changes_none_behind acts more none) ∙ one.writes (changes_none_before acts more none);
+  out = out_bytes-append acts more ∙ ap (λ (b : List ℕ). b ++ out_bytes more) one.out ∙ two.out;
+  err = err_bytes-append acts more ∙ ap (λ (b : List ℕ). b ++ err_bytes more) one.err ∙ two.err;
+  answered = answers-append acts more ∙ ap (λ (b : List (List ℕ)). b ++ answers more) one.answered ∙ two.answered;
+}
+
+-- they were done
+pub done_of : (acts : List Act) (tells : RunTells) (old : RunSeen) (store : StoreSeen) → AreWritten acts old.store store → AreDone tells acts old (with_store old store)
+done_of acts tells old store written = record {
+  files = written.files;
+  out = λ told. sym (append-nil old.out.written) ∙ ap (λ (b : List ℕ). old.out.written ++ b) (sym written.out);
+  err = λ told. sym (append-nil old.err.written) ∙ ap (λ (b : List ℕ). old.err.written ++ b) (sym written.err);
+  answered = sym (append-nil old.link.answers) ∙ ap (λ (b : List (List ℕ)). old.link.answers ++ b) (sym written.answered);
+  writes = written.writes;
+}
+
+-- they were done, and of the rest the first in part
+pub part_of : (acts rest : List Act) (tells : RunTells) (old : RunSeen) (middle store : StoreSeen) → AreWritten acts old.store middle → FollowsInPart rest middle.files store.files
+    → (ChangesNone (take 1 rest) → store.writes ≡ middle.writes) → AreDoneInPart tells (acts ++ rest) old (with_store old store)
+part_of acts rest tells old middle store written in_part writes = record {
+  done = acts;
+  rest = rest;
+  whole = refl;
+  files = (middle.files, written.files, in_part);
+  out = λ told. appends_nothing (old.out.written ++ out_bytes acts) old.out.written (out_bytes (take 1 rest))
+      (sym (append-nil old.out.written) ∙ ap (λ (b : List ℕ). old.out.written ++ b) (sym written.out));
+  err = λ told. appends_nothing (old.err.written ++ err_bytes acts) old.err.written (err_bytes (take 1 rest))
+      (sym (append-nil old.err.written) ∙ ap (λ (b : List ℕ). old.err.written ++ b) (sym written.err));
+  answered = sym (append-nil old.link.answers) ∙ ap (λ (b : List (List ℕ)). old.link.answers ++ b) (sym written.answered);
+  writes = λ none. writes (changes_none_behind acts (take 1 rest) none) ∙ written.writes (changes_none_before acts (take 1 rest) none);
+}

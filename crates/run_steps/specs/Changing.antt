@@ -1,0 +1,25 @@
+-- Commands that change a file: when a changed value is written, and which objects they use.
+use Rattle.std.specs.Prelude.{ℕ, Bool, true, false, if◌then◌else◌, List, [], ◌∷◌}
+use Rattle.tree_layout.specs.Size.{blocks_needed, ids_in}
+use Rattle.quota_blocks.specs.QuotaValue.{QuotaValue}
+use Rattle.quota_map.specs.View.{most_blocks}
+use Rattle.refusals.specs.declared.cause.Cause.TheVariants.{Full}
+use Rattle.run_steps.specs.Act.{Act, Change}
+use Rattle.refusals.specs.Outcome.{Outcome, Passed, Refused}
+use Rattle.run_steps.specs.Run.{Uses}
+use Rattle.refusals.specs.Refusals.{refusal_of}
+
+-- how many blocks a file of the value needs; a flat file has none
+abbrev pub blocks_of : QuotaValue → ℕ
+blocks_of value = blocks_needed value.format (ids_in value.records)
+
+-- a file of this name stands for the value from then on, where it has room for it and something is to be done
+abbrev pub written : List ℕ → QuotaValue → (idle too_large : Bool) → Outcome (List Act)
+written name new idle too_large =
+    if idle then Passed []
+    else if too_large then Refused (refusal_of (Full (blocks_of new) most_blocks) name)
+    else Passed (Change name new ∷ [])
+
+-- a change of a file changes the store, and where it is refused it has written nothing, unless something outside failed
+abbrev pub edit_uses : (warns : Bool) → Uses
+edit_uses warns = record { input = false; out = false; link = false; changes = true; all_or_nothing = true; warns = warns; reads_commands = false; reads_edits = false }

@@ -1,0 +1,14 @@
+pub mod Act
+pub mod Changing
+pub mod Done
+pub mod Naming
+pub mod Numbers
+pub mod Opening
+pub mod Run
+pub mod Showing
+pub mod Steps
+pub mod Taking
+pub use Rattle.quota_blocks.specs.Frame
+pub use Rattle.quota_blocks.specs.Unsynced
+pub use Rattle.refusals.specs.Outcome
+pub use Rattle.refusals.specs.Refusals

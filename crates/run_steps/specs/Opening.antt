@@ -1,0 +1,67 @@
+-- What is said where a file is not opened, or where a call on an opened file was refused.
+use Rattle.std.specs.Prelude.{◌≡◌, ℕ, Bool, true, false, IsTrue, IsSome, List, Option, Some, Result, Ok, Err, ⊤}
+use Rattle.quota_types.specs.declared.damage.Damage.{Damage}
+use Rattle.quota_types.specs.declared.damage.DamageKind.TheVariants.{PartialRecord}
+use Rattle.quota_types.specs.declared.file_kind.Format.{Format}
+use Rattle.quota_types.specs.declared.file_kind.Format.TheVariants.{V1}
+use Rattle.quota_blocks.specs.QuotaValue.{QuotaValue}
+use Rattle.quota_blocks.specs.declared.quota_file.FileFault.{FileFault}
+use Rattle.quota_blocks.specs.declared.quota_file.FileFault.TheVariants.{Store as StoreFailed, Damage as FileDamaged, Full as NoBlocks, Memory as NoMemory}
+use Rattle.quota_blocks.specs.declared.quota_file.OpenFault.{OpenFault}
+use Rattle.quota_blocks.specs.declared.quota_file.OpenFault.TheVariants.{Store, NoFile, TooLarge, Memory, NotQuota, WrongKind, UnknownVersion, BadBlockCount, FormatMismatch, Damage as NotWhole}
+use Rattle.tree_layout.specs.Defect.{NamesItsId}
+use Rattle.refusals.specs.declared.cause.Cause.{Cause}
+use Rattle.refusals.specs.declared.cause.Cause.TheVariants.{StoreFault, NoFile as NoSuchFile, TooLarge as FileTooLarge, Memory as WantOfMemory, NotQuota as NoQuotaFile, WrongKind as OtherKind, UnknownVersion as OtherVersion, BadBlockCount as TooFewBlocks, OtherFormat, Damaged, Full}
+use Rattle.refusals.specs.Outcome.{Outcome, Passed, Refused}
+use Rattle.refusals.specs.Refusals.{refusal_of}
+
+-- what is said of a file that could not be opened
+abbrev pub opening_cause : OpenFault → Cause
+opening_cause Store = StoreFault
+opening_cause NoFile = NoSuchFile
+opening_cause (TooLarge number limit) = FileTooLarge
+opening_cause Memory = WantOfMemory
+opening_cause NotQuota = NoQuotaFile
+opening_cause WrongKind = OtherKind
+opening_cause UnknownVersion = OtherVersion
+opening_cause BadBlockCount = TooFewBlocks
+opening_cause (FormatMismatch found) = OtherFormat
+opening_cause (NotWhole damage) = Damaged damage
+
+-- what is said where a call on an opened file was refused
+abbrev pub file_cause : FileFault → Cause
+file_cause StoreFailed = StoreFault
+file_cause (FileDamaged damage) = Damaged damage
+file_cause (NoBlocks blocks limit) = Full blocks limit
+file_cause NoMemory = WantOfMemory
+
+-- the step that opens a file that is seen so
+abbrev pub opened : List ℕ → Result QuotaValue OpenFault → Outcome QuotaValue
+opened name (Ok value) = Passed value
+opened name (Err fault) = Refused (refusal_of (opening_cause fault) name)
+
+-- A damage of a flat file is a record that is cut off, which names no identifier, and one of a tree file names an
+-- identifier where its kind does.
+abbrev pub IsDamageAs : Option Format → Damage → Type 0
+IsDamageAs (Some V1) damage = (damage.kind ≡ PartialRecord) × (damage.id ≡ 0)
+IsDamageAs _ damage = NamesItsId damage.kind damage.id
+
+-- a file that is no flat file is asked for
+abbrev pub asks_tree : Option Format → Bool
+asks_tree (Some V1) = false
+asks_tree _ = true
+
+-- The causes for which the opening of a file of this name, in the format that is asked for, may be refused, whatever is
+-- told, with the name that is said. A header is read of a tree file alone.
+abbrev pub MayRefuseOpening : Option Format → List ℕ → Cause → List ℕ → Type 0
+MayRefuseOpening asked file StoreFault name = ⊤
+MayRefuseOpening asked file WantOfMemory name = ⊤
+MayRefuseOpening asked file NoSuchFile name = name ≡ file
+MayRefuseOpening asked file FileTooLarge name = name ≡ file
+MayRefuseOpening asked file NoQuotaFile name = IsTrue (asks_tree asked) × (name ≡ file)
+MayRefuseOpening asked file OtherKind name = IsTrue (asks_tree asked) × (name ≡ file)
+MayRefuseOpening asked file OtherVersion name = IsTrue (asks_tree asked) × (name ≡ file)
+MayRefuseOpening asked file TooFewBlocks name = IsTrue (asks_tree asked) × (name ≡ file)
+MayRefuseOpening asked file OtherFormat name = IsTrue (asks_tree asked) × IsSome asked × (name ≡ file)
+MayRefuseOpening asked file (Damaged damage) name = IsDamageAs asked damage × (name ≡ file)
+MayRefuseOpening asked file _ name = ⊥

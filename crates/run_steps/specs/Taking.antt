@@ -1,0 +1,93 @@
+-- What a command takes from an input: the file of `--input`, or the standard input where there is none. Source: this
+-- project's own.
+use Rattle.std.specs.Prelude.{◌≡◌, ℕ, Bool, true, false, ◌||◌, IsTrue, List, [], ◌++◌, Option, Some, None, IsSome, is_none, ⊤}
+use Rattle.quota_blocks.specs.StoreInput.{left_from}
+use Rattle.quota_blocks.specs.World.{World}
+use Rattle.refusals.specs.declared.cause.Cause.{Cause}
+use Rattle.refusals.specs.declared.cause.Cause.TheVariants.{NoFile, StoreFault, SourceFault, Memory, TooLarge, LongLine, BadForm, BadLine, Conflict}
+use Rattle.refusals.specs.declared.reason.Refusal.{Refusal}
+use Rattle.refusals.specs.Refusals.{refusal_of}
+use Rattle.refusals.specs.Outcome.{Outcome, Passed, Refused}
+use Rattle.run_steps.specs.Run.{Uses}
+use Rattle.run_steps.specs.Steps.{Steps, Then}
+
+-- what refusals call an input: its file, or nothing where it is the standard input
+abbrev pub input_name : Option (List ℕ) → List ℕ
+input_name None = []
+input_name (Some name) = name
+
+-- what a file of an input says, where it is there
+abbrev pub file_said : {V : Type 0} → List ℕ → (List ℕ → Outcome V) → Option (List ℕ) → Outcome V
+file_said name read None = Refused (refusal_of NoFile name)
+file_said name read (Some bytes) = read (left_from (Some bytes) 0)
+
+-- what an input says, as it is seen
+abbrev pub input_said : {V : Type 0} → Option (List ℕ) → (List ℕ → Outcome V) → World → List ℕ → Outcome V
+input_said None read files left = read left
+input_said (Some name) read files left = file_said name read (files name)
+
+-- Of the standard input nothing was taken where the input is a file, and everything where a step passed with a value for
+-- which the whole input is read.
+abbrev pub IsTakenOf : {V : Type 0} → Option (List ℕ) → (V → Bool) → Outcome V → (taken left : List ℕ) → Type 0
+IsTakenOf (Some name) is_whole outcome taken left = taken ≡ []
+IsTakenOf None is_whole (Passed value) taken left = IsTrue (is_whole value) → left ≡ []
+IsTakenOf None is_whole (Refused refusal) taken left = ⊤
+
+-- bytes were taken from the standard input by a step that ended so
+pub record HasTaken {V : Type 0} (from : Option (List ℕ)) (is_whole : V → Bool) (outcome : Outcome V) (old left : List ℕ) : Type 0 where
+  pub taken : List ℕ
+  pub whole : old ≡ taken ++ left
+  pub as_asked : IsTakenOf from is_whole outcome taken left
+
+-- an input is read, the whole of it where the value says so, and then comes what the next steps say of it
+abbrev pub Taking : {V : Type 0} → Option (List ℕ) → (V → Bool) → (List ℕ → Outcome V) → (V → Steps) → Steps
+Taking from is_whole read next old acts new refusal =
+    (left : List ℕ) × HasTaken from is_whole (input_said from read old.files old.input) old.input left
+    × Then (input_said from read old.files old.input) next (record old { input = left }) acts new refusal
+
+-- Why an input was not read: a count of faults rose, memory was wanting, or what it says, as it is seen, is this refusal.
+abbrev pub IsInputFault : {V : Type 0} → (store_rose input_rose told : Type 0) → Outcome V → Refusal → Cause → Type 0
+IsInputFault store_rose input_rose told said refusal StoreFault = store_rose
+IsInputFault store_rose input_rose told said refusal SourceFault = input_rose
+IsInputFault store_rose input_rose told said refusal Memory = ⊤
+IsInputFault store_rose input_rose told said refusal _ = told → said ≡ Refused refusal
+
+-- the same command, which reads the standard input where its input is no file
+abbrev pub reading : Option (List ℕ) → Uses → Uses
+reading from uses = record uses { input = is_none from }
+
+-- What an input is to a command: a form, which takes no memory and is refused as a whole; lines that are read one by one, each
+-- of which may be refused; or a listing, which is refused as a whole.
+pub data InputKind : Type 0 where
+  AForm : InputKind
+  Lines : InputKind
+  AListing : InputKind
+
+-- an input is a form
+abbrev pub is_form : InputKind → Bool
+is_form AForm = true
+is_form Lines = false
+is_form AListing = false
+
+-- an input is a listing
+abbrev pub is_listing : InputKind → Bool
+is_listing AForm = false
+is_listing Lines = false
+is_listing AListing = true
+
+-- an input is refused as a whole
+abbrev pub is_whole_refused : InputKind → Bool
+is_whole_refused kind = is_form kind || is_listing kind
+
+-- The causes for which an input may not be read, whatever is told, with the name that is said.
+abbrev pub InputMayRefuse : InputKind → Option (List ℕ) → Cause → List ℕ → Type 0
+InputMayRefuse kind from StoreFault name = IsSome from
+InputMayRefuse kind from SourceFault name = from ≡ None
+InputMayRefuse kind from Memory name = is_form kind ≡ false
+InputMayRefuse kind from NoFile name = from ≡ Some name
+InputMayRefuse kind from (LongLine line) name = IsTrue (is_whole_refused kind) × (name ≡ input_name from)
+InputMayRefuse kind from TooLarge name = IsTrue (is_whole_refused kind) × (name ≡ input_name from)
+InputMayRefuse kind from (BadForm line) name = IsTrue (is_form kind) × (name ≡ input_name from)
+InputMayRefuse kind from (BadLine line) name = IsTrue (is_listing kind) × (name ≡ input_name from)
+InputMayRefuse kind from (Conflict line first) name = IsTrue (is_listing kind) × (name ≡ input_name from)
+InputMayRefuse kind from _ name = ⊥

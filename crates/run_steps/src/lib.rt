@@ -1,0 +1,15 @@
+//! What all commands are made of: the acts of a run, the steps of a command, what it means to carry steps out, and the
+//! steps that commands share: the names, the words that stand for identifiers, limits and times, and the opening of a file.
+//!
+//! The one promise: each helper meets its step.
+#![tactic(auto)]
+
+mod naming;
+mod numbers;
+mod occasion;
+mod opening;
+
+pub use naming::read_names;
+pub use numbers::{read_grace, read_identifier, read_limits, read_time};
+pub use occasion::Occasion;
+pub use opening::{file_cause, opening_cause};

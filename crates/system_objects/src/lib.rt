@@ -1,0 +1,16 @@
+//! The objects outside as the system has them: files, streams, datagrams and the moment.
+//!
+//! They tell nothing of what they hold, and count their faults.
+#![tactic(auto)]
+
+mod clock;
+mod file_store;
+mod stream_sink;
+mod stream_source;
+mod udp_link;
+
+pub use clock::moment;
+pub use file_store::FileStore;
+pub use stream_sink::StreamSink;
+pub use stream_source::StreamSource;
+pub use udp_link::UdpLink;

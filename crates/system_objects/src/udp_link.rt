@@ -1,0 +1,126 @@
+ghost use Rattle.std.specs.Prelude.{◌≡◌, ◌≤◌, IfOk, Ok, OnErr};
+ghost use Rattle.quota_blocks.specs.Count.{Rose};
+
+use crate::moment;
+use quota_blocks::{Got, Link, LinkFault};
+use std::io;
+use std::io::ErrorKind;
+use std::net::{Ipv4Addr, Net, SocketAddr, UdpSocket};
+use std::time::Clock;
+
+/// A socket that takes the datagrams sent to it, with its port, and whoever sent the last one.
+#[derive(Drop)]
+struct Bound {
+    socket: UdpSocket,
+    port: u16,
+    sender: Option<SocketAddr>,
+}
+
+/// A UDP socket on 127.0.0.1 as a link. It tells nothing of the datagrams and the answers.
+#[derive(Drop)]
+pub struct UdpLink<'a, R> {
+    system: &'a R,
+    bound: Option<Bound>,
+    faults: u64,
+}
+
+impl<'a, R: Net + Clock> UdpLink<'a, R> {
+    /// A link that was not started yet.
+    pub fn new(system: &'a R) -> Self
+        ensures { result.faults ≡ 0 }
+    {
+        UdpLink {
+            system,
+            bound: None,
+            faults: 0,
+        }
+    }
+
+    /// The port that the socket is bound to; 0 before the link was started.
+    pub fn port(&self) -> u16 {
+        match &self.bound {
+            Some(bound) => bound.port,
+            None => 0,
+        }
+    }
+
+    /// Binds a socket to a port, or to one that the system chooses where it is 0.
+    fn bind(&mut self, port: u16) -> io::Result<()>
+        ensures { self.new.faults ≡ self.old.faults }
+    {
+        let socket = UdpSocket::bind(self.system, (Ipv4Addr::LOCALHOST, port))?;
+        let port = socket.local_addr()?.port();
+        self.bound = Some(Bound {
+            socket,
+            port,
+            sender: None,
+        });
+        Ok(())
+    }
+
+    /// Waits for a datagram, and answers how many of its bytes there are, and the moment.
+    fn receive(&mut self, buf: &mut [u8; 4096]) -> io::Result<Got>
+        ensures fits { IfOk result (λ got. got.len ≤ 4096) }
+        ensures faults { self.new.faults ≡ self.old.faults }
+    {
+        let Some(bound) = &mut self.bound else {
+            return Err(io::Error::from(ErrorKind::NotConnected));
+        };
+        let (len, sender) = bound.socket.recv_from(buf)?;
+        bound.sender = Some(sender);
+        let now = moment(self.system)?;
+        Ok(Got { len, now })
+    }
+
+    /// Sends an answer to whoever sent the last datagram.
+    fn send(&self, bytes: &[u8]) -> io::Result<()> {
+        let Some(bound) = &self.bound else {
+            return Err(io::Error::from(ErrorKind::NotConnected));
+        };
+        let Some(sender) = bound.sender else {
+            return Err(io::Error::from(ErrorKind::NotConnected));
+        };
+        if bound.socket.send_to(bytes, sender)? < bytes.len() {
+            return Err(io::Error::from(ErrorKind::WriteZero));
+        }
+        Ok(())
+    }
+
+    /// Turns an error of the system into a fault, which is counted.
+    fn counting<T>(&mut self, answer: io::Result<T>) -> Result<T, LinkFault>
+        ensures ok { IfOk result (λ value. answer ≡ Ok value) }
+        ensures cause { OnErr result (Rose self.old.faults self.new.faults) }
+        ensures later { self.old.faults ≤ self.new.faults }
+    {
+        match answer {
+            Ok(value) => Ok(value),
+            Err(_) => {
+                self.faults = self.faults.saturating_add(1);
+                Err(LinkFault)
+            }
+        }
+    }
+}
+
+impl<'a, R: Net + Clock> Link for UdpLink<'a, R> {
+    ghost use Rattle.std.specs.Prelude.{false, []};
+
+    ghost tells = { false };
+
+    ghost seen = { λ link. record { left = []; answers = []; faults = link.faults } };
+
+    fn start(&mut self, port: u16) -> Result<(), LinkFault> {
+        let bound = self.bind(port);
+        self.counting(bound)
+    }
+
+    fn next(&mut self, buf: &mut [u8; 4096]) -> Result<Got, LinkFault> {
+        let got = self.receive(buf);
+        self.counting(got)
+    }
+
+    fn answer(&mut self, bytes: &[u8]) -> Result<(), LinkFault> {
+        let sent = self.send(bytes);
+        self.counting(sent)
+    }
+}
