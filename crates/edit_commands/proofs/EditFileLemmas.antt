@@ -20,7 +20,7 @@ use Rattle.quota_blocks.specs.World.{World}
 use Rattle.quota_blocks.proofs.FrameLemmas.{only_reads-then, replaces_one-after_read}
 use Rattle.quota_blocks.specs.declared.quota_file.FileFault.TheVariants.{Store, Damage, Full, Memory}
 use Rattle.tree_file.specs.Opened.{LacksRoom}
-use Rattle.tree_layout.specs.Size.{blocks_needed, ids_in}
+use Rattle.tree_build.specs.Size.{blocks_needed, ids_in}
 use Rattle.quota_map.specs.AnyFile.{AnyMakes, HoldsAny, MayRefuse, any_seen}
 use Rattle.quota_map.specs.declared.any_file.AnyFile.{AnyFile}
 use Rattle.quota_map.specs.declared.any_file.AnyFile.TheVariants.{V1 as FlatFile, Tree as TreeFile}

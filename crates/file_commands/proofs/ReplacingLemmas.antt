@@ -19,8 +19,8 @@ use Rattle.quota_blocks.specs.Frame.{ReplacesOne}
 use Rattle.quota_blocks.specs.Listed.{ids_of, records_of}
 use Rattle.quota_blocks.specs.QuotaValue.{QuotaValue}
 use Rattle.quota_blocks.specs.Seen.{StoreSeen}
-use Rattle.tree_layout.specs.Size.{blocks_needed, ids_in}
-use Rattle.tree_layout.proofs.OrderLemmas.{Ascends, ascends_of}
+use Rattle.tree_build.specs.Size.{blocks_needed, ids_in}
+use Rattle.tree_build.proofs.OrderLemmas.{Ascends, ascends_of}
 use Rattle.quota_blocks.specs.declared.replacement.ReplaceFault.{ReplaceFault}
 use Rattle.quota_blocks.specs.declared.replacement.ReplaceFault.TheVariants.{Store, Full as NoBlocks, Memory as NoMemory}
 use Rattle.quota_blocks.specs.World.{World}

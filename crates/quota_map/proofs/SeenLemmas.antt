@@ -12,10 +12,10 @@ use Rattle.quota_blocks.specs.QuotaValue.{QuotaValue}
 use Rattle.quota_blocks.specs.declared.quota_file.OpenFault.{OpenFault}
 use Rattle.quota_blocks.specs.declared.quota_file.OpenFault.TheVariants.{Store, NoFile, TooLarge, Memory, NotQuota, WrongKind, UnknownVersion, BadBlockCount, FormatMismatch, Damage as Damaged}
 use Rattle.entry_codec.specs.Header.{HeaderNumbers, format_of, header_fault, header_of, magic_of}
-use Rattle.tree_layout.specs.TreeFile.{IsSound, TreeStandsFor}
+use Rattle.tree_build.specs.TreeFile.{IsSound, TreeStandsFor}
 use Rattle.tree_file.specs.Opened.{HoldsTree}
 use Rattle.tree_file.specs.View.{FitsRequest, IsAsAsked, IsRefusedFor, IsTreeFault, IsTreeView}
-use Rattle.tree_layout.proofs.DefectLemmas.{no_defect_of_sound}
+use Rattle.tree_build.proofs.DefectLemmas.{no_defect_of_sound}
 use Rattle.quota_v1.specs.Opened.{HoldsFlat}
 use Rattle.quota_v1.specs.View.{IsFlatFault, IsFlatView}
 use Rattle.quota_v1.proofs.ViewLemmas.{seen_or_refused}

@@ -18,6 +18,6 @@ pub use Rattle.quota_blocks.specs.Seen
 pub use Rattle.quota_blocks.specs.Span
 pub use Rattle.quota_blocks.specs.Unsynced
 pub use Rattle.quota_blocks.specs.World
-pub use Rattle.tree_layout.specs.Size
-pub use Rattle.tree_layout.specs.TreeFile
+pub use Rattle.tree_build.specs.Size
+pub use Rattle.tree_build.specs.TreeFile
 pub use Rattle.quota_v1.specs.FlatFile

@@ -11,7 +11,7 @@ use Rattle.quota_blocks.specs.declared.replacement.ReplaceFault.TheVariants.{Sto
 use Rattle.quota_types.specs.Bytes.{number_at}
 use Rattle.quota_types.specs.declared.record.Grace.{Grace}
 use Rattle.tree_build.specs.Build.{HasNoPadding, HasOneRoom}
-use Rattle.tree_layout.specs.Size.{blocks_needed}
+use Rattle.tree_build.specs.Size.{blocks_needed}
 use Rattle.quota_v1.specs.Build.{IsZeroElsewhere, records_needed}
 use Rattle.quota_map.specs.StandsFor.{StandsFor}
 

@@ -8,7 +8,7 @@ ghost use Rattle.quota_blocks.specs.Listed.{ids_of, value_of};
 ghost use Rattle.quota_blocks.specs.Replace.{replacement_name};
 ghost use Rattle.quota_blocks.specs.World.{KeepsOthers};
 ghost use Rattle.tree_build.specs.Build.{IsBuildFault};
-ghost use Rattle.tree_layout.specs.Size.{blocks_needed};
+ghost use Rattle.tree_build.specs.Size.{blocks_needed};
 ghost use Rattle.quota_map.specs.Replacing.{IsPlain, IsReplaceFileFault, IsReplacedBy, UnlessStore, built_size, flags_in};
 ghost use Rattle.quota_map.specs.StandsFor.{StandsFor};
 ghost use Rattle.quota_map.specs.View.{IsView, most_blocks};

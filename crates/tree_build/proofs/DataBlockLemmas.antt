@@ -14,10 +14,10 @@ use Rattle.quota_types.specs.declared.file_kind.Format.TheVariants.{V1, V2R0, V2
 use Rattle.quota_types.specs.declared.record.Entry.{Entry}
 use Rattle.entry_codec.specs.Entry.{IsEntry, entries_per_block, entry_size, is_unused, padding_of, stored_id}
 use Rattle.entry_codec.proofs.NumberLemmas.{number_at-zeros}
-use Rattle.tree_layout.specs.Entries.{entry_bytes, entry_of, has_unused, stored_record, used_entries}
+use Rattle.tree_build.specs.Entries.{entry_bytes, entry_of, has_unused, stored_record, used_entries}
 use Rattle.tree_build.specs.NewFile.{IsDataBlock}
-use Rattle.tree_layout.proofs.WordLemmas.{number_same, same_part}
-use Rattle.tree_layout.proofs.RecordLemmas.{used_is}
+use Rattle.tree_build.proofs.WordLemmas.{number_same, same_part}
+use Rattle.tree_build.proofs.RecordLemmas.{used_is}
 
 -- an entry in the place of one that is not there
 abbrev pub no_entry : Entry

@@ -2,7 +2,7 @@
 use Rattle.std.specs.Prelude.{◌≡◌, ℕ, List, length}
 use Rattle.tree_build.specs.declared.needed.Needed.{Needed}
 use Rattle.tree_build.specs.Beginnings.{IsLastOf}
-use Rattle.tree_layout.specs.Size.{beginnings}
+use Rattle.tree_build.specs.Size.{beginnings}
 
 -- these identifiers were met
 pub record HasMet (ids : List ℕ) (needed : Needed) : Type 0 where

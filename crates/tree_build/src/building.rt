@@ -6,8 +6,8 @@ ghost use Rattle.entry_codec.specs.Entry.{entries_per_block};
 ghost use Rattle.entry_codec.specs.Header.{header_of};
 ghost use Rattle.quota_blocks.specs.Listed.{ids_of, value_of};
 ghost use Rattle.tree_build.specs.Build.{HasNoPadding, HasOneRoom, IsBuildFault};
-ghost use Rattle.tree_layout.specs.Size.{blocks_needed};
-ghost use Rattle.tree_layout.specs.TreeFile.{TreeStandsFor};
+ghost use Rattle.tree_build.specs.Size.{blocks_needed};
+ghost use Rattle.tree_build.specs.TreeFile.{TreeStandsFor};
 
 use crate::BuildFault;
 use crate::needed::{blocks_needed, first_with_room};

@@ -1,15 +1,26 @@
-//! The bytes of a whole new tree quota file, vfsv0 or vfsv1.
+//! What tree quota files mean, vfsv0 and vfsv1, and what may be wrong with one: blocks of 1,024 bytes in a tree by which
+//! each identifier's entry is found. And the bytes of a whole new one.
 //!
-//! The one promise: a built file stands for the map of its list, and has as few blocks as can be.
+//! The one promise: a file stands for one value at most, and for one exactly where nothing is wrong with it; what is said of
+//! the bytes and the entries of a block is so; a built file stands for the map of its list, and has as few blocks as can be.
 #![tactic(auto)]
 
+mod block;
 mod build_fault;
 mod building;
+mod damages;
+mod entries;
+pub mod laws;
 mod needed;
 mod new_data;
 mod new_file;
 mod new_tree;
+mod tree_path;
 
+pub use block::{BLOCK, block_of, read_block};
 pub use build_fault::BuildFault;
 pub use building::build;
+pub use damages::damage_at;
+pub use entries::{compare_entries, find_place, find_record};
 pub use needed::Needed;
+pub use tree_path::TreePath;

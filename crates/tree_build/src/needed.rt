@@ -4,7 +4,7 @@ ghost use Rattle.entry_codec.specs.Entry.{entries_per_block};
 ghost use Rattle.quota_blocks.specs.Listed.{ids_of};
 ghost use Rattle.quota_blocks.specs.QuotaValue.{IsAfter};
 ghost use Rattle.tree_build.specs.Beginnings.{new_beginnings, room_up_to};
-ghost use Rattle.tree_layout.specs.Size.{blocks_needed};
+ghost use Rattle.tree_build.specs.Size.{blocks_needed};
 
 use entry_codec::entries_per_block;
 use quota_types::{Entry, Format};

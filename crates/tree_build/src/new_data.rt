@@ -4,15 +4,15 @@ ghost use Rattle.quota_blocks.specs.Span.{KeepsOutside};
 ghost use Rattle.quota_types.specs.Kept.{kept_of};
 ghost use Rattle.quota_types.specs.Range.{unfit};
 ghost use Rattle.entry_codec.specs.Entry.{IsEntry, entries_per_block, entry_size, padding_of};
-ghost use Rattle.tree_layout.specs.Entries.{entry_bytes};
+ghost use Rattle.tree_build.specs.Entries.{entry_bytes};
 ghost use Rattle.tree_build.specs.NewFile.{AreBelow, AreDataBlocks, IsDataBlock, KeepsBlocks, leaves_in, parts_needed, parts_of};
 
+use crate::TreePath;
 use crate::new_file::NewFile;
 use entry_codec::{entries_per_block, entry_size, write_entry};
 use quota_blocks::set_le16;
 use quota_types::{Entry, Format};
 use std::alloc::{AllocError, Global};
-use tree_layout::TreePath;
 
 /// Appends the data blocks of a file's entries, each full but the last one, and answers the leaves.
 pub(crate) fn add_data(

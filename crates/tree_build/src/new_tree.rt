@@ -2,15 +2,15 @@ ghost use Rattle.std.specs.Prelude.{◌≡◌, ◌≢◌, ℕ, ◌+◌, ◌*◌,
 ghost use Rattle.std.specs.List.{range_with_len, slice_index_or};
 ghost use Rattle.std.specs.List.Sorted.{IsStrictlyIncreasing};
 ghost use Rattle.quota_types.specs.Bytes.{number_at};
-ghost use Rattle.tree_layout.specs.declared.tree_path.TreePath.{TreePath};
-ghost use Rattle.tree_layout.specs.Block.{block_of};
-ghost use Rattle.tree_layout.specs.Tree.{blocks_of, numbers_of, steps};
+ghost use Rattle.tree_build.specs.declared.tree_path.TreePath.{TreePath};
+ghost use Rattle.tree_build.specs.Block.{block_of};
+ghost use Rattle.tree_build.specs.Tree.{blocks_of, numbers_of, steps};
 ghost use Rattle.tree_build.specs.NewFile.{AllLead, AreSiblings, IsLevel, KeepsBlocks, parents_of};
 
+use crate::TreePath;
 use crate::new_file::NewFile;
 use quota_blocks::set_le32;
 use std::alloc::{AllocError, Global};
-use tree_layout::TreePath;
 
 /// Appends the tree blocks from which some paths go on by their last digit, and answers the paths that come to them.
 pub(crate) fn add_level(

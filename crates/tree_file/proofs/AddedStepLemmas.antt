@@ -4,14 +4,14 @@ use Rattle.std.specs.List.{cons_option}
 use Rattle.std.proofs.lemmas.List.{append_assoc, append-nil}
 use Rattle.std.proofs.lemmas.List.Elements.{All-cons, All-append, All-nil}
 use Rattle.std.proofs.lemmas.Bool.{cases_eq}
-use Rattle.tree_layout.specs.declared.tree_path.TreePath.{TreePath}
-use Rattle.tree_layout.specs.Block.{block_of, word_at}
+use Rattle.tree_build.specs.declared.tree_path.TreePath.{TreePath}
+use Rattle.tree_build.specs.Block.{block_of, word_at}
 use Rattle.quota_types.specs.declared.damage.DamageKind.TheVariants.{EmptyTree}
 use Rattle.tree_file.specs.Levels.{AreWithin, IsLevelDefect, IsWhole}
-use Rattle.tree_layout.specs.Roles.{IsEmpty}
-use Rattle.tree_layout.specs.Tree.{leads, steps}
-use Rattle.tree_layout.proofs.CountLemmas.{times-cons-same}
-use Rattle.tree_layout.proofs.StepLemmas.{none_by, none_of_zeros, path_by, step_cases, steps_all, steps_from, steps_more, word_in}
+use Rattle.tree_build.specs.Roles.{IsEmpty}
+use Rattle.tree_build.specs.Tree.{leads, steps}
+use Rattle.tree_build.proofs.CountLemmas.{times-cons-same}
+use Rattle.tree_build.proofs.StepLemmas.{none_by, none_of_zeros, path_by, step_cases, steps_all, steps_from, steps_more, word_in}
 
 -- the paths that go on come to blocks, and have one more digit
 pub steps_within : (words : ℕ → ℕ) (blocks bound : ℕ) (path : TreePath) (first count : ℕ) → path.number < bound → first + count ≤ 256

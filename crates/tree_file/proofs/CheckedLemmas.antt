@@ -9,16 +9,16 @@ use Rattle.quota_types.specs.declared.file_kind.Format.{Format}
 use Rattle.tree_file.specs.declared.checked.CheckFault.{CheckFault}
 use Rattle.tree_file.specs.declared.checked.CheckFault.TheVariants.{Store, Damage as Damaged, Memory}
 use Rattle.tree_file.specs.declared.roles.Roles.{Roles}
-use Rattle.tree_layout.specs.Chain.{IsChain}
+use Rattle.tree_build.specs.Chain.{IsChain}
 use Rattle.tree_file.specs.Check.{IsCheckFault, IsChecked}
-use Rattle.tree_layout.specs.Defect.{IsTreeDefect}
+use Rattle.tree_build.specs.Defect.{IsTreeDefect}
 use Rattle.tree_file.specs.Found.{AreRoles, IsLengthDefect, IsListedDefect, IsRoleDefect}
 use Rattle.tree_file.specs.Groups.{AreGroupsOf}
-use Rattle.tree_layout.specs.Roles.{Chained, Filled}
-use Rattle.tree_layout.specs.Tree.{leaves}
-use Rattle.tree_layout.specs.TreeFile.{IsSound, TreeStandsFor}
-use Rattle.tree_layout.proofs.DefectLemmas.{no_defect_of_sound}
-use Rattle.tree_layout.proofs.ValueLemmas.{sound_value, sound}
+use Rattle.tree_build.specs.Roles.{Chained, Filled}
+use Rattle.tree_build.specs.Tree.{leaves}
+use Rattle.tree_build.specs.TreeFile.{IsSound, TreeStandsFor}
+use Rattle.tree_build.proofs.DefectLemmas.{no_defect_of_sound}
+use Rattle.tree_build.proofs.ValueLemmas.{sound_value, sound}
 
 -- what the check of the length was refused for
 pub length_refused : (before now : ℕ) (tells : Bool) (file : List ℕ) (header : Header) (fault : CheckFault)

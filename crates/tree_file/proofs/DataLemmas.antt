@@ -7,14 +7,14 @@ use Rattle.std.proofs.lemmas.List.Elements.{filter-append}
 use Rattle.std.specs.List.{last_or, range_with_len}
 use Rattle.quota_types.specs.declared.file_kind.Format.{Format}
 use Rattle.tree_file.specs.declared.link.Link.{Link}
-use Rattle.tree_layout.specs.Block.{block_of}
+use Rattle.tree_build.specs.Block.{block_of}
 use Rattle.tree_file.specs.BlockSet.{AreFlagsOf}
-use Rattle.tree_layout.specs.Compared.{HasEntriesOf, leading_ids, is_room, rooms}
-use Rattle.tree_layout.specs.Entries.{has_unused}
-use Rattle.tree_layout.specs.Count.{StandsIn, times}
+use Rattle.tree_build.specs.Compared.{HasEntriesOf, leading_ids, is_room, rooms}
+use Rattle.tree_build.specs.Entries.{has_unused}
+use Rattle.tree_build.specs.Count.{StandsIn, times}
 use Rattle.tree_file.specs.Walk.{AreListed, NamesOther, linked_blocks, previous_in}
-use Rattle.tree_layout.proofs.CountLemmas.{times-append, times-filter-no, times-filter-yes, times-range-high, times_cases}
-use Rattle.tree_layout.proofs.EntryLemmas.{range-suc}
+use Rattle.tree_build.proofs.CountLemmas.{times-append, times-filter-no, times-filter-yes, times-range-high, times_cases}
+use Rattle.tree_build.proofs.EntryLemmas.{range-suc}
 
 -- what holds of the numbers of some things holds of those of one more
 pub mapped_more : {X : Type 0} (P : ℕ → Type 0) (f : X → ℕ) (xs : List X) (i : ℕ) (d : X) → i < length xs → ((n : ℕ) → StandsIn (map f (take i xs)) n → P n) → P (f (get_or xs i d))

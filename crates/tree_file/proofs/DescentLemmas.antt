@@ -6,13 +6,13 @@ use Rattle.std.proofs.lemmas.List.{append-nil}
 use Rattle.std.proofs.lemmas.List.Concat.{flat_map-append}
 use Rattle.std.specs.List.{cons_option, filter_map, flat_map, range_with_len}
 use Rattle.std.specs.Option.{option_or}
-use Rattle.tree_layout.specs.declared.tree_path.TreePath.{TreePath}
-use Rattle.tree_layout.specs.Block.{word_at}
+use Rattle.tree_build.specs.declared.tree_path.TreePath.{TreePath}
+use Rattle.tree_build.specs.Block.{word_at}
 use Rattle.tree_file.specs.Descent.{block_led_to, leaf_block, leaf_from, led_by, path_from, paths_below}
-use Rattle.tree_layout.specs.Tree.{leads, leaves, paths, step, steps}
-use Rattle.tree_layout.proofs.OrderLemmas.{rises_bound}
-use Rattle.tree_layout.proofs.FindLemmas.{find_first, find_later}
-use Rattle.tree_layout.proofs.PathLemmas.{Rises, Rises-flat_map, Rises-paths, Rises-steps, Rises_wider, rising_steps}
+use Rattle.tree_build.specs.Tree.{leads, leaves, paths, step, steps}
+use Rattle.tree_build.proofs.OrderLemmas.{rises_bound}
+use Rattle.tree_build.proofs.FindLemmas.{find_first, find_later}
+use Rattle.tree_build.proofs.PathLemmas.{Rises, Rises-flat_map, Rises-paths, Rises-steps, Rises_wider, rising_steps}
 
 -- a path has a number
 abbrev is_number : ℕ → TreePath → Bool

@@ -10,14 +10,14 @@ use Rattle.quota_types.specs.declared.damage.DamageKind.{DamageKind}
 use Rattle.quota_types.specs.declared.damage.DamageKind.TheVariants.{RefOut, EmptyTree}
 use Rattle.tree_file.specs.declared.checked.CheckFault.{CheckFault}
 use Rattle.tree_file.specs.declared.checked.CheckFault.TheVariants.{Store, Damage as Damaged, Memory}
-use Rattle.tree_layout.specs.declared.tree_path.TreePath.{TreePath}
+use Rattle.tree_build.specs.declared.tree_path.TreePath.{TreePath}
 use Rattle.tree_file.specs.BlockSet.{AreFlagsOf}
 use Rattle.tree_file.specs.Check.{IsCheckFault}
-use Rattle.tree_layout.specs.Block.{bytes_of}
-use Rattle.tree_layout.specs.Count.{StandsIn, StandsTwiceIn, times}
+use Rattle.tree_build.specs.Block.{bytes_of}
+use Rattle.tree_build.specs.Count.{StandsIn, StandsTwiceIn, times}
 use Rattle.tree_file.specs.Levels.{AreTreeBlocksWhole, AreWithin, IsBlockDefect, IsLevelDefect, IsSecondRole, IsStepFault, IsTreeFault, IsTreeFaultOf, IsWhole}
-use Rattle.tree_layout.specs.Tree.{blocks_of, leads, level, lower_blocks, paths, steps, tree_blocks}
-use Rattle.tree_layout.proofs.CountLemmas.{times-append, times_cases, only_one}
+use Rattle.tree_build.specs.Tree.{blocks_of, leads, level, lower_blocks, paths, steps, tree_blocks}
+use Rattle.tree_build.proofs.CountLemmas.{times-append, times_cases, only_one}
 
 -- a fact that holds whatever a call answers
 pub on_ok : {T E : Type 0} (P : Type 0) (r : Result T E) → P → OnOk r P

@@ -8,13 +8,13 @@ use Rattle.quota_blocks.specs.World.{overwritten}
 use Rattle.entry_codec.specs.declared.header.Header.{Header}
 use Rattle.entry_codec.specs.Entry.{IsEntry, entry_size}
 use Rattle.entry_codec.specs.Header.{AreOf, header_of}
-use Rattle.tree_layout.specs.Tree.{numbers_of, leaves}
-use Rattle.tree_layout.specs.Size.{ids_in, blocks_needed}
+use Rattle.tree_build.specs.Tree.{numbers_of, leaves}
+use Rattle.tree_build.specs.Size.{ids_in, blocks_needed}
 use Rattle.tree_file.specs.Overwritten.{HasEntryAt}
 use Rattle.tree_file.specs.Rebuilt.{value_changed}
-use Rattle.tree_layout.specs.TreeFile.{TreeStandsFor}
+use Rattle.tree_build.specs.TreeFile.{TreeStandsFor}
 use Rattle.tree_file.proofs.EnoughLemmas.{ids_of_value}
-use Rattle.tree_layout.proofs.MeaningLemmas.{header_format}
+use Rattle.tree_build.proofs.MeaningLemmas.{header_format}
 use Rattle.tree_file.proofs.OverwrittenLemmas.{are_overwritten, stands_overwritten}
 use Rattle.tree_file.proofs.SpanLemmas.{keeps-overwritten, length-overwritten, span-overwritten}
 

@@ -4,11 +4,11 @@ use Rattle.std.proofs.lemmas.List.Concat.{flat_map-append}
 use Rattle.std.proofs.lemmas.List.Elements.{filter_map-append}
 use Rattle.std.specs.List.{cons_option, filter_map, flat_map, range_with_len}
 use Rattle.std.specs.Option.{option_or}
-use Rattle.tree_layout.specs.declared.tree_path.TreePath.{TreePath}
+use Rattle.tree_build.specs.declared.tree_path.TreePath.{TreePath}
 use Rattle.tree_file.specs.Descent.{later_steps, path_from, paths_below, with_digits}
-use Rattle.tree_layout.specs.Tree.{step, steps}
+use Rattle.tree_build.specs.Tree.{step, steps}
 use Rattle.tree_file.proofs.DescentLemmas.{Rises-below, all_from, from-append, none_from, not_some, some_same}
-use Rattle.tree_layout.proofs.PathLemmas.{rising_steps}
+use Rattle.tree_build.proofs.PathLemmas.{rising_steps}
 use Rattle.tree_file.proofs.WayLemmas.{first_here, later_here, step_is}
 
 -- the first of what goes on from some paths is the first of what goes on from their first, where that has any

@@ -4,8 +4,8 @@ use Rattle.std.specs.Prelude.{nat_le}
 use Rattle.std.proofs.lemmas.Bool.{cases_eq, le-leb, leb-true, leb-false}
 use Rattle.std.proofs.lemmas.List.{get_or_default}
 use Rattle.tree_file.specs.BlockSet.{AreFlagsOf}
-use Rattle.tree_layout.specs.Count.{times}
-use Rattle.tree_layout.proofs.CountLemmas.{times-append, times-cons-same, times-cons-other}
+use Rattle.tree_build.specs.Count.{times}
+use Rattle.tree_build.proofs.CountLemmas.{times-append, times-cons-same, times-cons-other}
 
 -- one number more at the end of a list
 pub times-push-same : (xs : List ℕ) (n : ℕ) → times (xs ++ n ∷ []) n ≡ times xs n + 1

@@ -2,9 +2,9 @@
 use Rattle.std.proofs.Common.{◌≡◌, ℕ, suc, ◌+◌, ◌/◌, ◌%◌, ◌^◌, ◌<◌, ◌≤◌, Bool, true, cond, List, [], ◌∷◌, ◌++◌, length, get_or, drop, Option, Some, None, option_and_then, refl, sym, ap, subst, ◌∙◌, arith, add-one, drop-cons}
 use Rattle.std.proofs.lemmas.List.{drop_all}
 use Rattle.quota_radix.specs.Digits.{digits_of}
-use Rattle.tree_layout.specs.Block.{word_at}
+use Rattle.tree_build.specs.Block.{word_at}
 use Rattle.tree_file.specs.Descent.{leaf_block, led_by}
-use Rattle.tree_layout.specs.Tree.{leads}
+use Rattle.tree_build.specs.Tree.{leads}
 use Rattle.std.proofs.lemmas.Bool.Decides.{nat_tests}
 
 -- the block to which digits lead from another one, or none

@@ -12,21 +12,21 @@ use Rattle.quota_types.specs.declared.file_kind.Format.{Format}
 use Rattle.tree_file.specs.declared.checked.CheckFault.{CheckFault}
 use Rattle.tree_file.specs.declared.checked.CheckFault.TheVariants.{Store, Damage as Damaged, Memory}
 use Rattle.tree_file.specs.declared.link.Link.{Link}
-use Rattle.tree_layout.specs.declared.tree_path.TreePath.{TreePath}
-use Rattle.tree_layout.specs.Block.{block_of, previous_of, stated_count, bytes_of}
-use Rattle.tree_layout.specs.Chain.{IsChain}
+use Rattle.tree_build.specs.declared.tree_path.TreePath.{TreePath}
+use Rattle.tree_build.specs.Block.{block_of, previous_of, stated_count, bytes_of}
+use Rattle.tree_build.specs.Chain.{IsChain}
 use Rattle.tree_file.specs.Check.{IsCheckFault}
-use Rattle.tree_layout.specs.Compared.{AreEntriesOf, HasEntriesOf, IsDataDefect, IsEntryDefect, leading_ids, is_room, rooms}
-use Rattle.tree_layout.specs.Count.{StandsIn, times}
-use Rattle.tree_layout.specs.Defect.{IsDefectOf, IsLoop, IsOut, IsTreeDefect, NamesItsId}
-use Rattle.tree_layout.specs.Entries.{has_unused, used_ids}
+use Rattle.tree_build.specs.Compared.{AreEntriesOf, HasEntriesOf, IsDataDefect, IsEntryDefect, leading_ids, is_room, rooms}
+use Rattle.tree_build.specs.Count.{StandsIn, times}
+use Rattle.tree_build.specs.Defect.{IsDefectOf, IsLoop, IsOut, IsTreeDefect, NamesItsId}
+use Rattle.tree_build.specs.Entries.{has_unused, used_ids}
 use Rattle.tree_file.specs.Found.{HasNoEmptyBlock, IsListedDefect}
 use Rattle.tree_file.specs.Groups.{AreGroupsOf}
-use Rattle.tree_layout.specs.Roles.{Chained, Filled, has_room}
-use Rattle.tree_layout.specs.Tree.{data_blocks, ids_at, is_data, leads, leaves, level}
+use Rattle.tree_build.specs.Roles.{Chained, Filled, has_room}
+use Rattle.tree_build.specs.Tree.{data_blocks, ids_at, is_data, leads, leaves, level}
 use Rattle.tree_file.specs.Walk.{AreLinksTo, AreListed, IsListDefect, IsListDefectOf, IsWalkDefect, IsWalkDefectOf, linked_blocks, previous_in}
-use Rattle.tree_layout.proofs.CountLemmas.{length_same_times, times-filter-no, times-filter-yes, times-range-high, times-range-within}
-use Rattle.tree_layout.proofs.PathLemmas.{data_block_of_id, data_within, ids_distinct, times-data_blocks, length_ids}
+use Rattle.tree_build.proofs.CountLemmas.{length_same_times, times-filter-no, times-filter-yes, times-range-high, times-range-within}
+use Rattle.tree_build.proofs.PathLemmas.{data_block_of_id, data_within, ids_distinct, times-data_blocks, length_ids}
 
 ids_there : (blocks : ℕ) (ps : List TreePath) (groups : List (List ℕ)) (block : ℕ) → AreGroupsOf blocks ps groups → block < blocks → leading_ids groups block ≡ ids_at ps block
 ids_there blocks ps groups block are low =

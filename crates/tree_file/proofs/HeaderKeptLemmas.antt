@@ -8,11 +8,11 @@ use Rattle.quota_types.specs.declared.file_kind.Format.{Format}
 use Rattle.quota_types.specs.declared.record.Grace.{Grace}
 use Rattle.quota_blocks.specs.QuotaValue.{QuotaValue, with_grace}
 use Rattle.entry_codec.specs.Header.{HeaderNumbers, format_of, header_of}
-use Rattle.tree_layout.specs.Block.{block_of}
+use Rattle.tree_build.specs.Block.{block_of}
 use Rattle.tree_build.specs.NewFile.{KeepsBlocks}
 use Rattle.tree_file.specs.Opened.{whole_blocks}
-use Rattle.tree_layout.specs.Roles.{Chained, Filled, OneRole}
-use Rattle.tree_layout.specs.TreeFile.{IsSound, TreeStandsFor, record_in, tree_record}
+use Rattle.tree_build.specs.Roles.{Chained, Filled, OneRole}
+use Rattle.tree_build.specs.TreeFile.{IsSound, TreeStandsFor, record_in, tree_record}
 use Rattle.tree_build.proofs.NewFileLemmas.{kept_append}
 use Rattle.tree_file.proofs.SameBlocksLemmas.{KeepsTree, SameBlocks, chained_same, filled_same, one_role_same, record_same, same_tree}
 

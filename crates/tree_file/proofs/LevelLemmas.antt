@@ -7,14 +7,14 @@ use Rattle.quota_types.specs.declared.damage.Damage.{Damage}
 use Rattle.tree_file.specs.declared.checked.CheckFault.{CheckFault}
 use Rattle.tree_file.specs.declared.checked.CheckFault.TheVariants.{Store, Damage as Damaged, Memory}
 use Rattle.std.specs.Prelude.{Bool}
-use Rattle.tree_layout.specs.declared.tree_path.TreePath.{TreePath}
+use Rattle.tree_build.specs.declared.tree_path.TreePath.{TreePath}
 use Rattle.tree_file.specs.BlockSet.{AreFlagsOf}
 use Rattle.tree_file.specs.Check.{IsCheckFault}
-use Rattle.tree_layout.specs.Block.{bytes_of, block_of}
-use Rattle.tree_layout.specs.Count.{StandsIn, StandsTwiceIn, times}
+use Rattle.tree_build.specs.Block.{bytes_of, block_of}
+use Rattle.tree_build.specs.Count.{StandsIn, StandsTwiceIn, times}
 use Rattle.tree_file.specs.Levels.{IsLevelDefect, IsStepFault}
-use Rattle.tree_layout.specs.Tree.{blocks_of, steps}
-use Rattle.tree_layout.proofs.CountLemmas.{times-append, times-cons-same, only_one}
+use Rattle.tree_build.specs.Tree.{blocks_of, steps}
+use Rattle.tree_build.proofs.CountLemmas.{times-append, times-cons-same, only_one}
 
 -- the set after one more block of a level
 pub met_more : (blocks : ℕ) (flags : List Bool) (numbers : List ℕ) (paths : List TreePath) (i : ℕ) (d : TreePath) → i < length paths

@@ -17,12 +17,12 @@ use Rattle.entry_codec.specs.declared.header.Header.{Header}
 use Rattle.entry_codec.specs.Header.{AreOf, header_of}
 use Rattle.quota_blocks.specs.Listed.{ids_of, records_of, value_of}
 use Rattle.tree_file.specs.Listing.{IsListOf, with_change}
-use Rattle.tree_layout.specs.Size.{ids_in}
+use Rattle.tree_build.specs.Size.{ids_in}
 use Rattle.tree_file.specs.Rebuilt.{value_changed}
-use Rattle.tree_layout.specs.TreeFile.{TreeStandsFor}
-use Rattle.tree_layout.proofs.MeaningLemmas.{header_flags, header_format, header_grace, header_kind}
-use Rattle.tree_layout.proofs.OrderLemmas.{Ascends}
-use Rattle.tree_layout.proofs.PathLemmas.{each-append, each_weaker}
+use Rattle.tree_build.specs.TreeFile.{TreeStandsFor}
+use Rattle.tree_build.proofs.MeaningLemmas.{header_flags, header_format, header_grace, header_kind}
+use Rattle.tree_build.proofs.OrderLemmas.{Ascends}
+use Rattle.tree_build.proofs.PathLemmas.{each-append, each_weaker}
 
 -- the record of another identifier stays
 removed_other : (records : Records) (id k : ℕ) → k ≢ id → get (remove records id) k ≡ get records k

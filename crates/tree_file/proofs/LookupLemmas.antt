@@ -12,19 +12,19 @@ use Rattle.quota_types.specs.declared.record.Rec.{Rec}
 use Rattle.quota_blocks.specs.QuotaValue.{IsAfter, IsNextAfter, QuotaValue}
 use Rattle.entry_codec.specs.Header.{AreOf, HeaderNumbers, header_of}
 use Rattle.entry_codec.specs.declared.header.Header.{Header}
-use Rattle.tree_layout.specs.declared.tree_path.TreePath.{TreePath}
-use Rattle.tree_layout.specs.Block.{block_of}
-use Rattle.tree_layout.specs.Count.{StandsIn, times}
-use Rattle.tree_layout.specs.Defect.{IsDefectOf, IsTreeDefect, NamesItsId}
+use Rattle.tree_build.specs.declared.tree_path.TreePath.{TreePath}
+use Rattle.tree_build.specs.Block.{block_of}
+use Rattle.tree_build.specs.Count.{StandsIn, times}
+use Rattle.tree_build.specs.Defect.{IsDefectOf, IsTreeDefect, NamesItsId}
 use Rattle.tree_file.specs.Descent.{leaf_block, leaf_from}
-use Rattle.tree_layout.specs.Entries.{used_entries, used_ids}
+use Rattle.tree_build.specs.Entries.{used_entries, used_ids}
 use Rattle.tree_file.specs.Lookup.{IsLeafFault, IsWayFault, IsWayFaultOf}
-use Rattle.tree_layout.specs.Tree.{ids_at, leaves}
-use Rattle.tree_layout.specs.TreeFile.{TreeStandsFor, record_in, tree_record}
-use Rattle.tree_layout.proofs.DefectLemmas.{no_defect_of_sound}
+use Rattle.tree_build.specs.Tree.{ids_at, leaves}
+use Rattle.tree_build.specs.TreeFile.{TreeStandsFor, record_in, tree_record}
+use Rattle.tree_build.proofs.DefectLemmas.{no_defect_of_sound}
 use Rattle.tree_file.proofs.DescentLemmas.{IsPathFrom, find_above, leaf_is_from, leaf_led_to, no_leaf_from, not_some, option_cases, some_same}
-use Rattle.tree_layout.proofs.PathLemmas.{Rises-paths, leaves_lead}
-use Rattle.tree_layout.proofs.ValueLemmas.{found_entry}
+use Rattle.tree_build.proofs.PathLemmas.{Rises-paths, leaves_lead}
+use Rattle.tree_build.proofs.ValueLemmas.{found_entry}
 
 -- a damage on the way down is one of the file
 way_defect : (format : Format) (file : List ℕ) (numbers : HeaderNumbers) (kind : DamageKind) (block id : ℕ) → IsWayFaultOf file numbers.blocks kind block → id ≡ 0

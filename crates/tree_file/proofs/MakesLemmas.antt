@@ -17,12 +17,12 @@ use Rattle.quota_blocks.proofs.WorldLemmas.{with_file-at}
 use Rattle.entry_codec.specs.Header.{AreOf, header_of}
 use Rattle.entry_codec.specs.declared.header.Header.{Header}
 use Rattle.tree_file.specs.Opened.{MayRefuse, HoldsTree, LacksRoom, whole_blocks}
-use Rattle.tree_layout.specs.Size.{ids_in, blocks_needed}
+use Rattle.tree_build.specs.Size.{ids_in, blocks_needed}
 use Rattle.tree_file.specs.Rebuilt.{IsRebuildFault, value_changed}
 use Rattle.tree_file.specs.TreeChange.{IsRewriteFault, IsBuiltAnew, IsGraced, WritesWhole}
-use Rattle.tree_layout.specs.TreeFile.{TreeStandsFor}
+use Rattle.tree_build.specs.TreeFile.{TreeStandsFor}
 use Rattle.tree_file.proofs.HeaderKeptLemmas.{whole_blocks_stand}
-use Rattle.tree_layout.proofs.MeaningLemmas.{one_meaning}
+use Rattle.tree_build.proofs.MeaningLemmas.{one_meaning}
 
 -- the loaded blocks stand for what is held
 pub loaded_stands : (tells : Bool) (named : Option (List ℕ)) (loaded : List ℕ) (limit : ℕ) (value : QuotaValue) → HoldsTree tells named loaded limit value → TreeStandsFor loaded value

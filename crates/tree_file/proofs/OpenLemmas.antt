@@ -14,13 +14,13 @@ use Rattle.entry_codec.specs.declared.header.Header.{Header}
 use Rattle.tree_file.specs.declared.checked.CheckFault.{CheckFault}
 use Rattle.tree_file.specs.declared.checked.CheckFault.TheVariants.{Store as CheckStore, Damage as CheckDamage, Memory as CheckMemory}
 use Rattle.tree_file.specs.Check.{IsCheckFault, open_fault}
-use Rattle.tree_layout.specs.Block.{bytes_of}
-use Rattle.tree_layout.specs.Defect.{IsTreeDefect}
+use Rattle.tree_build.specs.Block.{bytes_of}
+use Rattle.tree_build.specs.Defect.{IsTreeDefect}
 use Rattle.tree_file.specs.Opened.{HoldsTree}
-use Rattle.tree_layout.specs.TreeFile.{TreeStandsFor}
+use Rattle.tree_build.specs.TreeFile.{TreeStandsFor}
 use Rattle.tree_file.specs.View.{FitsRequest, HasHeader, IsAsAsked, IsDamaged, IsRefusedHeader, IsTreeFault, IsTreeView}
 use Rattle.tree_file.proofs.HeaderKeptLemmas.{header_of-take}
-use Rattle.tree_layout.proofs.MeaningLemmas.{header_format, header_kind}
+use Rattle.tree_build.proofs.MeaningLemmas.{header_format, header_kind}
 
 -- the header of the first block is that of the file
 pub header_seen : (first file : List ℕ) → first ≡ take 1024 file → header_of first ≡ header_of file

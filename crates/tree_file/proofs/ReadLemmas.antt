@@ -8,14 +8,14 @@ use Rattle.std.specs.List.{count_by, range_with_len}
 use Rattle.tree_file.specs.declared.chain.Walk.{Walk}
 use Rattle.tree_file.specs.declared.checked.CheckFault.{CheckFault}
 use Rattle.tree_file.specs.declared.link.Link.{Link}
-use Rattle.tree_layout.specs.declared.tree_path.TreePath.{TreePath}
+use Rattle.tree_build.specs.declared.tree_path.TreePath.{TreePath}
 use Rattle.tree_file.specs.BlockSet.{AreFlagsOf}
-use Rattle.tree_layout.specs.Count.{times}
+use Rattle.tree_build.specs.Count.{times}
 use Rattle.tree_file.specs.Groups.{AreGroupsOf, named_blocks}
-use Rattle.tree_layout.specs.Tree.{blocks_of, ids_at}
+use Rattle.tree_build.specs.Tree.{blocks_of, ids_at}
 use Rattle.tree_file.specs.Reads.{AreMarkedReads, led_blocks}
 use Rattle.tree_file.specs.Walk.{IsWalk, linked_blocks}
-use Rattle.tree_layout.proofs.CountLemmas.{few_of_distinct}
+use Rattle.tree_build.proofs.CountLemmas.{few_of_distinct}
 use Rattle.tree_file.proofs.GroupLemmas.{count_ids}
 use Rattle.tree_file.proofs.WalkLemmas.{walk_fits}
 

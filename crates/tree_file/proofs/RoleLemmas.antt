@@ -10,20 +10,20 @@ use Rattle.quota_types.specs.declared.file_kind.Format.{Format}
 use Rattle.tree_file.specs.declared.checked.CheckFault.{CheckFault}
 use Rattle.tree_file.specs.declared.checked.CheckFault.TheVariants.{Store, Damage as Damaged, Memory}
 use Rattle.tree_file.specs.declared.link.Link.{Link}
-use Rattle.tree_layout.specs.declared.tree_path.TreePath.{TreePath}
+use Rattle.tree_build.specs.declared.tree_path.TreePath.{TreePath}
 use Rattle.tree_file.specs.BlockSet.{AreFlagsOf}
-use Rattle.tree_layout.specs.Chain.{IsChain}
+use Rattle.tree_build.specs.Chain.{IsChain}
 use Rattle.tree_file.specs.Check.{IsCheckFault}
-use Rattle.tree_layout.specs.Count.{StandsIn, times}
-use Rattle.tree_layout.specs.Defect.{IsDefectOf, IsTreeDefect, NamesItsId}
+use Rattle.tree_build.specs.Count.{StandsIn, times}
+use Rattle.tree_build.specs.Defect.{IsDefectOf, IsTreeDefect, NamesItsId}
 use Rattle.tree_file.specs.Found.{HasNoEmptyBlock, IsRoleDefect}
 use Rattle.tree_file.specs.Groups.{AreGroupsOf, named_blocks}
 use Rattle.tree_file.specs.Levels.{AreTreeBlocksWhole, AreWithin, IsSecondRole, IsStepFault, IsTreeFault, IsTreeFaultOf}
-use Rattle.tree_layout.specs.Roles.{OneRole, roles}
-use Rattle.tree_layout.specs.Tree.{data_blocks, ids_at, leads, leaves, lower_blocks, tree_blocks}
+use Rattle.tree_build.specs.Roles.{OneRole, roles}
+use Rattle.tree_build.specs.Tree.{data_blocks, ids_at, leads, leaves, lower_blocks, tree_blocks}
 use Rattle.tree_file.specs.Walk.{linked_blocks}
-use Rattle.tree_layout.proofs.ChainLemmas.{leads_within, some_chain}
-use Rattle.tree_layout.proofs.CountLemmas.{times-append, times-cons-same, times-cons-other}
+use Rattle.tree_build.proofs.ChainLemmas.{leads_within, some_chain}
+use Rattle.tree_build.proofs.CountLemmas.{times-append, times-cons-same, times-cons-other}
 
 -- the set that has the header's block
 pub header_marked : (blocks : ℕ) (flags : List Bool) (result : Bool) → MatchBool result (AreFlagsOf blocks flags (0 ∷ []) × (times [] 0 ≡ 0)) (1 ≤ times [] 0) → AreFlagsOf blocks flags (0 ∷ [])

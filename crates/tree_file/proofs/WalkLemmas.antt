@@ -4,11 +4,11 @@ use Rattle.std.proofs.lemmas.List.{drop_more, map-append, map_more, take-append-
 use Rattle.tree_file.specs.declared.chain.Walk.{Walk}
 use Rattle.tree_file.specs.declared.link.Link.{Link}
 use Rattle.tree_file.specs.BlockSet.{AreFlagsOf}
-use Rattle.tree_layout.specs.Count.{StandsIn, StandsTwiceIn, times}
-use Rattle.tree_layout.specs.Tree.{leads}
+use Rattle.tree_build.specs.Count.{StandsIn, StandsTwiceIn, times}
+use Rattle.tree_build.specs.Tree.{leads}
 use Rattle.tree_file.specs.Walk.{IsWalk, linked_blocks}
-use Rattle.tree_layout.proofs.ChainLemmas.{leads_from}
-use Rattle.tree_layout.proofs.CountLemmas.{few_of_distinct, times-append, times-cons-same, times_cases}
+use Rattle.tree_build.proofs.ChainLemmas.{leads_from}
+use Rattle.tree_build.proofs.CountLemmas.{few_of_distinct, times-append, times-cons-same, times_cases}
 
 -- the set after one more block
 pub met_more : {X : Type 0} (f : X → ℕ) (blocks : ℕ) (flags : List Bool) (numbers : List ℕ) (xs : List X) (i : ℕ) (d : X) → i < length xs

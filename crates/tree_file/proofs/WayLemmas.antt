@@ -7,14 +7,14 @@ use Rattle.std.specs.List.{cons_option, filter_map, flat_map, range_with_len}
 use Rattle.std.specs.Option.{option_or}
 use Rattle.quota_types.specs.declared.damage.Damage.{Damage}
 use Rattle.quota_types.specs.declared.damage.DamageKind.TheVariants.{RefOut, EmptyTree}
-use Rattle.tree_layout.specs.declared.tree_path.TreePath.{TreePath}
-use Rattle.tree_layout.specs.Block.{word_at}
-use Rattle.tree_layout.specs.Count.{StandsIn, times}
+use Rattle.tree_build.specs.declared.tree_path.TreePath.{TreePath}
+use Rattle.tree_build.specs.Block.{word_at}
+use Rattle.tree_build.specs.Count.{StandsIn, times}
 use Rattle.tree_file.specs.Descent.{later_steps, path_from}
 use Rattle.tree_file.specs.Lookup.{IsInTree, IsOnWay, IsWayFault}
-use Rattle.tree_layout.specs.Roles.{IsEmpty}
-use Rattle.tree_layout.specs.Tree.{leads, level, lower_blocks, paths, step, steps}
-use Rattle.tree_layout.proofs.CountLemmas.{stands_cons, stands_left, stands_right, times-append, times-cons-same}
+use Rattle.tree_build.specs.Roles.{IsEmpty}
+use Rattle.tree_build.specs.Tree.{leads, level, lower_blocks, paths, step, steps}
+use Rattle.tree_build.proofs.CountLemmas.{stands_cons, stands_left, stands_right, times-append, times-cons-same}
 use Rattle.tree_file.proofs.DescentLemmas.{find_in_steps, not_some, some_same, step_there}
 use Rattle.tree_file.proofs.DownLemmas.{times_above}
 

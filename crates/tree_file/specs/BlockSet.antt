@@ -1,7 +1,7 @@
 -- A set of blocks, kept as a flag for each block.
 use Rattle.std.specs.Prelude.{◌≡◌, ℕ, ◌<◌, ◌≤◌, Bool, false, nat_le, List, length}
 use Rattle.std.specs.List.{slice_index_or}
-use Rattle.tree_layout.specs.Count.{StandsIn, times}
+use Rattle.tree_build.specs.Count.{StandsIn, times}
 
 -- Of so many blocks, the flags tell which stand in a list; the list has each number once at most, and only numbers of
 -- blocks.

@@ -10,9 +10,9 @@ use Rattle.entry_codec.specs.Header.{header_of}
 use Rattle.tree_file.specs.declared.checked.Checked.{Checked}
 use Rattle.tree_file.specs.declared.checked.CheckFault.{CheckFault}
 use Rattle.tree_file.specs.declared.checked.CheckFault.TheVariants.{Store, Damage as Damaged, Memory}
-use Rattle.tree_layout.specs.Chain.{IsChain}
-use Rattle.tree_layout.specs.Defect.{NamesItsId}
-use Rattle.tree_layout.specs.TreeFile.{TreeStandsFor}
+use Rattle.tree_build.specs.Chain.{IsChain}
+use Rattle.tree_build.specs.Defect.{NamesItsId}
+use Rattle.tree_build.specs.TreeFile.{TreeStandsFor}
 
 -- The file stands for a value, which has so many records, and its free list has so many blocks.
 pub record IsChecked (file : List ℕ) (checked : Checked) : Type 0 where

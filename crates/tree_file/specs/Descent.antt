@@ -3,9 +3,9 @@
 use Rattle.std.specs.Prelude.{ℕ, zero, suc, ◌+◌, ◌-◌, ◌*◌, ◌/◌, ◌%◌, nat_le, if◌then◌else◌, List, [], ◌∷◌, find, fold, Option, Some, None}
 use Rattle.std.specs.List.{filter_map, flat_map, range_with_len}
 use Rattle.std.specs.Option.{option_and_then}
-use Rattle.tree_layout.specs.declared.tree_path.TreePath.{TreePath}
-use Rattle.tree_layout.specs.Block.{word_at}
-use Rattle.tree_layout.specs.Tree.{leads, leaves, step, steps}
+use Rattle.tree_build.specs.declared.tree_path.TreePath.{TreePath}
+use Rattle.tree_build.specs.Block.{word_at}
+use Rattle.tree_build.specs.Tree.{leads, leaves, step, steps}
 
 -- the block to which a digit leads from a block of the tree, or none
 abbrev pub led_by : List ℕ → ℕ → ℕ → ℕ → Option ℕ

@@ -4,11 +4,11 @@ use Rattle.entry_codec.specs.Header.{HeaderNumbers}
 use Rattle.quota_types.specs.declared.damage.Damage.{Damage}
 use Rattle.quota_types.specs.declared.file_kind.Format.{Format}
 use Rattle.tree_file.specs.declared.roles.Roles.{Roles}
-use Rattle.tree_layout.specs.Count.{StandsIn}
-use Rattle.tree_layout.specs.Defect.{IsTreeDefect}
+use Rattle.tree_build.specs.Count.{StandsIn}
+use Rattle.tree_build.specs.Defect.{IsTreeDefect}
 use Rattle.tree_file.specs.Groups.{AreGroupsOf}
-use Rattle.tree_layout.specs.Roles.{IsEmpty, OneRole}
-use Rattle.tree_layout.specs.Tree.{leaves, lower_blocks}
+use Rattle.tree_build.specs.Roles.{IsEmpty, OneRole}
+use Rattle.tree_build.specs.Tree.{leaves, lower_blocks}
 
 -- no tree block below the root is empty
 abbrev pub HasNoEmptyBlock : List ℕ → ℕ → Type 0

@@ -5,12 +5,12 @@ use Rattle.quota_types.specs.declared.damage.DamageKind.{DamageKind}
 use Rattle.quota_types.specs.declared.damage.DamageKind.TheVariants.{RefOut, EmptyTree, TwoRoles}
 use Rattle.tree_file.specs.declared.checked.CheckFault.{CheckFault}
 use Rattle.tree_file.specs.declared.checked.CheckFault.TheVariants.{Store, Damage as Damaged, Memory}
-use Rattle.tree_layout.specs.declared.tree_path.TreePath.{TreePath}
-use Rattle.tree_layout.specs.Block.{word_at}
-use Rattle.tree_layout.specs.Count.{StandsIn, StandsTwiceIn}
-use Rattle.tree_layout.specs.Defect.{IsEmptyTree, IsRefOut, NamesItsId}
-use Rattle.tree_layout.specs.Roles.{IsEmpty}
-use Rattle.tree_layout.specs.Tree.{leads, lower_blocks, tree_blocks}
+use Rattle.tree_build.specs.declared.tree_path.TreePath.{TreePath}
+use Rattle.tree_build.specs.Block.{word_at}
+use Rattle.tree_build.specs.Count.{StandsIn, StandsTwiceIn}
+use Rattle.tree_build.specs.Defect.{IsEmptyTree, IsRefOut, NamesItsId}
+use Rattle.tree_build.specs.Roles.{IsEmpty}
+use Rattle.tree_build.specs.Tree.{leads, lower_blocks, tree_blocks}
 
 -- each of some paths has a number below a bound, and comes to a block other than that of the header
 abbrev pub AreWithin : ℕ → ℕ → List TreePath → Type 0

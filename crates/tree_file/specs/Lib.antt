@@ -30,8 +30,8 @@ pub use Rattle.quota_blocks.specs.Unsynced
 pub use Rattle.quota_blocks.specs.World
 pub use Rattle.entry_codec.specs.Entry
 pub use Rattle.entry_codec.specs.Header
-pub use Rattle.tree_layout.specs.Block
-pub use Rattle.tree_layout.specs.Defect
-pub use Rattle.tree_layout.specs.Size
-pub use Rattle.tree_layout.specs.TreeFile
+pub use Rattle.tree_build.specs.Block
+pub use Rattle.tree_build.specs.Defect
+pub use Rattle.tree_build.specs.Size
+pub use Rattle.tree_build.specs.TreeFile
 pub use Rattle.tree_build.specs.Build

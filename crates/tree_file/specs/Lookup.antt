@@ -5,12 +5,12 @@ use Rattle.quota_types.specs.declared.damage.Damage.{Damage}
 use Rattle.quota_types.specs.declared.damage.DamageKind.{DamageKind}
 use Rattle.quota_types.specs.declared.damage.DamageKind.TheVariants.{RefOut, EmptyTree, MissingEntry}
 use Rattle.quota_types.specs.declared.file_kind.Format.{Format}
-use Rattle.tree_layout.specs.declared.tree_path.TreePath.{TreePath}
-use Rattle.tree_layout.specs.Block.{block_of}
-use Rattle.tree_layout.specs.Count.{StandsIn}
-use Rattle.tree_layout.specs.Defect.{IsEmptyTree, IsRefOut}
-use Rattle.tree_layout.specs.Tree.{level}
-use Rattle.tree_layout.specs.TreeFile.{record_in}
+use Rattle.tree_build.specs.declared.tree_path.TreePath.{TreePath}
+use Rattle.tree_build.specs.Block.{block_of}
+use Rattle.tree_build.specs.Count.{StandsIn}
+use Rattle.tree_build.specs.Defect.{IsEmptyTree, IsRefOut}
+use Rattle.tree_build.specs.Tree.{level}
+use Rattle.tree_build.specs.TreeFile.{record_in}
 
 -- a path is one through the tree of a file, from which so many digits are to go to a leaf
 pub record IsOnWay (file : List ℕ) (blocks to_go : ℕ) (path : TreePath) : Type 0 where

@@ -6,9 +6,9 @@ use Rattle.quota_blocks.specs.QuotaValue.{QuotaValue}
 use Rattle.quota_blocks.specs.declared.quota_file.FileFault.{FileFault}
 use Rattle.quota_blocks.specs.declared.quota_file.FileFault.TheVariants.{Store, Damage, Full, Memory}
 use Rattle.entry_codec.specs.Header.{header_of}
-use Rattle.tree_layout.specs.Defect.{NamesItsId}
-use Rattle.tree_layout.specs.Size.{blocks_needed, ids_in}
-use Rattle.tree_layout.specs.TreeFile.{TreeStandsFor}
+use Rattle.tree_build.specs.Defect.{NamesItsId}
+use Rattle.tree_build.specs.Size.{blocks_needed, ids_in}
+use Rattle.tree_build.specs.TreeFile.{TreeStandsFor}
 
 -- the blocks of a file, or what it has of them; bytes after the last block are left out
 abbrev pub whole_blocks : List ℕ → List ℕ

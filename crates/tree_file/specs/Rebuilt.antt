@@ -4,10 +4,10 @@ use Rattle.quota_types.specs.declared.record.Rec.{Rec}
 use Rattle.quota_blocks.specs.QuotaValue.{QuotaValue}
 use Rattle.quota_blocks.specs.declared.quota_file.FileFault.{FileFault}
 use Rattle.quota_blocks.specs.declared.quota_file.FileFault.TheVariants.{Store, Damage, Full, Memory}
-use Rattle.tree_layout.specs.Defect.{NamesItsId}
+use Rattle.tree_build.specs.Defect.{NamesItsId}
 use Rattle.tree_file.specs.Listing.{with_change}
-use Rattle.tree_layout.specs.Size.{ids_in, blocks_needed}
-use Rattle.tree_layout.specs.TreeFile.{TreeStandsFor}
+use Rattle.tree_build.specs.Size.{ids_in, blocks_needed}
+use Rattle.tree_build.specs.TreeFile.{TreeStandsFor}
 
 -- the value once the record of an identifier is this one, or is not there
 abbrev pub value_changed : QuotaValue → ℕ → Option Rec → QuotaValue

@@ -11,9 +11,9 @@ use Rattle.quota_blocks.specs.World.{World}
 use Rattle.quota_blocks.specs.declared.quota_file.FileFault.{FileFault}
 use Rattle.quota_blocks.specs.declared.quota_file.FileFault.TheVariants.{Store, Damage, Full, Memory}
 use Rattle.entry_codec.specs.Header.{header_of}
-use Rattle.tree_layout.specs.Size.{ids_in, blocks_needed}
+use Rattle.tree_build.specs.Size.{ids_in, blocks_needed}
 use Rattle.tree_file.specs.Opened.{whole_blocks}
-use Rattle.tree_layout.specs.TreeFile.{TreeStandsFor}
+use Rattle.tree_build.specs.TreeFile.{TreeStandsFor}
 
 -- The file is as small as one that is built anew, whatever it was before: it has as many blocks as its identifiers need, and
 -- no byte behind them.

@@ -6,11 +6,11 @@ use Rattle.quota_types.specs.declared.damage.DamageKind.{DamageKind}
 use Rattle.quota_types.specs.declared.damage.DamageKind.TheVariants.{BadPrev, ChainLoop, ChainOut, ForeignInChain, MissingInChain}
 use Rattle.tree_file.specs.declared.chain.Walk.{Walk}
 use Rattle.tree_file.specs.declared.link.Link.{Link}
-use Rattle.tree_layout.specs.Block.{next_of, previous_of}
+use Rattle.tree_build.specs.Block.{next_of, previous_of}
 use Rattle.tree_file.specs.BlockSet.{AreFlagsOf}
-use Rattle.tree_layout.specs.Count.{StandsIn, times}
-use Rattle.tree_layout.specs.Defect.{IsLoop, IsOut}
-use Rattle.tree_layout.specs.Tree.{leads}
+use Rattle.tree_build.specs.Count.{StandsIn, times}
+use Rattle.tree_build.specs.Defect.{IsLoop, IsOut}
+use Rattle.tree_build.specs.Tree.{leads}
 
 -- the blocks of links, in order
 abbrev pub linked_blocks : List Link → List ℕ

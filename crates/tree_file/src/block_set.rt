@@ -1,6 +1,6 @@
 ghost use Rattle.std.specs.Prelude.{◌≡◌, ◌<◌, ◌≤◌, ◌++◌, ◌∷◌, [], ℕ, List, IfOk, MatchBool};
 ghost use Rattle.tree_file.specs.BlockSet.{AreFlagsOf};
-ghost use Rattle.tree_layout.specs.Count.{times};
+ghost use Rattle.tree_build.specs.Count.{times};
 
 use std::alloc::{AllocError, Global};
 

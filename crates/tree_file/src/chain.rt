@@ -3,9 +3,9 @@ ghost use Rattle.quota_blocks.specs.Frame.{OnlyReads};
 ghost use Rattle.quota_blocks.specs.Unsynced.{AddsNone};
 ghost use Rattle.tree_file.specs.BlockSet.{AreFlagsOf};
 ghost use Rattle.tree_file.specs.Check.{IsCheckFault};
-ghost use Rattle.tree_layout.specs.Block.{bytes_of};
-ghost use Rattle.tree_layout.specs.Count.{StandsIn, times};
-ghost use Rattle.tree_layout.specs.Defect.{NamesItsId};
+ghost use Rattle.tree_build.specs.Block.{bytes_of};
+ghost use Rattle.tree_build.specs.Count.{StandsIn, times};
+ghost use Rattle.tree_build.specs.Defect.{NamesItsId};
 ghost use Rattle.tree_file.specs.Levels.{IsSecondRole};
 ghost use Rattle.tree_file.specs.Walk.{AreLinksTo, IsWalk, IsWalkDefect, linked_blocks};
 
@@ -15,7 +15,7 @@ use crate::link::Link;
 use quota_blocks::{Store, le32};
 use quota_types::{Damage, DamageKind};
 use std::alloc::{AllocError, Global};
-use tree_layout::{damage_at, read_block};
+use tree_build::{damage_at, read_block};
 
 /// A walk along a list of blocks: those that it has met, in order.
 #[derive(Drop)]

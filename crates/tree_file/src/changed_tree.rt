@@ -5,9 +5,9 @@ ghost use Rattle.quota_types.specs.Kept.{IsKept};
 ghost use Rattle.quota_types.specs.Range.{grace_unfit};
 ghost use Rattle.quota_blocks.specs.QuotaValue.{QuotaValue};
 ghost use Rattle.quota_blocks.specs.Span.{KeepsOutside};
-ghost use Rattle.tree_layout.specs.Size.{ids_in, blocks_needed};
+ghost use Rattle.tree_build.specs.Size.{ids_in, blocks_needed};
 ghost use Rattle.tree_file.specs.Rebuilt.{IsRebuildFault, value_changed};
-ghost use Rattle.tree_layout.specs.TreeFile.{TreeStandsFor};
+ghost use Rattle.tree_build.specs.TreeFile.{TreeStandsFor};
 
 use crate::changed_list::{ListFault, changed_entries};
 use crate::file_header::header_in;

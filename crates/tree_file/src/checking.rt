@@ -7,10 +7,10 @@ ghost use Rattle.quota_blocks.specs.QuotaValue.{QuotaValue};
 ghost use Rattle.quota_blocks.specs.Unsynced.{AddsNone};
 ghost use Rattle.tree_file.specs.declared.checked.CheckFault.TheVariants.{Damage as Damaged};
 ghost use Rattle.tree_file.specs.Check.{IsChecked, IsCheckFault};
-ghost use Rattle.tree_layout.specs.Block.{bytes_of};
-ghost use Rattle.tree_layout.specs.Defect.{IsTreeDefect};
+ghost use Rattle.tree_build.specs.Block.{bytes_of};
+ghost use Rattle.tree_build.specs.Defect.{IsTreeDefect};
 ghost use Rattle.tree_file.specs.Found.{IsLengthDefect};
-ghost use Rattle.tree_layout.specs.TreeFile.{TreeStandsFor};
+ghost use Rattle.tree_build.specs.TreeFile.{TreeStandsFor};
 
 use crate::checked::{CheckFault, Checked};
 use crate::lists::check_lists;
@@ -19,7 +19,7 @@ use entry_codec::Header;
 use quota_blocks::Store;
 use quota_types::DamageKind;
 use std::alloc::Global;
-use tree_layout::damage_at;
+use tree_build::damage_at;
 
 /// Checks a tree file whose header is this one, and tells how many records it has and how many blocks are free.
 ///

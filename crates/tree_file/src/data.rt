@@ -1,13 +1,13 @@
 ghost use Rattle.std.specs.Prelude.{◌≡◌, ◌≢◌, ℕ, List, ◌+◌, ◌<◌, ◌≤◌, ◌++◌, ◌∷◌, [], ◌&&◌, nat_le, if◌then◌else◌, map, take, length, IsTrue, IfOk, OnOk, IfErr, MatchOption};
 ghost use Rattle.quota_blocks.specs.Frame.{OnlyReads};
 ghost use Rattle.quota_blocks.specs.Unsynced.{AddsNone};
-ghost use Rattle.tree_layout.specs.Block.{block_of, stated_count, bytes_of};
+ghost use Rattle.tree_build.specs.Block.{block_of, stated_count, bytes_of};
 ghost use Rattle.tree_file.specs.BlockSet.{AreFlagsOf};
 ghost use Rattle.tree_file.specs.Check.{IsCheckFault};
-ghost use Rattle.tree_layout.specs.Compared.{AreEntriesOf, HasEntriesOf, IsDataDefect, IsEntryDefectAt, leading_ids, rooms};
-ghost use Rattle.tree_layout.specs.Count.{StandsIn, times};
-ghost use Rattle.tree_layout.specs.Defect.{NamesItsId};
-ghost use Rattle.tree_layout.specs.Entries.{has_unused, used_ids};
+ghost use Rattle.tree_build.specs.Compared.{AreEntriesOf, HasEntriesOf, IsDataDefect, IsEntryDefectAt, leading_ids, rooms};
+ghost use Rattle.tree_build.specs.Count.{StandsIn, times};
+ghost use Rattle.tree_build.specs.Defect.{NamesItsId};
+ghost use Rattle.tree_build.specs.Entries.{has_unused, used_ids};
 ghost use Rattle.tree_file.specs.Reads.{led_blocks};
 ghost use Rattle.tree_file.specs.Walk.{AreListed, IsListDefect, IsWalk, NamesOther, linked_blocks, previous_in};
 
@@ -18,7 +18,7 @@ use crate::link::Link;
 use quota_blocks::Store;
 use quota_types::{Damage, DamageKind, Format};
 use std::alloc::Global;
-use tree_layout::{compare_entries, damage_at, read_block};
+use tree_build::{compare_entries, damage_at, read_block};
 
 /// Checks the entries of a data block against the identifiers that lead to it, and answers whether it has room.
 fn check_block<S: Store>(

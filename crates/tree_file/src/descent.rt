@@ -1,17 +1,17 @@
 ghost use Rattle.std.specs.Prelude.{◌≡◌, ◌+◌, ◌<◌, ◌≤◌, ℕ, suc, length, IfErr, IfNone, IfOk, Some};
 ghost use Rattle.std.specs.List.{flat_map};
 ghost use Rattle.quota_types.specs.Bytes.{byte_at};
-ghost use Rattle.tree_layout.specs.Block.{word_at};
-ghost use Rattle.tree_layout.specs.Count.{StandsIn};
+ghost use Rattle.tree_build.specs.Block.{word_at};
+ghost use Rattle.tree_build.specs.Count.{StandsIn};
 ghost use Rattle.tree_file.specs.Descent.{later_steps, leaf_block, leaf_from, path_from, paths_below, with_digits};
 ghost use Rattle.tree_file.specs.Lookup.{IsBelowRoot, IsInTree, IsOnWay, IsWayFault};
-ghost use Rattle.tree_layout.specs.Tree.{level, step};
+ghost use Rattle.tree_build.specs.Tree.{level, step};
 
 use crate::TreePath;
 use crate::levels::ROOT;
 use quota_radix::digits;
 use quota_types::{Damage, DamageKind};
-use tree_layout::damage_at;
+use tree_build::damage_at;
 
 /// The byte at a place of a file, or 0 past its end.
 fn byte_at(file: &[u8], at: usize) -> u8

@@ -4,7 +4,7 @@ ghost use Rattle.quota_types.specs.Range.{grace_unfit};
 
 use entry_codec::{Header, HeaderFault, read_header};
 use quota_types::{Format, Kind};
-use tree_layout::BLOCK;
+use tree_build::BLOCK;
 
 /// The header of a file of this kind, from the file's bytes or the first of them. Bytes past their end count as 0.
 pub(crate) fn header_in(bytes: &[u8], kind: Kind) -> Result<Header, HeaderFault>

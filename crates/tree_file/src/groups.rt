@@ -1,5 +1,5 @@
 ghost use Rattle.std.specs.Prelude.{◌<◌, ◌++◌, [], ◌^◌, ℕ, List, length, map, OnOk, IfOk, IfErr};
-ghost use Rattle.tree_layout.specs.declared.tree_path.TreePath.{TreePath};
+ghost use Rattle.tree_build.specs.declared.tree_path.TreePath.{TreePath};
 ghost use Rattle.tree_file.specs.BlockSet.{AreFlagsOf};
 ghost use Rattle.tree_file.specs.Groups.{AreGroupsOf, named_blocks};
 ghost use Rattle.tree_file.specs.Levels.{AreWithin, IsSecondRole, IsStepFault};
@@ -8,7 +8,7 @@ use crate::block_set::BlockSet;
 use crate::{CheckFault, TreePath};
 use quota_types::DamageKind;
 use std::alloc::{AllocError, Global};
-use tree_layout::damage_at;
+use tree_build::damage_at;
 
 /// For each block of a file the identifiers that lead to it, in the order of the leaves.
 pub(crate) fn group(

@@ -2,18 +2,18 @@ ghost use Rattle.std.specs.Prelude.{◌≡◌, ◌<◌, ◌≤◌, ◌+◌, ◌*
 ghost use Rattle.std.specs.List.{flat_map};
 ghost use Rattle.quota_blocks.specs.Frame.{OnlyReads};
 ghost use Rattle.quota_blocks.specs.Unsynced.{AddsNone};
-ghost use Rattle.tree_layout.specs.declared.tree_path.TreePath.{TreePath};
-ghost use Rattle.tree_layout.specs.Block.{block_of, bytes_of};
+ghost use Rattle.tree_build.specs.declared.tree_path.TreePath.{TreePath};
+ghost use Rattle.tree_build.specs.Block.{block_of, bytes_of};
 ghost use Rattle.tree_file.specs.Check.{IsCheckFault};
 ghost use Rattle.tree_file.specs.Levels.{AreWithin, IsLevelDefect, IsStepFault, IsWhole};
-ghost use Rattle.tree_layout.specs.Tree.{blocks_of, steps};
+ghost use Rattle.tree_build.specs.Tree.{blocks_of, steps};
 
 use crate::{CheckFault, TreePath};
 use quota_blocks::Store;
 use quota_radix::level_ref;
 use quota_types::DamageKind;
 use std::alloc::{AllocError, Global};
-use tree_layout::{damage_at, read_block};
+use tree_build::{damage_at, read_block};
 
 /// The block of the root.
 pub(crate) const ROOT: u32 = 1;

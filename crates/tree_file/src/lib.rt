@@ -43,5 +43,4 @@ pub use checked::{CheckFault, Checked};
 pub use checking::check;
 pub use opened_tree::TreeFile;
 pub use opening::open_tree;
-pub use tree_build::{BuildFault, build};
-pub use tree_layout::{TreePath, laws};
+pub use tree_build::{BuildFault, TreePath, build, laws};

@@ -3,12 +3,12 @@ ghost use Rattle.quota_types.specs.declared.file_kind.Format.TheVariants.{V1};
 ghost use Rattle.quota_blocks.specs.Frame.{OnlyReads};
 ghost use Rattle.quota_blocks.specs.Unsynced.{AddsNone};
 ghost use Rattle.tree_file.specs.Check.{IsCheckFault};
-ghost use Rattle.tree_layout.specs.Block.{bytes_of};
+ghost use Rattle.tree_build.specs.Block.{bytes_of};
 ghost use Rattle.tree_file.specs.Found.{HasNoEmptyBlock, IsListedDefect};
 ghost use Rattle.tree_file.specs.Groups.{AreGroupsOf};
 ghost use Rattle.tree_file.specs.Reads.{led_blocks};
-ghost use Rattle.tree_layout.specs.Roles.{Chained, Filled};
-ghost use Rattle.tree_layout.specs.Tree.{leaves};
+ghost use Rattle.tree_build.specs.Roles.{Chained, Filled};
+ghost use Rattle.tree_build.specs.Tree.{leaves};
 
 use crate::chain::walk_chain;
 use crate::checked::CheckFault;

@@ -6,18 +6,18 @@ ghost use Rattle.quota_blocks.specs.QuotaValue.{IsAfter, IsNextAfter, QuotaValue
 ghost use Rattle.quota_blocks.specs.World.{overwritten};
 ghost use Rattle.entry_codec.specs.Entry.{entry_size};
 ghost use Rattle.entry_codec.specs.Header.{AreOf, header_of};
-ghost use Rattle.tree_layout.specs.Block.{block_of};
-ghost use Rattle.tree_layout.specs.Defect.{IsTreeDefect};
+ghost use Rattle.tree_build.specs.Block.{block_of};
+ghost use Rattle.tree_build.specs.Defect.{IsTreeDefect};
 ghost use Rattle.tree_file.specs.Lookup.{IsLeafFault};
 ghost use Rattle.tree_file.specs.Overwritten.{HasEntryAt};
-ghost use Rattle.tree_layout.specs.TreeFile.{TreeStandsFor, record_in};
+ghost use Rattle.tree_build.specs.TreeFile.{TreeStandsFor, record_in};
 
 use crate::TreePath;
 use crate::descent::{first_leaf, leaf_block};
 use entry_codec::{Header, entry_size};
 use quota_types::{Damage, DamageKind, Entry, Format, Grace, Rec};
 use std::mem::swap;
-use tree_layout::{block_of, find_place, find_record};
+use tree_build::{block_of, find_place, find_record};
 
 /// The blocks of a tree file as they were loaded, and the header that they begin with. Bytes past their end count as 0.
 #[derive(Debug, Drop)]

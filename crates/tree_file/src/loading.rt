@@ -2,11 +2,11 @@ ghost use Rattle.std.specs.Prelude.{◌≡◌, ◌+◌, ◌*◌, ◌<◌, ◌≤
 ghost use Rattle.quota_blocks.specs.Frame.{OnlyReads};
 ghost use Rattle.quota_blocks.specs.Unsynced.{AddsNone};
 ghost use Rattle.tree_file.specs.Check.{IsCheckFault};
-ghost use Rattle.tree_layout.specs.Block.{bytes_of};
+ghost use Rattle.tree_build.specs.Block.{bytes_of};
 
 use crate::CheckFault;
 use quota_blocks::Store;
-use tree_layout::BLOCK;
+use tree_build::BLOCK;
 
 /// Appends the bytes that a file has of a block to those of all blocks before it. Where the file ends before the block there
 /// are none.

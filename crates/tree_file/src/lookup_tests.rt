@@ -10,7 +10,7 @@ use quota_types::{Damage, Entry, Format, Kind, Rec};
 use std::alloc::Global;
 use std::process::Abort;
 use std::test::Fail;
-use tree_layout::block_of;
+use tree_build::block_of;
 
 /// The record of identifier 1000 in the six-block file.
 const REC: Rec = Rec {

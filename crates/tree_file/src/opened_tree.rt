@@ -12,7 +12,7 @@ ghost use Rattle.entry_codec.specs.Header.{AreOf, header_of};
 ghost use Rattle.tree_file.specs.Opened.{HoldsTree, LacksRoom, MayRefuse, tree_seen};
 ghost use Rattle.tree_file.specs.Rebuilt.{value_changed};
 ghost use Rattle.tree_file.specs.TreeChange.{IsBuiltAnew, IsRewriteFault, WritesWhole};
-ghost use Rattle.tree_layout.specs.TreeFile.{TreeStandsFor};
+ghost use Rattle.tree_build.specs.TreeFile.{TreeStandsFor};
 
 use crate::changed_tree::{GRACE_AT, grace_bytes, rebuilt};
 use crate::loaded::LoadedTree;

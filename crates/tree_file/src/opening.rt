@@ -9,10 +9,10 @@ ghost use Rattle.quota_blocks.specs.QuotaValue.{QuotaValue};
 ghost use Rattle.quota_blocks.specs.Unsynced.{AddsNone};
 ghost use Rattle.std.specs.Bool.{OnFalse, OnTrue};
 ghost use Rattle.tree_file.specs.Check.{IsCheckFault};
-ghost use Rattle.tree_layout.specs.Block.{bytes_of};
-ghost use Rattle.tree_layout.specs.Defect.{IsTreeDefect};
+ghost use Rattle.tree_build.specs.Block.{bytes_of};
+ghost use Rattle.tree_build.specs.Defect.{IsTreeDefect};
 ghost use Rattle.tree_file.specs.Opened.{tree_seen};
-ghost use Rattle.tree_layout.specs.TreeFile.{TreeStandsFor};
+ghost use Rattle.tree_build.specs.TreeFile.{TreeStandsFor};
 ghost use Rattle.tree_file.specs.View.{FitsRequest, HasHeader, IsAsAsked, IsRefusedHeader, IsTreeFault, IsTreeView};
 
 use crate::file_header::header_in;

@@ -3,9 +3,9 @@ ghost use Rattle.std.specs.Bool.{OnTrue};
 ghost use Rattle.entry_codec.specs.Entry.{entry_size};
 ghost use Rattle.quota_blocks.specs.QuotaValue.{QuotaValue};
 ghost use Rattle.tree_build.specs.Needed.{HasMet};
-ghost use Rattle.tree_layout.specs.Size.{ids_in, blocks_needed};
+ghost use Rattle.tree_build.specs.Size.{ids_in, blocks_needed};
 ghost use Rattle.tree_file.specs.Overwritten.{HasEntryAt};
-ghost use Rattle.tree_layout.specs.TreeFile.{TreeStandsFor};
+ghost use Rattle.tree_build.specs.TreeFile.{TreeStandsFor};
 
 use crate::loaded::LoadedTree;
 use quota_types::Damage;

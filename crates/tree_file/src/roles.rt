@@ -2,7 +2,7 @@ ghost use Rattle.std.specs.Prelude.{◌≡◌, ◌+◌, ◌*◌, ◌≤◌, map,
 ghost use Rattle.quota_blocks.specs.Frame.{OnlyReads};
 ghost use Rattle.quota_blocks.specs.Unsynced.{AddsNone};
 ghost use Rattle.tree_file.specs.Check.{IsCheckFault};
-ghost use Rattle.tree_layout.specs.Block.{bytes_of};
+ghost use Rattle.tree_build.specs.Block.{bytes_of};
 ghost use Rattle.tree_file.specs.Found.{AreRoles, IsRoleDefect};
 ghost use Rattle.tree_file.specs.Reads.{led_blocks};
 
@@ -14,7 +14,7 @@ use crate::tree::find_leaves;
 use quota_blocks::Store;
 use quota_types::DamageKind;
 use std::alloc::Global;
-use tree_layout::damage_at;
+use tree_build::damage_at;
 
 /// The block of the header.
 const HEADER: u32 = 0;

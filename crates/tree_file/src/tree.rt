@@ -4,9 +4,9 @@ ghost use Rattle.quota_blocks.specs.Frame.{OnlyReads};
 ghost use Rattle.quota_blocks.specs.Unsynced.{AddsNone};
 ghost use Rattle.tree_file.specs.BlockSet.{AreFlagsOf};
 ghost use Rattle.tree_file.specs.Check.{IsCheckFault};
-ghost use Rattle.tree_layout.specs.Block.{bytes_of};
+ghost use Rattle.tree_build.specs.Block.{bytes_of};
 ghost use Rattle.tree_file.specs.Levels.{AreTreeBlocksWhole, AreWithin, IsLevelDefect, IsSecondRole, IsStepFault, IsTreeFault, IsWhole};
-ghost use Rattle.tree_layout.specs.Tree.{blocks_of, leaves, steps, tree_blocks};
+ghost use Rattle.tree_build.specs.Tree.{blocks_of, leaves, steps, tree_blocks};
 ghost use Rattle.tree_file.specs.Reads.{AreMarkedReads};
 
 use crate::block_set::BlockSet;
@@ -15,7 +15,7 @@ use crate::{CheckFault, TreePath};
 use quota_blocks::Store;
 use quota_types::DamageKind;
 use std::alloc::Global;
-use tree_layout::damage_at;
+use tree_build::damage_at;
 
 /// Finds the leaves of a file's tree, in order, and adds the blocks of the tree to those that were met.
 pub(crate) fn find_leaves<S: Store>(

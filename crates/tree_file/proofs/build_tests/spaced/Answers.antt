@@ -4,8 +4,8 @@ use Rattle.std.specs.List.{AllByRecursion}
 use Rattle.quota_types.specs.declared.record.Entry.{Entry}
 use Rattle.quota_types.specs.declared.record.Rec.{Rec}
 use Rattle.quota_blocks.specs.Listed.{ids_of}
-use Rattle.tree_layout.proofs.OrderLemmas.{Ascends, increasing_of}
-use Rattle.tree_layout.proofs.PathLemmas.{each-append, each_weaker}
+use Rattle.tree_build.proofs.OrderLemmas.{Ascends, increasing_of}
+use Rattle.tree_build.proofs.PathLemmas.{each-append, each_weaker}
 use Rattle.tree_file.proofs.build_tests.spaced.Goals as goal
 
 -- a number behind those below it

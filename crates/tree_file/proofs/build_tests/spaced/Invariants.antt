@@ -2,7 +2,7 @@ use Rattle.std.proofs.Common.{◌≡◌, ◌*◌, ◌<◌}
 use Rattle.std.specs.List.{AllByRecursion}
 use Rattle.quota_types.specs.declared.record.Entry.{Entry}
 use Rattle.quota_blocks.specs.Listed.{ids_of}
-use Rattle.tree_layout.proofs.OrderLemmas.{Ascends}
+use Rattle.tree_build.proofs.OrderLemmas.{Ascends}
 use Rattle.tree_file.proofs.build_tests.spaced.Given as goal
 
 abbrev pub invariant-loop-place : goal.invariant-loop-place

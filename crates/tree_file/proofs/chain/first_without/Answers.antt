@@ -1,5 +1,5 @@
 use Rattle.std.proofs.Common.{below_more, ℕ, arith}
-use Rattle.tree_layout.specs.Count.{StandsIn}
+use Rattle.tree_build.specs.Count.{StandsIn}
 use Rattle.tree_file.proofs.chain.first_without.Goals as goal
 
 pub loop-block-preserved : goal.loop-block-preserved

@@ -1,6 +1,6 @@
 use Rattle.std.proofs.Common.{◌<◌, ℕ, List, ◌++◌, take}
 use Rattle.tree_file.specs.BlockSet.{AreFlagsOf}
-use Rattle.tree_layout.specs.Count.{StandsIn}
+use Rattle.tree_build.specs.Count.{StandsIn}
 use Rattle.tree_file.specs.Walk.{linked_blocks}
 use Rattle.tree_file.proofs.chain.mark_links.Given as goal
 

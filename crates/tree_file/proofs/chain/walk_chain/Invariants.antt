@@ -1,7 +1,7 @@
 use Rattle.std.proofs.Common.{◌+◌, ◌-◌, ◌≤◌, vec_len, IsTrue}
 use Rattle.quota_blocks.specs.Frame.{OnlyReads}
 use Rattle.quota_blocks.specs.Unsynced.{AddsNone}
-use Rattle.tree_layout.specs.Block.{bytes_of}
+use Rattle.tree_build.specs.Block.{bytes_of}
 use Rattle.tree_file.specs.Walk.{AreLinksTo, IsWalk}
 use Rattle.tree_file.proofs.chain.walk_chain.Given as goal
 

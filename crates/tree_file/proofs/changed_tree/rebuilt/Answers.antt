@@ -3,10 +3,10 @@ use Rattle.quota_types.specs.declared.file_kind.Format.{Format}
 use Rattle.quota_types.specs.declared.record.Entry.{Entry}
 use Rattle.quota_blocks.specs.Listed.{ids_of}
 use Rattle.tree_file.specs.Listing.{with_change}
-use Rattle.tree_layout.specs.Size.{blocks_needed}
-use Rattle.tree_layout.specs.TreeFile.{TreeStandsFor}
+use Rattle.tree_build.specs.Size.{blocks_needed}
+use Rattle.tree_build.specs.TreeFile.{TreeStandsFor}
 use Rattle.tree_file.proofs.ListingLemmas.{ids_listed, value_listed}
-use Rattle.tree_layout.proofs.MeaningLemmas.{header_format}
+use Rattle.tree_build.proofs.MeaningLemmas.{header_format}
 use Rattle.tree_file.proofs.changed_tree.rebuilt.Goals as goal
 
 pub returns-in-Ok-build-clause-stands : goal.returns-in-Ok-build-clause-stands

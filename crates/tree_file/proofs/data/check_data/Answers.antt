@@ -2,8 +2,8 @@ use Rattle.std.proofs.Common.{◌≡◌, ℕ, ◌+◌, cond, nat_le, List, [], l
 use Rattle.std.proofs.lemmas.List.{get_or-map, length-map}
 use Rattle.quota_blocks.proofs.FrameLemmas.{adds_none-then, only_reads-then}
 use Rattle.tree_file.specs.BlockSet.{AreFlagsOf}
-use Rattle.tree_layout.specs.Block.{bytes_of}
-use Rattle.tree_layout.specs.Compared.{leading_ids, rooms}
+use Rattle.tree_build.specs.Block.{bytes_of}
+use Rattle.tree_build.specs.Compared.{leading_ids, rooms}
 use Rattle.tree_file.proofs.DataLemmas.{entries_more, room_more}
 use Rattle.tree_file.proofs.ReadLemmas.{led_first, led_more}
 use Rattle.tree_file.proofs.data.check_data.Goals as goal

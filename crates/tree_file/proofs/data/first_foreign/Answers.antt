@@ -1,6 +1,6 @@
 use Rattle.std.proofs.Common.{ℕ}
 use Rattle.tree_file.specs.declared.link.Link.{Link}
-use Rattle.tree_layout.specs.Count.{StandsIn}
+use Rattle.tree_build.specs.Count.{StandsIn}
 use Rattle.tree_file.proofs.DataLemmas.{mapped_all, mapped_more}
 use Rattle.tree_file.proofs.WalkLemmas.{stands_mapped}
 use Rattle.tree_file.proofs.data.first_foreign.Goals as goal

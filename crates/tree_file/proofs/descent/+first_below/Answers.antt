@@ -1,6 +1,6 @@
 use Rattle.std.proofs.Common.{◌≡◌, ℕ, List, ◌∷◌, length, get_or, Option, sym, ap, subst, ◌∙◌, arith}
 use Rattle.std.specs.Result.{IfOk}
-use Rattle.tree_layout.specs.declared.tree_path.TreePath.{TreePath}
+use Rattle.tree_build.specs.declared.tree_path.TreePath.{TreePath}
 use Rattle.tree_file.specs.Lookup.{IsOnWay}
 use Rattle.tree_file.proofs.FirstLemmas.{here_next, past_next, past_none}
 use Rattle.tree_file.proofs.WayLemmas.{step_on_way}

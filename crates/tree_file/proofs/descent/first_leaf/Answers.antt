@@ -1,6 +1,6 @@
 use Rattle.std.proofs.Common.{◌≡◌, ℕ, List, length, Option, sym, ap, subst, ◌∙◌}
 use Rattle.std.specs.Result.{IfOk}
-use Rattle.tree_layout.specs.declared.tree_path.TreePath.{TreePath}
+use Rattle.tree_build.specs.declared.tree_path.TreePath.{TreePath}
 use Rattle.tree_file.specs.Descent.{path_from, paths_below, with_digits}
 use Rattle.tree_file.proofs.DescentLemmas.{leaves_below}
 use Rattle.tree_file.proofs.descent.first_leaf.Goals as goal

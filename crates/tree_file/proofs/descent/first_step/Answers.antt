@@ -1,8 +1,8 @@
 use Rattle.std.proofs.Common.{◌+◌, ◌<◌, sym, ap, ◌∙◌, Option, arith}
 use Rattle.std.specs.Option.{option_or}
-use Rattle.tree_layout.specs.declared.tree_path.TreePath.{TreePath}
+use Rattle.tree_build.specs.declared.tree_path.TreePath.{TreePath}
 use Rattle.tree_file.specs.Descent.{later_steps, path_from}
-use Rattle.tree_layout.proofs.FindLemmas.{some_or}
+use Rattle.tree_build.proofs.FindLemmas.{some_or}
 use Rattle.tree_file.proofs.WayLemmas.{first_later}
 use Rattle.tree_file.proofs.descent.first_step.Goals as goal
 

@@ -1,5 +1,5 @@
 use Rattle.std.proofs.Common.{◌≡◌, ℕ, ◌<◌, ◌≤◌}
-use Rattle.tree_layout.specs.Block.{word_at}
+use Rattle.tree_build.specs.Block.{word_at}
 use Rattle.tree_file.specs.Descent.{later_steps, path_from}
 use Rattle.tree_file.proofs.descent.first_step.Given as goal
 

@@ -1,7 +1,7 @@
 use Rattle.std.proofs.Common.{◌≡◌, ℕ, ◌<◌, List, true, get_or, length, sym, ap, subst, ◌∙◌, add-one, arith}
 use Rattle.quota_radix.specs.Digits.{digits_of}
-use Rattle.tree_layout.specs.Count.{StandsIn}
-use Rattle.tree_layout.specs.Tree.{leads, level}
+use Rattle.tree_build.specs.Count.{StandsIn}
+use Rattle.tree_build.specs.Tree.{leads, level}
 use Rattle.tree_file.proofs.FollowLemmas.{followed_all, followed_end, followed_none, followed_on, leads_on}
 use Rattle.tree_file.proofs.WayLemmas.{level_onward}
 use Rattle.tree_file.proofs.descent.leaf_block.Goals as goal

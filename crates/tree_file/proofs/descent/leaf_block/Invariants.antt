@@ -1,7 +1,7 @@
 use Rattle.std.proofs.Common.{◌≡◌, drop}
 use Rattle.quota_radix.specs.Digits.{digits_of}
-use Rattle.tree_layout.specs.Count.{StandsIn}
-use Rattle.tree_layout.specs.Tree.{level}
+use Rattle.tree_build.specs.Count.{StandsIn}
+use Rattle.tree_build.specs.Tree.{level}
 use Rattle.tree_file.proofs.FollowLemmas.{followed}
 use Rattle.tree_file.proofs.descent.leaf_block.Given as goal
 

@@ -1,5 +1,5 @@
 use Rattle.std.proofs.Common.{◌≡◌, ℕ, suc, ◌+◌, ◌-◌, ◌<◌, ◌≤◌, [], IfNone, Some, sym, subst, ◌∙◌, arith}
-use Rattle.tree_layout.specs.Block.{word_at}
+use Rattle.tree_build.specs.Block.{word_at}
 use Rattle.tree_file.specs.Descent.{later_steps, path_from, paths_below}
 use Rattle.tree_file.specs.Lookup.{IsOnWay}
 use Rattle.tree_file.proofs.FirstLemmas.{least_below_step}

@@ -1,5 +1,5 @@
 use Rattle.std.proofs.Common.{◌≡◌, ◌-◌, Some}
-use Rattle.tree_layout.specs.declared.tree_path.TreePath.{TreePath}
+use Rattle.tree_build.specs.declared.tree_path.TreePath.{TreePath}
 use Rattle.tree_file.specs.Descent.{path_from, paths_below}
 use Rattle.tree_file.specs.Lookup.{IsOnWay}
 use Rattle.tree_file.proofs.descent.least_below.Given as goal

@@ -1,6 +1,6 @@
 use Rattle.std.proofs.Common.{ℕ, ap, arith}
-use Rattle.tree_layout.specs.Block.{word_at}
-use Rattle.tree_layout.proofs.WordLemmas.{word_spelled}
+use Rattle.tree_build.specs.Block.{word_at}
+use Rattle.tree_build.proofs.WordLemmas.{word_spelled}
 use Rattle.tree_file.proofs.descent.word_at.Goals as goal
 
 pub returns : goal.returns

@@ -1,7 +1,7 @@
 use Rattle.std.proofs.Common.{ℕ, ap, Vec, Global, arith}
 use Rattle.std.proofs.lemmas.Bool.{false≢true}
 use Rattle.tree_file.proofs.GroupLemmas.{count_groups, group_grown}
-use Rattle.tree_layout.proofs.ChainLemmas.{leads_below}
+use Rattle.tree_build.proofs.ChainLemmas.{leads_below}
 use Rattle.tree_file.proofs.groups.group.Goals as goal
 use Rattle.tree_file.proofs.groups.group.Goals.{in-Some+in_ok-push, in_default}
 

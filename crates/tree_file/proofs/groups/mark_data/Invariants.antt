@@ -1,5 +1,5 @@
 use Rattle.std.proofs.Common.{ℕ, List, ◌++◌, map, Vec, Global}
-use Rattle.tree_layout.specs.declared.tree_path.TreePath.{TreePath}
+use Rattle.tree_build.specs.declared.tree_path.TreePath.{TreePath}
 use Rattle.tree_file.specs.BlockSet.{AreFlagsOf}
 use Rattle.tree_file.specs.Groups.{AreGroupsOf, named_blocks}
 use Rattle.tree_file.proofs.groups.mark_data.Given as goal

@@ -1,6 +1,6 @@
 use Rattle.std.proofs.Common.{◌≡◌, ◌<◌, refl, inl, inr, arith}
 use Rattle.tree_file.proofs.AddedStepLemmas.{added_more, all_within, block_empty_defect, block_whole, references_more, steps_added}
-use Rattle.tree_layout.proofs.StepLemmas.{word_in}
+use Rattle.tree_build.proofs.StepLemmas.{word_in}
 use Rattle.tree_file.proofs.levels.add_steps.Goals as goal
 
 pub loop-digit-preserved : goal.loop-digit-preserved

@@ -1,5 +1,5 @@
 use Rattle.std.proofs.Common.{◌≡◌, ℕ, ◌<◌, ◌++◌}
-use Rattle.tree_layout.proofs.StepLemmas.{steps_from, word_in}
+use Rattle.tree_build.proofs.StepLemmas.{steps_from, word_in}
 use Rattle.tree_file.proofs.levels.add_steps.Given as goal
 
 abbrev pub invariant-loop-digit : goal.invariant-loop-digit

@@ -2,8 +2,8 @@ use Rattle.std.proofs.Common.{ℕ, List, arith}
 use Rattle.std.proofs.lemmas.Result.{err_from_is_err_and}
 use Rattle.std.proofs.lemmas.List.Elements.{All-more}
 use Rattle.quota_blocks.proofs.FrameLemmas.{adds_none-then, only_reads-then}
-use Rattle.tree_layout.specs.declared.tree_path.TreePath.{TreePath}
-use Rattle.tree_layout.specs.Block.{bytes_of}
+use Rattle.tree_build.specs.declared.tree_path.TreePath.{TreePath}
+use Rattle.tree_build.specs.Block.{bytes_of}
 use Rattle.tree_file.specs.Levels.{IsWhole}
 use Rattle.tree_file.proofs.LevelLemmas.{level_refused, paths_more, read_of_same}
 use Rattle.tree_file.proofs.levels.next_level.Goals as goal

@@ -3,10 +3,10 @@ use Rattle.std.specs.Prelude.{All}
 use Rattle.std.specs.List.{flat_map}
 use Rattle.quota_blocks.specs.Frame.{OnlyReads}
 use Rattle.quota_blocks.specs.Unsynced.{AddsNone}
-use Rattle.tree_layout.specs.declared.tree_path.TreePath.{TreePath}
-use Rattle.tree_layout.specs.Block.{bytes_of}
+use Rattle.tree_build.specs.declared.tree_path.TreePath.{TreePath}
+use Rattle.tree_build.specs.Block.{bytes_of}
 use Rattle.tree_file.specs.Levels.{AreWithin, IsWhole}
-use Rattle.tree_layout.specs.Tree.{steps}
+use Rattle.tree_build.specs.Tree.{steps}
 use Rattle.tree_file.proofs.levels.next_level.Given as goal
 
 abbrev pub invariant-loop-path : goal.invariant-loop-path

@@ -1,8 +1,8 @@
 use Rattle.std.proofs.Common.{ℕ, List, Vec, Global, map, subst}
 use Rattle.std.proofs.lemmas.Result.{err_from_is_err_and}
 use Rattle.tree_file.specs.BlockSet.{AreFlagsOf}
-use Rattle.tree_layout.specs.Block.{bytes_of}
-use Rattle.tree_layout.specs.Compared.{HasEntriesOf, leading_ids, rooms}
+use Rattle.tree_build.specs.Block.{bytes_of}
+use Rattle.tree_build.specs.Compared.{HasEntriesOf, leading_ids, rooms}
 use Rattle.tree_file.proofs.FoundLemmas.{chained, data_refused, filled, list_defect, same_bytes, walked}
 use Rattle.tree_file.proofs.lists.check_lists.Goals as goal
 

@@ -1,7 +1,7 @@
 use Rattle.std.proofs.Common.{List, ℕ, ap, subst, ◌∙◌}
 use Rattle.entry_codec.specs.Header.{AreOf, HeaderNumbers, header_of}
-use Rattle.tree_layout.specs.Block.{block_of}
-use Rattle.tree_layout.proofs.WordLemmas.{header_in_block}
+use Rattle.tree_build.specs.Block.{block_of}
+use Rattle.tree_build.proofs.WordLemmas.{header_in_block}
 use Rattle.tree_file.proofs.lookup_tests.loaded.Goals as goal
 
 pub invariant_of-result : goal.invariant_of-result

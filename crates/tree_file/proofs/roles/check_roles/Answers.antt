@@ -2,13 +2,13 @@ use Rattle.std.proofs.Common.{ℕ, List, [], ◌∷◌, ◌++◌, length, Vec, G
 use Rattle.std.proofs.lemmas.List.{length-map}
 use Rattle.std.proofs.lemmas.Result.{err_from_is_err_and}
 use Rattle.tree_file.specs.declared.link.Link.{Link}
-use Rattle.tree_layout.specs.declared.tree_path.TreePath.{TreePath}
+use Rattle.tree_build.specs.declared.tree_path.TreePath.{TreePath}
 use Rattle.tree_file.specs.BlockSet.{AreFlagsOf}
-use Rattle.tree_layout.specs.Block.{bytes_of}
+use Rattle.tree_build.specs.Block.{bytes_of}
 use Rattle.tree_file.specs.Groups.{AreGroupsOf, named_blocks}
 use Rattle.tree_file.specs.Levels.{IsSecondRole}
-use Rattle.tree_layout.specs.Roles.{roles}
-use Rattle.tree_layout.specs.Tree.{data_blocks, tree_blocks}
+use Rattle.tree_build.specs.Roles.{roles}
+use Rattle.tree_build.specs.Tree.{data_blocks, tree_blocks}
 use Rattle.tree_file.specs.Walk.{AreLinksTo, linked_blocks}
 use Rattle.tree_file.proofs.FoundLemmas.{same_bytes, walked}
 use Rattle.tree_file.proofs.ReadLemmas.{roles_few}

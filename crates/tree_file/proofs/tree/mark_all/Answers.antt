@@ -1,5 +1,5 @@
 use Rattle.std.proofs.Common.{refl}
-use Rattle.tree_layout.proofs.ChainLemmas.{leads_below}
+use Rattle.tree_build.proofs.ChainLemmas.{leads_below}
 use Rattle.tree_file.proofs.LevelLemmas.{met_all, met_more, met_twice}
 use Rattle.tree_file.proofs.tree.mark_all.Goals as goal
 

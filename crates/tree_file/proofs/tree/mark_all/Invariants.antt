@@ -1,7 +1,7 @@
 use Rattle.std.proofs.Common.{ℕ, List, ◌++◌, take}
 use Rattle.tree_file.specs.BlockSet.{AreFlagsOf}
 use Rattle.tree_file.specs.Levels.{AreWithin}
-use Rattle.tree_layout.specs.Tree.{blocks_of}
+use Rattle.tree_build.specs.Tree.{blocks_of}
 use Rattle.tree_file.proofs.tree.mark_all.Given as goal
 
 abbrev pub invariant-loop-path : goal.invariant-loop-path

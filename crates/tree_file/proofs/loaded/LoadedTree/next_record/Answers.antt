@@ -1,9 +1,9 @@
 use Rattle.std.proofs.Common.{◌≡◌, ℕ, List, Some, sym, subst, ◌∙◌}
 use Rattle.tree_file.specs.Descent.{leaf_from}
-use Rattle.tree_layout.specs.Block.{block_of}
+use Rattle.tree_build.specs.Block.{block_of}
 use Rattle.entry_codec.specs.Header.{header_of}
-use Rattle.tree_layout.specs.Defect.{IsTreeDefect}
-use Rattle.tree_layout.specs.TreeFile.{record_in}
+use Rattle.tree_build.specs.Defect.{IsTreeDefect}
+use Rattle.tree_build.specs.TreeFile.{record_in}
 use Rattle.tree_file.proofs.LookupLemmas.{StandsForNone, leaf_damage, leaf_refused, next_leaf, none_next, none_past, on_err, on_same, one_next}
 use Rattle.tree_file.proofs.loaded.LoadedTree.next_record.Goals as goal
 

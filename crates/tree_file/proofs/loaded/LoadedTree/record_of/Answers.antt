@@ -1,9 +1,9 @@
 use Rattle.std.proofs.Common.{◌≡◌, ℕ, List, Some, None, sym, subst, ◌∙◌, arith}
 use Rattle.tree_file.specs.Descent.{leaf_block}
-use Rattle.tree_layout.specs.Block.{block_of}
+use Rattle.tree_build.specs.Block.{block_of}
 use Rattle.entry_codec.specs.Header.{header_of}
-use Rattle.tree_layout.specs.Defect.{IsTreeDefect}
-use Rattle.tree_layout.specs.TreeFile.{record_in}
+use Rattle.tree_build.specs.Defect.{IsTreeDefect}
+use Rattle.tree_build.specs.TreeFile.{record_in}
 use Rattle.tree_file.proofs.LookupLemmas.{StandsForNone, leaf_damage, leaf_of_block, leaf_refused, no_leaf_of_block, no_record, on_err, on_same, one_record}
 use Rattle.tree_file.proofs.loaded.LoadedTree.record_of.Goals as goal
 

@@ -1,5 +1,5 @@
 use Rattle.tree_file.proofs.MakesLemmas.{loaded_stands}
-use Rattle.tree_layout.proofs.MeaningLemmas.{header_flags}
+use Rattle.tree_build.proofs.MeaningLemmas.{header_flags}
 use Rattle.tree_file.proofs.opened_tree.TreeFile.flags.Goals as goal
 
 pub returns : goal.returns

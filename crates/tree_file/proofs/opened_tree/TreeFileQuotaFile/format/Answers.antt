@@ -1,5 +1,5 @@
 use Rattle.tree_file.proofs.MakesLemmas.{loaded_stands}
-use Rattle.tree_layout.proofs.MeaningLemmas.{header_format}
+use Rattle.tree_build.proofs.MeaningLemmas.{header_format}
 use Rattle.tree_file.proofs.opened_tree.TreeFileQuotaFile.format.Goals as goal
 
 pub returns-clause-value : goal.returns-clause-value

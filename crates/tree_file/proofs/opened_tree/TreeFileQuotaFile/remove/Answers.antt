@@ -6,7 +6,7 @@ use Rattle.std.specs.String.{string_bytes}
 use Rattle.quota_types.specs.declared.record.Rec.{Rec}
 use Rattle.quota_blocks.specs.QuotaValue.{QuotaValue, without_record}
 use Rattle.tree_file.specs.Opened.{HoldsTree}
-use Rattle.tree_layout.specs.Size.{ids_in, blocks_needed}
+use Rattle.tree_build.specs.Size.{ids_in, blocks_needed}
 use Rattle.tree_file.proofs.EnoughLemmas.{enough_blocks}
 use Rattle.tree_file.proofs.ListingLemmas.{absent_stays}
 use Rattle.tree_file.proofs.MakesLemmas.{if_full, left_as_before, left_between, loaded_stands, on_store_fault}

@@ -1,0 +1,202 @@
+ghost use Rattle.std.specs.Prelude.{◌≡◌, ◌≢◌, ℕ, ◌+◌, ◌<◌, ◌≤◌, ◌++◌, ◌||◌, length, IfOk, IfSome, IsSome, OnOk, IfErr, MatchOption};
+ghost use Rattle.arrayvec.specs.ArrayVec.{array_vec_len};
+ghost use Rattle.entry_codec.specs.Entry.{entries_per_block, entry_size, is_unused};
+ghost use Rattle.quota_types.specs.Bytes.{number_at};
+ghost use Rattle.quota_types.specs.Kept.{IsKept};
+ghost use Rattle.tree_build.specs.Compared.{AreEntriesOf, IsEntryDefectAt, id_in};
+ghost use Rattle.tree_build.specs.Count.{StandsIn, StandsTwiceIn, times};
+ghost use Rattle.tree_build.specs.Defect.{NamesItsId};
+ghost use Rattle.tree_build.specs.Entries.{entry_bytes, has_unused, record_by, used_ids};
+ghost use Rattle.tree_build.specs.TreeFile.{record_in};
+
+use crate::damage_at;
+use arrayvec::ArrayVec;
+use entry_codec::{entries_per_block, entry_size, read_entry};
+use quota_blocks::{le16, le32};
+use quota_types::{Damage, DamageKind, Format, Rec};
+
+/// What the entries of a data block are used for.
+#[derive(Drop)]
+struct Used {
+    /// The identifiers of those that are used, in order.
+    ids: ArrayVec<u32, 21>,
+    /// Whether some entry is unused.
+    has_unused: bool,
+}
+
+impl Used {
+    /// Counts an entry, by its bytes.
+    fn add(&mut self, format: Format, bytes: &[u8])
+        requires tree { format ≢ Format.V1 }
+        requires size { length bytes.now ≡ entry_size format }
+        requires room { array_vec_len self.old.ids < 21 }
+        ensures ids { self.new.ids.items ≡ self.old.ids.items ++ id_in format bytes.now }
+        ensures unused { self.new.has_unused ≡ (self.old.has_unused || is_unused bytes.now) }
+        ensures len { array_vec_len self.new.ids ≤ array_vec_len self.old.ids + 1 }
+    {
+        match read_entry(format, bytes) {
+            Some((id, _)) => self.ids.push(id),
+            None => self.has_unused = true,
+        }
+    }
+}
+
+/// The bytes of an entry, by its place among the entries.
+fn entry_bytes(format: Format, block: &[u8; 1024], place: usize) -> &[u8]
+    requires tree { format ≢ Format.V1 }
+    requires place { place < entries_per_block format }
+    ensures value { result.now ≡ entry_bytes format block.now place }
+    ensures size { length result.now ≡ entry_size format }
+{
+    let size = entry_size(format);
+    let start = 16 + size * place;
+    &block[start..start + size]
+}
+
+/// What the entries of a block are used for.
+fn read_used(format: Format, block: &[u8; 1024]) -> Used
+    requires tree { format ≢ Format.V1 }
+    ensures ids { result.ids.items ≡ used_ids format block.now }
+    ensures unused { result.has_unused ≡ has_unused format block.now }
+{
+    let mut used = Used {
+        ids: ArrayVec::new(),
+        has_unused: false,
+    };
+    for place in 0..entries_per_block(format) {
+        used.add(format, entry_bytes(format, block, place));
+    }
+    used
+}
+
+/// The record of the entry of a block at a place among the entries, where it is used by this identifier.
+fn record_by(format: Format, block: &[u8; 1024], place: usize, id: u32) -> Option<Rec>
+    requires tree { format ≢ Format.V1 }
+    requires place { place < entries_per_block format }
+    ensures value { result ≡ record_by format block.now id place }
+    ensures kept { IfSome result (IsKept format id) }
+{
+    let bytes = entry_bytes(format, block, place);
+    if le32(block, 16 + entry_size(format) * place) != id {
+        return None;
+    }
+    let (_, rec) = read_entry(format, bytes)?;
+    Some(rec)
+}
+
+/// The record of the first entry of a block that is used by an identifier.
+pub fn find_record(format: Format, block: &[u8; 1024], id: u32) -> Option<Rec>
+    requires tree { format ≢ Format.V1 }
+    ensures value { result ≡ record_in format block.now id }
+    ensures kept { IfSome result (IsKept format id) }
+{
+    for place in 0..entries_per_block(format) {
+        let rec = record_by(format, block, place, id);
+        if rec.is_some() {
+            return rec;
+        }
+    }
+    None
+}
+
+/// The place among the entries of a block of the first one that is used by an identifier.
+pub fn find_place(format: Format, block: &[u8; 1024], id: u32) -> Option<usize>
+    requires tree { format ≢ Format.V1 }
+    ensures low { IfSome result (λ place. place < entries_per_block format) }
+    ensures used { IfSome result (λ place. IsSome (record_by format block.now id place)) }
+{
+    for place in 0..entries_per_block(format) {
+        if record_by(format, block, place, id).is_some() {
+            return Some(place);
+        }
+    }
+    None
+}
+
+/// The first of some numbers that is none of others.
+fn first_not_in(numbers: &[u32], others: &[u32]) -> Option<u32>
+    ensures { MatchOption result ((number : ℕ) → StandsIn numbers.now number → StandsIn others.now number)
+        (λ number. StandsIn numbers.now number × (times others.now number ≡ 0)) }
+{
+    for number in numbers {
+        if !others.contains(number) {
+            return Some(*number);
+        }
+    }
+    None
+}
+
+/// The first of some numbers that stands among them twice.
+fn first_double(numbers: &[u32]) -> Option<u32>
+    ensures { MatchOption result ((number : ℕ) → times numbers.now number ≤ 1)
+        (λ number. StandsTwiceIn numbers.now number) }
+{
+    for number in numbers {
+        if count(numbers, *number) > 1 {
+            return Some(*number);
+        }
+    }
+    None
+}
+
+/// How often a number stands among others.
+fn count(numbers: &[u32], number: u32) -> usize
+    ensures { result ≡ times numbers.now number }
+{
+    numbers.iter().filter(|other| **other == number).count()
+}
+
+/// Compares the entries of a data block with the identifiers that lead to it, and answers whether one is unused.
+pub fn compare_entries(
+    format: Format,
+    number: u32,
+    block: &[u8; 1024],
+    ids: &[u32],
+) -> Result<bool, Damage>
+    requires tree { format ≢ Format.V1 }
+    ensures entries { OnOk result (AreEntriesOf (number_at 2 block.now 8) (used_ids format block.now) ids.now) }
+    ensures room { IfOk result (λ has_room. has_room ≡ has_unused format block.now) }
+    ensures refused { IfErr result (IsEntryDefectAt number (number_at 2 block.now 8)
+        (used_ids format block.now) ids.now) }
+    ensures names_id { IfErr result (λ damage. NamesItsId damage.kind damage.id) }
+{
+    let used = read_used(format, block);
+    if usize::from(le16(block, 8)) != used.ids.len() {
+        return Err(damage_at(DamageKind::BadCount, number));
+    }
+    compare_ids(number, used.ids.as_slice(), ids)?;
+    Ok(used.has_unused)
+}
+
+/// Compares the identifiers of a data block's used entries with those that lead to it.
+///
+/// An identifier without an entry is looked for first: where more of them lead to the block than it has entries, one of
+/// the first `used.len() + 1` has none, and the searches that follow never run.
+fn compare_ids(number: u32, used: &[u32], ids: &[u32]) -> Result<(), Damage>
+    ensures same { OnOk result (AreEntriesOf (length used.now) used.now ids.now) }
+    ensures refused { IfErr result (λ damage. (stated : ℕ) → IsEntryDefectAt number stated used.now ids.now damage) }
+    ensures names_id { IfErr result (λ damage. NamesItsId damage.kind damage.id) }
+{
+    if let Some(id) = first_not_in(ids, used) {
+        return Err(Damage {
+            kind: DamageKind::MissingEntry,
+            block: number,
+            id,
+        });
+    }
+    if let Some(id) = first_not_in(used, ids) {
+        return Err(Damage {
+            kind: DamageKind::StrayEntry,
+            block: number,
+            id,
+        });
+    }
+    if let Some(id) = first_double(used) {
+        return Err(Damage {
+            kind: DamageKind::DoubleEntry,
+            block: number,
+            id,
+        });
+    }
+    Ok(())
+}

@@ -1,0 +1,49 @@
+//! Laws of tree files: what they mean, and when they mean something.
+
+ghost use Rattle.std.specs.Prelude.{◌≡◌, ◌↔◌, ◌≢◌, ℕ, List, [], ◌∷◌, Some, None};
+ghost use Rattle.std.specs.List.{range_with_len};
+ghost use Rattle.entry_codec.specs.Entry.{IsEntry};
+ghost use Rattle.entry_codec.specs.Header.{format_of, header_fault, header_of};
+ghost use Rattle.quota_blocks.specs.QuotaValue.{QuotaValue};
+ghost use Rattle.quota_types.specs.declared.damage.Damage.{Damage};
+ghost use Rattle.quota_types.specs.declared.file_kind.Format.{Format};
+ghost use Rattle.quota_types.specs.declared.file_kind.Format.TheVariants.{V1, V2R0, V2R1};
+ghost use Rattle.quota_types.specs.declared.file_kind.Kind.{Kind};
+ghost use Rattle.quota_types.specs.declared.record.Rec.{Rec};
+ghost use Rattle.tree_build.specs.Defect.{IsTreeDefect};
+ghost use Rattle.tree_build.specs.Entries.{entry_of};
+ghost use Rattle.tree_build.specs.Size.{blocks_needed};
+ghost use Rattle.tree_build.specs.TreeFile.{TreeStandsFor};
+
+/// A tree file stands for one value at most.
+pub fn a_file_has_one_meaning()
+    ensures { (file : List ℕ) (value other : QuotaValue) → TreeStandsFor file value → TreeStandsFor file other
+        → value ≡ other }
+{}
+
+/// A file whose header is one of the kind stands for a value of the kind exactly where nothing is wrong with it, however
+/// many blocks it has.
+pub fn a_file_has_a_meaning_where_nothing_is_wrong()
+    ensures { (file : List ℕ) (kind : Kind) (format : Format) → header_fault kind (header_of file) ≡ None
+        → format_of (header_of file).version ≡ Some format
+        → ((value : QuotaValue) × (value.kind ≡ kind) × TreeStandsFor file value)
+        ↔ ((damage : Damage) → ¬ IsTreeDefect format file (header_of file) damage) }
+{}
+
+/// The entry of some bytes is the one that they spell.
+pub fn an_entry_is_what_its_bytes_spell()
+    ensures { (format : Format) (bytes : List ℕ) (id : ℕ) (rec : Rec) → format ≢ V1
+        → (IsEntry format bytes id rec ↔ (entry_of format bytes ≡ Some (record { id = id; rec = rec }))) }
+{}
+
+/// A file of no identifier has the header and the root. Identifier 1000 needs a block of the tree for each of its other
+/// beginnings, and a data block. A data block has 14 entries in vfsv1 and 21 in vfsv0.
+pub fn some_sizes()
+    ensures none { blocks_needed V2R1 [] ≡ 2 }
+    ensures one { blocks_needed V2R1 (1000 ∷ []) ≡ 6 }
+    ensures far { blocks_needed V2R1 (0 ∷ 4294967295 ∷ []) ≡ 9 }
+    ensures two_data_blocks { blocks_needed V2R1 (range_with_len 0 15) ≡ 7 }
+    ensures full_data_block { blocks_needed V2R0 (range_with_len 0 21) ≡ 6 }
+    ensures one_more { blocks_needed V2R0 (range_with_len 0 22) ≡ 7 }
+    ensures flat { blocks_needed V1 (1000 ∷ []) ≡ 0 }
+{}
