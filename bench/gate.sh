@@ -1,0 +1,100 @@
+#!/usr/bin/env bash
+# Runs the merge gate from nothing, and prints for each crate, for its tests and for its wrong bodies how many processor
+# seconds the prover took and the most memory that it held, most first, and behind them the wall time and the processor
+# time of all. Then, for each crate, its lines and its functions and the memory that the gate plans before it starts it:
+# where these plans do not fit beside each other, crates wait for each other.
+# usage: bench/gate.sh [LOG]   what the gate says goes to LOG (gate.log in the temporary folder)
+set -u
+top=$(cd "$(dirname "${BASH_SOURCE[0]}")/.." && pwd) || exit 1
+cd "$top" || exit 1
+exec python3 - "${1:-${TMPDIR:-/tmp}/gate.log}" <<'PY'
+import collections, glob, os, re, resource, subprocess, sys, time
+
+TICK = os.sysconf("SC_CLK_TCK")
+PAGE = os.sysconf("SC_PAGE_SIZE")
+
+
+def text_of(path):
+    try:
+        with open(path, errors="replace") as it:
+            return it.read()
+    except OSError:
+        return ""
+
+
+def look(seen):
+    """Notes the processor time and the memory of each prover that runs."""
+    for folder in glob.glob("/proc/[0-9]*"):
+        words = text_of(f"{folder}/cmdline").split("\0")
+        if not words[0].endswith("/rattle") or "--crate-name" not in words:
+            continue
+        try:
+            numbers = text_of(f"{folder}/stat").rpartition(")")[2].split()
+            held = int(text_of(f"{folder}/statm").split()[1]) * PAGE
+            place = os.readlink(f"{folder}/cwd")
+        except (OSError, IndexError, ValueError):
+            continue
+        crate = words[words.index("--crate-name") + 1]
+        part = "wrong bodies" if "rt-edit" in place else "tests" if "--test" in words else "proof"
+        spent = (int(numbers[11]) + int(numbers[12])) / TICK
+        known = seen.get(folder, (0, 0, "", ""))
+        # (a number of a process may be given again)
+        key = folder if spent >= known[0] and (crate, part) == known[2:] or not known[2] else f"{folder} {time.time()}"
+        if key != folder:
+            seen[key] = known
+        seen[folder] = (spent, max(held, known[1] if key == folder else 0), crate, part)
+
+
+def lines_of(crate, ending):
+    found = [f"{at}/{name}" for part in ("src", "specs", "proofs") for at, _, names in os.walk(f"crates/{crate}/{part}") for name in names]
+    return [text_of(it) for it in found if it.endswith(ending)]
+
+
+def plans():
+    """The memory that the gate plans for each crate: a part for the libraries, and by the lines of its sources, of its proofs and of the crates below it."""
+    below = {}
+    for line in text_of("crates.txt").splitlines():
+        name, colon, rest = line.split("#")[0].partition(":")
+        if colon:
+            below[name.split()[0]] = rest.split()
+    source = {it: sum(text.count("\n") for text in lines_of(it, ".rt")) for it in below}
+
+    def under(crate):
+        direct = [it for it in below[crate] if it in below]
+        return set(direct).union(*[under(it) for it in direct])
+
+    for crate in below:
+        proofs = sum(text.count("\n") for text in lines_of(crate, ".antt"))
+        functions = sum(len(re.findall(r"^\s*(?:pub(?:\([a-z]+\))? )?(?:const )?fn \w", text, re.M)) for text in lines_of(crate, ".rt"))
+        bodies = len(glob.glob(f"crates/{crate}/must-fail/*.edit"))
+        memory = 1e9 + 1e6 * source[crate] + 2e5 * proofs + 8e4 * sum(source[it] for it in under(crate))
+        yield crate, source[crate], functions, proofs, bodies, memory
+
+
+log = sys.argv[1]
+knows = subprocess.run(["rt", "help"], capture_output=True, text=True)
+words = ["rt", "ci", "--anew"] if "--anew" in knows.stdout + knows.stderr else ["rt", "ci"]
+seen, start = {}, time.time()
+with open(log, "w") as out:
+    gate = subprocess.Popen(words, stdout=out, stderr=subprocess.STDOUT)
+    while gate.poll() is None:
+        look(seen)
+        time.sleep(0.5)
+wall = time.time() - start
+spent, held = collections.Counter(), collections.Counter()
+for seconds, most, crate, part in seen.values():
+    spent[crate, part] += seconds
+    held[crate, part] = max(held[crate, part], most)
+print(f"{'crate':18} {'part':14} {'processor s':>11} {'GB held':>8}")
+for (crate, part), seconds in spent.most_common():
+    print(f"{crate:18} {part:14} {seconds:11.0f} {held[crate, part] / 1e9:8.1f}")
+used = resource.getrusage(resource.RUSAGE_CHILDREN)
+print(f"wall {wall / 60:.1f} min, processor {(used.ru_utime + used.ru_stime) / 60:.1f} min, of which proofs, tests and wrong bodies:", end="")
+for part in ("proof", "tests", "wrong bodies"):
+    print(f" {sum(s for (_, p), s in spent.items() if p == part) / 60:.1f}", end="")
+print(f"\n{text_of(log).strip().splitlines()[-1] if text_of(log).strip() else 'the gate said nothing'} (the whole log: {log})")
+print(f"\n{'crate':18} {'lines':>6} {'functions':>9} {'proofs':>7} {'bodies':>6} {'GB planned':>10}")
+for crate, source, functions, proofs, bodies, memory in plans():
+    print(f"{crate:18} {source:6} {functions:9} {proofs:7} {bodies:6} {memory / 1e9:10.1f}")
+sys.exit(gate.returncode)
+PY
