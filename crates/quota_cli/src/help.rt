@@ -116,7 +116,7 @@ impl About {
 pub fn tell<O: Sink, E: Sink>(out: &mut O, err: &mut E, text: &str, alloc: Global) -> u8
     ensures told { result ≡ 0 → IsTrue O.tells
         → (O.seen out.new).written ≡ (O.seen out.old).written ++ text.now }
-    ensures part { IsTrue O.tells → AppendsPrefix (O.seen out.old).written (O.seen out.new).written text.now }
+    ensures part { result ≡ 4 → IsTrue O.tells → AppendsPrefix (O.seen out.old).written (O.seen out.new).written text.now }
     ensures fault { (result ≡ 0) ⊎ ((result ≡ 4) × Rose (O.seen out.old).faults (O.seen out.new).faults) }
     // The error output gets nothing, or the line of a fault of the output.
     ensures quiet { result ≡ 0 → err.new ≡ err.old }
