@@ -6,10 +6,28 @@
 #![tactic(auto)]
 
 #[cfg(test)]
+mod block_rows;
+#[cfg(test)]
+mod call_rows;
+#[cfg(test)]
 mod codec_rows;
+#[cfg(test)]
+mod flat_rows;
+#[cfg(test)]
+mod helpers_low;
+#[cfg(test)]
+mod line_rows;
+#[cfg(test)]
+mod made_files;
+#[cfg(test)]
+mod map_rows;
 #[cfg(test)]
 mod radix_rows;
 #[cfg(test)]
-mod rpc_rows;
+mod reply_rows;
+#[cfg(test)]
+mod store_rows;
+#[cfg(test)]
+mod stream_rows;
 #[cfg(test)]
 mod types_rows;
