@@ -12,8 +12,6 @@ mod header;
 pub mod laws;
 mod layout;
 mod numbers;
-#[cfg(test)]
-mod tests;
 
 pub use entry::{read_entry, write_entry};
 pub use header::{Header, HeaderFault, read_header, write_header};

@@ -14,8 +14,6 @@
 mod block_number;
 mod failures;
 mod line_reader;
-#[cfg(test)]
-mod line_tests;
 mod line_words;
 mod link;
 mod mem_link;
@@ -32,8 +30,6 @@ mod source;
 mod store;
 mod store_input;
 mod store_source;
-#[cfg(test)]
-mod tests;
 mod text_buffer;
 mod whole_file;
 

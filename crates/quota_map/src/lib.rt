@@ -9,8 +9,6 @@ pub mod laws;
 mod opening;
 mod reading;
 mod replacing;
-#[cfg(test)]
-mod tests;
 
 pub use any_file::AnyFile;
 pub use opening::{MOST_BLOCKS, open_file};

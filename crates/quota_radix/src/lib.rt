@@ -7,8 +7,6 @@
 
 mod places;
 mod reference;
-#[cfg(test)]
-mod tests;
 
 pub use places::digits;
 pub use reference::level_ref;

@@ -13,8 +13,6 @@ mod file_kind;
 mod keeping;
 mod ranges;
 mod record;
-#[cfg(test)]
-mod tests;
 mod timers;
 mod wanted;
 

@@ -13,8 +13,6 @@ mod flat_file;
 mod flat_record;
 pub mod laws;
 mod opening;
-#[cfg(test)]
-mod tests;
 
 pub use building::build_v1;
 pub use flat_file::V1File;

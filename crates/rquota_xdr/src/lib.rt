@@ -21,8 +21,6 @@ mod reply;
 mod reply_reader;
 mod reply_writer;
 mod span;
-#[cfg(test)]
-mod tests;
 mod units;
 mod verifier;
 
