@@ -7,8 +7,6 @@
 mod block;
 mod block_set;
 mod build_fault;
-#[cfg(test)]
-mod build_tests;
 mod building;
 mod chain;
 mod changed_list;
@@ -26,26 +24,14 @@ mod link;
 mod lists;
 mod loaded;
 mod loading;
-#[cfg(test)]
-mod lookup_tests;
 mod needed;
 mod new_data;
 mod new_file;
 mod new_tree;
-#[cfg(test)]
-mod open_tests;
 mod opened_tree;
 mod opening;
 mod overwriting;
-#[cfg(test)]
-mod plain;
-#[cfg(test)]
-mod plain_tests;
 mod roles;
-#[cfg(test)]
-mod test_files;
-#[cfg(test)]
-mod tests;
 mod tree;
 mod tree_path;
 

@@ -3,10 +3,10 @@
 
 ghost use Rattle.std.specs.Prelude.{◌≤◌};
 
-use crate::TreePath;
 use entry_codec::Header;
 use quota_types::{Damage, DamageKind, Format};
 use std::alloc::{AllocError, Global};
+use tree_file::TreePath;
 
 /// A file with its header.
 #[derive(Drop)]

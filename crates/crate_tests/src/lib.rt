@@ -1,0 +1,24 @@
+//! Rows of the crates below the program: tables of inputs, each with what public calls answer, and a player for each table.
+//!
+//! It has no items of its own but these tests. They stand here and not beside what they test, so that each of those crates
+//! is proved once and not a second time with its tests.
+#![tactic(auto)]
+
+#[cfg(test)]
+mod build_rows;
+#[cfg(test)]
+mod check_rows;
+#[cfg(test)]
+mod helpers_high;
+#[cfg(test)]
+mod other_records;
+#[cfg(test)]
+mod plain;
+#[cfg(test)]
+mod plain_rows;
+#[cfg(test)]
+mod tree_changes;
+#[cfg(test)]
+mod tree_files;
+#[cfg(test)]
+mod tree_rows;
