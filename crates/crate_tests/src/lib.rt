@@ -11,6 +11,8 @@ mod check_rows;
 #[cfg(test)]
 mod helpers_high;
 #[cfg(test)]
+mod names_rows;
+#[cfg(test)]
 mod other_records;
 #[cfg(test)]
 mod plain;
