@@ -5,6 +5,8 @@
 #![tactic(auto)]
 
 #[cfg(test)]
+mod apply_rows;
+#[cfg(test)]
 mod build_rows;
 #[cfg(test)]
 mod check_rows;
@@ -18,6 +20,8 @@ mod other_records;
 mod plain;
 #[cfg(test)]
 mod plain_rows;
+#[cfg(test)]
+mod scan_rows;
 #[cfg(test)]
 mod tree_changes;
 #[cfg(test)]
