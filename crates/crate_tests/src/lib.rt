@@ -11,7 +11,15 @@ mod build_rows;
 #[cfg(test)]
 mod check_rows;
 #[cfg(test)]
+mod edit_rows;
+#[cfg(test)]
+mod edits;
+#[cfg(test)]
+mod form_rows;
+#[cfg(test)]
 mod helpers_high;
+#[cfg(test)]
+mod limit_rows;
 #[cfg(test)]
 mod names_rows;
 #[cfg(test)]
@@ -22,6 +30,8 @@ mod plain;
 mod plain_rows;
 #[cfg(test)]
 mod scan_rows;
+#[cfg(test)]
+mod times_rows;
 #[cfg(test)]
 mod tree_changes;
 #[cfg(test)]
