@@ -25,9 +25,15 @@ mod names_rows;
 #[cfg(test)]
 mod other_records;
 #[cfg(test)]
+mod period_rows;
+#[cfg(test)]
 mod plain;
 #[cfg(test)]
 mod plain_rows;
+#[cfg(test)]
+mod report_rows;
+#[cfg(test)]
+mod reports;
 #[cfg(test)]
 mod scan_rows;
 #[cfg(test)]
