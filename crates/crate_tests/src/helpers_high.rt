@@ -80,15 +80,15 @@ pub(crate) enum Act {
 }
 
 /// What a change answers, or None where it may not be asked for.
-pub(crate) fn act<F: QuotaFile<MemStore>>(
+pub(crate) fn make<F: QuotaFile<MemStore>>(
     file: &mut F,
     store: &mut MemStore,
-    act: &Act,
+    change: &Act,
 ) -> Option<Result<(), FileFault>> {
     if !file.usable() {
         return None;
     }
-    match *act {
+    match *change {
         Act::Put(id, rec) => put(file, store, id, rec),
         Act::Remove(id) => Some(file.remove(store, id)),
         Act::SetGrace(grace) => set_grace(file, store, grace),
@@ -206,11 +206,11 @@ pub(crate) fn listed(
 ) -> Option<MemStore> {
     let mut store = store_of(alloc, empty_file(format, kind), &[]).ok()?;
     let mut opened = opened(alloc, &mut store, format, kind)?;
-    if act(&mut opened, &mut store, &Act::SetGrace(grace)) != Some(Ok(())) {
+    if make(&mut opened, &mut store, &Act::SetGrace(grace)) != Some(Ok(())) {
         return None;
     }
     for entry in list {
-        let put = act(&mut opened, &mut store, &Act::Put(entry.id, entry.rec));
+        let put = make(&mut opened, &mut store, &Act::Put(entry.id, entry.rec));
         if put != Some(Ok(())) {
             return None;
         }

@@ -1,4 +1,4 @@
-use crate::helpers_high::{Act, act, holds_entries, store_of};
+use crate::helpers_high::{Act, holds_entries, make, store_of};
 use crate::tree_changes::{LIMITS, USED, open_users};
 use crate::tree_files::*;
 use quota_blocks::MemStore;
@@ -42,7 +42,7 @@ fn with_one_more(alloc: Global, file: &[u8], id: u32) -> Result<Vec<u8>, AllocEr
     let Ok(mut opened) = open_users(alloc, &mut store, 100) else {
         return Ok(Vec::new(alloc));
     };
-    match act(&mut opened, &mut store, &Act::Put(id, USED)) {
+    match make(&mut opened, &mut store, &Act::Put(id, USED)) {
         Some(Ok(())) => Vec::from_slice(alloc, store.file("q").unwrap_or(b"")),
         _ => Ok(Vec::new(alloc)),
     }
@@ -72,7 +72,7 @@ fn is_changed(
     rec: Option<Rec>,
 ) -> Option<bool> {
     let mut opened = open_users(alloc, store, 100).ok()?;
-    if act(&mut opened, store, change) != Some(Ok(())) {
+    if make(&mut opened, store, change) != Some(Ok(())) {
         return Some(false);
     }
     let mut again = open_users(alloc, store, 100).ok()?;

@@ -1,4 +1,4 @@
-use crate::helpers_high::{Act, act, get, store_of};
+use crate::helpers_high::{Act, get, make, store_of};
 use crate::tree_files::*;
 use quota_blocks::{FileFault, MemStore, OpenFault, QuotaFile};
 use quota_types::{Format, Grace, Kind, Rec};
@@ -102,7 +102,7 @@ fn fault_of(file: &mut TreeFile, store: &mut MemStore, acts: &[Act]) -> Option<O
         if last.is_err() {
             return None;
         }
-        last = act(file, store, next)?;
+        last = make(file, store, next)?;
     }
     Some(last.err())
 }
@@ -275,7 +275,7 @@ fn wrong_at(alloc: Global, change: &Act, call: u64) -> Option<&'static str> {
     let file = made(alloc, 6144, &[]).ok()?;
     let mut sound = store_of(alloc, file.as_slice(), &[]).ok()?;
     let mut opened = open_users(alloc, &mut sound, 100).ok()?;
-    if act(&mut opened, &mut sound, change) != Some(Ok(())) {
+    if make(&mut opened, &mut sound, change) != Some(Ok(())) {
         return Some("the change without a fault");
     }
     let mut store = store_of(alloc, file.as_slice(), &[call]).ok()?;
@@ -307,7 +307,7 @@ fn done_with(alloc: Global, store: &mut MemStore, change: &Act) -> End {
         Err(OpenFault::Store) => return Refused,
         Err(_) => return Wrong("the fault of opening"),
     };
-    if let Some(Ok(())) = act(&mut opened, store, change) {
+    if let Some(Ok(())) = make(&mut opened, store, change) {
         return Done;
     }
     if QuotaFile::<MemStore>::usable(&opened) {
