@@ -198,12 +198,12 @@ fn usage_is_set_and_limits_are_kept(rt: HostRuntime) {
 }
 
 /// An identifier, its hard limit of inodes, and how many inodes of 4 KiB it uses.
-type Limited = (u32, u64, u64);
+type LimitedId = (u32, u64, u64);
 
 /// Identifiers with limits that are listed, and those after the usage of identifiers 0, 7, 9 and the last one.
-const LIMITED: &[Limited] = &[(5, 3, 0), (7, 3, 0), (11, 3, 0)];
+const LIMITED: &[LimitedId] = &[(5, 3, 0), (7, 3, 0), (11, 3, 0)];
 
-const LIMITED_OR_USED: &[Limited] = &[
+const LIMITED_OR_USED: &[LimitedId] = &[
     (0, 0, 1),
     (5, 3, 0),
     (7, 3, 1),
@@ -214,7 +214,7 @@ const LIMITED_OR_USED: &[Limited] = &[
 
 const FOUR: &[u8] = b"9 1 1 5 8\n0 1 1 6 8\n7 1 1 7 8\n4294967295 1 1 8 8\n";
 
-fn entries_of(alloc: Global, limited: &[Limited]) -> Result<Vec<Entry>, AllocError> {
+fn entries_of(alloc: Global, limited: &[LimitedId]) -> Result<Vec<Entry>, AllocError> {
     let mut entries = Vec::new(alloc);
     for (id, ihard, inodes) in limited {
         let rec = Rec {
@@ -232,9 +232,9 @@ fn entries_of(alloc: Global, limited: &[Limited]) -> Result<Vec<Entry>, AllocErr
 fn expect_limited(
     rt: &impl Abort,
     alloc: Global,
-    before: &[Limited],
+    before: &[LimitedId],
     listing: &[u8],
-    after: &[Limited],
+    after: &[LimitedId],
 ) {
     let got = entries_of(alloc, before).and_then(|list| applied(
         alloc,

@@ -7,7 +7,7 @@ use tree_file::{CheckFault, Checked};
 /// A file that is checked.
 struct CheckRow {
     title: &'static str,
-    file: Made,
+    file: SixBlocks,
     /// The check answers one of these.
     answers: &'static [Answer],
 }
@@ -258,13 +258,13 @@ fn each_damage_is_named(rt: HostRuntime) {
 
 /// Files with nothing wrong, each with a number that the reads of a check don't pass: two for each block of the tree, the
 /// header or the data.
-const READ: &[(&str, Made, u64)] = &[
+const READ: &[(&str, SixBlocks, u64)] = &[
     ("no block is free", (7168, &[&[(BLOCKS, 6), (FREE, 0)]]), 12),
     ("block 6 is free", (7168, &[&[(BLOCKS, 7), (FREE, 6)]]), 12),
 ];
 
 /// Expects each file to be accepted with so few reads.
-fn expect_reads(rt: &impl Abort, alloc: Global, rows: &[(&str, Made, u64)]) {
+fn expect_reads(rt: &impl Abort, alloc: Global, rows: &[(&str, SixBlocks, u64)]) {
     for (title, (len, changes), most) in rows {
         let got = made(alloc, *len, changes).and_then(|file| checked(alloc, file.as_slice()));
         let is_few = matches!(got, Ok((Ok(_), reads)) if reads <= *most);

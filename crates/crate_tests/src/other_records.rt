@@ -11,9 +11,9 @@ use std::process::Abort;
 const GIVEN: &[u32] = &[0, 70, 700, 770, 2030, 1, 2031, u32::MAX];
 
 /// How many identifiers that file has, and how many blocks.
-const THIRTY: u32 = 30;
+const IDENTIFIERS: u32 = 30;
 
-const FIFTEEN: usize = 15;
+const LENGTH_IN_BLOCKS: usize = 15;
 
 /// Expects all other records to stay.
 fn expect_others_stay(rt: &impl Abort, alloc: Global, ids: &[u32]) {
@@ -30,7 +30,7 @@ fn expect_others_stay(rt: &impl Abort, alloc: Global, ids: &[u32]) {
 /// The file; it is opened again for each record.
 fn thirty(alloc: Global) -> Result<Vec<u8>, AllocError> {
     let mut file = made(alloc, 32, &[EMPTY])?;
-    for place in 0..THIRTY {
+    for place in 0..IDENTIFIERS {
         file = with_one_more(alloc, file.as_slice(), 70 * place)?;
     }
     Ok(file)
@@ -50,7 +50,7 @@ fn with_one_more(alloc: Global, file: &[u8], id: u32) -> Result<Vec<u8>, AllocEr
 
 /// What is wrong after an identifier was given limits, and then was taken away; or nothing.
 fn wrong_with(alloc: Global, file: &[u8], id: u32) -> Option<&'static str> {
-    if file.len() != 1024 * FIFTEEN {
+    if file.len() != 1024 * LENGTH_IN_BLOCKS {
         return Some("the length of the file");
     }
     let mut store = store_of(alloc, file, &[]).ok()?;
@@ -84,7 +84,7 @@ fn is_changed(
 fn entries_with(alloc: Global, id: u32, rec: Option<Rec>) -> Result<Vec<Entry>, AllocError> {
     let mut list = Vec::new(alloc);
     let mut given = rec;
-    for place in 0..THIRTY {
+    for place in 0..IDENTIFIERS {
         let other = 70 * place;
         if other >= id {
             push_given(&mut list, id, given)?;

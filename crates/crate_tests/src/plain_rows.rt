@@ -31,7 +31,7 @@ impl Compared {
 }
 
 /// Runs both on a file of users; None where it has no header.
-fn compared(alloc: Global, file: &[u8]) -> Result<Option<Compared>, AllocError> {
+fn compare(alloc: Global, file: &[u8]) -> Result<Option<Compared>, AllocError> {
     let Ok(header) = header_of(file) else {
         return Ok(None);
     };
@@ -73,14 +73,14 @@ fn expect_agreement_on(rt: &impl Abort, alloc: Global, row: &PlainRow) {
 
 fn expect_agreement_at(rt: &impl Abort, alloc: Global, row: &PlainRow, place: usize) {
     for number in row.numbers {
-        let got = compared_with(alloc, row.changes, (place, *number));
+        let got = compare_with(alloc, row.changes, (place, *number));
         let agrees = matches!(&got, Ok(Some(both)) if both.agrees());
         assert!(rt; agrees, "{}, {number} at {place}: {got:?}", row.title);
     }
 }
 
 /// Runs both on one file of a row.
-fn compared_with(
+fn compare_with(
     alloc: Global,
     changes: &[&[Change]],
     change: Change,
@@ -95,7 +95,7 @@ fn compared_with(
             &[change],
         ],
     )?;
-    compared(alloc, file.as_slice())
+    compare(alloc, file.as_slice())
 }
 
 /// Places of the six-block file where numbers stand that a check reads.

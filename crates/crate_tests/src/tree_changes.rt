@@ -35,7 +35,7 @@ const NULL: Rec = Rec {
 /// What the named file is after its changes.
 enum After {
     /// The file that is described.
-    Is(Made),
+    Is(SixBlocks),
     /// A file of this length in which these numbers stand.
     Has(usize, &'static [Change]),
 }
@@ -45,7 +45,7 @@ use After::*;
 /// A file of users in vfsv1 that is changed.
 struct ChangeRow {
     title: &'static str,
-    file: Made,
+    file: SixBlocks,
     limit: u32,
     acts: &'static [Act],
     /// What the last change is refused with.

@@ -11,7 +11,7 @@ use tree_file::{CheckFault, Checked, check};
 pub(crate) type Change = (usize, u32);
 
 /// The six-block file at a length, with these numbers over its own, list after list.
-pub(crate) type Made = (usize, &'static [&'static [Change]]);
+pub(crate) type SixBlocks = (usize, &'static [&'static [Change]]);
 
 /// Where the numbers of the header stand.
 pub(crate) const MAGIC: usize = 0;

@@ -12,7 +12,7 @@ type Said = (Format, Grace, u32);
 /// A file that is opened. It has the name `q` in the store.
 struct OpenRow {
     title: &'static str,
-    file: Made,
+    file: SixBlocks,
     name: &'static str,
     kind: Kind,
     format: Option<Format>,
@@ -37,12 +37,12 @@ fn answer_of(alloc: Global, row: &OpenRow) -> Option<Result<Said, OpenFault>> {
         return None;
     }
     match open_tree(alloc, &mut store, row.name, row.kind, row.format, row.limit) {
-        Ok(file) => Some(Ok(said(&file))),
+        Ok(file) => Some(Ok(said_by(&file))),
         Err(fault) => Some(Err(fault)),
     }
 }
 
-fn said(file: &TreeFile) -> Said {
+fn said_by(file: &TreeFile) -> Said {
     let format = QuotaFile::<MemStore>::format(file);
     let grace = QuotaFile::<MemStore>::grace(file);
     (format, grace, file.flags())
@@ -157,7 +157,7 @@ fn a_file_is_opened_or_its_first_refusal_is_named(rt: HostRuntime) {
 /// A file of users in vfsv1 in which identifiers are looked up.
 struct LookupRow {
     title: &'static str,
-    file: Made,
+    file: SixBlocks,
     /// Identifiers, each with its record.
     records: &'static [(u32, Option<Rec>)],
     /// What an identifier is looked for after, each with the next entry.
