@@ -10,8 +10,6 @@ mod index;
 mod line;
 mod names_file;
 mod parts;
-#[cfg(test)]
-mod tests;
 
 pub use fault::NamesFault;
 pub use names_file::Names;

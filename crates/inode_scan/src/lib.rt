@@ -12,8 +12,6 @@ mod inode;
 mod row;
 mod scanning;
 mod tally;
-#[cfg(test)]
-mod tests;
 mod usage;
 mod used;
 mod wanted;

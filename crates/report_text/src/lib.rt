@@ -8,12 +8,8 @@ mod fault;
 mod file_report;
 mod head;
 mod line;
-#[cfg(test)]
-mod one_entry;
 mod options;
 mod period;
-#[cfg(test)]
-mod tests;
 mod usage;
 
 pub use fault::ReportFault;

@@ -9,25 +9,15 @@
 
 mod copying;
 mod edit;
-#[cfg(test)]
-mod edit_tests;
 mod fault;
 mod form;
 mod form_reading;
-#[cfg(test)]
-mod form_tests;
 mod grace_periods;
 mod limits;
 mod number;
-#[cfg(test)]
-mod one_record;
 mod skipped;
-#[cfg(test)]
-mod tests;
 mod time_word;
 mod times;
-#[cfg(test)]
-mod times_tests;
 
 pub use copying::copy_limits;
 pub use edit::set_limits;

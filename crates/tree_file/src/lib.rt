@@ -5,8 +5,6 @@
 #![tactic(auto)]
 
 mod block_set;
-#[cfg(test)]
-mod build_tests;
 mod chain;
 mod changed_list;
 mod changed_tree;
@@ -21,22 +19,10 @@ mod link;
 mod lists;
 mod loaded;
 mod loading;
-#[cfg(test)]
-mod lookup_tests;
-#[cfg(test)]
-mod open_tests;
 mod opened_tree;
 mod opening;
 mod overwriting;
-#[cfg(test)]
-mod plain;
-#[cfg(test)]
-mod plain_tests;
 mod roles;
-#[cfg(test)]
-mod test_files;
-#[cfg(test)]
-mod tests;
 mod tree;
 
 pub use checked::{CheckFault, Checked};
