@@ -1,7 +1,7 @@
-use row_files::ordered;
 use inode_scan::{ApplyFault, apply, scan};
 use quota_blocks::MemSource;
 use quota_types::{Entry, Field, Format, Grace, Kind, NoRoom, Rec};
+use row_files::ordered;
 use std::alloc::{AllocError, Global};
 use std::process::Abort;
 

@@ -1,9 +1,9 @@
 //! Edits of opened files, and what is expected of them.
 
-use row_files::{holds_entries, listed, opened};
 use quota_blocks::{MemStore, QuotaFile};
 use quota_map::AnyFile;
 use quota_types::{Entry, Format, Grace, Kind, NoRoom, Rec};
+use row_files::{holds_entries, listed, opened};
 use set_edit::{
     EditFault, Limits, Skipped, TimeWord, copy_limits, set_grace_periods, set_limits, set_times,
 };

@@ -1,10 +1,10 @@
 //! Reports of files with one entry, and what is expected of them.
 
-use row_files::{listed, opened};
 use id_names::Names;
 use quota_blocks::{MemSink, MemStore, QuotaFile};
 use quota_types::{Entry, Format, Grace, Kind, Rec};
 use report_text::{Options, ReportFault, report};
+use row_files::{listed, opened};
 use std::alloc::{AllocError, Global};
 use std::process::Abort;
 

@@ -11,11 +11,7 @@ use quota_types::{Entry, Format, Grace, Kind, Rec, check_grace, check_record, ke
 use std::alloc::{AllocError, Global};
 
 /// A store with the one file `q`, whose calls fail that `failing` names, counted from 1.
-pub fn store_of(
-    alloc: Global,
-    file: &[u8],
-    failing: &[u64],
-) -> Result<MemStore, AllocError> {
+pub fn store_of(alloc: Global, file: &[u8], failing: &[u64]) -> Result<MemStore, AllocError> {
     let mut files = Vec::new(alloc);
     files.push((String::from_str(alloc, "q")?, Vec::from_slice(alloc, file)?))?;
     Ok(MemStore::new(files, Vec::from_slice(alloc, failing)?))
@@ -23,11 +19,7 @@ pub fn store_of(
 
 /// What the format keeps of entries, up to the first that has no greater identifier than the one before it, or for which
 /// the format has no room.
-pub fn ordered(
-    alloc: Global,
-    format: Format,
-    list: &[Entry],
-) -> Result<Vec<Entry>, AllocError>
+pub fn ordered(alloc: Global, format: Format, list: &[Entry]) -> Result<Vec<Entry>, AllocError>
     ensures ascending { IfOk result (λ list. IsStrictlyIncreasing (ids_of list.items)) }
     ensures fits { IfOk result (λ list. All (λ entry. unfit format entry.id entry.rec ≡ None) list.items) }
     ensures kept { IfOk result (λ list. All (λ entry. kept_of format entry.id entry.rec ≡ entry.rec) list.items) }
@@ -185,12 +177,7 @@ fn empty_file(format: Format, kind: Kind) -> &'static [u8] {
 }
 
 /// The file `q` of a store, opened in its format, or None where it is refused.
-pub fn opened(
-    alloc: Global,
-    store: &mut MemStore,
-    format: Format,
-    kind: Kind,
-) -> Option<AnyFile> {
+pub fn opened(alloc: Global, store: &mut MemStore, format: Format, kind: Kind) -> Option<AnyFile> {
     open_file(alloc, store, "q", kind, Some(format)).ok()
 }
 

@@ -1,6 +1,6 @@
-use row_files::{holds_entries, ordered, store_of};
 use crate::tree_files::*;
 use quota_types::{Entry, Format, Grace, Kind, Rec};
+use row_files::{holds_entries, ordered, store_of};
 use std::alloc::{AllocError, Global};
 use std::process::Abort;
 use tree_file::{BuildFault, build, open_tree};

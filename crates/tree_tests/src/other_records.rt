@@ -1,8 +1,8 @@
-use row_files::{Act, holds_entries, make, store_of};
 use crate::tree_changes::{LIMITS, USED, open_users};
 use crate::tree_files::*;
 use quota_blocks::MemStore;
 use quota_types::{Entry, Rec};
+use row_files::{Act, holds_entries, make, store_of};
 use std::alloc::{AllocError, Global};
 use std::process::Abort;
 

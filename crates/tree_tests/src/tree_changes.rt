@@ -1,7 +1,7 @@
-use row_files::{Act, get, make, store_of};
 use crate::tree_files::*;
 use quota_blocks::{FileFault, MemStore, OpenFault, QuotaFile};
 use quota_types::{Format, Grace, Kind, Rec};
+use row_files::{Act, get, make, store_of};
 use std::alloc::Global;
 use std::process::Abort;
 use tree_file::{TreeFile, open_tree};

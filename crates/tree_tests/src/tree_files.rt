@@ -1,9 +1,9 @@
 //! Small tree files as data, and what a check answers on them.
 
-use row_files::store_of;
 use entry_codec::{Header, HeaderFault, read_header};
 use quota_blocks::{MemStore, Store};
 use quota_types::{Damage, DamageKind, Format, Kind};
+use row_files::store_of;
 use std::alloc::{AllocError, Global};
 use tree_file::{CheckFault, Checked, check};
 

@@ -1,7 +1,7 @@
-use row_files::{get, next_after, store_of};
 use crate::tree_files::*;
 use quota_blocks::{MemStore, OpenFault, QuotaFile};
 use quota_types::{Damage, DamageKind, Entry, Format, Grace, Kind, Rec};
+use row_files::{get, next_after, store_of};
 use std::alloc::Global;
 use std::process::Abort;
 use tree_file::{TreeFile, open_tree};

@@ -1,52 +1,45 @@
 use command_words::{Command, Common};
 use option_words::ExportList;
 use refusals::Word;
-use report_text::Options;
 use std::alloc::{AllocError, Global};
 
-/// A word, or `-` where there is none.
-fn shown_word(word: &Option<Word>) -> &str {
-    match word {
-        Some(word) => word.as_str(),
-        None => "-",
-    }
-}
-
-/// The kind, the format and the names.
-fn shown_common(alloc: Global, common: &Common) -> Result<String, AllocError> {
-    format!(in alloc;
-        "{:?} {:?} {}",
-        common.kind,
-        common.format,
-        shown_word(&common.names)
-    )
-}
-
-/// A letter for each option of a report that is set.
-fn shown_options(alloc: Global, options: &Options) -> Result<String, AllocError> {
-    let verbose = if options.verbose { "v" } else { "-" };
-    let numeric = if options.numeric { "n" } else { "-" };
-    let raw = if options.raw { "p" } else { "-" };
-    format!(in alloc; "{verbose}{numeric}{raw}")
-}
-
-/// The exports, one behind the other.
-fn shown_exports(alloc: Global, exports: &ExportList) -> Result<String, AllocError> {
-    let mut text = String::new(alloc);
-    for export in exports.as_slice() {
-        let one = format!(in alloc;
-            " {} {:?} {}",
-            export.path.as_str(),
-            export.kind,
-            export.file.as_str()
-        )?;
-        text.push_str(one.as_str())?;
-    }
-    Ok(text)
-}
-
 /// A command as one line.
-pub(crate) fn shown(alloc: Global, command: &Command) -> Result<String, AllocError> {
+pub(super) fn shown(alloc: Global, command: &Command) -> Result<String, AllocError> {
+    match command {
+        Command::SetLimits {
+            common,
+            name,
+            limits,
+            file,
+        } => shown_limits(alloc, common, name, limits, file),
+        Command::CopyLimits {
+            common,
+            proto,
+            name,
+            file,
+        } => shown_words(alloc, "copy", common, &[proto, name, file]),
+        Command::SetGrace {
+            common,
+            block,
+            inode,
+            file,
+        } => shown_words(alloc, "grace", common, &[block, inode, file]),
+        Command::SetTimes {
+            common,
+            name,
+            block,
+            inode,
+            file,
+        } => shown_words(alloc, "times", common, &[name, block, inode, file]),
+        Command::PrintForm { common, name, file } => {
+            shown_words(alloc, "print", common, &[name, file])
+        }
+        _ => shown_reader(alloc, command),
+    }
+}
+
+/// A command that reads a report, lines, a form or a listing.
+fn shown_reader(alloc: Global, command: &Command) -> Result<String, AllocError> {
     match command {
         Command::Report {
             common,
@@ -54,39 +47,10 @@ pub(crate) fn shown(alloc: Global, command: &Command) -> Result<String, AllocErr
             file,
         } => {
             let common = shown_common(alloc, common)?;
-            let options = shown_options(alloc, options)?;
-            format!(in alloc; "report {common} {options} {}", file.as_str())
-        }
-        Command::SetLimits {
-            common,
-            name,
-            limits,
-            file,
-        } => {
-            let common = shown_common(alloc, common)?;
-            format!(in alloc;
-                "limits {common} {} {} {} {} {} {}",
-                name.as_str(),
-                limits[0].as_str(),
-                limits[1].as_str(),
-                limits[2].as_str(),
-                limits[3].as_str(),
-                file.as_str()
-            )
-        }
-        Command::CopyLimits {
-            common,
-            proto,
-            name,
-            file,
-        } => {
-            let common = shown_common(alloc, common)?;
-            format!(in alloc;
-                "copy {common} {} {} {}",
-                proto.as_str(),
-                name.as_str(),
-                file.as_str()
-            )
+            let verbose = letter_if(options.verbose, "v");
+            let numeric = letter_if(options.numeric, "n");
+            let raw = letter_if(options.raw, "p");
+            format!(in alloc; "report {common} {verbose}{numeric}{raw} {}", file.as_str())
         }
         Command::Batch {
             common,
@@ -96,47 +60,6 @@ pub(crate) fn shown(alloc: Global, command: &Command) -> Result<String, AllocErr
             let common = shown_common(alloc, common)?;
             format!(in alloc; "batch {common} {} {}", shown_word(input), file.as_str())
         }
-        Command::SetGrace {
-            common,
-            block,
-            inode,
-            file,
-        } => {
-            let common = shown_common(alloc, common)?;
-            format!(in alloc;
-                "grace {common} {} {} {}",
-                block.as_str(),
-                inode.as_str(),
-                file.as_str()
-            )
-        }
-        Command::SetTimes {
-            common,
-            name,
-            block,
-            inode,
-            file,
-        } => {
-            let common = shown_common(alloc, common)?;
-            format!(in alloc;
-                "times {common} {} {} {} {}",
-                name.as_str(),
-                block.as_str(),
-                inode.as_str(),
-                file.as_str()
-            )
-        }
-        _ => shown_other(alloc, command),
-    }
-}
-
-/// One of the other commands as one line.
-fn shown_other(alloc: Global, command: &Command) -> Result<String, AllocError> {
-    match command {
-        Command::PrintForm { common, name, file } => {
-            let common = shown_common(alloc, common)?;
-            format!(in alloc; "print {common} {} {}", name.as_str(), file.as_str())
-        }
         Command::ApplyForm {
             common,
             input,
@@ -144,13 +67,16 @@ fn shown_other(alloc: Global, command: &Command) -> Result<String, AllocError> {
             file,
         } => {
             let common = shown_common(alloc, common)?;
-            format!(in alloc;
-                "apply {common} {} {} {}",
-                shown_word(input),
-                name.as_str(),
-                file.as_str()
-            )
+            let (input, name, file) = (shown_word(input), name.as_str(), file.as_str());
+            format!(in alloc; "apply {common} {input} {name} {file}")
         }
+        _ => shown_maker(alloc, command),
+    }
+}
+
+/// A command that makes a file, or that serves or runs others.
+fn shown_maker(alloc: Global, command: &Command) -> Result<String, AllocError> {
+    match command {
         Command::Check {
             common,
             fresh,
@@ -159,12 +85,9 @@ fn shown_other(alloc: Global, command: &Command) -> Result<String, AllocError> {
             file,
         } => {
             let common = shown_common(alloc, common)?;
-            let fresh = if *fresh { "c" } else { "-" };
-            format!(in alloc;
-                "check {common} {fresh} {device:?} {} {}",
-                shown_word(input),
-                file.as_str()
-            )
+            let fresh = letter_if(*fresh, "c");
+            let (input, file) = (shown_word(input), file.as_str());
+            format!(in alloc; "check {common} {fresh} {device:?} {input} {file}")
         }
         Command::Convert {
             kind,
@@ -173,11 +96,8 @@ fn shown_other(alloc: Global, command: &Command) -> Result<String, AllocError> {
             source,
             target,
         } => {
-            format!(in alloc;
-                "convert {kind:?} {old:?} {new:?} {} {}",
-                source.as_str(),
-                target.as_str()
-            )
+            let (source, target) = (source.as_str(), target.as_str());
+            format!(in alloc; "convert {kind:?} {old:?} {new:?} {source} {target}")
         }
         Command::Serve {
             format,
@@ -193,4 +113,62 @@ fn shown_other(alloc: Global, command: &Command) -> Result<String, AllocError> {
         }
         _ => String::from_str(alloc, "script"),
     }
+}
+
+/// A command of options and words.
+fn shown_words(
+    alloc: Global,
+    name: &str,
+    common: &Common,
+    words: &[&Word],
+) -> Result<String, AllocError> {
+    let common = shown_common(alloc, common)?;
+    let mut text = format!(in alloc; "{name} {common}")?;
+    for word in words {
+        text.push_str(" ")?;
+        text.push_str(word.as_str())?;
+    }
+    Ok(text)
+}
+
+fn shown_limits(
+    alloc: Global,
+    common: &Common,
+    name: &Word,
+    limits: &[Word; 4],
+    file: &Word,
+) -> Result<String, AllocError> {
+    let [bsoft, bhard, isoft, ihard] = limits;
+    let words = [name, bsoft, bhard, isoft, ihard, file];
+    shown_words(alloc, "limits", common, &words)
+}
+
+/// A word, or `-` where there is none.
+fn shown_word(word: &Option<Word>) -> &str {
+    match word {
+        Some(word) => word.as_str(),
+        None => "-",
+    }
+}
+
+/// The kind, the format and the names.
+fn shown_common(alloc: Global, common: &Common) -> Result<String, AllocError> {
+    let names = shown_word(&common.names);
+    format!(in alloc; "{:?} {:?} {names}", common.kind, common.format)
+}
+
+/// The letter of an option, or `-` where it is not set.
+fn letter_if(is_set: bool, letter: &'static str) -> &'static str {
+    if is_set { letter } else { "-" }
+}
+
+/// The exports, one behind the other.
+fn shown_exports(alloc: Global, exports: &ExportList) -> Result<String, AllocError> {
+    let mut text = String::new(alloc);
+    for export in exports.as_slice() {
+        let (path, file) = (export.path.as_str(), export.file.as_str());
+        let one = format!(in alloc; " {path} {:?} {file}", export.kind)?;
+        text.push_str(one.as_str())?;
+    }
+    Ok(text)
 }

@@ -1,0 +1,88 @@
+//! The calls of the store.
+
+/// Commands over a flat file of 30 records, and the calls of the store that each makes, in their order.
+pub const ORDER: &str = "\
+= a report reads its file piece by piece
+record 1 1 1 1 1 1 0 0
+again 30
+file q
+run repquota -F vfsold -u -v q
+calls size q; read q; read q;
+head user q 7days 7days
+> #0           --          1          1          1      -        1        1        1      -
+> #1           --          1          1          1      -        1        1        1      -
+> #2           --          1          1          1      -        1        1        1      -
+> #3           --          1          1          1      -        1        1        1      -
+> #4           --          1          1          1      -        1        1        1      -
+> #5           --          1          1          1      -        1        1        1      -
+> #6           --          1          1          1      -        1        1        1      -
+> #7           --          1          1          1      -        1        1        1      -
+> #8           --          1          1          1      -        1        1        1      -
+> #9           --          1          1          1      -        1        1        1      -
+> #10          --          1          1          1      -        1        1        1      -
+> #11          --          1          1          1      -        1        1        1      -
+> #12          --          1          1          1      -        1        1        1      -
+> #13          --          1          1          1      -        1        1        1      -
+> #14          --          1          1          1      -        1        1        1      -
+> #15          --          1          1          1      -        1        1        1      -
+> #16          --          1          1          1      -        1        1        1      -
+> #17          --          1          1          1      -        1        1        1      -
+> #18          --          1          1          1      -        1        1        1      -
+> #19          --          1          1          1      -        1        1        1      -
+> #20          --          1          1          1      -        1        1        1      -
+> #21          --          1          1          1      -        1        1        1      -
+> #22          --          1          1          1      -        1        1        1      -
+> #23          --          1          1          1      -        1        1        1      -
+> #24          --          1          1          1      -        1        1        1      -
+> #25          --          1          1          1      -        1        1        1      -
+> #26          --          1          1          1      -        1        1        1      -
+> #27          --          1          1          1      -        1        1        1      -
+> #28          --          1          1          1      -        1        1        1      -
+> #29          --          1          1          1      -        1        1        1      -
+
+= a new file of 3 pieces takes the place of the old one
+record 1 1 1 1 1 1 0 0
+again 30
+file q
+run setquota -F vfsold -u 60 2 8 0 0 q
+calls size q; read q; read q; create q.new; write q.new; write q.new; write q.new; sync q.new; rename q.new q;
+changes q
+
+= nothing to write
+record 1 1 1 1 1 1 0 0
+again 30
+file q
+run setquota -F vfsold -u 60 0 0 0 0 q
+calls size q; read q; read q;
+
+= a file that is not there is not read
+record 1 1 1 1 1 1 0 0
+again 30
+file q
+run setquota -F vfsold -u 60 0 0 0 0 r
+status 1
+! quota: r: no such file
+calls size r;
+
+= words that are refused call no store
+record 1 1 1 1 1 1 0 0
+again 30
+file q
+run setquota -F vfsold -u 60 x 0 0 0 q
+status 1
+! quota: bad number x
+calls
+run repquota -u -g q
+status 2
+! quota: usage: Excludes at word 4
+calls
+
+= of a file that is no tree file the first block is read
+record 1 1 1 1 1 1 0 0
+again 30
+file q
+run repquota q
+status 3
+! quota: q: not a quota file
+calls size q; read q;
+";

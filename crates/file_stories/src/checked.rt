@@ -1,0 +1,236 @@
+/// Files that get the usage of listings. The rules let the first data block of fifteen identifiers be 2 or 3; its
+/// number here is the one that this program chooses.
+pub const CHECKED: &str = "\
+= data blocks are filled one after another
+text 0 100 2049 0 8
+text 1 100 2049 1 8
+text 2 100 2049 2 8
+text 3 100 2049 3 8
+text 4 100 2049 4 8
+text 5 100 2049 5 8
+text 6 100 2049 6 8
+text 7 100 2049 7 8
+text 8 100 2049 8 8
+text 9 100 2049 9 8
+text 10 100 2049 10 8
+text 11 100 2049 11 8
+text 12 100 2049 12 8
+text 13 100 2049 13 8
+text 14 100 2049 14 8
+keep fifteen
+file q
+use fifteen
+input
+run quotacheck -c -u -F vfsv1 q
+long q 7168
+at q 20 7 0
+at q 28 3
+at q 3072 0 0 1
+at q 2048 0 0 14
+file q
+use fifteen
+text 15 100 2049 15 8
+text 16 100 2049 16 8
+text 17 100 2049 17 8
+text 18 100 2049 18 8
+text 19 100 2049 19 8
+text 20 100 2049 20 8
+input
+run quotacheck -c -F vfsv0 q
+long q 6144
+at q 20 6
+at q 28 0
+run setquota -u 21 1 1 0 0 q
+long q 7168
+at q 20 7
+
+= limits stay and usage and timers are those of the listing
+record 0 0 0 0 0 0 604800 604800
+record 8 2 0 9 1 0 0 0
+record 8 2 400 9 1 400 1700000500 1700000600
+record 0 0 44 0 0 3 0 0
+record 8 6 800 0 0 1 1700000700 0
+file q
+text 1 0 9 1 8
+text 1 0 9 2 0
+text 2 0 9 3 6
+text 2 0 9 4 0
+text 4 0 9 5 12
+text 5 0 9 6 1
+input
+both quotacheck -F vfsold q
+record 0 0 0 0 0 0 604800 604800
+record 8 2 4 9 1 2 1700604800 1700604800
+record 8 2 3 9 1 2 1700000500 1700000600
+record 0 0 0 0 0 0 0 0
+record 8 6 6 0 0 1 0 0
+record 0 0 1 0 0 1 0 0
+holds q
+
+= nothing is left of an identifier without limits that the listing does not have
+use six
+file q
+input
+both quotacheck -u q
+long q 2048
+run repquota -u -v q
+head user q 7days 7days
+
+= one with limits stays without usage
+use timed
+file q
+input
+run quotacheck q
+changes q
+run repquota -u -v q
+head user q 7days 7days
+> #1000        --          0          2          8      -        0        0        0      -
+use timed
+file q
+text 1000 0 1 1 6
+input
+run quotacheck q
+changes q
+run repquota -u -v q
+head user q 7days 7days
+> #1000        +-          3          2          8  7days        1        0        0      -
+use timed
+file q
+text 7 0 1 1 6
+input
+run quotacheck q
+changes q
+run repquota -u -v q
+head user q 7days 7days
+> #7           --          3          0          0      -        1        0        0      -
+> #1000        --          0          2          8      -        0        0        0      -
+
+= the kind, the format, the periods and the flags stay
+use six
+put 20 2
+put 28 0
+put 1024 0
+put 0 3653245223
+size 2048
+keep was
+use was
+file q
+text 1000 1000 2049 12 8
+input
+both quotacheck -g q
+long q 6144
+use was
+size 20
+begins q
+use six
+put 20 2
+put 28 0
+put 1024 0
+put 4 0
+size 2048
+keep was
+use was
+file q
+text 1000 1000 2049 12 8
+input
+both quotacheck q
+long q 6144
+use was
+size 20
+begins q
+use six
+put 20 2
+put 28 0
+put 1024 0
+put 4 0
+size 2048
+keep was
+use was
+file q
+text 1000 1000 2049 12 8
+input
+both quotacheck -F vfsv0 q
+long q 6144
+use was
+size 20
+begins q
+use six
+put 20 2
+put 28 0
+put 1024 0
+put 8 86400 3600
+size 2048
+keep was
+use was
+file q
+text 1000 1000 2049 12 8
+input
+both quotacheck q
+long q 6144
+use was
+size 20
+begins q
+use six
+put 20 2
+put 28 0
+put 1024 0
+put 16 5
+size 2048
+keep was
+use was
+file q
+text 1000 1000 2049 12 8
+input
+both quotacheck q
+long q 6144
+use was
+size 20
+begins q
+
+= the times of user 0 of a flat file are the periods, whatever it uses
+record 8 2 0 9 1 0 604800 86400
+file q
+text 0 0 1 1 8
+text 0 0 1 2 0
+input
+run quotacheck -F vfsold q
+record 8 2 4 9 1 2 604800 86400
+holds q
+
+= a file is replaced also where nothing changes
+text 1000 100 2049 12 8
+keep listing
+file q
+use listing
+input
+run quotacheck -c -u -F vfsv1 q
+changes q
+get q
+keep made
+use made
+fill 1 100
+file q
+use listing
+input
+run quotacheck q
+use made
+holds q
+use listing
+input
+run quotacheck q
+same q
+writes 6
+
+= a new file takes the place of its own listing
+use listing
+file q
+run quotacheck -c --input q q
+use made
+holds q
+use listing
+file q
+run quotacheck --input q q
+status 3
+! quota: q: not a quota file
+writes 0
+";

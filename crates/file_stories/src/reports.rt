@@ -1,0 +1,197 @@
+//! Reports of flat files.
+
+/// What a report of a flat file shows.
+pub const SHOWN: &str = "\
+= an empty flat file reports its head
+file q
+run repquota -F vfsold -u -v q
+head user q 7days 7days
+
+= limits of one that uses nothing
+zeros 40000
+record 200 100 0 20 10 0 0 0
+file q
+run repquota -F vfsold -u -v q
+head user q 7days 7days
+> #1000        --          0        100        200      -        0       10       20      -
+
+= over the soft limit of blocks, the timer runs down, and is over when it is reached
+zeros 40000
+record 8 2 4 0 0 1 1700604800 0
+file q
+run repquota -F vfsold -u -v q
+head user q 7days 7days
+> #1000        +-          4          2          8  7days        1        0        0      -
+now 1700432001
+run repquota -F vfsold -u -v q
+head user q 7days 7days
+> #1000        +-          4          2          8  2days        1        0        0      -
+now 1700432031
+run repquota -F vfsold -u -v q
+head user q 7days 7days
+> #1000        +-          4          2          8  47:59        1        0        0      -
+now 1700604800
+run repquota -F vfsold -u -v q
+head user q 7days 7days
+> #1000        +-          4          2          8   none        1        0        0      -
+
+= over the soft limit of blocks, with a timer that does not run
+zeros 40000
+record 8 2 4 0 0 1 0 0
+file q
+run repquota -F vfsold -u -v q
+head user q 7days 7days
+> #1000        +-          4          2          8   none        1        0        0      -
+
+= over the hard limit alone, of blocks and of inodes
+zeros 40000
+record 3 0 4 5 0 6 0 0
+file q
+run repquota -F vfsold -u -v q
+head user q 7days 7days
+> #1000        ++          4          0          3      -        6        0        5      -
+
+= at the soft limit
+zeros 40000
+record 0 4 4 0 6 6 1700604800 1700604800
+file q
+run repquota -F vfsold -u -v q
+head user q 7days 7days
+> #1000        --          4          4          0      -        6        6        0      -
+
+= inodes over the soft limit, an hour and a half ahead
+zeros 40000
+record 0 0 0 0 6 7 0 1700005400
+file q
+run repquota -F vfsold -u -v q
+head user q 7days 7days
+> #1000        -+          0          0          0      -        7        6        0  01:30
+
+= columns widen
+zeros 40000
+record 4294967295 4294967295 4294967295 4294967295 1 4294967295 0 18446744073709551615
+file q
+run repquota -F vfsold -u -v q
+head user q 7days 7days
+> #1000        -+ 4294967295 4294967295 4294967295      - 4294967295        1 4294967295 213503982314925days
+
+= the times of identifier 0 are the periods, and no timers
+record 8 2 4 0 0 1 3600 172799
+file q
+run repquota -F vfsold -u -v q
+head user q 01:00 2days
+> #0           +-          4          2          8   none        1        0        0      -
+
+= times alone make no record, and a period of 0 is 7 days
+record 0 0 0 0 0 0 0 18446744073709551615
+file q
+run repquota -F vfsold -u -v q
+head user q 7days 213503982334601days
+";
+
+/// What refuses a report, and the line of each refusal.
+pub const REFUSED: &str = "\
+= a cut record is a damage
+zeros 79
+file q
+run repquota -F vfsold -u -v q
+status 3
+! quota: q: damaged: PartialRecord at record 1
+
+= a file that is not there
+file q
+run repquota -F vfsold -u -v r
+status 1
+! quota: r: no such file
+
+= a file without the first bytes of a tree file, and no format
+file q
+run repquota -u q
+status 3
+! quota: q: not a quota file
+
+= words that are no command
+file q
+run script
+status 2
+! quota: usage: UnknownCommand at word 0
+run repquota -F vfsold -u -v -q
+status 2
+! quota: usage: UnknownOption at word 5
+run repquota -F vfsold -u -v q.new
+status 2
+! quota: usage: BadFileName at word 5
+run repquota -F vfsold -u -v q q
+status 2
+! quota: usage: WrongOperands at word 7
+run repquota -u -g q
+status 2
+! quota: usage: Excludes at word 4
+";
+
+/// Reports in which calls fail.
+pub const FAILING: &str = "\
+= the first or the second call of the store fails, and a report has two
+record 2 1 1 2 1 1 0 0
+again 3
+file q
+fails store 1
+run repquota -F vfsold -u -v q
+status 4
+! quota: store fault
+fails store 2
+run repquota -F vfsold -u -v q
+status 4
+! quota: store fault
+fails store 3
+run repquota -F vfsold -u -v q
+head user q 7days 7days
+> #0           --          1          1          2      -        1        1        2      -
+> #1           --          1          1          2      -        1        1        2      -
+> #2           --          1          1          2      -        1        1        2      -
+sweep store repquota -F vfsold -u -v q
+head user q 7days 7days
+> #0           --          1          1          2      -        1        1        2      -
+> #1           --          1          1          2      -        1        1        2      -
+> #2           --          1          1          2      -        1        1        2      -
+
+= the first call of the output fails, and a report has one
+record 2 1 1 2 1 1 0 0
+again 3
+file q
+fails output 1
+run repquota -F vfsold -u -v q
+status 4
+! quota: output fault
+fails output 2
+run repquota -F vfsold -u -v q
+head user q 7days 7days
+> #0           --          1          1          2      -        1        1        2      -
+> #1           --          1          1          2      -        1        1        2      -
+> #2           --          1          1          2      -        1        1        2      -
+
+= an error output that fails changes no report, and takes the line of a fault
+record 2 1 1 2 1 1 0 0
+again 3
+file q
+fails error 1
+run repquota -F vfsold -u -v q
+head user q 7days 7days
+> #0           --          1          1          2      -        1        1        2      -
+> #1           --          1          1          2      -        1        1        2      -
+> #2           --          1          1          2      -        1        1        2      -
+fails store 1
+fails error 1
+run repquota -F vfsold -u -v q
+status 4
+fails output 1
+fails error 1
+run repquota -F vfsold -u -v q
+status 4
+
+= an error output that fails takes the line of a refusal, and not its status
+file q
+fails error 1
+run repquota
+status 2
+";

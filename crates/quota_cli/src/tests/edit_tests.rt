@@ -1,0 +1,79 @@
+use super::playing::play;
+use edit_stories::{
+    applied, batches, edits, ended_batches, forms, limits, refused_forms, refused_lines,
+};
+use story_player::FILES;
+
+#[test]
+fn limits_are_set(rt: HostRuntime) {
+    play(&rt, rt.alloc(), &[FILES, limits::SET]);
+}
+
+#[test]
+fn the_first_refused_step_ends_the_command(rt: HostRuntime) {
+    play(&rt, rt.alloc(), &[FILES, limits::REFUSED]);
+}
+
+#[test]
+fn each_failing_call_leaves_the_old_file(rt: HostRuntime) {
+    play(&rt, rt.alloc(), &[FILES, limits::FAILING]);
+}
+
+#[test]
+fn limits_are_copied(rt: HostRuntime) {
+    play(&rt, rt.alloc(), &[FILES, edits::COPIED]);
+}
+
+#[test]
+fn periods_are_set(rt: HostRuntime) {
+    play(&rt, rt.alloc(), &[FILES, edits::PERIODS]);
+}
+
+#[test]
+fn times_are_set(rt: HostRuntime) {
+    play(&rt, rt.alloc(), &[FILES, edits::TIMES]);
+}
+
+#[test]
+fn an_edit_is_refused_by_its_first_fault(rt: HostRuntime) {
+    play(&rt, rt.alloc(), &[FILES, edits::REFUSED]);
+}
+
+#[test]
+fn a_form_is_printed_or_refused(rt: HostRuntime) {
+    play(&rt, rt.alloc(), &[FILES, forms::PRINTED]);
+}
+
+#[test]
+fn forms_set_limits(rt: HostRuntime) {
+    play(&rt, rt.alloc(), &[FILES, applied::FORM, applied::APPLIED]);
+}
+
+#[test]
+fn lines_set_limits(rt: HostRuntime) {
+    play(&rt, rt.alloc(), &[FILES, batches::BATCHES]);
+}
+
+#[test]
+fn lines_have_edges_and_calls_fail(rt: HostRuntime) {
+    play(&rt, rt.alloc(), &[FILES, ended_batches::EDGES]);
+}
+
+#[test]
+fn lines_have_no_room_and_files_are_refused(rt: HostRuntime) {
+    play(&rt, rt.alloc(), &[FILES, ended_batches::ROOM]);
+}
+
+#[test]
+fn forms_are_refused(rt: HostRuntime) {
+    play(
+        &rt,
+        rt.alloc(),
+        &[FILES, applied::FORM, refused_forms::REFUSED_FORMS],
+    );
+}
+
+#[test]
+fn the_lines_before_one_at_fault_stay(rt: HostRuntime) {
+    play(&rt, rt.alloc(), &[FILES, refused_lines::REFUSED_LINES]);
+}

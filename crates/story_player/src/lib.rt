@@ -1,0 +1,81 @@
+//! Stories: rows of commands as text, and the player that carries them out over objects in memory. It is there for
+//! tests alone: what a story says of a program is wanted, and not proved.
+//!
+//! A story is a text of lines. A row begins with a line `= TITLE`, and lasts up to the next one. In a row a line of the
+//! first table gathers bytes, one of the second makes them a file or an input, or says what the next run meets, one of
+//! the third runs words, and one of the fourth says what the run before it left. What a run wrote that no line tells,
+//! a status but 0 that no line tells, and a file that it made, changed or took away and that no line names, fail the
+//! row. So does a word or a number that is misspelt.
+//!
+//! | Gathers | |
+//! |---|---|
+//! | `text WORDS` | the rest of the line and a newline |
+//! | `raw WORDS` | the rest of the line |
+//! | `hex 0a ff 0102` | these bytes |
+//! | `zeros N`, `fill BYTE N` | so many bytes 0, so many of this number |
+//! | `record A B C D E F G H` | a record of a flat file: hard limit, soft limit and use of blocks, the same of inodes, two times |
+//! | `numbers A B ..` | numbers of four bytes, the lowest byte first |
+//! | `put AT A B ..` | the same over the bytes gathered so far, from a place on |
+//! | `size N` | as many bytes as N: what is more is cut off, what is less is filled up with 0 |
+//! | `again N` | what was gathered so far N times |
+//! | `use NAME`, `get FILE` | what was kept under a name; what a file has now |
+//! | `keep NAME` | keeps what was gathered, for all rows of the story, and gathers anew |
+//!
+//! | Sets | |
+//! |---|---|
+//! | `file NAME` | a file of the gathered bytes |
+//! | `drop NAME` | the file is not there any more |
+//! | `input` | the gathered bytes are the standard input of the next run; with no such line a run must not read it |
+//! | `datagram MOMENT` | they come as a datagram to the link of the next run; with no such line it must not be called |
+//! | `now MOMENT` | the moment of the runs from here on; 1,700,000,000 at first |
+//! | `fails OBJECT N ..` | the calls of `store`, `input`, `output`, `error` or `link` that fail in the next run |
+//! | `turns N` | the store of the next run gives bytes of 255 after so many reads |
+//! | `may FILE NAME` | a sweep leaves the file with the bytes that were kept under the name for some calls, behind which no call leaves it as it was; damages may leave it so |
+//! | `stays FILE ..` | each run of a sweep but the whole one must leave these files as they were |
+//!
+//! | Runs | |
+//! |---|---|
+//! | `run WORDS` | the words, parted by single spaces |
+//! | `both WORDS` | once with the standard input, and once over the same files with a file `l` of the same bytes and `--input l` behind the words; both must leave the same |
+//! | `sweep OBJECT WORDS` | once with no fault, and then once for each call of the object that this run made, which fails: each must end with status 4 and the line of the object's fault, with an output that is a first part of the whole one, and with each file as it was or as the whole run left it |
+//! | `turn WORDS` | once whole, and then once for each number of reads below that of the whole run, after which the store turns: each must leave what the whole run left, or end with status 3, no output and a line on the file `q`, with each file as it was or as a line allows |
+//! | `read WORDS`, `line WORDS` | the words are read as a command, outside of a script and in one; the verb alone is no words, and with a space behind it one of no bytes |
+//!
+//! | Says what the last run left | |
+//! |---|---|
+//! | `status N` | its status |
+//! | `> TEXT` | the next line of its output |
+//! | `head KIND FILE BLOCK INODE` | the next four lines of its output: the head of a report with these periods |
+//! | `! TEXT`, `!^ TEXT` | the next line of its error output; how that line begins |
+//! | `same FILE ..`, `changes FILE ..`, `absent FILE ..` | these files are as before the run; are others; are not there |
+//! | `holds FILE` | the file has the gathered bytes |
+//! | `long FILE N` | it has so many bytes |
+//! | `begins FILE`, `has FILE` | it begins with the gathered bytes; they stand in it |
+//! | `at FILE PLACE A B ..` | these numbers of four bytes stand in it |
+//! | `reads N`, `writes N` | how many such calls of the store there were |
+//! | `calls TEXT` | all calls of the store |
+//! | `left N` | how many bytes of the input were not taken |
+//! | `sent` | the gathered bytes were the next answer of the link |
+//! | `is TEXT` | what the words were read as |
+#![tactic(auto)]
+
+mod files;
+mod gather;
+mod objects;
+mod play;
+mod program;
+mod reading;
+mod report_head;
+mod runs;
+mod setting;
+mod stage;
+mod sweeps;
+mod telling;
+mod watched;
+mod wrong;
+
+pub use files::FILES;
+pub use objects::Streams;
+pub use play::failure_of;
+pub use program::Program;
+pub use watched::{Diary, Watched};

@@ -1,0 +1,18 @@
+use crate::{Streams, Watched};
+use std::alloc::{AllocError, Global};
+
+/// The program that a story is about.
+pub trait Program {
+    /// Runs words over a store and the other objects at a moment, in seconds since 1970, and answers the exit status.
+    fn run(
+        &self,
+        alloc: Global,
+        words: &[String],
+        store: &mut Watched,
+        streams: &mut Streams,
+        now: u64,
+    ) -> u8;
+
+    /// What words are read as, in a script or outside of one: a command, or a fault with the number of its word.
+    fn read(&self, alloc: Global, words: &[String], in_script: bool) -> Result<String, AllocError>;
+}

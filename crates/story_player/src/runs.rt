@@ -1,0 +1,120 @@
+use crate::Program;
+use crate::objects::Streams;
+use crate::stage::{NamedBytes, Setting, find};
+use crate::watched::Watched;
+use crate::wrong::{Wrong, unmet};
+use std::alloc::{AllocError, Global};
+
+/// What a run left.
+#[derive(Drop)]
+pub(crate) struct Ran {
+    pub status: u8,
+    pub store: Watched,
+    pub streams: Streams,
+    /// The files that are there, of those that were there before and of those that the words name.
+    pub files: Vec<NamedBytes>,
+    /// How many blocks were read and written.
+    pub reads: u64,
+    pub writes: u64,
+}
+
+impl Ran {
+    pub(crate) fn out(&self) -> &[u8] {
+        self.streams.out.bytes()
+    }
+
+    pub(crate) fn err(&self) -> &[u8] {
+        self.streams.err.bytes()
+    }
+}
+
+/// The words of a line, parted by single spaces.
+pub(crate) fn words_of(alloc: Global, line: &str) -> Result<Vec<String>, AllocError> {
+    let mut words = Vec::new(alloc);
+    if line.is_empty() {
+        return Ok(words);
+    }
+    for word in line.split(' ') {
+        words.push(String::from_str(alloc, word)?)?;
+    }
+    Ok(words)
+}
+
+/// Keeps a file of the store, where there is one that is not kept yet.
+fn keep_file(
+    alloc: Global,
+    kept: &mut Vec<NamedBytes>,
+    store: &Watched,
+    name: &str,
+) -> Result<(), AllocError> {
+    if find(kept, name).is_some() {
+        return Ok(());
+    }
+    if let Some(bytes) = store.store.file(name) {
+        kept.push((
+            String::from_str(alloc, name)?,
+            Vec::from_slice(alloc, bytes)?,
+        ))?;
+    }
+    Ok(())
+}
+
+/// Keeps a file and the one with `.new` added to its name.
+fn keep_both(
+    alloc: Global,
+    kept: &mut Vec<NamedBytes>,
+    store: &Watched,
+    name: &str,
+) -> Result<(), AllocError> {
+    keep_file(alloc, kept, store, name)?;
+    let new = format!(in alloc; "{name}.new")?;
+    keep_file(alloc, kept, store, new.as_str())
+}
+
+/// The files that a store has under the names of these files and under the words, and with `.new` added to them.
+fn files_of(
+    alloc: Global,
+    store: &Watched,
+    before: &[NamedBytes],
+    words: &[String],
+) -> Result<Vec<NamedBytes>, AllocError> {
+    let mut kept = Vec::new(alloc);
+    for (name, _) in before {
+        keep_both(alloc, &mut kept, store, name.as_str())?;
+    }
+    for word in words {
+        keep_both(alloc, &mut kept, store, word.as_str())?;
+    }
+    Ok(kept)
+}
+
+/// Runs the words of a line over these files.
+pub(crate) fn run_line<P: Program>(
+    program: &P,
+    alloc: Global,
+    line: &str,
+    files: &[NamedBytes],
+    setting: &Setting,
+    now: u64,
+) -> Result<Ran, Wrong> {
+    let words = words_of(alloc, line)?;
+    let mut store = Watched::new(alloc, files, &setting.failing.store, setting.good_reads)?;
+    let mut streams = Streams::new(alloc, setting)?;
+    let (reads, writes) = (store.store.reads(), store.store.writes());
+    let status = program.run(alloc, &words, &mut store, &mut streams, now);
+    let called = streams.called();
+    if !called.is_empty() {
+        return unmet(alloc, called);
+    }
+    let after = files_of(alloc, &store, files, &words)?;
+    let reads = store.store.reads().saturating_sub(reads);
+    let writes = store.store.writes().saturating_sub(writes);
+    Ok(Ran {
+        status,
+        store,
+        streams,
+        files: after,
+        reads,
+        writes,
+    })
+}

@@ -1,0 +1,98 @@
+use crate::stage::{Failing, Stage, find, set};
+use crate::wrong::{Told, Wrong, number, unmet};
+
+/// Carries out a line that sets a file or what the next run meets, or answers `None` where its verb is another one.
+pub(crate) fn set_up(stage: &mut Stage, verb: &str, rest: &str) -> Option<Told> {
+    match verb {
+        "file" => Some(set_file(stage, rest)),
+        "drop" => Some(drop_file(stage, rest)),
+        "input" => Some(set_input(stage)),
+        "datagram" => Some(add_datagram(stage, rest)),
+        "now" => Some(set_moment(stage, rest)),
+        "fails" => Some(set_failing(stage, rest)),
+        "turns" => Some(set_turn(stage, rest)),
+        "may" => Some(allow(stage, rest)),
+        "stays" => Some(forbid(stage, rest)),
+        _ => None,
+    }
+}
+
+fn set_file(stage: &mut Stage, name: &str) -> Told {
+    let bytes = stage.take();
+    set(stage.alloc, &mut stage.files, name, bytes)
+}
+
+fn drop_file(stage: &mut Stage, name: &str) -> Told {
+    if find(&stage.files, name).is_none() {
+        return unmet(stage.alloc, "there is no such file");
+    }
+    stage.files.retain(|file| file.0.as_str() != name);
+    Ok(())
+}
+
+fn set_input(stage: &mut Stage) -> Told {
+    let bytes = stage.take();
+    stage.setting.input = Some(bytes);
+    Ok(())
+}
+
+fn add_datagram(stage: &mut Stage, rest: &str) -> Told {
+    let moment = number(stage.alloc, rest)?;
+    let bytes = stage.take();
+    stage
+        .setting
+        .datagrams
+        .push((bytes, moment))
+        .map_err(|_| Wrong::Memory)
+}
+
+fn set_moment(stage: &mut Stage, rest: &str) -> Told {
+    stage.now = number(stage.alloc, rest)?;
+    Ok(())
+}
+
+fn set_turn(stage: &mut Stage, rest: &str) -> Told {
+    stage.setting.good_reads = number(stage.alloc, rest)?;
+    Ok(())
+}
+
+/// The calls of an object that are to fail.
+pub(crate) fn calls_of<'a>(failing: &'a mut Failing, object: &str) -> Option<&'a mut Vec<u64>> {
+    match object {
+        "store" => Some(&mut failing.store),
+        "input" => Some(&mut failing.input),
+        "output" => Some(&mut failing.output),
+        "error" => Some(&mut failing.error),
+        "link" => Some(&mut failing.link),
+        _ => None,
+    }
+}
+
+fn set_failing(stage: &mut Stage, rest: &str) -> Told {
+    let (object, calls) = rest.split_once(' ').unwrap_or((rest, ""));
+    for word in calls.split(' ') {
+        let call = number(stage.alloc, word)?;
+        let Some(plan) = calls_of(&mut stage.setting.failing, object) else {
+            return unmet(stage.alloc, "there is no such object");
+        };
+        plan.push(call).map_err(|_| Wrong::Memory)?;
+    }
+    Ok(())
+}
+
+fn allow(stage: &mut Stage, rest: &str) -> Told {
+    let Some((file, name)) = rest.split_once(' ') else {
+        return unmet(stage.alloc, "a file and a name are wanted");
+    };
+    let file = String::from_str(stage.alloc, file)?;
+    let name = String::from_str(stage.alloc, name)?;
+    stage.may.push((file, name)).map_err(|_| Wrong::Memory)
+}
+
+fn forbid(stage: &mut Stage, rest: &str) -> Told {
+    for file in rest.split(' ') {
+        let file = String::from_str(stage.alloc, file)?;
+        stage.stays.push(file).map_err(|_| Wrong::Memory)?;
+    }
+    Ok(())
+}

@@ -1,0 +1,266 @@
+use crate::report_head::head_of;
+use crate::stage::{Last, NamedBytes, Stage, find, has_name};
+use crate::wrong::{Told, Wrong, holds_if, is_number, number, unmet};
+use std::alloc::Global;
+
+/// Carries out a line that says what the last run left, or answers `None` where its verb is another one.
+pub(crate) fn tell(stage: &mut Stage, verb: &str, rest: &str) -> Option<Told> {
+    let alloc = stage.alloc;
+    if verb == "is" {
+        let read = stage.read.take();
+        return Some(tell_read(alloc, read, rest));
+    }
+    let gathers = matches!(verb, "holds" | "begins" | "has" | "sent");
+    let gathered = if gathers {
+        stage.take()
+    } else {
+        Vec::new(alloc)
+    };
+    let Some(last) = &mut stage.last else {
+        return None;
+    };
+    match verb {
+        "status" => Some(tell_status(alloc, last, rest)),
+        ">" => Some(tell_out(alloc, last, rest)),
+        "head" => Some(tell_head(alloc, last, rest)),
+        "!" => Some(tell_err(alloc, last, rest)),
+        "!^" => Some(tell_err_start(alloc, last, rest)),
+        "same" => Some(tell_files(alloc, last, rest, OfFile::Same)),
+        "changes" => Some(tell_files(alloc, last, rest, OfFile::Other)),
+        "absent" => Some(tell_files(alloc, last, rest, OfFile::Absent)),
+        "holds" => Some(tell_bytes(alloc, last, rest, &gathered, OfBytes::All)),
+        "begins" => Some(tell_bytes(alloc, last, rest, &gathered, OfBytes::Start)),
+        "has" => Some(tell_bytes(alloc, last, rest, &gathered, OfBytes::Part)),
+        "sent" => Some(tell_answer(alloc, last, &gathered)),
+        "long" => Some(tell_length(alloc, last, rest)),
+        "at" => Some(tell_numbers(alloc, last, rest)),
+        "reads" => Some(tell_number(alloc, last.ran.reads, rest)),
+        "writes" => Some(tell_number(alloc, last.ran.writes, rest)),
+        "left" => Some(tell_number(alloc, last.ran.streams.input.left().len() as u64, rest)),
+        "calls" => Some(tell_calls(alloc, last, rest)),
+        _ => None,
+    }
+}
+
+fn tell_read(alloc: Global, read: Option<String>, want: &str) -> Told {
+    match read {
+        Some(text) if text.as_str() == want => Ok(()),
+        Some(text) => Err(Wrong::Said(text)),
+        None => unmet(alloc, "no words were read"),
+    }
+}
+
+fn tell_status(alloc: Global, last: &mut Last, rest: &str) -> Told {
+    let want = number(alloc, rest)?;
+    last.status_told = true;
+    is_number(alloc, u64::from(last.ran.status), want)
+}
+
+fn tell_number(alloc: Global, is: u64, rest: &str) -> Told {
+    let want = number(alloc, rest)?;
+    is_number(alloc, is, want)
+}
+
+fn tell_calls(alloc: Global, last: &Last, rest: &str) -> Told {
+    if last.ran.store.diary.noted.as_str().trim_end() == rest {
+        return Ok(());
+    }
+    Err(Wrong::Said(last.ran.store.diary.noted.clone()?))
+}
+
+/// The line of a text that begins at a place, without its newline.
+fn line_at(said: &[u8], at: usize) -> &[u8] {
+    let rest = said.get(at..).unwrap_or(b"");
+    rest.split(|byte| *byte == b'\n').next().unwrap_or(b"")
+}
+
+/// What was there in place of a line that is wanted.
+pub(crate) fn instead<T: Drop>(alloc: Global, line: &[u8]) -> Result<T, Wrong> {
+    let line = String::from_utf8_lossy(alloc, line)?;
+    Err(Wrong::Said(format!(in alloc; "it is '{}'", line.as_str())?))
+}
+
+/// Where a text ends that begins at a place and is the wanted one with a newline.
+fn end_of(alloc: Global, said: &[u8], at: usize, want: &str) -> Result<usize, Wrong> {
+    let line = line_at(said, at);
+    let end = at.saturating_add(line.len());
+    if line == want.as_bytes() && end < said.len() {
+        return Ok(end.saturating_add(1));
+    }
+    instead(alloc, line)
+}
+
+fn tell_out(alloc: Global, last: &mut Last, want: &str) -> Told {
+    last.out_told = end_of(alloc, last.ran.out(), last.out_told, want)?;
+    Ok(())
+}
+
+fn tell_head(alloc: Global, last: &mut Last, rest: &str) -> Told {
+    let head = head_of(alloc, rest)?;
+    for line in head.as_str().lines() {
+        last.out_told = end_of(alloc, last.ran.out(), last.out_told, line)?;
+    }
+    Ok(())
+}
+
+fn tell_err(alloc: Global, last: &mut Last, want: &str) -> Told {
+    last.err_told = end_of(alloc, last.ran.err(), last.err_told, want)?;
+    Ok(())
+}
+
+fn tell_err_start(alloc: Global, last: &mut Last, want: &str) -> Told {
+    let line = line_at(last.ran.err(), last.err_told);
+    if !line.starts_with(want.as_bytes()) {
+        return instead(alloc, line);
+    }
+    last.err_told = last.err_told.saturating_add(line.len()).saturating_add(1);
+    Ok(())
+}
+
+/// What a line says of a file, beside what it was before the run.
+#[derive(Clone, Copy)]
+enum OfFile {
+    Same,
+    Other,
+    Absent,
+}
+
+impl OfFile {
+    fn holds(self, before: Option<&[u8]>, after: Option<&[u8]>) -> bool {
+        match self {
+            OfFile::Same => before == after,
+            OfFile::Other => before != after,
+            OfFile::Absent => after.is_none(),
+        }
+    }
+}
+
+fn name(alloc: Global, last: &mut Last, file: &str) -> Told {
+    last.named
+        .push(String::from_str(alloc, file)?)
+        .map_err(|_| Wrong::Memory)
+}
+
+fn tell_files(alloc: Global, last: &mut Last, rest: &str, says: OfFile) -> Told {
+    for file in rest.split(' ') {
+        name(alloc, last, file)?;
+        let is_so = says.holds(find(&last.before, file), find(&last.ran.files, file));
+        holds_if(alloc, is_so, "the file is not so")?;
+    }
+    Ok(())
+}
+
+/// What a line says of the gathered bytes: they are all those of a file, the first ones, or some of them.
+#[derive(Clone, Copy)]
+enum OfBytes {
+    All,
+    Start,
+    Part,
+}
+
+impl OfBytes {
+    fn holds(self, file: &[u8], gathered: &[u8]) -> bool {
+        match self {
+            OfBytes::All => file == gathered,
+            OfBytes::Start => file.starts_with(gathered),
+            OfBytes::Part => file
+                .windows(gathered.len().max(1))
+                .any(|part| part == gathered),
+        }
+    }
+}
+
+fn tell_bytes(alloc: Global, last: &mut Last, file: &str, gathered: &[u8], says: OfBytes) -> Told {
+    name(alloc, last, file)?;
+    match find(&last.ran.files, file) {
+        Some(bytes) => holds_if(
+            alloc,
+            says.holds(bytes, gathered),
+            "the file has other bytes",
+        ),
+        None => unmet(alloc, "there is no such file"),
+    }
+}
+
+fn tell_length(alloc: Global, last: &mut Last, rest: &str) -> Told {
+    let (file, length) = rest.split_once(' ').unwrap_or((rest, ""));
+    let want = number(alloc, length)?;
+    name(alloc, last, file)?;
+    match find(&last.ran.files, file) {
+        Some(bytes) => is_number(alloc, bytes.len() as u64, want),
+        None => unmet(alloc, "there is no such file"),
+    }
+}
+
+/// The number in the four bytes at a place; behind the end stand bytes of 255.
+fn number_at(file: &[u8], at: usize) -> u64 {
+    let mut bytes = [255; 4];
+    for (to, byte) in bytes.iter_mut().zip(file.iter().skip(at)) {
+        *to = *byte;
+    }
+    u64::from(u32::from_le_bytes(bytes))
+}
+
+fn tell_numbers(alloc: Global, last: &mut Last, rest: &str) -> Told {
+    let (file, numbers) = rest.split_once(' ').unwrap_or((rest, ""));
+    let (at, numbers) = numbers.split_once(' ').unwrap_or((numbers, ""));
+    name(alloc, last, file)?;
+    let mut at = number(alloc, at)?.min(1 << 30) as usize;
+    let bytes = find(&last.ran.files, file).unwrap_or(b"");
+    for word in numbers.split(' ') {
+        let want = number(alloc, word)?;
+        is_number(alloc, number_at(bytes, at), want)?;
+        at = at.saturating_add(4);
+    }
+    Ok(())
+}
+
+fn tell_answer(alloc: Global, last: &mut Last, gathered: &[u8]) -> Told {
+    let answers = last.ran.streams.link.answers();
+    let Some(answer) = answers.get(last.answers_told) else {
+        return unmet(alloc, "no more answers were sent");
+    };
+    last.answers_told = last.answers_told.saturating_add(1);
+    if answer.as_slice() == gathered {
+        return Ok(());
+    }
+    Err(Wrong::Said(format!(in alloc; "it is {answer:?}")?))
+}
+
+/// Whether a file is as before, or a line names it.
+fn is_told(last: &Last, file: &str) -> bool {
+    has_name(&last.named, file) || find(&last.before, file) == find(&last.ran.files, file)
+}
+
+/// The first of some files that is not as before and that no line names.
+fn untold<'a>(last: &'a Last, files: &'a [NamedBytes]) -> Option<&'a str> {
+    for (name, _) in files {
+        if !is_told(last, name.as_str()) {
+            return Some(name.as_str());
+        }
+    }
+    None
+}
+
+/// A run of which everything was told that must be told.
+pub(crate) fn is_all_told(alloc: Global, last: &Last) -> Told {
+    if !last.status_told {
+        is_number(alloc, u64::from(last.ran.status), 0)?;
+    }
+    if last.err_told < last.ran.err().len() {
+        return instead(alloc, line_at(last.ran.err(), last.err_told));
+    }
+    if last.out_told < last.ran.out().len() {
+        return instead(alloc, line_at(last.ran.out(), last.out_told));
+    }
+    if last.answers_told < last.ran.streams.link.answers().len() {
+        return unmet(alloc, "an answer was sent that no line tells");
+    }
+    for files in [&last.before, &last.ran.files] {
+        if let Some(name) = untold(last, files) {
+            let why = format!(in alloc; "no line tells of the file {name}")?;
+            return Err(Wrong::Said(why));
+        }
+    }
+    Ok(())
+}
