@@ -1,4 +1,4 @@
--- Which commands are built, told from the form and the options that ask for them.
+-- Which commands are built, told from the mode and the options that ask for them.
 use Rattle.std.proofs.Common.{◌≡◌, ◌∙◌, ℕ, ◌+◌, Bool, true, false, not, if◌then◌else◌, IsOk, MatchResult, List, [], ◌∷◌, length, Option, None, Some, Result, Ok, Err, refl, sym, ap}
 use Rattle.command_words.specs.Built.{if_built, is_built, unknown_command}
 use Rattle.refusals.specs.declared.reason.Refusal.{Refusal}
@@ -8,16 +8,16 @@ use Rattle.refusals.specs.declared.cause.UsageKind.TheVariants.{UnknownCommand, 
 use Rattle.option_words.specs.declared.fault.Fault.{Fault}
 use Rattle.option_words.specs.declared.given.Conversion.{Conversion}
 use Rattle.quota_blocks.specs.Numeral.{number_of}
-use Rattle.command_words.specs.declared.form.Form.{Form}
-use Rattle.command_words.specs.declared.form.Form.TheVariants.{Reporting, Limiting, Copying, Batching, SettingGrace, SettingTimes, Printing, Applying, Checking, Converting, Serving, Scripting, Generating}
+use Rattle.command_words.specs.declared.mode.Mode.{Mode}
+use Rattle.command_words.specs.declared.mode.Mode.TheVariants.{Reporting, Limiting, Copying, Batching, SettingGrace, SettingTimes, Printing, Applying, Checking, Converting, Serving, Scripting, Generating}
 use Rattle.option_words.specs.declared.tool.Tool.{Tool}
 use Rattle.command_words.specs.declared.reading.UsageFault.{UsageFault}
 use Rattle.command_words.specs.declared.reading.UsageFault.TheVariants.{Usage, Memory}
 use Rattle.command_words.specs.Asked.{asked, asked_of, command_of, may_stand, refused, settled}
-use Rattle.command_words.specs.BuiltForms.{is_built_form}
+use Rattle.command_words.specs.BuiltModes.{is_built_mode}
 use Rattle.option_words.specs.Fault.{fault, unless, with_value, ◌>>=◌}
 use Rattle.option_words.specs.Items.{Operand, operands_in}
-use Rattle.command_words.specs.Forms.{common_of, excludes, form_of, formed, is_value, kind_asked, lacks, named}
+use Rattle.command_words.specs.Modes.{common_of, excludes, mode_of, formed, is_value, kind_asked, lacks, named}
 use Rattle.option_words.specs.Given.{Told, nothing_told, with_items}
 use Rattle.option_words.specs.Items.{AnyWord, items_of}
 use Rattle.option_words.specs.Tools.{tool_of}
@@ -39,9 +39,9 @@ with_value_ok None met next value is = absurd (cc)
 built_as : (this command : Command) → ◌≡◌ {A = Result Command Fault} (Ok this) (Ok command) → is_built command ≡ is_built this
 built_as this command is = let same : this ≡ command = cc in ap is_built (sym same)
 
--- a form asks for a command that is built where the form with its options is
-built_formed : (form : Form) (told : Told) (words : ℕ) (operands : List Operand) (command : Command)
-    → formed form told words operands ≡ Ok command → is_built command ≡ is_built_form form
+-- a mode asks for a command that is built where the mode with its options is
+built_formed : (mode : Mode) (told : Told) (words : ℕ) (operands : List Operand) (command : Command)
+    → formed mode told words operands ≡ Ok command → is_built command ≡ is_built_mode mode
 built_formed Reporting told words (file ∷ []) command is = built_as _ command (unless_ok _ _ _ command is)
 built_formed Limiting told words (name ∷ bsoft ∷ bhard ∷ isoft ∷ ihard ∷ file ∷ []) command is = built_as _ command (unless_ok _ _ _ command is)
 built_formed Copying told words (name ∷ file ∷ []) command is =
@@ -90,22 +90,22 @@ asked_tool name texts tool command is asks =
     ap (λ (t : Tool). asked_of false t texts) (sym same)
     ∙ unless_ok (not (may_stand false found.0)) (fault UnknownCommand 0) (asked_of false found.0 texts) command found.2
 
--- words that ask for a command ask for one that is built where the form with its options is
+-- words that ask for a command ask for one that is built where the mode with its options is
 pub built_asked : (name : List ℕ) (texts : List (List ℕ)) (tool : Tool) (told : Told) (command : Command) → tool_of name ≡ Some tool
     → with_items (items_of tool AnyWord 1 texts) nothing_told ≡ Ok told → command_of false (name ∷ texts) ≡ Ok command
-    → is_built_form (form_of tool told) ≡ is_built command
+    → is_built_mode (mode_of tool told) ≡ is_built command
 built_asked name texts tool told command is given asks =
     let items = items_of tool AnyWord 1 texts in
     let settles : settled false tool told (length texts + 1) items ≡ Ok command =
     sym (ap (λ (r : Result Told Fault). r >>= λ (t : Told). settled false tool t (length texts + 1) items) given)
     ∙ asked_tool name texts tool command is asks in
-    let form = form_of tool told in
+    let mode = mode_of tool told in
     let words = length texts + 1 in
-    let outer : unless (lacks false tool told) (fault MissingOption words) (formed form told words (operands_in items)) ≡ Ok command =
+    let outer : unless (lacks false tool told) (fault MissingOption words) (formed mode told words (operands_in items)) ≡ Ok command =
     unless_ok (excludes tool told) (fault Excludes words) _ command settles in
-    let inner : formed form told words (operands_in items) ≡ Ok command =
+    let inner : formed mode told words (operands_in items) ≡ Ok command =
     unless_ok (lacks false tool told) (fault MissingOption words) _ command outer in
-    sym (built_formed form told words (operands_in items) command inner)
+    sym (built_formed mode told words (operands_in items) command inner)
 
 -- a command that was read is kept where it is built
 pub kept_read : (asks : Result Command Refusal) (command : Command) (built : Bool) (result : Result Command UsageFault)

@@ -1,7 +1,7 @@
--- Operands of which the first seven are kept, and forms that have no more than six.
+-- Operands of which the first seven are kept, and modes that have no more than six.
 use Rattle.std.proofs.Common.{◌≡◌, ◌∙◌, ℕ, ◌+◌, Bool, true, false, List, [], ◌∷◌, length, get_or, take, Result, Ok, IsOk, refl, sym, ap, arith}
-use Rattle.command_words.specs.declared.form.Form.{Form}
-use Rattle.command_words.specs.declared.form.Form.TheVariants.{Reporting, Limiting, Copying, Batching, SettingGrace, SettingTimes, Printing, Applying, Checking, Converting, Serving, Scripting, Generating}
+use Rattle.command_words.specs.declared.mode.Mode.{Mode}
+use Rattle.command_words.specs.declared.mode.Mode.TheVariants.{Reporting, Limiting, Copying, Batching, SettingGrace, SettingTimes, Printing, Applying, Checking, Converting, Serving, Scripting, Generating}
 use Rattle.option_words.specs.declared.scan.OperandWord.{OperandWord}
 use Rattle.command_words.specs.declared.command.Command.TheVariants.{SetLimits}
 use Rattle.refusals.specs.declared.cause.UsageKind.TheVariants.{Excludes, MissingOption}
@@ -11,14 +11,14 @@ use Rattle.command_words.specs.Asked.{asked_of, settled}
 use Rattle.option_words.specs.Fault.{fault, unless, ◌>>=◌}
 use Rattle.option_words.specs.FileName.{is_file_name}
 use Rattle.option_words.specs.Items.{Operand, operands_in}
-use Rattle.command_words.specs.Forms.{common_of, excludes, form_of, formed, lacks}
+use Rattle.command_words.specs.Modes.{common_of, excludes, mode_of, formed, lacks}
 use Rattle.option_words.specs.Given.{Told, nothing_told, with_items}
 use Rattle.option_words.specs.Items.{AnyWord, items_of}
 use Rattle.option_words.specs.Reads.{operands_seen}
 
--- seven operands are too many for each form
-too_many : (form : Form) (told : Told) (words : ℕ) (a b c d e f g : Operand) (more other : List Operand)
-    → formed form told words (a ∷ b ∷ c ∷ d ∷ e ∷ f ∷ g ∷ more) ≡ formed form told words (a ∷ b ∷ c ∷ d ∷ e ∷ f ∷ g ∷ other)
+-- seven operands are too many for each mode
+too_many : (mode : Mode) (told : Told) (words : ℕ) (a b c d e f g : Operand) (more other : List Operand)
+    → formed mode told words (a ∷ b ∷ c ∷ d ∷ e ∷ f ∷ g ∷ more) ≡ formed mode told words (a ∷ b ∷ c ∷ d ∷ e ∷ f ∷ g ∷ other)
 too_many Reporting told words a b c d e f g more other = refl
 too_many Limiting told words a b c d e f g more other = refl
 too_many Copying told words a b c d e f g more other = refl
@@ -33,17 +33,17 @@ too_many Serving told words a b c d e f g more other = refl
 too_many Scripting told words a b c d e f g more other = refl
 too_many Generating told words a b c d e f g more other = refl
 
--- the first seven operands are enough to tell what a form asks for
-pub formed-take : (form : Form) (told : Told) (words : ℕ) (operands : List Operand)
-    → formed form told words (take 7 operands) ≡ formed form told words operands
-formed-take form told words [] = refl
-formed-take form told words (a ∷ []) = refl
-formed-take form told words (a ∷ b ∷ []) = refl
-formed-take form told words (a ∷ b ∷ c ∷ []) = refl
-formed-take form told words (a ∷ b ∷ c ∷ d ∷ []) = refl
-formed-take form told words (a ∷ b ∷ c ∷ d ∷ e ∷ []) = refl
-formed-take form told words (a ∷ b ∷ c ∷ d ∷ e ∷ f ∷ []) = refl
-formed-take form told words (a ∷ b ∷ c ∷ d ∷ e ∷ f ∷ g ∷ more) = too_many form told words a b c d e f g [] more
+-- the first seven operands are enough to tell what a mode asks for
+pub formed-take : (mode : Mode) (told : Told) (words : ℕ) (operands : List Operand)
+    → formed mode told words (take 7 operands) ≡ formed mode told words operands
+formed-take mode told words [] = refl
+formed-take mode told words (a ∷ []) = refl
+formed-take mode told words (a ∷ b ∷ []) = refl
+formed-take mode told words (a ∷ b ∷ c ∷ []) = refl
+formed-take mode told words (a ∷ b ∷ c ∷ d ∷ []) = refl
+formed-take mode told words (a ∷ b ∷ c ∷ d ∷ e ∷ []) = refl
+formed-take mode told words (a ∷ b ∷ c ∷ d ∷ e ∷ f ∷ []) = refl
+formed-take mode told words (a ∷ b ∷ c ∷ d ∷ e ∷ f ∷ g ∷ more) = too_many mode told words a b c d e f g [] more
 
 -- what six operands ask for as new limits, each by its place
 pub limits_formed : (told : Told) (words : ℕ) (operands : List OperandWord) (any : OperandWord) → length operands ≡ 6
@@ -66,20 +66,20 @@ pub limits_ok : (told : Told) (words : ℕ) (operands : List OperandWord) (any :
     → is_file_name (get_or operands 5 any).text.now ≡ true → IsOk (formed Limiting told words (operands_seen operands))
 limits_ok told words operands any six named = rw (limits_formed told words operands any six named) refl
 
--- what is asked for where the options have no fault: what their form asks for by the operands that were kept
-pub asked_formed : (in_script : Bool) (tool : Tool) (texts : List (List ℕ)) (told : Told) (form : Form) (words : ℕ) (kept : List Operand)
+-- what is asked for where the options have no fault: what their mode asks for by the operands that were kept
+pub asked_formed : (in_script : Bool) (tool : Tool) (texts : List (List ℕ)) (told : Told) (mode : Mode) (words : ℕ) (kept : List Operand)
     → with_items (items_of tool AnyWord 1 texts) nothing_told ≡ Ok told
     → take 7 kept ≡ take 7 (operands_in (items_of tool AnyWord 1 texts))
-    → excludes tool told ≡ false → lacks in_script tool told ≡ false → form ≡ form_of tool told → words ≡ length texts + 1
-    → asked_of in_script tool texts ≡ formed form told words kept
-asked_formed in_script tool texts told form words kept given operands none complete is count =
+    → excludes tool told ≡ false → lacks in_script tool told ≡ false → mode ≡ mode_of tool told → words ≡ length texts + 1
+    → asked_of in_script tool texts ≡ formed mode told words kept
+asked_formed in_script tool texts told mode words kept given operands none complete is count =
     let items = items_of tool AnyWord 1 texts in
     ap (λ (r : Result Told Fault). r >>= λ (t : Told). settled in_script tool t (length texts + 1) items) given
     ∙ ap (λ (b : Bool). unless b (fault Excludes (length texts + 1)) (unless (lacks in_script tool told) (fault MissingOption (length texts + 1))
-    (formed (form_of tool told) told (length texts + 1) (operands_in items)))) none
-    ∙ ap (λ (b : Bool). unless b (fault MissingOption (length texts + 1)) (formed (form_of tool told) told (length texts + 1) (operands_in items))) complete
-    ∙ sym (formed-take (form_of tool told) told (length texts + 1) (operands_in items))
-    ∙ ap (formed (form_of tool told) told (length texts + 1)) (sym operands)
-    ∙ formed-take (form_of tool told) told (length texts + 1) kept
-    ∙ ap (λ (n : ℕ). formed (form_of tool told) told n kept) (sym count)
-    ∙ ap (λ (f : Form). formed f told words kept) (sym is)
+    (formed (mode_of tool told) told (length texts + 1) (operands_in items)))) none
+    ∙ ap (λ (b : Bool). unless b (fault MissingOption (length texts + 1)) (formed (mode_of tool told) told (length texts + 1) (operands_in items))) complete
+    ∙ sym (formed-take (mode_of tool told) told (length texts + 1) (operands_in items))
+    ∙ ap (formed (mode_of tool told) told (length texts + 1)) (sym operands)
+    ∙ formed-take (mode_of tool told) told (length texts + 1) kept
+    ∙ ap (λ (n : ℕ). formed (mode_of tool told) told n kept) (sym count)
+    ∙ ap (λ (f : Mode). formed f told words kept) (sym is)

@@ -8,7 +8,7 @@ use Rattle.option_words.specs.declared.fault.Fault.{Fault}
 use Rattle.option_words.specs.declared.tool.Tool.{Tool}
 use Rattle.option_words.specs.declared.tool.Tool.TheVariants.{Script}
 use Rattle.option_words.specs.Fault.{fault, unless, with_value, ◌>>=◌}
-use Rattle.command_words.specs.Forms.{excludes, form_of, formed, lacks}
+use Rattle.command_words.specs.Modes.{excludes, mode_of, formed, lacks}
 use Rattle.option_words.specs.Items.{operands_in}
 use Rattle.option_words.specs.Given.{Told, nothing_told, with_items}
 use Rattle.option_words.specs.Items.{AnyWord, Item, items_of}
@@ -21,7 +21,7 @@ abbrev pub settled : (in_script : Bool) → Tool → Told → (words : ℕ) → 
 settled in_script tool told words items =
     unless (excludes tool told) (fault Excludes words)
     (unless (lacks in_script tool told) (fault MissingOption words)
-    (formed (form_of tool told) told words (operands_in items)))
+    (formed (mode_of tool told) told words (operands_in items)))
 
 -- what a command is asked for by so many words, which say these items
 abbrev pub asked_of_items : (in_script : Bool) → Tool → (words : ℕ) → List Item → Result Command Fault

@@ -1,6 +1,6 @@
 pub mod Asked
 pub mod Built
-pub mod BuiltForms
-pub mod Forms
+pub mod BuiltModes
+pub mod Modes
 pub mod Usage
 pub use Rattle.option_words.specs.Items

@@ -1,51 +1,51 @@
 ghost use Rattle.std.specs.Prelude.{◌≡◌, [], ◌∷◌, false, true, Ok, Err, MatchResult};
 ghost use Rattle.std.specs.Option.{option_copied};
 ghost use Rattle.option_words.specs.FileName.{is_file_name};
-ghost use Rattle.command_words.specs.Forms.{formed, is_value};
+ghost use Rattle.command_words.specs.Modes.{formed, is_value};
 ghost use Rattle.option_words.specs.Given.{Told, told};
 ghost use Rattle.option_words.specs.Reads.{operand_seen, operands_seen};
 ghost use Rattle.command_words.specs.Usage.{IsFaultOf};
 
 use crate::copies::{common_of, copy_given, exports_of, word_of};
-use crate::form::{Form, kind_asked, options_of};
+use crate::mode::{Mode, kind_asked, options_of};
 use crate::{Command, UsageFault};
 use option_words::{Fault, Given, OperandWord, is_file_name, lines_of};
 use refusals::{UsageKind, Word};
 use set_edit::read_number;
 use std::alloc::Global;
 
-/// The command that a form asks for by its operands.
-pub fn form_command(
+/// The command that a mode asks for by its operands.
+pub fn mode_command(
     alloc: Global,
-    form: Form,
+    mode: Mode,
     given: &Given<'_>,
     operands: &[OperandWord<'_>],
     words: usize,
 ) -> Result<Command, UsageFault>
-    ensures { MatchResult result (λ command. formed form (told given.now) words (operands_seen operands.now) ≡ Ok command)
-        (IsFaultOf (formed form (told given.now) words (operands_seen operands.now))) }
+    ensures { MatchResult result (λ command. formed mode (told given.now) words (operands_seen operands.now) ≡ Ok command)
+        (IsFaultOf (formed mode (told given.now) words (operands_seen operands.now))) }
 {
-    match form {
-        Form::Reporting => report(alloc, given, operands, words),
-        Form::Limiting => limits(alloc, given, operands, words),
-        Form::Copying => copy(alloc, given, operands, words),
-        Form::Batching => batch(alloc, given, operands, words),
-        Form::SettingGrace => grace(alloc, given, operands, words),
-        Form::SettingTimes => times(alloc, given, operands, words),
-        Form::Printing => print(alloc, given, operands, words),
-        Form::Applying => apply(alloc, given, operands, words),
-        Form::Checking => check(alloc, given, operands, words),
-        Form::Converting => convert(alloc, given, operands, words),
-        Form::Serving => serve(alloc, given, operands, words),
-        Form::Scripting => script(operands, words),
-        Form::Generating => generate(alloc, operands, words),
+    match mode {
+        Mode::Reporting => report(alloc, given, operands, words),
+        Mode::Limiting => limits(alloc, given, operands, words),
+        Mode::Copying => copy(alloc, given, operands, words),
+        Mode::Batching => batch(alloc, given, operands, words),
+        Mode::SettingGrace => grace(alloc, given, operands, words),
+        Mode::SettingTimes => times(alloc, given, operands, words),
+        Mode::Printing => print(alloc, given, operands, words),
+        Mode::Applying => apply(alloc, given, operands, words),
+        Mode::Checking => check(alloc, given, operands, words),
+        Mode::Converting => convert(alloc, given, operands, words),
+        Mode::Serving => serve(alloc, given, operands, words),
+        Mode::Scripting => script(operands, words),
+        Mode::Generating => generate(alloc, operands, words),
     }
 }
 
 /// A list of commands.
 fn script(operands: &[OperandWord<'_>], words: usize) -> Result<Command, UsageFault>
-    ensures { (given : Told) → MatchResult result (λ command. formed Form.Scripting given words (operands_seen operands.now) ≡ Ok command)
-        (IsFaultOf (formed Form.Scripting given words (operands_seen operands.now))) }
+    ensures { (given : Told) → MatchResult result (λ command. formed Mode.Scripting given words (operands_seen operands.now) ≡ Ok command)
+        (IsFaultOf (formed Mode.Scripting given words (operands_seen operands.now))) }
 {
     if operands.is_empty() {
         Ok(Command::Script)
@@ -61,8 +61,8 @@ fn report(
     operands: &[OperandWord<'_>],
     words: usize,
 ) -> Result<Command, UsageFault>
-    ensures { MatchResult result (λ command. formed Form.Reporting (told given.now) words (operands_seen operands.now) ≡ Ok command)
-        (IsFaultOf (formed Form.Reporting (told given.now) words (operands_seen operands.now))) }
+    ensures { MatchResult result (λ command. formed Mode.Reporting (told given.now) words (operands_seen operands.now) ≡ Ok command)
+        (IsFaultOf (formed Mode.Reporting (told given.now) words (operands_seen operands.now))) }
 {
     let [file] = operands else {
         return Err(wrong_operands(words));
@@ -82,8 +82,8 @@ fn limits(
     operands: &[OperandWord<'_>],
     words: usize,
 ) -> Result<Command, UsageFault>
-    ensures { MatchResult result (λ command. formed Form.Limiting (told given.now) words (operands_seen operands.now) ≡ Ok command)
-        (IsFaultOf (formed Form.Limiting (told given.now) words (operands_seen operands.now))) }
+    ensures { MatchResult result (λ command. formed Mode.Limiting (told given.now) words (operands_seen operands.now) ≡ Ok command)
+        (IsFaultOf (formed Mode.Limiting (told given.now) words (operands_seen operands.now))) }
 {
     let [name, bsoft, bhard, isoft, ihard, file] = operands else {
         return Err(wrong_operands(words));
@@ -109,8 +109,8 @@ fn copy(
     operands: &[OperandWord<'_>],
     words: usize,
 ) -> Result<Command, UsageFault>
-    ensures { MatchResult result (λ command. formed Form.Copying (told given.now) words (operands_seen operands.now) ≡ Ok command)
-        (IsFaultOf (formed Form.Copying (told given.now) words (operands_seen operands.now))) }
+    ensures { MatchResult result (λ command. formed Mode.Copying (told given.now) words (operands_seen operands.now) ≡ Ok command)
+        (IsFaultOf (formed Mode.Copying (told given.now) words (operands_seen operands.now))) }
 {
     let [name, file] = operands else {
         return Err(wrong_operands(words));
@@ -134,8 +134,8 @@ fn batch(
     operands: &[OperandWord<'_>],
     words: usize,
 ) -> Result<Command, UsageFault>
-    ensures { MatchResult result (λ command. formed Form.Batching (told given.now) words (operands_seen operands.now) ≡ Ok command)
-        (IsFaultOf (formed Form.Batching (told given.now) words (operands_seen operands.now))) }
+    ensures { MatchResult result (λ command. formed Mode.Batching (told given.now) words (operands_seen operands.now) ≡ Ok command)
+        (IsFaultOf (formed Mode.Batching (told given.now) words (operands_seen operands.now))) }
 {
     let [file] = operands else {
         return Err(wrong_operands(words));
@@ -158,8 +158,8 @@ fn grace(
     operands: &[OperandWord<'_>],
     words: usize,
 ) -> Result<Command, UsageFault>
-    ensures { MatchResult result (λ command. formed Form.SettingGrace (told given.now) words (operands_seen operands.now) ≡ Ok command)
-        (IsFaultOf (formed Form.SettingGrace (told given.now) words (operands_seen operands.now))) }
+    ensures { MatchResult result (λ command. formed Mode.SettingGrace (told given.now) words (operands_seen operands.now) ≡ Ok command)
+        (IsFaultOf (formed Mode.SettingGrace (told given.now) words (operands_seen operands.now))) }
 {
     let [block, inode, file] = operands else {
         return Err(wrong_operands(words));
@@ -180,8 +180,8 @@ fn times(
     operands: &[OperandWord<'_>],
     words: usize,
 ) -> Result<Command, UsageFault>
-    ensures { MatchResult result (λ command. formed Form.SettingTimes (told given.now) words (operands_seen operands.now) ≡ Ok command)
-        (IsFaultOf (formed Form.SettingTimes (told given.now) words (operands_seen operands.now))) }
+    ensures { MatchResult result (λ command. formed Mode.SettingTimes (told given.now) words (operands_seen operands.now) ≡ Ok command)
+        (IsFaultOf (formed Mode.SettingTimes (told given.now) words (operands_seen operands.now))) }
 {
     let [name, block, inode, file] = operands else {
         return Err(wrong_operands(words));
@@ -203,8 +203,8 @@ fn print(
     operands: &[OperandWord<'_>],
     words: usize,
 ) -> Result<Command, UsageFault>
-    ensures { MatchResult result (λ command. formed Form.Printing (told given.now) words (operands_seen operands.now) ≡ Ok command)
-        (IsFaultOf (formed Form.Printing (told given.now) words (operands_seen operands.now))) }
+    ensures { MatchResult result (λ command. formed Mode.Printing (told given.now) words (operands_seen operands.now) ≡ Ok command)
+        (IsFaultOf (formed Mode.Printing (told given.now) words (operands_seen operands.now))) }
 {
     let [name, file] = operands else {
         return Err(wrong_operands(words));
@@ -224,8 +224,8 @@ fn apply(
     operands: &[OperandWord<'_>],
     words: usize,
 ) -> Result<Command, UsageFault>
-    ensures { MatchResult result (λ command. formed Form.Applying (told given.now) words (operands_seen operands.now) ≡ Ok command)
-        (IsFaultOf (formed Form.Applying (told given.now) words (operands_seen operands.now))) }
+    ensures { MatchResult result (λ command. formed Mode.Applying (told given.now) words (operands_seen operands.now) ≡ Ok command)
+        (IsFaultOf (formed Mode.Applying (told given.now) words (operands_seen operands.now))) }
 {
     let [name, file] = operands else {
         return Err(wrong_operands(words));
@@ -246,8 +246,8 @@ fn check(
     operands: &[OperandWord<'_>],
     words: usize,
 ) -> Result<Command, UsageFault>
-    ensures { MatchResult result (λ command. formed Form.Checking (told given.now) words (operands_seen operands.now) ≡ Ok command)
-        (IsFaultOf (formed Form.Checking (told given.now) words (operands_seen operands.now))) }
+    ensures { MatchResult result (λ command. formed Mode.Checking (told given.now) words (operands_seen operands.now) ≡ Ok command)
+        (IsFaultOf (formed Mode.Checking (told given.now) words (operands_seen operands.now))) }
 {
     let [file] = operands else {
         return Err(wrong_operands(words));
@@ -269,8 +269,8 @@ fn convert(
     operands: &[OperandWord<'_>],
     words: usize,
 ) -> Result<Command, UsageFault>
-    ensures { MatchResult result (λ command. formed Form.Converting (told given.now) words (operands_seen operands.now) ≡ Ok command)
-        (IsFaultOf (formed Form.Converting (told given.now) words (operands_seen operands.now))) }
+    ensures { MatchResult result (λ command. formed Mode.Converting (told given.now) words (operands_seen operands.now) ≡ Ok command)
+        (IsFaultOf (formed Mode.Converting (told given.now) words (operands_seen operands.now))) }
 {
     let [source, target] = operands else {
         return Err(wrong_operands(words));
@@ -296,8 +296,8 @@ fn serve(
     operands: &[OperandWord<'_>],
     words: usize,
 ) -> Result<Command, UsageFault>
-    ensures { MatchResult result (λ command. formed Form.Serving (told given.now) words (operands_seen operands.now) ≡ Ok command)
-        (IsFaultOf (formed Form.Serving (told given.now) words (operands_seen operands.now))) }
+    ensures { MatchResult result (λ command. formed Mode.Serving (told given.now) words (operands_seen operands.now) ≡ Ok command)
+        (IsFaultOf (formed Mode.Serving (told given.now) words (operands_seen operands.now))) }
 {
     if !operands.is_empty() {
         return Err(wrong_operands(words));
@@ -319,8 +319,8 @@ fn generate(
     operands: &[OperandWord<'_>],
     words: usize,
 ) -> Result<Command, UsageFault>
-    ensures { (given : Told) → MatchResult result (λ command. formed Form.Generating given words (operands_seen operands.now) ≡ Ok command)
-        (IsFaultOf (formed Form.Generating given words (operands_seen operands.now))) }
+    ensures { (given : Told) → MatchResult result (λ command. formed Mode.Generating given words (operands_seen operands.now) ≡ Ok command)
+        (IsFaultOf (formed Mode.Generating given words (operands_seen operands.now))) }
 {
     let [seed, count, file] = operands else {
         return Err(wrong_operands(words));

@@ -3,9 +3,9 @@ ghost use Rattle.command_words.specs.Built.{is_built};
 ghost use Rattle.command_words.specs.declared.command.Command.{Command};
 ghost use Rattle.command_words.specs.Asked.{command_of};
 ghost use Rattle.option_words.specs.Items.{texts_of};
-ghost use Rattle.command_words.specs.BuiltForms.{is_built_form};
+ghost use Rattle.command_words.specs.BuiltModes.{is_built_mode};
 
-use crate::form::{Form, form_of};
+use crate::mode::{Mode, mode_of};
 use option_words::{Tool, scan_words};
 
 /// Whether words that ask for a command ask for one that is built so far. It takes no memory.
@@ -19,25 +19,25 @@ pub fn asks_built(words: &[String]) -> bool
         return false;
     };
     match scan_words(tool, behind) {
-        Ok(scan) => is_built_form(form_of(tool, &scan.given)),
+        Ok(scan) => is_built_mode(mode_of(tool, &scan.given)),
         Err(_) => false,
     }
 }
 
-/// Whether a form is built so far.
-fn is_built_form(form: Form) -> bool
-    ensures { result ≡ is_built_form form }
+/// Whether a mode is built so far.
+fn is_built_mode(mode: Mode) -> bool
+    ensures { result ≡ is_built_mode mode }
 {
     matches!(
-        form,
-        Form::Reporting
-            | Form::Limiting
-            | Form::Copying
-            | Form::Batching
-            | Form::SettingGrace
-            | Form::SettingTimes
-            | Form::Printing
-            | Form::Applying
-            | Form::Checking
+        mode,
+        Mode::Reporting
+            | Mode::Limiting
+            | Mode::Copying
+            | Mode::Batching
+            | Mode::SettingGrace
+            | Mode::SettingTimes
+            | Mode::Printing
+            | Mode::Applying
+            | Mode::Checking
     )
 }

@@ -1,10 +1,10 @@
 ghost use Rattle.std.specs.Prelude.{◌≡◌, IfOk};
 ghost use Rattle.std.specs.Option.{option_copied};
-ghost use Rattle.command_words.specs.Forms.{common_of};
+ghost use Rattle.command_words.specs.Modes.{common_of};
 ghost use Rattle.option_words.specs.Given.{export_told, exports_told, told};
 
 use crate::Common;
-use crate::form::kind_asked;
+use crate::mode::kind_asked;
 use option_words::{Export, ExportList, ExportWords, Given, OperandWord};
 use refusals::Word;
 use std::alloc::{AllocError, Global};

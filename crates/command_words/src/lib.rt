@@ -7,7 +7,7 @@ mod building;
 mod built;
 mod command;
 mod copies;
-mod form;
+mod mode;
 mod reading;
 
 pub use built::asks_built;

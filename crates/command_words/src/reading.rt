@@ -4,8 +4,8 @@ ghost use Rattle.option_words.specs.Items.{texts_of};
 ghost use Rattle.command_words.specs.Usage.{IsFaultOf, IsUsageFault};
 
 use crate::Command;
-use crate::building::form_command;
-use crate::form::{excludes, form_of, lacks};
+use crate::building::mode_command;
+use crate::mode::{excludes, lacks, mode_of};
 use option_words::{Fault, Tool, scan_words};
 use refusals::UsageKind;
 use std::alloc::{AllocError, Global};
@@ -90,6 +90,6 @@ fn read_command(
     if lacks(in_script, tool, &scan.given) {
         return Err(UsageFault::from(Fault::at(UsageKind::MissingOption, words)));
     }
-    let form = form_of(tool, &scan.given);
-    form_command(alloc, form, &scan.given, scan.operands.as_slice(), words)
+    let mode = mode_of(tool, &scan.given);
+    mode_command(alloc, mode, &scan.given, scan.operands.as_slice(), words)
 }

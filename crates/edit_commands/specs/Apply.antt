@@ -20,7 +20,7 @@ use Rattle.run_steps.specs.Run.{Uses}
 use Rattle.run_steps.specs.Steps.{Naming, Steps, Then}
 use Rattle.run_steps.specs.Taking.{AForm, InputMayRefuse, Taking, input_name, reading}
 use Rattle.refusals.specs.Refusals.{refusal_of}
-use Rattle.run_steps.specs.declared.occasion.Occasion.{Occasion}
+use Rattle.run_steps.specs.declared.invocation.Invocation.{Invocation}
 use Rattle.edit_commands.specs.Edits.{FileEditMayRefuse, FileEditSteps}
 use Rattle.run_steps.specs.Changing.{edit_uses}
 use Rattle.run_steps.specs.Numbers.{identifier_of}
@@ -43,17 +43,17 @@ form_step kind names file id from bytes =
     form_outcome (input_name from) (form_read kind (shown_name (first_name names) id) id file bytes)
 
 -- the form of an identifier is read, the file is opened, and the limits are set
-abbrev pub FormSteps : Kind → Option Format → List NameLine → Option (List ℕ) → ℕ → List ℕ → Occasion → Steps
-FormSteps kind format names from id file occasion =
+abbrev pub FormSteps : Kind → Option Format → List NameLine → Option (List ℕ) → ℕ → List ℕ → Invocation → Steps
+FormSteps kind format names from id file invocation =
     Taking from (λ limits. true) (form_step kind names file id from) (λ (limits : FourLimits).
-    FileEditSteps kind format (Limits id limits) file occasion)
+    FileEditSteps kind format (Limits id limits) file invocation)
 
 -- the names are read, then the word for the identifier, and then the form, which has to be the one that is printed for it
-abbrev pub ApplySteps : Common → Option (List ℕ) → List ℕ → List ℕ → Occasion → Steps
-ApplySteps common from word file occasion =
+abbrev pub ApplySteps : Common → Option (List ℕ) → List ℕ → List ℕ → Invocation → Steps
+ApplySteps common from word file invocation =
     Naming common.kind common.names (λ (names : List NameLine).
     Then (identifier_of names word) (λ (id : ℕ).
-    FormSteps common.kind common.format names from id file occasion))
+    FormSteps common.kind common.format names from id file invocation))
 
 -- a form is read from an input, and changes the store as other edits do
 abbrev pub apply_uses : Option (List ℕ) → Uses

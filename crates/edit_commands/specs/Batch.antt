@@ -22,7 +22,7 @@ use Rattle.refusals.specs.declared.cause.Cause.{Cause}
 use Rattle.refusals.specs.declared.cause.Cause.TheVariants.{Memory, LongLine, TooLarge, BadLine, UnknownName, BadNumber}
 use Rattle.refusals.specs.declared.reason.Refusal.{Refusal}
 use Rattle.command_words.specs.declared.command.Common.{Common}
-use Rattle.run_steps.specs.declared.occasion.Occasion.{Occasion}
+use Rattle.run_steps.specs.declared.invocation.Invocation.{Invocation}
 use Rattle.run_steps.specs.Act.{Act}
 use Rattle.run_steps.specs.Naming.{MayBeNames, NamesMayRefuse}
 use Rattle.run_steps.specs.Opening.{MayRefuseOpening}
@@ -198,10 +198,10 @@ abbrev pub ReadSteps : List NameLine → Option (List ℕ) → List ℕ → ℕ 
 ReadSteps names from file now value = Taking from is_to_end (batch_step names from) (Applying file now value)
 
 -- the names are read, the file is opened, and then the lines are read, and their edits done
-abbrev pub BatchSteps : Common → Option (List ℕ) → List ℕ → Occasion → Steps
-BatchSteps common from file occasion =
+abbrev pub BatchSteps : Common → Option (List ℕ) → List ℕ → Invocation → Steps
+BatchSteps common from file invocation =
     Naming common.kind common.names (λ (names : List NameLine).
-    Opening common.kind common.format file (ReadSteps names from file occasion.now))
+    Opening common.kind common.format file (ReadSteps names from file invocation.now))
 
 -- edits of lines change the store, and those before a refused one stay
 abbrev pub line_uses : Uses

@@ -27,7 +27,7 @@ use Rattle.refusals.specs.Line.{front_of}
 use Rattle.refusals.specs.Refusals.{refusal_of}
 use Rattle.run_steps.specs.Changing.{blocks_of, written}
 use Rattle.run_steps.specs.Steps.{DoingAll, Finish, Naming, Opening, Steps, Then}
-use Rattle.run_steps.specs.declared.occasion.Occasion.{Occasion}
+use Rattle.run_steps.specs.declared.invocation.Invocation.{Invocation}
 use Rattle.edit_commands.specs.EditWords.{edit_meant, edit_read, edit_warns, names_wanted, skipped_by, skips_none}
 
 -- The edit.
@@ -78,18 +78,18 @@ pub record IsSaidInPart (lines : List (List ℕ)) (old new : List ℕ) : Type 0 
 -- The steps.
 
 -- the file is opened and edited, and what was skipped is warned of
-abbrev pub FileEditSteps : Kind → Option Format → FileEdit → List ℕ → Occasion → Steps
-FileEditSteps kind asked edit file occasion =
+abbrev pub FileEditSteps : Kind → Option Format → FileEdit → List ℕ → Invocation → Steps
+FileEditSteps kind asked edit file invocation =
     Opening kind asked file (λ (value : QuotaValue).
-    Then (edit_step file (edit_meant edit occasion.now) value) (λ (acts : List Act).
-    DoingAll (acts ++ said_acts (warnings occasion.line (skipped_by edit value))) Finish))
+    Then (edit_step file (edit_meant edit invocation.now) value) (λ (acts : List Act).
+    DoingAll (acts ++ said_acts (warnings invocation.line (skipped_by edit value))) Finish))
 
 -- the names are read, and then the words, and then the file is edited
-abbrev pub EditSteps : Common → EditWords → List ℕ → Occasion → Steps
-EditSteps common words file occasion =
+abbrev pub EditSteps : Common → EditWords → List ℕ → Invocation → Steps
+EditSteps common words file invocation =
     Naming common.kind (names_wanted words common.names) (λ (names : List NameLine).
     Then (edit_read names words) (λ (edit : FileEdit).
-    FileEditSteps common.kind common.format edit file occasion))
+    FileEditSteps common.kind common.format edit file invocation))
 
 -- the refusal of the first faulty word, where it rests on no file of names
 abbrev pub faulty_edit : Common → EditWords → Option Refusal

@@ -15,7 +15,7 @@ use Rattle.run_steps.specs.Naming.{MayBeNames, NamesMayRefuse}
 use Rattle.refusals.specs.Outcome.{Passed, Refused, refusal_in}
 use Rattle.refusals.specs.Refusals.{refusal_of}
 use Rattle.run_steps.specs.Steps.{Naming, Steps, Then}
-use Rattle.run_steps.specs.declared.occasion.Occasion.{Occasion}
+use Rattle.run_steps.specs.declared.invocation.Invocation.{Invocation}
 use Rattle.run_steps.specs.Showing.{ShowingMayRefuse, ShowingSteps}
 use Rattle.run_steps.specs.Numbers.{identifier_of}
 
@@ -24,8 +24,8 @@ abbrev pub form_on : Kind → List NameLine → List ℕ → ℕ → QuotaValue 
 form_on kind names file id value = form_of kind (shown_name (first_name names) id) id file (record_in value id)
 
 -- the names are read, and then the word for the identifier; the file is opened, and the form goes to the output
-abbrev pub PrintSteps : Common → List ℕ → List ℕ → Occasion → Steps
-PrintSteps common word file occasion =
+abbrev pub PrintSteps : Common → List ℕ → List ℕ → Invocation → Steps
+PrintSteps common word file invocation =
     Naming common.kind common.names (λ (names : List NameLine).
     Then (identifier_of names word) (λ (id : ℕ).
     ShowingSteps common.kind common.format file (form_on common.kind names file id)))

@@ -18,7 +18,7 @@ use id_names::Names;
 use quota_blocks::{Sink, Source, Store};
 use quota_types::{Format, Kind};
 use refusals::{Refusal, Word};
-use run_steps::{Occasion, read_identifier, read_names};
+use run_steps::{Invocation, read_identifier, read_names};
 use std::alloc::Global;
 
 /// Sets the limits of an identifier that its form asks for.
@@ -36,10 +36,10 @@ pub fn apply_by_word<S: Store, I: Source, E: Sink>(
     store: &mut S,
     input: &mut I,
     err: &mut E,
-    occasion: Occasion,
+    invocation: Invocation,
 ) -> Result<(), Refusal>
     ensures carries { (out : SinkSeen) (link : LinkSeen) (out_tells link_tells : Bool)
-        → CarriesOut (ApplySteps common from word file occasion) (apply_uses from) (ApplyMayRefuse common from word file)
+        → CarriesOut (ApplySteps common from word file invocation) (apply_uses from) (ApplyMayRefuse common from word file)
         (tells_of S.tells I.tells out_tells E.tells link_tells)
         (seen_of (S.seen store.old) (I.seen input.old) out (E.seen err.old) link)
         (seen_of (S.seen store.new) (I.seen input.new) out (E.seen err.new) link) result }
@@ -62,7 +62,7 @@ pub fn apply_by_word<S: Store, I: Source, E: Sink>(
     } = common;
     match read_names(alloc, kind, names, store) {
         Ok(names) => apply_named(
-            alloc, &names, kind, format, from, word, file, store, input, err, occasion,
+            alloc, &names, kind, format, from, word, file, store, input, err, invocation,
         ),
         Err(refusal) => Err(refusal),
     }
@@ -80,10 +80,10 @@ fn apply_named<S: Store, I: Source, E: Sink>(
     store: &mut S,
     input: &mut I,
     err: &mut E,
-    occasion: Occasion,
+    invocation: Invocation,
 ) -> Result<(), Refusal>
     ensures carries { (out : SinkSeen) (link : LinkSeen) (out_tells link_tells : Bool)
-        → CarriesOut (Then (identifier_of names.now word) (λ (id : ℕ). FormSteps kind format names.now from id file occasion))
+        → CarriesOut (Then (identifier_of names.now word) (λ (id : ℕ). FormSteps kind format names.now from id file invocation))
         (apply_uses from) (NamedApplyMayRefuse format from word file names.now)
         (tells_of S.tells I.tells out_tells E.tells link_tells)
         (seen_of (S.seen store.old) (I.seen input.old) out (E.seen err.old) link)
@@ -99,7 +99,7 @@ fn apply_named<S: Store, I: Source, E: Sink>(
 {
     match read_identifier(names, word) {
         Ok(id) => apply_form(
-            alloc, names, kind, format, from, id, file, store, input, err, occasion,
+            alloc, names, kind, format, from, id, file, store, input, err, invocation,
         ),
         Err(refusal) => Err(refusal),
     }
@@ -117,10 +117,10 @@ fn apply_form<S: Store, I: Source, E: Sink>(
     store: &mut S,
     input: &mut I,
     err: &mut E,
-    occasion: Occasion,
+    invocation: Invocation,
 ) -> Result<(), Refusal>
     ensures carries { (out : SinkSeen) (link : LinkSeen) (out_tells link_tells : Bool)
-        → CarriesOut (FormSteps kind format names.now from id file occasion) (apply_uses from) (FormEditMayRefuse format from id file)
+        → CarriesOut (FormSteps kind format names.now from id file invocation) (apply_uses from) (FormEditMayRefuse format from id file)
         (tells_of S.tells I.tells out_tells E.tells link_tells)
         (seen_of (S.seen store.old) (I.seen input.old) out (E.seen err.old) link)
         (seen_of (S.seen store.new) (I.seen input.new) out (E.seen err.new) link) result }
@@ -134,7 +134,7 @@ fn apply_form<S: Store, I: Source, E: Sink>(
     match take_form(alloc, names, kind, id, file.as_str(), from, store, input) {
         Ok(limits) => {
             let edit = FileEdit::Limits { id, limits };
-            edit_file(alloc, kind, format, &edit, file, store, err, occasion)
+            edit_file(alloc, kind, format, &edit, file, store, err, invocation)
         }
         Err(refusal) => Err(refusal),
     }

@@ -24,7 +24,7 @@ use quota_blocks::{QuotaFile, Sink, Store};
 use quota_map::{AnyFile, open_file};
 use quota_types::{Format, Kind};
 use refusals::{Cause, Refusal, Word};
-use run_steps::{Occasion, file_cause, opening_cause, read_names};
+use run_steps::{Invocation, file_cause, opening_cause, read_names};
 use set_edit::{EditFault, Skipped, copy_limits, set_grace_periods, set_limits, set_times};
 use std::alloc::Global;
 
@@ -41,10 +41,10 @@ pub fn edit_by_words<S: Store, E: Sink>(
     file: Word,
     store: &mut S,
     err: &mut E,
-    occasion: Occasion,
+    invocation: Invocation,
 ) -> Result<(), Refusal>
     ensures carries { (input : SourceSeen) (out : SinkSeen) (link : LinkSeen) (input_tells out_tells link_tells : Bool)
-        → CarriesOut (EditSteps common words file occasion) (edit_uses (words_warn words)) (EditMayRefuse common words file)
+        → CarriesOut (EditSteps common words file invocation) (edit_uses (words_warn words)) (EditMayRefuse common words file)
         (tells_of S.tells input_tells out_tells E.tells link_tells)
         (seen_of (S.seen store.old) input out (E.seen err.old) link)
         (seen_of (S.seen store.new) input out (E.seen err.new) link) result }
@@ -68,7 +68,7 @@ pub fn edit_by_words<S: Store, E: Sink>(
     let names = names_wanted(&words, names);
     match read_names(alloc, kind, names, store) {
         Ok(names) => edit_named(
-            alloc, &names, kind, format, words, file, store, err, occasion,
+            alloc, &names, kind, format, words, file, store, err, invocation,
         ),
         Err(refusal) => Err(refusal),
     }
@@ -84,10 +84,10 @@ fn edit_named<S: Store, E: Sink>(
     file: Word,
     store: &mut S,
     err: &mut E,
-    occasion: Occasion,
+    invocation: Invocation,
 ) -> Result<(), Refusal>
     ensures carries { (input : SourceSeen) (out : SinkSeen) (link : LinkSeen) (input_tells out_tells link_tells : Bool)
-        → CarriesOut (Then (edit_read names.now words) (λ (edit : FileEditOf). FileEditSteps kind format edit file occasion))
+        → CarriesOut (Then (edit_read names.now words) (λ (edit : FileEditOf). FileEditSteps kind format edit file invocation))
         (edit_uses (words_warn words)) (NamedEditMayRefuse format words file names.now)
         (tells_of S.tells input_tells out_tells E.tells link_tells)
         (seen_of (S.seen store.old) input out (E.seen err.old) link)
@@ -102,7 +102,7 @@ fn edit_named<S: Store, E: Sink>(
     ensures quiet { words_warn words ≡ false → err.new ≡ err.old }
 {
     match read_edit(alloc, names, words) {
-        Ok(edit) => edit_file(alloc, kind, format, &edit, file, store, err, occasion),
+        Ok(edit) => edit_file(alloc, kind, format, &edit, file, store, err, invocation),
         Err(refusal) => Err(refusal),
     }
 }
@@ -120,10 +120,10 @@ pub fn edit_file<S: Store, E: Sink>(
     file: Word,
     store: &mut S,
     err: &mut E,
-    occasion: Occasion,
+    invocation: Invocation,
 ) -> Result<(), Refusal>
     ensures carries { (input : SourceSeen) (out : SinkSeen) (link : LinkSeen) (input_tells out_tells link_tells : Bool)
-        → CarriesOut (FileEditSteps kind format edit.now file occasion) (edit_uses (edit_warns edit.now)) (FileEditMayRefuse format edit.now file)
+        → CarriesOut (FileEditSteps kind format edit.now file invocation) (edit_uses (edit_warns edit.now)) (FileEditMayRefuse format edit.now file)
         (tells_of S.tells input_tells out_tells E.tells link_tells)
         (seen_of (S.seen store.old) input out (E.seen err.old) link)
         (seen_of (S.seen store.new) input out (E.seen err.new) link) result }
@@ -134,8 +134,8 @@ pub fn edit_file<S: Store, E: Sink>(
     ensures quiet { edit_warns edit.now ≡ false → err.new ≡ err.old }
 {
     match open_file(alloc, store, file.as_str(), kind, format) {
-        Ok(mut opened) => match make_edit(&mut opened, store, edit, occasion.now) {
-            Ok(skipped) => match write_warnings(err, occasion.line, skipped) {
+        Ok(mut opened) => match make_edit(&mut opened, store, edit, invocation.now) {
+            Ok(skipped) => match write_warnings(err, invocation.line, skipped) {
                 Ok(()) => Ok(()),
                 Err(_) => Err(Refusal::of(Cause::SinkFault, file)),
             },

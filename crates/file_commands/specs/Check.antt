@@ -21,7 +21,7 @@ use Rattle.inode_scan.specs.declared.fault.ScanFault.TheVariants.{Source, TooLar
 use Rattle.refusals.specs.declared.cause.Cause.{Cause}
 use Rattle.refusals.specs.declared.cause.Cause.TheVariants.{SourceFault, Memory, TooLarge, BadLine, LongLine, Conflict, NoRoom}
 use Rattle.command_words.specs.declared.command.Common.{Common}
-use Rattle.run_steps.specs.declared.occasion.Occasion.{Occasion}
+use Rattle.run_steps.specs.declared.invocation.Invocation.{Invocation}
 use Rattle.run_steps.specs.Act.{Act}
 use Rattle.run_steps.specs.Opening.{MayRefuseOpening}
 use Rattle.refusals.specs.Outcome.{Outcome, Passed, Refused}
@@ -94,11 +94,11 @@ UsageSteps kind device from file now value =
     Taking from (λ usage. true) (scan_step kind device from) (λ (usage : UsageMap). ReplaceSteps file (checked value usage now))
 
 -- a new file is made, whether there is one of its name or not; or the file is opened, and read whole, before the listing is
-abbrev pub CheckSteps : Common → (fresh : Bool) → (device : Option ℕ) → Option (List ℕ) → List ℕ → Occasion → Steps
-CheckSteps common true device from file occasion =
-    UsageSteps common.kind device from file occasion.now (new_value common.kind common.format)
-CheckSteps common false device from file occasion =
-    Opening common.kind common.format file (UsageSteps common.kind device from file occasion.now)
+abbrev pub CheckSteps : Common → (fresh : Bool) → (device : Option ℕ) → Option (List ℕ) → List ℕ → Invocation → Steps
+CheckSteps common true device from file invocation =
+    UsageSteps common.kind device from file invocation.now (new_value common.kind common.format)
+CheckSteps common false device from file invocation =
+    Opening common.kind common.format file (UsageSteps common.kind device from file invocation.now)
 
 -- a listing is read from an input, and changes the store as an edit does
 abbrev pub check_uses : Option (List ℕ) → Uses

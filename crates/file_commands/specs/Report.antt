@@ -13,7 +13,7 @@ use Rattle.command_words.specs.declared.command.Common.{Common}
 use Rattle.run_steps.specs.Naming.{NamesMayRefuse}
 use Rattle.run_steps.specs.Opening.{file_cause}
 use Rattle.run_steps.specs.Steps.{Naming, Steps}
-use Rattle.run_steps.specs.declared.occasion.Occasion.{Occasion}
+use Rattle.run_steps.specs.declared.invocation.Invocation.{Invocation}
 use Rattle.run_steps.specs.Showing.{ShowingMayRefuse, ShowingSteps}
 
 -- the report of a file of this name on a value, with these names
@@ -21,10 +21,10 @@ abbrev pub report_on : List NameLine → List ℕ → ℕ → Options → QuotaV
 report_on names file now options value = report_of value (first_name names) file now options
 
 -- the names are read, the file is opened, and its report goes to the output
-abbrev pub ReportSteps : Common → Options → List ℕ → Occasion → Steps
-ReportSteps common options file occasion =
+abbrev pub ReportSteps : Common → Options → List ℕ → Invocation → Steps
+ReportSteps common options file invocation =
     Naming common.kind common.names (λ (names : List NameLine).
-    ShowingSteps common.kind common.format file (report_on names file occasion.now options))
+    ShowingSteps common.kind common.format file (report_on names file invocation.now options))
 
 -- what is said where a report was not written whole
 abbrev pub report_cause : ReportFault → Cause

@@ -25,7 +25,7 @@ use Rattle.run_steps.specs.Naming.{NamesMayRefuse}
 use Rattle.run_steps.specs.Opening.{MayRefuseOpening}
 use Rattle.run_steps.specs.Run.{CarriesOut}
 use Rattle.run_steps.specs.Steps.{Stop}
-use Rattle.run_steps.specs.declared.occasion.Occasion.{Occasion}
+use Rattle.run_steps.specs.declared.invocation.Invocation.{Invocation}
 use Rattle.edit_commands.specs.Apply.{ApplyMayRefuse}
 use Rattle.edit_commands.specs.Batch.{BatchMayRefuse, LineMayRefuse}
 use Rattle.command_words.specs.Built.{if_built, is_built, unknown_command}
@@ -313,16 +313,16 @@ usage_read command (Ok other) (Err refusal) is built may = (λ two. absurd (not_
 usage_read command (Err other) result is built may = absurd (cc)
 
 -- words that were not read
-pub not_read : (asked : Result Command Refusal) (occasion : Occasion) (tells : RunTells) (old : RunSeen) (fault : UsageFault) → IfOk asked (λ (command : Command). IsTrue (is_built command)) → IsUsageFault asked fault
-    → CarriesOut (AskedSteps asked occasion) (asked_uses asked) (MayRefuseAsked asked) tells old old (Err (usage_refusal fault))
-not_read (Ok command) occasion tells old (UsageOf kind word) built is = absurd (cc)
-not_read (Ok command) occasion tells old NoMemory built is =
-    nothing_carried (StepsOf command occasion) _ _ tells old (usage_refusal NoMemory) tt (λ told acts to by. tt) (inl refl) (record { line = λ no. refl; input_line = λ no. refl })
-not_read (Err refusal) occasion tells old (UsageOf kind word) built is =
+pub not_read : (asked : Result Command Refusal) (invocation : Invocation) (tells : RunTells) (old : RunSeen) (fault : UsageFault) → IfOk asked (λ (command : Command). IsTrue (is_built command)) → IsUsageFault asked fault
+    → CarriesOut (AskedSteps asked invocation) (asked_uses asked) (MayRefuseAsked asked) tells old old (Err (usage_refusal fault))
+not_read (Ok command) invocation tells old (UsageOf kind word) built is = absurd (cc)
+not_read (Ok command) invocation tells old NoMemory built is =
+    nothing_carried (StepsOf command invocation) _ _ tells old (usage_refusal NoMemory) tt (λ told acts to by. tt) (inl refl) (record { line = λ no. refl; input_line = λ no. refl })
+not_read (Err refusal) invocation tells old (UsageOf kind word) built is =
     let same : refusal ≡ usage_refusal (UsageOf kind word) = cc in
     subst (λ (r : Refusal). CarriesOut (Stop r) (asked_uses (Err r)) (MayRefuseAsked (Err r)) tells old old (Err (usage_refusal (UsageOf kind word)))) (sym same)
     (stop_carried _ (MayRefuseAsked (Err (usage_refusal (UsageOf kind word)))) tells old (usage_refusal (UsageOf kind word)) (λ stated fact. fact) refl (record { line = λ no. refl; input_line = λ no. refl }))
-not_read (Err refusal) occasion tells old NoMemory built is = absurd (cc)
+not_read (Err refusal) invocation tells old NoMemory built is = absurd (cc)
 
 -- the status of words that were not read
 pub usage_not_read : (asked : Result Command Refusal) (fault : UsageFault) → IsUsageFault asked fault

@@ -22,7 +22,7 @@ use Rattle.run_steps.proofs.ReasonLemmas.{ByFault, ByMemory, ByStep, CauseCase, 
 -- what the words of a setting ask for was carried out
 abbrev pub IsCarriedOut : Setting → RunTells → RunSeen → RunSeen → Result (Unit {0}) Refusal → Type 0
 IsCarriedOut setting =
-    CarriesOut (AskedSteps (built_command setting.words) setting.occasion) (asked_uses (built_command setting.words)) (MayRefuseAsked (built_command setting.words))
+    CarriesOut (AskedSteps (built_command setting.words) setting.invocation) (asked_uses (built_command setting.words)) (MayRefuseAsked (built_command setting.words))
 
 -- A run ended: the status is that of what was carried out, and the error line of a refusal was written, up to a fault of
 -- the error output.
@@ -122,7 +122,7 @@ no_status_0 (Conflict line first) is = omega (arith, is)
 no_status_0 (Usage kind word) is = omega (arith, is)
 
 refused_up_to_err : (setting : Setting) (tells : RunTells) (old new : RunSeen) (said : SinkSeen) (refusal : Refusal) (status : ℕ) → IsWorldTold tells
-    → CauseCase (asked_warns setting) old new (IsWorldTold tells → HasSteps (AskedSteps (built_command setting.words) setting.occasion) tells (Some refusal) old new) refusal.cause
+    → CauseCase (asked_warns setting) old new (IsWorldTold tells → HasSteps (AskedSteps (built_command setting.words) setting.invocation) tells (Some refusal) old new) refusal.cause
     → status ≡ status_of refusal.cause → status ≢ 4 → status ≢ 5
     → (IsTrue tells.err → AppendsUnless (Rose new.err.faults said.faults) new.err.written said.written (error_line refusal))
     → (has : HasEffectUpToErr setting tells old (once_said new said) status) × (has.before ≡ new.err)
@@ -206,7 +206,7 @@ stopped_by setting tells old new said refusal status carries finished reason = r
 
 stopped_case : (setting : Setting) (tells : RunTells) (old new : RunSeen) (said : SinkSeen) (refusal : Refusal) (status : ℕ)
     → IsCarriedOut setting tells old new (Err refusal) → IsFinished tells new.err said (Err refusal) status
-    → CauseCase (asked_warns setting) old new (IsWorldTold tells → HasSteps (AskedSteps (built_command setting.words) setting.occasion) tells (Some refusal) old new) refusal.cause
+    → CauseCase (asked_warns setting) old new (IsWorldTold tells → HasSteps (AskedSteps (built_command setting.words) setting.invocation) tells (Some refusal) old new) refusal.cause
     → (status ≡ 4) ⊎ (status ≡ 5) → IsStopped setting tells old (once_said new said) status
 stopped_case setting tells old new said refusal status carries finished (ByFault fault reason is_fault) ends =
     stopped_by setting tells old new said refusal status carries finished reason
@@ -241,7 +241,7 @@ complete_by setting tells old new said (Err refusal) status carries finished onl
 
 complete_end : (setting : Setting) (tells : RunTells) (old new : RunSeen) (said : SinkSeen) (result : Result (Unit {0}) Refusal) (status : ℕ) (ended : Option Refusal) (own : List Act) (to : Outside)
     → IsCarriedOut setting tells old new result → IsFinished tells new.err said result status
-    → IsWorldTold tells → AskedSteps (built_command setting.words) setting.occasion (outside_of old) own to ended → 0 ≡ end_status ended
+    → IsWorldTold tells → AskedSteps (built_command setting.words) setting.invocation (outside_of old) own to ended → 0 ≡ end_status ended
     → NoFault old (once_said new said) → (status ≡ 0) ⊎ (status ≡ 5)
 complete_end setting tells old new said result status None own to carries finished told steps is none =
     complete_by setting tells old new said result status carries finished (carries.complete told own to steps) none

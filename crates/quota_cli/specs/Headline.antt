@@ -9,22 +9,22 @@ use Rattle.run_steps.specs.Act.{Act}
 use Rattle.run_steps.specs.Done.{AppendsUnless, AreDone, AreDoneInPart, IsWorldTold, Outside, RunSeen, RunTells, outside_of}
 use Rattle.run_steps.specs.Run.{HasReason, HasSteps, IsPlacedBy}
 use Rattle.run_steps.specs.Steps.{HasEffectOf}
-use Rattle.run_steps.specs.declared.occasion.Occasion.{Occasion}
+use Rattle.run_steps.specs.declared.invocation.Invocation.{Invocation}
 use Rattle.quota_cli.specs.Table.{AskedSteps, MayRefuseAsked, asked_uses}
 use Rattle.command_words.specs.Built.{built_command}
 
 -- what a run is given: the words, and when it takes place
 pub record Setting : Type 0 where
   pub words : List (List ℕ)
-  pub occasion : Occasion
+  pub invocation : Invocation
 
 -- words on the command line, at a moment in seconds since 1970
 abbrev pub setting_of : List (List ℕ) → ℕ → Setting
-setting_of words now = record { words = words; occasion = record { now = now; line = None } }
+setting_of words now = record { words = words; invocation = record { now = now; line = None } }
 
 -- the effect of words: from what is outside, by acts, to what is outside then, with a status
 abbrev pub Effect : Setting → Outside → List Act → Outside → ℕ → Type 0
-Effect setting = HasEffectOf (AskedSteps (built_command setting.words) setting.occasion)
+Effect setting = HasEffectOf (AskedSteps (built_command setting.words) setting.invocation)
 
 -- The headline: there are acts that with the status are the effect of the words, and they were done: the output and the
 -- error output got exactly their bytes, the link their answers, and the files follow.
@@ -38,7 +38,7 @@ pub record HasEffect (setting : Setting) (tells : RunTells) (old new : RunSeen) 
 pub record HasEffectUpToErr (setting : Setting) (tells : RunTells) (old new : RunSeen) (status : ℕ) : Type 0 where
   pub refusal : Option Refusal
   pub before : SinkSeen
-  pub has : HasSteps (AskedSteps (built_command setting.words) setting.occasion) tells refusal old (record new { err = before })
+  pub has : HasSteps (AskedSteps (built_command setting.words) setting.invocation) tells refusal old (record new { err = before })
   pub ended : status ≡ end_status refusal
   pub line : IsTrue tells.err → AppendsUnless (Rose before.faults new.err.faults) before.written new.err.written
       (closing_line refusal)
@@ -65,7 +65,7 @@ pub record IsStopped (setting : Setting) (tells : RunTells) (old new : RunSeen) 
   pub line : IsTrue tells.err → AppendsUnless (Rose before.err.faults new.err.faults) before.err.written new.err.written
       (error_line refusal)
   pub part : IsWorldTold tells → (acts : List Act) (to : Outside) (ended : Option Refusal)
-      → AskedSteps (built_command setting.words) setting.occasion (outside_of old) acts to ended → AreDoneInPart tells acts old before
+      → AskedSteps (built_command setting.words) setting.invocation (outside_of old) acts to ended → AreDoneInPart tells acts old before
 
 -- A run that was refused: the status is the cause's, and at the end its error line went to the error output. Before that
 -- line nothing was said, unless the command warns.

@@ -9,7 +9,7 @@ use Rattle.edit_commands.specs.declared.edit.EditWords.TheVariants.{Limits, Copy
 use Rattle.refusals.specs.Refusals.{refusal_of}
 use Rattle.run_steps.specs.Run.{Uses}
 use Rattle.run_steps.specs.Steps.{Steps, Stop}
-use Rattle.run_steps.specs.declared.occasion.Occasion.{Occasion}
+use Rattle.run_steps.specs.declared.invocation.Invocation.{Invocation}
 use Rattle.edit_commands.specs.Apply.{ApplyMayRefuse, ApplySteps, apply_uses}
 use Rattle.edit_commands.specs.Batch.{BatchMayRefuse, BatchSteps, batch_uses}
 use Rattle.command_words.specs.Built.{unknown_command}
@@ -21,7 +21,7 @@ use Rattle.file_commands.specs.Report.{ReportMayRefuse, ReportSteps}
 use Rattle.run_steps.specs.Showing.{showing_uses}
 
 -- the steps of a command; one that is not built is refused
-abbrev pub StepsOf : Command → Occasion → Steps
+abbrev pub StepsOf : Command → Invocation → Steps
 StepsOf (Report common options file) = ReportSteps common options file
 StepsOf (SetLimits common name limits file) = EditSteps common (Limits name limits) file
 StepsOf (CopyLimits common proto name file) = EditSteps common (Copy proto name) file
@@ -31,7 +31,7 @@ StepsOf (Batch common input file) = BatchSteps common input file
 StepsOf (PrintForm common name file) = PrintSteps common name file
 StepsOf (ApplyForm common input name file) = ApplySteps common input name file
 StepsOf (Check common fresh device input file) = CheckSteps common fresh device input file
-StepsOf _ = λ occasion. Stop unknown_command
+StepsOf _ = λ invocation. Stop unknown_command
 
 -- the causes for which a command may be refused, whatever is told, with the name that is said
 abbrev pub MayRefuseCommand : Command → Cause → List ℕ → Type 0
@@ -88,9 +88,9 @@ replaced_file (Check _ _ _ _ file) = Some file
 replaced_file _ = None
 
 -- what is asked for by words that were read, or their refusal: the steps
-abbrev pub AskedSteps : Result Command Refusal → Occasion → Steps
-AskedSteps (Ok command) occasion = StepsOf command occasion
-AskedSteps (Err refusal) occasion = Stop refusal
+abbrev pub AskedSteps : Result Command Refusal → Invocation → Steps
+AskedSteps (Ok command) invocation = StepsOf command invocation
+AskedSteps (Err refusal) invocation = Stop refusal
 
 -- the causes for which words may be refused, whatever is told; memory may be wanting for the words of a command
 abbrev pub MayRefuseAsked : Result Command Refusal → Cause → List ℕ → Type 0

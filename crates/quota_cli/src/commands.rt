@@ -12,7 +12,7 @@ use edit_commands::{EditWords, apply_by_word, apply_lines, edit_by_words, print_
 use file_commands::{check_file, report_file};
 use quota_blocks::{Link, Sink, Source, Store};
 use refusals::Refusal;
-use run_steps::Occasion;
+use run_steps::Invocation;
 use std::alloc::Global;
 
 /// Carries out a command, but for its error line.
@@ -28,10 +28,10 @@ pub fn carry_out<S: Store, I: Source, O: Sink, E: Sink, L: Link>(
     out: &mut O,
     err: &mut E,
     link: &mut L,
-    occasion: Occasion,
+    invocation: Invocation,
 ) -> Result<(), Refusal>
     requires { IsTrue (is_built command) }
-    ensures carries { CarriesOut (StepsOf command occasion) (uses_of command) (MayRefuseCommand command)
+    ensures carries { CarriesOut (StepsOf command invocation) (uses_of command) (MayRefuseCommand command)
         (tells_of S.tells I.tells O.tells E.tells L.tells)
         (seen_of (S.seen store.old) (I.seen input.old) (O.seen out.old) (E.seen err.old) (L.seen link.old))
         (seen_of (S.seen store.new) (I.seen input.new) (O.seen out.new) (E.seen err.new) (L.seen link.new)) result }
@@ -53,7 +53,7 @@ pub fn carry_out<S: Store, I: Source, O: Sink, E: Sink, L: Link>(
             common,
             options,
             file,
-        } => report_file(alloc, common, &options, file, store, out, occasion.now),
+        } => report_file(alloc, common, &options, file, store, out, invocation.now),
         Command::SetLimits {
             common,
             name,
@@ -61,7 +61,7 @@ pub fn carry_out<S: Store, I: Source, O: Sink, E: Sink, L: Link>(
             file,
         } => {
             let words = EditWords::Limits { name, limits };
-            edit_by_words(alloc, common, words, file, store, err, occasion)
+            edit_by_words(alloc, common, words, file, store, err, invocation)
         }
         Command::CopyLimits {
             common,
@@ -70,7 +70,7 @@ pub fn carry_out<S: Store, I: Source, O: Sink, E: Sink, L: Link>(
             file,
         } => {
             let words = EditWords::Copy { proto, name };
-            edit_by_words(alloc, common, words, file, store, err, occasion)
+            edit_by_words(alloc, common, words, file, store, err, invocation)
         }
         Command::SetGrace {
             common,
@@ -79,7 +79,7 @@ pub fn carry_out<S: Store, I: Source, O: Sink, E: Sink, L: Link>(
             file,
         } => {
             let words = EditWords::Grace { block, inode };
-            edit_by_words(alloc, common, words, file, store, err, occasion)
+            edit_by_words(alloc, common, words, file, store, err, invocation)
         }
         Command::SetTimes {
             common,
@@ -89,13 +89,13 @@ pub fn carry_out<S: Store, I: Source, O: Sink, E: Sink, L: Link>(
             file,
         } => {
             let words = EditWords::Times { name, block, inode };
-            edit_by_words(alloc, common, words, file, store, err, occasion)
+            edit_by_words(alloc, common, words, file, store, err, invocation)
         }
         Command::Batch {
             common,
             input: from,
             file,
-        } => apply_lines(alloc, common, from, file, store, input, occasion.now),
+        } => apply_lines(alloc, common, from, file, store, input, invocation.now),
         Command::PrintForm { common, name, file } => {
             print_by_word(alloc, common, name, file, store, out)
         }
@@ -104,7 +104,9 @@ pub fn carry_out<S: Store, I: Source, O: Sink, E: Sink, L: Link>(
             input: from,
             name,
             file,
-        } => apply_by_word(alloc, common, from, name, file, store, input, err, occasion),
+        } => apply_by_word(
+            alloc, common, from, name, file, store, input, err, invocation,
+        ),
         Command::Check {
             common,
             fresh,
@@ -120,7 +122,7 @@ pub fn carry_out<S: Store, I: Source, O: Sink, E: Sink, L: Link>(
             file,
             store,
             input,
-            occasion.now,
+            invocation.now,
         ),
         _ => unreachable!(),
     }

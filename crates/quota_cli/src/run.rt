@@ -20,7 +20,7 @@ use command_words::{Command, asks_built};
 pub use command_words::{UsageFault, read_words};
 use quota_blocks::{Link, Sink, Source, Store};
 use refusals::{Cause, Refusal, UsageKind, Word, write_error_line};
-use run_steps::Occasion;
+use run_steps::Invocation;
 use std::alloc::Global;
 
 /// What is said of a command that is not built.
@@ -149,18 +149,18 @@ fn carry_out_words<S: Store, I: Source, O: Sink, E: Sink, L: Link>(
     ensures out { (asked_uses (built_command (texts_of words.now))).out ≡ false → out.new ≡ out.old }
     ensures link { (asked_uses (built_command (texts_of words.now))).link ≡ false → link.new ≡ link.old }
 {
-    let occasion = outside_script(now);
+    let invocation = outside_script(now);
     match read_built(alloc, words) {
-        Ok(command) => carry_out(alloc, command, store, input, out, err, link, occasion),
+        Ok(command) => carry_out(alloc, command, store, input, out, err, link, invocation),
         Err(fault) => Err(usage_refusal(alloc, fault)),
     }
 }
 
-/// The occasion of a command that stands in no script.
-fn outside_script(now: u64) -> Occasion
+/// The invocation of a command that stands in no script.
+fn outside_script(now: u64) -> Invocation
     ensures { result ≡ record { now = now; line = None } }
 {
-    Occasion { now, line: None }
+    Invocation { now, line: None }
 }
 
 /// The command that words ask for, where it is one that is built so far; another one is unknown.

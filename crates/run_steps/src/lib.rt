@@ -4,12 +4,12 @@
 //! The one promise: each helper meets its step.
 #![tactic(auto)]
 
+mod invocation;
 mod naming;
 mod numbers;
-mod occasion;
 mod opening;
 
+pub use invocation::Invocation;
 pub use naming::read_names;
 pub use numbers::{read_grace, read_identifier, read_limits, read_time};
-pub use occasion::Occasion;
 pub use opening::{file_cause, opening_cause};

@@ -14,7 +14,7 @@ returns c =
     let count : length c.args.behind.now + 1 ≡ length texts + 1 = rw length-map refl in
     let kept : take 7 (operands_seen c.as_slice.result.now) ≡ take 7 (operands_in (items_of c.args.tool AnyWord 1 texts)) =
     rw c.as_slice.ensures.value c.in_ok-scan.ensures.operands in
-    rw (asked_formed c.args.in_script c.args.tool texts (told c.in_ok-scan.scan.given) c.form_of-form.result
+    rw (asked_formed c.args.in_script c.args.tool texts (told c.in_ok-scan.scan.given) c.mode_of-mode.result
     (length c.args.behind.now + 1) (operands_seen c.as_slice.result.now)
-    c.in_ok-scan.ensures.given kept (sym c.if-excludes.ensures) (sym c.if-lacks.ensures) c.form_of-form.ensures count)
-    c.form_command.ensures
+    c.in_ok-scan.ensures.given kept (sym c.if-excludes.ensures) (sym c.if-lacks.ensures) c.mode_of-mode.ensures count)
+    c.mode_command.ensures

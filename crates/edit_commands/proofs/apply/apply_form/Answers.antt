@@ -28,7 +28,7 @@ returns-in-Ok-clause-carries g c = λ out link out_tells link_tells.
     (S.seen c.take_form.new.store) (I.seen c.take_form.new.input)
     (seen_of (S.seen c.edit_file.new.store) (I.seen c.take_form.new.input) out (E.seen c.edit_file.new.err) link) c.edit_file.result
     took.leaves took.later (λ told. rw file at (took.read told.store told.input))
-    taken (λ told. whole_moved c.args.from (λ limits. true) (λ (limits : FourLimits). FileEditSteps c.args.kind c.args.format (Limits c.args.id limits) c.args.file c.args.occasion) c.in-Ok.limits
+    taken (λ told. whole_moved c.args.from (λ limits. true) (λ (limits : FourLimits). FileEditSteps c.args.kind c.args.format (Limits c.args.id limits) c.args.file c.args.invocation) c.in-Ok.limits
     (with_store (seen_of (S.seen c.args.store.now) (I.seen c.args.input.now) out (E.seen c.args.err.now) link) (S.seen c.take_form.new.store)) (I.seen c.take_form.new.input) refl (taken told))
     (λ cause said may. inr (c.in-Ok.limits, may))
     (c.edit_file.ensures.carries (I.seen c.take_form.new.input) out link I.tells out_tells link_tells)

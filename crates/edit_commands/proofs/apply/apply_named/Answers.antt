@@ -19,7 +19,7 @@ returns-in-Ok-clause-carries g c = λ out link out_tells link_tells.
     let old = seen_of (S.seen c.args.store.now) (I.seen c.args.input.now) out (E.seen c.args.err.now) link in
     let new = seen_of (S.seen c.apply_form.new.store) (I.seen c.apply_form.new.input) out (E.seen c.apply_form.new.err) link in
     let id = c.in-Ok.id in
-    let steps = λ (i : ℕ). FormSteps c.args.kind c.args.format c.args.names.now c.args.from i c.args.file c.args.occasion in
+    let steps = λ (i : ℕ). FormSteps c.args.kind c.args.format c.args.names.now c.args.from i c.args.file c.args.invocation in
     let may = FormEditMayRefuse c.args.format c.args.from id c.args.file in
     let more = NamedApplyMayRefuse c.args.format c.args.from c.args.word c.args.file c.args.names.now in
     subst (λ (o : Outcome ℕ). CarriesOut (Then o steps) (apply_uses c.args.from) more tells old new c.apply_form.result)

@@ -22,8 +22,8 @@ returns-in-Ok-write_warnings-clause-carries g c = λ input out link input_tells 
     let file = c.as_str.ensures in
     let kind = c.args.kind in
     let asked = c.args.format in
-    let edit = edit_meant c.args.edit.now c.args.occasion.now in
-    let keeps = keeps_format c.args.edit.now c.args.occasion.now in
+    let edit = edit_meant c.args.edit.now c.args.invocation.now in
+    let keeps = keeps_format c.args.edit.now c.args.invocation.now in
     let tells = tells_of S.tells input_tells out_tells E.tells link_tells in
     let old = seen_of (S.seen c.args.store.now) input out (E.seen c.args.err.now) link in
     let before = S.seen c.open_file.new.store in
@@ -32,7 +32,7 @@ returns-in-Ok-write_warnings-clause-carries g c = λ input out link input_tells 
     let was : any_seen c.in-Ok.opened ≡ fresh_seen c.args.file format = opened.fresh ∙ ap (λ (n : List ℕ). fresh_seen n format) file in
     let first = rw file at opened.leaves in
     let held : IsHeld kind asked c.args.file tells old before c.in-Ok.opened = λ told value view. opened.held told value (rw (sym file) at view) in
-    let lines = λ (value : QuotaValue). warnings c.args.occasion.line (skipped_by c.args.edit.now value) in
+    let lines = λ (value : QuotaValue). warnings c.args.invocation.line (skipped_by c.args.edit.now value) in
     let made = c.in-Ok-make_edit.ensures in
     let said = c.in-Ok-write_warnings.ensures in
     edit_made kind asked c.args.file edit lines (edit_warns c.args.edit.now) _ tells old after (E.seen c.write_warnings.new.err)
@@ -50,8 +50,8 @@ returns-in-Err-write_warnings-clause-carries g c = λ input out link input_tells
     let file = c.as_str.ensures in
     let kind = c.args.kind in
     let asked = c.args.format in
-    let edit = edit_meant c.args.edit.now c.args.occasion.now in
-    let keeps = keeps_format c.args.edit.now c.args.occasion.now in
+    let edit = edit_meant c.args.edit.now c.args.invocation.now in
+    let keeps = keeps_format c.args.edit.now c.args.invocation.now in
     let tells = tells_of S.tells input_tells out_tells E.tells link_tells in
     let old = seen_of (S.seen c.args.store.now) input out (E.seen c.args.err.now) link in
     let before = S.seen c.open_file.new.store in
@@ -60,7 +60,7 @@ returns-in-Err-write_warnings-clause-carries g c = λ input out link input_tells
     let was : any_seen c.in-Ok.opened ≡ fresh_seen c.args.file format = opened.fresh ∙ ap (λ (n : List ℕ). fresh_seen n format) file in
     let first = rw file at opened.leaves in
     let held : IsHeld kind asked c.args.file tells old before c.in-Ok.opened = λ told value view. opened.held told value (rw (sym file) at view) in
-    let lines = λ (value : QuotaValue). warnings c.args.occasion.line (skipped_by c.args.edit.now value) in
+    let lines = λ (value : QuotaValue). warnings c.args.invocation.line (skipped_by c.args.edit.now value) in
     let made = c.in-Ok-make_edit.ensures in
     let said = c.in-Err-write_warnings.ensures in
     let warns = skips_warn c.args.edit.now c.in-Ok-make_edit.skipped made.skips said.some in
@@ -79,8 +79,8 @@ returns-in-Err-make_edit-clause-carries g c = λ input out link input_tells out_
     let file = c.as_str.ensures in
     let kind = c.args.kind in
     let asked = c.args.format in
-    let edit = edit_meant c.args.edit.now c.args.occasion.now in
-    let keeps = keeps_format c.args.edit.now c.args.occasion.now in
+    let edit = edit_meant c.args.edit.now c.args.invocation.now in
+    let keeps = keeps_format c.args.edit.now c.args.invocation.now in
     let tells = tells_of S.tells input_tells out_tells E.tells link_tells in
     let old = seen_of (S.seen c.args.store.now) input out (E.seen c.args.err.now) link in
     let before = S.seen c.open_file.new.store in
@@ -89,7 +89,7 @@ returns-in-Err-make_edit-clause-carries g c = λ input out link input_tells out_
     let was : any_seen c.in-Ok.opened ≡ fresh_seen c.args.file format = opened.fresh ∙ ap (λ (n : List ℕ). fresh_seen n format) file in
     let first = rw file at opened.leaves in
     let held : IsHeld kind asked c.args.file tells old before c.in-Ok.opened = λ told value view. opened.held told value (rw (sym file) at view) in
-    let lines = λ (value : QuotaValue). warnings c.args.occasion.line (skipped_by c.args.edit.now value) in
+    let lines = λ (value : QuotaValue). warnings c.args.invocation.line (skipped_by c.args.edit.now value) in
     let made = c.in-Err-make_edit.ensures in
     let fault = c.in-Err-make_edit.fault in
     let cause = made.edits.cause in
@@ -99,7 +99,7 @@ returns-in-Err-make_edit-clause-carries g c = λ input out link input_tells out_
     (any_refused kind asked c.args.file edit tells old c.in-Ok.opened c.make_edit.new.opened before after format (Err fault) fault keeps was first held made.edits made.edits.left)
     opened.leaves.later held
     (any_cause S.tells edit c.in-Ok.opened c.make_edit.new.opened before after c.args.file format fault keeps was cause)
-    (file_edit_may asked c.args.edit.now c.args.file c.args.occasion.now (edit_cause fault) c.args.file
+    (file_edit_may asked c.args.edit.now c.args.file c.args.invocation.now (edit_cause fault) c.args.file
     (edit_may asked c.args.file edit format _ _ _ _ fault opened.as_asked cause.may cause.passes cause.id cause.field cause.refused)))
 
 pub returns-in-Err-clause-carries : goal.returns-in-Err-clause-carries

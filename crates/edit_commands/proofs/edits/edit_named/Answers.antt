@@ -21,10 +21,10 @@ returns-in-Ok-clause-carries g c = λ input out link input_tells out_tells link_
     let new = seen_of (S.seen c.edit_file.new.store) input out (E.seen c.edit_file.new.err) link in
     let edit = c.in-Ok.edit in
     let warns = warns_read c.args.names.now c.args.words edit c.in-Ok.ensures in
-    let steps = FileEditSteps c.args.kind c.args.format edit c.args.file c.args.occasion in
+    let steps = FileEditSteps c.args.kind c.args.format edit c.args.file c.args.invocation in
     let may = FileEditMayRefuse c.args.format edit c.args.file in
     let more = NamedEditMayRefuse c.args.format c.args.words c.args.file c.args.names.now in
-    subst (λ (o : Outcome FileEdit). CarriesOut (Then o (λ (e : FileEdit). FileEditSteps c.args.kind c.args.format e c.args.file c.args.occasion)) (edit_uses (words_warn c.args.words)) more tells old new c.edit_file.result)
+    subst (λ (o : Outcome FileEdit). CarriesOut (Then o (λ (e : FileEdit). FileEditSteps c.args.kind c.args.format e c.args.file c.args.invocation)) (edit_uses (words_warn c.args.words)) more tells old new c.edit_file.result)
     (sym c.in-Ok.ensures)
     (carries_more steps (edit_uses (words_warn c.args.words)) may more tells old new c.edit_file.result (λ cause said allowed. inr (edit, c.in-Ok.ensures, allowed))
     (subst (λ (w : Bool). CarriesOut steps (edit_uses w) may tells old new c.edit_file.result) warns

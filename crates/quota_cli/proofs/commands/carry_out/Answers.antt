@@ -2,7 +2,7 @@ use Rattle.quota_cli.proofs.commands.carry_out.Goals as goal
 
 pub returns-in-Report-clause-carries : goal.returns-in-Report-clause-carries
 returns-in-Report-clause-carries g c = rw c.in-Report.is (
-    c.report_file.ensures.carries (g.I.Source.seen c.args.input.now) (g.E.Sink.seen c.args.err.now) (g.L.Link.seen c.args.link.now) g.I.Source.tells g.E.Sink.tells g.L.Link.tells c.args.occasion.line)
+    c.report_file.ensures.carries (g.I.Source.seen c.args.input.now) (g.E.Sink.seen c.args.err.now) (g.L.Link.seen c.args.link.now) g.I.Source.tells g.E.Sink.tells g.L.Link.tells c.args.invocation.line)
 
 pub returns-in-SetLimits-clause-carries : goal.returns-in-SetLimits-clause-carries
 returns-in-SetLimits-clause-carries g c = rw c.in-SetLimits.is (
@@ -22,11 +22,11 @@ returns-in-SetTimes-clause-carries g c = rw c.in-SetTimes.is (
 
 pub returns-in-PrintForm-clause-carries : goal.returns-in-PrintForm-clause-carries
 returns-in-PrintForm-clause-carries g c = rw c.in-PrintForm.is (
-    c.print_by_word.ensures.carries (g.I.Source.seen c.args.input.now) (g.E.Sink.seen c.args.err.now) (g.L.Link.seen c.args.link.now) g.I.Source.tells g.E.Sink.tells g.L.Link.tells c.args.occasion.now c.args.occasion.line)
+    c.print_by_word.ensures.carries (g.I.Source.seen c.args.input.now) (g.E.Sink.seen c.args.err.now) (g.L.Link.seen c.args.link.now) g.I.Source.tells g.E.Sink.tells g.L.Link.tells c.args.invocation.now c.args.invocation.line)
 
 pub returns-in-Batch-clause-carries : goal.returns-in-Batch-clause-carries
 returns-in-Batch-clause-carries g c = rw c.in-Batch.is (
-    c.apply_lines.ensures.carries (g.O.Sink.seen c.args.out.now) (g.E.Sink.seen c.args.err.now) (g.L.Link.seen c.args.link.now) g.O.Sink.tells g.E.Sink.tells g.L.Link.tells c.args.occasion.line)
+    c.apply_lines.ensures.carries (g.O.Sink.seen c.args.out.now) (g.E.Sink.seen c.args.err.now) (g.L.Link.seen c.args.link.now) g.O.Sink.tells g.E.Sink.tells g.L.Link.tells c.args.invocation.line)
 
 pub returns-in-ApplyForm-clause-carries : goal.returns-in-ApplyForm-clause-carries
 returns-in-ApplyForm-clause-carries g c = rw c.in-ApplyForm.is (
@@ -34,4 +34,4 @@ returns-in-ApplyForm-clause-carries g c = rw c.in-ApplyForm.is (
 
 pub returns-in-Check-clause-carries : goal.returns-in-Check-clause-carries
 returns-in-Check-clause-carries g c = rw c.in-Check.is (
-    c.check_file.ensures.carries (g.O.Sink.seen c.args.out.now) (g.E.Sink.seen c.args.err.now) (g.L.Link.seen c.args.link.now) g.O.Sink.tells g.E.Sink.tells g.L.Link.tells c.args.occasion.line)
+    c.check_file.ensures.carries (g.O.Sink.seen c.args.out.now) (g.E.Sink.seen c.args.err.now) (g.L.Link.seen c.args.link.now) g.O.Sink.tells g.E.Sink.tells g.L.Link.tells c.args.invocation.line)

@@ -20,7 +20,7 @@ returns-in-Ok-clause-carries g c =
     (seen_of (g.S.Store.seen now.new.store) (g.I.Source.seen now.new.input) (g.O.Sink.seen now.new.out) (g.E.Sink.seen now.new.err) (g.L.Link.seen now.new.link))
     now.result)
     (sym c.in-Ok.ensures.read)
-    (carries_more _ _ _ _ _ _ _ now.result (λ cause said may. inr may) (rw c.outside_script-occasion.ensures at now.ensures.carries))
+    (carries_more _ _ _ _ _ _ _ now.result (λ cause said may. inr may) (rw c.outside_script-invocation.ensures at now.ensures.carries))
 
 pub returns-in-Ok-clause-usage : goal.returns-in-Ok-clause-usage
 returns-in-Ok-clause-usage g c = λ no. usage_read c.in-Ok.command (built_command (texts_of c.args.words.now)) c.carry_out.result c.in-Ok.ensures.read c.in-Ok.ensures.built c.carry_out.ensures.carries.may_refuse

@@ -1,4 +1,4 @@
--- The forms of the commands: which options go together, which operands they have, and what they ask for. Source: the
+-- The modes of the commands: which options go together, which operands they have, and what they ask for. Source: the
 -- manual pages of the commands.
 use Rattle.std.specs.Prelude.{ℕ, Bool, false, not, ◌&&◌, ◌||◌, nat_lt, if◌then◌else◌, List, [], ◌∷◌, length, Option, Some, None, is_some, is_none, Result, Ok, Err}
 use Rattle.std.specs.Str.{bytes_eq}
@@ -11,8 +11,8 @@ use Rattle.command_words.specs.declared.command.Command.{Command}
 use Rattle.command_words.specs.declared.command.Command.TheVariants.{Report, SetLimits, CopyLimits, Batch, SetGrace, SetTimes, PrintForm, ApplyForm, Check, Convert, Serve, Script, Generate}
 use Rattle.command_words.specs.declared.command.Common.{Common}
 use Rattle.option_words.specs.declared.fault.Fault.{Fault}
-use Rattle.command_words.specs.declared.form.Form.{Form}
-use Rattle.command_words.specs.declared.form.Form.TheVariants.{Reporting, Limiting, Copying, Batching, SettingGrace, SettingTimes, Printing, Applying, Checking, Converting, Serving, Scripting, Generating}
+use Rattle.command_words.specs.declared.mode.Mode.{Mode}
+use Rattle.command_words.specs.declared.mode.Mode.TheVariants.{Reporting, Limiting, Copying, Batching, SettingGrace, SettingTimes, Printing, Applying, Checking, Converting, Serving, Scripting, Generating}
 use Rattle.option_words.specs.declared.switch.Flags.{Flags}
 use Rattle.option_words.specs.declared.tool.Tool.{Tool}
 use Rattle.option_words.specs.declared.tool.Tool.TheVariants.{Repquota as RepquotaTool, Setquota as SetquotaTool, Edquota as EdquotaTool, Quotacheck as QuotacheckTool, Convertquota as ConvertquotaTool, Rquotad as RquotadTool, Script as ScriptTool, Generate as GenerateTool}
@@ -26,7 +26,7 @@ use Rattle.option_words.specs.Values.{number_within}
 abbrev pub two_of : Bool → Bool → Bool → Bool → Bool
 two_of a b c d = (a && (b || c || d)) || (b && (c || d)) || (c && d)
 
--- Options that exclude each other: users and groups; two forms of one command; and an input where the form reads none.
+-- Options that exclude each other: users and groups; two modes of one command; and an input where the mode reads none.
 abbrev pub excludes : Tool → Told → Bool
 excludes SetquotaTool told =
     (told.flags.users && told.flags.groups)
@@ -48,21 +48,21 @@ lacks in_script ConvertquotaTool told = is_none told.conversion
 lacks in_script RquotadTool told = is_none told.calls || is_none told.port || not (nat_lt 0 (length told.exports))
 lacks in_script _ told = false
 
--- the form of a command that its options choose
-abbrev pub form_of : Tool → Told → Form
-form_of RepquotaTool told = Reporting
-form_of SetquotaTool told =
+-- the mode of a command that its options choose
+abbrev pub mode_of : Tool → Told → Mode
+mode_of RepquotaTool told = Reporting
+mode_of SetquotaTool told =
     if is_some told.proto then Copying
     else if told.flags.batch then Batching
     else if told.flags.grace then SettingGrace
     else if told.flags.times then SettingTimes
     else Limiting
-form_of EdquotaTool told = if told.flags.print then Printing else Applying
-form_of QuotacheckTool told = Checking
-form_of ConvertquotaTool told = Converting
-form_of RquotadTool told = Serving
-form_of ScriptTool told = Scripting
-form_of GenerateTool told = Generating
+mode_of EdquotaTool told = if told.flags.print then Printing else Applying
+mode_of QuotacheckTool told = Checking
+mode_of ConvertquotaTool told = Converting
+mode_of RquotadTool told = Serving
+mode_of ScriptTool told = Scripting
+mode_of GenerateTool told = Generating
 
 -- users, unless groups are asked for
 abbrev pub kind_asked : Flags → Kind
@@ -85,10 +85,10 @@ abbrev pub is_value : Operand → Option (List ℕ) → Bool
 is_value operand (Some value) = bytes_eq operand.text value
 is_value operand None = false
 
--- The command that a form asks for by its operands, which are as many as stand here. A file is the name of one; the seed
+-- The command that a mode asks for by its operands, which are as many as stand here. A file is the name of one; the seed
 -- of a listing is below 2^64, and it has 1 to 1,000,000 lines. What is wrong with their number is said at the number of
 -- all words.
-abbrev pub formed : Form → Told → (words : ℕ) → List Operand → Result Command Fault
+abbrev pub formed : Mode → Told → (words : ℕ) → List Operand → Result Command Fault
 formed Reporting told words (file ∷ []) =
     named file (Ok (Report (common_of told) (options_of told.flags) file.text))
 formed Limiting told words (name ∷ bsoft ∷ bhard ∷ isoft ∷ ihard ∷ file ∷ []) =

@@ -1,14 +1,14 @@
 ghost use Rattle.std.specs.Prelude.{◌≡◌};
-ghost use Rattle.command_words.specs.Forms.{excludes, form_of, kind_asked, lacks, options_of, two_of};
+ghost use Rattle.command_words.specs.Modes.{excludes, mode_of, kind_asked, lacks, options_of, two_of};
 ghost use Rattle.option_words.specs.Given.{told};
 
 use option_words::{Flags, Given, Tool};
 use quota_types::Kind;
 use report_text::Options;
 
-/// A form of a command: what its options choose, with its own operands.
+/// A mode of a command: what its options choose, with its own operands.
 #[derive(Clone, Copy, Debug, PartialEq, Eq)]
-pub enum Form {
+pub enum Mode {
     /// `repquota`.
     Reporting,
     /// `setquota` with four limits.
@@ -81,37 +81,37 @@ pub fn lacks(in_script: bool, tool: Tool, given: &Given<'_>) -> bool
     }
 }
 
-/// The form that the options choose.
-pub fn form_of(tool: Tool, given: &Given<'_>) -> Form
-    ensures { result ≡ form_of tool (told given.now) }
+/// The mode that the options choose.
+pub fn mode_of(tool: Tool, given: &Given<'_>) -> Mode
+    ensures { result ≡ mode_of tool (told given.now) }
 {
     match tool {
-        Tool::Repquota => Form::Reporting,
-        Tool::Setquota => setquota_form(given),
-        Tool::Edquota if given.flags.print => Form::Printing,
-        Tool::Edquota => Form::Applying,
-        Tool::Quotacheck => Form::Checking,
-        Tool::Convertquota => Form::Converting,
-        Tool::Rquotad => Form::Serving,
-        Tool::Script => Form::Scripting,
-        Tool::Generate => Form::Generating,
+        Tool::Repquota => Mode::Reporting,
+        Tool::Setquota => setquota_mode(given),
+        Tool::Edquota if given.flags.print => Mode::Printing,
+        Tool::Edquota => Mode::Applying,
+        Tool::Quotacheck => Mode::Checking,
+        Tool::Convertquota => Mode::Converting,
+        Tool::Rquotad => Mode::Serving,
+        Tool::Script => Mode::Scripting,
+        Tool::Generate => Mode::Generating,
     }
 }
 
-/// The form of `setquota` that the options choose.
-fn setquota_form(given: &Given<'_>) -> Form
-    ensures { result ≡ form_of Tool.Setquota (told given.now) }
+/// The mode of `setquota` that the options choose.
+fn setquota_mode(given: &Given<'_>) -> Mode
+    ensures { result ≡ mode_of Tool.Setquota (told given.now) }
 {
     if given.proto.is_some() {
-        Form::Copying
+        Mode::Copying
     } else if given.flags.batch {
-        Form::Batching
+        Mode::Batching
     } else if given.flags.grace {
-        Form::SettingGrace
+        Mode::SettingGrace
     } else if given.flags.times {
-        Form::SettingTimes
+        Mode::SettingTimes
     } else {
-        Form::Limiting
+        Mode::Limiting
     }
 }
 

@@ -1,5 +1,5 @@
 use Rattle.option_words.specs.Given.{told}
-use Rattle.command_words.proofs.building.form_command.Goals as goal
+use Rattle.command_words.proofs.building.mode_command.Goals as goal
 
 pub returns-in-Scripting : goal.returns-in-Scripting
 returns-in-Scripting c = rw c.in-Scripting.is (c.script.ensures (told c.args.given.now))
