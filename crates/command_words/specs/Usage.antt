@@ -14,7 +14,7 @@ abbrev pub IsUsageFault : Result Command Refusal → UsageFault → Type 0
 IsUsageFault asked (Usage kind word) = asked ≡ Err (refusal_of (UsageCause kind word) [])
 IsUsageFault asked Memory = IsOk asked
 
--- The same of words whose refusal is not made yet.
+-- The words ask for nothing, and this fault of theirs is what is wrong, whose refusal is not made yet; or memory was wanting.
 abbrev pub IsFaultOf : Result Command Fault → UsageFault → Type 0
 IsFaultOf asked (Usage kind word) = asked ≡ Err (record { kind = kind; word = word })
 IsFaultOf asked Memory = IsOk asked

@@ -69,7 +69,7 @@ FormEditMayRefuse asked from id file cause name =
     FormMayRefuse from cause name
     ⊎ ((limits : FourLimits) × FileEditMayRefuse asked (Limits id limits) file cause name)
 
--- the same, where these are the names
+-- the causes for which a form of the word for an identifier may not be applied, where these are the names
 abbrev pub NamedApplyMayRefuse : Option Format → Option (List ℕ) → List ℕ → List ℕ → List NameLine → Cause → List ℕ → Type 0
 NamedApplyMayRefuse asked from word file names cause name =
     (identifier_of names word ≡ Refused (refusal_of cause name))

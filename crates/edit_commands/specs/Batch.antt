@@ -207,7 +207,7 @@ BatchSteps common from file invocation =
 abbrev pub line_uses : Uses
 line_uses = record { input = false; out = false; link = false; changes = true; all_or_nothing = false; warns = false; reads_commands = false; reads_edits = true }
 
--- the same, where the lines are read from an input
+-- lines that are read from an input use it, and change the store by their edits
 abbrev pub batch_uses : Option (List ℕ) → Uses
 batch_uses from = reading from line_uses
 

@@ -66,7 +66,7 @@ abbrev pub words_warn : EditWords → Bool
 words_warn (TimeWords name block inode) = true
 words_warn _ = false
 
--- the same of an edit
+-- an edit may skip times, of which it then warns
 abbrev pub edit_warns : FileEdit → Bool
 edit_warns (Times id block inode) = true
 edit_warns _ = false

@@ -117,7 +117,7 @@ FileEditMayRefuse asked edit file cause name =
     ⊎ (MayRefuseOpening asked file cause name
     ⊎ (IsTrue (edit_warns edit) × (cause ≡ SinkFault)))
 
--- the same of words, where these are the names
+-- the causes for which what words ask for may be refused, where these are the names
 abbrev pub NamedEditMayRefuse : Option Format → EditWords → List ℕ → List NameLine → Cause → List ℕ → Type 0
 NamedEditMayRefuse asked words file names cause name =
     (edit_read names words ≡ Refused (refusal_of cause name))

@@ -68,7 +68,7 @@ pub fn apply_by_word<S: Store, I: Source, E: Sink>(
     }
 }
 
-/// The same, where these are the names.
+/// Applies a form to the identifier that a word stands for, where these are the names.
 fn apply_named<S: Store, I: Source, E: Sink>(
     alloc: Global,
     names: &Names,

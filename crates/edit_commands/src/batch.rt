@@ -59,7 +59,7 @@ pub fn apply_lines<S: Store, I: Source>(
     }
 }
 
-/// The same, where these are the names.
+/// Sets the limits that the lines of an input ask for, where these are the names.
 fn apply_named<S: Store, I: Source>(
     alloc: Global,
     names: &Names,

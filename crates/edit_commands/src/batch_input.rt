@@ -79,7 +79,7 @@ pub fn take_batch<S: Store, I: Source>(
     }
 }
 
-/// The same, of the standard input.
+/// What the lines of the standard input ask for, up to the first one that is refused.
 fn take_input<I: Source>(alloc: Global, names: &Names, input: &mut I) -> Result<Batch, Refusal>
     ensures read { IfOk result (λ batch. IsTrue I.tells → input_asks names.now [] (I.seen input.old).left
         ≡ record { edits = batch.edits.items; refusal = batch.refusal }) }
@@ -99,7 +99,7 @@ fn take_input<I: Source>(alloc: Global, names: &Names, input: &mut I) -> Result<
     }
 }
 
-/// The same, of the file of this name.
+/// What the lines of the file of this name ask for, up to the first one that is refused.
 fn take_file<S: Store>(
     alloc: Global,
     names: &Names,
@@ -125,7 +125,7 @@ fn take_file<S: Store>(
     }
 }
 
-/// The same, of a file that is there.
+/// What the lines of a file ask for that is there, up to the first one that is refused.
 fn take_there<S: Store>(
     alloc: Global,
     names: &Names,

@@ -100,7 +100,7 @@ fn five_words(alloc: Global, line: &[u8]) -> Result<Option<FiveWords>, AllocErro
     }
 }
 
-/// The same of all words of a line.
+/// Copies of all words of a line, where there are five and each is UTF-8.
 fn copied_words(alloc: Global, words: &[&[u8]]) -> Result<Option<FiveWords>, AllocError>
     ensures { IfOk result (λ copies. five_of (map (λ word. word.now) words.now) ≡ copies) }
 {

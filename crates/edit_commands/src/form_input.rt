@@ -111,7 +111,7 @@ fn read_form_file<S: Store>(
     }
 }
 
-/// The same, of a file that is there.
+/// The limits that a form in a file asks for that is there.
 fn read_form_there<S: Store>(
     names: &Names,
     kind: Kind,

@@ -63,7 +63,7 @@ pub fn print_by_word<S: Store, O: Sink>(
     }
 }
 
-/// The same, where these are the names.
+/// Prints the form of the identifier that a word stands for, where these are the names.
 fn print_named<S: Store, O: Sink>(
     alloc: Global,
     names: &Names,

@@ -134,7 +134,7 @@ UsageMayRefuse value from file cause name =
     ⊎ (UnfitMayRefuse value file cause name
     ⊎ WritingMayRefuse value.format file cause name)
 
--- the same, of a file that is opened
+-- the causes for which the usage of a listing may not become that of a file that is opened, whatever is told
 abbrev pub OpenedMayRefuse : Option Format → Option (List ℕ) → List ℕ → Cause → List ℕ → Type 0
 OpenedMayRefuse asked from file cause name =
     MayRefuseOpening asked file cause name

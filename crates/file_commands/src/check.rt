@@ -63,7 +63,7 @@ pub fn check_file<S: Store, I: Source>(
     }
 }
 
-/// The same, of a file that is there.
+/// Opens a quota file, and sets the usage in it to what a listing of inodes tells.
 fn check_opened<S: Store, I: Source>(
     alloc: Global,
     kind: Kind,

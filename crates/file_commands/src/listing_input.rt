@@ -101,7 +101,7 @@ fn scan_file<S: Store>(
     }
 }
 
-/// The same, of a file that is there.
+/// The usage that a listing in a file tells that is there.
 fn scan_there<S: Store>(
     alloc: Global,
     kind: Kind,

@@ -36,7 +36,7 @@ first_fault device lines = slice_get (faults_of device (read_lines lines) ++ opt
 abbrev pub scanned_lines : Kind → Option ℕ → InputLines → Result UsageMap ScanFault
 scanned_lines kind device lines = unless (first_fault device lines) (usage_of kind (counted_lines device (read_lines lines)))
 
--- the same of the listing in these bytes
+-- the usage that the listing in these bytes adds up to, or the first thing that is wrong with it
 unfoldable pub scanned : Kind → (device : Option ℕ) → List ℕ → Result UsageMap ScanFault
 scanned kind device bytes = scanned_lines kind device (input_lines 256 1099511627776 bytes)
 

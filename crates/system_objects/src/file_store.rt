@@ -18,7 +18,7 @@ enum Access {
     Reading,
     /// To read it and write to it; it is made where it is not there.
     Writing,
-    /// The same of a new file, in place of the one that was there.
+    /// To read and write a new file, in place of the one that was there.
     Making,
 }
 
