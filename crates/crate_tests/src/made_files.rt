@@ -38,13 +38,12 @@ pub(crate) const NULL: Rec = Rec {
     itime: 5,
 };
 
-pub(crate) const LIST: [Entry; 2] = [
-    Entry { id: 0, rec: LIMITS },
-    Entry {
-        id: 1000,
-        rec: USED,
-    },
-];
+pub(crate) const LAST: Entry = Entry {
+    id: 1000,
+    rec: USED,
+};
+
+pub(crate) const LIST: [Entry; 2] = [Entry { id: 0, rec: LIMITS }, LAST];
 
 pub(crate) const NULLS: [Entry; 1] = [Entry { id: 7, rec: NULL }];
 

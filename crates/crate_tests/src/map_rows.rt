@@ -1,4 +1,4 @@
-use crate::made_files::{DOUBLED, LIMITS, LIST, Made, NULLS, PERIODS, USED, make};
+use crate::made_files::{DOUBLED, LAST, LIMITS, LIST, Made, NULLS, PERIODS, USED, make};
 use quota_blocks::{FileFault, MemStore, OpenFault, QuotaFile, ReplaceFault};
 use quota_map::{AnyFile, open_file, read_all};
 use quota_types::{
@@ -144,7 +144,7 @@ const CHANGES: &[Step] = &[
 /// What is there then.
 const CHANGED: &[Step] = &[
     Step::Grace(DOUBLED),
-    Step::Next(None, Some(LIST[1])),
+    Step::Next(None, Some(LAST)),
     Step::Next(Some(1000), None),
 ];
 
