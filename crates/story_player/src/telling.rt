@@ -192,27 +192,39 @@ fn tell_length(alloc: Global, last: &mut Last, rest: &str) -> Told {
     }
 }
 
-/// The number in the four bytes at a place; behind the end stand bytes of 255.
-fn number_at(file: &[u8], at: usize) -> u64 {
-    let mut bytes = [255; 4];
-    for (to, byte) in bytes.iter_mut().zip(file.iter().skip(at)) {
-        *to = *byte;
+/// The number in the four bytes at a place, or none where the file ends before.
+fn number_at(file: &[u8], at: u64) -> Option<u64> {
+    match file.get(at as usize..) {
+        Some([first, second, third, last, ..]) => Some(u64::from(u32::from_le_bytes([
+            *first, *second, *third, *last,
+        ]))),
+        _ => None,
     }
-    u64::from(u32::from_le_bytes(bytes))
+}
+
+/// Whether numbers stand in a file from a place on.
+fn are_numbers(alloc: Global, file: &[u8], at: u64, numbers: &str) -> Told {
+    let mut at = at;
+    for word in numbers.split(' ') {
+        let want = number(alloc, word)?;
+        match number_at(file, at) {
+            Some(is) => is_number(alloc, is, want)?,
+            None => return unmet(alloc, "the file ends before"),
+        }
+        at = at.saturating_add(4);
+    }
+    Ok(())
 }
 
 fn tell_numbers(alloc: Global, last: &mut Last, rest: &str) -> Told {
     let (file, numbers) = rest.split_once(' ').unwrap_or((rest, ""));
     let (at, numbers) = numbers.split_once(' ').unwrap_or((numbers, ""));
     name(alloc, last, file)?;
-    let mut at = number(alloc, at)?.min(1 << 30) as usize;
-    let bytes = find(&last.ran.files, file).unwrap_or(b"");
-    for word in numbers.split(' ') {
-        let want = number(alloc, word)?;
-        is_number(alloc, number_at(bytes, at), want)?;
-        at = at.saturating_add(4);
+    let at = number(alloc, at)?;
+    match find(&last.ran.files, file) {
+        Some(bytes) => are_numbers(alloc, bytes, at, numbers),
+        None => unmet(alloc, "there is no such file"),
     }
-    Ok(())
 }
 
 fn tell_answer(alloc: Global, last: &mut Last, gathered: &[u8]) -> Told {
