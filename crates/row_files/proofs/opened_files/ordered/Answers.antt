@@ -7,7 +7,7 @@ use Rattle.quota_types.specs.declared.record.Entry.{Entry}
 use Rattle.quota_blocks.specs.Listed.{ids_of}
 use Rattle.quota_blocks.specs.QuotaValue.{IsAfter}
 use Rattle.quota_map.proofs.ReadingLemmas.{AscendTo, ascend_more, ascend_none}
-use Rattle.crate_tests.proofs.helpers_high.ordered.Goals as goal
+use Rattle.row_files.proofs.opened_files.ordered.Goals as goal
 
 pub loop-entry-init : goal.loop-entry-init
 loop-entry-init c =

@@ -3,7 +3,7 @@ use Rattle.quota_types.specs.Kept.{IsKept}
 use Rattle.quota_types.specs.declared.record.Entry.{Entry}
 use Rattle.quota_blocks.specs.Listed.{ids_of}
 use Rattle.quota_map.proofs.ReadingLemmas.{AscendTo}
-use Rattle.crate_tests.proofs.helpers_high.ordered.Given as goal
+use Rattle.row_files.proofs.opened_files.ordered.Given as goal
 
 abbrev pub invariant-loop-entry : goal.invariant-loop-entry
 invariant-loop-entry l = record {
