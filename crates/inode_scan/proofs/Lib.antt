@@ -1,4 +1,5 @@
 pub mod ApplyLemmas
+pub mod RisingLemmas
 pub mod FaultLemmas
 pub mod FirstLemmas
 pub mod ListLemmas

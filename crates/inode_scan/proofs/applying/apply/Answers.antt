@@ -6,7 +6,8 @@ use Rattle.quota_types.specs.Rec.{is_null_of}
 use Rattle.quota_types.specs.declared.record.Entry.{Entry}
 use Rattle.quota_blocks.specs.Listed.{ids_of, records_of}
 use Rattle.inode_scan.specs.Apply.{wanted, wanted_record}
-use Rattle.inode_scan.proofs.ApplyLemmas.{IsDone, Rises, all_kept, done_all, done_none, from_after, increasing_of, kept_id, none_wanted, rest_all, rises_kept, step_done, step_later, step_refused, step_rest}
+use Rattle.inode_scan.proofs.ApplyLemmas.{IsDone, done_all, done_none, from_after, none_wanted, rest_all}
+use Rattle.inode_scan.proofs.RisingLemmas.{Rises, all_kept, increasing_of, kept_id, rises_kept, step_done, step_later, step_refused, step_rest}
 use Rattle.inode_scan.proofs.applying.apply.Goals as goal
 
 pub ids-init : goal.ids-init

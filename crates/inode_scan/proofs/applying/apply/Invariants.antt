@@ -5,7 +5,8 @@ use Rattle.quota_types.specs.Rec.{is_null_of}
 use Rattle.quota_types.specs.declared.record.Entry.{Entry}
 use Rattle.quota_blocks.specs.Listed.{ids_of, records_of}
 use Rattle.inode_scan.specs.Apply.{wanted}
-use Rattle.inode_scan.proofs.ApplyLemmas.{IsDone, IsRest, Rises, from_after}
+use Rattle.inode_scan.proofs.ApplyLemmas.{IsDone, IsRest, from_after}
+use Rattle.inode_scan.proofs.RisingLemmas.{Rises}
 use Rattle.inode_scan.proofs.applying.apply.Given as goal
 
 abbrev pub invariant-ids : goal.invariant-ids
