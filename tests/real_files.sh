@@ -85,6 +85,15 @@ expect 'a command that is not built' 2 '' "$usage" script
 expect 'no words' 2 '' 'quota: usage: NoCommand at word 0'
 expect 'the version' 0 'quota_cli 0.1.0 (vfsold, vfsv0, vfsv1)' '' --version
 same 'the help' "$("$run" --help | head -n 1)" 'Usage: quota_cli COMMAND [OPTION]... [OPERAND]...'
+"$run" --help >help.txt 2>err.txt
+same 'the help says nothing of a fault' "$(cat err.txt)" ''
+for name in repquota setquota edquota quotacheck convertquota rquotad script generate; do
+    same "the help names $name" "$(grep -c "^  $name" help.txt | sed 's/^[1-9].*/yes/')" yes
+done
+same 'the help tells the statuses' "$(grep -c '^Exit status: 0 done, 1 refused' help.txt)" 1
+expect 'a command alone is no question for help' 2 '' 'quota: usage: WrongOperands at word 1' repquota
+expect 'help and another word' 2 '' "$usage" --help repquota
+expect 'a letter that asks for nothing' 2 '' "$usage" -h
 got=0
 "$run" --help >/dev/full 2>err.txt || got=$?
 same 'help to a full output' "$got $(cat err.txt)" '4 quota: output fault'
