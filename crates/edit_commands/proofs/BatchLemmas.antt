@@ -38,7 +38,8 @@ use Rattle.run_steps.proofs.ActLemmas.{all_done, none_in_part}
 use Rattle.edit_commands.proofs.BatchInputLemmas.{unnamed}
 use Rattle.run_steps.proofs.DoingLemmas.{AreWritten, done_of, done_steps, doing_ended, doing_ends, doing_moved, doing_then, part_of, written_both, written_none}
 use Rattle.edit_commands.proofs.EditFileLemmas.{IsRefusedAt, any_laws}
-use Rattle.edit_commands.proofs.EditLemmas.{EditedSeen, HasEditCause, edit_may, full_changed, unfit_refused}
+use Rattle.edit_commands.proofs.EditLemmas.{EditedSeen}
+use Rattle.edit_commands.proofs.RefusedEditLemmas.{HasEditCause, edit_may, full_changed, unfit_refused}
 use Rattle.run_steps.proofs.OpeningLemmas.{with_store}
 use Rattle.run_steps.proofs.ReasonLemmas.{reason_but_stated}
 use Rattle.run_steps.proofs.TakingLemmas.{AreMoved}
@@ -394,29 +395,3 @@ then_stopped file now start asked refusal may more tells old new allows carries 
       quiet = carries.quiet;
       later = carries.later;
     }
-
--- edits may be done from any input
-pub applying_moved : (from : Option (List ℕ)) (file : List ℕ) (now : ℕ) (start : QuotaValue) (asked : Asked) (old : RunSeen) (input : SourceSeen) → AreMoved from is_to_end (Applying file now start) asked old input
-applying_moved from file now start asked old input left taken acts to ended steps =
-    let done = applied file now asked.edits start in
-    doing_moved done.acts (first_of done.refusal asked.refusal) (record (outside_of old) { input = left }) input.left acts to ended steps
-
--- an input is read to its end where there is no refusal
-pub ends_none : (refusal : Option Refusal) → IsTrue (is_none refusal) → refusal ≡ None
-ends_none None all = refl
-ends_none (Some refusal) all = absurd (false≢true all)
-
--- for what the edit of a line may be refused
-line_may_of : (asked : Option Format) (file : List ℕ) (id : ℕ) (limits : FourLimits) (now : ℕ) (cause : Cause) → ChangeMayRefuse asked (limits_edit id limits now) file cause file ⊎ MayRefuseOpening asked file cause file
-    → LineEditMayRefuse asked file cause file
-line_may_of asked file id limits now cause (inl may) = inl (id, limits, now, may)
-line_may_of asked file id limits now cause (inr may) = inr may
-
-pub line_may_fail : (asked : Option Format) (name : List ℕ) (id : ℕ) (limits : FourLimits) (now : ℕ) (tells : Bool) (opened file : AnyFile) (before after : StoreSeen) (format : Format) (fault : EditFault)
-    → any_seen opened ≡ fresh_seen name format → IsOpenedAs asked format
-    → HasCause (limits_edit id limits now) (any_laws tells) (file_at (HoldsAny tells before.files opened) (any_seen opened) before) (file_at (HoldsAny tells after.files file) (any_seen file) after) fault
-    → LineEditMayRefuse asked name (edit_cause fault) name
-line_may_fail asked name id limits now tells opened file before after format fault was as_asked cause =
-    let formats : (any_seen opened).format ≡ format = ap (λ (s : FileSeen). s.format) was in
-    line_may_of asked name id limits now (edit_cause fault)
-    (edit_may asked name (limits_edit id limits now) format _ _ _ _ fault as_asked (rw formats at cause.may) cause.passes cause.id (rw formats at cause.field) cause.refused)

@@ -42,7 +42,8 @@ use Rattle.run_steps.specs.Opening.{MayRefuseOpening}
 use Rattle.edit_commands.specs.Edits.{ChangeMayRefuse, FileEditMayRefuse, edit_cause, is_too_large, unskipped}
 use Rattle.run_steps.specs.Changing.{blocks_of}
 use Rattle.edit_commands.specs.EditWords.{MaySkip, edit_meant, edit_warns, skips_none}
-use Rattle.edit_commands.proofs.EditLemmas.{EditedSeen, HasEditCause, IsEditRefused, IsEditing, IsLacking}
+use Rattle.edit_commands.proofs.EditLemmas.{EditedSeen, IsEditing}
+use Rattle.edit_commands.proofs.RefusedEditLemmas.{HasEditCause, IsEditRefused, IsLacking}
 
 -- An edit keeps the format.
 

@@ -8,9 +8,13 @@ const UNREAD: &[u8] = b"unread";
 /// The objects in memory of a run but its store.
 #[derive(Drop)]
 pub struct Streams {
+    /// The standard input.
     pub input: MemSource,
+    /// The output.
     pub out: MemSink,
+    /// The error output.
     pub err: MemSink,
+    /// Where datagrams come from, and answers go to.
     pub link: MemLink,
     is_given_input: bool,
     is_given_datagrams: bool,
@@ -94,7 +98,7 @@ pub(crate) fn calls_made(sink: &mut MemSink, planned: u64) -> u64 {
     0
 }
 
-/// The same of a source.
+/// How many calls of a source were made, where its call number `planned` is to fail and was not made yet.
 pub(crate) fn reads_made(source: &mut MemSource, planned: u64) -> u64 {
     for probe in 1..=planned {
         if source.read(&mut []).is_err() {
@@ -104,7 +108,7 @@ pub(crate) fn reads_made(source: &mut MemSource, planned: u64) -> u64 {
     0
 }
 
-/// The same of a link.
+/// How many calls of a link were made, where its call number `planned` is to fail and was not made yet.
 pub(crate) fn link_calls_made(link: &mut MemLink, planned: u64) -> u64 {
     for probe in 1..=planned {
         if link.start(0).is_err() {

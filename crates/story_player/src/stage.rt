@@ -152,7 +152,7 @@ pub(crate) fn set(alloc: Global, files: &mut Vec<NamedBytes>, name: &str, bytes:
         .map_err(|_| Wrong::Memory)
 }
 
-/// The same files again.
+/// A copy of some files.
 pub(crate) fn copied(alloc: Global, files: &[NamedBytes]) -> Result<Vec<NamedBytes>, AllocError> {
     let mut copies = Vec::new(alloc);
     for (name, bytes) in files {

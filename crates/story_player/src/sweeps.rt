@@ -65,12 +65,9 @@ fn run_once<P: Program>(program: &P, stage: &mut Stage, line: &str) -> Told {
 
 /// Whether an error output is that of a run that read the file `l`, where the other one read the standard input.
 fn is_said_of_file(by_input: &[u8], by_file: &[u8]) -> bool {
-    match (
-        by_input.strip_prefix(b"quota: input: "),
-        by_file.strip_prefix(b"quota: l: "),
-    ) {
-        (Some(one), Some(other)) => one == other,
-        _ => by_input == by_file,
+    match by_input.strip_prefix(b"quota: input: ") {
+        Some(said) => by_file.strip_prefix(b"quota: l: ") == Some(said),
+        None => by_input == by_file,
     }
 }
 
@@ -199,7 +196,7 @@ fn is_failed(stage: &Stage, whole: &Ran, ran: &Ran, object: &str) -> Told {
     )
 }
 
-/// The same, with the number of the call where it is wrong.
+/// What came of a run, with the number that was set where it is wrong.
 fn at_call(alloc: Global, call: u64, told: Told) -> Told {
     match told {
         Err(Wrong::Said(why)) => Err(Wrong::Said(format!(in alloc;

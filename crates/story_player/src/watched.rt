@@ -27,7 +27,9 @@ impl Diary {
 /// reads. It tells nothing.
 #[derive(Drop)]
 pub struct Watched {
+    /// The store whose files it gives.
     pub store: MemStore,
+    /// The calls that were made.
     pub diary: Diary,
     /// How many more reads give the files as they are.
     pub good_reads: u64,

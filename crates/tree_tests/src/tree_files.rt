@@ -257,7 +257,7 @@ fn check_by(alloc: Global, store: &mut MemStore, header: &Header) -> Result<Chec
     check(alloc, store, "q", header)
 }
 
-/// The same where no call fails.
+/// What a check of a file answers where no call fails, and how many blocks it read.
 pub(crate) fn checked(
     alloc: Global,
     file: &[u8],

@@ -6,7 +6,8 @@ use Rattle.refusals.specs.declared.reason.Refusal.{Refusal}
 use Rattle.run_steps.specs.Done.{seen_of, tells_of}
 use Rattle.run_steps.specs.Taking.{Lines, input_name}
 use Rattle.edit_commands.specs.Batch.{Applying, Asked, IsOfLine, LineEditMayRefuse, is_to_end, line_uses}
-use Rattle.edit_commands.proofs.BatchLemmas.{applying_moved, ends_none, then_ended, then_refused, then_stopped}
+use Rattle.edit_commands.proofs.BatchLemmas.{then_ended, then_refused, then_stopped}
+use Rattle.edit_commands.proofs.EndedBatchLemmas.{applying_moved, ends_none}
 use Rattle.run_steps.proofs.TakingLemmas.{fault_more}
 use Rattle.run_steps.proofs.OpeningLemmas.{with_store}
 use Rattle.run_steps.proofs.PhaseLemmas.{placed_nowhere}

@@ -8,7 +8,8 @@ use Rattle.quota_map.specs.View.{fresh_seen}
 use Rattle.edit_commands.specs.declared.batch_line.LineEdit.{LineEdit}
 use Rattle.edit_commands.specs.declared.edit.FileEdit.TheVariants.{Limits}
 use Rattle.run_steps.specs.Done.{seen_of, tells_of}
-use Rattle.edit_commands.proofs.BatchLemmas.{AreMade, all_carried, line_may_fail, line_refused, made_more, made_none}
+use Rattle.edit_commands.proofs.BatchLemmas.{AreMade, all_carried, line_refused, made_more, made_none}
+use Rattle.edit_commands.proofs.EndedBatchLemmas.{line_may_fail}
 use Rattle.edit_commands.proofs.EditFileLemmas.{any_cause, any_edited, keeps_format, refused_at}
 use Rattle.edit_commands.proofs.batch.edit_all.Goals as goal
 

@@ -9,7 +9,8 @@ use Rattle.run_steps.specs.Done.{seen_of, tells_of}
 use Rattle.edit_commands.specs.Edits.{edit_cause, warnings}
 use Rattle.edit_commands.specs.EditWords.{edit_meant, edit_warns, skipped_by}
 use Rattle.edit_commands.proofs.EditFileLemmas.{IsHeld, any_cause, any_edited, any_editing, any_refused, file_edit_may, keeps_format, skips_quiet, skips_warn}
-use Rattle.edit_commands.proofs.EditLemmas.{edit_made, edit_may, edit_unmade, edit_unsaid}
+use Rattle.edit_commands.proofs.EditLemmas.{edit_made, edit_unsaid}
+use Rattle.edit_commands.proofs.RefusedEditLemmas.{edit_may, edit_unmade}
 use Rattle.run_steps.proofs.OpeningLemmas.{not_opened}
 use Rattle.std.proofs.lemmas.Bool.{false≢true}
 use Rattle.edit_commands.proofs.edits.edit_file.Goals as goal
