@@ -28,7 +28,7 @@ use Rattle.quota_v1.specs.View.{IsFlatFault}
 use Rattle.quota_map.specs.Replacing.{IsReplaceFileFault, IsReplacedBy, built_size, flags_in}
 use Rattle.quota_map.specs.View.{IsOpenFault, IsView, most_blocks}
 use Rattle.convert.specs.Conversion.{grace_no_room}
-use Rattle.convert.specs.Convert.{Asked, HasNoTarget, IsConvertFault, IsConverted, IsMade, IsNotMade, IsUnfit, UnlessStoreFailed}
+use Rattle.convert.specs.Convert.{Asked, HasNoTarget, IsConvertFault, IsConverted, IsMade, IsNotMade, IsUnfit, UnlessFaultOfStore}
 use Rattle.convert.specs.Source.{HasRead, IsReadingFault, IsSourceFault}
 use Rattle.convert.specs.Listing.{IsKeepingFault, kept_list, list_without_room}
 use Rattle.convert.specs.declared.fault.ConvertFault.{ConvertFault}
@@ -80,7 +80,7 @@ reading_since before between now tells format NoMemory later cause = cause
 -- The refusals.
 
 -- what holds in every case
-with_store : (P : Type 0) (fault : OpenFault) → P → UnlessStoreFailed fault P
+with_store : (P : Type 0) (fault : OpenFault) → P → UnlessFaultOfStore fault P
 with_store P Store is = tt
 with_store P NoFile is = is
 with_store P (TooLarge number most) is = is

@@ -1,5 +1,5 @@
 -- A conversion: what is asked for, what was made, and why it was refused.
-use Rattle.std.specs.Prelude.{◌≡◌, ◌≢◌, ◌≤◌, ℕ, Bool, IsTrue, IsSome, List, Option, Some, None, Ok, Err, ⊤}
+use Rattle.std.specs.Prelude.{◌≡◌, ◌≢◌, ◌≤◌, ℕ, Bool, IsTrue, IsSome, List, Some, None, Ok, Err, ⊤}
 use Rattle.quota_types.specs.declared.field.NoRoom.{NoRoom}
 use Rattle.quota_types.specs.declared.file_kind.Format.{Format}
 use Rattle.quota_types.specs.declared.file_kind.Kind.{Kind}
@@ -64,23 +64,23 @@ pub record IsMade (tells : Bool) (asked : Asked) (old new : StoreSeen) : Type 0 
 -- Why it was refused.
 
 -- a fact where opening was refused, but for a fault of the store
-abbrev pub UnlessStoreFailed : OpenFault → Type 0 → Type 0
-UnlessStoreFailed Store P = ⊤
-UnlessStoreFailed NoFile P = P
-UnlessStoreFailed (TooLarge _ _) P = P
-UnlessStoreFailed Memory P = P
-UnlessStoreFailed NotQuota P = P
-UnlessStoreFailed WrongKind P = P
-UnlessStoreFailed UnknownVersion P = P
-UnlessStoreFailed BadBlockCount P = P
-UnlessStoreFailed (FormatMismatch _) P = P
-UnlessStoreFailed (Damage _) P = P
+abbrev pub UnlessFaultOfStore : OpenFault → Type 0 → Type 0
+UnlessFaultOfStore Store P = ⊤
+UnlessFaultOfStore NoFile P = P
+UnlessFaultOfStore (TooLarge _ _) P = P
+UnlessFaultOfStore Memory P = P
+UnlessFaultOfStore NotQuota P = P
+UnlessFaultOfStore WrongKind P = P
+UnlessFaultOfStore UnknownVersion P = P
+UnlessFaultOfStore BadBlockCount P = P
+UnlessFaultOfStore (FormatMismatch _) P = P
+UnlessFaultOfStore (Damage _) P = P
 
 -- The names are two, and the first file could not be opened; or the store failed before. But for a fault of the store there is no
 -- file of the second name.
 pub record IsNotOpened (tells : Bool) (asked : Asked) (old new : StoreSeen) (fault : OpenFault) : Type 0 where
   pub apart : asked.from ≢ asked.to
-  pub absent : UnlessStoreFailed fault (IsTrue tells → old.files asked.to ≡ None)
+  pub absent : UnlessFaultOfStore fault (IsTrue tells → old.files asked.to ≡ None)
   pub cause : IsOpenFault old.faults new.faults tells (old.files asked.from) asked.kind (Some asked.old) fault
 
 -- the new format has no room for what was read, first of all for this value

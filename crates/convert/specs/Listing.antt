@@ -1,5 +1,5 @@
 -- Values and their conversion with the records in a list, as the code has them. No contract of a public call speaks of it.
-use Rattle.std.specs.Prelude.{◌≡◌, ℕ, not, map, filter, List, Option, Some, slice_get, ⊤}
+use Rattle.std.specs.Prelude.{◌≡◌, not, map, filter, List, Some, slice_get}
 use Rattle.std.specs.List.{filter_map}
 use Rattle.quota_types.specs.declared.field.NoRoom.{NoRoom}
 use Rattle.quota_types.specs.declared.file_kind.Format.{Format}
@@ -9,7 +9,7 @@ use Rattle.quota_types.specs.Rec.{is_null_of}
 use Rattle.quota_blocks.specs.declared.quota_file.FileFault.TheVariants.{Memory}
 use Rattle.convert.specs.Conversion.{record_no_room}
 use Rattle.convert.specs.declared.fault.ConvertFault.{ConvertFault}
-use Rattle.convert.specs.declared.fault.ConvertFault.TheVariants.{SameName, TargetExists, Open, File, NoRoom as Unfit, Replace}
+use Rattle.convert.specs.declared.fault.ConvertFault.TheVariants.{File, NoRoom as Unfit}
 
 -- the entries that limit or count something
 abbrev pub lasting_entries : List Entry → List Entry

@@ -12,7 +12,7 @@ use Rattle.quota_blocks.specs.declared.quota_file.FileFault.TheVariants.{Store, 
 use Rattle.quota_map.specs.AnyFile.{MayRefuse}
 use Rattle.quota_map.specs.View.{IsOpenFault, IsView}
 use Rattle.convert.specs.declared.fault.ConvertFault.{ConvertFault}
-use Rattle.convert.specs.declared.fault.ConvertFault.TheVariants.{SameName, TargetExists, Open, File, NoRoom, Replace}
+use Rattle.convert.specs.declared.fault.ConvertFault.TheVariants.{Open, File}
 
 -- A value was read of a file: where the store tells, the one that is seen of it, and whatever it tells, one of the kind and the
 -- format, which has room for the grace periods and for each record, and keeps it as it is.

@@ -2,7 +2,7 @@ use Rattle.std.proofs.Common.{◌≡◌, ◌≢◌, List, None, rules, sym, subs
 use Rattle.std.specs.List.Sorted.{IsStrictlyIncreasing}
 use Rattle.quota_types.specs.declared.record.Entry.{Entry}
 use Rattle.quota_blocks.specs.Listed.{ids_of}
-use Rattle.convert.specs.Convert.{Asked, HasNoTarget, IsConverted, asked_for}
+use Rattle.convert.specs.Convert.{Asked, HasNoTarget, asked_for}
 use Rattle.convert.specs.Listing.{kept_list}
 use Rattle.convert.proofs.ConvertLemmas.{absent_of, converted_of, keeping_refused, made_of, not_made_of, source_refused, unfit_of}
 use Rattle.convert.proofs.ValueLemmas.{kept_ascends}
