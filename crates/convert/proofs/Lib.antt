@@ -1,0 +1,4 @@
+pub mod ConvertLemmas
+pub mod ListingLemmas
+pub mod SourceLemmas
+pub mod ValueLemmas

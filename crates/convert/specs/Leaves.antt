@@ -1,0 +1,26 @@
+-- What a conversion leaves of a store.
+use Rattle.std.specs.Prelude.{◌≡◌, ◌≢◌, ◌≤◌, ℕ, false, List}
+use Rattle.quota_blocks.specs.Replace.{ReplacesOnly, replacement_name}
+use Rattle.quota_blocks.specs.Seen.{StoreSeen}
+use Rattle.quota_blocks.specs.Unsynced.{AddsNone}
+use Rattle.quota_blocks.specs.World.{KeepsOtherTwo}
+
+-- Two names were only looked at: all files are as before, no call of `write` was made, and all other names are as unsynced as they
+-- were.
+pub record OnlyLooks (from to : List ℕ) (old new : StoreSeen) : Type 0 where
+  pub files : new.files ≡ old.files
+  pub writes : new.writes ≡ old.writes
+  pub unsynced : KeepsOtherTwo from to old.unsynced new.unsynced
+  pub later : old.faults ≤ new.faults
+
+-- All files are as before but the new one and the one that it is written under first, and all names but those two and that of
+-- the file that was read are as unsynced as they were.
+pub record LeavesOthers (from to : List ℕ) (old new : StoreSeen) : Type 0 where
+  pub files : ReplacesOnly to old.files new.files
+  pub unsynced : (other : List ℕ) → other ≢ from → other ≢ to → other ≢ replacement_name to → new.unsynced other ≡ old.unsynced other
+  pub later : old.faults ≤ new.faults
+
+-- what was made has been kept safe: the new file is synced, and no other name is unsynced that was not
+pub record IsKeptSafe (to : List ℕ) (old new : StoreSeen) : Type 0 where
+  pub none : AddsNone old.unsynced new.unsynced
+  pub named : new.unsynced to ≡ false

@@ -1,0 +1,13 @@
+//! A quota file in another format: vfsold, vfsv0 or vfsv1.
+//!
+//! The one promise: `convert` makes a new file with the same grace periods and with what the new format keeps of each record
+//! that limits or counts something, or names the first cause for which it cannot, and then has written nothing.
+#![tactic(auto)]
+
+mod converting;
+mod fault;
+mod keeping;
+mod source;
+
+pub use converting::convert;
+pub use fault::ConvertFault;
