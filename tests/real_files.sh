@@ -358,6 +358,8 @@ rm q before empty most more line.txt
 # The greatest identifier and the greatest use of a flat file.
 expect 'the greatest flat file' 0 '' '' quotacheck -c -F vfsold q <<<'1048575 0 1 1 8589934590'
 same 'its size' "$(stat -c %s q)" 41943040
+same 'its line' "$("$run" repquota -F vfsold q | sed 1,4d)" \
+    '#1048575     -- 4294967295          0          0      -        1        0        0      -'
 rm q
 
 # Each command on each format and kind. A tree file begins with its header alone, which is a file of no records.
