@@ -1,8 +1,9 @@
 #!/usr/bin/env bash
 # Runs the merge gate from nothing, and prints for each crate, for its tests and for its wrong bodies how many processor
-# seconds the prover took and the most memory that it held, most first, and behind them the wall time and the processor
-# time of all. Then, for each crate, its lines and its functions and the memory that the gate plans before it starts it:
-# where these plans do not fit beside each other, crates wait for each other.
+# seconds the prover took, how many seconds it ran and the most memory that it held, most first, and behind them the wall
+# time and the processor time of all. Then, for each crate, its lines and its functions and the memory that the gate plans
+# before it starts it: where these plans do not fit beside each other, crates wait for each other. Provers that something
+# else started are not counted, but they slow the gate down.
 # usage: bench/gate.sh [LOG]   what the gate says goes to LOG (gate.log in the temporary folder)
 set -u
 top=$(cd "$(dirname "${BASH_SOURCE[0]}")/.." && pwd) || exit 1
@@ -22,14 +23,29 @@ def text_of(path):
         return ""
 
 
-def look(seen):
-    """Notes the processor time and the memory of each prover that runs."""
+def numbers_of(folder):
+    """What the system tells of a process behind its name: its state, its parent, and then numbers."""
+    return text_of(f"{folder}/stat").rpartition(")")[2].split()
+
+
+def is_below(folder, gate):
+    """Whether the gate started a process, or one that it started did."""
+    while folder != f"/proc/{gate}":
+        numbers = numbers_of(folder)
+        if len(numbers) < 2 or int(numbers[1]) < 2:
+            return False
+        folder = f"/proc/{numbers[1]}"
+    return True
+
+
+def look(seen, gate):
+    """Notes the processor time, the memory and the moments of each prover of the gate that runs."""
     for folder in glob.glob("/proc/[0-9]*"):
         words = text_of(f"{folder}/cmdline").split("\0")
-        if not words[0].endswith("/rattle") or "--crate-name" not in words:
+        if not words[0].endswith("/rattle") or "--crate-name" not in words or not is_below(folder, gate):
             continue
         try:
-            numbers = text_of(f"{folder}/stat").rpartition(")")[2].split()
+            numbers = numbers_of(folder)
             held = int(text_of(f"{folder}/statm").split()[1]) * PAGE
             place = os.readlink(f"{folder}/cwd")
         except (OSError, IndexError, ValueError):
@@ -37,12 +53,13 @@ def look(seen):
         crate = words[words.index("--crate-name") + 1]
         part = "wrong bodies" if "rt-edit" in place else "tests" if "--test" in words else "proof"
         spent = (int(numbers[11]) + int(numbers[12])) / TICK
-        known = seen.get(folder, (0, 0, "", ""))
+        now = time.time()
+        known = seen.get(folder, (0, 0, crate, part, now, now))
         # (a number of a process may be given again)
-        key = folder if spent >= known[0] and (crate, part) == known[2:] or not known[2] else f"{folder} {time.time()}"
-        if key != folder:
-            seen[key] = known
-        seen[folder] = (spent, max(held, known[1] if key == folder else 0), crate, part)
+        if spent < known[0] or (crate, part) != known[2:4]:
+            seen[f"{folder} {now}"] = known
+            known = (0, 0, crate, part, now, now)
+        seen[folder] = (spent, max(held, known[1]), crate, part, known[4], now)
 
 
 def lines_of(crate, ending):
@@ -78,16 +95,17 @@ seen, start = {}, time.time()
 with open(log, "w") as out:
     gate = subprocess.Popen(words, stdout=out, stderr=subprocess.STDOUT)
     while gate.poll() is None:
-        look(seen)
+        look(seen, gate.pid)
         time.sleep(0.5)
 wall = time.time() - start
-spent, held = collections.Counter(), collections.Counter()
-for seconds, most, crate, part in seen.values():
+spent, ran, held = collections.Counter(), collections.Counter(), collections.Counter()
+for seconds, most, crate, part, first, last in seen.values():
     spent[crate, part] += seconds
+    ran[crate, part] += last - first
     held[crate, part] = max(held[crate, part], most)
-print(f"{'crate':18} {'part':14} {'processor s':>11} {'GB held':>8}")
+print(f"{'crate':18} {'part':14} {'processor s':>11} {'wall s':>7} {'GB held':>8}")
 for (crate, part), seconds in spent.most_common():
-    print(f"{crate:18} {part:14} {seconds:11.0f} {held[crate, part] / 1e9:8.1f}")
+    print(f"{crate:18} {part:14} {seconds:11.0f} {ran[crate, part]:7.0f} {held[crate, part] / 1e9:8.1f}")
 used = resource.getrusage(resource.RUSAGE_CHILDREN)
 print(f"wall {wall / 60:.1f} min, processor {(used.ru_utime + used.ru_stime) / 60:.1f} min, of which proofs, tests and wrong bodies:", end="")
 for part in ("proof", "tests", "wrong bodies"):
