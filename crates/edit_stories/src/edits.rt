@@ -210,6 +210,13 @@ status 4
 ! quota: output fault
 use set
 holds q
+
+= whichever call of the error output fails in a warning is told
+use timed
+file q
+sweep error setquota -T 1000 5 5 q
+! quota: inode time not set, soft limit not exceeded
+changes q
 ";
 
 /// What refuses an edit. No run meets a file that is named `r`.

@@ -170,6 +170,16 @@ head user q 7days 7days
 > #1           --          1          1          2      -        1        1        2      -
 > #2           --          1          1          2      -        1        1        2      -
 
+= whichever call of the output fails is told
+record 2 1 1 2 1 1 0 0
+again 3
+file q
+sweep output repquota -F vfsold -u -v q
+head user q 7days 7days
+> #0           --          1          1          2      -        1        1        2      -
+> #1           --          1          1          2      -        1        1        2      -
+> #2           --          1          1          2      -        1        1        2      -
+
 = an error output that fails changes no report, and takes the line of a fault
 record 2 1 1 2 1 1 0 0
 again 3

@@ -44,7 +44,8 @@ run repquota -u q
 head user q 7days 7days
 ";
 
-/// What refuses a tree file, and the line of each refusal.
+/// What refuses a tree file, and the line of each refusal. Where the blocks 1 to 3 are free as well, the rules let any of
+/// them be named; the number here is the one that this program chooses.
 pub const REFUSED: &str = "\
 = a file that is too short for its blocks
 use six
@@ -65,6 +66,17 @@ status 3
 ! quota: q: wrong kind
 use six
 file q
+run repquota -g q
+status 3
+! quota: q: wrong kind
+
+= a file of projects is of another kind than both
+use six
+put 0 3653254932
+file q
+run repquota -u q
+status 3
+! quota: q: wrong kind
 run repquota -g q
 status 3
 ! quota: q: wrong kind
@@ -152,7 +164,7 @@ put 24 1
 file q
 run repquota -u q
 status 3
-!^ quota: q: damaged: TwoRoles at block
+! quota: q: damaged: TwoRoles at block 1
 ";
 
 /// Limits that are set in tree files.

@@ -2,6 +2,18 @@
 
 /// Damages that are met before and after opening.
 pub const TURNED: &str = "\
+= a store that turns before the header is read, and one that turns behind the root
+use six
+file q
+turns 0
+run repquota q
+status 3
+! quota: q: not a quota file
+turns 2
+run repquota q
+status 3
+!^ quota: q: damaged:
+
 = a damage that is met after opening ends a report
 use six
 file q
