@@ -134,11 +134,15 @@ expect 'limits of 0 drop the record' 0 '' '' setquota -F vfsold -u 1000 0 0 0 0 
 expect 'the report after that' 0 "$head" '' repquota -F vfsold -u -v q
 same 'nothing is left beside the file' "$(echo q.*)" ''
 
-# A user whose use exceeds the new soft limit gets a timer, which ends a grace period from now.
+# A user whose use exceeds the new soft limit gets a timer, which ends a grace period from now, by the system's clock.
+from=$(date +%s)
 expect 'a limit below the use' 0 '' '' setquota -F vfsold -u 1004 1M 0 0 0 quota.user
+to=$(date +%s)
 "$run" repquota -F vfsold -u -v quota.user >out.txt
 same 'its report' "$(sed -n '/^#1004 /p' out.txt)" \
     '#1004        +-    7340032       1024          0  7days   310552        0        0      -'
+timer=$("$run" repquota -F vfsold -u -v -p quota.user | awk '/^#1004 / { print $6 }')
+same 'its timer is a week from now' "$(((timer >= from + 604800 && timer <= to + 604800)))" 1
 
 # A file of names is read from the disk: a name stands for its identifier, and a report shows it.
 printf 'root:x:0:0::/:/bin/sh\nalice:x:1000:100::/:/bin/sh\nbob:x:1001:100::/:/bin/sh\n' >names
