@@ -35,7 +35,7 @@ pub(crate) fn kept_entries(
     kept_records(alloc, format, list)
 }
 
-/// The same, of the records alone.
+/// What the format keeps of the records that limit or count something, or the first value of them for which it has no room.
 fn kept_records(alloc: Global, format: Format, list: &[Entry]) -> Result<Vec<Entry>, ConvertFault>
     ensures kept { IfOk result (λ entries. entries.items ≡ kept_list format list.now) }
     ensures fits { OnOk result (list_without_room format list.now ≡ []) }

@@ -63,7 +63,7 @@ pub(crate) enum Made {
     Narrow,
     /// `LIST` and flags 5 in vfsv1, of users.
     Wide,
-    /// The same with at most 6 blocks.
+    /// `LIST` and flags 5 in vfsv1, of users, with at most 6 blocks.
     WideInSix,
     /// `NULLS` in vfsv0, of groups.
     Nulls,

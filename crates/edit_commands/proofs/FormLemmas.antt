@@ -28,7 +28,7 @@ form_unread_of name read before now tells (Lines (Long line)) is = λ told. ap (
 form_unread_of name read before now tells (Lines PastTotal) is = λ told. ap (form_outcome name) (is told)
 form_unread_of name read before now tells (WrongLine line) is = λ told. ap (form_outcome name) (is told)
 
--- the same of a refusal that says so
+-- why a form was not read, by the refusal that says so
 pub form_unread_at : (name : List ℕ) (read : Result FourLimits FormFault) (before now : ℕ) (tells : Bool) (fault : FormFault) (refusal : Refusal) → IsFormFault before now tells read fault
     → refusal ≡ refusal_of (form_cause StoreFault fault) name → IsInputFault (Rose before now) ⊥ (IsTrue tells) (form_outcome name read) refusal refusal.cause
 form_unread_at name read before now tells fault refusal is same =

@@ -174,7 +174,7 @@ pub faulty_none : (words : EditWords) (wanted : Option (List ℕ)) (refusal : Re
 faulty_none words None refusal is = refl
 faulty_none words (Some name) refusal is = absurd (cc)
 
--- the same of the word for an identifier
+-- a faulty word for an identifier, which is refused whatever the names, is refused with these
 pub faulty_word_given : (word : List ℕ) (wanted : Option (List ℕ)) (names : List NameLine) (refusal : Refusal) → MayBeNames wanted names
     → (if is_none wanted then refusal_in (identifier_of [] word) else None) ≡ Some refusal → refusal_in (identifier_of names word) ≡ Some refusal
 faulty_word_given word None names refusal given is = subst (λ (n : List NameLine). refusal_in (identifier_of n word) ≡ Some refusal) (sym given) is

@@ -31,7 +31,7 @@ const MORE: Rec = Rec {
     ..MORE_BLOCKS
 };
 
-/// The same with no soft limit of blocks, with none at all, and with no timer.
+/// More is in use, with no soft limit of blocks, with none at all, and with no timer.
 const NO_SOFT: Rec = Rec { bsoft: 0, ..MORE };
 
 const UNLIMITED: Rec = Rec {

@@ -82,7 +82,7 @@ listing_unread_of name read before now tells (TooLong line) is = λ told. ap (sc
 listing_unread_of name read before now tells (Conflicting line first) is = λ told. ap (scan_outcome name) (is told)
 listing_unread_of name read before now tells ScanWantsMemory is = tt
 
--- the same of a refusal that says so
+-- why a listing was not read, by the refusal that says so
 pub listing_unread_at : (name : List ℕ) (read : Result UsageMap ScanFault) (before now : ℕ) (tells : Bool) (fault : ScanFault) (refusal : Refusal) → IsScanFault before now tells read fault
     → refusal ≡ refusal_of (scan_cause StoreFault fault) name → IsInputFault (Rose before now) ⊥ (IsTrue tells) (scan_outcome name read) refusal refusal.cause
 listing_unread_at name read before now tells fault refusal is same =

@@ -17,7 +17,7 @@ use Rattle.option_words.specs.Given.{Told, nothing_told, with_item, with_items}
 use Rattle.option_words.specs.Items.{AnyWord, Exported, FileOf, Item, KindOf, Next, Operands, PathOf, Plain, Raised, Said, Set, Unfinished, Unknown, ValueOf, end_says, items_of, letter_says, letters_say, long_says, long_word_says, options_say, word_says}
 use Rattle.option_words.specs.Reads.{KeepsOperands, Reads, next_of}
 
--- the same after one item
+-- items in two parts say, behind one item, what both parts say one after the other
 after_item : (r : Result Told Fault) (some more : List Item)
     → ((told : Told) → with_items (some ++ more) told ≡ (with_items some told >>= λ (t : Told). with_items more t))
     → (r >>= λ (t : Told). with_items (some ++ more) t) ≡ ((r >>= λ (t : Told). with_items some t) >>= λ (t : Told). with_items more t)

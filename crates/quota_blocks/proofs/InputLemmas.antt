@@ -31,7 +31,7 @@ left_moved file at want count buf rest within fits bytes is =
     ∙ ap (λ (back : List ℕ). take count (buf ++ rest) ++ take (2 ^ 64 - 1 - at - count) back) (drop-drop count at there)
     ∙ ap (λ (n : ℕ). take count (buf ++ rest) ++ take n (drop (at + count) there)) behind
 
--- the same where the files and the name stayed
+-- what is left behind what was read, where the files and the name stayed
 pub left_moved_of : (files files_now : World) (name name_now : List ℕ) (at at_now want count : ℕ) (buf rest : List ℕ) → files_now ≡ files → name_now ≡ name → at_now ≡ at + count
     → want ≤ 2 ^ 64 - 1 - at → count ≤ length buf → take count buf ≡ bytes_from (files name) at want → count ≡ length (bytes_from (files name) at want)
     → left_from (files name) at ≡ take count (buf ++ rest) ++ left_from (files_now name_now) at_now

@@ -21,7 +21,7 @@ take-room at room file size = take_all room (drop at file) (omega (arith, length
 pub little_number-drop : (width at : ℕ) (file : List ℕ) → little_number width (drop at file) ≡ number_at width file at
 little_number-drop width at file = little_from-number_at width 0 (drop at file) ∙ number_at-drop width at file 0 ∙ ap (number_at width file) (omega arith)
 
--- the same of an array, behind whose place there is so much room
+-- what is read of an array, behind whose place there is so much room, is the number there
 pub little_number-room : (width at room : ℕ) (file : List ℕ) → at + room ≡ length file → little_number width (take room (drop at file)) ≡ number_at width file at
 little_number-room width at room file size = ap (little_number width) (take-room at room file size) ∙ little_number-drop width at file
 

@@ -47,7 +47,7 @@ pub trait Source {
     ghost keeps_on: { (one two : Bool) (first between last : Self) → keeps one first between → keeps two between last
         → keeps (one && two) first last };
 
-    /// The same where the first calls all answered Ok.
+    /// What is kept along calls that all answered Ok, and then along others, is kept as along the others alone.
     ghost keeps_after_ok: { (ok : Bool) (first between last : Self) → keeps true first between → keeps ok between last → keeps ok first last } = { λ ok. keeps_on true ok };
 
     /// What is kept where each call answered Ok is kept whether they did or not.

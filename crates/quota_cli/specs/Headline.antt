@@ -33,8 +33,8 @@ pub record HasEffect (setting : Setting) (tells : RunTells) (old new : RunSeen) 
   pub effect : Effect setting (outside_of old) acts (outside_of new) status
   pub done : AreDone tells acts old new
 
--- The same where the error output may have failed in the error line at the end: it then got a prefix of that line, and all
--- else was done.
+-- The effect of the words, where the error output may have failed in the error line at the end: it then got a prefix of that
+-- line, and all else was done.
 pub record HasEffectUpToErr (setting : Setting) (tells : RunTells) (old new : RunSeen) (status : ℕ) : Type 0 where
   pub refusal : Option Refusal
   pub before : SinkSeen

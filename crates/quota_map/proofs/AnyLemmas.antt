@@ -39,7 +39,7 @@ flat_left self file change old new is left =
     subst (λ (f : AnyFile). IsLeft (AnyMakes change (any_seen f).name) (λ (before after left : Option (List ℕ)). left ≡ before) (any_seen f).name old new) (sym is)
     (record { after = left.after; made = inl left.made; left = left.left })
 
--- the same of a tree file
+-- what a change of a tree file makes is what one of a file of any format may make
 pub tree_makes : (self : AnyFile) (file : TreeFile) (change : FileChange) (old new : World) → self ≡ Tree file → TreeMakes change (string_bytes file.name) old new
     → AnyMakes change (any_seen self).name old new
 tree_makes self file change old new is makes = subst (λ (f : AnyFile). AnyMakes change (any_seen f).name old new) (sym is) (inr makes)

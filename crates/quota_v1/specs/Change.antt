@@ -41,7 +41,7 @@ pub record FlatGraced (grace : Grace) (before after : List ℕ) : Type 0 where
 abbrev pub ChangesBytes : (List ℕ → List ℕ → Type 0) → List ℕ → World → World → Type 0
 ChangesBytes so name old new = IsSomeAnd (old name) (λ before. IsSomeAnd (new name) (so before))
 
--- the same, and there is no file left under the name that the new file was written under
+-- the named file has bytes that are related so, and no file is left under the name that the new one was written under
 pub record WritesAnew (so : List ℕ → List ℕ → Type 0) (name : List ℕ) (old new : World) : Type 0 where
   pub named : ChangesBytes so name old new
   pub cleared : new (replacement_name name) ≡ None

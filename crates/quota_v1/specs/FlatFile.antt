@@ -24,7 +24,7 @@ stored_record file id = record {
   itime = number_at 8 file (40 * id + 32);
 }
 
--- the same, but identifier 0 has no timers, since the times of record 0 are the grace periods
+-- the record of an identifier: identifier 0 has no timers, since the times of record 0 are the grace periods
 abbrev pub timed_record : List ℕ → ℕ → Rec
 timed_record file id = without_timers_of_zero id (stored_record file id)
 

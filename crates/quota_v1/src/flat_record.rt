@@ -59,7 +59,7 @@ fn stored_record(bytes: &[u8], id: usize) -> Rec
     }
 }
 
-/// The same, but identifier 0 has no timers.
+/// The bytes of an identifier, as its record: identifier 0 has no timers, since the times there are the grace periods.
 fn timed_record(bytes: &[u8], id: usize) -> Rec
     requires within { 40 * id + 40 ≤ length bytes.now }
     requires limited { length bytes.now ≤ flat_limit }

@@ -17,7 +17,7 @@ word_in block digit = number_at 4 block (4 * digit)
 abbrev pub path_by : ℕ → TreePath → ℕ → TreePath
 path_by word path digit = record { number = 256 * path.number + digit; block = word }
 
--- the same, where the word is a reference
+-- the path that goes on by a digit, where the word there is a reference
 abbrev pub step_by : (ℕ → ℕ) → ℕ → TreePath → ℕ → Option TreePath
 step_by words blocks path digit = if leads blocks (words digit) then Some (path_by (words digit) path digit) else None
 

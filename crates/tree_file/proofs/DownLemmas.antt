@@ -191,7 +191,7 @@ down_refused before between now blocks digits tells file file_there flags flags_
 )
 down_refused before between now blocks digits tells file file_there flags flags_there found later same_file few down Memory refused = tt
 
--- the same of what a call answers
+-- why a call that went down a level was refused
 pub down_refused_at : {T : Type 0} (before between now blocks digits : ℕ) (tells : Bool) (file file_there : List ℕ) (flags flags_there : List Bool) (level : List TreePath)
     → before ≤ between → file_there ≡ file → digits < 4 → (IsTrue tells → IsDown file blocks digits flags flags_there level)
     → (result : Result T CheckFault)

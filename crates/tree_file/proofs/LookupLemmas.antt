@@ -33,7 +33,7 @@ way_defect format file numbers RefOut block id fault no_id = (fault, no_id)
 way_defect format file numbers EmptyTree block id fault no_id = (fault, no_id)
 way_defect format file numbers _ block id fault no_id = absurd fault
 
--- the same by the header
+-- a damage on the way down, by the numbers of the header, is one of the file
 pub way_damage : (header : Header) (file : List ℕ) (damage : Damage) → AreOf header (header_of file) → IsWayFault file header.blocks damage
     → IsTreeDefect header.format file (header_of file) damage
 way_damage header file damage of fault =

@@ -253,7 +253,7 @@ impl Plain<'_> {
         note(defects, is_lower && empty, DamageKind::EmptyTree, block, 0)
     }
 
-    /// The same of each block of the tree: `tree_blocks`, of which `lower_blocks` may not be empty.
+    /// What is wrong with the references of each block of the tree: `tree_blocks`, of which `lower_blocks` may not be empty.
     fn of_tree(&self, defects: &mut Vec<Damage>) -> Result<(), AllocError> {
         self.of_tree_block(defects, 1, false)?;
         for block in self.lower_blocks()?.iter() {

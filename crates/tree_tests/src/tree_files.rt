@@ -58,7 +58,7 @@ const SIX: &[Change] = &[
     (ENTRY + 48, 4096),
 ];
 
-/// The same with the header alone: no blocks but header and root, and no records.
+/// Leaves the header and the root of the six-block file: no other blocks, and no records.
 pub(crate) const EMPTY: &[Change] = &[(BLOCKS, 2), (FIRST, 0)];
 
 /// Fills the last data block of the six-block file: fourteen identifiers from 1000 on. It is in no list then.
