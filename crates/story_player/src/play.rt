@@ -4,7 +4,7 @@ use crate::reading::read_some;
 use crate::setting::set_up;
 use crate::stage::Stage;
 use crate::sweeps::run_some;
-use crate::telling::{is_all_told, tell};
+use crate::telling::{is_all_told, is_all_used, tell};
 use crate::wrong::{Told, Wrong, unmet};
 use std::alloc::{AllocError, Global};
 
@@ -43,7 +43,7 @@ fn failure_in<P: Program>(
             title = String::from_str(alloc, next)?;
         }
     }
-    match is_finished(stage) {
+    match is_whole(stage) {
         Ok(()) => Ok(None),
         Err(why) => Ok(Some(describe(alloc, title.as_str(), number, "the end", why)?)),
     }
@@ -77,6 +77,12 @@ fn is_finished(stage: &mut Stage) -> Told {
     }
 }
 
+/// That a row is finished, and that all that was gathered or set in it was of use.
+fn is_whole(stage: &mut Stage) -> Told {
+    is_finished(stage)?;
+    is_all_used(stage)
+}
+
 /// Carries out a line.
 fn take_line<P: Program>(program: &P, stage: &mut Stage, line: &str) -> Told {
     if line.is_empty() {
@@ -84,7 +90,7 @@ fn take_line<P: Program>(program: &P, stage: &mut Stage, line: &str) -> Told {
     }
     let (verb, rest) = line.split_once(' ').unwrap_or((line, ""));
     if verb == "=" {
-        is_finished(stage)?;
+        is_whole(stage)?;
         stage.clear();
         return Ok(());
     }

@@ -13,6 +13,8 @@ pub(crate) struct Ran {
     pub streams: Streams,
     /// The files that are there, of those that were there before and of those that the words name.
     pub files: Vec<NamedBytes>,
+    /// The words.
+    pub words: Vec<String>,
     /// How many blocks were read and written.
     pub reads: u64,
     pub writes: u64,
@@ -114,6 +116,7 @@ pub(crate) fn run_line<P: Program>(
         store,
         streams,
         files: after,
+        words,
         reads,
         writes,
     })

@@ -25,6 +25,15 @@ impl Failing {
             link: Vec::new(alloc),
         }
     }
+
+    /// Whether no call is to fail.
+    fn is_none(&self) -> bool {
+        self.store.is_empty()
+            && self.input.is_empty()
+            && self.output.is_empty()
+            && self.error.is_empty()
+            && self.link.is_empty()
+    }
 }
 
 /// What the next run meets besides the files.
@@ -45,6 +54,14 @@ impl Setting {
             failing: Failing::none(alloc),
             good_reads: u64::MAX,
         }
+    }
+
+    /// Whether nothing is set.
+    pub(crate) fn is_none(&self) -> bool {
+        self.input.is_none()
+            && self.datagrams.is_empty()
+            && self.failing.is_none()
+            && self.good_reads == u64::MAX
     }
 }
 

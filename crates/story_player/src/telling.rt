@@ -135,6 +135,52 @@ impl OfFile {
     }
 }
 
+/// At which place bytes begin to differ from others.
+fn first_difference(bytes: &[u8], others: &[u8]) -> usize {
+    let mut place = 0usize;
+    for (byte, other) in bytes.iter().zip(others) {
+        if byte != other {
+            break;
+        }
+        place = place.saturating_add(1);
+    }
+    place
+}
+
+/// What a file has in place of the bytes that are wanted.
+fn has_instead(alloc: Global, bytes: &[u8], wanted: &[u8]) -> Told {
+    let place = first_difference(bytes, wanted);
+    let length = bytes.len();
+    let why = match bytes.get(place) {
+        Some(byte) => format!(in alloc; "it has {length} bytes, and {byte} at place {place}")?,
+        None => format!(in alloc; "it has {length} bytes")?,
+    };
+    Err(Wrong::Said(why))
+}
+
+/// What there is of a file, in place of what a line says of it.
+fn is_instead(alloc: Global, before: Option<&[u8]>, after: Option<&[u8]>) -> Told {
+    match (before, after) {
+        (_, None) => unmet(alloc, "there is no such file"),
+        (None, Some(bytes)) => has_instead(alloc, bytes, b""),
+        (Some(old), Some(new)) if old == new => unmet(alloc, "it is as before"),
+        (Some(old), Some(new)) => has_instead(alloc, new, old),
+    }
+}
+
+/// That a run may have looked at a file: one that was there, one that is there now, or one that a word names, perhaps
+/// with `.new` added.
+fn is_known(alloc: Global, last: &Last, file: &str) -> Told {
+    let bare = file.strip_suffix(".new").unwrap_or(file);
+    let is_file = find(&last.before, file).is_some() || find(&last.before, bare).is_some();
+    let is_named = find(&last.ran.files, file).is_some() || has_name(&last.ran.words, bare);
+    holds_if(
+        alloc,
+        is_file || is_named,
+        "no run looked at a file of this name",
+    )
+}
+
 fn name(alloc: Global, last: &mut Last, file: &str) -> Told {
     last.named
         .push(String::from_str(alloc, file)?)
@@ -144,8 +190,11 @@ fn name(alloc: Global, last: &mut Last, file: &str) -> Told {
 fn tell_files(alloc: Global, last: &mut Last, rest: &str, says: OfFile) -> Told {
     for file in rest.split(' ') {
         name(alloc, last, file)?;
-        let is_so = says.holds(find(&last.before, file), find(&last.ran.files, file));
-        holds_if(alloc, is_so, "the file is not so")?;
+        is_known(alloc, last, file)?;
+        let (before, after) = (find(&last.before, file), find(&last.ran.files, file));
+        if !says.holds(before, after) {
+            return is_instead(alloc, before, after);
+        }
     }
     Ok(())
 }
@@ -173,11 +222,8 @@ impl OfBytes {
 fn tell_bytes(alloc: Global, last: &mut Last, file: &str, gathered: &[u8], says: OfBytes) -> Told {
     name(alloc, last, file)?;
     match find(&last.ran.files, file) {
-        Some(bytes) => holds_if(
-            alloc,
-            says.holds(bytes, gathered),
-            "the file has other bytes",
-        ),
+        Some(bytes) if says.holds(bytes, gathered) => Ok(()),
+        Some(bytes) => has_instead(alloc, bytes, gathered),
         None => unmet(alloc, "there is no such file"),
     }
 }
@@ -252,6 +298,22 @@ fn untold<'a>(last: &'a Last, files: &'a [NamedBytes]) -> Option<&'a str> {
         }
     }
     None
+}
+
+/// That everything that was gathered or set in a row was of use in it.
+pub(crate) fn is_all_used(stage: &Stage) -> Told {
+    let alloc = stage.alloc;
+    holds_if(
+        alloc,
+        stage.gathered.is_empty(),
+        "bytes were gathered, and nothing uses them",
+    )?;
+    let are_none = stage.may.is_empty() && stage.stays.is_empty();
+    holds_if(
+        alloc,
+        are_none && stage.setting.is_none(),
+        "something was set for a run, and none comes",
+    )
 }
 
 /// A run of which everything was told that must be told.

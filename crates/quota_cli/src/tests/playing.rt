@@ -46,3 +46,75 @@ pub(super) fn play(rt: &impl Abort, alloc: Global, stories: &[&str]) {
         Err(_) => assert!(rt; false, "there was no memory"),
     }
 }
+
+/// A story that does not hold, and what is said of it.
+type WrongStory = (&'static str, &'static str);
+
+const WRONG: &[WrongStory] = &[
+    (
+        "= a\nfiel q\n",
+        "a: line 2, 'fiel q': this is no line of a story",
+    ),
+    (
+        "= a\nzeros 4o\n",
+        "a: line 2, 'zeros 4o': a number is misspelt",
+    ),
+    (
+        "= a\nzeros 4\n= b\n",
+        "a: line 3, '= b': bytes were gathered, and nothing uses them",
+    ),
+    (
+        "= a\nfails store 1\n",
+        "a: line 2, 'the end': something was set for a run, and none comes",
+    ),
+    (
+        "= a\nrun repquota\n! quota: usage: WrongOperands at word 1\n",
+        "a: line 3, 'the end': it is 2",
+    ),
+    (
+        "= a\nrun repquota\nstatus 2\n",
+        "a: line 3, 'the end': it is 'quota: usage: WrongOperands at word 1'",
+    ),
+    (
+        "= a\nfile q\nrun repquota -F vfsold q\n= b\n",
+        "a: line 4, '= b': it is '*** Report for user quotas on q'",
+    ),
+    (
+        "= a\nfile q\nrun setquota -F vfsold -t 1 1 q\n",
+        "a: line 3, 'the end': no line tells of the file q",
+    ),
+    (
+        "= a\nfile q\nrun setquota -F vfsold -t 1 1 q\nsame q\n",
+        "a: line 4, 'same q': it has 40 bytes, and 0 at place 0",
+    ),
+    (
+        "= a\nfile q\nrun setquota -F vfsold -t 1 1 q\nchanges r\n",
+        "a: line 4, 'changes r': no run looked at a file of this name",
+    ),
+    (
+        "= a\nfile q\nrun setquota -F vfsold -t 1 1 q\nzeros 40\nholds q\n",
+        "a: line 5, 'holds q': it has 40 bytes, and 1 at place 24",
+    ),
+    (
+        "= a\nfile q\nrun setquota -F vfsold -b q\n",
+        "a: line 3, 'run setquota -F vfsold -b q': the input was read, and there is none",
+    ),
+    (
+        "= a\nfile q\nsweep link repquota -F vfsold q\n",
+        "a: line 3, 'sweep link repquota -F vfsold q': it makes no such call",
+    ),
+];
+
+/// Carries out each story by itself, and fails where one holds, or where something else is said of it.
+fn expect_failures(rt: &impl Abort, alloc: Global, stories: &[WrongStory]) {
+    for (story, said) in stories {
+        let found = failure_of(&QuotaCli, alloc, &[*story]);
+        let is_so = matches!(&found, Ok(Some(why)) if why.as_str() == *said);
+        assert!(rt; is_so, "{said}: {found:?}");
+    }
+}
+
+#[test]
+fn a_story_that_does_not_hold_is_told(rt: HostRuntime) {
+    expect_failures(&rt, rt.alloc(), WRONG);
+}
