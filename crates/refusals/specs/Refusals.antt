@@ -1,5 +1,5 @@
 -- Refusals, by their cause and what it is about.
-use Rattle.std.specs.Prelude.{List, ℕ, Bool, true, false, None}
+use Rattle.std.specs.Prelude.{List, ℕ, Bool, true, false, Option, Some, None}
 use Rattle.refusals.specs.declared.cause.Cause.{Cause}
 use Rattle.refusals.specs.declared.cause.Cause.TheVariants.{NoRoom, UnknownName, BadNumber}
 use Rattle.refusals.specs.declared.reason.Place.{Place}
@@ -19,3 +19,9 @@ stands_in_line UnknownName = true
 stands_in_line BadNumber = true
 stands_in_line (NoRoom out) = true
 stands_in_line _ = false
+
+-- a refusal, where there is one, of steps in a line of a script
+abbrev pub in_line : ℕ → Option Refusal → Option Refusal
+in_line line None = None
+in_line line (Some refusal) =
+    Some (record { cause = refusal.cause; name = refusal.name; place = record { line = Some line; input_line = refusal.place.input_line } })

@@ -1,38 +1,59 @@
--- The status with which the program ends.
-use Rattle.std.specs.Prelude.{ℕ, Option, Some, None}
+-- The groups of causes, and the status with which the program ends.
+use Rattle.std.specs.Prelude.{ℕ, Option, Some, None, ⊤}
 use Rattle.refusals.specs.declared.cause.Cause.{Cause}
 use Rattle.refusals.specs.declared.cause.Cause.TheVariants.{StoreFault, NoFile, TooLarge, SourceFault, SinkFault, LinkFault, Memory, NotQuota, WrongKind, UnknownVersion, BadBlockCount, OtherFormat, Damaged, Full, NoRoom, UnknownName, BadNumber, TargetExists, SameName, BadForm, BadLine, LongLine, Conflict, Usage}
+use Rattle.refusals.specs.declared.cause.CauseGroup.{CauseGroup}
+use Rattle.refusals.specs.declared.cause.CauseGroup.TheVariants.{Denied, BadWords, BadFile, Fault, NoMemory}
 use Rattle.refusals.specs.declared.reason.Refusal.{Refusal}
 
--- 1 refused by the command, 2 the words are outside the grammar, 3 the file is no quota file of the kind and format, or
--- damaged, 4 a fault of something outside, 5 want of memory
+-- what a cause is one of: the command is refused, the words are outside the grammar, the file is no quota file of the kind
+-- and format or is damaged, something outside failed, or memory was wanting
+abbrev pub group_of : Cause → CauseGroup
+group_of StoreFault = Fault
+group_of NoFile = Denied
+group_of TooLarge = Denied
+group_of SourceFault = Fault
+group_of SinkFault = Fault
+group_of LinkFault = Fault
+group_of Memory = NoMemory
+group_of NotQuota = BadFile
+group_of WrongKind = BadFile
+group_of UnknownVersion = BadFile
+group_of BadBlockCount = BadFile
+group_of OtherFormat = BadFile
+group_of (Damaged _) = BadFile
+group_of (Full _ _) = Denied
+group_of (NoRoom _) = Denied
+group_of UnknownName = Denied
+group_of BadNumber = Denied
+group_of TargetExists = Denied
+group_of SameName = Denied
+group_of (BadForm _) = Denied
+group_of (BadLine _) = Denied
+group_of (LongLine _) = Denied
+group_of (Conflict _ _) = Denied
+group_of (Usage _ _) = BadWords
+
+-- the status of all causes of a group
+abbrev pub status_in : CauseGroup → ℕ
+status_in Denied = 1
+status_in BadWords = 2
+status_in BadFile = 3
+status_in Fault = 4
+status_in NoMemory = 5
+
+-- the status with which the program ends for a cause
 abbrev pub status_of : Cause → ℕ
-status_of StoreFault = 4
-status_of NoFile = 1
-status_of TooLarge = 1
-status_of SourceFault = 4
-status_of SinkFault = 4
-status_of LinkFault = 4
-status_of Memory = 5
-status_of NotQuota = 3
-status_of WrongKind = 3
-status_of UnknownVersion = 3
-status_of BadBlockCount = 3
-status_of OtherFormat = 3
-status_of (Damaged _) = 3
-status_of (Full _ _) = 1
-status_of (NoRoom _) = 1
-status_of UnknownName = 1
-status_of BadNumber = 1
-status_of TargetExists = 1
-status_of SameName = 1
-status_of (BadForm _) = 1
-status_of (BadLine _) = 1
-status_of (LongLine _) = 1
-status_of (Conflict _ _) = 1
-status_of (Usage _ _) = 2
+status_of cause = status_in (group_of cause)
 
 -- the status at the end of a command that was refused, or was carried out
 abbrev pub end_status : Option Refusal → ℕ
 end_status None = 0
 end_status (Some refusal) = status_of refusal.cause
+
+-- What stands by the group of a cause: for a fault that something failed, for want of memory nothing, and for any other cause
+-- what is stated of it.
+abbrev pub ByGroup : CauseGroup → (failed stated : Type 0) → Type 0
+ByGroup Fault failed stated = failed
+ByGroup NoMemory failed stated = ⊤
+ByGroup _ failed stated = stated

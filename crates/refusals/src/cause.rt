@@ -1,6 +1,6 @@
 ghost use Rattle.std.specs.Prelude.{◌≡◌};
 ghost use Rattle.refusals.specs.Line.{usage_name};
-ghost use Rattle.refusals.specs.Status.{status_of};
+ghost use Rattle.refusals.specs.Status.{group_of, status_in, status_of};
 
 use quota_types::{Damage, NoRoom};
 
@@ -117,10 +117,40 @@ pub enum Cause {
     },
 }
 
-impl Cause {
+/// What a cause is one of. All causes of a group end the program with the same status.
+#[derive(Clone, Copy, Debug, PartialEq, Eq)]
+pub enum CauseGroup {
+    /// The command is refused.
+    Denied,
+    /// The words are outside the grammar.
+    BadWords,
+    /// The file is no quota file of the kind and format, or damaged.
+    BadFile,
+    /// Something outside failed.
+    Fault,
+    /// There was not enough memory.
+    NoMemory,
+}
+
+impl CauseGroup {
     /// The status with which the program ends.
     pub fn status(self) -> u8
-        ensures { result ≡ status_of self }
+        ensures { result ≡ status_in self }
+    {
+        match self {
+            CauseGroup::Denied => 1,
+            CauseGroup::BadWords => 2,
+            CauseGroup::BadFile => 3,
+            CauseGroup::Fault => 4,
+            CauseGroup::NoMemory => 5,
+        }
+    }
+}
+
+impl Cause {
+    /// What it is one of.
+    pub fn group(self) -> CauseGroup
+        ensures { result ≡ group_of self }
     {
         match self {
             Cause::NoFile
@@ -134,16 +164,25 @@ impl Cause {
             | Cause::BadForm(_)
             | Cause::BadLine(_)
             | Cause::LongLine(_)
-            | Cause::Conflict { .. } => 1,
-            Cause::Usage { .. } => 2,
+            | Cause::Conflict { .. } => CauseGroup::Denied,
+            Cause::Usage { .. } => CauseGroup::BadWords,
             Cause::NotQuota
             | Cause::WrongKind
             | Cause::UnknownVersion
             | Cause::BadBlockCount
             | Cause::OtherFormat
-            | Cause::Damaged(_) => 3,
-            Cause::StoreFault | Cause::SourceFault | Cause::SinkFault | Cause::LinkFault => 4,
-            Cause::Memory => 5,
+            | Cause::Damaged(_) => CauseGroup::BadFile,
+            Cause::StoreFault | Cause::SourceFault | Cause::SinkFault | Cause::LinkFault => {
+                CauseGroup::Fault
+            }
+            Cause::Memory => CauseGroup::NoMemory,
         }
+    }
+
+    /// The status with which the program ends.
+    pub fn status(self) -> u8
+        ensures { result ≡ status_of self }
+    {
+        self.group().status()
     }
 }

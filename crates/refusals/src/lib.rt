@@ -10,7 +10,7 @@ mod piece;
 mod reason;
 mod word;
 
-pub use cause::{Cause, UsageKind};
+pub use cause::{Cause, CauseGroup, UsageKind};
 pub use error_line::write_error_line;
 pub use piece::{Piece, write_line};
 pub use reason::{Place, Refusal};

@@ -1,6 +1,5 @@
 -- Acts in a row, and acts that were done in part.
-use Rattle.std.proofs.Common.{◌≡◌, ℕ, Bool, false, IsTrue, List, [], ◌∷◌, ◌++◌, take, Option, None, Some, refl, sym, ap, subst, ◌∙◌, append_assoc, append-nil}
-use Rattle.std.proofs.lemmas.Bool.{false≢true}
+use Rattle.std.proofs.Common.{◌≡◌, ℕ, Bool, IsTrue, List, [], ◌∷◌, ◌++◌, take, Option, None, Some, refl, sym, ap, subst, ◌∙◌, append_assoc, append-nil}
 use Rattle.quota_blocks.specs.Seen.{SinkSeen}
 use Rattle.quota_blocks.specs.Text.{AppendsPrefix}
 use Rattle.quota_blocks.specs.World.{World}
@@ -8,7 +7,7 @@ use Rattle.refusals.specs.declared.reason.Refusal.{Refusal}
 use Rattle.refusals.specs.Line.{closing_line, error_line}
 use Rattle.run_steps.specs.Act.{Act, ToOut, ToErr, Answer, Change, ChangesNone, Follows, FollowsInPart, answers, err_bytes, out_bytes}
 use Rattle.run_steps.specs.Done.{AreDone, AreDoneInPart, RunSeen, RunTells}
-use Rattle.run_steps.specs.Steps.{closing}
+use Rattle.run_steps.specs.Meaning.{closing}
 
 pub out_bytes-append : (acts more : List Act) → out_bytes (acts ++ more) ≡ out_bytes acts ++ out_bytes more
 out_bytes-append [] more = refl
@@ -113,7 +112,7 @@ pub nothing_before : (done rest : List ℕ) → done ++ rest ≡ [] → done ≡
 nothing_before [] rest is = refl
 nothing_before (b ∷ done) rest is = absurd (cc)
 
-none_appended : (old new : List ℕ) → AppendsPrefix old new [] → new ≡ old
+pub none_appended : (old new : List ℕ) → AppendsPrefix old new [] → new ≡ old
 none_appended old new p = p.appended ∙ ap (λ (b : List ℕ). old ++ b) (nothing_before p.done p.rest p.prefix) ∙ append-nil old
 
 first_out : (rest more : List Act) (old new : List ℕ) → AppendsPrefix old new (out_bytes (take 1 rest)) → AppendsPrefix old new (out_bytes (take 1 (rest ++ more)))
@@ -139,20 +138,6 @@ part_of_more tells acts more old new part = record {
   err = λ told. first_err part.rest more (old.err.written ++ err_bytes part.done) new.err.written (part.err told);
   answered = part.answered;
   writes = λ none. part.writes (first_none part.done part.rest more none);
-}
-
--- what is said does not count where the error output is left out
-pub part_but_err : (tells : RunTells) (acts : List Act) (old new : RunSeen) (said : SinkSeen) → AreDoneInPart tells acts old new
-    → AreDoneInPart (record tells { err = false }) acts old (record new { err = said })
-part_but_err tells acts old new said part = record {
-  done = part.done;
-  rest = part.rest;
-  whole = part.whole;
-  files = part.files;
-  out = part.out;
-  err = λ told. absurd (false≢true told);
-  answered = part.answered;
-  writes = part.writes;
 }
 
 pub more_out : (refusal : Option Refusal) (acts : List Act) → out_bytes (acts ++ closing refusal) ≡ out_bytes acts

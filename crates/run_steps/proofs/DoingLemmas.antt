@@ -1,50 +1,50 @@
 -- Acts that are done in order, and then a refusal, if there is one; and acts that only change files.
-use Rattle.std.proofs.Common.{◌≡◌, ℕ, List, [], ◌∷◌, ◌++◌, take, Option, refl, sym, ap, ◌∙◌, append-nil}
+use Rattle.std.proofs.Common.{◌≡◌, ℕ, List, [], ◌∷◌, ◌++◌, take, Option, inl, inr, refl, sym, ap, subst, ◌∙◌, append-nil}
 use Rattle.quota_blocks.specs.Frame.{OnlyReads}
 use Rattle.quota_blocks.specs.Seen.{StoreSeen}
 use Rattle.quota_blocks.specs.World.{World}
 use Rattle.refusals.specs.declared.reason.Refusal.{Refusal}
 use Rattle.run_steps.specs.Act.{Act, ToOut, ToErr, Answer, Change, ChangesNone, Follows, FollowsInPart, answers, err_bytes, out_bytes}
 use Rattle.run_steps.specs.Done.{AreDone, AreDoneInPart, Outside, RunSeen, RunTells, outside_of}
+use Rattle.run_steps.specs.Meaning.{EndsBy, HasBegun}
 use Rattle.run_steps.specs.Run.{HasSteps}
 use Rattle.run_steps.specs.Steps.{AreDoneThen}
 use Rattle.run_steps.proofs.ActLemmas.{answers-append, appends_nothing, changes_none_before, err_bytes-append, follows-append, out_bytes-append}
 use Rattle.run_steps.proofs.OpeningLemmas.{with_store}
 
--- the acts that were done are those that were stated
-pub doing_then : (acts : List Act) (end : Option Refusal) (from : Outside) (done : List Act) (to : Outside) (ended : Option Refusal) → AreDoneThen acts end from done to ended → done ≡ acts
-doing_then [] end from done to ended is = is.acts_none
-doing_then (act ∷ acts) end from done to ended doing =
-    doing.2 ∙ ap (λ (rest : List Act). act ∷ rest) (doing_then acts end (record from { files = doing.1 }) doing.0 to ended doing.4)
-
--- and so is the end
-pub doing_ends : (acts : List Act) (end : Option Refusal) (from : Outside) (done : List Act) (to : Outside) (ended : Option Refusal) → AreDoneThen acts end from done to ended → ended ≡ end
+-- the end is the stated one
+pub doing_ends : (acts : List Act) (end : Option Refusal) (from : Outside) (done : List Act) (to : Outside) (ended : Option Refusal) → EndsBy (AreDoneThen acts end) from done to ended → ended ≡ end
 doing_ends [] end from done to ended is = is.ends
 doing_ends (act ∷ acts) end from done to ended doing = doing_ends acts end (record from { files = doing.1 }) doing.0 to ended doing.4
 
 -- the same acts with another end
 pub doing_ended : (acts : List Act) (end other : Option Refusal) (from : Outside) (done : List Act) (to : Outside) (ended : Option Refusal)
-    → AreDoneThen acts end from done to ended → AreDoneThen acts other from done to other
+    → EndsBy (AreDoneThen acts end) from done to ended → EndsBy (AreDoneThen acts other) from done to other
 doing_ended [] end other from done to ended is = record { acts_none = is.acts_none; same = is.same; ends = refl }
 doing_ended (act ∷ acts) end other from done to ended doing =
     (doing.0, doing.1, doing.2, doing.3, doing_ended acts end other (record from { files = doing.1 }) doing.0 to ended doing.4)
 
--- the same from another input
-pub doing_moved : (acts : List Act) (end : Option Refusal) (from : Outside) (left : List ℕ) (done : List Act) (to : Outside) (ended : Option Refusal)
-    → AreDoneThen acts end from done to ended → (moved : Outside) × AreDoneThen acts end (record from { input = left }) done moved ended
-doing_moved [] end from left done to ended is = (record from { input = left }, record { acts_none = is.acts_none; same = refl; ends = is.ends })
-doing_moved (act ∷ acts) end from left done to ended doing =
-    let more = doing_moved acts end (record from { files = doing.1 }) left doing.0 to ended doing.4 in
-    (more.0, (doing.0, doing.1, doing.2, doing.3, more.1))
+-- and what has begun of them
+pub doing_begun : (acts : List Act) (end other : Option Refusal) (from : Outside) (done hand : List Act) (now : Outside)
+    → HasBegun (AreDoneThen acts end) from done hand now → HasBegun (AreDoneThen acts other) from done hand now
+doing_begun [] end other from done hand now is = is
+doing_begun (act ∷ acts) end other from done hand now (inl is) = inl is
+doing_begun (act ∷ acts) end other from done hand now (inr by) = inr (by.0, by.1, by.2, by.3, doing_begun acts end other (record from { files = by.1 }) by.0 hand now by.4)
 
-do_then : (acts : List Act) (end : Option Refusal) (from : Outside) (files : World) → Follows acts from.files files → AreDoneThen acts end from acts (record from { files = files }) end
+do_then : (acts : List Act) (end : Option Refusal) (from : Outside) (files : World) → Follows acts from.files files → EndsBy (AreDoneThen acts end) from acts (record from { files = files }) end
 do_then [] end from files same = record { acts_none = refl; same = ap (λ (w : World). record from { files = w }) same; ends = refl }
 do_then (act ∷ acts) end from files follows = (acts, follows.0, refl, follows.1, do_then acts end (record from { files = follows.0 }) files follows.2)
 
 -- acts that were done, and then this end
-pub done_steps : (acts : List Act) (end : Option Refusal) (tells : RunTells) (old : RunSeen) (store : StoreSeen) → AreDone tells acts old (with_store old store)
-    → HasSteps (AreDoneThen acts end) tells end old (with_store old store)
-done_steps acts end tells old store done = record { acts = acts; by_steps = do_then acts end (outside_of old) store.files done.files; done = done }
+pub done_steps : (acts : List Act) (end : Option Refusal) (tells : RunTells) (old new : RunSeen) → new.input.left ≡ old.input.left → new.link.left ≡ old.link.left → AreDone tells acts old new
+    → HasSteps (AreDoneThen acts end) tells end old new
+done_steps acts end tells old new input left done = record {
+  acts = acts;
+  by_steps = subst (λ (o : Outside). EndsBy (AreDoneThen acts end) (outside_of old) acts o end)
+      (λ i. record { files = new.store.files; input = sym input i; datagrams = sym left i })
+      (do_then acts end (outside_of old) new.store.files done.files);
+  done = done;
+}
 
 -- Acts that only change files.
 
@@ -59,7 +59,7 @@ pub record AreWritten (acts : List Act) (old new : StoreSeen) : Type 0 where
 pub written_none : (name : List ℕ) (old new : StoreSeen) → OnlyReads name old new → AreWritten [] old new
 written_none name old new reads = record { files = reads.files; writes = λ none. reads.writes; out = refl; err = refl; answered = refl }
 
-changes_none_behind : (acts more : List Act) → ChangesNone (acts ++ more) → ChangesNone more
+pub changes_none_behind : (acts more : List Act) → ChangesNone (acts ++ more) → ChangesNone more
 changes_none_behind [] more none = none
 changes_none_behind (ToOut bytes ∷ acts) more none = changes_none_behind acts more none
 changes_none_behind (ToErr bytes ∷ acts) more none = changes_none_behind acts more none

@@ -1,8 +1,13 @@
 pub mod ActLemmas
 pub mod DoingLemmas
 pub mod IdentifierLemmas
+pub mod MeaningLemmas
+pub mod OneCommandLemmas
 pub mod OpeningLemmas
+pub mod PartLemmas
 pub mod PhaseLemmas
 pub mod ReasonLemmas
+pub mod RowLemmas
+pub mod SeenOnceLemmas
 pub mod ShowingLemmas
 pub mod TakingLemmas

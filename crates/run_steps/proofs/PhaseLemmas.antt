@@ -1,49 +1,45 @@
 -- Commands in phases: what was carried out where a phase was refused, and where it passed and the next one was carried out.
-use Rattle.std.proofs.Common.{◌≡◌, ℕ, Bool, true, false, IsTrue, List, [], Option, None, Some, Ok, Err, Result, refl, sym, ap, subst, ◌∙◌, arith, append-nil}
+use Rattle.std.proofs.Common.{◌≡◌, ℕ, ◌≤◌, Bool, true, false, IsTrue, List, [], Option, None, Some, Ok, Err, Result, inl, inr, refl, sym, ap, subst, ◌∙◌, arith, append-nil}
 use Rattle.std.specs.Prelude.{unwrap_or}
 use Rattle.std.specs.FinMap.{empty}
 use Rattle.std.proofs.lemmas.Bool.{false≢true}
-use Rattle.std.proofs.lemmas.Option.{none-some}
+use Rattle.std.proofs.lemmas.Result.{IfErr-weaker, on_ok_weaker}
 use Rattle.quota_types.specs.declared.file_kind.Kind.{Kind}
 use Rattle.quota_types.specs.declared.file_kind.Kind.TheVariants.{User}
 use Rattle.quota_types.specs.declared.file_kind.Format.{Format}
 use Rattle.quota_types.specs.declared.file_kind.Format.TheVariants.{V1}
 use Rattle.quota_blocks.specs.Frame.{OnlyReads}
 use Rattle.quota_blocks.specs.QuotaValue.{QuotaValue}
-use Rattle.quota_blocks.specs.Seen.{StoreSeen}
-use Rattle.quota_blocks.specs.declared.quota_file.OpenFault.{OpenFault}
+use Rattle.quota_blocks.specs.Seen.{SourceSeen, StoreSeen}
 use Rattle.quota_map.specs.View.{IsView}
-use Rattle.quota_map.proofs.SeenLemmas.{view_or_refused}
 use Rattle.quota_blocks.specs.World.{World}
 use Rattle.id_names.specs.NamesFile.{NameLine}
 use Rattle.refusals.specs.declared.cause.Cause.{Cause}
-use Rattle.refusals.specs.declared.cause.Cause.TheVariants.{StoreFault, SourceFault, SinkFault, LinkFault, Memory, NoFile, TooLarge, NotQuota, WrongKind, UnknownVersion, BadBlockCount, OtherFormat, Damaged, Full, NoRoom, UnknownName, BadNumber, TargetExists, SameName, BadForm, BadLine, LongLine, Conflict, Usage}
-use Rattle.refusals.specs.declared.reason.Refusal.{Refusal}
-use Rattle.run_steps.specs.Act.{Act, Follows}
-use Rattle.run_steps.specs.Done.{AreDone, AreDoneInPart, IsLater, IsUnwritten, IsWorldTold, Outside, RunSeen, RunTells, outside_of}
-use Rattle.run_steps.specs.Naming.{FileOfNamesMayRefuse, IsNamesFault, NamesMayRefuse, names_seen}
-use Rattle.refusals.specs.Refusals.{nowhere}
+use Rattle.refusals.specs.declared.cause.Cause.TheVariants.{StoreFault, SourceFault, SinkFault, LinkFault, Memory}
 use Rattle.refusals.specs.declared.reason.Place.{Place}
+use Rattle.refusals.specs.declared.reason.Refusal.{Refusal}
 use Rattle.refusals.specs.Outcome.{Outcome, Passed, Refused}
-use Rattle.run_steps.specs.Run.{CarriesOut, HasReason, HasSteps, IsFault, IsPlacedBy, Uses}
-use Rattle.run_steps.specs.Steps.{Naming, Opening, Steps, Stop, Then}
-use Rattle.run_steps.proofs.ActLemmas.{nothing_done}
-use Rattle.run_steps.proofs.OpeningLemmas.{nothing_read, outside_same, refused_steps, store_later, unwritten, with_store}
-use Rattle.run_steps.specs.Opening.{opened}
-use Rattle.run_steps.proofs.ReasonLemmas.{reason_but_stated, reason_since}
+use Rattle.refusals.specs.Refusals.{nowhere}
+use Rattle.run_steps.specs.Act.{Act, Follows}
+use Rattle.run_steps.specs.Done.{IsUnwritten, IsWorldTold, Outside, RunSeen, RunTells, outside_of}
+use Rattle.run_steps.specs.Meaning.{EndsBy, HasBegun, IsTaken}
+use Rattle.run_steps.specs.Naming.{FileOfNamesMayRefuse, IsNamesFault, NamesMayRefuse, names_seen}
+use Rattle.run_steps.specs.Run.{CarriesOut, HasReason, HasSteps, IsDoneInPart, IsPlacedBy, Uses}
+use Rattle.run_steps.specs.Steps.{Steps, Looking, Naming, Opening, Reading, Stop, Then}
+use Rattle.run_steps.proofs.OpeningLemmas.{nothing_read, outside_same, refused_steps, store_later, unwritten, with_input, with_store}
+use Rattle.run_steps.proofs.PartLemmas.{nothing_begun}
+use Rattle.run_steps.proofs.ReasonLemmas.{reason_since}
 
 -- Commands that were refused before anything was done.
 
 -- nothing was begun, and the command was refused
 pub nothing_carried : (steps : Steps) (uses : Uses) (may : Cause → List ℕ → Type 0) (tells : RunTells) (old : RunSeen) (refusal : Refusal)
-    → HasReason uses.warns old old (IsWorldTold tells → HasSteps steps tells (Some refusal) old old) refusal.cause
-    → (IsWorldTold tells → (acts : List Act) (to : Outside) → steps (outside_of old) acts to None → IsFault refusal.cause)
+    → HasReason uses old old (IsWorldTold tells → HasSteps steps tells (Some refusal) old old) refusal.cause
     → may refusal.cause refusal.name → IsPlacedBy uses refusal → CarriesOut steps uses may tells old old (Err refusal)
-nothing_carried steps uses may tells old refusal reason complete allowed outside = record {
+nothing_carried steps uses may tells old refusal reason allowed outside = record {
   done = tt;
   refused = reason;
-  part = λ told acts to ended by. nothing_done tells acts old old refl (λ told. refl) (λ told. refl) refl refl;
-  complete = complete;
+  part = λ told. nothing_begun steps tells old old refl (λ told. refl) (λ told. refl) refl refl refl;
   may_refuse = allowed;
   placed = outside;
   only_reads = λ only. record { files = refl; writes = refl };
@@ -68,91 +64,117 @@ stop_steps tells old refusal = record {
 
 -- a refusal of words is no fault
 pub stop_carried : (uses : Uses) (may : Cause → List ℕ → Type 0) (tells : RunTells) (old : RunSeen) (refusal : Refusal)
-    → ((stated : Type 0) → stated → HasReason uses.warns old old stated refusal.cause) → may refusal.cause refusal.name → IsPlacedBy uses refusal → CarriesOut (Stop refusal) uses may tells old old (Err refusal)
+    → ((stated : Type 0) → stated → HasReason uses old old stated refusal.cause) → may refusal.cause refusal.name → IsPlacedBy uses refusal → CarriesOut (Stop refusal) uses may tells old old (Err refusal)
 stop_carried uses may tells old refusal own allowed outside =
-    nothing_carried (Stop refusal) uses may tells old refusal (own _ (λ told. stop_steps tells old refusal))
-    (λ told acts to ended. absurd (none-some refusal ended.ends)) allowed outside
+    nothing_carried (Stop refusal) uses may tells old refusal (own _ (λ told. stop_steps tells old refusal)) allowed outside
 
--- Phases that only read the store and pass.
+-- Phases that pass: they only read the store, or take bytes from the input.
 
--- acts that were done since then
-done_on : (name : List ℕ) (tells : RunTells) (acts : List Act) (old : RunSeen) (store : StoreSeen) (new : RunSeen) → OnlyReads name old.store store
-    → AreDone tells acts (with_store old store) new → AreDone tells acts old new
-done_on name tells acts old store new reads are = record {
-  files = subst (λ (w : World). Follows acts w new.store.files) reads.files are.files;
-  out = are.out;
-  err = are.err;
-  answered = are.answered;
-  writes = λ none. are.writes none ∙ reads.writes;
+-- what the next steps do from one place is what the steps do from another
+pub record LeadsTo (next : Steps) (start : Outside) (steps : Steps) (from : Outside) : Type 0 where
+  pub ends : (acts : List Act) (to : Outside) (ended : Option Refusal) → EndsBy next start acts to ended → EndsBy steps from acts to ended
+  pub begun : (done hand : List Act) (now : Outside) → HasBegun next start done hand now → HasBegun steps from done hand now
+
+-- steps lead to the same ones
+pub leads_same : (next steps : Steps) (from : Outside) → next ≡ steps → LeadsTo next from steps from
+leads_same next steps from same = record {
+  ends = λ acts to ended by. subst (λ (s : Steps). EndsBy s from acts to ended) same by;
+  begun = λ done hand now by. subst (λ (s : Steps). HasBegun s from done hand now) same by;
 }
 
--- acts that were done in part since then
-part_on : (name : List ℕ) (tells : RunTells) (acts : List Act) (old : RunSeen) (store : StoreSeen) (new : RunSeen) → OnlyReads name old.store store
-    → AreDoneInPart tells acts (with_store old store) new → AreDoneInPart tells acts old new
-part_on name tells acts old store new reads part = record {
+-- a look at the files leads to the steps that it gives
+pub leads_looking : (next : Steps) (looked : World → Steps) (from : Outside) → next ≡ looked from.files → LeadsTo next from (Looking looked) from
+leads_looking next looked from same =
+    let leads = leads_same next (looked from.files) from same in record { ends = leads.ends; begun = leads.begun }
+
+-- a file that is seen as a value leads to the steps of that value
+pub leads_opening : (kind : Kind) (asked : Option Format) (name : List ℕ) (next : QuotaValue → Steps) (value : QuotaValue) (from : Outside) → IsView (from.files name) kind asked (Ok value)
+    → LeadsTo (next value) from (Opening kind asked name next) from
+leads_opening kind asked name next value from view = record {
+  ends = λ acts to ended by. inl (value, view, by);
+  begun = λ done hand now by. inr (value, view, by);
+}
+
+-- bytes that are taken lead to the steps of the input
+pub leads_reading : (whole : List ℕ → Bool) (next : List ℕ → Steps) (from : Outside) (left : List ℕ) → IsTaken (whole from.input) from.input left
+    → LeadsTo (next from.input) (record from { input = left }) (Reading whole next) from
+leads_reading whole next from left taken = record {
+  ends = λ acts to ended by. (left, taken, by);
+  begun = λ done hand now by. inr (left, taken, by);
+}
+
+-- what is met outside once bytes were taken
+pub outside_taken : (old : RunSeen) (store : StoreSeen) (input : SourceSeen) → store.files ≡ old.store.files
+    → outside_of (with_input (with_store old store) input) ≡ record (outside_of old) { input = input.left }
+outside_taken old store input same = outside_same (with_input old input) store same
+
+-- the next steps were done, and so were the steps
+steps_on : (name : List ℕ) (next steps : Steps) (tells : RunTells) (refusal : Option Refusal) (old : RunSeen) (store : StoreSeen) (input : SourceSeen) (new : RunSeen) → OnlyReads name old.store store
+    → LeadsTo next (record (outside_of old) { input = input.left }) steps (outside_of old) → HasSteps next tells refusal (with_input (with_store old store) input) new → HasSteps steps tells refusal old new
+steps_on name next steps tells refusal old store input new reads leads has = record {
+  acts = has.acts;
+  by_steps = leads.ends has.acts (outside_of new) refusal
+      (subst (λ (o : Outside). EndsBy next o has.acts (outside_of new) refusal) (outside_taken old store input reads.files) has.by_steps);
+  done = record {
+    files = subst (λ (w : World). Follows has.acts w new.store.files) reads.files has.done.files;
+    out = has.done.out;
+    err = has.done.err;
+    answered = has.done.answered;
+    writes = λ none. has.done.writes none ∙ reads.writes;
+  };
+}
+
+-- they were done in part
+part_on : (name : List ℕ) (next steps : Steps) (tells : RunTells) (old : RunSeen) (store : StoreSeen) (input : SourceSeen) (new : RunSeen) → OnlyReads name old.store store
+    → LeadsTo next (record (outside_of old) { input = input.left }) steps (outside_of old) → IsDoneInPart next tells (with_input (with_store old store) input) new → IsDoneInPart steps tells old new
+part_on name next steps tells old store input new reads leads part = record {
   done = part.done;
-  rest = part.rest;
-  whole = part.whole;
-  files = (part.files.0, subst (λ (w : World). Follows part.done w part.files.0) reads.files part.files.1, part.files.2);
+  hand = part.hand;
+  now = part.now;
+  begun = leads.begun part.done part.hand part.now
+      (subst (λ (o : Outside). HasBegun next o part.done part.hand part.now) (outside_taken old store input reads.files) part.begun);
+  files = part.files;
   out = part.out;
   err = part.err;
   answered = part.answered;
+  datagrams = part.datagrams;
   writes = λ none. part.writes none ∙ reads.writes;
 }
 
--- steps since then are those of the whole command
-abbrev IsInto : Steps → Steps → RunTells → RunSeen → Type 0
-IsInto next steps tells old = IsWorldTold tells → (acts : List Act) (to : Outside) (ended : Option Refusal) → next (outside_of old) acts to ended → steps (outside_of old) acts to ended
-
-steps_on : (name : List ℕ) (next steps : Steps) (tells : RunTells) (refusal : Option Refusal) (old : RunSeen) (store : StoreSeen) (new : RunSeen) → OnlyReads name old.store store → IsWorldTold tells → IsInto next steps tells old
-    → HasSteps next tells refusal (with_store old store) new → HasSteps steps tells refusal old new
-steps_on name next steps tells refusal old store new reads told into has = record {
-  acts = has.acts;
-  by_steps = into told has.acts (outside_of new) refusal
-      (subst (λ (o : Outside). next o has.acts (outside_of new) refusal) (outside_same old store reads.files) has.by_steps);
-  done = done_on name tells has.acts old store new reads has.done;
-}
-
-back_on : (name : List ℕ) (next steps : Steps) (tells : RunTells) (old : RunSeen) (store : StoreSeen) (acts : List Act) (to : Outside) (ended : Option Refusal) → OnlyReads name old.store store → IsWorldTold tells → IsInto steps next tells old
-    → steps (outside_of old) acts to ended → next (outside_of (with_store old store)) acts to ended
-back_on name next steps tells old store acts to ended reads told back by =
-    subst (λ (o : Outside). next o acts to ended) (sym (outside_same old store reads.files)) (back told acts to ended by)
-
-unwritten_on : (name : List ℕ) (old : RunSeen) (store : StoreSeen) (new : RunSeen) → OnlyReads name old.store store → IsUnwritten store new.store → IsUnwritten old.store new.store
+unwritten_on : (name : List ℕ) (old store new : StoreSeen) → OnlyReads name old store → IsUnwritten store new → IsUnwritten old new
 unwritten_on name old store new reads same = record { files = same.files ∙ reads.files; writes = same.writes ∙ reads.writes }
 
-later_on : (name : List ℕ) (old : RunSeen) (store : StoreSeen) (new : RunSeen) → OnlyReads name old.store store → IsLater (with_store old store) new → IsLater old new
-later_on name old store new reads later = record { store = omega (arith, reads.later, later.store); input = later.input; out = later.out; err = later.err; link = later.link }
-
--- A phase only read the store and passed, and what came next was carried out.
-pub carries_on : (name : List ℕ) (next steps : Steps) (uses : Uses) (may more : Cause → List ℕ → Type 0) (tells : RunTells) (old : RunSeen) (store : StoreSeen) (new : RunSeen) (result : Result (Unit {0}) Refusal)
-    → OnlyReads name old.store store → IsInto next steps tells old → IsInto steps next tells old → ((cause : Cause) (said : List ℕ) → may cause said → more cause said)
-    → CarriesOut next uses may tells (with_store old store) new result → CarriesOut steps uses more tells old new result
-carries_on name next steps uses may more tells old store new (Ok value) reads into back allows carries = record {
-  done = λ told. steps_on name next steps tells None old store new reads told into (carries.done told);
-  refused = tt;
-  part = λ told acts to ended by. part_on name tells acts old store new reads (carries.part told acts to ended (back_on name next steps tells old store acts to ended reads told back by));
-  complete = λ told acts to by. tt;
-  may_refuse = tt;
-  placed = tt;
-  only_reads = λ only. unwritten_on name old store new reads (carries.only_reads only);
-  all_or_nothing = λ whole. tt;
-  quiet = carries.quiet;
-  later = later_on name old store new reads carries.later;
-}
-carries_on name next steps uses may more tells old store new (Err refusal) reads into back allows carries = record {
-  done = tt;
-  refused = reason_since uses.warns old new store _ _ refusal.cause reads.later
-      (λ stated told. steps_on name next steps tells (Some refusal) old store new reads told into (stated told)) carries.refused;
-  part = λ told acts to ended by. part_on name tells acts old store new reads (carries.part told acts to ended (back_on name next steps tells old store acts to ended reads told back by));
-  complete = λ told acts to by. carries.complete told acts to (back_on name next steps tells old store acts to None reads told back by);
-  may_refuse = allows refusal.cause refusal.name carries.may_refuse;
+-- A phase passed, and what came next was carried out. The command uses the input besides where the phase does.
+pub carries_since : (name : List ℕ) (next steps : Steps) (uses : Uses) (takes : Bool) (may more : Cause → List ℕ → Type 0) (tells : RunTells) (old : RunSeen) (store : StoreSeen) (input : SourceSeen) (new : RunSeen)
+    (result : Result (Unit {0}) Refusal)
+    → OnlyReads name old.store store → old.input.faults ≤ input.faults → (IsWorldTold tells → LeadsTo next (record (outside_of old) { input = input.left }) steps (outside_of old))
+    → ((cause : Cause) (said : List ℕ) → may cause said → more cause said)
+    → CarriesOut next uses may tells (with_input (with_store old store) input) new result → CarriesOut steps (record uses { input = takes }) more tells old new result
+carries_since name next steps uses takes may more tells old store input new result reads le leads allows carries = record {
+  done = on_ok_weaker result (λ has told. steps_on name next steps tells None old store input new reads (leads told) (has told)) carries.done;
+  refused = IfErr-weaker result _ _ (λ refusal reason. reason_since uses old new store input _ _ refusal.cause reads.later le
+      (λ stated told. steps_on name next steps tells (Some refusal) old store input new reads (leads told) (stated told)) reason) carries.refused;
+  part = λ told. part_on name next steps tells old store input new reads (leads told) (carries.part told);
+  may_refuse = IfErr-weaker result _ _ (λ refusal may. allows refusal.cause refusal.name may) carries.may_refuse;
   placed = carries.placed;
-  only_reads = λ only. unwritten_on name old store new reads (carries.only_reads only);
-  all_or_nothing = λ whole other. unwritten_on name old store new reads (carries.all_or_nothing whole other);
+  only_reads = λ only. unwritten_on name old.store store new.store reads (carries.only_reads only);
+  all_or_nothing = λ whole. IfErr-weaker result _ _ (λ refusal unless other. unwritten_on name old.store store new.store reads (unless other)) (carries.all_or_nothing whole);
   quiet = carries.quiet;
-  later = later_on name old store new reads carries.later;
+  later = record {
+    store = omega (arith, reads.later, carries.later.store);
+    input = omega (arith, le, carries.later.input);
+    out = carries.later.out;
+    err = carries.later.err;
+    link = carries.later.link;
+  };
 }
+
+-- a phase only read the store and passed
+pub carries_on : (name : List ℕ) (next steps : Steps) (uses : Uses) (may more : Cause → List ℕ → Type 0) (tells : RunTells) (old : RunSeen) (store : StoreSeen) (new : RunSeen) (result : Result (Unit {0}) Refusal)
+    → OnlyReads name old.store store → (IsWorldTold tells → LeadsTo next (outside_of old) steps (outside_of old)) → ((cause : Cause) (said : List ℕ) → may cause said → more cause said)
+    → CarriesOut next uses may tells (with_store old store) new result → CarriesOut steps uses more tells old new result
+carries_on name next steps uses may more tells old store new result reads leads allows carries =
+    carries_since name next steps uses uses.input may more tells old store old.input new result reads (omega arith) leads allows carries
 
 -- the names were read, and what came next was carried out
 pub carries_naming : (name : List ℕ) (kind : Kind) (names : Option (List ℕ)) (lines : List NameLine) (next : List NameLine → Steps) (uses : Uses) (may more : Cause → List ℕ → Type 0) (tells : RunTells)
@@ -161,91 +183,38 @@ pub carries_naming : (name : List ℕ) (kind : Kind) (names : Option (List ℕ))
     → CarriesOut (next lines) uses may tells (with_store old store) new result → CarriesOut (Naming kind names next) uses more tells old new result
 carries_naming name kind names lines next uses may more tells old store new result reads seen allows carries =
     carries_on name (next lines) (Naming kind names next) uses may more tells old store new result reads
-    (λ told acts to ended by. subst (λ (o : Outcome (List NameLine)). Then o next (outside_of old) acts to ended) (sym (seen told.store)) by)
-    (λ told acts to ended by. subst (λ (o : Outcome (List NameLine)). Then o next (outside_of old) acts to ended) (seen told.store) by)
-    allows carries
-
--- a step that was refused passes to nothing
-pub refused_never : {V : Type 0} (outcome : Outcome V) (next : V → Steps) (from to : Outside) (acts : List Act) (refusal : Refusal) → outcome ≡ Refused refusal → Then outcome next from acts to None → ⊥
-refused_never (Passed value) next from to acts refusal is steps = absurd (cc)
-refused_never (Refused other) next from to acts refusal is steps = none-some _ steps.ends
+    (λ told. leads_looking (next lines) _ (outside_of old) (ap (λ (o : Outcome (List NameLine)). Then o next) (sym (seen told.store)))) allows carries
 
 -- a step that was refused, once the store was only read
 pub refused_reading : {V : Type 0} (name : List ℕ) (outcome : Outcome V) (next : V → Steps) (steps : Steps) (tells : RunTells) (old : RunSeen) (store : StoreSeen) (refusal : Refusal) → OnlyReads name old.store store
-    → ((acts : List Act) (to : Outside) (ended : Option Refusal) → Then outcome next (outside_of old) acts to ended → steps (outside_of old) acts to ended) → outcome ≡ Refused refusal
+    → LeadsTo (Then outcome next) (outside_of old) steps (outside_of old) → outcome ≡ Refused refusal
     → HasSteps steps tells (Some refusal) old (with_store old store)
-refused_reading name outcome next steps tells old store refusal reads into is =
-    refused_steps name steps tells old store refusal reads (λ new same. into [] new (Some refusal)
-    (subst (λ (o : Outcome _). Then o next (outside_of old) [] new (Some refusal)) (sym is) (record { acts_none = refl; same = same; ends = refl })))
+refused_reading name outcome next steps tells old store refusal reads leads is =
+    refused_steps name steps tells old store refusal reads (λ new same. leads.ends [] new (Some refusal)
+    (subst (λ (o : Outcome _). EndsBy (Then o next) (outside_of old) [] new (Some refusal)) (sym is) (record { acts_none = refl; same = same; ends = refl })))
 
 -- why the names were not read
-names_reason : (warns : Bool) (file : List ℕ) (tells : RunTells) (old : RunSeen) (store : StoreSeen) (seen : Outcome (List NameLine)) (refusal : Refusal) (stated : Type 0) (cause : Cause) (said : List ℕ)
+names_reason : (uses : Uses) (file : List ℕ) (tells : RunTells) (old : RunSeen) (store : StoreSeen) (seen : Outcome (List NameLine)) (refusal : Refusal) (stated : Type 0) (cause : Cause) (said : List ℕ)
     → IsNamesFault old.store.faults store.faults tells.store seen refusal cause → FileOfNamesMayRefuse file cause said → (IsTrue tells.store → seen ≡ Refused refusal → stated)
-    → HasReason warns old (with_store old store) (IsWorldTold tells → stated) cause
-names_reason warns file tells old store seen refusal stated StoreFault said fault may so = fault
-names_reason warns file tells old store seen refusal stated SourceFault said fault may so = absurd may
-names_reason warns file tells old store seen refusal stated SinkFault said fault may so = absurd may
-names_reason warns file tells old store seen refusal stated LinkFault said fault may so = absurd may
-names_reason warns file tells old store seen refusal stated Memory said fault may so = tt
-names_reason warns file tells old store seen refusal stated NoFile said fault may so = λ told. so told.store (fault told.store)
-names_reason warns file tells old store seen refusal stated TooLarge said fault may so = λ told. so told.store (fault told.store)
-names_reason warns file tells old store seen refusal stated NotQuota said fault may so = absurd may
-names_reason warns file tells old store seen refusal stated WrongKind said fault may so = absurd may
-names_reason warns file tells old store seen refusal stated UnknownVersion said fault may so = absurd may
-names_reason warns file tells old store seen refusal stated BadBlockCount said fault may so = absurd may
-names_reason warns file tells old store seen refusal stated OtherFormat said fault may so = absurd may
-names_reason warns file tells old store seen refusal stated (Damaged damage) said fault may so = absurd may
-names_reason warns file tells old store seen refusal stated (Full blocks limit) said fault may so = absurd may
-names_reason warns file tells old store seen refusal stated (NoRoom out) said fault may so = absurd may
-names_reason warns file tells old store seen refusal stated UnknownName said fault may so = absurd may
-names_reason warns file tells old store seen refusal stated BadNumber said fault may so = absurd may
-names_reason warns file tells old store seen refusal stated TargetExists said fault may so = absurd may
-names_reason warns file tells old store seen refusal stated SameName said fault may so = absurd may
-names_reason warns file tells old store seen refusal stated (BadForm line) said fault may so = absurd may
-names_reason warns file tells old store seen refusal stated (BadLine line) said fault may so = λ told. so told.store (fault told.store)
-names_reason warns file tells old store seen refusal stated (LongLine line) said fault may so = absurd may
-names_reason warns file tells old store seen refusal stated (Conflict line first) said fault may so = absurd may
-names_reason warns file tells old store seen refusal stated (Usage kind word) said fault may so = absurd may
-
-names_fault : (file : List ℕ) (before now : ℕ) (tells : Bool) (seen : Outcome (List NameLine)) (refusal : Refusal) (cause : Cause) (said : List ℕ)
-    → IsNamesFault before now tells seen refusal cause → FileOfNamesMayRefuse file cause said → IsTrue tells → (seen ≡ Refused refusal → ⊥) → IsFault cause
-names_fault file before now tells seen refusal StoreFault said fault may told never = tt
-names_fault file before now tells seen refusal SourceFault said fault may told never = tt
-names_fault file before now tells seen refusal SinkFault said fault may told never = tt
-names_fault file before now tells seen refusal LinkFault said fault may told never = tt
-names_fault file before now tells seen refusal Memory said fault may told never = tt
-names_fault file before now tells seen refusal NoFile said fault may told never = absurd (never (fault told))
-names_fault file before now tells seen refusal TooLarge said fault may told never = absurd (never (fault told))
-names_fault file before now tells seen refusal NotQuota said fault may told never = absurd may
-names_fault file before now tells seen refusal WrongKind said fault may told never = absurd may
-names_fault file before now tells seen refusal UnknownVersion said fault may told never = absurd may
-names_fault file before now tells seen refusal BadBlockCount said fault may told never = absurd may
-names_fault file before now tells seen refusal OtherFormat said fault may told never = absurd may
-names_fault file before now tells seen refusal (Damaged damage) said fault may told never = absurd may
-names_fault file before now tells seen refusal (Full blocks limit) said fault may told never = absurd may
-names_fault file before now tells seen refusal (NoRoom out) said fault may told never = absurd may
-names_fault file before now tells seen refusal UnknownName said fault may told never = absurd may
-names_fault file before now tells seen refusal BadNumber said fault may told never = absurd may
-names_fault file before now tells seen refusal TargetExists said fault may told never = absurd may
-names_fault file before now tells seen refusal SameName said fault may told never = absurd may
-names_fault file before now tells seen refusal (BadForm line) said fault may told never = absurd may
-names_fault file before now tells seen refusal (BadLine line) said fault may told never = absurd (never (fault told))
-names_fault file before now tells seen refusal (LongLine line) said fault may told never = absurd may
-names_fault file before now tells seen refusal (Conflict line first) said fault may told never = absurd may
-names_fault file before now tells seen refusal (Usage kind word) said fault may told never = absurd may
+    → HasReason uses old (with_store old store) (IsWorldTold tells → stated) cause
+names_reason uses file tells old store seen refusal stated StoreFault said fault may so = fault
+names_reason uses file tells old store seen refusal stated SourceFault said fault may so = absurd may
+names_reason uses file tells old store seen refusal stated SinkFault said fault may so = absurd may
+names_reason uses file tells old store seen refusal stated LinkFault said fault may so = absurd may
+names_reason uses file tells old store seen refusal stated Memory said fault may so = tt
+names_reason uses file tells old store seen refusal stated _ said fault may so = λ told. so told.store (fault told.store)
 
 -- the file of names was refused
-pub names_refused : (kind : Kind) (file : List ℕ) (next : List NameLine → Steps) (uses : Uses) (more : Cause → List ℕ → Type 0) (tells : RunTells) (old : RunSeen) (store : StoreSeen) (refusal : Refusal)
+names_refused : (kind : Kind) (file : List ℕ) (next : List NameLine → Steps) (uses : Uses) (more : Cause → List ℕ → Type 0) (tells : RunTells) (old : RunSeen) (store : StoreSeen) (refusal : Refusal)
     → OnlyReads file old.store store → IsNamesFault old.store.faults store.faults tells.store (names_seen kind (Some file) old.store.files) refusal refusal.cause
     → FileOfNamesMayRefuse file refusal.cause refusal.name → more refusal.cause refusal.name → IsPlacedBy uses refusal
     → CarriesOut (Naming kind (Some file) next) uses more tells old (with_store old store) (Err refusal)
 names_refused kind file next uses more tells old store refusal reads fault may allowed placed = record {
   done = tt;
-  refused = names_reason uses.warns file tells old store (names_seen kind (Some file) old.store.files) refusal _ refusal.cause refusal.name fault may
-      (λ told is. refused_reading file (names_seen kind (Some file) old.store.files) next (Naming kind (Some file) next) tells old store refusal reads (λ acts to ended by. by) is);
-  part = λ told acts to ended steps. nothing_read file tells acts old store reads;
-  complete = λ told acts to steps. names_fault file old.store.faults store.faults tells.store (names_seen kind (Some file) old.store.files) refusal refusal.cause refusal.name fault may told.store
-      (λ is. refused_never (names_seen kind (Some file) old.store.files) next (outside_of old) to acts refusal is steps);
+  refused = names_reason uses file tells old store (names_seen kind (Some file) old.store.files) refusal _ refusal.cause refusal.name fault may
+      (λ told is. refused_reading file (names_seen kind (Some file) old.store.files) next (Naming kind (Some file) next) tells old store refusal reads
+      (leads_looking (Then (names_seen kind (Some file) old.store.files) next) _ (outside_of old) refl) is);
+  part = λ told. nothing_read (Naming kind (Some file) next) file tells old store reads;
   may_refuse = allowed;
   placed = placed;
   only_reads = λ only. unwritten file old.store store reads;
@@ -278,98 +247,24 @@ some_value : (tells : Bool) (sees : QuotaValue → Type 0) → (IsTrue tells →
 some_value true sees seen = let one = seen refl in (one.0, λ told. one.1)
 some_value false sees seen = (nothing_value, λ told. absurd (false≢true told))
 
--- steps over a value that is seen are those of the whole
-opening_steps : (name : List ℕ) (kind : Kind) (asked : Option Format) (next : QuotaValue → Steps) (tells : RunTells) (refusal : Option Refusal) (old new : RunSeen) (value : QuotaValue)
-    → IsView (old.store.files name) kind asked (Ok value) → HasSteps (next value) tells refusal old new → HasSteps (Opening kind asked name next) tells refusal old new
-opening_steps name kind asked next tells refusal old new value view has = record { acts = has.acts; by_steps = (Ok value, view, has.by_steps); done = has.done }
-
-opening_part : (name : List ℕ) (kind : Kind) (asked : Option Format) (next : QuotaValue → Steps) (tells : RunTells) (old new : RunSeen) (acts : List Act) (to : Outside) (ended : Option Refusal) (found : Result QuotaValue OpenFault)
-    → (value : QuotaValue) × IsView (old.store.files name) kind asked (Ok value)
-    → ((value : QuotaValue) → IsView (old.store.files name) kind asked (Ok value) → next value (outside_of old) acts to ended → AreDoneInPart tells acts old new)
-    → IsView (old.store.files name) kind asked found → Then (opened name found) next (outside_of old) acts to ended → AreDoneInPart tells acts old new
-opening_part name kind asked next tells old new acts to ended (Ok value) good part view steps = part value view steps
-opening_part name kind asked next tells old new acts to ended (Err fault) good part view steps = absurd (view_or_refused (old.store.files name) kind asked good.0 fault good.1 view)
-
-opening_complete : {F : Type 0} (name : List ℕ) (kind : Kind) (asked : Option Format) (next : QuotaValue → Steps) (old : RunSeen) (acts : List Act) (to : Outside) (found : Result QuotaValue OpenFault)
-    → (value : QuotaValue) × IsView (old.store.files name) kind asked (Ok value)
-    → ((value : QuotaValue) → IsView (old.store.files name) kind asked (Ok value) → next value (outside_of old) acts to None → F)
-    → IsView (old.store.files name) kind asked found → Then (opened name found) next (outside_of old) acts to None → F
-opening_complete name kind asked next old acts to (Ok value) good complete view steps = complete value view steps
-opening_complete name kind asked next old acts to (Err fault) good complete view steps = absurd (view_or_refused (old.store.files name) kind asked good.0 fault good.1 view)
-
--- the next steps were carried out over each value that may be seen of the file
-abbrev pub IsCarriedOver : List ℕ → Kind → Option Format → (QuotaValue → Steps) → Uses → (Cause → List ℕ → Type 0) → RunTells → RunSeen → RunSeen → Result (Unit {0}) Refusal → Type 0
-IsCarriedOver name kind asked next uses may tells old new result =
-    (value : QuotaValue) → (IsTrue tells.store → IsView (old.store.files name) kind asked (Ok value)) → CarriesOut (next value) uses may tells old new result
-
-opened_carried : (name : List ℕ) (kind : Kind) (asked : Option Format) (next : QuotaValue → Steps) (uses : Uses) (may : Cause → List ℕ → Type 0) (tells : RunTells) (old new : RunSeen) (result : Result (Unit {0}) Refusal)
-    → (IsTrue tells.store → (value : QuotaValue) × IsView (old.store.files name) kind asked (Ok value))
-    → IsCarriedOver name kind asked next uses may tells old new result → CarriesOut (Opening kind asked name next) uses may tells old new result
-opened_carried name kind asked next uses may tells old new (Ok done) seen each =
-    let some = some_value tells.store (λ (value : QuotaValue). IsView (old.store.files name) kind asked (Ok value)) seen in
-    let one = each some.0 some.1 in
-    record {
-      done = λ told. opening_steps name kind asked next tells None old new some.0 (some.1 told.store) (one.done told);
-      refused = tt;
-      part = λ told acts to ended by. opening_part name kind asked next tells old new acts to ended by.0 (seen told.store)
-          (λ value view steps. (each value (λ t. view)).part told acts to ended steps) by.1 by.2;
-      complete = λ told acts to by. tt;
-      may_refuse = tt;
-      placed = tt;
-      only_reads = one.only_reads;
-      all_or_nothing = λ whole. tt;
-      quiet = one.quiet;
-      later = one.later;
-    }
-opened_carried name kind asked next uses may tells old new (Err refusal) seen each =
-    let some = some_value tells.store (λ (value : QuotaValue). IsView (old.store.files name) kind asked (Ok value)) seen in
-    let one = each some.0 some.1 in
-    record {
-      done = tt;
-      refused = reason_but_stated uses.warns old new _ _ refusal.cause
-          (λ stated told. opening_steps name kind asked next tells (Some refusal) old new some.0 (some.1 told.store) (stated told)) one.refused;
-      part = λ told acts to ended by. opening_part name kind asked next tells old new acts to ended by.0 (seen told.store)
-          (λ value view steps. (each value (λ t. view)).part told acts to ended steps) by.1 by.2;
-      complete = λ told acts to by. opening_complete name kind asked next old acts to by.0 (seen told.store)
-          (λ value view steps. (each value (λ t. view)).complete told acts to steps) by.1 by.2;
-      may_refuse = one.may_refuse;
-      placed = one.placed;
-      only_reads = one.only_reads;
-      all_or_nothing = one.all_or_nothing;
-      quiet = one.quiet;
-      later = one.later;
-    }
-
 -- a file was opened, and the next steps were carried out over each value that may be seen of it
 pub carries_opening : (name : List ℕ) (kind : Kind) (asked : Option Format) (next : QuotaValue → Steps) (uses : Uses) (may more : Cause → List ℕ → Type 0) (tells : RunTells) (old : RunSeen) (store : StoreSeen) (new : RunSeen) (result : Result (Unit {0}) Refusal)
     → OnlyReads name old.store store → (IsTrue tells.store → (value : QuotaValue) × IsView (old.store.files name) kind asked (Ok value)) → ((cause : Cause) (said : List ℕ) → may cause said → more cause said)
     → ((value : QuotaValue) → (IsTrue tells.store → IsView (old.store.files name) kind asked (Ok value)) → CarriesOut (next value) uses may tells (with_store old store) new result)
     → CarriesOut (Opening kind asked name next) uses more tells old new result
 carries_opening name kind asked next uses may more tells old store new result reads seen allows each =
-    opened_carried name kind asked next uses more tells old new result seen
-    (λ value view. carries_on name (next value) (next value) uses may more tells old store new result reads (λ told acts to ended by. by) (λ told acts to ended by. by) allows (each value view))
+    let some = some_value tells.store (λ (value : QuotaValue). IsView (old.store.files name) kind asked (Ok value)) seen in
+    carries_on name (next some.0) (Opening kind asked name next) uses may more tells old store new result reads
+    (λ told. leads_opening kind asked name next some.0 (outside_of old) (some.1 told.store)) allows (each some.0 some.1)
 
 -- what a command may be refused for, where another one may be
 pub carries_more : (steps : Steps) (uses : Uses) (may more : Cause → List ℕ → Type 0) (tells : RunTells) (old new : RunSeen) (result : Result (Unit {0}) Refusal)
     → ((cause : Cause) (name : List ℕ) → may cause name → more cause name) → CarriesOut steps uses may tells old new result → CarriesOut steps uses more tells old new result
-carries_more steps uses may more tells old new (Ok value) allows carries = record {
+carries_more steps uses may more tells old new result allows carries = record {
   done = carries.done;
-  refused = tt;
-  part = carries.part;
-  complete = carries.complete;
-  may_refuse = tt;
-  placed = carries.placed;
-  only_reads = carries.only_reads;
-  all_or_nothing = carries.all_or_nothing;
-  quiet = carries.quiet;
-  later = carries.later;
-}
-carries_more steps uses may more tells old new (Err refusal) allows carries = record {
-  done = tt;
   refused = carries.refused;
   part = carries.part;
-  complete = carries.complete;
-  may_refuse = allows refusal.cause refusal.name carries.may_refuse;
+  may_refuse = IfErr-weaker result _ _ (λ refusal may. allows refusal.cause refusal.name may) carries.may_refuse;
   placed = carries.placed;
   only_reads = carries.only_reads;
   all_or_nothing = carries.all_or_nothing;

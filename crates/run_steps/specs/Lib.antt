@@ -1,8 +1,10 @@
 pub mod Act
 pub mod Changing
 pub mod Done
+pub mod Meaning
 pub mod Naming
 pub mod Numbers
+pub mod OneCommand
 pub mod Opening
 pub mod Run
 pub mod Showing

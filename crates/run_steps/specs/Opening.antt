@@ -1,10 +1,9 @@
 -- What is said where a file is not opened, or where a call on an opened file was refused.
-use Rattle.std.specs.Prelude.{◌≡◌, ℕ, Bool, true, false, IsTrue, IsSome, List, Option, Some, Result, Ok, Err, ⊤}
+use Rattle.std.specs.Prelude.{◌≡◌, ℕ, Bool, true, false, IsTrue, IsSome, List, Option, Some, ⊤}
 use Rattle.quota_types.specs.declared.damage.Damage.{Damage}
 use Rattle.quota_types.specs.declared.damage.DamageKind.TheVariants.{PartialRecord}
 use Rattle.quota_types.specs.declared.file_kind.Format.{Format}
 use Rattle.quota_types.specs.declared.file_kind.Format.TheVariants.{V1}
-use Rattle.quota_blocks.specs.QuotaValue.{QuotaValue}
 use Rattle.quota_blocks.specs.declared.quota_file.FileFault.{FileFault}
 use Rattle.quota_blocks.specs.declared.quota_file.FileFault.TheVariants.{Store as StoreFailed, Damage as FileDamaged, Full as NoBlocks, Memory as NoMemory}
 use Rattle.quota_blocks.specs.declared.quota_file.OpenFault.{OpenFault}
@@ -12,8 +11,6 @@ use Rattle.quota_blocks.specs.declared.quota_file.OpenFault.TheVariants.{Store, 
 use Rattle.tree_build.specs.Defect.{NamesItsId}
 use Rattle.refusals.specs.declared.cause.Cause.{Cause}
 use Rattle.refusals.specs.declared.cause.Cause.TheVariants.{StoreFault, NoFile as NoSuchFile, TooLarge as FileTooLarge, Memory as WantOfMemory, NotQuota as NoQuotaFile, WrongKind as OtherKind, UnknownVersion as OtherVersion, BadBlockCount as TooFewBlocks, OtherFormat, Damaged, Full}
-use Rattle.refusals.specs.Outcome.{Outcome, Passed, Refused}
-use Rattle.refusals.specs.Refusals.{refusal_of}
 
 -- what is said of a file that could not be opened
 abbrev pub opening_cause : OpenFault → Cause
@@ -34,11 +31,6 @@ file_cause StoreFailed = StoreFault
 file_cause (FileDamaged damage) = Damaged damage
 file_cause (NoBlocks blocks limit) = Full blocks limit
 file_cause NoMemory = WantOfMemory
-
--- the step that opens a file that is seen so
-abbrev pub opened : List ℕ → Result QuotaValue OpenFault → Outcome QuotaValue
-opened name (Ok value) = Passed value
-opened name (Err fault) = Refused (refusal_of (opening_cause fault) name)
 
 -- A damage of a flat file is a record that is cut off, which names no identifier, and one of a tree file names an
 -- identifier where its kind does.

@@ -1,6 +1,6 @@
 -- What a command takes from an input: the file of `--input`, or the standard input where there is none. Source: this
 -- project's own.
-use Rattle.std.specs.Prelude.{◌≡◌, ℕ, Bool, true, false, ◌||◌, IsTrue, List, [], ◌++◌, Option, Some, None, IsSome, is_none, ⊤}
+use Rattle.std.specs.Prelude.{◌≡◌, ℕ, Bool, true, false, ◌||◌, IsTrue, List, [], Option, Some, None, IsSome, is_none, ⊤}
 use Rattle.quota_blocks.specs.StoreInput.{left_from}
 use Rattle.quota_blocks.specs.World.{World}
 use Rattle.refusals.specs.declared.cause.Cause.{Cause}
@@ -9,7 +9,7 @@ use Rattle.refusals.specs.declared.reason.Refusal.{Refusal}
 use Rattle.refusals.specs.Refusals.{refusal_of}
 use Rattle.refusals.specs.Outcome.{Outcome, Passed, Refused}
 use Rattle.run_steps.specs.Run.{Uses}
-use Rattle.run_steps.specs.Steps.{Steps, Then}
+use Rattle.run_steps.specs.Steps.{Steps, Looking, Reading, Then}
 
 -- what refusals call an input: its file, or nothing where it is the standard input
 abbrev pub input_name : Option (List ℕ) → List ℕ
@@ -26,24 +26,16 @@ abbrev pub input_said : {V : Type 0} → Option (List ℕ) → (List ℕ → Out
 input_said None read files left = read left
 input_said (Some name) read files left = file_said name read (files name)
 
--- Of the standard input nothing was taken where the input is a file, and everything where a step passed with a value for
--- which the whole input is read.
-abbrev pub IsTakenOf : {V : Type 0} → Option (List ℕ) → (V → Bool) → Outcome V → (taken left : List ℕ) → Type 0
-IsTakenOf (Some name) is_whole outcome taken left = taken ≡ []
-IsTakenOf None is_whole (Passed value) taken left = IsTrue (is_whole value) → left ≡ []
-IsTakenOf None is_whole (Refused refusal) taken left = ⊤
-
--- bytes were taken from the standard input by a step that ended so
-pub record HasTaken {V : Type 0} (from : Option (List ℕ)) (is_whole : V → Bool) (outcome : Outcome V) (old left : List ℕ) : Type 0 where
-  pub taken : List ℕ
-  pub whole : old ≡ taken ++ left
-  pub as_asked : IsTakenOf from is_whole outcome taken left
+-- the whole input is read where the step passes with a value that asks for that
+abbrev pub reads_whole : {V : Type 0} → (V → Bool) → Outcome V → Bool
+reads_whole is_whole (Passed value) = is_whole value
+reads_whole is_whole (Refused refusal) = false
 
 -- an input is read, the whole of it where the value says so, and then comes what the next steps say of it
 abbrev pub Taking : {V : Type 0} → Option (List ℕ) → (V → Bool) → (List ℕ → Outcome V) → (V → Steps) → Steps
-Taking from is_whole read next old acts new refusal =
-    (left : List ℕ) × HasTaken from is_whole (input_said from read old.files old.input) old.input left
-    × Then (input_said from read old.files old.input) next (record old { input = left }) acts new refusal
+Taking None is_whole read next =
+    Reading (λ (bytes : List ℕ). reads_whole is_whole (read bytes)) (λ (bytes : List ℕ). Then (read bytes) next)
+Taking (Some name) is_whole read next = Looking (λ (files : World). Then (file_said name read (files name)) next)
 
 -- Why an input was not read: a count of faults rose, memory was wanting, or what it says, as it is seen, is this refusal.
 abbrev pub IsInputFault : {V : Type 0} → (store_rose input_rose told : Type 0) → Outcome V → Refusal → Cause → Type 0

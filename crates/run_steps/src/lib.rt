@@ -5,6 +5,7 @@
 #![tactic(auto)]
 
 mod invocation;
+pub mod laws;
 mod naming;
 mod numbers;
 mod opening;

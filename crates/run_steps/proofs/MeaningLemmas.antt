@@ -1,0 +1,365 @@
+-- Laws of what steps mean.
+use Rattle.std.proofs.Common.{◌≡◌, ◌⊎◌, inl, inr, ℕ, suc, ◌+◌, Bool, true, false, IsTrue, List, [], ◌∷◌, ◌++◌, length, length-append, take, Option, None, Some, Ok, refl, sym, ap, subst, ◌∙◌, append_assoc, append-nil}
+use Rattle.std.specs.Prelude.{◌&&◌}
+use Rattle.std.proofs.lemmas.Bool.{false≢true}
+use Rattle.std.proofs.lemmas.Option.{none-some}
+use Rattle.quota_types.specs.declared.file_kind.Kind.{Kind}
+use Rattle.quota_types.specs.declared.file_kind.Format.{Format}
+use Rattle.quota_blocks.specs.Seen.{Datagram}
+use Rattle.quota_blocks.specs.World.{World}
+use Rattle.quota_blocks.specs.QuotaValue.{QuotaValue}
+use Rattle.quota_map.specs.View.{IsView}
+use Rattle.quota_map.proofs.SeenLemmas.{view_or_refused}
+use Rattle.refusals.specs.declared.reason.Refusal.{Refusal}
+use Rattle.refusals.specs.Refusals.{in_line}
+use Rattle.run_steps.specs.Act.{Act, ToOut, ToErr, Answer, Change, Follows, FollowsAct}
+use Rattle.run_steps.specs.Done.{Outside}
+use Rattle.run_steps.specs.Meaning.{EndsBy, HasBegun, IsSure}
+use Rattle.run_steps.specs.OneCommand.{AreReceived, IsFirstPart, LooksFirst, ReadsToEnd, Receives, leaves_files}
+use Rattle.run_steps.specs.Steps.{Steps, Ending, Doing, Looking, Opening, Reading, Receiving, Before, InLine, Finish, InARow}
+use Rattle.run_steps.proofs.ActLemmas.{follows-append}
+use Rattle.run_steps.proofs.SeenOnceLemmas.{seen_once}
+
+-- What has ended has begun.
+
+-- steps that have ended have begun, with all their acts, and none is at hand
+pub ended_begun : (steps : Steps) (old : Outside) (acts : List Act) (new : Outside) (refusal : Option Refusal) → EndsBy steps old acts new refusal → HasBegun steps old acts [] new
+ended_begun (Ending stated) old acts new refusal is = record { done_none = is.acts_none; at_hand = refl; same = is.same }
+ended_begun (Doing act next) old acts new refusal by = inr (by.0, by.1, by.2, by.3, ended_begun next (record old { files = by.1 }) by.0 new refusal by.4)
+ended_begun (Looking next) old acts new refusal by = ended_begun (next old.files) old acts new refusal by
+ended_begun (Opening kind asked name next) old acts new refusal (inl seen) = inr (seen.0, seen.1, ended_begun (next seen.0) old acts new refusal seen.2)
+ended_begun (Opening kind asked name next) old acts new refusal (inr bad) = inl (record { done_none = bad.2.acts_none; at_hand = refl; same = bad.2.same })
+ended_begun (Reading whole next) old acts new refusal by = inr (by.0, by.1, ended_begun (next old.input) (record old { input = by.0 }) acts new refusal by.2)
+ended_begun (Receiving next) old acts new refusal by = inr (by.0, by.1, by.2, ended_begun (next by.0) (record old { datagrams = by.1 }) acts new refusal by.3)
+ended_begun (Before one others) old acts new refusal (inl stopped) = inl (ended_begun one old acts new (Some stopped.0) stopped.2)
+ended_begun (Before one others) old acts new refusal (inr passed) =
+    inr (passed.0, passed.1, passed.2, passed.3, passed.4, ended_begun others passed.1 passed.2 new refusal passed.5)
+ended_begun (InLine line steps) old acts new refusal by = ended_begun steps old acts new by.0 by.2
+
+-- steps of which nothing was done have begun
+pub unbegun : (steps : Steps) (old : Outside) → (hand : List Act) × HasBegun steps old [] hand old
+unbegun (Ending stated) old = ([], record { done_none = refl; at_hand = refl; same = refl })
+unbegun (Doing act next) old = (act ∷ [], inl (record { done_none = refl; at_hand = refl; same = refl }))
+unbegun (Looking next) old = unbegun (next old.files) old
+unbegun (Opening kind asked name next) old = ([], inl (record { done_none = refl; at_hand = refl; same = refl }))
+unbegun (Reading whole next) old = ([], inl (record { done_none = refl; at_hand = refl; same = refl }))
+unbegun (Receiving next) old = ([], inl (record { done_none = refl; at_hand = refl; same = refl }))
+unbegun (Before one others) old = let first = unbegun one old in (first.0, inl first.1)
+unbegun (InLine line steps) old = unbegun steps old
+
+-- Files follow the acts.
+
+none_follow : (acts : List Act) (old new : Outside) → acts ≡ [] → new ≡ old → Follows acts old.files new.files
+none_follow acts old new none same = subst (λ (a : List Act). Follows a old.files new.files) (sym none) (ap (λ (o : Outside). o.files) same)
+
+pub ends_follow : (steps : Steps) (old : Outside) (acts : List Act) (new : Outside) (refusal : Option Refusal) → EndsBy steps old acts new refusal → Follows acts old.files new.files
+ends_follow (Ending stated) old acts new refusal is = none_follow acts old new is.acts_none is.same
+ends_follow (Doing act next) old acts new refusal by =
+    subst (λ (a : List Act). Follows a old.files new.files) (sym by.2) (by.1, by.3, ends_follow next (record old { files = by.1 }) by.0 new refusal by.4)
+ends_follow (Looking next) old acts new refusal by = ends_follow (next old.files) old acts new refusal by
+ends_follow (Opening kind asked name next) old acts new refusal (inl seen) = ends_follow (next seen.0) old acts new refusal seen.2
+ends_follow (Opening kind asked name next) old acts new refusal (inr bad) = none_follow acts old new bad.2.acts_none bad.2.same
+ends_follow (Reading whole next) old acts new refusal by = ends_follow (next old.input) (record old { input = by.0 }) acts new refusal by.2
+ends_follow (Receiving next) old acts new refusal by = ends_follow (next by.0) (record old { datagrams = by.1 }) acts new refusal by.3
+ends_follow (Before one others) old acts new refusal (inl stopped) = ends_follow one old acts new (Some stopped.0) stopped.2
+ends_follow (Before one others) old acts new refusal (inr passed) =
+    subst (λ (a : List Act). Follows a old.files new.files) (sym passed.3)
+    (follows-append passed.0 passed.2 old.files passed.1.files new.files (ends_follow one old passed.0 passed.1 None passed.4) (ends_follow others passed.1 passed.2 new refusal passed.5))
+ends_follow (InLine line steps) old acts new refusal by = ends_follow steps old acts new by.0 by.2
+
+pub begun_follow : (steps : Steps) (old : Outside) (done hand : List Act) (now : Outside) → HasBegun steps old done hand now → Follows done old.files now.files
+begun_follow (Ending stated) old done hand now is = none_follow done old now is.done_none is.same
+begun_follow (Doing act next) old done hand now (inl is) = none_follow done old now is.done_none is.same
+begun_follow (Doing act next) old done hand now (inr by) =
+    subst (λ (a : List Act). Follows a old.files now.files) (sym by.2) (by.1, by.3, begun_follow next (record old { files = by.1 }) by.0 hand now by.4)
+begun_follow (Looking next) old done hand now by = begun_follow (next old.files) old done hand now by
+begun_follow (Opening kind asked name next) old done hand now (inl is) = none_follow done old now is.done_none is.same
+begun_follow (Opening kind asked name next) old done hand now (inr by) = begun_follow (next by.0) old done hand now by.2
+begun_follow (Reading whole next) old done hand now (inl is) = none_follow done old now is.done_none is.same
+begun_follow (Reading whole next) old done hand now (inr by) = begun_follow (next old.input) (record old { input = by.0 }) done hand now by.2
+begun_follow (Receiving next) old done hand now (inl is) = none_follow done old now is.done_none is.same
+begun_follow (Receiving next) old done hand now (inr by) = begun_follow (next by.0) (record old { datagrams = by.1 }) done hand now by.3
+begun_follow (Before one others) old done hand now (inl by) = begun_follow one old done hand now by
+begun_follow (Before one others) old done hand now (inr by) =
+    subst (λ (a : List Act). Follows a old.files now.files) (sym by.3)
+    (follows-append by.0 by.2 old.files by.1.files now.files (ends_follow one old by.0 by.1 None by.4) (begun_follow others by.1 by.2 hand now by.5))
+begun_follow (InLine line steps) old done hand now by = begun_follow steps old done hand now by
+
+-- Steps that are sure.
+
+-- they end with no refusal
+pub sure_ends : (steps : Steps) (old : Outside) (acts : List Act) (new : Outside) (refusal : Option Refusal) → IsSure steps old → EndsBy steps old acts new refusal → refusal ≡ None
+sure_ends (Ending stated) old acts new refusal sure is = is.ends ∙ sure
+sure_ends (Doing act next) old acts new refusal sure by = sure_ends next (record old { files = by.1 }) by.0 new refusal (sure by.1 by.3) by.4
+sure_ends (Looking next) old acts new refusal sure by = sure_ends (next old.files) old acts new refusal sure by
+sure_ends (Opening kind asked name next) old acts new refusal sure (inl seen) = sure_ends (next seen.0) old acts new refusal (sure.1 seen.0 seen.1) seen.2
+sure_ends (Opening kind asked name next) old acts new refusal sure (inr bad) = absurd (sure.0 bad.0 bad.1)
+sure_ends (Reading whole next) old acts new refusal sure by = sure_ends (next old.input) (record old { input = by.0 }) acts new refusal (sure by.0 by.1) by.2
+sure_ends (Receiving next) old acts new refusal sure by = sure_ends (next by.0) (record old { datagrams = by.1 }) acts new refusal (sure by.0 by.1 by.2) by.3
+sure_ends (Before one others) old acts new refusal sure (inl stopped) = absurd (none-some stopped.0 (sym (sure_ends one old acts new (Some stopped.0) sure.0 stopped.2)))
+sure_ends (Before one others) old acts new refusal sure (inr passed) = sure_ends others passed.1 passed.2 new refusal (sure.1 passed.0 passed.1 passed.4) passed.5
+sure_ends (InLine line steps) old acts new refusal sure by = by.1 ∙ ap (in_line line) (sure_ends steps old acts new by.0 sure by.2)
+
+-- steps are sure where they end with no refusal, whatever is chosen
+pub unrefused_sure : (steps : Steps) (old : Outside) → ((acts : List Act) (new : Outside) (refusal : Refusal) → ¬ EndsBy steps old acts new (Some refusal)) → IsSure steps old
+unrefused_sure (Ending None) old never = refl
+unrefused_sure (Ending (Some refusal)) old never = absurd (never [] old refusal (record { acts_none = refl; same = refl; ends = refl }))
+unrefused_sure (Doing act next) old never = λ middle follows.
+    unrefused_sure next (record old { files = middle }) (λ acts new refusal by. never (act ∷ acts) new refusal (acts, middle, refl, follows, by))
+unrefused_sure (Looking next) old never = unrefused_sure (next old.files) old never
+unrefused_sure (Opening kind asked name next) old never = (
+  λ fault view. never [] old _ (inr (fault, view, record { acts_none = refl; same = refl; ends = refl })),
+  λ value view. unrefused_sure (next value) old (λ acts new refusal by. never acts new refusal (inl (value, view, by))),
+)
+unrefused_sure (Reading whole next) old never = λ left taken.
+    unrefused_sure (next old.input) (record old { input = left }) (λ acts new refusal by. never acts new refusal (left, taken, by))
+unrefused_sure (Receiving next) old never = λ datagram left is.
+    unrefused_sure (next datagram) (record old { datagrams = left }) (λ acts new refusal by. never acts new refusal (datagram, left, is, by))
+unrefused_sure (Before one others) old never = (
+  unrefused_sure one old (λ acts new refusal by. never acts new refusal (inl (refusal, refl, by))),
+  λ first middle ends. unrefused_sure others middle (λ acts new refusal by. never (first ++ acts) new refusal (inr (first, middle, acts, refl, ends, by))),
+)
+unrefused_sure (InLine line steps) old never = unrefused_sure steps old (λ acts new refusal by. never acts new _ (Some refusal, refl, by))
+
+-- One command.
+
+first_none : (done hand acts : List Act) → done ≡ [] → hand ≡ [] → IsFirstPart done hand acts
+first_none done hand acts none is = record { rest = acts; whole = ap (λ (d : List Act). d ++ acts) (sym none); next = inl is }
+
+-- files that may still be looked at are the same after the same act
+same_after : (looks : Bool) (act : Act) (one other one' other' : World) → (IsTrue looks → one ≡ other) → FollowsAct act one one' → FollowsAct act other other'
+    → IsTrue (looks && leaves_files act) → one' ≡ other'
+same_after false act one other one' other' same first second is = absurd (false≢true is)
+same_after true (Change name value) one other one' other' same first second is = absurd (false≢true is)
+same_after true (ToOut bytes) one other one' other' same first second is = first ∙ same refl ∙ sym second
+same_after true (ToErr bytes) one other one' other' same first second is = first ∙ same refl ∙ sym second
+same_after true (Answer bytes) one other one' other' same first second is = first ∙ same refl ∙ sym second
+
+-- what is outside is the same as far as steps may still look at it
+pub record LooksSame (looks takes : Bool) (one other : Outside) : Type 0 where
+  pub files : IsTrue looks → one.files ≡ other.files
+  pub input : IsTrue takes → one.input ≡ other.input
+  pub datagrams : one.datagrams ≡ other.datagrams
+
+same_done : (looks takes : Bool) (act : Act) (one other : Outside) (one' other' : World) → LooksSame looks takes one other → FollowsAct act one.files one' → FollowsAct act other.files other'
+    → LooksSame (looks && leaves_files act) takes (record one { files = one' }) (record other { files = other' })
+same_done looks takes act one other one' other' same first second = record {
+  files = same_after looks act one.files other.files one' other' same.files first second;
+  input = same.input;
+  datagrams = same.datagrams;
+}
+
+same_taken : (looks takes : Bool) (one other : Outside) (one' other' : List ℕ) → LooksSame looks takes one other → LooksSame looks false (record one { input = one' }) (record other { input = other' })
+same_taken looks takes one other one' other' same = record { files = same.files; input = λ no. absurd (false≢true no); datagrams = same.datagrams }
+
+same_received : (looks takes : Bool) (one other : Outside) (datagram datagram' : Datagram) (one' other' : List Datagram) → LooksSame looks takes one other
+    → one.datagrams ≡ datagram ∷ one' → other.datagrams ≡ datagram' ∷ other'
+    → (datagram ≡ datagram') × LooksSame looks takes (record one { datagrams = one' }) (record other { datagrams = other' })
+same_received looks takes one other datagram datagram' one' other' same first second =
+    let both : (datagram ∷ one') ≡ (datagram' ∷ other') = sym first ∙ same.datagrams ∙ second in
+    let left : one' ≡ other' = cc in
+    (cc, record { files = same.files; input = same.input; datagrams = left })
+
+-- where files were looked at, one that is seen as a value is seen so in both
+seen_both : (kind : Kind) (asked : Option Format) (name : List ℕ) (one other : World) (value value' : QuotaValue) → one ≡ other → IsView (one name) kind asked (Ok value) → IsView (other name) kind asked (Ok value') → value ≡ value'
+seen_both kind asked name one other value value' same view view' =
+    seen_once (other name) kind asked value value' (subst (λ (w : World). IsView (w name) kind asked (Ok value)) same view) view'
+
+-- what has begun is a first part of every end of the same steps
+pub first_part : (looks takes : Bool) (steps : Steps) (one other : Outside) (done hand acts : List Act) (now new : Outside) (refusal : Option Refusal)
+    → LooksFirst looks takes steps → LooksSame looks takes one other → HasBegun steps one done hand now → EndsBy steps other acts new refusal → IsFirstPart done hand acts
+first_part looks takes (Ending stated) one other done hand acts now new refusal first same begun ends = first_none done hand acts begun.done_none begun.at_hand
+first_part looks takes (Doing act next) one other done hand acts now new refusal first same (inl is) ends = record {
+  rest = acts;
+  whole = ap (λ (d : List Act). d ++ acts) (sym is.done_none);
+  next = inr (is.at_hand ∙ ap (λ (a : List Act). take 1 a) (sym ends.2));
+}
+first_part looks takes (Doing act next) one other done hand acts now new refusal first same (inr by) ends =
+    let part = first_part (looks && leaves_files act) takes next (record one { files = by.1 }) (record other { files = ends.1 }) by.0 hand ends.0 now new refusal first
+    (same_done looks takes act one other by.1 ends.1 same by.3 ends.3) by.4 ends.4 in
+    record {
+      rest = part.rest;
+      whole = ends.2 ∙ ap (λ (a : List Act). act ∷ a) part.whole ∙ ap (λ (d : List Act). d ++ part.rest) (sym by.2);
+      next = part.next;
+    }
+first_part looks takes (Looking next) one other done hand acts now new refusal first same begun ends =
+    first_part looks takes (next other.files) one other done hand acts now new refusal (first.1 other.files) same
+    (subst (λ (w : World). HasBegun (next w) one done hand now) (same.files first.0) begun) ends
+first_part looks takes (Opening kind asked name next) one other done hand acts now new refusal first same (inl is) ends = first_none done hand acts is.done_none is.at_hand
+first_part looks takes (Opening kind asked name next) one other done hand acts now new refusal first same (inr by) (inl seen) =
+    first_part looks takes (next seen.0) one other done hand acts now new refusal (first.1 seen.0) same
+    (subst (λ (v : QuotaValue). HasBegun (next v) one done hand now) (seen_both kind asked name one.files other.files by.0 seen.0 (same.files first.0) by.1 seen.1) by.2) seen.2
+first_part looks takes (Opening kind asked name next) one other done hand acts now new refusal first same (inr by) (inr bad) =
+    absurd (view_or_refused (other.files name) kind asked by.0 bad.0 (subst (λ (w : World). IsView (w name) kind asked (Ok by.0)) (same.files first.0) by.1) bad.1)
+first_part looks takes (Reading whole next) one other done hand acts now new refusal first same (inl is) ends = first_none done hand acts is.done_none is.at_hand
+first_part looks takes (Reading whole next) one other done hand acts now new refusal first same (inr by) ends =
+    first_part looks false (next other.input) (record one { input = by.0 }) (record other { input = ends.0 }) done hand acts now new refusal (first.1 other.input)
+    (same_taken looks takes one other by.0 ends.0 same)
+    (subst (λ (b : List ℕ). HasBegun (next b) (record one { input = by.0 }) done hand now) (same.input first.0) by.2) ends.2
+first_part looks takes (Receiving next) one other done hand acts now new refusal first same (inl is) ends = first_none done hand acts is.done_none is.at_hand
+first_part looks takes (Receiving next) one other done hand acts now new refusal first same (inr by) ends =
+    let left = same_received looks takes one other by.0 ends.0 by.1 ends.1 same by.2 ends.2 in
+    first_part looks takes (next ends.0) (record one { datagrams = by.1 }) (record other { datagrams = ends.1 }) done hand acts now new refusal (first ends.0) left.1
+    (subst (λ (d : Datagram). HasBegun (next d) (record one { datagrams = by.1 }) done hand now) left.0 by.3) ends.3
+first_part looks takes (Before first_steps others) one other done hand acts now new refusal first same begun ends = absurd first
+first_part looks takes (InLine line steps) one other done hand acts now new refusal first same begun ends =
+    first_part looks takes steps one other done hand acts now new ends.0 first same begun ends.2
+
+-- a refusal in a line is none where there is none
+none_in_line : (line : ℕ) (own : Option Refusal) → None ≡ in_line line own → own ≡ None
+none_in_line line None is = refl
+none_in_line line (Some refusal) is = absurd (none-some _ is)
+
+-- where one end has no refusal, the steps are sure
+pub passed_sure : (looks takes : Bool) (steps : Steps) (one other : Outside) (acts : List Act) (new : Outside)
+    → LooksFirst looks takes steps → LooksSame looks takes one other → EndsBy steps one acts new None → IsSure steps other
+passed_sure looks takes (Ending stated) one other acts new first same ends = sym ends.ends
+passed_sure looks takes (Doing act next) one other acts new first same ends = λ middle follows.
+    passed_sure (looks && leaves_files act) takes next (record one { files = ends.1 }) (record other { files = middle }) ends.0 new first
+    (same_done looks takes act one other ends.1 middle same ends.3 follows) ends.4
+passed_sure looks takes (Looking next) one other acts new first same ends =
+    passed_sure looks takes (next other.files) one other acts new (first.1 other.files) same (subst (λ (w : World). EndsBy (next w) one acts new None) (same.files first.0) ends)
+passed_sure looks takes (Opening kind asked name next) one other acts new first same (inl seen) = (
+  λ fault view. view_or_refused (other.files name) kind asked seen.0 fault (subst (λ (w : World). IsView (w name) kind asked (Ok seen.0)) (same.files first.0) seen.1) view,
+  λ value view. passed_sure looks takes (next value) one other acts new (first.1 value) same
+      (subst (λ (v : QuotaValue). EndsBy (next v) one acts new None) (seen_both kind asked name one.files other.files seen.0 value (same.files first.0) seen.1 view) seen.2),
+)
+passed_sure looks takes (Opening kind asked name next) one other acts new first same (inr bad) = absurd (none-some _ bad.2.ends)
+passed_sure looks takes (Reading whole next) one other acts new first same ends = λ left taken.
+    passed_sure looks false (next other.input) (record one { input = ends.0 }) (record other { input = left }) acts new (first.1 other.input)
+    (same_taken looks takes one other ends.0 left same)
+    (subst (λ (b : List ℕ). EndsBy (next b) (record one { input = ends.0 }) acts new None) (same.input first.0) ends.2)
+passed_sure looks takes (Receiving next) one other acts new first same ends = λ datagram left is.
+    let rest = same_received looks takes one other ends.0 datagram ends.1 left same ends.2 is in
+    passed_sure looks takes (next datagram) (record one { datagrams = ends.1 }) (record other { datagrams = left }) acts new (first datagram) rest.1
+    (subst (λ (d : Datagram). EndsBy (next d) (record one { datagrams = ends.1 }) acts new None) rest.0 ends.3)
+passed_sure looks takes (Before first_steps others) one other acts new first same ends = absurd first
+passed_sure looks takes (InLine line steps) one other acts new first same ends =
+    passed_sure looks takes steps one other acts new first same (subst (λ (r : Option Refusal). EndsBy steps one acts new r) (none_in_line line ends.0 ends.1) ends.2)
+
+-- nothing is outside that differs
+pub looks_same : (looks takes : Bool) (old : Outside) → LooksSame looks takes old old
+looks_same looks takes old = record { files = λ is. refl; input = λ is. refl; datagrams = refl }
+
+-- The standard input.
+
+-- where nothing is left of it, nothing is left later on
+none_left : (steps : Steps) (old : Outside) (acts : List Act) (new : Outside) (refusal : Option Refusal) → EndsBy steps old acts new refusal → old.input ≡ [] → new.input ≡ []
+none_left (Ending stated) old acts new refusal is none = ap (λ (o : Outside). o.input) is.same ∙ none
+none_left (Doing act next) old acts new refusal by none = none_left next (record old { files = by.1 }) by.0 new refusal by.4 none
+none_left (Looking next) old acts new refusal by none = none_left (next old.files) old acts new refusal by none
+none_left (Opening kind asked name next) old acts new refusal (inl seen) none = none_left (next seen.0) old acts new refusal seen.2 none
+none_left (Opening kind asked name next) old acts new refusal (inr bad) none = ap (λ (o : Outside). o.input) bad.2.same ∙ none
+none_left (Reading whole next) old acts new refusal by none =
+    none_left (next old.input) (record old { input = by.0 }) acts new refusal by.2 (nothing_behind by.1.taken by.0 (sym by.1.behind ∙ none))
+  where
+    nothing_behind : (taken left : List ℕ) → taken ++ left ≡ [] → left ≡ []
+    nothing_behind [] left is = is
+    nothing_behind (b ∷ taken) left is = absurd (cc)
+none_left (Receiving next) old acts new refusal by none = none_left (next by.0) (record old { datagrams = by.1 }) acts new refusal by.3 none
+none_left (Before one others) old acts new refusal (inl stopped) none = none_left one old acts new (Some stopped.0) stopped.2 none
+none_left (Before one others) old acts new refusal (inr passed) none = none_left others passed.1 passed.2 new refusal passed.5 (none_left one old passed.0 passed.1 None passed.4 none)
+none_left (InLine line steps) old acts new refusal by none = none_left steps old acts new by.0 by.2 none
+
+taken_to_end : (whole : Bool) (next : Steps) (old : Outside) (acts : List Act) (left : List ℕ) (new : Outside) → (IsTrue whole → left ≡ []) → EndsBy next (record old { input = left }) acts new None
+    → (ReadsToEnd next → new.input ≡ []) → IsTrue whole ⊎ ReadsToEnd next → new.input ≡ []
+taken_to_end whole next old acts left new all by later (inl is) = none_left next (record old { input = left }) acts new None by (all is)
+taken_to_end whole next old acts left new all by later (inr reads) = later reads
+
+-- steps that read the input to its end leave nothing of it where they pass
+pub to_end : (steps : Steps) (old : Outside) (acts : List Act) (new : Outside) → ReadsToEnd steps → EndsBy steps old acts new None → new.input ≡ []
+to_end (Ending None) old acts new reads is = absurd reads
+to_end (Ending (Some refusal)) old acts new reads is = absurd (none-some refusal is.ends)
+to_end (Doing act next) old acts new reads by = to_end next (record old { files = by.1 }) by.0 new reads by.4
+to_end (Looking next) old acts new reads by = to_end (next old.files) old acts new (reads old.files) by
+to_end (Opening kind asked name next) old acts new reads (inl seen) = to_end (next seen.0) old acts new (reads seen.0) seen.2
+to_end (Opening kind asked name next) old acts new reads (inr bad) = absurd (none-some _ bad.2.ends)
+to_end (Reading whole next) old acts new reads by =
+    taken_to_end (whole old.input) (next old.input) old acts by.0 new by.1.all by.2 (λ later. to_end (next old.input) (record old { input = by.0 }) acts new later by.2) (reads old.input)
+to_end (Receiving next) old acts new reads by = to_end (next by.0) (record old { datagrams = by.1 }) acts new (reads by.0) by.3
+to_end (Before one others) old acts new reads (inl stopped) = absurd (none-some stopped.0 stopped.1)
+to_end (Before one others) old acts new (inl reads) (inr passed) = none_left others passed.1 passed.2 new None passed.5 (to_end one old passed.0 passed.1 reads passed.4)
+to_end (Before one others) old acts new (inr reads) (inr passed) = to_end others passed.1 passed.2 new reads passed.5
+to_end (InLine line steps) old acts new reads by =
+    to_end steps old acts new reads (subst (λ (r : Option Refusal). EndsBy steps old acts new r) (none_in_line line by.0 by.1) by.2)
+
+-- Datagrams.
+
+none_received : (old new : Outside) (count : ℕ) → new ≡ old → count ≡ 0 → AreReceived count old.datagrams new.datagrams
+none_received old new count same none = record { taken = []; behind = ap (λ (o : Outside). o.datagrams) (sym same); counted = sym none }
+
+-- steps that pass have received as many datagrams as they say
+pub received : (count : ℕ) (steps : Steps) (old : Outside) (acts : List Act) (new : Outside) → Receives count steps → EndsBy steps old acts new None → AreReceived count old.datagrams new.datagrams
+received count (Ending None) old acts new receives is = none_received old new count is.same receives
+received count (Ending (Some refusal)) old acts new receives is = absurd (none-some refusal is.ends)
+received count (Doing act next) old acts new receives by = received count next (record old { files = by.1 }) by.0 new receives by.4
+received count (Looking next) old acts new receives by = received count (next old.files) old acts new (receives old.files) by
+received count (Opening kind asked name next) old acts new receives (inl seen) = received count (next seen.0) old acts new (receives seen.0) seen.2
+received count (Opening kind asked name next) old acts new receives (inr bad) = absurd (none-some _ bad.2.ends)
+received count (Reading whole next) old acts new receives by = received count (next old.input) (record old { input = by.0 }) acts new (receives old.input) by.2
+received count (Receiving next) old acts new receives by =
+    let more = received receives.0 (next by.0) (record old { datagrams = by.1 }) acts new (receives.2 by.0) by.3 in
+    record { taken = by.0 ∷ more.taken; behind = by.2 ∙ ap (λ (d : List Datagram). by.0 ∷ d) more.behind; counted = ap suc more.counted ∙ sym receives.1 }
+received count (Before one others) old acts new receives (inl stopped) = absurd (none-some stopped.0 stopped.1)
+received count (Before one others) old acts new receives (inr passed) =
+    let first = received receives.0 one old passed.0 passed.1 receives.3 passed.4 in
+    let more = received receives.1 others passed.1 passed.2 new receives.4 passed.5 in
+    record {
+      taken = first.taken ++ more.taken;
+      behind = first.behind ∙ ap (λ (d : List Datagram). first.taken ++ d) more.behind ∙ sym (append_assoc first.taken more.taken new.datagrams);
+      counted = length-append first.taken more.taken ∙ ap (λ (n : ℕ). n + length more.taken) first.counted ∙ ap (λ (n : ℕ). receives.0 + n) more.counted ∙ sym receives.2;
+    }
+received count (InLine line steps) old acts new receives by =
+    received count steps old acts new receives (subst (λ (r : Option Refusal). EndsBy steps old acts new r) (none_in_line line by.0 by.1) by.2)
+
+-- Commands in a row.
+
+-- a row has begun where its first commands ended, and the next one has begun from what they left
+pub row_begun : (first : List Steps) (next : Steps) (others : List Steps) (old : Outside) (acts : List Act) (middle : Outside) (done hand : List Act) (now : Outside)
+    → EndsBy (InARow first) old acts middle None → HasBegun next middle done hand now → HasBegun (InARow (first ++ next ∷ others)) old (acts ++ done) hand now
+row_begun [] next others old acts middle done hand now ends begun =
+    inl (subst (λ (a : List Act). HasBegun next old (a ++ done) hand now) (sym ends.acts_none) (subst (λ (o : Outside). HasBegun next o done hand now) ends.same begun))
+row_begun (one ∷ first) next others old acts middle done hand now (inl stopped) begun = absurd (none-some stopped.0 stopped.1)
+row_begun (one ∷ first) next others old acts middle done hand now (inr passed) begun = inr (
+  passed.0,
+  passed.1,
+  passed.2 ++ done,
+  ap (λ (a : List Act). a ++ done) passed.3 ∙ append_assoc passed.0 passed.2 done,
+  passed.4,
+  row_begun first next others passed.1 passed.2 middle done hand now passed.5 begun,
+)
+
+-- a row is sure where each of its commands is, in all that the ones before it may leave
+pub row_sure : (first : List Steps) (others : List Steps) (old : Outside) → IsSure (InARow first) old
+    → ((acts : List Act) (middle : Outside) → EndsBy (InARow first) old acts middle None → IsSure (InARow others) middle) → IsSure (InARow (first ++ others)) old
+row_sure [] others old sure later = later [] old (record { acts_none = refl; same = refl; ends = refl })
+row_sure (one ∷ first) others old sure later = (
+  sure.0,
+  λ acts middle ends. row_sure first others middle (sure.1 acts middle ends) (λ more last by. later (acts ++ more) last (inr (acts, middle, more, refl, ends, by))),
+)
+
+-- Two commands, each in its line of a script.
+
+-- what comes last in a row ends it
+last_ends : (steps : Steps) (old : Outside) (acts : List Act) (new : Outside) (refusal : Option Refusal) → EndsBy steps old acts new refusal → EndsBy (Before steps Finish) old acts new refusal
+last_ends steps old acts new None ends = inr (acts, new, [], sym (append-nil acts), ends, record { acts_none = refl; same = refl; ends = refl })
+last_ends steps old acts new (Some refusal) ends = inl (refusal, refl, ends)
+
+pub lines_both : (one other : Steps) (line next : ℕ) (old middle new : Outside) (first rest : List Act) (refusal : Option Refusal) → EndsBy one old first middle None → EndsBy other middle rest new refusal
+    → EndsBy (InARow (InLine line one ∷ InLine next other ∷ [])) old (first ++ rest) new (in_line next refusal)
+lines_both one other line next old middle new first rest refusal ends others =
+    inr (first, middle, rest, refl, (None, refl, ends), last_ends (InLine next other) middle rest new (in_line next refusal) (refusal, refl, others))
+
+pub lines_stopped : (one other : Steps) (line next : ℕ) (old new : Outside) (acts : List Act) (refusal : Refusal) → EndsBy one old acts new (Some refusal)
+    → EndsBy (InARow (InLine line one ∷ InLine next other ∷ [])) old acts new (in_line line (Some refusal))
+lines_stopped one other line next old new acts refusal ends = inl (_, refl, (Some refusal, refl, ends))
+
+pub lines_sure : (one other : Steps) (line next : ℕ) (old : Outside) → IsSure one old → ((acts : List Act) (middle : Outside) → EndsBy one old acts middle None → IsSure other middle)
+    → IsSure (InARow (InLine line one ∷ InLine next other ∷ [])) old
+lines_sure one other line next old sure later = (
+  sure,
+  λ acts middle ends. (
+    later acts middle (subst (λ (r : Option Refusal). EndsBy one old acts middle r) (none_in_line line ends.0 ends.1) ends.2),
+    λ more last by. refl,
+  ),
+)

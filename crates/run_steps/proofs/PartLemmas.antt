@@ -1,0 +1,134 @@
+-- Steps that were done in part.
+use Rattle.std.proofs.Common.{◌≡◌, ◌⊎◌, ℕ, true, false, IsTrue, List, [], ◌∷◌, ◌++◌, take, Option, inl, inr, refl, sym, ap, subst, ◌∙◌, append-nil}
+use Rattle.std.proofs.lemmas.Bool.{false≢true}
+use Rattle.quota_blocks.specs.Seen.{SinkSeen}
+use Rattle.quota_blocks.specs.Text.{AppendsPrefix}
+use Rattle.quota_blocks.specs.World.{World}
+use Rattle.refusals.specs.declared.reason.Refusal.{Refusal}
+use Rattle.run_steps.specs.Act.{Act, ToOut, ToErr, Answer, Change, ChangesNone, Follows, FollowsInPart, out_bytes, err_bytes}
+use Rattle.run_steps.specs.Done.{AreDoneInPart, Outside, RunSeen, RunTells, outside_of}
+use Rattle.run_steps.specs.Meaning.{EndsBy, HasBegun}
+use Rattle.run_steps.specs.OneCommand.{LooksFirst}
+use Rattle.run_steps.specs.Run.{HasSteps, IsDoneInPart}
+use Rattle.run_steps.specs.Steps.{AreDoneThen, Steps}
+use Rattle.run_steps.proofs.ActLemmas.{appends_nothing, changes_none_before, none_appended, none_in_part}
+use Rattle.run_steps.proofs.MeaningLemmas.{begun_follow, ended_begun, first_part, looks_same, unbegun}
+
+-- nothing was done
+pub nothing_begun : (steps : Steps) (tells : RunTells) (old new : RunSeen) → new.store.files ≡ old.store.files → (IsTrue tells.out → new.out.written ≡ old.out.written)
+    → (IsTrue tells.err → new.err.written ≡ old.err.written) → new.link.answers ≡ old.link.answers → new.link.left ≡ old.link.left → new.store.writes ≡ old.store.writes → IsDoneInPart steps tells old new
+nothing_begun steps tells old new files out err sent left writes =
+    let start = unbegun steps (outside_of old) in
+    record {
+      done = [];
+      hand = start.0;
+      now = outside_of old;
+      begun = start.1;
+      files = none_in_part start.0 old.store.files new.store.files files;
+      out = λ told. appends_nothing (old.out.written ++ []) new.out.written (out_bytes start.0) (out told ∙ sym (append-nil old.out.written));
+      err = λ told. appends_nothing (old.err.written ++ []) new.err.written (err_bytes start.0) (err told ∙ sym (append-nil old.err.written));
+      answered = sent ∙ sym (append-nil old.link.answers);
+      datagrams = left;
+      writes = λ none. writes;
+    }
+
+-- what was done whole was done in part
+pub whole_begun : (steps : Steps) (tells : RunTells) (refusal : Option Refusal) (old new : RunSeen) → HasSteps steps tells refusal old new → IsDoneInPart steps tells old new
+whole_begun steps tells refusal old new has = record {
+  done = has.acts;
+  hand = [];
+  now = outside_of new;
+  begun = ended_begun steps (outside_of old) has.acts (outside_of new) refusal has.by_steps;
+  files = refl;
+  out = λ told. appends_nothing (old.out.written ++ out_bytes has.acts) new.out.written [] (has.done.out told);
+  err = λ told. appends_nothing (old.err.written ++ err_bytes has.acts) new.err.written [] (has.done.err told);
+  answered = has.done.answered;
+  datagrams = refl;
+  writes = λ none. has.done.writes (changes_none_before has.acts [] none);
+}
+
+-- acts of which the first ones were done have begun
+acts_begun : (done rest : List Act) (end : Option Refusal) (from : Outside) (files : World) → Follows done from.files files
+    → HasBegun (AreDoneThen (done ++ rest) end) from done (take 1 rest) (record from { files = files })
+acts_begun [] [] end from files same = record { done_none = refl; at_hand = refl; same = ap (λ (w : World). record from { files = w }) same }
+acts_begun [] (act ∷ rest) end from files same = inl (record { done_none = refl; at_hand = refl; same = ap (λ (w : World). record from { files = w }) same })
+acts_begun (act ∷ done) rest end from files follows = inr (done, follows.0, refl, follows.1, acts_begun done rest end (record from { files = follows.0 }) files follows.2)
+
+-- of acts that follow in part only the first counts
+first_in_part : (rest : List Act) (old new : World) → FollowsInPart rest old new → FollowsInPart (take 1 rest) old new
+first_in_part [] old new follows = follows
+first_in_part (ToOut bytes ∷ rest) old new follows = follows
+first_in_part (ToErr bytes ∷ rest) old new follows = follows
+first_in_part (Answer bytes ∷ rest) old new follows = follows
+first_in_part (Change name value ∷ rest) old new follows = follows
+
+all_in_part : (rest : List Act) (old new : World) → FollowsInPart (take 1 rest) old new → FollowsInPart rest old new
+all_in_part [] old new follows = follows
+all_in_part (ToOut bytes ∷ rest) old new follows = follows
+all_in_part (ToErr bytes ∷ rest) old new follows = follows
+all_in_part (Answer bytes ∷ rest) old new follows = follows
+all_in_part (Change name value ∷ rest) old new follows = follows
+
+-- acts that were done in part are steps that were done in part
+pub acts_in_part : (acts : List Act) (end : Option Refusal) (tells : RunTells) (old new : RunSeen) → new.link.left ≡ old.link.left → AreDoneInPart tells acts old new → IsDoneInPart (AreDoneThen acts end) tells old new
+acts_in_part acts end tells old new left part = record {
+  done = part.done;
+  hand = take 1 part.rest;
+  now = record (outside_of old) { files = part.files.0 };
+  begun = subst (λ (a : List Act). HasBegun (AreDoneThen a end) (outside_of old) part.done (take 1 part.rest) (record (outside_of old) { files = part.files.0 })) (sym part.whole)
+      (acts_begun part.done part.rest end (outside_of old) part.files.0 part.files.1);
+  files = first_in_part part.rest part.files.0 new.store.files part.files.2;
+  out = part.out;
+  err = part.err;
+  answered = part.answered;
+  datagrams = left;
+  writes = part.writes;
+}
+
+-- what the error output got does not count where it is left out
+pub part_but_err : (steps : Steps) (tells : RunTells) (old new : RunSeen) (said : SinkSeen) → IsDoneInPart steps tells old new → IsDoneInPart steps (record tells { err = false }) old (record new { err = said })
+part_but_err steps tells old new said part = record {
+  done = part.done;
+  hand = part.hand;
+  now = part.now;
+  begun = part.begun;
+  files = part.files;
+  out = part.out;
+  err = λ told. absurd (false≢true told);
+  answered = part.answered;
+  datagrams = part.datagrams;
+  writes = part.writes;
+}
+
+-- What was done in part of one command is a first part of every end of it.
+
+-- what is at hand is nothing, or the first of the rest
+hand_in_part : (hand rest : List Act) (old new : World) → (hand ≡ []) ⊎ (hand ≡ take 1 rest) → FollowsInPart hand old new → FollowsInPart rest old new
+hand_in_part hand rest old new (inl none) follows = none_in_part rest old new (subst (λ (a : List Act). FollowsInPart a old new) none follows)
+hand_in_part hand rest old new (inr first) follows = all_in_part rest old new (subst (λ (a : List Act). FollowsInPart a old new) first follows)
+
+hand_prefix : (bytes_of : List Act → List ℕ) (hand rest : List Act) (old new : List ℕ) → bytes_of [] ≡ [] → (hand ≡ []) ⊎ (hand ≡ take 1 rest) → AppendsPrefix old new (bytes_of hand)
+    → AppendsPrefix old new (bytes_of (take 1 rest))
+hand_prefix bytes_of hand rest old new nothing (inl none) prefix =
+    appends_nothing old new (bytes_of (take 1 rest)) (none_appended old new (subst (λ (b : List ℕ). AppendsPrefix old new b) (ap bytes_of none ∙ nothing) prefix))
+hand_prefix bytes_of hand rest old new nothing (inr first) prefix = subst (λ (a : List Act). AppendsPrefix old new (bytes_of a)) first prefix
+
+hand_none : (done hand rest : List Act) → (hand ≡ []) ⊎ (hand ≡ take 1 rest) → ChangesNone (done ++ take 1 rest) → ChangesNone (done ++ hand)
+hand_none done hand rest (inl none) changes =
+    subst (λ (a : List Act). ChangesNone (done ++ a)) (sym none) (subst (λ (a : List Act). ChangesNone a) (sym (append-nil done)) (changes_none_before done (take 1 rest) changes))
+hand_none done hand rest (inr first) changes = subst (λ (a : List Act). ChangesNone (done ++ a)) (sym first) changes
+
+pub part_of_end : (steps : Steps) (tells : RunTells) (old new : RunSeen) (acts : List Act) (to : Outside) (refusal : Option Refusal) → LooksFirst true true steps → IsDoneInPart steps tells old new
+    → EndsBy steps (outside_of old) acts to refusal → AreDoneInPart tells acts old new
+part_of_end steps tells old new acts to refusal looks part ends =
+    let first = first_part true true steps (outside_of old) (outside_of old) part.done part.hand acts part.now to refusal looks (looks_same true true (outside_of old)) part.begun ends in
+    record {
+      done = part.done;
+      rest = first.rest;
+      whole = first.whole;
+      files = (part.now.files, begun_follow steps (outside_of old) part.done part.hand part.now part.begun, hand_in_part part.hand first.rest part.now.files new.store.files first.next part.files);
+      out = λ told. hand_prefix out_bytes part.hand first.rest (old.out.written ++ out_bytes part.done) new.out.written refl first.next (part.out told);
+      err = λ told. hand_prefix err_bytes part.hand first.rest (old.err.written ++ err_bytes part.done) new.err.written refl first.next (part.err told);
+      answered = part.answered;
+      writes = λ none. part.writes (hand_none part.done part.hand first.rest first.next none);
+    }

@@ -1,0 +1,38 @@
+-- A file is seen as one value at most.
+use Rattle.std.proofs.Common.{◌≡◌, ℕ, List, Option, None, Some, Ok, sym, ◌∙◌}
+use Rattle.std.specs.Cmp.{nat_cmp_total}
+use Rattle.std.specs.FinMap.{nat_cmp-IsAntisymmetric, same_map}
+use Rattle.quota_types.specs.declared.file_kind.Kind.{Kind}
+use Rattle.quota_types.specs.declared.file_kind.Format.{Format}
+use Rattle.quota_types.specs.declared.file_kind.Format.TheVariants.{V1, V2R0, V2R1}
+use Rattle.quota_blocks.specs.QuotaValue.{QuotaValue}
+use Rattle.quota_v1.specs.FlatFile.{FlatStandsFor}
+use Rattle.quota_v1.specs.View.{IsFlatView}
+use Rattle.quota_map.specs.View.{IsView, most_blocks}
+use Rattle.tree_build.proofs.MeaningLemmas.{one_meaning}
+use Rattle.tree_file.specs.View.{IsTreeView}
+
+-- a flat file stands for one value of a kind at most
+flat_meaning : (file : List ℕ) (value other : QuotaValue) → FlatStandsFor file value → FlatStandsFor file other → value.kind ≡ other.kind → value ≡ other
+flat_meaning file value other stands stands' kind =
+    let format : value.format ≡ other.format = stands.format ∙ sym stands'.format in
+    let grace : value.grace ≡ other.grace = stands.grace ∙ sym stands'.grace in
+    let flags : value.flags ≡ other.flags = stands.flags ∙ sym stands'.flags in
+    let records : value.records ≡ other.records = same_map nat_cmp_total nat_cmp-IsAntisymmetric value.records other.records
+    (λ id. stands.records id ∙ sym (stands'.records id)) in
+    λ i. record { kind = kind i; format = format i; grace = grace i; flags = flags i; records = records i }
+
+flat_once : (named : Option (List ℕ)) (kind : Kind) (value other : QuotaValue) → IsFlatView named kind (Ok value) → IsFlatView named kind (Ok other) → value ≡ other
+flat_once None kind value other seen also = absurd seen.0
+flat_once (Some file) kind value other seen also = flat_meaning file value other seen.0.1 also.0.1 (seen.1 ∙ sym also.1)
+
+tree_once : (named : Option (List ℕ)) (kind : Kind) (asked : Option Format) (value other : QuotaValue)
+    → IsTreeView named kind asked most_blocks (Ok value) → IsTreeView named kind asked most_blocks (Ok other) → value ≡ other
+tree_once None kind asked value other seen also = absurd seen.0
+tree_once (Some file) kind asked value other seen also = one_meaning file value other seen.0.1 also.0.1
+
+pub seen_once : (named : Option (List ℕ)) (kind : Kind) (asked : Option Format) (value other : QuotaValue) → IsView named kind asked (Ok value) → IsView named kind asked (Ok other) → value ≡ other
+seen_once named kind None value other seen also = tree_once named kind None value other seen also
+seen_once named kind (Some V1) value other seen also = flat_once named kind value other seen also
+seen_once named kind (Some V2R0) value other seen also = tree_once named kind (Some V2R0) value other seen also
+seen_once named kind (Some V2R1) value other seen also = tree_once named kind (Some V2R1) value other seen also
