@@ -7,43 +7,39 @@ use Rattle.std.specs.String.{string_bytes}
 use Rattle.quota_types.specs.Kept.{kept_of}
 use Rattle.quota_types.specs.Rec.{is_null_of}
 use Rattle.quota_types.specs.declared.field.Field.{Field}
-use Rattle.quota_types.specs.declared.file_kind.Kind.{Kind}
 use Rattle.quota_types.specs.declared.file_kind.Format.{Format}
 use Rattle.quota_types.specs.declared.file_kind.Format.TheVariants.{V1}
 use Rattle.quota_types.specs.declared.record.Rec.{Rec}
 use Rattle.quota_blocks.specs.FileChange.{Put, Remove, changed_value}
-use Rattle.quota_blocks.specs.Frame.{OnlyReads}
 use Rattle.quota_blocks.specs.QuotaFile.{FileSeen, IsChangeFault}
 use Rattle.quota_blocks.specs.QuotaValue.{QuotaValue}
 use Rattle.quota_blocks.specs.Seen.{StoreSeen}
 use Rattle.quota_blocks.specs.World.{World}
-use Rattle.quota_blocks.proofs.FrameLemmas.{only_reads-then, replaces_one-after_read}
 use Rattle.quota_blocks.specs.declared.quota_file.FileFault.TheVariants.{Store, Damage, Full, Memory}
 use Rattle.tree_file.specs.Opened.{LacksRoom}
 use Rattle.tree_build.specs.Size.{blocks_needed, ids_in}
 use Rattle.quota_map.specs.AnyFile.{AnyMakes, HoldsAny, MayRefuse, any_seen}
 use Rattle.quota_map.specs.declared.any_file.AnyFile.{AnyFile}
 use Rattle.quota_map.specs.declared.any_file.AnyFile.TheVariants.{V1 as FlatFile, Tree as TreeFile}
-use Rattle.quota_map.specs.View.{IsView, fresh_seen, most_blocks}
+use Rattle.quota_map.specs.View.{fresh_seen, most_blocks}
 use Rattle.quota_map.proofs.SeenLemmas.{any_held_seen, tree_limit}
 use Rattle.set_edit.specs.EditFault.{OnBroken, OnUnchanged, file_fault}
 use Rattle.set_edit.specs.Edited.{unless_unfit, with_kept}
-use Rattle.set_edit.specs.Editing.{Edit, Edits, FileLaws, HasCause, IsDone, Leaves, file_at, laws_of}
+use Rattle.set_edit.specs.Editing.{Edit, Edits, FileLaws, HasCause, file_at, laws_of}
 use Rattle.set_edit.specs.Times.{skips_both_of, wanted_times}
 use Rattle.set_edit.specs.declared.fault.EditFault.{EditFault}
 use Rattle.set_edit.specs.declared.fault.EditFault.TheVariants.{File, NoRoom as Unfit}
 use Rattle.edit_commands.specs.declared.edit.FileEdit.{FileEdit}
 use Rattle.edit_commands.specs.declared.edit.FileEdit.TheVariants.{Limits, Copy, Grace as Periods, Times}
 use Rattle.refusals.specs.Status.{status_of}
-use Rattle.run_steps.specs.Done.{RunSeen, RunTells}
 use Rattle.set_edit.specs.declared.skipped.Skipped.{Skipped}
 use Rattle.refusals.specs.declared.cause.Cause.{Cause}
 use Rattle.run_steps.specs.Opening.{MayRefuseOpening}
 use Rattle.edit_commands.specs.Edits.{ChangeMayRefuse, FileEditMayRefuse, edit_cause, is_too_large, unskipped}
 use Rattle.run_steps.specs.Changing.{blocks_of}
 use Rattle.edit_commands.specs.EditWords.{MaySkip, edit_meant, edit_warns, skips_none}
-use Rattle.edit_commands.proofs.EditLemmas.{EditedSeen, IsEditing}
-use Rattle.edit_commands.proofs.RefusedEditLemmas.{HasEditCause, IsEditRefused, IsLacking}
+use Rattle.edit_commands.proofs.EditLemmas.{EditedSeen, IsMade}
+use Rattle.edit_commands.proofs.RefusedEditLemmas.{HasEditCause, IsLacking, IsRefusedAt}
 
 -- An edit keeps the format.
 
@@ -117,22 +113,6 @@ abbrev pub AnyEdits : {T : Type 0} → Edit → Bool → (opened file : AnyFile)
 AnyEdits edit tells opened file before after result =
     Edits edit (any_laws tells) (file_at (HoldsAny tells before.files opened) (any_seen opened) before) (file_at (HoldsAny tells after.files file) (any_seen file) after) result
 
--- a value that is seen of the named file is held by the opened one
-abbrev pub IsHeld : Kind → Option Format → List ℕ → RunTells → RunSeen → StoreSeen → AnyFile → Type 0
-IsHeld kind asked name tells old before opened =
-    IsTrue tells.store → (value : QuotaValue) → IsView (old.store.files name) kind asked (Ok value) → HoldsAny tells.store before.files opened value
-
-pub any_editing : {T : Type 0} (kind : Kind) (asked : Option Format) (name : List ℕ) (edit : Edit) (tells : RunTells) (old : RunSeen) (opened file : AnyFile) (before after : StoreSeen) (format : Format) (result : Result T EditFault)
-    → any_seen opened ≡ fresh_seen name format → OnlyReads name old.store before → (IsTrue tells.store → (value : QuotaValue) × IsView (old.store.files name) kind asked (Ok value))
-    → IsHeld kind asked name tells old before opened → AnyEdits edit tells.store opened file before after result → IsEditing kind asked name edit tells old after
-any_editing kind asked name edit tells old opened file before after format result was first seen held edits =
-    let named : (any_seen opened).name ≡ name = ap (λ (s : FileSeen). s.name) was in
-    record {
-      seen = seen;
-      idle = λ told value view is. only_reads-then name old.store before after first (rw named at (edits.idle value (held told value view) is));
-      leaves = replaces_one-after_read name old.store before after first (rw named at edits.leaves);
-    }
-
 -- an edited value that the opened file holds is seen of the file, which is not too large
 edited_seen : (tells : Bool) (edit : Edit) (opened file : AnyFile) (before after : StoreSeen) (name : List ℕ) (format : Format) (value : QuotaValue) (edited : Result QuotaValue (Field × ℕ))
     → edit.edited value ≡ edited → KeepsFormat edit → any_seen opened ≡ fresh_seen name format → any_seen file ≡ fresh_seen name format → HoldsAny tells before.files opened value
@@ -148,13 +128,17 @@ edited_seen tells edit opened file before after name format value (Ok new) set k
 )
 edited_seen tells edit opened file before after name format value (Err out) set keeps was is held holds room = absurd holds
 
-pub any_edited : (tells : Bool) (edit : Edit) (opened file : AnyFile) (before after : StoreSeen) (name : List ℕ) (format : Format) (value : QuotaValue) → KeepsFormat edit
-    → any_seen opened ≡ fresh_seen name format → HoldsAny tells before.files opened value
-    → IsDone edit (any_laws tells) (file_at (HoldsAny tells before.files opened) (any_seen opened) before) (file_at (HoldsAny tells after.files file) (any_seen file) after)
-    → EditedSeen name after edit value (edit.edited value)
-any_edited tells edit opened file before after name format value keeps was held done =
-    edited_seen tells edit opened file before after name format value (edit.edited value) refl keeps was (done.same ∙ was) held (done.set value held)
-    (λ needs blocks limit some. done.room needs value blocks limit held some)
+pub any_made : {T : Type 0} (tells : Bool) (edit : Edit) (opened file : AnyFile) (before after : StoreSeen) (name : List ℕ) (format : Format) (value : QuotaValue) (done : T) → KeepsFormat edit
+    → any_seen opened ≡ fresh_seen name format → (IsTrue tells → HoldsAny tells before.files opened value) → AnyEdits edit tells opened file before after (Ok done)
+    → IsMade name edit value (IsTrue tells) before after
+any_made tells edit opened file before after name format value done keeps was held edits =
+    let named : (any_seen opened).name ≡ name = ap (λ (s : FileSeen). s.name) was in
+    record {
+      idle = λ told is. rw named at (edits.idle value (held told) is);
+      set = λ told. edited_seen tells edit opened file before after name format value (edit.edited value) refl keeps was (edits.done.same ∙ was) (held told) (edits.done.set value (held told))
+          (λ needs blocks limit some. edits.done.room needs value blocks limit (held told) some);
+      leaves = rw named at edits.leaves;
+    }
 
 -- Refused edits.
 
@@ -195,51 +179,24 @@ broken_at (File (Full blocks limit)) usable holds fact value broken held = tt
 broken_at (File Memory) usable holds fact value broken held = tt
 broken_at (Unfit out) usable holds fact value broken held = tt
 
-pub any_refused : {T : Type 0} (kind : Kind) (asked : Option Format) (name : List ℕ) (edit : Edit) (tells : RunTells) (old : RunSeen) (opened file : AnyFile) (before after : StoreSeen) (format : Format) (result : Result T EditFault) (fault : EditFault)
-    → KeepsFormat edit → any_seen opened ≡ fresh_seen name format → OnlyReads name old.store before → IsHeld kind asked name tells old before opened
-    → AnyEdits edit tells.store opened file before after result
-    → Leaves edit (any_laws tells.store) (file_at (HoldsAny tells.store before.files opened) (any_seen opened) before) (file_at (HoldsAny tells.store after.files file) (any_seen file) after) fault
-    → IsEditRefused kind asked name edit tells old after (edit_cause fault)
-any_refused kind asked name edit tells old opened file before after format result fault keeps was first held edits left =
+pub any_refused : {T : Type 0} (name : List ℕ) (edit : Edit) (tells : Bool) (opened file : AnyFile) (before after : StoreSeen) (format : Format) (value : QuotaValue) (fault : EditFault)
+    → KeepsFormat edit → any_seen opened ≡ fresh_seen name format → (IsTrue tells → HoldsAny tells before.files opened value) → AnyEdits {T = T} edit tells opened file before after (Err fault)
+    → IsRefusedAt name edit value (IsTrue tells) before after (edit_cause fault)
+any_refused name edit tells opened file before after format value fault keeps was held edits =
     let named : (any_seen opened).name ≡ name = ap (λ (s : FileSeen). s.name) was in
-    let kept = only_reads-then name old.store before after first in
-    record {
-      whole = λ other. kept (rw named at (whole_unless_fault _ _ fault left.unwritten other));
-      named = λ told. rw named at (left.unchanged (λ b a l same. same) told) ∙ ap (λ (w : World). w name) first.files;
-      unfit = λ told value out view is.
-          kept (rw named at (same_where_unfit _ _ fault _ out left.unwritten
-          (broken_at fault _ _ (λ (v : QuotaValue). IsOk (edit.edited v)) value left.fits (held told value view)) is));
-      full = λ told value new view is large.
-          let both = both_of edit.needs_room (nat_lt most_blocks (blocks_of new)) large in
-          kept (rw named at (same_where_full _ (edit.edited value) (λ (v : QuotaValue). LacksRoom (any_seen opened) v (blocks_of new) most_blocks) new
-          (edits.full both.0 value (blocks_of new) most_blocks (held told value view)) is
-          (lacks_most tells.store before.files opened value new name format was (held told value view) (keeps value new is) (less_of most_blocks (blocks_of new) both.1))));
-    }
-
--- What an edit left that was refused, of a file that held this value: nothing was written unless the store failed, nor where
--- the value does not fit or there is no room for it; and the named file is as it was.
-pub record IsRefusedAt (name : List ℕ) (edit : Edit) (value : QuotaValue) (before after : StoreSeen) (cause : Cause) : Type 0 where
-  pub whole : status_of cause ≢ 4 → OnlyReads name before after
-  pub named : after.files name ≡ before.files name
-  pub unfit : (out : Field × ℕ) → edit.edited value ≡ Err out → OnlyReads name before after
-  pub full : (new : QuotaValue) → edit.edited value ≡ Ok new → IsTrue (is_too_large edit new) → OnlyReads name before after
-
-pub refused_at : {T : Type 0} (name : List ℕ) (edit : Edit) (tells : Bool) (opened file : AnyFile) (before after : StoreSeen) (format : Format) (value : QuotaValue) (result : Result T EditFault) (fault : EditFault)
-    → KeepsFormat edit → any_seen opened ≡ fresh_seen name format → IsTrue tells → HoldsAny tells before.files opened value → AnyEdits edit tells opened file before after result
-    → Leaves edit (any_laws tells) (file_at (HoldsAny tells before.files opened) (any_seen opened) before) (file_at (HoldsAny tells after.files file) (any_seen file) after) fault
-    → IsRefusedAt name edit value before after (edit_cause fault)
-refused_at name edit tells opened file before after format value result fault keeps was told held edits left =
-    let named : (any_seen opened).name ≡ name = ap (λ (s : FileSeen). s.name) was in
+    let left = edits.left in
     record {
       whole = λ other. rw named at (whole_unless_fault _ _ fault left.unwritten other);
-      named = rw named at (left.unchanged (λ b a l same. same) told);
-      unfit = λ out is. rw named at (same_where_unfit _ _ fault _ out left.unwritten
-          (broken_at fault _ _ (λ (v : QuotaValue). IsOk (edit.edited v)) value left.fits held) is);
-      full = λ new is large.
+      idle = λ told is. rw named at (edits.idle value (held told) is);
+      named = λ told. rw named at (left.unchanged (λ b a l same. same) told);
+      unfit = λ told out is. rw named at (same_where_unfit _ _ fault _ out left.unwritten
+          (broken_at fault _ _ (λ (v : QuotaValue). IsOk (edit.edited v)) value left.fits (held told)) is);
+      full = λ told new is large.
           let both = both_of edit.needs_room (nat_lt most_blocks (blocks_of new)) large in
           rw named at (same_where_full _ (edit.edited value) (λ (v : QuotaValue). LacksRoom (any_seen opened) v (blocks_of new) most_blocks) new
-          (edits.full both.0 value (blocks_of new) most_blocks held) is
-          (lacks_most tells before.files opened value new name format was held (keeps value new is) (less_of most_blocks (blocks_of new) both.1)));
+          (edits.full both.0 value (blocks_of new) most_blocks (held told)) is
+          (lacks_most tells before.files opened value new name format was (held told) (keeps value new is) (less_of most_blocks (blocks_of new) both.1)));
+      leaves = rw named at edits.leaves;
     }
 
 -- an edited value that is lacking

@@ -1,9 +1,9 @@
 pub mod BatchInputLemmas
 pub mod BatchLemmas
-pub mod EndedBatchLemmas
 pub mod EditFileLemmas
 pub mod EditLemmas
 pub mod RefusedEditLemmas
 pub mod FormLemmas
+pub mod MeaningLemmas
 pub mod WarningLemmas
 pub mod WordLemmas

@@ -93,9 +93,9 @@ pub edit_refusal : (names : List NameLine) (words : EditWords) (refusal : Refusa
 edit_refusal names words refusal read = subst (λ (o : Outcome FileEdit). OnlyForWord o) read (edit_words names words)
 
 -- the refusal of a word belongs to the effect
-word_reason : (warns : Bool) (old : RunSeen) (refusal : Refusal) → (refusal.cause ≡ UnknownName) ⊎ (refusal.cause ≡ BadNumber) → (stated : Type 0) → stated → HasReason warns old old stated refusal.cause
-word_reason warns old refusal (inl is) stated fact = subst (λ (c : Cause). HasReason warns old old stated c) (sym is) fact
-word_reason warns old refusal (inr is) stated fact = subst (λ (c : Cause). HasReason warns old old stated c) (sym is) fact
+word_reason : (uses : Uses) (old : RunSeen) (refusal : Refusal) → (refusal.cause ≡ UnknownName) ⊎ (refusal.cause ≡ BadNumber) → (stated : Type 0) → stated → HasReason uses old old stated refusal.cause
+word_reason uses old refusal (inl is) stated fact = subst (λ (c : Cause). HasReason uses old old stated c) (sym is) fact
+word_reason uses old refusal (inr is) stated fact = subst (λ (c : Cause). HasReason uses old old stated c) (sym is) fact
 
 -- the status of such a refusal is 1
 pub word_status : (refusal : Refusal) → IsOfWord refusal → status_of refusal.cause ≡ 1
@@ -112,7 +112,7 @@ pub word_refused : {V : Type 0} (outcome : Outcome V) (next : V → Steps) (uses
     → CarriesOut (Then outcome next) uses more tells old old (Err refusal)
 word_refused outcome next uses more tells old refusal read word allows =
     subst (λ (o : Outcome _). CarriesOut (Then o next) uses more tells old old (Err refusal)) (sym read)
-    (stop_carried uses more tells old refusal (word_reason uses.warns old refusal word.0)
+    (stop_carried uses more tells old refusal (word_reason uses old refusal word.0)
     (allows (read ∙ ap (λ (r : Refusal). Refused r) (refusal_nowhere refusal word.1)))
     (record { line = λ no. ap (λ (p : Place). p.line) word.1; input_line = λ no. ap (λ (p : Place). p.input_line) word.1 }))
 

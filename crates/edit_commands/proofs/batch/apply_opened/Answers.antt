@@ -1,17 +1,15 @@
-use Rattle.std.proofs.Common.{[], Option, Ok, Err, inl, inr, sym, ap, subst}
+use Rattle.std.proofs.Common.{false, [], Option, Ok, Err, inl, inr, sym, ap, subst}
 use Rattle.std.specs.Prelude.{IfSome, unwrap_or}
+use Rattle.std.proofs.lemmas.Bool.{false≢true}
 use Rattle.quota_blocks.specs.World.{World}
 use Rattle.quota_map.specs.AnyFile.{HoldsAny}
 use Rattle.refusals.specs.declared.reason.Refusal.{Refusal}
 use Rattle.run_steps.specs.Done.{seen_of, tells_of}
 use Rattle.run_steps.specs.Taking.{Lines, input_name}
 use Rattle.edit_commands.specs.Batch.{Applying, Asked, IsOfLine, LineEditMayRefuse, is_to_end, line_uses}
-use Rattle.edit_commands.proofs.BatchLemmas.{then_ended, then_refused, then_stopped}
-use Rattle.edit_commands.proofs.EndedBatchLemmas.{applying_moved, ends_none}
-use Rattle.run_steps.proofs.TakingLemmas.{fault_more}
-use Rattle.run_steps.proofs.OpeningLemmas.{with_store}
+use Rattle.edit_commands.proofs.BatchLemmas.{ends_none, then_ended, then_refused, then_stopped}
 use Rattle.run_steps.proofs.PhaseLemmas.{placed_nowhere}
-use Rattle.run_steps.proofs.TakingLemmas.{carries_taking, has_taken, has_taken_refused, input_refused}
+use Rattle.run_steps.proofs.TakingLemmas.{carries_taking, fault_more, has_taken, input_refused}
 use Rattle.edit_commands.proofs.batch.apply_opened.Goals as goal
 
 pub returns-in-Some-clause-carries : goal.returns-in-Some-clause-carries
@@ -28,8 +26,7 @@ returns-in-Some-clause-carries g c = λ format as_asked value held out err link 
     carries_taking (unwrap_or c.args.from []) c.args.from is_to_end _ (Applying c.args.file c.args.now value) asked line_uses _ _ tells old
     (S.seen c.take_batch.new.store) (I.seen c.take_batch.new.input) new (Err c.in-Some.refusal)
     took.leaves took.later (λ told. took.read told.store told.input)
-    (λ told. has_taken c.args.from is_to_end asked _ _ (took.behind told.input) (λ all none. took.ended (ends_none asked.refusal all) none told.input) (λ some. ap (λ i. (I.seen i).left) (took.untouched some)))
-    (λ told. applying_moved c.args.from c.args.file c.args.now value asked (with_store old (S.seen c.take_batch.new.store)) (I.seen c.take_batch.new.input))
+    (λ told. has_taken c.args.from (is_to_end asked) _ _ (took.behind told.input) (λ all none. took.ended (ends_none asked.refusal all) none told.input) (λ some. ap (λ i. (I.seen i).left) (took.untouched some)))
     (λ cause said may. may)
     (then_refused c.args.file c.args.now value c.args.names.now (input_name c.args.from) asked c.in-Some.refusal (LineEditMayRefuse format c.args.file) _ tells middle new
     c.in-Some.is may (inr (inr may.may))
@@ -50,8 +47,7 @@ returns-in-Ok-edit_all-clause-carries g c = λ format as_asked value held out er
     carries_taking (unwrap_or c.args.from []) c.args.from is_to_end _ (Applying c.args.file c.args.now value) asked line_uses _ _ tells old
     (S.seen c.take_batch.new.store) (I.seen c.take_batch.new.input) new (Ok tt)
     took.leaves took.later (λ told. took.read told.store told.input)
-    (λ told. has_taken c.args.from is_to_end asked _ _ (took.behind told.input) (λ all none. took.ended (ends_none asked.refusal all) none told.input) (λ some. ap (λ i. (I.seen i).left) (took.untouched some)))
-    (λ told. applying_moved c.args.from c.args.file c.args.now value asked (with_store old (S.seen c.take_batch.new.store)) (I.seen c.take_batch.new.input))
+    (λ told. has_taken c.args.from (is_to_end asked) _ _ (took.behind told.input) (λ all none. took.ended (ends_none asked.refusal all) none told.input) (λ some. ap (λ i. (I.seen i).left) (took.untouched some)))
     (λ cause said may. may)
     (then_ended c.args.file c.args.now value asked (LineEditMayRefuse format c.args.file) _ tells middle new c.in-None.is
     (rw c.as_slice.ensures.value at (c.in-Ok-edit_all.ensures.carries format as_asked value
@@ -71,8 +67,7 @@ returns-in-Ok-clause-carries g c = λ format as_asked value held out err link ou
     carries_taking (unwrap_or c.args.from []) c.args.from is_to_end _ (Applying c.args.file c.args.now value) asked line_uses _ _ tells old
     (S.seen c.take_batch.new.store) (I.seen c.take_batch.new.input) new (Err c.in-Err-edit_all.refusal)
     took.leaves took.later (λ told. took.read told.store told.input)
-    (λ told. has_taken c.args.from is_to_end asked _ _ (took.behind told.input) (λ all none. took.ended (ends_none asked.refusal all) none told.input) (λ some. ap (λ i. (I.seen i).left) (took.untouched some)))
-    (λ told. applying_moved c.args.from c.args.file c.args.now value asked (with_store old (S.seen c.take_batch.new.store)) (I.seen c.take_batch.new.input))
+    (λ told. has_taken c.args.from (is_to_end asked) _ _ (took.behind told.input) (λ all none. took.ended (ends_none asked.refusal all) none told.input) (λ some. ap (λ i. (I.seen i).left) (took.untouched some)))
     (λ cause said may. may)
     (then_stopped c.args.file c.args.now value asked c.in-Err-edit_all.refusal (LineEditMayRefuse format c.args.file) _ tells middle new (λ cause said may. inl may)
     (rw c.as_slice.ensures.value at (c.in-Err-edit_all.ensures.carries format as_asked value
@@ -90,5 +85,5 @@ returns-clause-carries g c = λ format as_asked value held out err link out_tell
     (S.seen c.take_batch.new.store) (I.seen c.take_batch.new.input) c.in-Err.refusal
     took.leaves took.later
     (fault_more _ _ _ _ _ _ _ c.in-Err.refusal c.in-Err.refusal.cause (λ rose. rose) (λ rose. rose) (λ told. (told.store, told.input)) took.refused)
-    (λ told. has_taken_refused c.args.from is_to_end c.in-Err.refusal _ _ (took.behind told.input) (λ some. ap (λ i. (I.seen i).left) (took.untouched some)))
-    took.may (inr (inl took.may)) (placed_nowhere _ c.in-Err.refusal took.placed)
+    (λ told. has_taken c.args.from false _ _ (took.behind told.input) (λ all. absurd (false≢true all)) (λ some. ap (λ i. (I.seen i).left) (took.untouched some)))
+    took.may (inr (inl took.may)) (placed_nowhere line_uses c.in-Err.refusal took.placed)

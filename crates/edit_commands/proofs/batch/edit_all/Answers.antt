@@ -1,4 +1,4 @@
-use Rattle.std.proofs.Common.{◌≡◌, ◌+◌, List, [], drop, Err, refl, ap, subst, ◌∙◌, arith}
+use Rattle.std.proofs.Common.{◌≡◌, ◌+◌, IsTrue, List, [], drop, refl, ap, subst, ◌∙◌, arith}
 use Rattle.std.proofs.lemmas.List.{drop_all, drop_more}
 use Rattle.quota_blocks.specs.Frame.{ReplacesOne}
 use Rattle.quota_blocks.specs.QuotaFile.{FileSeen}
@@ -8,9 +8,8 @@ use Rattle.quota_map.specs.View.{fresh_seen}
 use Rattle.edit_commands.specs.declared.batch_line.LineEdit.{LineEdit}
 use Rattle.edit_commands.specs.declared.edit.FileEdit.TheVariants.{Limits}
 use Rattle.run_steps.specs.Done.{seen_of, tells_of}
-use Rattle.edit_commands.proofs.BatchLemmas.{AreMade, all_carried, line_refused, made_more, made_none}
-use Rattle.edit_commands.proofs.EndedBatchLemmas.{line_may_fail}
-use Rattle.edit_commands.proofs.EditFileLemmas.{any_cause, any_edited, keeps_format, refused_at}
+use Rattle.edit_commands.proofs.BatchLemmas.{AreMade, all_carried, line_may_fail, line_refused, made_more, made_none}
+use Rattle.edit_commands.proofs.EditFileLemmas.{any_cause, any_made, any_refused, keeps_format}
 use Rattle.edit_commands.proofs.batch.edit_all.Goals as goal
 
 pub loop-line-init : goal.loop-line-init
@@ -38,10 +37,9 @@ loop-line-preserved g c =
       made = λ told start held.
           let are = subst (λ (l : List LineEdit). AreMade file c.args.now c.args.lines.now l start (S.seen c.args.store.now) before (HoldsAny S.tells before.files c.loop-line.opened))
           (drop_more c.args.lines.now c.loop-line.line-index _ c.loop-line-test.true) (kept.made told start held) in
-          made_more file c.args.now c.args.lines.now _ (drop (c.loop-line.line-index + 1) c.args.lines.now) start (S.seen c.args.store.now) before after _ (HoldsAny S.tells after.files c.set_limits.new.file) are
-          (λ idle. rw named at (edits.idle are.value are.held idle))
-          (any_edited S.tells _ c.loop-line.opened c.set_limits.new.file before after file format are.value (keeps_format (Limits _ _) c.args.now) was are.held done)
-          (done.set are.value are.held) leaves;
+          made_more file c.args.now c.args.lines.now _ (drop (c.loop-line.line-index + 1) c.args.lines.now) start (S.seen c.args.store.now) before after _ (HoldsAny S.tells after.files c.set_limits.new.file) (IsTrue S.tells) told are
+          (any_made S.tells _ c.loop-line.opened c.set_limits.new.file before after file format are.value tt (keeps_format (Limits _ _) c.args.now) was (λ is. are.held) c.in-Ok.ensures.edits)
+          (done.set are.value are.held);
       same = done.same ∙ kept.same;
       leaves = replaces_one-then _ _ _ _ kept.leaves leaves;
       synced = λ told. adds_none-then _ _ _ (kept.synced told) (done.synced told).none;
@@ -77,8 +75,7 @@ returns-in-Err-clause-carries g c = λ asked as_asked value held input out err l
     (seen_of (S.seen c.args.store.now) input out err link) before after (HoldsAny S.tells before.files c.loop-line.opened) fault
     (λ told. subst (λ (l : List LineEdit). AreMade file c.args.now c.args.lines.now l value (S.seen c.args.store.now) before (HoldsAny S.tells before.files c.loop-line.opened))
     (drop_more c.args.lines.now c.loop-line.line-index _ c.loop-line-test.true) (kept.made told value (held told)))
-    (λ told v holds idle. rw named at (edits.idle v holds idle))
-    (λ told v holds. refused_at file _ S.tells c.loop-line.opened c.set_limits.new.file before after format v (Err fault) fault keeps was told holds refused refused.left)
+    (λ v holds. any_refused file _ S.tells c.loop-line.opened c.set_limits.new.file before after format v fault keeps was (λ is. holds) refused)
     (any_cause S.tells _ c.loop-line.opened c.set_limits.new.file before after file format fault keeps was refused.cause)
     kept.leaves leaves
     (line_may_fail asked file _ _ c.args.now S.tells c.loop-line.opened c.set_limits.new.file before after format fault was as_asked refused.cause))

@@ -1,4 +1,4 @@
-use Rattle.std.proofs.Common.{◌≡◌, Ok, inl, inr, refl, sym, ap, ◌∙◌, arith, IsTrue, false}
+use Rattle.std.proofs.Common.{◌≡◌, Ok, inl, inr, refl, sym, ap, ◌∙◌, arith, IsTrue}
 use Rattle.quota_blocks.specs.QuotaFile.{FileSeen}
 use Rattle.quota_blocks.specs.QuotaValue.{QuotaValue}
 use Rattle.quota_blocks.proofs.FrameLemmas.{only_reads-then}
@@ -7,11 +7,12 @@ use Rattle.quota_map.specs.View.{IsView}
 use Rattle.refusals.specs.declared.cause.Cause.TheVariants.{SinkFault}
 use Rattle.run_steps.specs.Done.{seen_of, tells_of}
 use Rattle.run_steps.specs.Opening.{file_cause}
+use Rattle.run_steps.specs.Showing.{showing_uses}
 use Rattle.edit_commands.specs.Print.{form_on}
 use Rattle.run_steps.proofs.ActLemmas.{appends_nothing}
 use Rattle.run_steps.proofs.OpeningLemmas.{not_opened, with_out}
 use Rattle.refusals.proofs.PieceLemmas.{appends_whole}
-use Rattle.run_steps.proofs.ShowingLemmas.{lookup_fault, lookup_may, lookup_reason, shown_in_part, shown_whole}
+use Rattle.run_steps.proofs.ShowingLemmas.{lookup_may, lookup_reason, shown_in_part, shown_whole}
 use Rattle.edit_commands.proofs.print.print_opened.Goals as goal
 
 pub returns-in-Ok-write_form-clause-carries : goal.returns-in-Ok-write_form-clause-carries
@@ -65,7 +66,7 @@ returns-in-Err-write_form-clause-carries g c = λ input err link input_tells err
       prefix = λ told out_told value view. rw (got.found value (held told value view)) at rw c.as_str-in-Ok-get.ensures at (wrote.fault out_told);
       later = wrote.later;
     })
-    (record { reason = λ stated. inl wrote.cause; fault = λ told. tt; may = inl refl }))
+    (record { reason = λ stated. inl wrote.cause; may = inl refl }))
 
 pub returns-in-Err-get-clause-carries : goal.returns-in-Err-get-clause-carries
 returns-in-Err-get-clause-carries g c = λ input err link input_tells err_tells link_tells.
@@ -95,9 +96,8 @@ returns-in-Err-get-clause-carries g c = λ input err link input_tells err_tells 
       later = omega arith;
     })
     (record {
-      reason = λ stated. lookup_reason false old (with_out old after (O.seen c.args.out.now)) tells stated before.faults holds fault opened.leaves.later
+      reason = λ stated. lookup_reason showing_uses old (with_out old after (O.seen c.args.out.now)) tells stated before.faults holds fault opened.leaves.later
           (λ told none. let good = opened.seen told in none good.0 (opened.held told good.0 good.1)) got.refused;
-      fault = λ told. lookup_fault before.faults after.faults holds fault (λ none. let good = opened.seen told in none good.0 (opened.held told good.0 good.1)) got.refused;
       may = inr (lookup_may asked c.args.file (any_seen c.in-Ok.opened).format before.faults after.faults holds fault opened.as_asked got.refused got.may);
     }))
 

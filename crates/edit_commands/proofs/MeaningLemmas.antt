@@ -1,0 +1,175 @@
+-- What the steps of the commands of this crate mean: that they look first, that they read an input to its end, and when they are
+-- sure to succeed.
+use Rattle.std.proofs.Common.{◌≡◌, ◌⊎◌, inl, inr, ℕ, Bool, true, false, IsTrue, List, [], ◌∷◌, ◌++◌, Option, None, Some, Ok, Result, refl, sym, ap, subst, ◌∙◌}
+use Rattle.std.specs.Prelude.{⊤, is_none}
+use Rattle.quota_types.specs.declared.file_kind.Kind.{Kind}
+use Rattle.quota_types.specs.declared.file_kind.Format.{Format}
+use Rattle.quota_types.specs.declared.field.Field.{Field}
+use Rattle.quota_blocks.specs.QuotaValue.{QuotaValue}
+use Rattle.quota_map.specs.View.{IsView}
+use Rattle.id_names.specs.NamesFile.{NameLine}
+use Rattle.set_edit.specs.Editing.{Edit}
+use Rattle.set_edit.specs.Edits.{limits_edit}
+use Rattle.set_edit.specs.declared.limits.Limits.{Limits as FourLimits}
+use Rattle.command_words.specs.declared.command.Common.{Common}
+use Rattle.refusals.specs.declared.reason.Refusal.{Refusal}
+use Rattle.refusals.specs.Outcome.{Outcome, Passed}
+use Rattle.run_steps.specs.Act.{Act, ToOut}
+use Rattle.run_steps.specs.Done.{Outside}
+use Rattle.run_steps.specs.Meaning.{IsSure}
+use Rattle.run_steps.specs.Naming.{names_seen}
+use Rattle.run_steps.specs.Numbers.{identifier_of}
+use Rattle.run_steps.specs.OneCommand.{LooksFirst, ReadsToEnd}
+use Rattle.run_steps.specs.Showing.{ShowingSteps}
+use Rattle.run_steps.specs.Steps.{AreDoneThen, Doing, DoingAll, Finish, Opening, Then}
+use Rattle.run_steps.specs.Taking.{input_said}
+use Rattle.run_steps.specs.declared.invocation.Invocation.{Invocation}
+use Rattle.run_steps.proofs.OneCommandLemmas.{looks_done, looks_naming, looks_taking, looks_then, reads_stopped, reads_taking, reads_then, sure_done, sure_naming, sure_opening, sure_taking, sure_then}
+use Rattle.edit_commands.specs.declared.batch_line.LineEdit.{LineEdit}
+use Rattle.edit_commands.specs.declared.edit.EditWords.{EditWords}
+use Rattle.edit_commands.specs.declared.edit.FileEdit.{FileEdit}
+use Rattle.edit_commands.specs.declared.edit.FileEdit.TheVariants.{Limits}
+use Rattle.edit_commands.specs.Apply.{ApplySteps, FormSteps, form_step}
+use Rattle.edit_commands.specs.Batch.{Applying, Asked, BatchSteps, ReadSteps, applied, batch_step, does_then, edit_of, first_of, is_to_end, met_at, value_left}
+use Rattle.edit_commands.specs.Edits.{EditSteps, FileEditSteps, changed, edit_step, is_too_large, said_acts, warnings}
+use Rattle.edit_commands.specs.EditWords.{edit_meant, edit_read, names_wanted, skipped_by}
+use Rattle.edit_commands.specs.Print.{PrintSteps, form_on}
+use Rattle.edit_commands.proofs.EditLemmas.{Saying, change_acts, written_passes}
+
+-- They look first.
+
+file_edit_looks : (takes : Bool) (kind : Kind) (asked : Option Format) (edit : FileEdit) (file : List ℕ) (invocation : Invocation) → LooksFirst true takes (FileEditSteps kind asked edit file invocation)
+file_edit_looks takes kind asked edit file invocation = (
+  refl,
+  λ value. looks_then true takes (edit_step file (edit_meant edit invocation.now) value) _
+      (λ acts. looks_done true takes (acts ++ said_acts (warnings invocation.line (skipped_by edit value))) None),
+)
+
+pub edit_looks : (common : Common) (words : EditWords) (file : List ℕ) (invocation : Invocation) → LooksFirst true true (EditSteps common words file invocation)
+edit_looks common words file invocation = looks_naming true common.kind (names_wanted words common.names) _ (λ names.
+    looks_then true true (edit_read names words) _ (λ edit. file_edit_looks true common.kind common.format edit file invocation))
+
+pub print_looks : (common : Common) (word file : List ℕ) (invocation : Invocation) → LooksFirst true true (PrintSteps common word file invocation)
+print_looks common word file invocation = looks_naming true common.kind common.names _ (λ names.
+    looks_then true true (identifier_of names word) _ (λ id. (refl, λ value. tt)))
+
+pub apply_looks : (common : Common) (from : Option (List ℕ)) (word file : List ℕ) (invocation : Invocation) → LooksFirst true true (ApplySteps common from word file invocation)
+apply_looks common from word file invocation = looks_naming true common.kind common.names _ (λ names.
+    looks_then true true (identifier_of names word) _ (λ id.
+    looks_taking from (λ limits. true) (form_step common.kind names file id from) _ (λ takes limits. file_edit_looks takes common.kind common.format (Limits id limits) file invocation)))
+
+applying_looks : (takes : Bool) (file : List ℕ) (now : ℕ) (value : QuotaValue) (asked : Asked) → LooksFirst true takes (Applying file now value asked)
+applying_looks takes file now value asked =
+    let done = applied file now asked.edits value in looks_done true takes done.acts (first_of done.refusal asked.refusal)
+
+pub batch_looks : (common : Common) (from : Option (List ℕ)) (file : List ℕ) (invocation : Invocation) → LooksFirst true true (BatchSteps common from file invocation)
+batch_looks common from file invocation = looks_naming true common.kind common.names _ (λ names. (
+  refl,
+  λ value.
+      looks_taking from is_to_end (batch_step names from) _ (λ takes asked. applying_looks takes file invocation.now value asked),
+))
+
+-- They read the standard input to its end.
+
+pub apply_reads : (common : Common) (word file : List ℕ) (invocation : Invocation) → ReadsToEnd (ApplySteps common None word file invocation)
+apply_reads common word file invocation = λ files.
+    reads_then (names_seen common.kind common.names files) _ (λ names.
+    reads_then (identifier_of names word) _ (λ id.
+    reads_taking (λ limits. true) (form_step common.kind names file id None) _ (λ limits. inl refl)))
+
+stopped_reads : (acts : List Act) (one : Option Refusal) (refusal : Refusal) → ReadsToEnd (AreDoneThen acts (first_of one (Some refusal)))
+stopped_reads acts None refusal = reads_stopped acts refusal
+stopped_reads acts (Some one) refusal = reads_stopped acts one
+
+-- edits are done behind an input that was read to its end, or end with the refusal of a line
+ended_or_stopped : (acts : List Act) (one other : Option Refusal) → IsTrue (is_none other) ⊎ ReadsToEnd (AreDoneThen acts (first_of one other))
+ended_or_stopped acts one None = inl refl
+ended_or_stopped acts one (Some refusal) = inr (stopped_reads acts one refusal)
+
+pub batch_reads : (common : Common) (file : List ℕ) (invocation : Invocation) → ReadsToEnd (BatchSteps common None file invocation)
+batch_reads common file invocation = λ files.
+    reads_then (names_seen common.kind common.names files) _ (λ names value.
+    reads_taking is_to_end (batch_step names None) (Applying file invocation.now value) (λ asked.
+    let done = applied file invocation.now asked.edits value in ended_or_stopped done.acts done.refusal asked.refusal))
+
+-- They are sure.
+
+-- an edit of a value fits, and leaves another one: the format has room for its fields, and, where something is to be done, a file
+-- has blocks for it
+abbrev pub Fits : Edit → (value new : QuotaValue) → Type 0
+Fits edit value new = (edit.edited value ≡ Ok new) × (edit.is_idle value ≡ false → is_too_large edit new ≡ false)
+
+-- edits of lines fit, each in the value that the one before left
+abbrev pub AllFit : ℕ → List LineEdit → QuotaValue → Type 0
+AllFit now [] value = ⊤
+AllFit now (line ∷ lines) value = (new : QuotaValue) × Fits (edit_of line now) value new × AllFit now lines new
+
+-- the step of an edit that fits passes
+step_fits : (file : List ℕ) (edit : Edit) (value new : QuotaValue) → Fits edit value new → edit_step file edit value ≡ Passed (change_acts file new (edit.is_idle value))
+step_fits file edit value new fits =
+    ap (λ (r : Result QuotaValue (Field × ℕ)). changed file edit value r) fits.0 ∙ written_passes file new (edit.is_idle value) (is_too_large edit new) fits.1
+
+file_edit_sure : (kind : Kind) (asked : Option Format) (edit : FileEdit) (file : List ℕ) (invocation : Invocation) (value new : QuotaValue) (old : Outside)
+    → IsView (old.files file) kind asked (Ok value) → Fits (edit_meant edit invocation.now) value new → IsSure (FileEditSteps kind asked edit file invocation) old
+file_edit_sure kind asked edit file invocation value new old view fits =
+    let meant = edit_meant edit invocation.now in
+    let lines = λ (v : QuotaValue). warnings invocation.line (skipped_by edit v) in
+    sure_opening kind asked file (λ v. Saying (edit_step file meant v) (lines v)) value old view
+    (sure_then (edit_step file meant value) (λ acts. DoingAll (acts ++ said_acts (lines value)) Finish) (change_acts file new (meant.is_idle value)) old (step_fits file meant value new fits)
+    (sure_done (change_acts file new (meant.is_idle value) ++ said_acts (lines value)) old))
+
+-- The names are known, the words well formed, the file is accepted, and the edit fits.
+pub edit_sure : (common : Common) (words : EditWords) (file : List ℕ) (invocation : Invocation) (names : List NameLine) (edit : FileEdit) (value new : QuotaValue) (old : Outside)
+    → names_seen common.kind (names_wanted words common.names) old.files ≡ Passed names → edit_read names words ≡ Passed edit
+    → IsView (old.files file) common.kind common.format (Ok value) → Fits (edit_meant edit invocation.now) value new
+    → IsSure (EditSteps common words file invocation) old
+edit_sure common words file invocation names edit value new old seen read view fits =
+    let next = λ (e : FileEdit). FileEditSteps common.kind common.format e file invocation in
+    sure_naming common.kind (names_wanted words common.names) (λ n. Then (edit_read n words) next) names old seen
+    (sure_then (edit_read names words) next edit old read (file_edit_sure common.kind common.format edit file invocation value new old view fits))
+
+-- The name is known, and the file is accepted.
+pub print_sure : (common : Common) (word file : List ℕ) (invocation : Invocation) (names : List NameLine) (id : ℕ) (value : QuotaValue) (old : Outside)
+    → names_seen common.kind common.names old.files ≡ Passed names → identifier_of names word ≡ Passed id
+    → IsView (old.files file) common.kind common.format (Ok value) → IsSure (PrintSteps common word file invocation) old
+print_sure common word file invocation names id value old seen read view =
+    let next = λ (n : List NameLine) (i : ℕ). ShowingSteps common.kind common.format file (form_on common.kind n file i) in
+    sure_naming common.kind common.names (λ n. Then (identifier_of n word) (next n)) names old seen
+    (sure_then (identifier_of names word) (next names) id old read
+    (sure_opening common.kind common.format file (λ v. Doing (ToOut (form_on common.kind names file id v)) Finish) value old view (λ middle follows. refl)))
+
+-- The name is known, the input is there and is a form of these limits, the file is accepted, and they fit.
+pub apply_sure : (common : Common) (from : Option (List ℕ)) (word file : List ℕ) (invocation : Invocation) (names : List NameLine) (id : ℕ) (limits : FourLimits) (value new : QuotaValue) (old : Outside)
+    → names_seen common.kind common.names old.files ≡ Passed names → identifier_of names word ≡ Passed id
+    → input_said from (form_step common.kind names file id from) old.files old.input ≡ Passed limits
+    → IsView (old.files file) common.kind common.format (Ok value) → Fits (limits_edit id limits invocation.now) value new
+    → IsSure (ApplySteps common from word file invocation) old
+apply_sure common from word file invocation names id limits value new old seen read said view fits =
+    let next = λ (n : List NameLine) (i : ℕ). FormSteps common.kind common.format n from i file invocation in
+    sure_naming common.kind common.names (λ n. Then (identifier_of n word) (next n)) names old seen
+    (sure_then (identifier_of names word) (next names) id old read
+    (sure_taking from (λ limits. true) (form_step common.kind names file id from) (λ four. FileEditSteps common.kind common.format (Limits id four) file invocation) limits old said
+    (λ left. file_edit_sure common.kind common.format (Limits id limits) file invocation value new (record old { input = left }) view fits)))
+
+-- edits of lines that fit are not refused
+all_fit : (file : List ℕ) (now : ℕ) (lines : List LineEdit) (value : QuotaValue) → AllFit now lines value → (applied file now lines value).refusal ≡ None
+all_fit file now [] value fit = refl
+all_fit file now (line ∷ lines) value fit =
+    ap (λ (o : Outcome (List Act)). (does_then (met_at line.number o) (applied file now lines (value_left ((edit_of line now).edited value) value))).refusal)
+    (step_fits file (edit_of line now) value fit.0 fit.1)
+    ∙ ap (λ (r : Result QuotaValue (Field × ℕ)). (applied file now lines (value_left r value)).refusal) fit.1.0
+    ∙ all_fit file now lines fit.0 fit.2
+
+-- The file is accepted, the input is there, each of its lines has the stated form and is of names that are known, and the edits
+-- fit.
+pub batch_sure : (common : Common) (from : Option (List ℕ)) (file : List ℕ) (invocation : Invocation) (names : List NameLine) (value : QuotaValue) (asked : Asked) (old : Outside)
+    → names_seen common.kind common.names old.files ≡ Passed names → IsView (old.files file) common.kind common.format (Ok value)
+    → input_said from (batch_step names from) old.files old.input ≡ Passed asked → asked.refusal ≡ None
+    → AllFit invocation.now asked.edits value → IsSure (BatchSteps common from file invocation) old
+batch_sure common from file invocation names value asked old seen view said none fit =
+    let done = applied file invocation.now asked.edits value in
+    let end : None ≡ first_of done.refusal asked.refusal = sym (ap (λ (r : Option Refusal). first_of r asked.refusal) (all_fit file invocation.now asked.edits value fit) ∙ none) in
+    sure_naming common.kind common.names (λ n. Opening common.kind common.format file (ReadSteps n from file invocation.now)) names old seen
+    (sure_opening common.kind common.format file (ReadSteps names from file invocation.now) value old view
+    (sure_taking from is_to_end (batch_step names from) (Applying file invocation.now value) asked old said
+    (λ left. subst (λ (r : Option Refusal). IsSure (AreDoneThen done.acts r) (record old { input = left })) end (sure_done done.acts (record old { input = left })))))
