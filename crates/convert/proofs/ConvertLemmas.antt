@@ -29,7 +29,7 @@ use Rattle.quota_map.specs.View.{IsOpenFault, IsView, most_blocks}
 use Rattle.convert.specs.Conversion.{grace_no_room}
 use Rattle.convert.specs.Convert.{Asked, HasNoTarget, IsConvertFault, IsConverted, IsMade, IsNotMade, IsUnfit, UnlessFaultOfStore}
 use Rattle.convert.specs.Source.{HasRead, IsReadingFault, IsSourceFault}
-use Rattle.convert.specs.Listing.{IsKeepingFault, kept_list, list_without_room}
+use Rattle.convert.specs.Listing.{kept_list, list_without_room}
 use Rattle.convert.specs.declared.fault.ConvertFault.{ConvertFault}
 use Rattle.convert.specs.declared.fault.ConvertFault.TheVariants.{SameName, TargetExists, Open, File, NoRoom, Replace}
 use Rattle.convert.proofs.ValueLemmas.{converted_listed, ids_listed, refused_listed}
@@ -106,16 +106,6 @@ source_refused tells asked old between new (Open fault) free same later cause = 
 source_refused tells asked old between new (File fault) free same later cause = (free, reading_since old.faults between.faults new.faults tells asked.old fault later cause)
 source_refused tells asked old between new (NoRoom out) free same later cause = absurd cause
 source_refused tells asked old between new (Replace fault) free same later cause = absurd cause
-
--- the new format has no room for a value
-pub keeping_refused : (tells : Bool) (asked : Asked) (old new : StoreSeen) (without : List NoRoomFor) (fault : ConvertFault) → HasNoTarget tells asked old.files → IsKeepingFault without fault
-    → ((out : NoRoomFor) → IsKeepingFault without (NoRoom out) → IsUnfit tells asked old.files out) → IsConvertFault tells asked old new fault
-keeping_refused tells asked old new without SameName free cause unfit = absurd cause
-keeping_refused tells asked old new without TargetExists free cause unfit = absurd cause
-keeping_refused tells asked old new without (Open fault) free cause unfit = absurd cause
-keeping_refused tells asked old new without (File fault) free cause unfit = (free, subst (IsReadingFault old.faults new.faults tells asked.old) (sym cause) tt)
-keeping_refused tells asked old new without (NoRoom out) free cause unfit = unfit out cause
-keeping_refused tells asked old new without (Replace fault) free cause unfit = absurd cause
 
 -- the new file was not made
 replace_since : (before between now needed limit : ℕ) (fault : ReplaceFault) → before ≤ between → IsReplaceFileFault between now needed limit fault → IsReplaceFileFault before now needed limit fault

@@ -1,80 +1,107 @@
--- The conversion of records in a list, one after another.
-use Rattle.std.proofs.Common.{◌≡◌, Bool, true, false, cond, List, [], ◌∷◌, ◌++◌, map, Option, Some, None, length, refl, sym, ap, subst, ◌∙◌, arith}
-use Rattle.std.specs.Prelude.{not, All, IfSome}
-use Rattle.std.specs.Option.{option_to_list}
+-- The conversion of records in a list, one after another, each in its place.
+use Rattle.std.proofs.Common.{◌≡◌, ◌≢◌, ℕ, zero, suc, ◌+◌, ◌<◌, ◌≤◌, Bool, true, false, not, cond, List, [], ◌∷◌, length, map, get_or, set, Option, Some, None, refl, sym, ap, subst, ◌∙◌, arith, below_more}
+use Rattle.std.specs.Prelude.{All, slice_get}
 use Rattle.std.specs.List.{cons_option, filter_map}
-use Rattle.std.proofs.lemmas.List.{append-nil, append_assoc}
-use Rattle.std.proofs.lemmas.List.Elements.{All-push}
+use Rattle.std.proofs.lemmas.List.{get_or-map, get_or-set_other, get_or-set_same, get_or_default, same_lists}
 use Rattle.quota_types.specs.declared.field.NoRoom.{NoRoom}
 use Rattle.quota_types.specs.declared.file_kind.Format.{Format}
 use Rattle.quota_types.specs.declared.record.Entry.{Entry}
+use Rattle.quota_types.specs.Kept.{IsKept}
 use Rattle.quota_types.specs.Rec.{is_null_of}
-use Rattle.convert.specs.Conversion.{record_no_room}
-use Rattle.convert.specs.Listing.{kept_entry, kept_list, lasting_entries, list_without_room}
+use Rattle.convert.specs.Listing.{entry_no_room, kept_entry, lasting_entries}
 
--- One record before the others.
+-- so far there was room for each value, and each entry is what is kept of it; those behind are as they were
+pub record IsKeptUpTo (format : Format) (old now : List Entry) (count : ℕ) : Type 0 where
+  pub kept : (k : ℕ) → k < count → (d : Entry) → get_or now k d ≡ kept_entry format (get_or old k d)
+  pub rest : (k : ℕ) (d : Entry) → count ≤ k → get_or now k d ≡ get_or old k d
+  pub clean : (k : ℕ) → k < count → (d : Entry) → entry_no_room format (get_or old k d) ≡ None
+  pub again : (k : ℕ) → k < count → (d : Entry) → IsKept format (get_or now k d).id (get_or now k d).rec
+  pub lasting : (k : ℕ) → k < count → (d : Entry) → is_null_of (get_or now k d).rec ≡ false
 
-cons_split : {X : Type 0} (o : Option X) (xs : List X) → cons_option o xs ≡ cons_option o [] ++ xs
-cons_split None xs = refl
-cons_split (Some x) xs = refl
-
-kept_list-cons : (format : Format) (entry : Entry) (list : List Entry) → kept_list format (entry ∷ list) ≡ kept_list format (entry ∷ []) ++ kept_list format list
-kept_list-cons format entry list = by (not (is_null_of entry.rec))
-  where
-    by : (b : Bool) → map (kept_entry format) (cond b (entry ∷ lasting_entries list) (lasting_entries list)) ≡ map (kept_entry format) (cond b (entry ∷ []) []) ++ kept_list format list
-    by true = refl
-    by false = refl
-
-without_room-cons : (format : Format) (entry : Entry) (list : List Entry)
-    → list_without_room format (entry ∷ list) ≡ list_without_room format (entry ∷ []) ++ list_without_room format list
-without_room-cons format entry list = by (not (is_null_of entry.rec))
-  where
-    first : Entry → Option NoRoom
-    first entry = record_no_room format (entry.id, entry.rec)
-
-    by : (b : Bool) → filter_map first (cond b (entry ∷ lasting_entries list) (lasting_entries list)) ≡ filter_map first (cond b (entry ∷ []) []) ++ filter_map first (lasting_entries list)
-    by true = cons_split (first entry) (filter_map first (lasting_entries list))
-    by false = refl
-
--- so far there was room for each value, and what is kept was put into a list
-pub record IsKeptUpTo (format : Format) (list rest done : List Entry) : Type 0 where
-  pub kept : kept_list format list ≡ done ++ kept_list format rest
-  pub clean : list_without_room format list ≡ list_without_room format rest
-
-pub kept_none : (format : Format) (list : List Entry) → IsKeptUpTo format list list []
-kept_none format list = record { kept = refl; clean = refl }
-
-pub kept_more : (format : Format) (list rest behind done more one : List Entry) (entry : Entry) → IsKeptUpTo format list rest done → rest ≡ entry ∷ behind
-    → one ≡ kept_list format (entry ∷ []) → list_without_room format (entry ∷ []) ≡ [] → more ≡ done ++ one → IsKeptUpTo format list behind more
-kept_more format list rest behind done more one entry is first keeps fits e = record {
-  kept =
-      is.kept ∙ ap (λ (l : List Entry). done ++ kept_list format l) first ∙ ap (λ l. done ++ l) (kept_list-cons format entry behind)
-      ∙ ap (λ l. done ++ (l ++ kept_list format behind)) (sym keeps)
-      ∙ sym (append_assoc done one (kept_list format behind))
-      ∙ ap (λ l. l ++ kept_list format behind) (sym e);
-  clean =
-      is.clean ∙ ap (λ (l : List Entry). list_without_room format l) first ∙ without_room-cons format entry behind
-      ∙ ap (λ l. l ++ list_without_room format behind) fits;
+pub kept_none : (format : Format) (list : List Entry) → IsKeptUpTo format list list 0
+kept_none format list = record {
+  kept = λ k less d. absurd (omega (arith, less));
+  rest = λ k d le. refl;
+  clean = λ k less d. absurd (omega (arith, less));
+  again = λ k less d. absurd (omega (arith, less));
+  lasting = λ k less d. absurd (omega (arith, less));
 }
 
-pub refused_at : (format : Format) (list rest behind done : List Entry) (entry : Entry) (out : NoRoom) → IsKeptUpTo format list rest done → rest ≡ entry ∷ behind
-    → list_without_room format (entry ∷ []) ≡ out ∷ [] → list_without_room format list ≡ out ∷ list_without_room format behind
-refused_at format list rest behind done entry out is first refused =
-    is.clean ∙ ap (λ (l : List Entry). list_without_room format l) first ∙ without_room-cons format entry behind
-    ∙ ap (λ l. l ++ list_without_room format behind) refused
+module _ (format : Format) (old now : List Entry) (count : ℕ) (any made : Entry) (is : IsKeptUpTo format old now count) (less : count < length old) (same : length now ≡ length old) where
+  abbrev here : Entry
+  here = get_or now count any
 
-pub kept_all : (format : Format) (list rest done : List Entry) → IsKeptUpTo format list rest done → rest ≡ [] → done ≡ kept_list format list
-kept_all format list rest done is none = sym (is.kept ∙ ap (λ (l : List Entry). done ++ kept_list format l) none ∙ append-nil done)
+  was : (d : Entry) → get_or old count d ≡ here
+  was d = sym (is.rest count d (omega arith)) ∙ get_or_default now count d any (omega (arith, less, same))
 
-pub clean_all : (format : Format) (list rest done : List Entry) → IsKeptUpTo format list rest done → rest ≡ [] → list_without_room format list ≡ []
-clean_all format list rest done is none = is.clean ∙ ap (λ (l : List Entry). list_without_room format l) none
+  now_made : (d : Entry) → get_or (set now count made) count d ≡ made
+  now_made d = get_or-set_same now count made d (omega (arith, less, same))
 
--- what holds of each entry that was put in holds of all
-pub all_more : (P : Entry → Type 0) (done more : List Entry) (one : Option Entry) → All P done → IfSome one P → more ≡ done ++ option_to_list one → All P more
-all_more P done more None all own e = subst (All P) (sym (e ∙ append-nil done)) all
-all_more P done more (Some entry) all own e = subst (All P) (sym e) (All-push P done entry all own)
+  other : (k : ℕ) (d : Entry) → k ≢ count → get_or (set now count made) k d ≡ get_or now k d
+  other k d differ = get_or-set_other now count k made d differ
 
--- a list of no length has nothing
-pub none_of : (list : List Entry) → length list ≡ 0 → list ≡ []
-none_of [] none = refl
-none_of (entry ∷ list) none = absurd (omega (arith, none))
+  -- one more entry is what is kept of it
+  pub kept_more : made ≡ kept_entry format here → entry_no_room format here ≡ None → IsKept format made.id made.rec → is_null_of made.rec ≡ is_null_of here.rec
+      → All (λ (e : Entry). is_null_of e.rec ≡ false) old → IsKeptUpTo format old (set now count made) (count + 1)
+  kept_more keeps fits again null lasting = record {
+    kept =
+        below_more (λ k. (d : Entry) → get_or (set now count made) k d ≡ kept_entry format (get_or old k d)) count
+        (λ k le d. other k d (λ at. absurd (omega (arith, le, at))) ∙ is.kept k le d)
+        (λ d. now_made d ∙ keeps ∙ ap (kept_entry format) (sym (was d)));
+    rest = λ k d le. other k d (λ at. absurd (omega (arith, le, at))) ∙ is.rest k d (omega (arith, le));
+    clean =
+        below_more (λ k. (d : Entry) → entry_no_room format (get_or old k d) ≡ None) count is.clean
+        (λ d. ap (entry_no_room format) (was d) ∙ fits);
+    again =
+        below_more (λ k. (d : Entry) → IsKept format (get_or (set now count made) k d).id (get_or (set now count made) k d).rec) count
+        (λ k le d. subst (λ (e : Entry). IsKept format e.id e.rec) (sym (other k d (λ at. absurd (omega (arith, le, at))))) (is.again k le d))
+        (λ d. subst (λ (e : Entry). IsKept format e.id e.rec) (sym (now_made d)) again);
+    lasting =
+        below_more (λ k. (d : Entry) → is_null_of (get_or (set now count made) k d).rec ≡ false) count
+        (λ k le d. ap (λ (e : Entry). is_null_of e.rec) (other k d (λ at. absurd (omega (arith, le, at)))) ∙ is.lasting k le d)
+        (λ d. ap (λ (e : Entry). is_null_of e.rec) (now_made d) ∙ null ∙ ap (λ (e : Entry). is_null_of e.rec) (sym (was d)) ∙ lasting count d less);
+  }
+
+-- all entries are what is kept of them
+pub kept_all : (format : Format) (old now : List Entry) (count : ℕ) → IsKeptUpTo format old now count → count ≡ length old → length now ≡ length old → now ≡ map (kept_entry format) old
+kept_all format old now count is all same =
+    same_lists now (map (kept_entry format) old) (same ∙ sym (length_mapped old))
+    (λ k d less. is.kept k (omega (arith, less, all, same)) d ∙ sym (get_or-map (kept_entry format) old k d d (omega (arith, less, same))))
+  where
+    length_mapped : (list : List Entry) → length (map (kept_entry format) list) ≡ length list
+    length_mapped [] = refl
+    length_mapped (entry ∷ list) = ap suc (length_mapped list)
+
+-- a list of entries that all have room
+pub none_without : (format : Format) (list : List Entry) → ((k : ℕ) → k < length list → (d : Entry) → entry_no_room format (get_or list k d) ≡ None) → filter_map (entry_no_room format) list ≡ []
+none_without format [] clean = refl
+none_without format (entry ∷ list) clean =
+    let first : entry_no_room format entry ≡ None = clean 0 (omega arith) entry in
+    ap (λ (o : Option NoRoom). cons_option o (filter_map (entry_no_room format) list)) first
+    ∙ none_without format list (λ k less d. clean (suc k) (omega (arith, less)) d)
+
+-- behind entries that have room the first one without is told
+pub first_without : (format : Format) (list : List Entry) (count : ℕ) (out : NoRoom) (entry : Entry) → ((k : ℕ) → k < count → (d : Entry) → entry_no_room format (get_or list k d) ≡ None)
+    → count < length list → entry_no_room format (get_or list count entry) ≡ Some out → slice_get (filter_map (entry_no_room format) list) 0 ≡ Some out
+first_without format [] count out entry clean less refused = absurd (omega (arith, less))
+first_without format (first ∷ list) zero out entry clean less refused =
+    ap (λ (o : Option NoRoom). slice_get (cons_option o (filter_map (entry_no_room format) list)) 0) refused
+first_without format (first ∷ list) (suc count) out entry clean less refused =
+    let none : entry_no_room format first ≡ None = clean 0 (omega arith) first in
+    ap (λ (o : Option NoRoom). slice_get (cons_option o (filter_map (entry_no_room format) list)) 0) none
+    ∙ first_without format list count out entry (λ k le d. clean (suc k) (omega (arith, le)) d) (omega (arith, less)) refused
+
+-- what holds of one and of all others holds of all
+all_cons : (P : Entry → Type 0) (entry : Entry) (list : List Entry) → P entry → All P list → All P (entry ∷ list)
+all_cons P entry list own rest zero d less = own
+all_cons P entry list own rest (suc k) d less = rest k d (omega (arith, less))
+
+-- entries that limit or count something
+pub all_lasting : (list : List Entry) → All (λ (entry : Entry). is_null_of entry.rec ≡ false) (lasting_entries list)
+all_lasting [] = λ k d less. absurd (omega (arith, less))
+all_lasting (entry ∷ list) = by (all_lasting list) (is_null_of entry.rec) refl
+  where
+    by : All (λ (e : Entry). is_null_of e.rec ≡ false) (lasting_entries list) → (null : Bool) → is_null_of entry.rec ≡ null
+        → All (λ (e : Entry). is_null_of e.rec ≡ false) (cond (not null) (entry ∷ lasting_entries list) (lasting_entries list))
+    by rest true is = rest
+    by rest false is = all_cons (λ (e : Entry). is_null_of e.rec ≡ false) entry (lasting_entries list) is rest

@@ -1,15 +1,12 @@
 -- Values and their conversion with the records in a list, as the code has them. No contract of a public call speaks of it.
-use Rattle.std.specs.Prelude.{◌≡◌, not, map, filter, List, Some, slice_get}
+use Rattle.std.specs.Prelude.{not, map, filter, List, Option}
 use Rattle.std.specs.List.{filter_map}
 use Rattle.quota_types.specs.declared.field.NoRoom.{NoRoom}
 use Rattle.quota_types.specs.declared.file_kind.Format.{Format}
 use Rattle.quota_types.specs.declared.record.Entry.{Entry}
 use Rattle.quota_types.specs.Kept.{kept_of}
 use Rattle.quota_types.specs.Rec.{is_null_of}
-use Rattle.quota_blocks.specs.declared.quota_file.FileFault.TheVariants.{Memory}
 use Rattle.convert.specs.Conversion.{record_no_room}
-use Rattle.convert.specs.declared.fault.ConvertFault.{ConvertFault}
-use Rattle.convert.specs.declared.fault.ConvertFault.TheVariants.{File, NoRoom as Unfit}
 
 -- the entries that limit or count something
 abbrev pub lasting_entries : List Entry → List Entry
@@ -23,12 +20,10 @@ kept_entry format entry = record { id = entry.id; rec = kept_of format entry.id 
 abbrev pub kept_list : Format → List Entry → List Entry
 kept_list format list = map (kept_entry format) (lasting_entries list)
 
+-- the first value of an entry for which a format has no room
+abbrev pub entry_no_room : Format → Entry → Option NoRoom
+entry_no_room format entry = record_no_room format (entry.id, entry.rec)
+
 -- the first value of each of those entries for which a format has no room
 abbrev pub list_without_room : Format → List Entry → List NoRoom
-list_without_room format list = filter_map (λ entry. record_no_room format (entry.id, entry.rec)) (lasting_entries list)
-
--- there is no room for the first of some values, or memory was wanting, which is left open
-abbrev pub IsKeepingFault : List NoRoom → ConvertFault → Type 0
-IsKeepingFault without_room (Unfit out) = slice_get without_room 0 ≡ Some out
-IsKeepingFault without_room (File fault) = fault ≡ Memory
-IsKeepingFault without_room _ = ⊥
+list_without_room format list = filter_map (entry_no_room format) (lasting_entries list)

@@ -5,8 +5,8 @@ ghost use Rattle.convert.specs.Convert.{IsConvertFault, IsMade, UnlessMaking, as
 ghost use Rattle.convert.specs.Leaves.{IsKeptSafe, LeavesOthers, OnlyLooks};
 
 use crate::ConvertFault;
-use crate::keeping::kept_entries;
-use crate::source::read_source;
+use crate::keeping::keep_entries;
+use crate::source::{Carried, read_source};
 use quota_blocks::{OpenFault, Store};
 use quota_map::replace_file;
 use quota_types::{Format, Kind};
@@ -57,13 +57,11 @@ pub fn convert<S: Store>(
         Ok(carried) => carried,
         Err(fault) => return Err(fault),
     };
-    let grace = carried.grace;
-    let entries = match kept_entries(alloc, new, &grace, carried.entries.as_slice()) {
-        Ok(entries) => entries,
-        Err(fault) => return Err(fault),
-    };
-    // what was read is let go before the new file is built
-    drop(carried);
+    let Carried { grace, mut entries } = carried;
+    match keep_entries(new, &grace, &mut entries) {
+        Ok(()) => {}
+        Err(out) => return Err(ConvertFault::NoRoom(out)),
+    }
     match replace_file(
         alloc,
         store,

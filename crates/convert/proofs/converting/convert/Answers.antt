@@ -4,7 +4,7 @@ use Rattle.quota_types.specs.declared.record.Entry.{Entry}
 use Rattle.quota_blocks.specs.Listed.{ids_of}
 use Rattle.convert.specs.Convert.{Asked, HasNoTarget, asked_for}
 use Rattle.convert.specs.Listing.{kept_list}
-use Rattle.convert.proofs.ConvertLemmas.{absent_of, converted_of, keeping_refused, made_of, not_made_of, source_refused, unfit_of}
+use Rattle.convert.proofs.ConvertLemmas.{absent_of, converted_of, made_of, not_made_of, source_refused, unfit_of}
 use Rattle.convert.proofs.ValueLemmas.{kept_ascends}
 use Rattle.convert.proofs.converting.convert.Goals as goal
 
@@ -19,8 +19,8 @@ returns-in-Err-read_source-clause-refused g c =
     (record { apart = apart; absent = λ told. absent_of c.in-Ok-None.field-0 ((S.seen c.args.store.now).files c.args.to.now) none (looked.found told) })
     looked.leaves.files looked.leaves.later c.in-Err-read_source.ensures.refused
 
-pub returns-in-Err-kept_entries-clause-refused : goal.returns-in-Err-kept_entries-clause-refused
-returns-in-Err-kept_entries-clause-refused g c =
+pub returns-in-Err-keep_entries-clause-refused : goal.returns-in-Err-keep_entries-clause-refused
+returns-in-Err-keep_entries-clause-refused g c =
     let S = g.S.Store in
     let asked : Asked = asked_for c.args.from.now c.args.to.now c.args.old c.args.new c.args.kind c.args.limit in
     let apart : c.args.from.now ≢ c.args.to.now = search rules in
@@ -29,15 +29,12 @@ returns-in-Err-kept_entries-clause-refused g c =
     let read = c.in-Ok.ensures in
     let free : HasNoTarget S.tells asked (S.seen c.args.store.now).files =
     record { apart = apart; absent = λ told. absent_of c.in-Ok-None.field-0 ((S.seen c.args.store.now).files c.args.to.now) none (looked.found told) } in
-    keeping_refused S.tells asked (S.seen c.args.store.now) (S.seen c.read_source.new.store) _ c.in-Err-kept_entries.fault free
-    (rw c.as_slice.ensures.value at c.in-Err-kept_entries.ensures.refused)
-    (λ out first. unfit_of S.tells asked (S.seen c.args.store.now) (S.seen c.size.new.self) c.in-Ok.carried.grace read.read.0 c.in-Ok.carried.entries.items looked.leaves.files read.read.1 read.ascends
-    out free first)
+    unfit_of S.tells asked (S.seen c.args.store.now) (S.seen c.size.new.self) c.in-Ok.carried.grace read.read.0 c.in-Ok.carried.entries.items looked.leaves.files read.read.1 read.ascends
+    c.in-Err-keep_entries.out free c.in-Err-keep_entries.ensures.refused
 
 pub replace_file-requires-clause-ascending : goal.replace_file-requires-clause-ascending
 replace_file-requires-clause-ascending g c =
-    let is : c.as_slice-2.result.now ≡ kept_list c.args.new c.in-Ok.carried.entries.items =
-    c.as_slice-2.ensures.value ∙ (rw c.as_slice.ensures.value at c.in-Ok-kept_entries.ensures.kept) in
+    let is : c.as_slice.result.now ≡ kept_list c.args.new c.in-Ok.carried.entries.items = c.as_slice.ensures.value ∙ c.in-Ok-keep_entries.ensures.kept in
     subst (λ (list : List Entry). IsStrictlyIncreasing (ids_of list)) (sym is) (kept_ascends c.args.new c.in-Ok.carried.entries.items c.in-Ok.ensures.ascends)
 
 pub returns-in-Ok-replace_file-clause-made : goal.returns-in-Ok-replace_file-clause-made
@@ -48,16 +45,15 @@ returns-in-Ok-replace_file-clause-made g c =
     let none : c.in-Ok-None.field-0 ≡ None = search rules in
     let looked = c.in-Ok-None.ensures in
     let read = c.in-Ok.ensures in
-    let kept = c.in-Ok-kept_entries.ensures in
+    let kept = c.in-Ok-keep_entries.ensures in
     let done = c.in-Ok-replace_file.ensures in
     let old = S.seen c.args.store.now in
     let list = c.in-Ok.carried.entries.items in
-    let entries = c.as_slice-2.result.now in
+    let entries = c.as_slice.result.now in
     let free : HasNoTarget S.tells asked old.files = record { apart = apart; absent = λ told. absent_of c.in-Ok-None.field-0 (old.files c.args.to.now) none (looked.found told) } in
-    let is : entries ≡ kept_list c.args.new list = c.as_slice-2.ensures.value ∙ (rw c.as_slice.ensures.value at kept.kept) in
+    let is : entries ≡ kept_list c.args.new list = c.as_slice.ensures.value ∙ kept.kept in
     made_of S.tells asked old (S.seen c.read_source.new.store) (S.seen c.replace_file.new.store) c.in-Ok.carried.grace entries free
-    (converted_of S.tells asked old (S.seen c.size.new.self) c.in-Ok.carried.grace read.read.0 list looked.leaves.files read.read.1 read.ascends entries
-    (rw c.as_slice.ensures.value at kept.fits) is)
+    (converted_of S.tells asked old (S.seen c.size.new.self) c.in-Ok.carried.grace read.read.0 list looked.leaves.files read.read.1 read.ascends entries kept.fits is)
     (subst (λ (l : List Entry). IsStrictlyIncreasing (ids_of l)) (sym is) (kept_ascends c.args.new list read.ascends))
     (read.leaves.files ∙ looked.leaves.files) done.few done.replaced done.seen
 
@@ -69,14 +65,13 @@ returns-clause-refused g c =
     let none : c.in-Ok-None.field-0 ≡ None = search rules in
     let looked = c.in-Ok-None.ensures in
     let read = c.in-Ok.ensures in
-    let kept = c.in-Ok-kept_entries.ensures in
+    let kept = c.in-Ok-keep_entries.ensures in
     let old = S.seen c.args.store.now in
     let list = c.in-Ok.carried.entries.items in
-    let entries = c.as_slice-2.result.now in
+    let entries = c.as_slice.result.now in
     let free : HasNoTarget S.tells asked old.files = record { apart = apart; absent = λ told. absent_of c.in-Ok-None.field-0 (old.files c.args.to.now) none (looked.found told) } in
-    let is : entries ≡ kept_list c.args.new list = c.as_slice-2.ensures.value ∙ (rw c.as_slice.ensures.value at kept.kept) in
+    let is : entries ≡ kept_list c.args.new list = c.as_slice.ensures.value ∙ kept.kept in
     not_made_of S.tells asked old (S.seen c.read_source.new.store) (S.seen c.replace_file.new.store) c.in-Ok.carried.grace entries free
-    (converted_of S.tells asked old (S.seen c.size.new.self) c.in-Ok.carried.grace read.read.0 list looked.leaves.files read.read.1 read.ascends entries
-    (rw c.as_slice.ensures.value at kept.fits) is)
+    (converted_of S.tells asked old (S.seen c.size.new.self) c.in-Ok.carried.grace read.read.0 list looked.leaves.files read.read.1 read.ascends entries kept.fits is)
     (subst (λ (l : List Entry). IsStrictlyIncreasing (ids_of l)) (sym is) (kept_ascends c.args.new list read.ascends))
     c.in-Err-replace_file.fault (omega (arith, looked.leaves.later, read.leaves.later)) c.in-Err-replace_file.ensures.refused
