@@ -1,20 +1,15 @@
 -- Listings that become the usage of a file: why one was not read, which value it leaves, and why a file was not read.
-use Rattle.std.proofs.Common.{◌≡◌, ◌≢◌, ℕ, suc, ◌≤◌, Bool, true, false, IsTrue, List, [], ◌∷◌, map, Option, None, Some, Err, Result, ◌⊎◌, inl, inr, refl, sym, ap, subst, ◌∙◌, arith}
-use Rattle.std.specs.Prelude.{T, ◌==◌, ◌&&◌, All, IfSome, cond, slice_get}
-use Rattle.std.specs.Cmp.{nat_cmp_total, unsigned_tied}
-use Rattle.std.specs.FinMap.{entries, entries_sorted, find, get, get-entries, get-from_entries, is_sorted}
+use Rattle.std.proofs.Common.{◌≡◌, ◌≢◌, ℕ, ◌<◌, ◌≤◌, Bool, true, false, IsTrue, List, [], ◌∷◌, Option, None, Some, Err, Result, ◌⊎◌, inl, inr, refl, sym, ap, subst, ◌∙◌, arith}
+use Rattle.std.specs.Prelude.{T, cond, slice_get}
+use Rattle.std.specs.Cmp.{unsigned_tied}
+use Rattle.std.specs.FinMap.{entries, entries_sorted, find, get, get-entries, is_sorted}
 use Rattle.std.specs.FinMap.Entries.{below_all}
-use Rattle.std.specs.Ordering.{eq_by_cmp, is_eq, is_lt, nat_cmp}
-use Rattle.std.specs.declared.cmp.Ordering.{Ordering}
-use Rattle.std.specs.declared.cmp.Ordering.TheVariants.{Less, Equal, Greater}
+use Rattle.std.specs.Ordering.{nat_cmp}
 use Rattle.std.proofs.lemmas.Bool.Decides.{eqb_tells, nat_tests}
 use Rattle.std.proofs.lemmas.Option.{none-some}
 use Rattle.std.specs.List.{cons_option, filter_map}
 use Rattle.std.specs.Option.{option_map}
-use Rattle.quota_types.specs.Kept.{IsKept}
 use Rattle.quota_types.specs.Range.{unfit}
-use Rattle.quota_types.specs.declared.record.Entry.{Entry}
-use Rattle.quota_blocks.specs.Listed.{records_of}
 use Rattle.quota_blocks.specs.World.{World}
 use Rattle.quota_types.specs.declared.field.Field.{Field}
 use Rattle.quota_types.specs.declared.field.NoRoom.{NoRoom as NoRoomFor}
@@ -42,13 +37,13 @@ use Rattle.inode_scan.specs.Usage.{UsageMap}
 use Rattle.inode_scan.specs.declared.fault.ApplyFault.{ApplyFault}
 use Rattle.inode_scan.specs.declared.fault.ApplyFault.TheVariants.{NoRoom as Unfit, Memory as ApplyWantsMemory}
 use Rattle.inode_scan.specs.declared.fault.ScanFault.{ScanFault}
-use Rattle.inode_scan.specs.declared.fault.ScanFault.TheVariants.{Source, TooLarge as PastTotal, BadLine as WrongLine, LongLine as TooLong, Conflict as Conflicting, Memory as ScanWantsMemory}
+use Rattle.inode_scan.specs.declared.fault.ScanFault.TheVariants.{Source, Memory as ScanWantsMemory}
 use Rattle.refusals.specs.declared.cause.Cause.{Cause}
 use Rattle.refusals.specs.declared.cause.Cause.TheVariants.{StoreFault, SourceFault, NoRoom}
 use Rattle.refusals.specs.declared.reason.Refusal.{Refusal}
 use Rattle.run_steps.specs.Done.{IsWorldTold, RunSeen, RunTells, outside_of}
 use Rattle.run_steps.specs.Opening.{MayRefuseOpening, file_cause}
-use Rattle.run_steps.specs.Run.{CarriesOut, HasReason, IsFault, Uses}
+use Rattle.run_steps.specs.Run.{CarriesOut, HasReason, Uses}
 use Rattle.run_steps.specs.Steps.{Opening, Steps}
 use Rattle.run_steps.specs.Taking.{AListing, InputMayRefuse, IsInputFault}
 use Rattle.file_commands.specs.Check.{ReplaceSteps, UnfitMayRefuse, UsageMayLack, apply_cause, checked, scan_cause, scan_outcome, with_applied}
@@ -56,7 +51,7 @@ use Rattle.run_steps.specs.Changing.{edit_uses}
 use Rattle.file_commands.specs.FileValue.{IsMadeAnew, WritingMayRefuse}
 use Rattle.refusals.specs.Refusals.{refusal_of}
 use Rattle.run_steps.proofs.OpeningLemmas.{nothing_read, store_later, unwritten, with_store}
-use Rattle.run_steps.proofs.PhaseLemmas.{carries_on, stop_carried}
+use Rattle.run_steps.proofs.PhaseLemmas.{carries_on, leads_same, stop_carried}
 use Rattle.file_commands.proofs.ReplacingLemmas.{replace_wanting}
 use Rattle.run_steps.proofs.ShowingLemmas.{damage_may}
 
@@ -66,21 +61,15 @@ use Rattle.run_steps.proofs.ShowingLemmas.{damage_may}
 pub listing_unread : (read : Result UsageMap ScanFault) (before now : ℕ) (tells : Bool) (fault : ScanFault) → IsScanFault before now tells read fault
     → IsInputFault ⊥ (Rose before now) (IsTrue tells) (scan_outcome [] read) (refusal_of (scan_cause SourceFault fault) []) (scan_cause SourceFault fault)
 listing_unread read before now tells Source is = is
-listing_unread read before now tells PastTotal is = λ told. ap (scan_outcome []) (is told)
-listing_unread read before now tells (WrongLine line) is = λ told. ap (scan_outcome []) (is told)
-listing_unread read before now tells (TooLong line) is = λ told. ap (scan_outcome []) (is told)
-listing_unread read before now tells (Conflicting line first) is = λ told. ap (scan_outcome []) (is told)
 listing_unread read before now tells ScanWantsMemory is = tt
+listing_unread read before now tells _ is = λ told. ap (scan_outcome []) (is told)
 
 -- a listing in a file that gave no usage
 listing_unread_of : (name : List ℕ) (read : Result UsageMap ScanFault) (before now : ℕ) (tells : Bool) (fault : ScanFault) → IsScanFault before now tells read fault
     → IsInputFault (Rose before now) ⊥ (IsTrue tells) (scan_outcome name read) (refusal_of (scan_cause StoreFault fault) name) (scan_cause StoreFault fault)
 listing_unread_of name read before now tells Source is = is
-listing_unread_of name read before now tells PastTotal is = λ told. ap (scan_outcome name) (is told)
-listing_unread_of name read before now tells (WrongLine line) is = λ told. ap (scan_outcome name) (is told)
-listing_unread_of name read before now tells (TooLong line) is = λ told. ap (scan_outcome name) (is told)
-listing_unread_of name read before now tells (Conflicting line first) is = λ told. ap (scan_outcome name) (is told)
 listing_unread_of name read before now tells ScanWantsMemory is = tt
+listing_unread_of name read before now tells _ is = λ told. ap (scan_outcome name) (is told)
 
 -- why a listing was not read, by the refusal that says so
 pub listing_unread_at : (name : List ℕ) (read : Result UsageMap ScanFault) (before now : ℕ) (tells : Bool) (fault : ScanFault) (refusal : Refusal) → IsScanFault before now tells read fault
@@ -91,53 +80,28 @@ listing_unread_at name read before now tells fault refusal is same =
 -- what may be said of a listing in the standard input, and of one in a file
 pub listing_may : (fault : ScanFault) → InputMayRefuse AListing None (scan_cause SourceFault fault) []
 listing_may Source = refl
-listing_may PastTotal = (refl, refl)
-listing_may (WrongLine line) = (refl, refl)
-listing_may (TooLong line) = (refl, refl)
-listing_may (Conflicting line first) = (refl, refl)
 listing_may ScanWantsMemory = refl
+listing_may _ = (refl, refl)
 
 pub listing_may_of : (name : List ℕ) (fault : ScanFault) → InputMayRefuse AListing (Some name) (scan_cause StoreFault fault) name
 listing_may_of name Source = refl
-listing_may_of name PastTotal = (refl, refl)
-listing_may_of name (WrongLine line) = (refl, refl)
-listing_may_of name (TooLong line) = (refl, refl)
-listing_may_of name (Conflicting line first) = (refl, refl)
 listing_may_of name ScanWantsMemory = refl
+listing_may_of name _ = (refl, refl)
 
 -- Values for which there is no room.
 
-tied : (id n : ℕ) → id ≡ n → eq_by_cmp nat_cmp id n ≡ true
-tied id n own = unsigned_tied id n ∙ same_number id n own
-  where
-    same_number : (id n : ℕ) → id ≡ n → (id == n) ≡ true
-    same_number id n own = grind (arith, nat_tests)
+-- an identifier is found at its own entry, not at another one, and not before all of them
+found_here : (pair : ℕ × Rec) (pairs : List (ℕ × Rec)) → find nat_cmp pair.0 (pair ∷ pairs) ≡ Some pair.1
+found_here pair pairs = grind (arith, unsigned_tied pair.0 pair.0, nat_tests)
 
-untied : (id n : ℕ) → id ≢ n → eq_by_cmp nat_cmp id n ≡ false
-untied id n other = unsigned_tied id n ∙ other_number id n other
-  where
-    other_number : (id n : ℕ) → id ≢ n → (id == n) ≡ false
-    other_number id n other = grind (arith, nat_tests)
+found_later : (id : ℕ) (pair : ℕ × Rec) (pairs : List (ℕ × Rec)) → id ≢ pair.0 → find nat_cmp id (pair ∷ pairs) ≡ find nat_cmp id pairs
+found_later id pair pairs other = grind (arith, unsigned_tied id pair.0, nat_tests)
 
-first_holds : (a b : Bool) → T (a && b) → T a
-first_holds true b both = tt
-first_holds false b both = absurd both
-
-second_holds : (a b : Bool) → T (a && b) → T b
-second_holds true b both = both
-second_holds false b both = absurd both
-
-not_tied : (order : Ordering) → T (is_lt order) → is_eq order ≡ false
-not_tied Less less = refl
-not_tied Equal less = absurd less
-not_tied Greater less = absurd less
-
--- an identifier before all of them is none of them
 find_none : (id : ℕ) (pairs : List (ℕ × Rec)) → T (below_all nat_cmp id pairs) → find nat_cmp id pairs ≡ None
 find_none id [] below = refl
 find_none id (pair ∷ pairs) below =
-    ap (λ b. cond b (Some pair.1) (find nat_cmp id pairs)) (not_tied (nat_cmp id pair.0) (first_holds (is_lt (nat_cmp id pair.0)) (below_all nat_cmp id pairs) below))
-    ∙ find_none id pairs (second_holds (is_lt (nat_cmp id pair.0)) (below_all nat_cmp id pairs) below)
+    let less : id < pair.0 = grind (arith, nat_tests) in
+    found_later id pair pairs (omega (arith, less)) ∙ find_none id pairs (grind (arith, nat_tests))
 
 -- what there is no room for is a value of a record that an identifier has
 abbrev Lacks : Format → List (ℕ × Rec) → NoRoomFor → Type 0
@@ -149,22 +113,22 @@ lacks_here format pair pairs out None is named = absurd (cc)
 lacks_here format pair pairs out (Some one) is named =
     let same : ◌≡◌ {A = NoRoomFor} (record { id = pair.0; field = one.0; value = one.1 }) out = cc in
     subst (λ (o : NoRoomFor). Lacks format (pair ∷ pairs) o) same
-    (pair.1, ap (λ b. cond b (Some pair.1) (find nat_cmp pair.0 pairs)) (tied pair.0 pair.0 refl), is)
+    (pair.1, found_here pair pairs, is)
 
 lacks_later : (format : Format) (pair : ℕ × Rec) (pairs : List (ℕ × Rec)) (out : NoRoomFor) → T (below_all nat_cmp pair.0 pairs) → Lacks format pairs out → Lacks format (pair ∷ pairs) out
 lacks_later format pair pairs out below lacks = elim (eqb_tells out.id pair.0) [
   | inl own ↦ absurd (none-some lacks.0 (sym (find_none pair.0 pairs below) ∙ ap (λ (n : ℕ). find nat_cmp n pairs) (sym own.1) ∙ lacks.1))
-  | inr other ↦ (lacks.0, ap (λ b. cond b (Some pair.1) (find nat_cmp out.id pairs)) (untied out.id pair.0 other.1) ∙ lacks.1, lacks.2)
+  | inr other ↦ (lacks.0, found_later out.id pair pairs other.1 ∙ lacks.1, lacks.2)
 ]
 
 first_lacking : (format : Format) (pairs : List (ℕ × Rec)) (out : NoRoomFor) → T (is_sorted nat_cmp pairs) → slice_get (filter_map (no_room format) pairs) 0 ≡ Some out → Lacks format pairs out
 first_lacking format [] out sorted is = absurd (cc)
 first_lacking format (pair ∷ pairs) out sorted is =
-    by_found (no_room format pair) refl (first_lacking format pairs out (second_holds (below_all nat_cmp pair.0 pairs) (is_sorted nat_cmp pairs) sorted)) is
+    by_found (no_room format pair) refl (first_lacking format pairs out (grind arith)) is
   where
     by_found : (found : Option NoRoomFor) → no_room format pair ≡ found → (slice_get (filter_map (no_room format) pairs) 0 ≡ Some out → Lacks format pairs out)
         → slice_get (cons_option found (filter_map (no_room format) pairs)) 0 ≡ Some out → Lacks format (pair ∷ pairs) out
-    by_found None found next first = lacks_later format pair pairs out (first_holds (below_all nat_cmp pair.0 pairs) (is_sorted nat_cmp pairs) sorted) (next first)
+    by_found None found next first = lacks_later format pair pairs out (grind arith) (next first)
     by_found (Some one) found next first = lacks_here format pair pairs out (unfit format pair.0 pair.1) refl (found ∙ first)
 
 refused_by : {A E : Type 0} (refusal : Option E) (value : A) (out : E) → unless refusal value ≡ Err out → refusal ≡ Some out
@@ -202,19 +166,13 @@ check_unfit name value usage now out tells old is =
 
 -- Files that were opened and not read.
 
-read_reason : (warns : Bool) (old new : RunSeen) (tells : RunTells) (stated : Type 0) (before : ℕ) (holds : QuotaValue → Type 0) (fault : FileFault)
+read_reason : (uses : Uses) (old new : RunSeen) (tells : RunTells) (stated : Type 0) (before : ℕ) (holds : QuotaValue → Type 0) (fault : FileFault)
     → old.store.faults ≤ before → (IsTrue tells.store → ((value : QuotaValue) → holds value → ⊥) → ⊥)
-    → IsReadFault before new.store.faults holds fault → HasReason warns old new (IsWorldTold tells → stated) (file_cause fault)
-read_reason warns old new tells stated before holds StoreFailed le seen cause = omega (arith, le, cause)
-read_reason warns old new tells stated before holds (FileDamaged damage) le seen cause = λ told. absurd (seen told.store cause)
-read_reason warns old new tells stated before holds (NoBlocks blocks limit) le seen cause = absurd cause
-read_reason warns old new tells stated before holds NoMemory le seen cause = tt
-
-read_fault : (before now : ℕ) (holds : QuotaValue → Type 0) (fault : FileFault) → (((value : QuotaValue) → holds value → ⊥) → ⊥) → IsReadFault before now holds fault → IsFault (file_cause fault)
-read_fault before now holds StoreFailed seen cause = tt
-read_fault before now holds (FileDamaged damage) seen cause = absurd (seen cause)
-read_fault before now holds (NoBlocks blocks limit) seen cause = absurd cause
-read_fault before now holds NoMemory seen cause = tt
+    → IsReadFault before new.store.faults holds fault → HasReason uses old new (IsWorldTold tells → stated) (file_cause fault)
+read_reason uses old new tells stated before holds StoreFailed le seen cause = omega (arith, le, cause)
+read_reason uses old new tells stated before holds (FileDamaged damage) le seen cause = λ told. absurd (seen told.store cause)
+read_reason uses old new tells stated before holds (NoBlocks blocks limit) le seen cause = absurd cause
+read_reason uses old new tells stated before holds NoMemory le seen cause = tt
 
 read_may : (asked : Option Format) (name : List ℕ) (format : Format) (before now : ℕ) (holds : QuotaValue → Type 0) (fault : FileFault) → IsOpenedAs asked format
     → IsReadFault before now holds fault → UnlessMemory fault (MayRefuse format fault) → MayRefuseOpening asked name (file_cause fault) name
@@ -231,9 +189,8 @@ pub not_read_whole : (kind : Kind) (asked : Option Format) (name : List ℕ) (ne
     → CarriesOut (Opening kind asked name next) uses may tells old (with_store old store) (Err (refusal_of (file_cause fault) name))
 not_read_whole kind asked name next uses may tells old store format before holds fault asks reads le seen cause may_be allowed = record {
   done = tt;
-  refused = read_reason uses.warns old (with_store old store) tells _ before holds fault le seen cause;
-  part = λ told acts to ended steps. nothing_read name tells acts old store reads;
-  complete = λ told acts to steps. read_fault before store.faults holds fault (seen told.store) cause;
+  refused = read_reason uses old (with_store old store) tells _ before holds fault le seen cause;
+  part = λ told. nothing_read (Opening kind asked name next) name tells old store reads;
   may_refuse = allowed (file_cause fault) (read_may asked name format before store.faults holds fault asks cause may_be);
   placed = record { line = λ no. refl; input_line = λ no. refl };
   only_reads = λ only. unwritten name old.store store reads;
@@ -249,9 +206,7 @@ pub carries_same : (name : List ℕ) (next : QuotaValue → Steps) (one other : 
     → (IsTrue tells.store → one ≡ other) → CarriesOut (next one) uses may tells old new result → CarriesOut (next other) uses may tells old new result
 carries_same name next one other uses may tells old new result same carries =
     carries_on name (next one) (next other) uses may may tells old old.store new result (only_reads-none name old.store)
-    (λ told acts to ended by. subst (λ (v : QuotaValue). next v (outside_of old) acts to ended) (same told.store) by)
-    (λ told acts to ended by. subst (λ (v : QuotaValue). next v (outside_of old) acts to ended) (sym (same told.store)) by)
-    (λ cause said may. may) carries
+    (λ told. leads_same (next one) (next other) (outside_of old) (ap next (same told.store))) (λ cause said may. may) carries
 
 -- the value of a new file has no flags that its format does not have
 pub new_flags : (format : Format) → flags_in format 0 ≡ 0
@@ -266,24 +221,6 @@ pub apply_refused : (name : List ℕ) (value : QuotaValue) (usage : UsageMap) (n
 apply_refused name value usage now (Unfit out) tells old is = check_unfit name value usage now out tells old is
 apply_refused name value usage now ApplyWantsMemory tells old is =
     replace_wanting name (checked value usage now) (ReplacingMayRefuse value name) tells old old.store refl (inr tt)
-
--- what the format keeps of each entry of a list it keeps of each record
-found_kept : (format : Format) (list : List Entry) (id : ℕ) → All (λ (entry : Entry). IsKept format entry.id entry.rec) list
-    → IfSome (find nat_cmp id (map (λ (entry : Entry). (entry.id, entry.rec)) list)) (IsKept format id)
-found_kept format [] id all = tt
-found_kept format (entry ∷ list) id all =
-    let rest : List (ℕ × Rec) = map (λ (e : Entry). (e.id, e.rec)) list in
-    elim (eqb_tells id entry.id) [
-      | inl own ↦ subst (λ (b : Bool). IfSome (cond b (Some entry.rec) (find nat_cmp id rest)) (IsKept format id)) (sym (tied id entry.id own.1))
-          (subst (λ (n : ℕ). IsKept format n entry.rec) (sym own.1) (all 0 entry (omega arith)))
-      | inr other ↦ subst (λ (b : Bool). IfSome (cond b (Some entry.rec) (find nat_cmp id rest)) (IsKept format id)) (sym (untied id entry.id other.1))
-          (found_kept format list id (λ k d less. all (suc k) d (omega (arith, less))))
-    ]
-
-pub list_kept : (format : Format) (list : List Entry) → All (λ (entry : Entry). IsKept format entry.id entry.rec) list → (id : ℕ) → IfSome (get (records_of list) id) (IsKept format id)
-list_kept format list all id =
-    subst (λ (o : Option Rec). IfSome o (IsKept format id)) (sym (get-from_entries nat_cmp_total (map (λ (entry : Entry). (entry.id, entry.rec)) list) id))
-    (found_kept format list id all)
 
 -- a file is made anew, also after calls that only read
 pub anew_since : (kind other : Kind) (IsFormat IsOther : Format → Type 0) (read name : List ℕ) (old store new : StoreSeen) → OnlyReads read old store → kind ≡ other

@@ -1,3 +1,5 @@
 pub mod CheckLemmas
+pub mod ConversionLemmas
 pub mod ReplacingLemmas
 pub mod ReportLemmas
+pub mod StepLemmas

@@ -9,7 +9,8 @@ use Rattle.quota_types.specs.declared.file_kind.Format.{Format}
 use Rattle.quota_types.specs.declared.file_kind.Format.TheVariants.{V2R1}
 use Rattle.quota_types.specs.declared.file_kind.Kind.{Kind}
 use Rattle.quota_blocks.specs.QuotaValue.{QuotaValue, Records}
-use Rattle.quota_map.specs.View.{IsOpenedAs, most_blocks}
+use Rattle.quota_blocks.specs.World.{World}
+use Rattle.quota_map.specs.View.{IsOpenedAs, IsView, most_blocks}
 use Rattle.inode_scan.specs.Apply.{applied, wanted_record}
 use Rattle.inode_scan.specs.Scan.{scanned}
 use Rattle.inode_scan.specs.Usage.{UsageMap}
@@ -99,6 +100,11 @@ CheckSteps common true device from file invocation =
     UsageSteps common.kind device from file invocation.now (new_value common.kind common.format)
 CheckSteps common false device from file invocation =
     Opening common.kind common.format file (UsageSteps common.kind device from file invocation.now)
+
+-- the value whose usage is set: that of a new file, or the one that the file is seen as
+abbrev pub IsToBeChecked : Common → (fresh : Bool) → List ℕ → World → QuotaValue → Type 0
+IsToBeChecked common true file files value = value ≡ new_value common.kind common.format
+IsToBeChecked common false file files value = IsView (files file) common.kind common.format (Ok value)
 
 -- a listing is read from an input, and changes the store as an edit does
 abbrev pub check_uses : Option (List ℕ) → Uses

@@ -1,4 +1,5 @@
 pub mod Check
+pub mod Conversion
 pub mod FileValue
 pub mod Report
 pub use Rattle.quota_blocks.specs.Seen

@@ -137,7 +137,7 @@ pub fn write_value<S: Store>(
 }
 
 /// What is said where a file was not replaced.
-fn replace_cause(fault: ReplaceFault) -> Cause
+pub fn replace_cause(fault: ReplaceFault) -> Cause
     ensures { result ≡ replace_cause fault }
 {
     match fault {

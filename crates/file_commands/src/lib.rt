@@ -1,12 +1,14 @@
-//! The commands over whole files: `repquota` and `quotacheck`.
+//! The commands over whole files: `repquota`, `quotacheck` and `convertquota`.
 //!
 //! The one promise: each of them carries out its steps.
 #![tactic(auto)]
 
 mod check;
+mod conversion;
 mod file_value;
 mod listing_input;
 mod report;
 
 pub use check::check_file;
+pub use conversion::convert_file;
 pub use report::report_file;

@@ -1,14 +1,17 @@
-//! Stories of `repquota`, `quotacheck`, names, the words of all commands and the calls of the store: rows as text, which the
+//! Stories of `repquota`, `quotacheck`, `convertquota`, `rquotad`, names, the words of all commands and the calls of the store: rows as text, which the
 //! tests of the program carry out.
 #![tactic(auto)]
 
 pub mod calls;
 pub mod checked;
+pub mod conversions;
 pub mod ended_checks;
 pub mod names;
 pub mod new_files;
+pub mod refused_conversions;
 pub mod refused_listings;
 pub mod reports;
+pub mod served;
 pub mod summed;
 pub mod trees;
 pub mod turned;

@@ -1,19 +1,17 @@
-use Rattle.std.proofs.Common.{◌≡◌, true, [], inl, inr, refl, ap}
+use Rattle.std.proofs.Common.{◌≡◌, true, false, [], inl, inr, refl, ap}
 use Rattle.std.specs.Prelude.{unwrap_or}
+use Rattle.std.proofs.lemmas.Bool.{false≢true}
 use Rattle.std.proofs.lemmas.Result.{on_ok_weaker}
 use Rattle.quota_blocks.proofs.FrameLemmas.{adds_none-then}
 use Rattle.inode_scan.specs.Usage.{UsageMap}
 use Rattle.run_steps.specs.Done.{IsWorldTold, seen_of, tells_of}
-use Rattle.refusals.specs.Outcome.{Passed}
-use Rattle.run_steps.specs.Taking.{AListing, HasTaken}
-use Rattle.file_commands.specs.Check.{ReplaceSteps, checked}
+use Rattle.run_steps.specs.Taking.{AListing}
+use Rattle.file_commands.specs.Check.{ReplaceSteps, check_uses, checked}
 use Rattle.file_commands.specs.FileValue.{value_in}
 use Rattle.quota_types.specs.declared.file_kind.Format.{Format}
 use Rattle.file_commands.proofs.CheckLemmas.{anew_since}
-use Rattle.run_steps.proofs.TakingLemmas.{fault_more}
-use Rattle.run_steps.proofs.OpeningLemmas.{with_store}
 use Rattle.run_steps.proofs.PhaseLemmas.{placed_nowhere}
-use Rattle.run_steps.proofs.TakingLemmas.{carries_taking, has_taken, has_taken_refused, input_refused, whole_moved}
+use Rattle.run_steps.proofs.TakingLemmas.{HasTaken, carries_taking, fault_more, has_taken, input_refused}
 use Rattle.file_commands.proofs.check.check_value.Goals as goal
 
 pub returns-in-Ok-clause-carries : goal.returns-in-Ok-clause-carries
@@ -24,14 +22,12 @@ returns-in-Ok-clause-carries g c = λ out err link out_tells err_tells link_tell
     let usage : UsageMap = c.in-Ok.usage in
     let tells = tells_of S.tells I.tells out_tells err_tells link_tells in
     let old = seen_of (S.seen c.args.store.now) (I.seen c.args.input.now) out err link in
-    let taken : IsWorldTold tells → HasTaken c.args.from (λ (u : UsageMap). true) (Passed usage) (I.seen c.args.input.now).left (I.seen c.take_usage.new.input).left =
-    λ told. has_taken c.args.from (λ u. true) usage _ _ (took.behind told.input) (λ all none. took.ended none told.input) (λ some. ap (λ i. (I.seen i).left) (took.untouched some)) in
+    let taken : IsWorldTold tells → HasTaken c.args.from true (I.seen c.args.input.now).left (I.seen c.take_usage.new.input).left =
+    λ told. has_taken c.args.from true _ _ (took.behind told.input) (λ all none. took.ended none told.input) (λ some. ap (λ i. (I.seen i).left) (took.untouched some)) in
     carries_taking (unwrap_or c.args.from []) c.args.from (λ (u : UsageMap). true) _ (λ (u : UsageMap). ReplaceSteps c.args.file (checked (value_in c.args.value) u c.args.now)) usage _ _ _
     tells old (S.seen c.take_usage.new.store) (I.seen c.take_usage.new.input)
     (seen_of (S.seen c.replace_usage.new.store) (I.seen c.take_usage.new.input) out err link) c.replace_usage.result
-    took.leaves took.later (λ told. took.read told.store told.input)
-    taken (λ told. whole_moved c.args.from (λ u. true) (λ (u : UsageMap). ReplaceSteps c.args.file (checked (value_in c.args.value) u c.args.now)) usage
-    (with_store old (S.seen c.take_usage.new.store)) (I.seen c.take_usage.new.input) refl (taken told))
+    took.leaves took.later (λ told. took.read told.store told.input) taken
     (λ cause said may. inr may)
     (c.replace_usage.ensures.carries (I.seen c.take_usage.new.input) out err link I.tells out_tells err_tells link_tells)
 
@@ -46,8 +42,8 @@ returns-in-Err-clause-carries g c = λ out err link out_tells err_tells link_tel
     (S.seen c.take_usage.new.store) (I.seen c.take_usage.new.input) c.in-Err.refusal
     took.leaves took.later
     (fault_more _ _ _ _ _ _ _ c.in-Err.refusal c.in-Err.refusal.cause (λ rose. rose) (λ rose. rose) (λ told. (told.store, told.input)) took.refused)
-    (λ told. has_taken_refused c.args.from (λ u. true) c.in-Err.refusal _ _ (took.behind told.input) (λ some. ap (λ i. (I.seen i).left) (took.untouched some)))
-    took.may (inl took.may) (placed_nowhere _ c.in-Err.refusal took.placed)
+    (λ told. has_taken c.args.from false _ _ (took.behind told.input) (λ no. absurd (false≢true no)) (λ some. ap (λ i. (I.seen i).left) (took.untouched some)))
+    took.may (inl took.may) (placed_nowhere (check_uses c.args.from) c.in-Err.refusal took.placed)
 
 pub returns-in-Ok-clause-synced : goal.returns-in-Ok-clause-synced
 returns-in-Ok-clause-synced g c =

@@ -21,7 +21,7 @@ returns-in-Ok-clause-carries g c = λ input out err link input_tells out_tells e
     subst (λ (n : List ℕ). IsView ((S.seen c.replace_file.new.store).files n) c.args.value.now.kind (Some c.args.value.now.format) (Ok (value_in c.args.value.now))) file
     (subst (λ (l : List Entry). IsView ((S.seen c.replace_file.new.store).files c.as_str.result.now) c.args.value.now.kind (Some c.args.value.now.format)
     (Ok (value_of c.args.value.now.kind c.args.value.now.format c.args.value.now.grace (flags_in c.args.value.now.format c.args.value.now.flags) l))) list
-    (done.seen told (omega arith)))) (rw file at done.leaves)
+    (done.seen told (omega arith)))) (rw file at done.leaves.files) done.leaves.later
     (rw (needed_of c.args.value.now c.requires.in_order) (rw list at done.few))
 
 pub returns-in-Err-clause-named : goal.returns-in-Err-clause-named

@@ -1,0 +1,80 @@
+ghost use Rattle.std.specs.Prelude.{◌≡◌, ◌≢◌, Bool, IsTrue, OnErr, OnOk, false};
+ghost use Rattle.quota_blocks.specs.Replace.{replacement_name};
+ghost use Rattle.quota_blocks.specs.Seen.{LinkSeen, SinkSeen, SourceSeen};
+ghost use Rattle.quota_blocks.specs.Unsynced.{AddsNone};
+ghost use Rattle.run_steps.specs.Changing.{edit_uses};
+ghost use Rattle.run_steps.specs.Done.{seen_of, tells_of};
+ghost use Rattle.run_steps.specs.Run.{CarriesOut};
+ghost use Rattle.run_steps.specs.declared.invocation.Invocation.{Invocation};
+ghost use Rattle.file_commands.specs.Conversion.{ConvertMayRefuse, ConvertSteps, convert_refusal};
+ghost use Rattle.file_commands.specs.FileValue.{IsMadeAnew};
+
+use crate::file_value::replace_cause;
+use convert::{ConvertFault, convert};
+use quota_blocks::Store;
+use quota_map::MOST_BLOCKS;
+use quota_types::{Format, Kind};
+use refusals::{Cause, Refusal, Word};
+use run_steps::{file_cause, opening_cause};
+use std::alloc::Global;
+
+/// Makes a file of another format, or of the same one, from a quota file, which stays as it is.
+///
+/// # Errors
+///
+/// The names are the same, there is a file of the second one, the first file is not opened or not read, the new format has no
+/// room for a value, or the new file is not made.
+pub fn convert_file<S: Store>(
+    alloc: Global,
+    kind: Kind,
+    old: Format,
+    new: Format,
+    source: Word,
+    target: Word,
+    store: &mut S,
+) -> Result<(), Refusal>
+    requires { source ≢ replacement_name target }
+    ensures carries { (input : SourceSeen) (out err : SinkSeen) (link : LinkSeen) (input_tells out_tells err_tells link_tells : Bool) (invocation : Invocation)
+        → CarriesOut (ConvertSteps kind old new source target invocation) (edit_uses false) (ConvertMayRefuse kind old new source target)
+        (tells_of S.tells input_tells out_tells err_tells link_tells)
+        (seen_of (S.seen store.old) input out err link)
+        (seen_of (S.seen store.new) input out err link) result }
+    // The new file has nothing beside what it stands for, and as few blocks as can be.
+    ensures anew { OnOk result (IsTrue S.tells → IsMadeAnew kind (λ format. format ≡ new) target
+        (S.seen store.old).files (S.seen store.new).files) }
+    // Where it was refused, for whichever cause, there is no new file.
+    ensures named { OnErr result ((S.seen store.new).files target ≡ (S.seen store.old).files target) }
+    // The file that is converted is as it was in every case.
+    ensures source { (S.seen store.new).files source ≡ (S.seen store.old).files source }
+    // Where it was done, what was written has been synced.
+    ensures synced { OnOk result (IsTrue S.tells
+        → AddsNone (S.seen store.old).unsynced (S.seen store.new).unsynced) }
+{
+    match convert(
+        alloc,
+        store,
+        source.as_str(),
+        target.as_str(),
+        old,
+        new,
+        kind,
+        MOST_BLOCKS,
+    ) {
+        Ok(()) => Ok(()),
+        Err(fault) => Err(convert_refusal(fault, source, target)),
+    }
+}
+
+/// What is said where a file was not converted.
+fn convert_refusal(fault: ConvertFault, source: Word, target: Word) -> Refusal
+    ensures { result ≡ convert_refusal source target fault }
+{
+    match fault {
+        ConvertFault::SameName => Refusal::of(Cause::SameName, source),
+        ConvertFault::TargetExists => Refusal::of(Cause::TargetExists, target),
+        ConvertFault::Open(fault) => Refusal::of(opening_cause(fault), source),
+        ConvertFault::File(fault) => Refusal::of(file_cause(fault), source),
+        ConvertFault::NoRoom(out) => Refusal::of(Cause::NoRoom(out), source),
+        ConvertFault::Replace(fault) => Refusal::of(replace_cause(fault), target),
+    }
+}

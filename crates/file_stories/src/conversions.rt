@@ -1,0 +1,323 @@
+//! Conversions of quota files.
+
+/// One map in each format: identifier 0 with a space of one byte and a timer, a record that limits and counts nothing but has
+/// timers, and identifier 1000 with timers above 32 bits; grace periods of 1 second and of 2^32 - 1, and flags. A flat file
+/// has whole KiB, and no timer of identifier 0.
+pub const PAIRS: &str = "\
+= one map in each format
+zeros 7168
+put 0 3653246737 0 1 4294967295 7 7 0 5
+put 1024 2
+put 2048 3
+put 3072 4 0 0 6
+put 4096 5 0 0 0 0 5
+put 7072 5
+put 5128 3
+put 5136 0 0 0 1 0 0 1 0 7 0 0 0
+put 5184 5 0 0 0 0 0 0 0 9 0 0 1
+put 5232 1000 4 3 5 2 1 2049 0 0 1 1 1
+keep middle
+zeros 7168
+put 0 3653246737 1 1 4294967295 7 7 0 5
+put 1024 2
+put 2048 3
+put 3072 4 0 0 6
+put 4096 5 0 0 0 0 5
+put 7072 5
+put 5128 3
+put 5136 0 0 0 0 0 0 1 0 0 0 0 0 1 0 7 0 0 0
+put 5208 5 0 0 0 0 0 0 0 0 0 0 0 0 0 9 0 0 1
+put 5280 1000 0 4 0 3 0 5 0 2 0 1 0 2049 0 0 1 1 1
+keep new
+record 0 0 1 0 0 1 1 4294967295
+zeros 160
+record 0 0 0 0 0 0 9 4294967296
+zeros 39760
+record 2 1 3 4 3 5 4294967296 4294967297
+keep old
+record 0 0 1 0 0 1 1 4294967295
+zeros 39960
+record 2 1 3 4 3 5 4294967296 4294967297
+keep made
+
+= from vfsold to vfsold
+use old
+file q
+run convertquota -f vfsold,vfsold q r
+same q
+absent r.new
+use made
+holds r
+run repquota -F vfsold -v -p r
+head user r 00:00 49710days
+> #0           --          1          0          0      0        1        0        0      0
+> #1000        ++          3          1          2 4294967296        5        3        4 4294967297
+drop r
+
+= from vfsold to vfsv0
+use old
+file q
+run convertquota -f vfsold,vfsv0 q r
+same q
+absent r.new
+long r 7168
+numbers 3653246737 0 1 4294967295 0 7 0
+begins r
+numbers 0 0 0 1 0 0 1024 0 0 0 0 0 1000 4 3 5 2 1 3072 0 0 1 1 1
+has r
+run repquota -F vfsv0 -v -p r
+head user r 00:00 49710days
+> #0           --          1          0          0      0        1        0        0      0
+> #1000        ++          3          1          2 4294967296        5        3        4 4294967297
+drop r
+
+= from vfsold to vfsv1
+use old
+file q
+run convertquota -f vfsold,vfsv1 q r
+same q
+absent r.new
+long r 7168
+numbers 3653246737 1 1 4294967295 0 7 0
+begins r
+numbers 0 0 0 0 0 0 1 0 0 0 0 0 1024 0 0 0 0 0 1000 0 4 0 3 0 5 0 2 0 1 0 3072 0 0 1 1 1
+has r
+run repquota -F vfsv1 -v -p r
+head user r 00:00 49710days
+> #0           --          1          0          0      0        1        0        0      0
+> #1000        ++          3          1          2 4294967296        5        3        4 4294967297
+drop r
+
+= from vfsv0 to vfsold
+use middle
+file q
+run convertquota -f vfsv0,vfsold q r
+same q
+absent r.new
+use made
+holds r
+run repquota -F vfsold -v -p r
+head user r 00:00 49710days
+> #0           --          1          0          0      0        1        0        0      0
+> #1000        ++          3          1          2 4294967296        5        3        4 4294967297
+drop r
+
+= from vfsv0 to vfsv0
+use middle
+file q
+run convertquota -f vfsv0,vfsv0 q r
+same q
+absent r.new
+long r 7168
+numbers 3653246737 0 1 4294967295 0 7 0
+begins r
+numbers 0 0 0 1 0 0 1 0 7 0 0 0 1000 4 3 5 2 1 2049 0 0 1 1 1
+has r
+run repquota -F vfsv0 -v -p r
+head user r 00:00 49710days
+> #0           --          1          0          0      0        1        0        0      0
+> #1000        ++          3          1          2 4294967296        5        3        4 4294967297
+drop r
+
+= from vfsv0 to vfsv1
+use middle
+file q
+run convertquota -f vfsv0,vfsv1 q r
+same q
+absent r.new
+long r 7168
+numbers 3653246737 1 1 4294967295 0 7 0
+begins r
+numbers 0 0 0 0 0 0 1 0 0 0 0 0 1 0 7 0 0 0 1000 0 4 0 3 0 5 0 2 0 1 0 2049 0 0 1 1 1
+has r
+run repquota -F vfsv1 -v -p r
+head user r 00:00 49710days
+> #0           --          1          0          0      0        1        0        0      0
+> #1000        ++          3          1          2 4294967296        5        3        4 4294967297
+drop r
+
+= from vfsv1 to vfsold
+use new
+file q
+run convertquota -f vfsv1,vfsold q r
+same q
+absent r.new
+use made
+holds r
+run repquota -F vfsold -v -p r
+head user r 00:00 49710days
+> #0           --          1          0          0      0        1        0        0      0
+> #1000        ++          3          1          2 4294967296        5        3        4 4294967297
+drop r
+
+= from vfsv1 to vfsv0
+use new
+file q
+run convertquota -f vfsv1,vfsv0 q r
+same q
+absent r.new
+long r 7168
+numbers 3653246737 0 1 4294967295 0 7 0
+begins r
+numbers 0 0 0 1 0 0 1 0 7 0 0 0 1000 4 3 5 2 1 2049 0 0 1 1 1
+has r
+run repquota -F vfsv0 -v -p r
+head user r 00:00 49710days
+> #0           --          1          0          0      0        1        0        0      0
+> #1000        ++          3          1          2 4294967296        5        3        4 4294967297
+drop r
+
+= from vfsv1 to vfsv1
+use new
+file q
+run convertquota -f vfsv1,vfsv1 q r
+same q
+absent r.new
+long r 7168
+numbers 3653246737 1 1 4294967295 0 7 0
+begins r
+numbers 0 0 0 0 0 0 1 0 0 0 0 0 1 0 7 0 0 0 1000 0 4 0 3 0 5 0 2 0 1 0 2049 0 0 1 1 1
+has r
+run repquota -F vfsv1 -v -p r
+head user r 00:00 49710days
+> #0           --          1          0          0      0        1        0        0      0
+> #1000        ++          3          1          2 4294967296        5        3        4 4294967297
+drop r
+";
+
+/// Values at the ends of what a format has room for.
+pub const ENDS: &str = "\
+= a limit of 32 bits fits, and none of 33
+use empty
+file q
+run setquota -u 1000 0 4294967296 0 0 q
+changes q
+run convertquota -u -f vfsv1,vfsv0 q r
+status 1
+! quota: q: no room for bhard 4294967296 of 1000
+same q
+absent r r.new
+writes 0
+run setquota -u 1000 0 4294967295 0 0 q
+changes q
+run convertquota -u -f vfsv1,vfsv0 q r
+same q
+changes r
+absent r.new
+run repquota -F vfsv0 -u -v r
+head user r 7days 7days
+> #1000        --          0          0 4294967295      -        0        0        0      -
+run convertquota -u -f vfsv1,vfsv0 q r
+status 1
+! quota: r: exists already
+same q r
+absent r.new
+writes 0
+run convertquota -u -f vfsv1,vfsv0 q q
+status 1
+! quota: q: same name
+same q
+absent q.new
+writes 0
+
+= a space of 513 bytes is 1 KiB of a flat file
+zeros 6144
+put 0 3653246737 0 604800 604800 0 6 0 5
+put 1024 2
+put 2048 3
+put 3084 4
+put 5024 5
+put 5128 1
+put 5136 1000 0 0 1 0 0 513
+file q
+run convertquota -f vfsv0,vfsold q r
+same q
+changes r
+long r 40040
+at r 40000 0 0 1
+run repquota -F vfsold -u r
+head user r 7days 7days
+> #1000        --          1          0          0      -        1        0        0      -
+
+= records without limits and use, and flags, are left out
+zeros 7168
+put 0 3653246737 1 604800 604800 7 7 0 5
+put 1024 2
+put 2048 3
+put 3072 4 0 0 6
+put 4116 5 5
+put 7072 5
+put 5128 3
+put 5136 5
+put 5208 6
+put 5280 1000 0 0 0 0 0 0 0 0 0 1
+file q
+run convertquota -f vfsv1,vfsv1 q r
+same q
+long r 6144
+numbers 3653246737 1 604800 604800 0 6 0
+begins r
+run repquota -u -v r
+head user r 7days 7days
+> #1000        --          0          1          0      -        0        0        0      -
+
+= an identifier behind the last one of a flat file
+use empty
+file q
+run setquota -u 1048576 1 0 0 0 q
+changes q
+run convertquota -u -f vfsv1,vfsold q r
+status 1
+! quota: q: no room for id 1048576 of 1048576
+same q
+absent r r.new
+writes 0
+
+= an identifier behind them that limits and uses nothing is in no one's way
+zeros 6144
+put 0 3653246737 1 604800 604800 0 6 0 5
+put 1024 2
+put 2112 3
+put 3072 4
+put 4096 5
+put 5128 1
+put 5136 1048576
+put 5192 9
+file q
+run repquota -v q
+head user q 7days 7days
+> #1048576     --          0          0          0      -        0        0        0      -
+run convertquota -f vfsv1,vfsold q r
+same q
+record 0 0 0 0 0 0 604800 604800
+holds r
+
+= a space of 2^32 KiB has no room in a flat file, and is told in bytes
+zeros 6144
+put 0 3653246737 0 604800 604800 0 6 0 5
+put 1024 2
+put 2048 3
+put 3084 4
+put 5024 5
+put 5128 1
+put 5136 1000 0 0 1 0 0 4294966272 1023
+keep full
+use full
+file q
+run convertquota -f vfsv0,vfsold q r
+same q
+changes r
+run repquota -F vfsold r
+head user r 7days 7days
+> #1000        -- 4294967295          0          0      -        1        0        0      -
+drop r
+use full
+put 5160 4294966273 1023
+file q
+run convertquota -f vfsv0,vfsold q r
+status 1
+! quota: q: no room for space 4398046510081 of 1000
+same q
+absent r r.new
+writes 0
+";

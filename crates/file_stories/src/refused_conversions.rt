@@ -1,0 +1,263 @@
+//! Conversions that are refused, and those whose calls fail.
+
+/// Which value without room is told, and grace periods at the ends of their ranges.
+pub const FIRST: &str = "\
+= the least identifier is told, and of it the first field
+use empty
+file q
+run setquota -u 6 4294967296 4294967297 0 0 q
+changes q
+run setquota -u 5 4294967298 0 4294967299 4294967300 q
+changes q
+run convertquota -f vfsv1,vfsv0 q r
+status 1
+! quota: q: no room for ihard 4294967300 of 5
+writes 0
+run setquota -u 5 4294967298 0 4294967299 1 q
+changes q
+run convertquota -f vfsv1,vfsv0 q r
+status 1
+! quota: q: no room for isoft 4294967299 of 5
+writes 0
+run setquota -u 5 4294967298 0 1 1 q
+changes q
+run convertquota -f vfsv1,vfsv0 q r
+status 1
+! quota: q: no room for bsoft 4294967298 of 5
+writes 0
+run setquota -u 5 1 1 1 1 q
+changes q
+run convertquota -f vfsv1,vfsv0 q r
+status 1
+! quota: q: no room for bhard 4294967297 of 6
+writes 0
+run convertquota -f vfsv1,vfsv1 q r
+changes r
+run repquota -v r
+head user r 7days 7days
+> #5           --          0          1          1      -        0        1        1      -
+> #6           --          0 4294967296 4294967297      -        0        0        0      -
+
+= grace periods are told before records
+use empty
+put 8 0 0
+file q
+run setquota -u 1048576 1 0 0 0 q
+changes q
+run convertquota -f vfsv1,vfsold q r
+status 1
+! quota: q: no room for bgrace 0
+same q
+absent r r.new
+writes 0
+run setquota -t 1 0 q
+changes q
+run convertquota -f vfsv1,vfsold q r
+status 1
+! quota: q: no room for igrace 0
+same q
+absent r r.new
+writes 0
+run setquota -t 1 1 q
+changes q
+run convertquota -f vfsv1,vfsold q r
+status 1
+! quota: q: no room for id 1048576 of 1048576
+same q
+absent r r.new
+writes 0
+
+= tree files have grace periods of 0, and flat ones of 2^64 - 1
+use empty
+put 8 0 4294967295
+file q
+run convertquota -f vfsv1,vfsv0 q r
+same q
+numbers 3653246737 0 0 4294967295 0 2
+size 2048
+holds r
+drop r
+record 0 0 0 0 0 0 18446744073709551615 18446744073709551615
+keep longest
+use longest
+file q
+run convertquota -f vfsold,vfsold q r
+same q
+use longest
+holds r
+drop r
+run convertquota -f vfsold,vfsv1 q r
+status 1
+! quota: q: no room for bgrace 18446744073709551615
+same q
+absent r r.new
+writes 0
+record 0 0 0 0 0 0 4294967295 4294967296
+file q
+run convertquota -f vfsold,vfsv0 q r
+status 1
+! quota: q: no room for igrace 4294967296
+same q
+absent r r.new
+writes 0
+record 0 0 0 0 0 0 0 4294967295
+file q
+run convertquota -f vfsold,vfsv0 q r
+same q
+numbers 3653246737 0 604800 4294967295 0 2
+size 2048
+holds r
+";
+
+/// Conversions that are refused before anything is read, that are not opened, and whose calls fail.
+pub const REFUSED: &str = "\
+= the names are looked at first, and then the new file
+run convertquota -f vfsv1,vfsv0 q q
+status 1
+! quota: q: same name
+calls
+raw no quota file
+file r
+run convertquota -f vfsv1,vfsv0 q r
+status 1
+! quota: r: exists already
+same r
+absent q r.new
+calls size r;
+drop r
+run convertquota -f vfsv1,vfsv0 q r
+status 1
+! quota: q: no such file
+absent q r r.new
+writes 0
+
+= a file is opened as one of the first format and of its kind
+use empty
+file q
+run convertquota -f vfsv0,vfsv1 q r
+status 3
+! quota: q: other format
+same q
+absent r r.new
+writes 0
+run convertquota -g -f vfsv1,vfsv0 q r
+status 3
+! quota: q: wrong kind
+same q
+absent r r.new
+writes 0
+run convertquota -f vfsold,vfsv0 q r
+status 3
+! quota: q: damaged: PartialRecord at record 0
+same q
+absent r r.new
+writes 0
+raw no quota file
+file q
+run convertquota -f vfsv1,vfsold q r
+status 3
+! quota: q: not a quota file
+same q
+absent r r.new
+writes 0
+use six
+put 24 2
+file q
+run convertquota -f vfsv1,vfsold q r
+status 3
+!^ quota: q: damaged: 
+same q
+absent r r.new
+writes 0
+
+= groups are converted as groups
+hex 271fc0d9
+hex 00000000 803a0900 803a0900 00000000 02000000 00000000 00000000
+file q
+run convertquota -u -f vfsv0,vfsold q r
+status 3
+! quota: q: not a quota file
+same q
+absent r
+writes 0
+hex 2719c0d9
+hex 00000000 803a0900 803a0900 00000000 02000000 00000000 00000000
+file q
+run convertquota -g -f vfsv0,vfsv1 q r
+same q
+hex 2719c0d9
+hex 01000000 803a0900 803a0900 00000000 02000000 00000000 00000000
+size 2048
+holds r
+
+= no file has the name under which the new one is written first
+use empty
+file r.new
+run convertquota -f vfsv1,vfsv0 r.new r
+status 2
+! quota: usage: BadFileName at word 3
+same r.new
+absent r
+writes 0
+use empty
+file q
+run convertquota -f vfsv1,vfsv0 q r.new
+status 2
+! quota: usage: BadFileName at word 4
+same q r.new
+writes 0
+
+= what was left behind is not in the way
+use six
+file q
+raw junk
+file r.new
+run convertquota -f vfsv1,vfsold q r
+same q
+long r 40040
+absent r.new
+
+= the new file is made whole and synced before it gets its name
+use empty
+file q
+run convertquota -f vfsv1,vfsold q r
+calls size r; size q; read q; size q; read q; create r.new; write r.new; sync r.new; rename r.new r;
+same q
+record 0 0 0 0 0 0 604800 604800
+holds r
+
+= each call that fails ends a conversion, which leaves no new file
+use six
+file q
+stays q r
+sweep store convertquota -f vfsv1,vfsold q r
+same q
+long r 40040
+drop r
+stays q r
+sweep store convertquota -f vfsv1,vfsv0 q r
+same q
+long r 6144
+drop r
+use six
+file q
+stays q r
+sweep store convertquota -f vfsv1,vfsv1 q r
+same q
+long r 6144
+drop r
+record 0 0 0 0 0 0 604800 604800
+record 1 1 1 1 1 1 0 0
+file q
+stays q r
+sweep store convertquota -f vfsold,vfsv1 q r
+same q
+long r 6144
+
+= a damage that is met after opening ends a conversion
+use six
+file q
+turn convertquota -f vfsv1,vfsv0 q r
+same q
+long r 6144
+";
