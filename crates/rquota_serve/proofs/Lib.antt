@@ -1,0 +1,4 @@
+pub mod ExportLemmas
+pub mod NumberLemmas
+pub mod ReplyLemmas
+pub mod ServingLemmas

@@ -1,0 +1,29 @@
+-- What is exported: quota values by paths and kinds.
+use Rattle.std.specs.Prelude.{ℕ, Bool, true, false, ◌&&◌, if◌then◌else◌, List, Option, None, Some}
+use Rattle.std.specs.Str.{bytes_eq}
+use Rattle.quota_types.specs.declared.file_kind.Kind.{Kind}
+use Rattle.quota_types.specs.declared.file_kind.Kind.TheVariants.{User, Group}
+use Rattle.quota_blocks.specs.QuotaValue.{QuotaValue}
+
+-- the quota value that is exported under a path, which is its bytes, for users or for groups; or none
+abbrev pub Exported : Type 0
+Exported = List ℕ → Kind → Option QuotaValue
+
+-- nothing is exported
+abbrev pub nothing_exported : Exported
+nothing_exported path kind = None
+
+-- the two are one kind
+abbrev pub kinds_eq : Kind → Kind → Bool
+kinds_eq User User = true
+kinds_eq User Group = false
+kinds_eq Group User = false
+kinds_eq Group Group = true
+
+-- the two are one path, for one kind
+abbrev pub names_eq : (path : List ℕ) (kind : Kind) → (path' : List ℕ) (kind' : Kind) → Bool
+names_eq path kind path' kind' = bytes_eq path path' && kinds_eq kind kind'
+
+-- a value is exported under one path more; all others are as before
+abbrev pub with_export : Exported → (path : List ℕ) → Kind → QuotaValue → Exported
+with_export exported path kind value path' kind' = if names_eq path kind path' kind' then Some value else exported path' kind'

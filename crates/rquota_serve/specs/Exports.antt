@@ -1,0 +1,87 @@
+-- The exports as they are kept: opened quota files by paths and kinds, and the values that they stand for with a store.
+use Rattle.std.specs.Prelude.{◌≡◌, ◌≤◌, ℕ, Bool, true, false, not, ◌&&◌, nat_lt, is_some, List, length, map, slice_get, slice_set, None, Some}
+use Rattle.std.specs.List.{All, list_any}
+use Rattle.std.specs.String.{string_bytes}
+use Rattle.quota_types.specs.declared.file_kind.Format.{Format}
+use Rattle.quota_types.specs.declared.file_kind.Kind.{Kind}
+use Rattle.quota_blocks.specs.QuotaFile.{CountsRefusal, FileSeen}
+use Rattle.quota_blocks.specs.QuotaValue.{QuotaValue}
+use Rattle.quota_blocks.specs.Seen.{StoreSeen}
+use Rattle.quota_blocks.specs.World.{World}
+use Rattle.quota_map.specs.AnyFile.{HoldsAny, any_seen}
+use Rattle.quota_map.specs.View.{fresh_seen}
+use Rattle.rquota_serve.specs.Exported.{Exported, names_eq}
+use Rattle.rquota_serve.specs.declared.export.Export.{Export}
+use Rattle.rquota_serve.specs.declared.exports.Exports.{Exports}
+
+-- What is seen of an export: the bytes of its path, whose usage it tells, and what is seen of its opened file.
+pub record ExportSeen : Type 0 where
+  pub path : List ℕ
+  pub kind : Kind
+  pub file : FileSeen
+
+-- what is seen of one that is kept
+abbrev pub export_seen : Export → ExportSeen
+export_seen export = record { path = string_bytes export.path; kind = export.kind; file = any_seen export.file }
+
+-- the exports that are kept, in the order in which they were added
+abbrev pub kept_in : Exports → List Export
+kept_in exports = exports.list.items
+
+-- what is seen of all exports
+abbrev pub exports_seen : Exports → List ExportSeen
+exports_seen exports = map export_seen (kept_in exports)
+
+-- what is seen of one whose file of this name was just opened as one of a format
+abbrev pub fresh_export : (path : List ℕ) → Kind → (name : List ℕ) → Format → ExportSeen
+fresh_export path kind name format = record { path = path; kind = kind; file = fresh_seen name format }
+
+-- an export has this path and this kind
+abbrev pub is_named : (path : List ℕ) → Kind → ExportSeen → Bool
+is_named path kind export = names_eq export.path export.kind path kind
+
+-- something is exported under this path for this kind
+abbrev pub is_exported : List ExportSeen → (path : List ℕ) → Kind → Bool
+is_exported seen path kind = list_any (is_named path kind) seen
+
+-- one more may be exported: there are fewer than 16, and none has this path and this kind
+abbrev pub may_add : List ExportSeen → (path : List ℕ) → Kind → Bool
+may_add seen path kind = nat_lt (length seen) 16 && not (is_exported seen path kind)
+
+-- Values are exported under the paths of these exports, for their kinds, and under no others.
+abbrev pub HasPaths : List ExportSeen → Exported → Type 0
+HasPaths seen exported = (path : List ℕ) (kind : Kind) → is_some (exported path kind) ≡ is_exported seen path kind
+
+-- Under the path of an export, for its kind, stands a value, which its opened file with the store holds.
+pub record IsServed (tells : Bool) (files : World) (exported : Exported) (export : Export) : Type 0 where
+  pub value : QuotaValue
+  pub there : exported (string_bytes export.path) export.kind ≡ Some value
+  pub held : HoldsAny tells files export.file value
+
+-- The exports with a store, which tells its files or does not, stand for these values: those that their opened files hold, each
+-- under its path and for its kind, and no others.
+pub record Serves (tells : Bool) (files : World) (exports : Exports) (exported : Exported) : Type 0 where
+  pub each : All (IsServed tells files exported) (kept_in exports)
+  pub others : (path : List ℕ) (kind : Kind) → is_exported (exports_seen exports) path kind ≡ false → exported path kind ≡ None
+
+-- A look-up in one of the files was refused: that file counts it, and all else that is seen of the exports is as before.
+pub record CountsOne (old new : List ExportSeen) : Type 0 where
+  pub place : ℕ
+  pub export : ExportSeen
+  pub file : FileSeen
+  pub was : slice_get old place ≡ Some export
+  pub counts : CountsRefusal true export.file file
+  pub set : new ≡ slice_set old place (record export { file = file })
+
+-- the opened file of one of the exports has this name
+abbrev pub IsOfExport : List ExportSeen → List ℕ → Type 0
+IsOfExport seen name = (place : ℕ) × (export : ExportSeen) × (slice_get seen place ≡ Some export) × (export.file.name ≡ name)
+
+-- Look-ups in the files of exports: all files are as before, no call of `write` or `read` was made, and all names but those of
+-- these files are as unsynced as they were.
+pub record OnlyLooksUp (seen : List ExportSeen) (old new : StoreSeen) : Type 0 where
+  pub files : new.files ≡ old.files
+  pub unsynced : (name : List ℕ) → ¬ (IsOfExport seen name) → new.unsynced name ≡ old.unsynced name
+  pub later : old.faults ≤ new.faults
+  pub writes : new.writes ≡ old.writes
+  pub reads : new.reads ≤ old.reads

@@ -1,0 +1,6 @@
+pub mod Quota
+pub mod Exported
+pub mod Exports
+pub mod Reply
+pub mod Refusal
+pub mod Serving

@@ -1,0 +1,99 @@
+ghost use Rattle.std.specs.Prelude.{IsTrue};
+ghost use Rattle.quota_map.specs.AnyFile.{any_seen};
+
+use quota_blocks::{FileFault, OpenFault, QuotaFile, Store};
+use quota_map::{AnyFile, open_file};
+use quota_types::{Format, Kind, Rec};
+use std::alloc::Global;
+
+/// A quota file that is told of under a path, for users or for groups.
+#[derive(Debug, Drop)]
+pub(crate) struct Export {
+    path: String,
+    kind: Kind,
+    file: AnyFile,
+    ghost usable: { IsTrue (any_seen file).usable },
+}
+
+impl Export {
+    ghost use Rattle.std.specs.Prelude.{◌≡◌, ◌≢◌, ◌+◌, ◌*◌, ◌≤◌, Option, None, Some, Ok, true, IfOk, IfErr, OnErr, OnOk};
+    ghost use Rattle.std.specs.FinMap.{get};
+    ghost use Rattle.std.specs.String.{string_bytes};
+    ghost use Rattle.quota_types.specs.declared.file_kind.Format.{Format};
+    ghost use Rattle.entry_codec.specs.Header.{header_of};
+    ghost use Rattle.quota_blocks.specs.Frame.{OnlyReads};
+    ghost use Rattle.quota_blocks.specs.QuotaFile.{CountsRefusal, IsLookupFault};
+    ghost use Rattle.quota_blocks.specs.QuotaValue.{QuotaValue};
+    ghost use Rattle.quota_blocks.specs.Unsynced.{AddsNone};
+    ghost use Rattle.quota_map.specs.AnyFile.{HoldsAny, MayRefuse};
+    ghost use Rattle.quota_map.specs.View.{IsOpenFault, IsOpenedAs, IsView};
+    ghost use Rattle.tree_build.specs.Block.{bytes_of};
+    ghost use Rattle.rquota_serve.specs.Exports.{export_seen, fresh_export, is_named};
+    ghost use Rattle.rquota_serve.specs.Reply.{record_of};
+
+    /// Opens a file that is to be told of under this path.
+    ///
+    /// # Errors
+    ///
+    /// It is refused as `open_file` refuses it, or there is not enough memory.
+    pub(crate) fn open<S: Store>(
+        alloc: Global,
+        store: &mut S,
+        path: &str,
+        kind: Kind,
+        file: &str,
+        format: Option<Format>,
+    ) -> Result<Self, OpenFault>
+        ensures seen { IfOk result (λ export. (opened : Format) × IsOpenedAs format opened
+            × (export_seen export ≡ fresh_export path.now kind file.now opened)) }
+        ensures viewed { OnOk result (IsTrue S.tells → (value : QuotaValue)
+            × IsView ((S.seen store.old).files file.now) kind format (Ok value)) }
+        ensures held { IfOk result (λ export. IsTrue S.tells → (value : QuotaValue)
+            → IsView ((S.seen store.old).files file.now) kind format (Ok value)
+            → HoldsAny S.tells (S.seen store.new).files export.file value) }
+        ensures refused { IfErr result (IsOpenFault (S.seen store.old).faults (S.seen store.new).faults S.tells
+            ((S.seen store.old).files file.now) kind format) }
+        ensures leaves { OnlyReads file.now (S.seen store.old) (S.seen store.new) }
+        ensures synced { OnOk result (AddsNone (S.seen store.old).unsynced (S.seen store.new).unsynced) }
+        ensures reads { OnOk result (format ≢ Some Format.V1 → IsTrue S.tells → (S.seen store.new).reads
+            ≤ (S.seen store.old).reads + 3 * (header_of (bytes_of ((S.seen store.old).files file.now))).blocks) }
+    {
+        let Ok(path) = String::from_str(alloc, path) else {
+            return Err(OpenFault::Memory);
+        };
+        let file = open_file(alloc, store, file, kind, format)?;
+        Ok(Export { path, kind, file })
+    }
+
+    /// Whether it is told of under this path, for this kind.
+    pub(crate) fn is_named(&self, path: &[u8], kind: Kind) -> bool
+        ensures { result ≡ is_named path.now kind (export_seen self.now) }
+    {
+        self.path.as_bytes() == path && self.kind == kind
+    }
+
+    /// The record of an identifier, which is one of zeros where it has none.
+    ///
+    /// # Errors
+    ///
+    /// The store failed, or the file is damaged.
+    pub(crate) fn record_of<S: Store>(&mut self, store: &mut S, id: u32) -> Result<Rec, FileFault>
+        ensures found { IfOk result (λ rec. (value : QuotaValue) → HoldsAny S.tells (S.seen store.old).files self.old.file value
+            → rec ≡ record_of id value) }
+        ensures refused { IfErr result (IsLookupFault (S.seen store.old).faults (S.seen store.new).faults
+            (HoldsAny S.tells (S.seen store.old).files self.old.file)) }
+        ensures may { IfErr result (MayRefuse (any_seen self.old.file).format) }
+        ensures stays { (value : QuotaValue) → HoldsAny S.tells (S.seen store.old).files self.old.file value
+            → HoldsAny S.tells (S.seen store.new).files self.new.file value }
+        ensures leaves { OnlyReads (any_seen self.old.file).name (S.seen store.old) (S.seen store.new) }
+        ensures synced { OnOk result (AddsNone (S.seen store.old).unsynced (S.seen store.new).unsynced) }
+        ensures reads { (S.seen store.new).reads ≤ (S.seen store.old).reads }
+        ensures path { string_bytes self.new.path ≡ string_bytes self.old.path }
+        ensures kind { self.new.kind ≡ self.old.kind }
+        ensures same { OnOk result (any_seen self.new.file ≡ any_seen self.old.file) }
+        ensures counted { OnErr result (CountsRefusal true (any_seen self.old.file) (any_seen self.new.file)) }
+    {
+        let found = self.file.get(store, id)?;
+        Ok(found.unwrap_or_default())
+    }
+}

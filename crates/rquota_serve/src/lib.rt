@@ -1,0 +1,22 @@
+//! Replies to rquota calls out of quota files that are exported under paths.
+//!
+//! Who may ask is told limits and usage: the superuser of every identifier, a user of himself, and the members of a group of
+//! it. Who may not does not learn whether a path is exported. Answering takes no memory, and nothing is changed by it.
+//!
+//! The one promise: the reply to a datagram is that of the values which the exported files stand for, and `serve` sends the
+//! answers to so many datagrams, in their order.
+#![tactic(auto)]
+
+mod answering;
+mod asking;
+mod export;
+mod exports;
+mod fault;
+mod numbers;
+mod serving;
+
+pub use answering::answer;
+pub use exports::{Exports, MOST_EXPORTS};
+pub use fault::ServeFault;
+pub use numbers::quota_of;
+pub use serving::serve;

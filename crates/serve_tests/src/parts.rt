@@ -1,0 +1,45 @@
+use std::alloc::{AllocError, Global};
+
+/// A call of uid 1000 for the user 1000 of `/home`: 80 bytes.
+pub(crate) const ASKED: &str = "1 0 2 100011 1 1 1 24 0 'h 1000 1000 0 0 0 '/home 1000";
+
+/// The reply that tells limits and usage of that user.
+pub(crate) const TOLD: &str = "1 1 0 0 0 0 1 1024 1 200 100 4 20 10 1 0 0";
+
+/// Puts a text behind bytes: its length, its bytes, and zeros up to a whole unit.
+fn put_text(bytes: &mut Vec<u8>, text: &[u8]) -> Result<(), AllocError> {
+    let len = u32::try_from(text.len()).unwrap_or(u32::MAX);
+    bytes.extend_from_slice(&len.to_be_bytes())?;
+    bytes.extend_from_slice(text)?;
+    put_zeros(bytes, 3 - text.len().wrapping_sub(1) % 4)
+}
+
+/// Puts so many zeros behind bytes.
+fn put_zeros(bytes: &mut Vec<u8>, count: usize) -> Result<(), AllocError> {
+    let all = bytes.len().saturating_add(count);
+    bytes.resize(all, 0)?;
+    Ok(())
+}
+
+/// Puts what a word says behind bytes: a number is a unit, `'` begins a text, and `*` a number of zeros. A word that says
+/// none of this is a unit that no row wants.
+fn put(bytes: &mut Vec<u8>, word: &str) -> Result<(), AllocError> {
+    if let Some(text) = word.strip_prefix('\'') {
+        return put_text(bytes, text.as_bytes());
+    }
+    if let Some(count) = word.strip_prefix('*') {
+        return put_zeros(bytes, usize::from(count.parse::<u16>().unwrap_or(u16::MAX)));
+    }
+    let unit = word.parse::<u32>().unwrap_or(0xdead_beef);
+    bytes.extend_from_slice(&unit.to_be_bytes())?;
+    Ok(())
+}
+
+/// The bytes that words say, one behind another.
+pub(crate) fn bytes_of(alloc: Global, words: &str) -> Result<Vec<u8>, AllocError> {
+    let mut bytes = Vec::new(alloc);
+    for word in words.split(' ') {
+        put(&mut bytes, word)?;
+    }
+    Ok(bytes)
+}
