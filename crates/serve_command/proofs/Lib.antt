@@ -1,0 +1,4 @@
+pub mod AnsweringLemmas
+pub mod ExportingLemmas
+pub mod StepLemmas
+pub mod WordLemmas

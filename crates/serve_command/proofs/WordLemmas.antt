@@ -1,0 +1,246 @@
+-- What words give to `rquotad`: one call at least, and files that may be exported one after another.
+use Rattle.std.proofs.Common.{◌≡◌, ◌∙◌, ℕ, ◌+◌, ◌<◌, ◌≤◌, Bool, true, false, not, ◌&&◌, ◌||◌, if◌then◌else◌, nat_lt, IsTrue, List, [], ◌∷◌, ◌++◌, length, Option, None, Some, IfSome, Result, Ok, Err, refl, sym, ap, subst, arith, length-append}
+use Rattle.std.specs.Prelude.{codes, nat_le}
+use Rattle.std.specs.List.{list_any}
+use Rattle.std.specs.Option.{option_and_then, option_map}
+use Rattle.std.specs.Str.{bytes_eq}
+use Rattle.std.proofs.lemmas.Bool.Decides.{nat_tests}
+use Rattle.std.proofs.lemmas.List.Folds.{list_any-append}
+use Rattle.quota_types.specs.declared.file_kind.Kind.{Kind}
+use Rattle.quota_types.specs.declared.file_kind.Kind.TheVariants.{User, Group}
+use Rattle.quota_blocks.specs.Numeral.{number_of}
+use Rattle.quota_blocks.specs.QuotaFile.{FileSeen}
+use Rattle.quota_blocks.proofs.WorldLemmas.{bytes_eq-true}
+use Rattle.rquota_serve.specs.Exported.{kinds_eq, names_eq}
+use Rattle.rquota_serve.specs.Exports.{ExportSeen, is_exported as is_served, is_named}
+use Rattle.refusals.specs.declared.cause.UsageKind.TheVariants.{UnknownCommand, Excludes, MissingOption, BadValue, BadFileName, Repeated}
+use Rattle.option_words.specs.declared.export.Export.{Export}
+use Rattle.option_words.specs.declared.fault.Fault.{Fault}
+use Rattle.option_words.specs.declared.given.Conversion.{Conversion}
+use Rattle.option_words.specs.declared.switch.Setting.{Setting}
+use Rattle.option_words.specs.declared.switch.Setting.TheVariants.{QuotaFormat, Names, Proto, Input, Device, Formats, Calls, Port}
+use Rattle.option_words.specs.declared.tool.Tool.{Tool}
+use Rattle.option_words.specs.Fault.{fault, unless, with_value, ◌>>=◌}
+use Rattle.option_words.specs.FileName.{is_file_name}
+use Rattle.option_words.specs.Given.{Told, has, is_exported, kind_word, nothing_told, put, put_export, with_item, with_items}
+use Rattle.option_words.specs.Items.{AnyWord, Item, Operand, Raised, Set, Exported, Unknown, Unfinished, Plain, items_of, operands_in}
+use Rattle.option_words.specs.Tools.{tool_of}
+use Rattle.option_words.specs.Values.{conversion_of, format_of, is_export_path, kind_of, number_within, within}
+use Rattle.command_words.specs.Asked.{asked, asked_of, command_of, may_stand, refused, settled}
+use Rattle.command_words.specs.Modes.{common_of, excludes, formed, is_value, kind_asked, lacks, mode_of, named}
+use Rattle.command_words.specs.declared.command.Command.{Command}
+use Rattle.command_words.specs.declared.command.Command.TheVariants.{CopyLimits, Batch, Convert, Serve, Generate}
+use Rattle.command_words.specs.declared.mode.Mode.{Mode}
+use Rattle.command_words.specs.declared.mode.Mode.TheVariants.{Reporting, Limiting, Copying, Batching, SettingGrace, SettingTimes, Printing, Applying, Checking, Converting, Serving, Scripting, Generating}
+use Rattle.serve_command.specs.Serve.{MayExport}
+use Rattle.serve_command.specs.Words.{CanServe}
+
+-- a step that met no fault had none before it
+unless_ok : {A : Type 0} (wrong : Bool) (met : Fault) (next : Result A Fault) (value : A) → unless wrong met next ≡ Ok value → (wrong ≡ false) × (next ≡ Ok value)
+unless_ok true met next value is = absurd (cc)
+unless_ok false met next value is = (refl, is)
+
+-- a step over a value that met no fault had the value
+with_value_ok : {A B : Type 0} (given : Option A) (met : Fault) (next : A → Result B Fault) (value : B) → with_value given met next ≡ Ok value
+    → (x : A) × (given ≡ Some x) × (next x ≡ Ok value)
+with_value_ok (Some x) met next value is = (x, refl, is)
+with_value_ok None met next value is = absurd (cc)
+
+-- a step behind another one had what that one gave
+then_ok : {A B : Type 0} (step : Result A Fault) (next : A → Result B Fault) (value : B) → step >>= next ≡ Ok value → (x : A) × (step ≡ Ok x) × (next x ≡ Ok value)
+then_ok (Ok x) next value is = (x, refl, is)
+then_ok (Err met) next value is = absurd (cc)
+
+-- Exports behind exports.
+
+or-right : (a b : Bool) → (a || b) ≡ false → b ≡ false
+or-right true b is = absurd (cc)
+or-right false b is = is
+
+or-left : (a b : Bool) → (a || b) ≡ false → a ≡ false
+or-left true b is = is
+or-left false b is = refl
+
+both : (a b : Bool) → a ≡ false → b ≡ false → (a || b) ≡ false
+both false false one two = refl
+both true b one two = absurd (cc)
+both false true one two = absurd (cc)
+
+may-now : (few free : Bool) → few ≡ true → free ≡ false → IsTrue (few && not free)
+may-now true false one two = refl
+may-now false free one two = absurd (cc)
+may-now true true one two = absurd (cc)
+
+few-now : (count : ℕ) → count < 16 → nat_lt count 16 ≡ true
+few-now count less = grind (arith, nat_tests)
+
+-- one of these exports has this path and kind
+abbrev named_so : (path : List ℕ) → Kind → List Export → Bool
+named_so path kind list = list_any (λ (e : Export). names_eq e.path e.kind path kind) list
+
+may_behind : (before : List ExportSeen) (list : List Export) (export : Export) → MayExport before list → length before + length list < 16 → is_served before export.path export.kind ≡ false
+    → named_so export.path export.kind list ≡ false → MayExport before (list ++ export ∷ [])
+may_behind before [] export may few free others = (may-now _ _ (few-now (length before) (omega (arith, few))) free, λ file. tt)
+may_behind before (first ∷ list) export may few free others = (
+  may.0,
+  λ (file : FileSeen).
+      let seen : ExportSeen = record { path = first.path; kind = first.kind; file = file } in
+      let mine : names_eq first.path first.kind export.path export.kind ≡ false = or-left _ _ others in
+      may_behind (before ++ seen ∷ []) list export (may.1 file) (omega (arith, few, length-append before (seen ∷ [])))
+      (list_any-append (is_named export.path export.kind) before (seen ∷ []) ∙ both _ _ free (both _ _ mine refl)) (or-right _ _ others),
+)
+
+-- The words of kinds.
+
+kind_words : (word : List ℕ) (kind : Kind) → kind_of word ≡ Some kind → kind_word kind ≡ word
+kind_words word kind is = by (bytes_eq (codes "user") word) (bytes_eq (codes "group") word) refl refl is
+  where
+    by : (user group : Bool) → bytes_eq (codes "user") word ≡ user → bytes_eq (codes "group") word ≡ group
+        → option_map (λ (entry : List ℕ × Kind). entry.1) (if user then Some (codes "user", User) else if group then Some (codes "group", Group) else None) ≡ Some kind → kind_word kind ≡ word
+    by true group there other same = let kinds : User ≡ kind = cc in subst (λ (k : Kind). kind_word k ≡ word) kinds (bytes_eq-true _ _ there)
+    by false true here there same = let kinds : Group ≡ kind = cc in subst (λ (k : Kind). kind_word k ≡ word) kinds (bytes_eq-true _ _ there)
+    by false false here other same = absurd (cc)
+
+kinds_by : (one kind : Kind) → bytes_eq (kind_word one) (kind_word kind) ≡ kinds_eq one kind
+kinds_by User User = refl
+kinds_by User Group = refl
+kinds_by Group User = refl
+kinds_by Group Group = refl
+
+same_named : (path word : List ℕ) (kind : Kind) (list : List Export) → kind_word kind ≡ word → is_exported path word list ≡ named_so path kind list
+same_named path word kind [] is = refl
+same_named path word kind (export ∷ list) is =
+    ap (λ (b : Bool). (bytes_eq export.path path && b) || is_exported path word list) (ap (bytes_eq (kind_word export.kind)) (sym is) ∙ kinds_by export.kind kind)
+    ∙ ap (λ (b : Bool). names_eq export.path export.kind path kind || b) (same_named path word kind list is)
+
+-- What is given.
+
+least : (low high number found : ℕ) → within low high number ≡ Some found → low ≤ found
+least low high number found is = grind (arith, nat_tests)
+
+least_of : (low high : ℕ) (number : Option ℕ) (found : ℕ) → option_and_then (within low high) number ≡ Some found → low ≤ found
+least_of low high None found is = absurd (cc)
+least_of low high (Some number) found is = least low high number found is
+
+-- one call is asked for at least, where their number is given, and what is exported may be
+record IsGiven (told : Told) : Type 0 where
+  calls : IfSome told.calls (λ (n : ℕ). 0 < n)
+  exports : MayExport [] told.exports
+
+given_as : (this told : Told) → ◌≡◌ {A = Result Told Fault} (Ok this) (Ok told) → IsGiven this → IsGiven told
+given_as this told is given = let same : this ≡ told = cc in subst IsGiven same given
+
+given_put : (setting : Setting) (value : List ℕ) (word : ℕ) (told new : Told) → put setting value word told ≡ Ok new → IsGiven told → IsGiven new
+given_put QuotaFormat value word told new is given =
+    given_as _ new (with_value_ok (format_of value) (fault BadValue word) (λ f. Ok (record told { format = Some f })) new is).2 (record { calls = given.calls; exports = given.exports })
+given_put Names value word told new is given =
+    given_as _ new (unless_ok (not (is_file_name value)) (fault BadFileName word) (Ok (record told { names = Some value })) new is).1 (record { calls = given.calls; exports = given.exports })
+given_put Proto value word told new is given = given_as _ new is (record { calls = given.calls; exports = given.exports })
+given_put Input value word told new is given =
+    given_as _ new (unless_ok (not (is_file_name value)) (fault BadFileName word) (Ok (record told { input = Some value })) new is).1 (record { calls = given.calls; exports = given.exports })
+given_put Device value word told new is given =
+    given_as _ new (with_value_ok (number_of value) (fault BadValue word) (λ n. Ok (record told { device = Some n })) new is).2 (record { calls = given.calls; exports = given.exports })
+given_put Formats value word told new is given =
+    given_as _ new (with_value_ok (conversion_of value) (fault BadValue word) (λ c. Ok (record told { conversion = Some c })) new is).2 (record { calls = given.calls; exports = given.exports })
+given_put Calls value word told new is given =
+    let found = with_value_ok (number_within 1 4294967295 value) (fault BadValue word) (λ n. Ok (record told { calls = Some n })) new is in
+    given_as _ new found.2 (record { calls = omega (arith, least_of 1 4294967295 (number_of value) found.0 found.1); exports = given.exports })
+given_put Port value word told new is given =
+    given_as _ new (with_value_ok (number_within 0 65535 value) (fault BadValue word) (λ n. Ok (record told { port = Some n })) new is).2 (record { calls = given.calls; exports = given.exports })
+
+few-before : (count : ℕ) → nat_le 16 count ≡ false → count < 16
+few-before count less = grind (arith, nat_tests)
+
+given_export : (path kind file : List ℕ) (word : ℕ) (told new : Told) → is_exported path kind told.exports ≡ false → put_export path kind file word told ≡ Ok new → IsGiven told → IsGiven new
+given_export path kind file word told new free is given =
+    let last : Kind → Result Told Fault = λ k. Ok (record told { exports = told.exports ++ record { path = path; kind = k; file = file } ∷ [] }) in
+    let named : Kind → Result Told Fault = λ k. unless (not (is_file_name file)) (fault BadFileName word) (last k) in
+    let counted : Kind → Result Told Fault = λ k. unless (nat_le 16 (length told.exports)) (fault BadValue word) (named k) in
+    let outer = unless_ok (not (is_export_path path)) (fault BadValue word) (with_value (kind_of kind) (fault BadValue word) counted) new is in
+    let found = with_value_ok (kind_of kind) (fault BadValue word) counted new outer.1 in
+    let few = unless_ok (nat_le 16 (length told.exports)) (fault BadValue word) (named found.0) new found.2 in
+    let done = unless_ok (not (is_file_name file)) (fault BadFileName word) (last found.0) new few.1 in
+    given_as _ new done.1 (record {
+      calls = given.calls;
+      exports = may_behind [] told.exports (record { path = path; kind = found.0; file = file }) given.exports (omega (arith, few-before (length told.exports) few.0)) refl
+          (sym (same_named path kind found.0 told.exports (kind_words kind found.0 found.1)) ∙ free);
+    })
+
+given_item : (item : Item) (told new : Told) → with_item item told ≡ Ok new → IsGiven told → IsGiven new
+given_item (Raised flag) told new is given = given_as _ new is (record { calls = given.calls; exports = given.exports })
+given_item (Set setting value word) told new is given =
+    given_put setting value word told new (unless_ok (has setting told) (fault Repeated word) (put setting value word told) new is).1 given
+given_item (Exported path kind file word) told new is given =
+    let free = unless_ok (is_exported path kind told.exports) (fault Repeated word) (put_export path kind file word told) new is in
+    given_export path kind file word told new free.0 free.1 given
+given_item (Unknown word) told new is given = absurd (cc)
+given_item (Unfinished word) told new is given = absurd (cc)
+given_item (Plain text word) told new is given = given_as told new is given
+
+given_items : (items : List Item) (told new : Told) → with_items items told ≡ Ok new → IsGiven told → IsGiven new
+given_items [] told new is given = given_as told new is given
+given_items (item ∷ items) told new is given =
+    let one = then_ok (with_item item told) (λ (more : Told). with_items items more) new is in
+    given_items items one.0 new one.2 (given_item item told one.0 one.1 given)
+
+-- What is asked for.
+
+serves_as : (this command : Command) → ◌≡◌ {A = Result Command Fault} (Ok this) (Ok command) → CanServe this → CanServe command
+serves_as this command is can = let same : this ≡ command = cc in subst CanServe same can
+
+serves_formed : (mode : Mode) (told : Told) (words : ℕ) (operands : List Operand) (command : Command) → IsGiven told → formed mode told words operands ≡ Ok command → CanServe command
+serves_formed Reporting told words (file ∷ []) command given is = serves_as _ command (unless_ok _ _ _ command is).1 tt
+serves_formed Limiting told words (name ∷ bsoft ∷ bhard ∷ isoft ∷ ihard ∷ file ∷ []) command given is = serves_as _ command (unless_ok _ _ _ command is).1 tt
+serves_formed Copying told words (name ∷ file ∷ []) command given is =
+    let next : List ℕ → Result Command Fault = λ proto. Ok (CopyLimits (common_of told) proto name.text file.text) in
+    let inner : with_value told.proto (fault MissingOption words) next ≡ Ok command = (unless_ok _ _ _ command is).1 in
+    serves_as _ command (with_value_ok told.proto (fault MissingOption words) next command inner).2 tt
+serves_formed Batching told words (file ∷ []) command given is =
+    let inner : unless (is_value file told.input) (fault BadFileName file.word) (Ok (Batch (common_of told) told.input file.text)) ≡ Ok command =
+    (unless_ok _ _ _ command is).1 in
+    serves_as _ command (unless_ok _ _ _ command inner).1 tt
+serves_formed SettingGrace told words (block ∷ inode ∷ file ∷ []) command given is = serves_as _ command (unless_ok _ _ _ command is).1 tt
+serves_formed SettingTimes told words (name ∷ block ∷ inode ∷ file ∷ []) command given is = serves_as _ command (unless_ok _ _ _ command is).1 tt
+serves_formed Printing told words (name ∷ file ∷ []) command given is = serves_as _ command (unless_ok _ _ _ command is).1 tt
+serves_formed Applying told words (name ∷ file ∷ []) command given is = serves_as _ command (unless_ok _ _ _ command is).1 tt
+serves_formed Checking told words (file ∷ []) command given is = serves_as _ command (unless_ok _ _ _ command is).1 tt
+serves_formed Converting told words (source ∷ target ∷ []) command given is =
+    let next : Conversion → Result Command Fault = λ formats. Ok (Convert (kind_asked told.flags) formats.old formats.new source.text target.text) in
+    let outer : named target (with_value told.conversion (fault MissingOption words) next) ≡ Ok command = (unless_ok _ _ _ command is).1 in
+    let inner : with_value told.conversion (fault MissingOption words) next ≡ Ok command = (unless_ok _ _ _ command outer).1 in
+    serves_as _ command (with_value_ok told.conversion (fault MissingOption words) next command inner).2 tt
+serves_formed Serving told words [] command given is =
+    let next : ℕ → ℕ → Result Command Fault = λ calls port. Ok (Serve told.format calls port told.exports) in
+    let outer = with_value_ok told.calls (fault MissingOption words) (λ calls. with_value told.port (fault MissingOption words) (next calls)) command is in
+    serves_as _ command (with_value_ok told.port (fault MissingOption words) (next outer.0) command outer.2).2
+    (subst (λ (n : Option ℕ). IfSome n (λ (m : ℕ). 0 < m)) outer.1 given.calls, given.exports)
+serves_formed Scripting told words [] command given is = serves_as _ command is tt
+serves_formed Generating told words (seed ∷ count ∷ file ∷ []) command given is =
+    let last : ℕ → ℕ → Result Command Fault = λ s c. named file (Ok (Generate s c file.text)) in
+    let lines : ℕ → Result Command Fault = λ s. with_value (number_within 1 1000000 count.text) (fault BadValue count.word) (last s) in
+    let outer = with_value_ok (number_of seed.text) (fault BadValue seed.word) lines command is in
+    let inner = with_value_ok (number_within 1 1000000 count.text) (fault BadValue count.word) (last outer.0) command outer.2 in
+    serves_as _ command (unless_ok _ _ _ command inner.2).1 tt
+serves_formed _ told words operands command given is = absurd (cc)
+
+refused_ok : (asks : Result Command Fault) (command : Command) → refused asks ≡ Ok command → asks ≡ Ok command
+refused_ok (Ok this) command is = let same : this ≡ command = cc in ap (λ (c : Command). Ok c) same
+refused_ok (Err met) command is = absurd (cc)
+
+-- words that ask for calls to be answered ask for one at least, and for files that may be exported
+pub asked_serves : (in_script : Bool) (words : List (List ℕ)) (command : Command) → command_of in_script words ≡ Ok command → CanServe command
+asked_serves in_script [] command is = absurd (cc)
+asked_serves in_script (name ∷ texts) command is =
+    let next : Tool → Result Command Fault = λ t. unless (not (may_stand in_script t)) (fault UnknownCommand 0) (asked_of in_script t texts) in
+    let found = with_value_ok (tool_of name) (fault UnknownCommand 0) next command (refused_ok (asked in_script (name ∷ texts)) command is) in
+    let tool = found.0 in
+    let items = items_of tool AnyWord 1 texts in
+    let words = length texts + 1 in
+    let asks = (unless_ok (not (may_stand in_script tool)) (fault UnknownCommand 0) (asked_of in_script tool texts) command found.2).1 in
+    let given = then_ok (with_items items nothing_told) (λ (told : Told). settled in_script tool told words items) command asks in
+    let told = given.0 in
+    let outer : unless (lacks in_script tool told) (fault MissingOption words) (formed (mode_of tool told) told words (operands_in items)) ≡ Ok command =
+    (unless_ok (excludes tool told) (fault Excludes words) _ command given.2).1 in
+    serves_formed (mode_of tool told) told words (operands_in items) command
+    (given_items items nothing_told told given.1 (record { calls = tt; exports = tt }))
+    (unless_ok (lacks in_script tool told) (fault MissingOption words) _ command outer).1

@@ -1,0 +1,9 @@
+use Rattle.std.proofs.Common.{false}
+use Rattle.rquota_serve.specs.Exported.{Exported, nothing_exported}
+use Rattle.serve_command.specs.Serve.{AnsweringSteps}
+use Rattle.serve_command.proofs.StepLemmas.{looks_answering, looks_opening_all}
+use Rattle.serve_command.proofs.laws.serving_looks_first.Goals as goal
+
+pub returns : goal.returns
+returns c format calls exports invocation =
+    looks_opening_all false format exports nothing_exported (λ (exported : Exported). AnsweringSteps exported calls) (λ exported. looks_answering false exported calls)

@@ -1,0 +1,44 @@
+use Rattle.std.proofs.Common.{sym, ◌∙◌, arith}
+use Rattle.quota_blocks.specs.Count.{Rose}
+use Rattle.run_steps.specs.Done.{seen_of, tells_of}
+use Rattle.rquota_serve.specs.Exports.{Serves, exports_seen}
+use Rattle.serve_command.proofs.AnsweringLemmas.{nothing_stopped, of_refused, served_carried, served_since, stopped_carried, stopped_since, unstarted_carried}
+use Rattle.serve_command.proofs.serve.answer_calls.Goals as goal
+
+pub returns-then-is_err-clause-carries : goal.returns-then-is_err-clause-carries
+returns-then-is_err-clause-carries g c = λ exported input out err input_tells out_tells err_tells serves.
+    let S = g.S.Store in
+    let L = g.L.Link in
+    let rose : Rose (L.seen c.args.link.now).faults (L.seen c.start.new.self).faults = of_refused _ c.start.result (sym c.is_err.ensures.value ∙ c.if-is_err.true) c.start.ensures.cause in
+    rw c.of.ensures
+    (unstarted_carried exported c.args.calls c.args.format c.args.file (tells_of S.tells input_tells out_tells err_tells L.tells)
+    (seen_of (S.seen c.args.store.now) input out err (L.seen c.args.link.now)) (L.seen c.start.new.self) c.start.ensures.left c.start.ensures.answers rose c.start.ensures.later)
+
+pub returns-then-is_err-clause-stopped : goal.returns-then-is_err-clause-stopped
+returns-then-is_err-clause-stopped g c = λ told.
+    nothing_stopped _ c.args.calls (g.L.Link.seen c.args.link.now) (g.L.Link.seen c.start.new.self) c.requires.some c.start.ensures.left c.start.ensures.answers
+
+pub returns-in-Ok-clause-carries : goal.returns-in-Ok-clause-carries
+returns-in-Ok-clause-carries g c = λ exported input out err input_tells out_tells err_tells serves.
+    let S = g.S.Store in
+    let L = g.L.Link in
+    let served = c.in-Ok.ensures in
+    served_carried exported c.args.calls _ (Serves S.tells (S.seen c.args.store.now).files c.args.opened.now) (tells_of S.tells input_tells out_tells err_tells L.tells)
+    (seen_of (S.seen c.args.store.now) input out err (L.seen c.args.link.now)) (S.seen c.serve.new.store) (L.seen c.serve.new.link)
+    (record { files = served.leaves.files; writes = served.leaves.writes; store_later = served.leaves.later; link_later = omega (arith, c.start.ensures.later, served.later) })
+    serves
+    (λ told. served_since _ c.args.calls (L.seen c.args.link.now) (L.seen c.start.new.self) (L.seen c.serve.new.link) c.start.ensures.left c.start.ensures.answers (served.served told))
+
+pub returns-in-Err-clause-carries : goal.returns-in-Err-clause-carries
+returns-in-Err-clause-carries g c = λ exported input out err input_tells out_tells err_tells serves.
+    let S = g.S.Store in
+    let L = g.L.Link in
+    let stopped = c.in-Err.ensures in
+    rw (c.of-in-Err.ensures, c.serve_cause.ensures)
+    (stopped_carried exported c.args.calls c.args.format c.args.file (exports_seen c.args.opened.now) c.in-Err.fault (L.seen c.start.new.self).faults (Serves S.tells (S.seen c.args.store.now).files c.args.opened.now)
+    (tells_of S.tells input_tells out_tells err_tells L.tells)
+    (seen_of (S.seen c.args.store.now) input out err (L.seen c.args.link.now)) (S.seen c.serve.new.store) (L.seen c.serve.new.link)
+    (record { files = stopped.leaves.files; writes = stopped.leaves.writes; store_later = stopped.leaves.later; link_later = omega (arith, c.start.ensures.later, stopped.later) })
+    c.start.ensures.later serves
+    (λ told. stopped_since _ c.args.calls (L.seen c.args.link.now) (L.seen c.start.new.self) (L.seen c.serve.new.link) c.start.ensures.left c.start.ensures.answers (stopped.stopped told))
+    stopped.refused c.requires.asked stopped.may)

@@ -1,0 +1,83 @@
+ghost use Rattle.std.specs.Prelude.{ℕ, Option, [], ◌≡◌, ◌≤◌, ◌⊎◌, Bool, List, Result, IsTrue, IfOk, OnOk, OnErr};
+ghost use Rattle.std.specs.List.{All};
+ghost use Rattle.quota_blocks.specs.Seen.{LinkSeen, SinkSeen, SourceSeen};
+ghost use Rattle.quota_blocks.specs.Unsynced.{AddsNone};
+ghost use Rattle.refusals.specs.Refusals.{refusal_of};
+ghost use Rattle.refusals.specs.declared.cause.Cause.TheVariants.{Memory};
+ghost use Rattle.refusals.specs.declared.reason.Refusal.{Refusal};
+ghost use Rattle.run_steps.specs.Done.{IsUnwritten, RunSeen, seen_of, tells_of};
+ghost use Rattle.run_steps.specs.Run.{CarriesOut};
+ghost use Rattle.run_steps.specs.Steps.{Steps};
+ghost use Rattle.rquota_serve.specs.Exported.{Exported};
+ghost use Rattle.rquota_serve.specs.Exports.{Serves, exports_seen};
+ghost use Rattle.serve_command.specs.Serve.{AnsweringMayRefuse, AreExported, ExportingMayRefuse, IsAsAsked, MayExport, OpeningAll, serve_uses};
+
+use option_words::Export;
+use quota_blocks::Store;
+use quota_types::Format;
+use refusals::{Cause, Refusal, Word};
+use rquota_serve::Exports;
+use run_steps::opening_cause;
+use std::alloc::Global;
+
+/// Exports quota files in their order, behind those that are exported already.
+///
+/// # Errors
+///
+/// A file is not opened, and the ones behind it were not tried.
+pub(crate) fn add_all<S: Store>(
+    alloc: Global,
+    format: Option<Format>,
+    list: &[Export],
+    exports: &mut Exports,
+    store: &mut S,
+) -> Result<(), Refusal>
+    requires may { MayExport (exports_seen exports.old) list.now }
+    requires asked { All (IsAsAsked format) (exports_seen exports.old) }
+    // What is exported then is what the files are seen as, and whatever is carried out of it is carried out of them.
+    ensures opened { OnOk result ((before : Exported) → (IsTrue S.tells → Serves S.tells (S.seen store.old).files exports.old before)
+        → (exported : Exported)
+        × (IsTrue S.tells → AreExported format (S.seen store.old).files list.now before exported)
+        × (IsTrue S.tells → Serves S.tells (S.seen store.new).files exports.new exported)
+        × ((next : Exported → Steps) (file : List ℕ) (input : SourceSeen) (out err : SinkSeen) (link : LinkSeen)
+        (input_tells out_tells err_tells link_tells : Bool) (new : RunSeen) (ended : Result (Unit {0}) Refusal)
+        → CarriesOut (next exported) serve_uses (AnsweringMayRefuse format file) (tells_of S.tells input_tells out_tells err_tells link_tells)
+        (seen_of (S.seen store.new) input out err link) new ended
+        → CarriesOut (OpeningAll format list.now before next) serve_uses (AnsweringMayRefuse format file) (tells_of S.tells input_tells out_tells err_tells link_tells)
+        (seen_of (S.seen store.old) input out err link) new ended)) }
+    ensures unopened { OnErr result ((before : Exported) (next : Exported → Steps) (input : SourceSeen) (out err : SinkSeen) (link : LinkSeen)
+        (input_tells out_tells err_tells link_tells : Bool)
+        → (IsTrue S.tells → Serves S.tells (S.seen store.old).files exports.old before)
+        → CarriesOut (OpeningAll format list.now before next) serve_uses (ExportingMayRefuse format list.now)
+        (tells_of S.tells input_tells out_tells err_tells link_tells)
+        (seen_of (S.seen store.old) input out err link) (seen_of (S.seen store.new) input out err link) result) }
+    ensures as_asked { OnOk result (All (IsAsAsked format) (exports_seen exports.new)) }
+    ensures unwritten { IsUnwritten (S.seen store.old) (S.seen store.new) }
+    ensures later { (S.seen store.old).faults ≤ (S.seen store.new).faults }
+    ensures synced { OnOk result (AddsNone (S.seen store.old).unsynced (S.seen store.new).unsynced) }
+{
+    let Some((export, behind)) = list.split_first() else {
+        return Ok(());
+    };
+    match exports.add(
+        alloc,
+        store,
+        export.path.as_str(),
+        export.kind,
+        export.file.as_str(),
+        format,
+    ) {
+        Ok(()) => add_all(alloc, format, behind, exports, store),
+        Err(fault) => Err(refused(alloc, opening_cause(fault), &export.file)),
+    }
+}
+
+/// The refusal for a cause about the file of this name; or for want of memory, where the name can't be copied.
+fn refused(alloc: Global, cause: Cause, name: &Word) -> Refusal
+    ensures { (result ≡ refusal_of cause name.now) ⊎ (result ≡ refusal_of Memory []) }
+{
+    match Word::copy_of(alloc, name.as_str()) {
+        Ok(name) => Refusal::of(cause, name),
+        Err(_) => Refusal::of(Cause::Memory, Word::empty(alloc)),
+    }
+}

@@ -1,0 +1,43 @@
+//! Laws of the steps of the command.
+
+ghost use Rattle.std.specs.Prelude.{Bool, List, Ok, Option, ℕ, true, false};
+ghost use Rattle.option_words.specs.declared.export.Export.{Export};
+ghost use Rattle.quota_types.specs.declared.file_kind.Format.{Format};
+ghost use Rattle.rquota_serve.specs.Exported.{Exported, nothing_exported};
+ghost use Rattle.run_steps.specs.Act.{Act};
+ghost use Rattle.run_steps.specs.Done.{Outside};
+ghost use Rattle.run_steps.specs.Meaning.{EndsBy, IsSure};
+ghost use Rattle.run_steps.specs.OneCommand.{AreReceived, LooksFirst, Receives};
+ghost use Rattle.run_steps.specs.declared.invocation.Invocation.{Invocation};
+ghost use Rattle.run_steps.specs.Opening.{opening_cause};
+ghost use Rattle.std.specs.Prelude.{None, ◌≡◌};
+ghost use Rattle.command_words.specs.Asked.{command_of};
+ghost use Rattle.command_words.specs.declared.command.Command.{Command};
+ghost use Rattle.serve_command.specs.Words.{CanServe};
+ghost use Rattle.serve_command.specs.Serve.{AreExported, ServeSteps};
+
+/// The steps look at files first, and take nothing of the standard input.
+pub fn serving_looks_first()
+    ensures { (format : Option Format) (calls : ℕ) (exports : List Export) (invocation : Invocation)
+        → LooksFirst true false (ServeSteps format calls exports invocation) }
+{}
+
+/// Where the steps pass, they received as many datagrams as they were to answer, the first ones.
+pub fn serving_receives_its_calls()
+    ensures receives { (format : Option Format) (calls : ℕ) (exports : List Export) (invocation : Invocation)
+        → Receives calls (ServeSteps format calls exports invocation) }
+    ensures received { (format : Option Format) (calls : ℕ) (exports : List Export) (invocation : Invocation) (old new : Outside) (acts : List Act)
+        → EndsBy (ServeSteps format calls exports invocation) old acts new None → AreReceived calls old.datagrams new.datagrams }
+{}
+
+/// The steps are sure where each file is seen as a value: no datagram is refused.
+pub fn serving_is_sure_where_the_files_are_accepted()
+    ensures { (format : Option Format) (calls : ℕ) (exports : List Export) (invocation : Invocation) (old : Outside) (exported : Exported)
+        → AreExported format old.files exports nothing_exported exported → IsSure (ServeSteps format calls exports invocation) old }
+{}
+
+/// Words that ask for calls to be answered ask for one at least, and for files that may be exported one after another.
+pub fn words_ask_for_what_can_be_served()
+    ensures { (in_script : Bool) (words : List (List ℕ)) (command : Command)
+        → command_of in_script words ≡ Ok command → CanServe command }
+{}

@@ -1,0 +1,10 @@
+//! The command `rquotad`: quota files are exported under paths, and so many rquota calls are answered out of them.
+//!
+//! The one promise: it carries out its steps. No memory is taken from the first datagram on.
+#![tactic(auto)]
+
+mod exporting;
+pub mod laws;
+mod serve;
+
+pub use serve::serve_files;

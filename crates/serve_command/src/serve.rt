@@ -1,0 +1,124 @@
+ghost use Rattle.std.specs.Prelude.{ℕ, Option, ◌≡◌, ◌<◌, [], Bool, List, IsTrue, IfOk, IfErr, OnOk, OnErr};
+ghost use Rattle.std.specs.List.{All};
+ghost use Rattle.quota_blocks.specs.Seen.{LinkSeen, SinkSeen, SourceSeen};
+ghost use Rattle.quota_blocks.specs.Unsynced.{AddsNone};
+ghost use Rattle.refusals.specs.Refusals.{refusal_of};
+ghost use Rattle.refusals.specs.Status.{status_of};
+ghost use Rattle.refusals.specs.declared.cause.Cause.TheVariants.{LinkFault, Memory};
+ghost use Rattle.run_steps.specs.Done.{seen_of, tells_of};
+ghost use Rattle.run_steps.specs.OneCommand.{AreReceived};
+ghost use Rattle.run_steps.specs.Run.{CarriesOut};
+ghost use Rattle.run_steps.specs.declared.invocation.Invocation.{Invocation};
+ghost use Rattle.rquota_serve.specs.Exported.{Exported, nothing_exported};
+ghost use Rattle.rquota_serve.specs.Exports.{Serves, exports_seen};
+ghost use Rattle.rquota_serve.specs.Serving.{Stopped};
+ghost use Rattle.serve_command.specs.Serve.{AnsweringMayRefuse, AnsweringSteps, AreExported, IsAsAsked, MayExport, ServeMayRefuse, ServeSteps, first_file, serve_cause, serve_uses};
+
+use crate::exporting::add_all;
+use option_words::{Export, ExportList};
+use quota_blocks::{Link, Store};
+use quota_types::Format;
+use refusals::{Cause, Refusal, Word};
+use rquota_serve::{Exports, ServeFault, serve};
+use run_steps::file_cause;
+use std::alloc::Global;
+
+/// Exports quota files under paths, takes exactly `calls` datagrams that are sent to a port, those without a reply counted too,
+/// and sends the reply to each. Port 0 stands for one that the system chooses.
+///
+/// # Errors
+///
+/// A file is not opened, the store or the link fails, or there is not enough memory.
+pub fn serve_files<S: Store, L: Link>(
+    alloc: Global,
+    format: Option<Format>,
+    calls: u32,
+    port: u16,
+    exports: ExportList,
+    store: &mut S,
+    link: &mut L,
+) -> Result<(), Refusal>
+    requires some { 0 < calls }
+    requires apart { MayExport [] exports }
+    ensures carries { (input : SourceSeen) (out err : SinkSeen) (input_tells out_tells err_tells : Bool) (invocation : Invocation)
+        → CarriesOut (ServeSteps format calls exports invocation) serve_uses (ServeMayRefuse format exports)
+        (tells_of S.tells input_tells out_tells err_tells L.tells)
+        (seen_of (S.seen store.old) input out err (L.seen link.old))
+        (seen_of (S.seen store.new) input out err (L.seen link.new)) result }
+    // Whatever the store tells, so many datagrams were taken, the first ones.
+    ensures taken { OnOk result (IsTrue L.tells → AreReceived calls (L.seen link.old).left (L.seen link.new).left) }
+    // Where memory was wanting, no call on the link was made.
+    ensures untaken { IfErr result (λ refusal. status_of refusal.cause ≡ 5 → link.new ≡ link.old) }
+    // The link is said to have failed only where not all was done: fewer datagrams were taken, or the last reply was not sent.
+    ensures stopped { IfErr result (λ refusal. refusal.cause ≡ LinkFault → IsTrue L.tells
+        → Stopped (λ exported. IsTrue S.tells × AreExported format (S.seen store.old).files exports nothing_exported exported) calls
+        (L.seen link.old) (L.seen link.new)) }
+    ensures synced { OnOk result (AddsNone (S.seen store.old).unsynced (S.seen store.new).unsynced) }
+{
+    let mut opened = Exports::new(alloc);
+    match add_all(alloc, format, exports.as_slice(), &mut opened, store) {
+        Ok(()) => match first_file(alloc, exports.as_slice()) {
+            Ok(file) => answer_calls(&mut opened, format, calls, port, file, store, link),
+            Err(refusal) => Err(refusal),
+        },
+        Err(refusal) => Err(refusal),
+    }
+}
+
+/// A copy of the name of the first file, of which is spoken where a file is found damaged while calls are answered.
+fn first_file(alloc: Global, exports: &[Export]) -> Result<Word, Refusal>
+    ensures copied { IfOk result (λ file. file ≡ first_file exports.now) }
+    ensures wanting { IfErr result (λ refusal. refusal ≡ refusal_of Memory []) }
+{
+    let Some(export) = exports.first() else {
+        return Ok(Word::empty(alloc));
+    };
+    match Word::copy_of(alloc, export.file.as_str()) {
+        Ok(file) => Ok(file),
+        Err(_) => Err(Refusal::of(Cause::Memory, Word::empty(alloc))),
+    }
+}
+
+/// Takes so many datagrams that are sent to a port, and answers them. It takes no memory. Where a file is found damaged, the
+/// refusal speaks of the one of this name.
+fn answer_calls<S: Store, L: Link>(
+    opened: &mut Exports,
+    format: Option<Format>,
+    calls: u32,
+    port: u16,
+    file: Word,
+    store: &mut S,
+    link: &mut L,
+) -> Result<(), Refusal>
+    requires some { 0 < calls }
+    requires asked { All (IsAsAsked format) (exports_seen opened.old) }
+    ensures carries { (exported : Exported) (input : SourceSeen) (out err : SinkSeen) (input_tells out_tells err_tells : Bool)
+        → (IsTrue S.tells → Serves S.tells (S.seen store.old).files opened.old exported)
+        → CarriesOut (AnsweringSteps exported calls) serve_uses (AnsweringMayRefuse format file)
+        (tells_of S.tells input_tells out_tells err_tells L.tells)
+        (seen_of (S.seen store.old) input out err (L.seen link.old))
+        (seen_of (S.seen store.new) input out err (L.seen link.new)) result }
+    ensures taken { OnOk result (IsTrue L.tells → AreReceived calls (L.seen link.old).left (L.seen link.new).left) }
+    ensures unwanting { IfErr result (λ refusal. ¬ (status_of refusal.cause ≡ 5)) }
+    ensures stopped { OnErr result (IsTrue L.tells → Stopped (Serves S.tells (S.seen store.old).files opened.old) calls
+        (L.seen link.old) (L.seen link.new)) }
+    ensures synced { OnOk result (AddsNone (S.seen store.old).unsynced (S.seen store.new).unsynced) }
+{
+    if link.start(port).is_err() {
+        return Err(Refusal::of(Cause::LinkFault, file));
+    }
+    match serve(opened, store, link, calls) {
+        Ok(()) => Ok(()),
+        Err(fault) => Err(Refusal::of(serve_cause(fault), file)),
+    }
+}
+
+/// What is said where calls were not answered.
+fn serve_cause(fault: ServeFault) -> Cause
+    ensures { result ≡ serve_cause fault }
+{
+    match fault {
+        ServeFault::Link => Cause::LinkFault,
+        ServeFault::File(fault) => file_cause(fault),
+    }
+}
