@@ -1,38 +1,23 @@
 ghost use Rattle.std.specs.Prelude.{◌≡◌, ◌≤◌, length, Ok, IfOk, OnErr};
 ghost use Rattle.quota_blocks.specs.Count.{Rose};
 
+use crate::opened::{Access, Opened};
 use quota_blocks::{Store, StoreFault};
 use std::alloc::Global;
 use std::fs::{File, Files, OpenOptions};
 use std::io::ErrorKind;
-use std::os::unix::fs::{FileExt, MetadataExt, OpenOptionsExt, PermissionsExt, chown};
+use std::os::unix::fs::{MetadataExt, OpenOptionsExt, PermissionsExt, chown};
 use std::{fs, io};
 
 /// What a file's group may do, in its mode.
 const GROUP: u32 = 0o070;
 
-/// What an open file may be used for.
-#[derive(Clone, Copy, Debug, PartialEq, Eq)]
-enum Access {
-    /// To read it.
-    Reading,
-    /// To read it and write to it; it is made where it is not there.
-    Writing,
-    /// To read and write a new file, in place of the one that was there.
-    Making,
-}
-
-/// An open file, with the name that it was opened by.
-#[derive(Drop)]
-struct Opened {
-    name: String,
-    file: File,
-    access: Access,
-}
-
 /// The files of the system as a store, by paths that count from the current folder. It tells nothing of them.
 ///
-/// The file that was used last stays open, so that a read or a write is one call of the system.
+/// The file that was used last stays open. Reads of it that go on where the last one ended come from a window of 65,536
+/// bytes, and bytes that are to be written side by side are gathered up to that number, so that both make few calls of the
+/// system. What was gathered is written before the file is read, synced or renamed, before its length is asked for, and
+/// before another file is used; where that fails, the call at hand is the one that failed.
 #[derive(Drop)]
 pub struct FileStore<'a, R> {
     alloc: Global,
@@ -41,26 +26,6 @@ pub struct FileStore<'a, R> {
     faults: u64,
     reads: u64,
     writes: u64,
-}
-
-/// Reads from a place on until the buffer is full or the file ends. Each turn reads at least a byte, but for one that a
-/// signal interrupts, so the bound on the turns is never met.
-fn read_from(file: &File, at: u64, buf: &mut [u8]) -> io::Result<usize>
-    ensures { IfOk result (λ count. count ≤ length buf.new) }
-{
-    let mut done = 0;
-    for _ in 0..u64::MAX {
-        if done == buf.len() {
-            break;
-        }
-        match file.read_at(&mut buf[done..], at.saturating_add(done as u64)) {
-            Ok(0) => break,
-            Ok(count) => done += count,
-            Err(error) if error.kind() == ErrorKind::Interrupted => {}
-            Err(error) => return Err(error),
-        }
-    }
-    Ok(done)
 }
 
 /// Whether there is a file of this name. What is no regular file, as a folder or a pipe, is an error: opening a pipe
@@ -139,32 +104,41 @@ impl<'a, R: Files<File = File>> FileStore<'a, R> {
         }
     }
 
-    /// Opens a file, unless it is the one that was used last. False where it is to be read and is not there.
-    fn open(&mut self, name: &str, access: Access) -> io::Result<bool>
+    /// Whether the file that was used last is the one of this name, and may be used so.
+    fn is_last(&self, name: &str, access: Access) -> bool {
+        match &self.last {
+            Some(last) => last.serves(name, access),
+            None => false,
+        }
+    }
+
+    /// Opens a file, unless it is the one that was used last. None where it is to be read and is not there.
+    fn open(&mut self, name: &str, access: Access) -> io::Result<Option<Opened>>
         ensures faults { self.new.faults ≡ self.old.faults }
         ensures reads { self.new.reads ≡ self.old.reads }
         ensures writes { self.new.writes ≡ self.old.writes }
     {
-        if let Some(last) = &self.last {
-            let serves = access == Access::Reading || last.access != Access::Reading;
-            if serves && access != Access::Making && last.name.as_str() == name {
-                return Ok(true);
-            }
+        if self.is_last(name, access) {
+            return Ok(self.last.take());
         }
+        self.let_go()?;
         if !is_there(self.files, name)? && access == Access::Reading {
-            return Ok(false);
+            return Ok(None);
         }
         let file = open_file(self.files, name, access)?;
         let name = String::from_str(self.alloc, name)?;
-        self.last = Some(Opened { name, file, access });
-        Ok(true)
+        Ok(Some(Opened::new(self.alloc, name, file, access)))
     }
 
-    /// The file that was used last.
-    fn last_file(&self) -> io::Result<&File> {
-        match &self.last {
-            Some(last) => Ok(&last.file),
-            None => Err(io::Error::from(ErrorKind::NotFound)),
+    /// Closes the file that was used last, once what is to be written to it was written.
+    fn let_go(&mut self) -> io::Result<()>
+        ensures faults { self.new.faults ≡ self.old.faults }
+        ensures reads { self.new.reads ≡ self.old.reads }
+        ensures writes { self.new.writes ≡ self.old.writes }
+    {
+        match self.last.take() {
+            Some(mut last) => last.flush(),
+            None => Ok(()),
         }
     }
 
@@ -174,14 +148,12 @@ impl<'a, R: Files<File = File>> FileStore<'a, R> {
         ensures reads { self.new.reads ≡ self.old.reads }
         ensures writes { self.new.writes ≡ self.old.writes }
     {
-        if !self.open(name, Access::Reading)? {
+        let Some(mut file) = self.open(name, Access::Reading)? else {
             return Ok(None);
-        }
-        let metadata = self.last_file()?.metadata()?;
-        if !metadata.is_file() {
-            return Err(io::Error::from(ErrorKind::InvalidInput));
-        }
-        Ok(Some(metadata.len()))
+        };
+        let length = file.length()?;
+        self.last = Some(file);
+        Ok(Some(length))
     }
 
     /// Reads from a place of a file on; a file that is not there has no bytes.
@@ -191,10 +163,12 @@ impl<'a, R: Files<File = File>> FileStore<'a, R> {
         ensures reads { self.new.reads ≡ self.old.reads }
         ensures writes { self.new.writes ≡ self.old.writes }
     {
-        if !self.open(name, Access::Reading)? {
+        let Some(mut file) = self.open(name, Access::Reading)? else {
             return Ok(0);
-        }
-        read_from(self.last_file()?, at, buf)
+        };
+        let count = file.read(at, buf)?;
+        self.last = Some(file);
+        Ok(count)
     }
 
     /// Makes an empty file.
@@ -203,7 +177,7 @@ impl<'a, R: Files<File = File>> FileStore<'a, R> {
         ensures reads { self.new.reads ≡ self.old.reads }
         ensures writes { self.new.writes ≡ self.old.writes }
     {
-        self.open(name, Access::Making)?;
+        self.last = self.open(name, Access::Making)?;
         Ok(())
     }
 
@@ -213,8 +187,12 @@ impl<'a, R: Files<File = File>> FileStore<'a, R> {
         ensures reads { self.new.reads ≡ self.old.reads }
         ensures writes { self.new.writes ≡ self.old.writes }
     {
-        self.open(name, Access::Writing)?;
-        self.last_file()?.write_all_at(bytes, at)
+        let Some(mut file) = self.open(name, Access::Writing)? else {
+            return Err(io::Error::from(ErrorKind::NotFound));
+        };
+        file.write(at, bytes)?;
+        self.last = Some(file);
+        Ok(())
     }
 
     /// Waits until a file's bytes are on the disk. A file that is not there has none.
@@ -223,10 +201,12 @@ impl<'a, R: Files<File = File>> FileStore<'a, R> {
         ensures reads { self.new.reads ≡ self.old.reads }
         ensures writes { self.new.writes ≡ self.old.writes }
     {
-        if !self.open(name, Access::Reading)? {
+        let Some(mut file) = self.open(name, Access::Reading)? else {
             return Ok(());
-        }
-        self.last_file()?.sync_all()
+        };
+        file.sync()?;
+        self.last = Some(file);
+        Ok(())
     }
 
     /// Renames a file, which takes the owner and the permissions of the one that had the name.
@@ -235,7 +215,7 @@ impl<'a, R: Files<File = File>> FileStore<'a, R> {
         ensures reads { self.new.reads ≡ self.old.reads }
         ensures writes { self.new.writes ≡ self.old.writes }
     {
-        self.last = None;
+        self.let_go()?;
         take_owner(self.files, from, to);
         match fs::rename(self.files, from, to) {
             Ok(()) => sync_folder(self.files, to),

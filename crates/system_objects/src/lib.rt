@@ -5,9 +5,13 @@
 
 mod clock;
 mod file_store;
+mod gathered;
+mod opened;
+mod read_ahead;
 mod stream_sink;
 mod stream_source;
 mod udp_link;
+mod window;
 
 pub use clock::moment;
 pub use file_store::FileStore;

@@ -1,0 +1,88 @@
+ghost use Rattle.std.specs.Prelude.{◌≤◌, length, IfOk};
+
+use crate::gathered::Gathered;
+use crate::read_ahead::ReadAhead;
+use std::alloc::Global;
+use std::fs::File;
+use std::io;
+use std::io::ErrorKind;
+
+/// What an open file may be used for.
+#[derive(Clone, Copy, Debug, PartialEq, Eq)]
+pub(crate) enum Access {
+    /// To read it.
+    Reading,
+    /// To read it and write to it; it is made where it is not there.
+    Writing,
+    /// To read and write a new file, in place of the one that was there.
+    Making,
+}
+
+/// An open file, with the name that it was opened by, what was read ahead of it, and what is to be written to it.
+#[derive(Drop)]
+pub(crate) struct Opened {
+    name: String,
+    file: File,
+    access: Access,
+    ahead: ReadAhead,
+    gathered: Gathered,
+}
+
+impl Opened {
+    /// A file that was just opened.
+    pub fn new(alloc: Global, name: String, file: File, access: Access) -> Opened {
+        Opened {
+            name,
+            file,
+            access,
+            ahead: ReadAhead::new(alloc),
+            gathered: Gathered::new(alloc),
+        }
+    }
+
+    /// Whether it is the file of this name, and may be used so. A file that is to be made is another one.
+    pub fn serves(&self, name: &str, access: Access) -> bool {
+        let may = match access {
+            Access::Reading => true,
+            Access::Writing => self.access != Access::Reading,
+            Access::Making => false,
+        };
+        may && self.name.as_str() == name
+    }
+
+    /// Its length; what is no file, as a folder, is an error.
+    pub fn length(&mut self) -> io::Result<u64> {
+        self.flush()?;
+        let metadata = self.file.metadata()?;
+        if !metadata.is_file() {
+            return Err(io::Error::from(ErrorKind::InvalidInput));
+        }
+        Ok(metadata.len())
+    }
+
+    /// Reads from a place on until the buffer is full or the file ends.
+    pub fn read(&mut self, at: u64, buf: &mut [u8]) -> io::Result<usize>
+        ensures fits { IfOk result (λ count. count ≤ length buf.new) }
+    {
+        self.flush()?;
+        self.ahead.read(&self.file, at, buf)
+    }
+
+    /// Takes bytes that are to be written to a place.
+    pub fn write(&mut self, at: u64, bytes: &[u8]) -> io::Result<()> {
+        self.ahead.forget();
+        self.gathered.take(&self.file, at, bytes)
+    }
+
+    /// Writes what is to be written.
+    pub fn flush(&mut self) -> io::Result<()> {
+        self.gathered.flush(&self.file)
+    }
+
+    /// Writes what is to be written, and waits until the file's bytes are on the disk.
+    pub fn sync(&mut self) -> io::Result<()> {
+        self.ahead.forget();
+        self.flush()?;
+        self.file.sync_all()
+    }
+}
