@@ -19,7 +19,7 @@ use Rattle.inode_scan.specs.declared.tally.Tally.{Tally}
 use Rattle.quota_types.specs.declared.file_kind.Kind.{Kind}
 use Rattle.inode_scan.specs.Line.{is_bad, row_in, row_of}
 use Rattle.inode_scan.specs.Listing.{Counted, conflict_of, counted_line, counted_lines, counted_row, fault_of, faults_of, first_lines, first_of, is_asked, is_same_inode, owned, owner_of, usage_of, used_in}
-use Rattle.inode_scan.specs.Tally.{AreBefore, ConflictsAs, IsOf, IsRefusedLine, IsRefusedRow, Keeps, TakesRow, agrees, counted_at, first_kept, inode_eq, row_at}
+use Rattle.inode_scan.specs.Tally.{AreBefore, ConflictsAs, IsOf, IsRefusedLine, IsRefusedRow, Keeps, TakesRow, agrees, counted_at, first_kept, get_or_kept, inode_eq, row_at}
 use Rattle.inode_scan.specs.Usage.{UsageMap, with_inode}
 use Rattle.inode_scan.proofs.FaultLemmas.{faults_of-push}
 use Rattle.inode_scan.proofs.FirstLemmas.{conflict_of-first, conflict_of-later, counted_before, counted_lines-append, first_lines-push, first_of-append}
@@ -123,14 +123,52 @@ conflicts_as tally row number kept is differs lines keeps =
 abbrev right : Result (Unit {0}) ScanFault
 right = Ok tt
 
--- a row of an inode that has a first line is taken where they agree, and else refused
-pub taken_by : (tally : Tally) (row : Row) (number : ℕ) (kept : FirstLine) (result : Result (Unit {0}) ScanFault) → get inode_eq tally.firsts (inode_of row) ≡ Some kept
-    → result ≡ (if agrees kept row then right else Err (Conflict number kept.number)) → OnOk result (TakesRow tally tally row number)
-taken_by tally row number kept result is answers =
-    subst (λ (r : Result (Unit {0}) ScanFault). OnOk r (TakesRow tally tally row number)) (sym answers) (by (agrees kept row) refl)
+-- what is kept of the first lines stays where a later line of an inode was looked up
+pub stays_kept : (old : Tally) (row : Row) (line kept : FirstLine) (other : Inode) → get inode_eq old.firsts (inode_of row) ≡ Some kept
+    → get_or_kept old (inode_of row) line other ≡ get inode_eq old.firsts other
+stays_kept old row line kept other is = by (inode_eq (inode_of row) other) refl
   where
-    by : (b : Bool) → agrees kept row ≡ b → OnOk (if b then right else Err (Conflict number kept.number)) (TakesRow tally tally row number)
-    by true agreed = takes_later tally row number kept is agreed
+    by : (b : Bool) → inode_eq (inode_of row) other ≡ b → option_or (get inode_eq old.firsts other) (if b then Some line else None) ≡ get inode_eq old.firsts other
+    by false differs = option_or-none (get inode_eq old.firsts other)
+    by true same =
+        let here : get inode_eq old.firsts other ≡ Some kept = ap (get inode_eq old.firsts) (sym (inode_is row other same)) ∙ is in
+        ap (λ o. option_or o (Some line)) here ∙ sym here
+
+-- a line is kept where it is the first one of its inode
+pub new_kept : (old : Tally) (row : Row) (line : FirstLine) (other : Inode) → get inode_eq old.firsts (inode_of row) ≡ None
+    → get_or_kept old (inode_of row) line other ≡ cond (inode_eq (inode_of row) other) (Some line) (get inode_eq old.firsts other)
+new_kept old row line other none = by (inode_eq (inode_of row) other) refl
+  where
+    by : (b : Bool) → inode_eq (inode_of row) other ≡ b → option_or (get inode_eq old.firsts other) (if b then Some line else None) ≡ cond b (Some line) (get inode_eq old.firsts other)
+    by false differs = option_or-none (get inode_eq old.firsts other)
+    by true same = ap (λ o. option_or o (Some line)) (ap (get inode_eq old.firsts) (sym (inode_is row other same)) ∙ none)
+
+-- what is kept of the lines is the same
+pub record KeepsSame (old new : Tally) : Type 0 where
+  pub firsts : (inode : Inode) → get inode_eq new.firsts inode ≡ get inode_eq old.firsts inode
+  pub usage : new.usage ≡ old.usage
+  pub kind : new.kind ≡ old.kind
+
+keeps_same : (old new : Tally) (lines : List Counted) → KeepsSame old new → Keeps old lines → Keeps new lines
+keeps_same old new lines same keeps = record {
+  firsts = λ inode. same.firsts inode ∙ keeps.firsts inode;
+  usage = same.usage ∙ keeps.usage ∙ ap (λ (kind : Kind). usage_of kind lines) (sym same.kind);
+}
+
+takes_again : (old new : Tally) (row : Row) (number : ℕ) (kept : FirstLine) → get inode_eq old.firsts (inode_of row) ≡ Some kept → KeepsSame old new → agrees kept row ≡ true → TakesRow old new row number
+takes_again old new row number kept is same agreed lines before keeps = (
+  keeps_same old new (lines ++ counted_at number row ∷ []) same (takes_later old row number kept is agreed lines before keeps).0,
+  (takes_later old row number kept is agreed lines before keeps).1,
+)
+
+-- a row of an inode that has a first line is taken where they agree, and else refused
+pub taken_by : (old new : Tally) (row : Row) (number : ℕ) (kept : FirstLine) (result : Result (Unit {0}) ScanFault) → get inode_eq old.firsts (inode_of row) ≡ Some kept → KeepsSame old new
+    → result ≡ (if agrees kept row then right else Err (Conflict number kept.number)) → OnOk result (TakesRow old new row number)
+taken_by old new row number kept result is same answers =
+    subst (λ (r : Result (Unit {0}) ScanFault). OnOk r (TakesRow old new row number)) (sym answers) (by (agrees kept row) refl)
+  where
+    by : (b : Bool) → agrees kept row ≡ b → OnOk (if b then right else Err (Conflict number kept.number)) (TakesRow old new row number)
+    by true agreed = takes_again old new row number kept is same agreed
     by false differs = tt
 
 pub refused_by : (tally : Tally) (row : Row) (number : ℕ) (kept : FirstLine) (result : Result (Unit {0}) ScanFault) → get inode_eq tally.firsts (inode_of row) ≡ Some kept

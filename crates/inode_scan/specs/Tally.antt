@@ -1,9 +1,9 @@
 -- What is kept of the lines of a listing that were read. It is the code's own, and no contract of a public call speaks of it.
-use Rattle.std.specs.Prelude.{◌≡◌, ℕ, ◌+◌, ◌*◌, ◌^◌, ◌<◌, ◌≤◌, ◌&&◌, ◌==◌, Bool, IfSome, List, [], ◌∷◌, ◌++◌, Some, None, length, ⊤}
+use Rattle.std.specs.Prelude.{◌≡◌, ℕ, ◌+◌, ◌*◌, ◌^◌, ◌<◌, ◌≤◌, ◌&&◌, ◌==◌, Bool, if◌then◌else◌, IfSome, Option, List, [], ◌∷◌, ◌++◌, Some, None, length, ⊤}
 use Rattle.std.specs.FinMap as map
 use Rattle.std.specs.HashMap.{get}
 use Rattle.std.specs.List.{AllByRecursion}
-use Rattle.std.specs.Option.{option_map}
+use Rattle.std.specs.Option.{option_map, option_or}
 use Rattle.inode_scan.specs.declared.fault.ScanFault.{ScanFault}
 use Rattle.inode_scan.specs.declared.fault.ScanFault.TheVariants.{Source, TooLarge, BadLine, LongLine, Conflict, Memory}
 use Rattle.inode_scan.specs.declared.inode.Inode.{Inode}
@@ -36,6 +36,10 @@ agrees first row = first.owner == row.owner && first.group == row.group && first
 -- a row that counts, as the line of this number
 abbrev pub counted_at : ℕ → Row → Counted
 counted_at number row = record { number = number; row = row }
+
+-- what is kept of the first line of an inode, where this line is the first one of another inode unless that has one
+abbrev pub get_or_kept : Tally → Inode → FirstLine → Inode → Option FirstLine
+get_or_kept tally inode line other = option_or (get inode_eq tally.firsts other) (if inode_eq inode other then Some line else None)
 
 -- what is kept is that of these lines
 pub record Keeps (tally : Tally) (lines : List Counted) : Type 0 where

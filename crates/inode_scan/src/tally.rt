@@ -1,6 +1,7 @@
-ghost use Rattle.std.specs.Prelude.{◌≡◌, ◌+◌, ◌-◌, ◌^◌, ◌<◌, ◌++◌, ◌∷◌, [], List, ℕ, length, IfErr, OnOk};
+ghost use Rattle.std.specs.Prelude.{◌≡◌, ◌+◌, ◌-◌, ◌^◌, ◌<◌, ◌++◌, ◌∷◌, [], List, ℕ, length, IfErr, IfOk, OnOk};
 ghost use Rattle.inode_scan.specs.Listing.{is_asked, owner_of};
-ghost use Rattle.inode_scan.specs.Tally.{IsBounded, IsOf, IsRefusedLine, IsRefusedRow, TakesRow};
+ghost use Rattle.inode_scan.specs.Tally.{IsBounded, IsOf, IsRefusedLine, IsRefusedRow, TakesRow, get_or_kept, inode_eq};
+ghost use Rattle.std.specs.HashMap.{get};
 
 use crate::inode::{FirstLine, Inode};
 use crate::row::{Row, read_row};
@@ -95,12 +96,29 @@ impl Tally {
             device: row.device,
             number: row.inode,
         };
-        if let Some(first) = self.firsts.get(&inode) {
+        if let Some(first) = self.keep_first(inode, FirstLine::of(row, number))? {
             return first.check(row, number);
         }
-        self.firsts.insert(inode, FirstLine::of(row, number))?;
         self.usage.add(owner_of(self.kind, row), row.blocks)?;
         Ok(())
+    }
+
+    /// Keeps the line of an inode where it is the first one, and answers the first one where it is not. An inode with no
+    /// line before is looked up once.
+    fn keep_first(&mut self, inode: Inode, line: FirstLine) -> Result<Option<FirstLine>, ScanFault>
+        ensures found { IfOk result (λ first. first ≡ get inode_eq self.old.firsts inode) }
+        ensures firsts { IfOk result (λ first. (other : Inode) → get inode_eq self.new.firsts other
+            ≡ get_or_kept self.old inode line other) }
+        ensures usage { self.new.usage ≡ self.old.usage }
+        ensures kind { self.new.kind ≡ self.old.kind }
+        ensures device { self.new.device ≡ self.old.device }
+        ensures refused { IfErr result (λ fault. fault ≡ ScanFault.Memory) }
+    {
+        let earlier = self.firsts.insert(inode, line)?;
+        if let Some(first) = earlier {
+            self.firsts.insert(inode, first)?;
+        }
+        Ok(earlier)
     }
 }
 
