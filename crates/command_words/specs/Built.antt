@@ -4,7 +4,7 @@ use Rattle.refusals.specs.declared.cause.Cause.TheVariants.{Usage}
 use Rattle.refusals.specs.declared.cause.UsageKind.TheVariants.{UnknownCommand}
 use Rattle.refusals.specs.declared.reason.Refusal.{Refusal}
 use Rattle.command_words.specs.declared.command.Command.{Command}
-use Rattle.command_words.specs.declared.command.Command.TheVariants.{Report, SetLimits, CopyLimits, SetGrace, SetTimes, Batch, PrintForm, ApplyForm, Check}
+use Rattle.command_words.specs.declared.command.Command.TheVariants.{Report, SetLimits, CopyLimits, SetGrace, SetTimes, Batch, PrintForm, ApplyForm, Check, Convert, Serve}
 use Rattle.refusals.specs.Refusals.{refusal_of}
 use Rattle.command_words.specs.Asked.{command_of}
 
@@ -19,6 +19,8 @@ is_built (Batch common input file) = true
 is_built (PrintForm common name file) = true
 is_built (ApplyForm common input name file) = true
 is_built (Check common fresh device input file) = true
+is_built (Convert kind old new source target) = true
+is_built (Serve format calls port exports) = true
 is_built _ = false
 
 -- what is said of a command that is not built

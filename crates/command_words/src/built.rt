@@ -39,5 +39,7 @@ fn is_built_mode(mode: Mode) -> bool
             | Mode::Printing
             | Mode::Applying
             | Mode::Checking
+            | Mode::Converting
+            | Mode::Serving
     )
 }

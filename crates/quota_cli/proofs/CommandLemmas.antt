@@ -1,46 +1,50 @@
 -- Commands whose words are refused, and what all commands share.
-use Rattle.std.proofs.Common.{◌≡◌, ◌≢◌, ℕ, Bool, true, false, if◌then◌else◌, List, Option, None, Some, Ok, Err, Result, inl, inr, refl, sym, ap, subst, arith}
-use Rattle.std.specs.Prelude.{IfErr, IfOk, IfSome, IsTrue, IsErr, IsErrAnd, ◌↔◌}
+use Rattle.std.proofs.Common.{◌≡◌, ◌≢◌, ℕ, Bool, true, false, if◌then◌else◌, List, [], ◌∷◌, Option, None, Some, Ok, Err, Result, inl, inr, refl, sym, subst, arith}
+use Rattle.std.specs.Prelude.{IfErr, IfOk, IfSome, IsTrue, IsErr, IsErrAnd, MatchResult, ◌↔◌}
 use Rattle.quota_types.specs.declared.file_kind.Format.{Format}
-use Rattle.id_names.specs.NamesFile.{NameLine}
+use Rattle.quota_types.specs.declared.file_kind.Kind.{Kind}
 use Rattle.quota_blocks.specs.QuotaValue.{QuotaValue}
-use Rattle.set_edit.specs.Editing.{Edit}
-use Rattle.set_edit.specs.Edits.{limits_edit}
 use Rattle.refusals.specs.declared.cause.Cause.{Cause}
-use Rattle.refusals.specs.declared.cause.Cause.TheVariants.{StoreFault, SourceFault, SinkFault, LinkFault, Memory, NoFile, TooLarge, NotQuota, WrongKind, UnknownVersion, BadBlockCount, OtherFormat, Damaged, Full, NoRoom, UnknownName, BadNumber, TargetExists, SameName, BadForm, BadLine, LongLine, Conflict, Usage}
+use Rattle.refusals.specs.declared.cause.Cause.TheVariants.{Usage}
+use Rattle.refusals.specs.declared.cause.UsageKind.{UsageKind}
 use Rattle.refusals.specs.declared.reason.Refusal.{Refusal}
+use Rattle.refusals.specs.Refusals.{refusal_of}
+use Rattle.refusals.specs.Status.{status_of}
+use Rattle.refusals.proofs.GroupLemmas.{words_alone}
 use Rattle.command_words.specs.declared.command.Command.{Command}
 use Rattle.command_words.specs.declared.command.Common.{Common}
-use Rattle.command_words.specs.declared.command.Command.TheVariants.{Report, SetLimits, CopyLimits, SetGrace, SetTimes, Batch, PrintForm, ApplyForm, Check}
+use Rattle.command_words.specs.declared.command.Command.TheVariants.{Report, SetLimits, CopyLimits, SetGrace, SetTimes, Batch, PrintForm, ApplyForm, Check, Convert, Serve}
+use Rattle.command_words.specs.declared.reading.UsageFault.{UsageFault}
+use Rattle.command_words.specs.declared.reading.UsageFault.TheVariants.{Usage as UsageOf, Memory as NoMemory}
+use Rattle.command_words.specs.Built.{if_built, is_built, unknown_command}
+use Rattle.command_words.specs.Usage.{IsUsageFault, usage_refusal}
+use Rattle.command_words.specs.Asked.{command_of}
+use Rattle.command_words.proofs.BuiltLemmas.{HasSourceName}
+use Rattle.command_words.proofs.NameLemmas.{never_new}
+use Rattle.run_steps.specs.Done.{RunSeen, RunTells}
+use Rattle.run_steps.specs.Naming.{NamesMayRefuse}
+use Rattle.run_steps.specs.Showing.{ShowingMayRefuse}
+use Rattle.run_steps.specs.declared.invocation.Invocation.{Invocation}
+use Rattle.run_steps.proofs.PhaseLemmas.{carries_more, nothing_carried, stop_carried}
+use Rattle.edit_commands.specs.Apply.{ApplyMayRefuse}
+use Rattle.edit_commands.specs.Batch.{BatchMayRefuse}
+use Rattle.edit_commands.specs.EditWords.{names_wanted}
+use Rattle.edit_commands.specs.Edits.{EditMayRefuse, FileEditMayRefuse}
+use Rattle.edit_commands.specs.Print.{PrintMayRefuse}
 use Rattle.edit_commands.specs.declared.edit.EditWords.{EditWords}
 use Rattle.edit_commands.specs.declared.edit.EditWords.TheVariants.{Limits, Copy, Grace, Times}
 use Rattle.edit_commands.specs.declared.edit.FileEdit.{FileEdit}
 use Rattle.edit_commands.specs.declared.edit.FileEdit.TheVariants.{Limits as LimitsEdit}
-use Rattle.command_words.specs.declared.reading.UsageFault.{UsageFault}
-use Rattle.command_words.specs.declared.reading.UsageFault.TheVariants.{Usage as UsageOf, Memory as NoMemory}
-use Rattle.refusals.specs.Refusals.{refusal_of}
-use Rattle.refusals.specs.Status.{status_of}
-use Rattle.run_steps.specs.Done.{RunSeen, RunTells}
-use Rattle.run_steps.specs.Naming.{NamesMayRefuse}
-use Rattle.run_steps.specs.Opening.{MayRefuseOpening}
-use Rattle.run_steps.specs.Run.{CarriesOut}
-use Rattle.run_steps.specs.Steps.{Stop}
-use Rattle.run_steps.specs.declared.invocation.Invocation.{Invocation}
-use Rattle.edit_commands.specs.Apply.{ApplyMayRefuse}
-use Rattle.edit_commands.specs.Batch.{BatchMayRefuse, LineMayRefuse}
-use Rattle.command_words.specs.Built.{if_built, is_built, unknown_command}
-use Rattle.file_commands.specs.Check.{CheckMayRefuse, UnfitMayRefuse, UsageMayRefuse, new_value}
-use Rattle.edit_commands.specs.Edits.{ChangeMayRefuse, EditMayRefuse, FileEditMayRefuse}
-use Rattle.file_commands.specs.FileValue.{WritingMayRefuse}
-use Rattle.edit_commands.specs.Print.{PrintMayRefuse}
+use Rattle.edit_commands.proofs.WordLemmas.{IsOfWord, edit_refusal, identifier_refusal, word_status}
+use Rattle.file_commands.specs.Check.{CheckMayRefuse, UsageMayRefuse, new_value}
+use Rattle.file_commands.specs.Conversion.{ConvertMayRefuse}
 use Rattle.file_commands.specs.Report.{ReportMayRefuse}
-use Rattle.run_steps.specs.Showing.{ShowingMayRefuse}
-use Rattle.quota_cli.specs.Table.{AskedSteps, MayRefuseAsked, MayRefuseCommand, StepsOf, asked_uses}
-use Rattle.run_steps.specs.Taking.{AForm, AListing, InputKind, InputMayRefuse, Lines, input_name}
-use Rattle.edit_commands.specs.EditWords.{edit_meant}
-use Rattle.command_words.specs.Usage.{IsUsageFault, usage_refusal}
-use Rattle.run_steps.proofs.PhaseLemmas.{nothing_carried, stop_carried}
-use Rattle.edit_commands.proofs.WordLemmas.{edit_refusal, identifier_refusal, word_status}
+use Rattle.option_words.specs.declared.export.Export.{Export}
+use Rattle.serve_command.specs.Serve.{ExportingMayRefuse, ServeMayRefuse}
+use Rattle.serve_command.specs.Words.{CanServe}
+use Rattle.serve_command.proofs.WordLemmas.{asked_serves}
+use Rattle.quota_cli.specs.Description.{IsCarriedOut}
+use Rattle.quota_cli.specs.Table.{asked_of, described, refused}
 
 -- what words ask for among the commands that are built is one that is built
 pub asked_built : (asked : Result Command Refusal) → IfOk (if_built asked) (λ (command : Command). IsTrue (is_built command))
@@ -52,276 +56,147 @@ asked_built (Ok command) = by_test (is_built command) command refl
     by_test false command is = tt
 asked_built (Err refusal) = tt
 
--- no phase of a command is refused with status 2
+-- No command that was read is refused for its words.
 
-names_status_of : (file : List ℕ) (cause : Cause) (said : List ℕ) → NamesMayRefuse (Some file) cause said → status_of cause ≢ 2
-names_status_of file StoreFault said may two = omega (arith, two)
-names_status_of file SourceFault said may two = omega (arith, two)
-names_status_of file SinkFault said may two = omega (arith, two)
-names_status_of file LinkFault said may two = omega (arith, two)
-names_status_of file Memory said may two = omega (arith, two)
-names_status_of file NoFile said may two = omega (arith, two)
-names_status_of file TooLarge said may two = omega (arith, two)
-names_status_of file NotQuota said may two = omega (arith, two)
-names_status_of file WrongKind said may two = omega (arith, two)
-names_status_of file UnknownVersion said may two = omega (arith, two)
-names_status_of file BadBlockCount said may two = omega (arith, two)
-names_status_of file OtherFormat said may two = omega (arith, two)
-names_status_of file (Damaged damage) said may two = omega (arith, two)
-names_status_of file (Full blocks limit) said may two = omega (arith, two)
-names_status_of file (NoRoom out) said may two = omega (arith, two)
-names_status_of file UnknownName said may two = omega (arith, two)
-names_status_of file BadNumber said may two = omega (arith, two)
-names_status_of file TargetExists said may two = omega (arith, two)
-names_status_of file SameName said may two = omega (arith, two)
-names_status_of file (BadForm line) said may two = omega (arith, two)
-names_status_of file (BadLine line) said may two = omega (arith, two)
-names_status_of file (LongLine line) said may two = omega (arith, two)
-names_status_of file (Conflict line first) said may two = omega (arith, two)
-names_status_of file (Usage kind word) said may two = may
+-- none of these causes is one of the words
+abbrev Spares : (Cause → List ℕ → Type 0) → Type 0
+Spares may = (kind : UsageKind) (word : ℕ) (said : List ℕ) → may (Usage kind word) said → ⊥
 
-names_status : (names : Option (List ℕ)) (cause : Cause) (said : List ℕ) → NamesMayRefuse names cause said → status_of cause ≢ 2
-names_status None cause said may two = may
-names_status (Some file) cause said may two = names_status_of file cause said may two
+-- a word that names nothing or is no number is refused with status 1
+spares_word : (kind : UsageKind) (word : ℕ) (said : List ℕ) → IsOfWord (refusal_of (Usage kind word) said) → ⊥
+spares_word kind word said of_word = let two : 2 ≡ 1 = word_status (refusal_of (Usage kind word) said) of_word in omega (arith, two)
 
-opening_status : (asked : Option Format) (file : List ℕ) (cause : Cause) (said : List ℕ) → MayRefuseOpening asked file cause said → status_of cause ≢ 2
-opening_status asked file StoreFault said may two = omega (arith, two)
-opening_status asked file SourceFault said may two = omega (arith, two)
-opening_status asked file SinkFault said may two = omega (arith, two)
-opening_status asked file LinkFault said may two = omega (arith, two)
-opening_status asked file Memory said may two = omega (arith, two)
-opening_status asked file NoFile said may two = omega (arith, two)
-opening_status asked file TooLarge said may two = omega (arith, two)
-opening_status asked file NotQuota said may two = omega (arith, two)
-opening_status asked file WrongKind said may two = omega (arith, two)
-opening_status asked file UnknownVersion said may two = omega (arith, two)
-opening_status asked file BadBlockCount said may two = omega (arith, two)
-opening_status asked file OtherFormat said may two = omega (arith, two)
-opening_status asked file (Damaged damage) said may two = omega (arith, two)
-opening_status asked file (Full blocks limit) said may two = omega (arith, two)
-opening_status asked file (NoRoom out) said may two = omega (arith, two)
-opening_status asked file UnknownName said may two = omega (arith, two)
-opening_status asked file BadNumber said may two = omega (arith, two)
-opening_status asked file TargetExists said may two = omega (arith, two)
-opening_status asked file SameName said may two = omega (arith, two)
-opening_status asked file (BadForm line) said may two = omega (arith, two)
-opening_status asked file (BadLine line) said may two = omega (arith, two)
-opening_status asked file (LongLine line) said may two = omega (arith, two)
-opening_status asked file (Conflict line first) said may two = omega (arith, two)
-opening_status asked file (Usage kind word) said may two = may
+spares_names : (names : Option (List ℕ)) → Spares (NamesMayRefuse names)
+spares_names None kind word said may = may
+spares_names (Some file) kind word said may = may
 
-change_status : (asked : Option Format) (edit : Edit) (file : List ℕ) (cause : Cause) (said : List ℕ) → ChangeMayRefuse asked edit file cause said → status_of cause ≢ 2
-change_status asked edit file StoreFault said may two = omega (arith, two)
-change_status asked edit file SourceFault said may two = omega (arith, two)
-change_status asked edit file SinkFault said may two = omega (arith, two)
-change_status asked edit file LinkFault said may two = omega (arith, two)
-change_status asked edit file Memory said may two = omega (arith, two)
-change_status asked edit file NoFile said may two = omega (arith, two)
-change_status asked edit file TooLarge said may two = omega (arith, two)
-change_status asked edit file NotQuota said may two = omega (arith, two)
-change_status asked edit file WrongKind said may two = omega (arith, two)
-change_status asked edit file UnknownVersion said may two = omega (arith, two)
-change_status asked edit file BadBlockCount said may two = omega (arith, two)
-change_status asked edit file OtherFormat said may two = omega (arith, two)
-change_status asked edit file (Damaged damage) said may two = omega (arith, two)
-change_status asked edit file (Full blocks limit) said may two = omega (arith, two)
-change_status asked edit file (NoRoom out) said may two = omega (arith, two)
-change_status asked edit file UnknownName said may two = omega (arith, two)
-change_status asked edit file BadNumber said may two = omega (arith, two)
-change_status asked edit file TargetExists said may two = omega (arith, two)
-change_status asked edit file SameName said may two = omega (arith, two)
-change_status asked edit file (BadForm line) said may two = omega (arith, two)
-change_status asked edit file (BadLine line) said may two = omega (arith, two)
-change_status asked edit file (LongLine line) said may two = omega (arith, two)
-change_status asked edit file (Conflict line first) said may two = omega (arith, two)
-change_status asked edit file (Usage kind word) said may two = may
+spares_showing : (asked : Option Format) (file : List ℕ) → Spares (ShowingMayRefuse asked file)
+spares_showing asked file kind word said (inl is) = cc
+spares_showing asked file kind word said (inr may) = may
 
-showing_status : (asked : Option Format) (file : List ℕ) (cause : Cause) (said : List ℕ) → ShowingMayRefuse asked file cause said → status_of cause ≢ 2
-showing_status asked file cause said (inl is) two = let four : status_of cause ≡ 4 = ap status_of is in omega (arith, two, four)
-showing_status asked file cause said (inr may) two = opening_status asked file cause said may two
+spares_report : (common : Common) (file : List ℕ) → Spares (ReportMayRefuse common file)
+spares_report common file kind word said (inl may) = spares_names common.names kind word said may
+spares_report common file kind word said (inr may) = spares_showing common.format file kind word said may
 
-report_status : (common : Common) (file : List ℕ) (cause : Cause) (said : List ℕ) → ReportMayRefuse common file cause said → status_of cause ≢ 2
-report_status common file cause said (inl may) two = names_status common.names cause said may two
-report_status common file cause said (inr may) two = showing_status common.format file cause said may two
+spares_file_edit : (asked : Option Format) (edit : FileEdit) (file : List ℕ) → Spares (FileEditMayRefuse asked edit file)
+spares_file_edit asked edit file kind word said (inl (now, may)) = may
+spares_file_edit asked edit file kind word said (inr (inl may)) = may
+spares_file_edit asked edit file kind word said (inr (inr (warns, is))) = cc
 
-file_edit_status : (asked : Option Format) (edit : FileEdit) (file : List ℕ) (cause : Cause) (said : List ℕ) → FileEditMayRefuse asked edit file cause said → status_of cause ≢ 2
-file_edit_status asked edit file cause said (inl (now, may)) two = change_status asked (edit_meant edit now) file cause said may two
-file_edit_status asked edit file cause said (inr (inl may)) two = opening_status asked file cause said may two
-file_edit_status asked edit file cause said (inr (inr (warns, is))) two = let four : status_of cause ≡ 4 = ap status_of is in omega (arith, two, four)
+spares_edit : (common : Common) (words : EditWords) (file : List ℕ) → Spares (EditMayRefuse common words file)
+spares_edit common words file kind word said (inl may) = spares_names (names_wanted words common.names) kind word said may
+spares_edit common words file kind word said (inr (names, given, inl read)) = spares_word kind word said (edit_refusal names words _ read)
+spares_edit common words file kind word said (inr (names, given, inr (edit, read, may))) = spares_file_edit common.format edit file kind word said may
 
-edit_status : (common : Common) (words : EditWords) (file : List ℕ) (cause : Cause) (said : List ℕ) → EditMayRefuse common words file cause said → status_of cause ≢ 2
-edit_status common words file cause said (inl may) two = names_status _ cause said may two
-edit_status common words file cause said (inr (names, given, inl read)) two =
-    let one : status_of cause ≡ 1 = word_status (refusal_of cause said) (edit_refusal names words (refusal_of cause said) read) in omega (arith, two, one)
-edit_status common words file cause said (inr (names, given, inr (edit, read, may))) two = file_edit_status common.format edit file cause said may two
+spares_print : (common : Common) (name file : List ℕ) → Spares (PrintMayRefuse common name file)
+spares_print common name file kind word said (inl may) = spares_names common.names kind word said may
+spares_print common name file kind word said (inr (names, given, inl read)) = spares_word kind word said (identifier_refusal names name _ read)
+spares_print common name file kind word said (inr (names, given, inr (id, read, may))) = spares_showing common.format file kind word said may
 
-print_status : (common : Common) (word file : List ℕ) (cause : Cause) (said : List ℕ) → PrintMayRefuse common word file cause said → status_of cause ≢ 2
-print_status common word file cause said (inl may) two = names_status common.names cause said may two
-print_status common word file cause said (inr (names, given, inl read)) two =
-    let one : status_of cause ≡ 1 = word_status (refusal_of cause said) (identifier_refusal names word (refusal_of cause said) read) in omega (arith, two, one)
-print_status common word file cause said (inr (names, given, inr (id, read, may))) two = showing_status common.format file cause said may two
+spares_batch : (common : Common) (from : Option (List ℕ)) (file : List ℕ) → Spares (BatchMayRefuse common from file)
+spares_batch common from file kind word said (inl may) = spares_names common.names kind word said may
+spares_batch common from file kind word said (inr (names, given, inl (inl (id, limits, now, may)))) = may
+spares_batch common from file kind word said (inr (names, given, inl (inr may))) = may
+spares_batch common from file kind word said (inr (names, given, inr (inl may))) = may
+spares_batch common from file kind word said (inr (names, given, inr (inr may))) = may
 
--- an input that was not read, and a line that was refused
-input_status : (what : InputKind) (from : Option (List ℕ)) (cause : Cause) (said : List ℕ) → InputMayRefuse what from cause said → status_of cause ≢ 2
-input_status what from StoreFault said may two = omega (arith, two)
-input_status what from SourceFault said may two = omega (arith, two)
-input_status what from SinkFault said may two = omega (arith, two)
-input_status what from LinkFault said may two = omega (arith, two)
-input_status what from Memory said may two = omega (arith, two)
-input_status what from NoFile said may two = omega (arith, two)
-input_status what from TooLarge said may two = omega (arith, two)
-input_status what from NotQuota said may two = omega (arith, two)
-input_status what from WrongKind said may two = omega (arith, two)
-input_status what from UnknownVersion said may two = omega (arith, two)
-input_status what from BadBlockCount said may two = omega (arith, two)
-input_status what from OtherFormat said may two = omega (arith, two)
-input_status what from (Damaged damage) said may two = omega (arith, two)
-input_status what from (Full blocks limit) said may two = omega (arith, two)
-input_status what from (NoRoom out) said may two = omega (arith, two)
-input_status what from UnknownName said may two = omega (arith, two)
-input_status what from BadNumber said may two = omega (arith, two)
-input_status what from TargetExists said may two = omega (arith, two)
-input_status what from SameName said may two = omega (arith, two)
-input_status what from (BadForm line) said may two = omega (arith, two)
-input_status what from (BadLine line) said may two = omega (arith, two)
-input_status what from (LongLine line) said may two = omega (arith, two)
-input_status what from (Conflict line first) said may two = omega (arith, two)
-input_status what from (Usage kind word) said may two = may
+spares_apply : (common : Common) (from : Option (List ℕ)) (name file : List ℕ) → Spares (ApplyMayRefuse common from name file)
+spares_apply common from name file kind word said (inl may) = spares_names common.names kind word said may
+spares_apply common from name file kind word said (inr (names, given, inl read)) = spares_word kind word said (identifier_refusal names name _ read)
+spares_apply common from name file kind word said (inr (names, given, inr (id, read, inl may))) = may
+spares_apply common from name file kind word said (inr (names, given, inr (id, read, inr (limits, may)))) =
+    spares_file_edit common.format (LimitsEdit id limits) file kind word said may
 
-line_status : (names : List NameLine) (place : List ℕ) (cause : Cause) (said : List ℕ) → LineMayRefuse names place cause said → status_of cause ≢ 2
-line_status names place StoreFault said may two = omega (arith, two)
-line_status names place SourceFault said may two = omega (arith, two)
-line_status names place SinkFault said may two = omega (arith, two)
-line_status names place LinkFault said may two = omega (arith, two)
-line_status names place Memory said may two = omega (arith, two)
-line_status names place NoFile said may two = omega (arith, two)
-line_status names place TooLarge said may two = omega (arith, two)
-line_status names place NotQuota said may two = omega (arith, two)
-line_status names place WrongKind said may two = omega (arith, two)
-line_status names place UnknownVersion said may two = omega (arith, two)
-line_status names place BadBlockCount said may two = omega (arith, two)
-line_status names place OtherFormat said may two = omega (arith, two)
-line_status names place (Damaged damage) said may two = omega (arith, two)
-line_status names place (Full blocks limit) said may two = omega (arith, two)
-line_status names place (NoRoom out) said may two = omega (arith, two)
-line_status names place UnknownName said may two = omega (arith, two)
-line_status names place BadNumber said may two = omega (arith, two)
-line_status names place TargetExists said may two = omega (arith, two)
-line_status names place SameName said may two = omega (arith, two)
-line_status names place (BadForm line) said may two = omega (arith, two)
-line_status names place (BadLine line) said may two = omega (arith, two)
-line_status names place (LongLine line) said may two = omega (arith, two)
-line_status names place (Conflict line first) said may two = omega (arith, two)
-line_status names place (Usage kind word) said may two = may
+spares_usage : (value : QuotaValue) (from : Option (List ℕ)) (file : List ℕ) → Spares (UsageMayRefuse value from file)
+spares_usage value from file kind word said (inl may) = may
+spares_usage value from file kind word said (inr (inl may)) = may
+spares_usage value from file kind word said (inr (inr may)) = may
 
-batch_status : (common : Common) (from : Option (List ℕ)) (file : List ℕ) (cause : Cause) (said : List ℕ) → BatchMayRefuse common from file cause said → status_of cause ≢ 2
-batch_status common from file cause said (inl may) two = names_status common.names cause said may two
-batch_status common from file cause said (inr (names, given, inl (inl (id, limits, now, may)))) two = change_status common.format (limits_edit id limits now) file cause said may two
-batch_status common from file cause said (inr (names, given, inl (inr may))) two = opening_status common.format file cause said may two
-batch_status common from file cause said (inr (names, given, inr (inl may))) two = input_status Lines from cause said may two
-batch_status common from file cause said (inr (names, given, inr (inr may))) two = line_status names (input_name from) cause said may two
+spares_check : (common : Common) (fresh : Bool) (from : Option (List ℕ)) (file : List ℕ) → Spares (CheckMayRefuse common fresh from file)
+spares_check common true from file kind word said may = spares_usage (new_value common.kind common.format) from file kind word said may
+spares_check common false from file kind word said (inl may) = may
+spares_check common false from file kind word said (inr (value, asked, kept, may)) = spares_usage value from file kind word said may
 
-apply_status : (common : Common) (from : Option (List ℕ)) (word file : List ℕ) (cause : Cause) (said : List ℕ) → ApplyMayRefuse common from word file cause said → status_of cause ≢ 2
-apply_status common from word file cause said (inl may) two = names_status common.names cause said may two
-apply_status common from word file cause said (inr (names, given, inl read)) two =
-    let one : status_of cause ≡ 1 = word_status (refusal_of cause said) (identifier_refusal names word (refusal_of cause said) read) in omega (arith, two, one)
-apply_status common from word file cause said (inr (names, given, inr (id, read, inl may))) two = input_status AForm from cause said may two
-apply_status common from word file cause said (inr (names, given, inr (id, read, inr (limits, may)))) two = file_edit_status common.format (LimitsEdit id limits) file cause said may two
+spares_convert : (kind : Kind) (old new : Format) (source target : List ℕ) → Spares (ConvertMayRefuse kind old new source target)
+spares_convert kind old new source target what word said may = may
 
--- a file that was not replaced, and a listing that did not become the usage of a file
-writing_status : (format : Format) (file : List ℕ) (cause : Cause) (said : List ℕ) → WritingMayRefuse format file cause said → status_of cause ≢ 2
-writing_status format file StoreFault said may two = omega (arith, two)
-writing_status format file SourceFault said may two = omega (arith, two)
-writing_status format file SinkFault said may two = omega (arith, two)
-writing_status format file LinkFault said may two = omega (arith, two)
-writing_status format file Memory said may two = omega (arith, two)
-writing_status format file NoFile said may two = omega (arith, two)
-writing_status format file TooLarge said may two = omega (arith, two)
-writing_status format file NotQuota said may two = omega (arith, two)
-writing_status format file WrongKind said may two = omega (arith, two)
-writing_status format file UnknownVersion said may two = omega (arith, two)
-writing_status format file BadBlockCount said may two = omega (arith, two)
-writing_status format file OtherFormat said may two = omega (arith, two)
-writing_status format file (Damaged damage) said may two = omega (arith, two)
-writing_status format file (Full blocks limit) said may two = omega (arith, two)
-writing_status format file (NoRoom out) said may two = omega (arith, two)
-writing_status format file UnknownName said may two = omega (arith, two)
-writing_status format file BadNumber said may two = omega (arith, two)
-writing_status format file TargetExists said may two = omega (arith, two)
-writing_status format file SameName said may two = omega (arith, two)
-writing_status format file (BadForm line) said may two = omega (arith, two)
-writing_status format file (BadLine line) said may two = omega (arith, two)
-writing_status format file (LongLine line) said may two = omega (arith, two)
-writing_status format file (Conflict line first) said may two = omega (arith, two)
-writing_status format file (Usage kind word) said may two = may
+spares_exporting : (format : Option Format) (exports : List Export) → Spares (ExportingMayRefuse format exports)
+spares_exporting format [] kind word said may = may
+spares_exporting format (export ∷ exports) kind word said (inl may) = may
+spares_exporting format (export ∷ exports) kind word said (inr may) = spares_exporting format exports kind word said may
 
-unfit_status : (value : QuotaValue) (file : List ℕ) (cause : Cause) (said : List ℕ) → UnfitMayRefuse value file cause said → status_of cause ≢ 2
-unfit_status value file StoreFault said may two = omega (arith, two)
-unfit_status value file SourceFault said may two = omega (arith, two)
-unfit_status value file SinkFault said may two = omega (arith, two)
-unfit_status value file LinkFault said may two = omega (arith, two)
-unfit_status value file Memory said may two = omega (arith, two)
-unfit_status value file NoFile said may two = omega (arith, two)
-unfit_status value file TooLarge said may two = omega (arith, two)
-unfit_status value file NotQuota said may two = omega (arith, two)
-unfit_status value file WrongKind said may two = omega (arith, two)
-unfit_status value file UnknownVersion said may two = omega (arith, two)
-unfit_status value file BadBlockCount said may two = omega (arith, two)
-unfit_status value file OtherFormat said may two = omega (arith, two)
-unfit_status value file (Damaged damage) said may two = omega (arith, two)
-unfit_status value file (Full blocks limit) said may two = omega (arith, two)
-unfit_status value file (NoRoom out) said may two = omega (arith, two)
-unfit_status value file UnknownName said may two = omega (arith, two)
-unfit_status value file BadNumber said may two = omega (arith, two)
-unfit_status value file TargetExists said may two = omega (arith, two)
-unfit_status value file SameName said may two = omega (arith, two)
-unfit_status value file (BadForm line) said may two = omega (arith, two)
-unfit_status value file (BadLine line) said may two = omega (arith, two)
-unfit_status value file (LongLine line) said may two = omega (arith, two)
-unfit_status value file (Conflict line first) said may two = omega (arith, two)
-unfit_status value file (Usage kind word) said may two = may
+spares_serve : (format : Option Format) (exports : List Export) → Spares (ServeMayRefuse format exports)
+spares_serve format exports kind word said (inl may) = spares_exporting format exports kind word said may
+spares_serve format exports kind word said (inr may) = may
 
-usage_status : (value : QuotaValue) (from : Option (List ℕ)) (file : List ℕ) (cause : Cause) (said : List ℕ) → UsageMayRefuse value from file cause said → status_of cause ≢ 2
-usage_status value from file cause said (inl may) two = input_status AListing from cause said may two
-usage_status value from file cause said (inr (inl may)) two = unfit_status value file cause said may two
-usage_status value from file cause said (inr (inr may)) two = writing_status value.format file cause said may two
-
-check_status : (common : Common) (fresh : Bool) (from : Option (List ℕ)) (file : List ℕ) (cause : Cause) (said : List ℕ) → CheckMayRefuse common fresh from file cause said → status_of cause ≢ 2
-check_status common true from file cause said may two = usage_status (new_value common.kind common.format) from file cause said may two
-check_status common false from file cause said (inl may) two = opening_status common.format file cause said may two
-check_status common false from file cause said (inr (value, asked, kept, may)) two = usage_status value from file cause said may two
+spares_built : (command : Command) → IsTrue (is_built command) → Spares (described command).may
+spares_built (Report common options file) built = spares_report common file
+spares_built (SetLimits common name limits file) built = spares_edit common (Limits name limits) file
+spares_built (CopyLimits common proto name file) built = spares_edit common (Copy proto name) file
+spares_built (SetGrace common block inode file) built = spares_edit common (Grace block inode) file
+spares_built (SetTimes common name block inode file) built = spares_edit common (Times name block inode) file
+spares_built (Batch common input file) built = spares_batch common input file
+spares_built (PrintForm common name file) built = spares_print common name file
+spares_built (ApplyForm common input name file) built = spares_apply common input name file
+spares_built (Check common fresh device input file) built = spares_check common fresh input file
+spares_built (Convert kind old new source target) built = spares_convert kind old new source target
+spares_built (Serve format calls port exports) built = spares_serve format exports
+spares_built _ built = absurd (cc)
 
 -- no command that was read is refused with status 2
-pub not_usage : (command : Command) (cause : Cause) (said : List ℕ) → IsTrue (is_built command) → MayRefuseCommand command cause said → status_of cause ≢ 2
-not_usage (Report common options file) cause said built may two = report_status common file cause said may two
-not_usage (SetLimits common name limits file) cause said built may two = edit_status common (Limits name limits) file cause said may two
-not_usage (CopyLimits common proto name file) cause said built may two = edit_status common (Copy proto name) file cause said may two
-not_usage (SetGrace common block inode file) cause said built may two = edit_status common (Grace block inode) file cause said may two
-not_usage (SetTimes common name block inode file) cause said built may two = edit_status common (Times name block inode) file cause said may two
-not_usage (Batch common input file) cause said built may two = batch_status common input file cause said may two
-not_usage (PrintForm common name file) cause said built may two = print_status common name file cause said may two
-not_usage (ApplyForm common input name file) cause said built may two = apply_status common input name file cause said may two
-not_usage (Check common fresh device input file) cause said built may two = check_status common fresh input file cause said may two
-not_usage _ cause said built may two = absurd (cc)
+not_usage : (command : Command) (cause : Cause) (said : List ℕ) → IsTrue (is_built command) → (described command).may cause said → status_of cause ≢ 2
+not_usage command cause said built may two =
+    let words = words_alone cause two in
+    spares_built command built words.0 words.1 said (subst (λ (c : Cause). (described command).may c said) words.2 may)
+
+-- What words ask for that were read.
+
+-- what a command was carried out for, words were carried out for that ask for it
+pub read_carried : (command : Command) (asked : Result Command Refusal) (invocation : Invocation) (tells : RunTells) (old new : RunSeen) (result : Result (Unit {0}) Refusal) → asked ≡ Ok command
+    → IsCarriedOut (described command) invocation tells old new result → IsCarriedOut (asked_of asked) invocation tells old new result
+read_carried command asked invocation tells old new result is carried =
+    subst (λ (a : Result Command Refusal). IsCarriedOut (asked_of a) invocation tells old new result) (sym is) (record {
+      carries = carries_more _ _ _ _ tells old new result (λ cause said may. inr may) carried.carries;
+      named = carried.named;
+      synced = carried.synced;
+      unfinished = carried.unfinished;
+      untaken = carried.untaken;
+    })
 
 -- the status of a command that was read
 pub usage_read : (command : Command) (asked : Result Command Refusal) (result : Result (Unit {0}) Refusal) → asked ≡ Ok command
-    → IsTrue (is_built command) → IfErr result (λ (refusal : Refusal). MayRefuseCommand command refusal.cause refusal.name)
+    → IsTrue (is_built command) → IfErr result (λ (refusal : Refusal). (described command).may refusal.cause refusal.name)
     → IsErrAnd result (λ (refusal : Refusal). status_of refusal.cause ≡ 2) ↔ IsErr asked
 usage_read command (Ok other) (Ok value) is built may = (λ two. absurd two, λ err. absurd (cc))
 usage_read command (Ok other) (Err refusal) is built may = (λ two. absurd (not_usage command refusal.cause refusal.name built may two), λ err. absurd (cc))
 usage_read command (Err other) result is built may = absurd (cc)
 
--- words that were not read
+-- Words that were not read.
+
+-- what holds of every file holds of the one that is there
+holds_of_one : (file : Option (List ℕ)) (holds : List ℕ → Type 0) → ((one : List ℕ) → holds one) → IfSome file holds
+holds_of_one None holds all = tt
+holds_of_one (Some one) holds all = all one
+
 pub not_read : (asked : Result Command Refusal) (invocation : Invocation) (tells : RunTells) (old : RunSeen) (fault : UsageFault) → IfOk asked (λ (command : Command). IsTrue (is_built command)) → IsUsageFault asked fault
-    → CarriesOut (AskedSteps asked invocation) (asked_uses asked) (MayRefuseAsked asked) tells old old (Err (usage_refusal fault))
+    → IsCarriedOut (asked_of asked) invocation tells old old (Err (usage_refusal fault))
 not_read (Ok command) invocation tells old (UsageOf kind word) built is = absurd (cc)
-not_read (Ok command) invocation tells old NoMemory built is =
-    nothing_carried (StepsOf command invocation) _ _ tells old (usage_refusal NoMemory) tt (λ told acts to by. tt) (inl refl) (record { line = λ no. refl; input_line = λ no. refl })
+not_read (Ok command) invocation tells old NoMemory built is = record {
+  carries = nothing_carried ((described command).steps invocation) _ _ tells old (usage_refusal NoMemory) tt (inl refl) (record { line = λ no. refl; input_line = λ no. refl });
+  named = holds_of_one (described command).replaces _ (λ file told. refl);
+  synced = tt;
+  unfinished = λ link. absurd (cc);
+  untaken = λ five. refl;
+}
 not_read (Err refusal) invocation tells old (UsageOf kind word) built is =
     let same : refusal ≡ usage_refusal (UsageOf kind word) = cc in
-    subst (λ (r : Refusal). CarriesOut (Stop r) (asked_uses (Err r)) (MayRefuseAsked (Err r)) tells old old (Err (usage_refusal (UsageOf kind word)))) (sym same)
-    (stop_carried _ (MayRefuseAsked (Err (usage_refusal (UsageOf kind word)))) tells old (usage_refusal (UsageOf kind word)) (λ stated fact. fact) refl (record { line = λ no. refl; input_line = λ no. refl }))
+    subst (λ (r : Refusal). IsCarriedOut (refused r) invocation tells old old (Err (usage_refusal (UsageOf kind word)))) (sym same) (record {
+      carries = stop_carried _ (refused (usage_refusal (UsageOf kind word))).may tells old (usage_refusal (UsageOf kind word)) (λ stated fact. fact) refl (record { line = λ no. refl; input_line = λ no. refl });
+      named = tt;
+      synced = tt;
+      unfinished = λ link. tt;
+      untaken = λ five. refl;
+    })
 not_read (Err refusal) invocation tells old NoMemory built is = absurd (cc)
 
 -- the status of words that were not read
@@ -332,7 +207,45 @@ usage_not_read (Ok command) NoMemory is = (λ two. absurd (omega (arith, two)), 
 usage_not_read (Err refusal) (UsageOf kind word) is = (λ two. refl, λ err. refl)
 usage_not_read (Err refusal) NoMemory is = absurd (cc)
 
--- what holds of every file holds of the one that is there
-pub holds_of_one : (file : Option (List ℕ)) (holds : List ℕ → Type 0) → ((one : List ℕ) → holds one) → IfSome file holds
-holds_of_one None holds all = tt
-holds_of_one (Some one) holds all = all one
+-- What is known of a command that was read.
+
+-- a conversion reads no file under whose name a new one is written first, where it reads one that has the name of a file
+named_known : (command : Command) → HasSourceName command → CanServe command → (described command).known
+named_known (Convert kind old new source target) named can = never_new source target named
+named_known (Serve format calls port exports) named can = can
+named_known _ named can = tt
+
+built_serves : (asks : Result Command Refusal) → ((command : Command) → asks ≡ Ok command → CanServe command) → IfOk (if_built asks) CanServe
+built_serves (Ok command) can = by_test (is_built command)
+  where
+    by_test : (built : Bool) → IfOk (if built then Ok command else Err unknown_command) CanServe
+    by_test true = can command refl
+    by_test false = tt
+built_serves (Err refusal) can = tt
+
+-- no words ask for calls that cannot be answered
+pub asks_served : (in_script : Bool) (words : List (List ℕ)) → IfOk (if_built (command_of in_script words)) CanServe
+asks_served in_script words = built_serves (command_of in_script words) (asked_serves in_script words)
+
+pub read_known : (asked : Result Command Refusal) (result : Result Command UsageFault) → IfOk asked HasSourceName → IfOk asked CanServe
+    → MatchResult result (λ (command : Command). asked ≡ Ok command) (IsUsageFault asked) → IfOk result (λ (command : Command). (described command).known)
+read_known asked (Ok command) named can read =
+    named_known command (subst (λ (a : Result Command Refusal). IfOk a HasSourceName) read named) (subst (λ (a : Result Command Refusal). IfOk a CanServe) read can)
+read_known asked (Err fault) named can read = tt
+
+-- what is known of what words ask for
+pub asked_known : (asked : Result Command Refusal) → IfOk asked HasSourceName → IfOk asked CanServe → (asked_of asked).known
+asked_known (Ok command) named can = named_known command named can
+asked_known (Err refusal) named can = tt
+
+-- Facts of a refusal.
+
+-- what holds of every refusal holds of the one that was answered
+pub of_refusal : (result : Result (Unit {0}) Refusal) (holds : Refusal → Type 0) → ((refusal : Refusal) → holds refusal) → IfErr result holds
+of_refusal (Ok value) holds all = tt
+of_refusal (Err refusal) holds all = all refusal
+
+-- what follows from a fact of a refusal holds of the one that was answered
+pub of_refusal_weaker : (result : Result (Unit {0}) Refusal) (one other : Refusal → Type 0) → ((refusal : Refusal) → one refusal → other refusal) → IfErr result one → IfErr result other
+of_refusal_weaker (Ok value) one other so is = tt
+of_refusal_weaker (Err refusal) one other so is = so refusal is

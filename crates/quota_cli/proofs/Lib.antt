@@ -1,2 +1,5 @@
 mod CommandLemmas
+mod EffectLemmas
 mod RunLemmas
+mod StepLemmas
+mod SureLemmas

@@ -1,16 +1,21 @@
 -- What a run of the program does to what is outside.
-use Rattle.std.specs.Prelude.{◌≡◌, ◌⊎◌, ℕ, Bool, false, IsTrue, List, Option, None, ⊤}
+use Rattle.std.specs.Prelude.{◌≡◌, ◌≢◌, ◌⊎◌, ◌↔◌, ℕ, false, IsTrue, IfSome, IsErr, List, [], Option, Some, None, ⊤}
 use Rattle.quota_blocks.specs.Count.{Rose}
 use Rattle.quota_blocks.specs.Seen.{SinkSeen}
+use Rattle.quota_blocks.specs.Unsynced.{AddsNone}
+use Rattle.refusals.specs.declared.cause.Cause.TheVariants.{LinkFault}
 use Rattle.refusals.specs.declared.reason.Refusal.{Refusal}
 use Rattle.refusals.specs.Line.{closing_line, error_line}
 use Rattle.refusals.specs.Status.{end_status, status_of}
 use Rattle.run_steps.specs.Act.{Act}
-use Rattle.run_steps.specs.Done.{AppendsUnless, AreDone, AreDoneInPart, IsWorldTold, Outside, RunSeen, RunTells, outside_of}
-use Rattle.run_steps.specs.Run.{HasReason, HasSteps, IsPlacedBy}
-use Rattle.run_steps.specs.Steps.{HasEffectOf}
+use Rattle.run_steps.specs.Done.{AppendsUnless, AreDone, IsLater, IsUnwritten, IsWorldTold, NoFault, Outside, RunSeen, RunTells, outside_of}
+use Rattle.run_steps.specs.Meaning.{HasEffectOf, IsSure}
+use Rattle.run_steps.specs.OneCommand.{AreReceived, Receives}
+use Rattle.run_steps.specs.Run.{HasReason, HasSteps, IsDoneInPart, IsPlacedBy, Uses}
+use Rattle.run_steps.specs.Steps.{Steps}
 use Rattle.run_steps.specs.declared.invocation.Invocation.{Invocation}
-use Rattle.quota_cli.specs.Table.{AskedSteps, MayRefuseAsked, asked_uses}
+use Rattle.quota_cli.specs.Description.{Description}
+use Rattle.quota_cli.specs.Table.{asked_of}
 use Rattle.command_words.specs.Built.{built_command}
 
 -- what a run is given: the words, and when it takes place
@@ -22,68 +27,79 @@ pub record Setting : Type 0 where
 abbrev pub setting_of : List (List ℕ) → ℕ → Setting
 setting_of words now = record { words = words; invocation = record { now = now; line = None } }
 
+-- the command that words ask for
+abbrev pub asked : Setting → Description
+asked setting = asked_of (built_command setting.words)
+
+-- its steps
+abbrev pub steps_asked : Setting → Steps
+steps_asked setting = (asked setting).steps setting.invocation
+
+-- the objects that it uses
+abbrev pub uses_asked : Setting → Uses
+uses_asked setting = (asked setting).uses
+
 -- the effect of words: from what is outside, by acts, to what is outside then, with a status
 abbrev pub Effect : Setting → Outside → List Act → Outside → ℕ → Type 0
-Effect setting = HasEffectOf (AskedSteps (built_command setting.words) setting.invocation)
+Effect setting = HasEffectOf (steps_asked setting)
 
 -- The headline: there are acts that with the status are the effect of the words, and they were done: the output and the
--- error output got exactly their bytes, the link their answers, and the files follow.
+-- error output got exactly their bytes, the link their answers, and the files follow. With status 0 nothing is left of an input
+-- that is used, and so many datagrams were taken as the steps receive, the first ones.
 pub record HasEffect (setting : Setting) (tells : RunTells) (old new : RunSeen) (status : ℕ) : Type 0 where
   pub acts : List Act
   pub effect : Effect setting (outside_of old) acts (outside_of new) status
   pub done : AreDone tells acts old new
+  pub input : status ≡ 0 → IsTrue (uses_asked setting).input → new.input.left ≡ []
+  pub datagrams : (count : ℕ) → Receives count (steps_asked setting) → status ≡ 0 → AreReceived count old.link.left new.link.left
 
 -- The effect of the words, where the error output may have failed in the error line at the end: it then got a prefix of that
 -- line, and all else was done.
 pub record HasEffectUpToErr (setting : Setting) (tells : RunTells) (old new : RunSeen) (status : ℕ) : Type 0 where
   pub refusal : Option Refusal
   pub before : SinkSeen
-  pub has : HasSteps (AskedSteps (built_command setting.words) setting.invocation) tells refusal old (record new { err = before })
+  pub has : HasSteps (steps_asked setting) tells refusal old (record new { err = before })
   pub ended : status ≡ end_status refusal
   pub line : IsTrue tells.err → AppendsUnless (Rose before.faults new.err.faults) before.written new.err.written
       (closing_line refusal)
 
--- whether what the words ask for warns
-abbrev pub asked_warns : Setting → Bool
-asked_warns setting = (asked_uses (built_command setting.words)).warns
-
 -- A refusal that stands only in lines of what the words ask to be read.
 abbrev pub IsPlaced : Setting → Refusal → Type 0
-IsPlaced setting refusal = IsPlacedBy (asked_uses (built_command setting.words)) refusal
+IsPlaced setting refusal = IsPlacedBy (uses_asked setting) refusal
 
 -- With status 4 or 5 the run was stopped by a fault or for want of memory, and the error output got the line that says
--- which. What was done before that line is a first part of the acts of all its steps, and the last of them may have been
--- done in part. Before that line nothing was said, unless the command warns.
+-- which. Before that line the steps of the command had begun, and of the act that was at hand a part may have been done. Before
+-- it nothing was said, unless the command warns. The link is said to have failed only where not all was done with it.
 pub record IsStopped (setting : Setting) (tells : RunTells) (old new : RunSeen) (status : ℕ) : Type 0 where
   pub refusal : Refusal
   pub before : RunSeen
   pub all_else : new ≡ record before { err = new.err }
-  pub reason : HasReason (asked_warns setting) old before ⊥ refusal.cause
+  pub reason : HasReason (uses_asked setting) old before ⊥ refusal.cause
   pub placed : IsPlaced setting refusal
   pub status_is : status ≡ status_of refusal.cause
-  pub quiet : asked_warns setting ≡ false → before.err ≡ old.err
+  pub quiet : (uses_asked setting).warns ≡ false → before.err ≡ old.err
   pub line : IsTrue tells.err → AppendsUnless (Rose before.err.faults new.err.faults) before.err.written new.err.written
       (error_line refusal)
-  pub part : IsWorldTold tells → (acts : List Act) (to : Outside) (ended : Option Refusal)
-      → AskedSteps (built_command setting.words) setting.invocation (outside_of old) acts to ended → AreDoneInPart tells acts old before
+  pub part : IsWorldTold tells → IsDoneInPart (steps_asked setting) tells old before
+  pub unfinished : refusal.cause ≡ LinkFault → (asked setting).unfinished tells old before
 
 -- A run that was refused: the status is the cause's, and at the end its error line went to the error output. Before that
 -- line nothing was said, unless the command warns.
 pub record IsRefusedRun (setting : Setting) (tells : RunTells) (old new : RunSeen) (status : ℕ) : Type 0 where
   pub refusal : Refusal
   pub before : SinkSeen
-  pub may : MayRefuseAsked (built_command setting.words) refusal.cause refusal.name
+  pub may : (asked setting).may refusal.cause refusal.name
   pub placed : IsPlaced setting refusal
-  pub reason : HasReason (asked_warns setting) old (record new { err = before }) ⊤ refusal.cause
+  pub reason : HasReason (uses_asked setting) old (record new { err = before }) ⊤ refusal.cause
   pub status_is : status ≡ status_of refusal.cause
-  pub quiet : asked_warns setting ≡ false → before ≡ old.err
+  pub quiet : (uses_asked setting).warns ≡ false → before ≡ old.err
   pub line : IsTrue tells.err → AppendsUnless (Rose before.faults new.err.faults) before.written new.err.written
       (error_line refusal)
 
 -- What the program says, whatever is told of all else: with status 0 nothing but warnings, and else one error line.
 abbrev pub HasSaid : Setting → RunTells → RunSeen → RunSeen → ℕ → Type 0
 HasSaid setting tells old new status =
-    ((status ≡ 0) × (asked_warns setting ≡ false → IsTrue tells.err → new.err.written ≡ old.err.written))
+    ((status ≡ 0) × ((uses_asked setting).warns ≡ false → IsTrue tells.err → new.err.written ≡ old.err.written))
     ⊎ IsRefusedRun setting tells old new status
 
 -- Where a word is faulty, the run ends with the refusal of the first such word.
@@ -91,3 +107,37 @@ pub record IsRefusedWord (setting : Setting) (tells : RunTells) (old new : RunSe
   pub status_is : status ≡ status_of refusal.cause
   pub line : IsTrue tells.err → AppendsUnless (Rose old.err.faults new.err.faults) old.err.written new.err.written
       (error_line refusal)
+
+-- What else a run keeps.
+pub record Keeps (setting : Setting) (tells : RunTells) (old new : RunSeen) (status : ℕ) : Type 0 where
+  -- A status other than 4 and 5 is that of the effect, of which everything was done, except that the error output may have
+  -- failed while the error line was written.
+  pub done : IsWorldTold tells → status ≢ 4 → status ≢ 5 → HasEffectUpToErr setting tells old new status
+  -- With status 4 or 5 the run was stopped by a fault or for want of memory, and says which. Before that its steps had begun; the
+  -- act that was at hand may have been done in part.
+  pub stopped : (status ≡ 4) ⊎ (status ≡ 5) → IsStopped setting tells old new status
+  -- Whatever the status, the steps have begun: so many acts were done, of the one at hand at most a part, and nothing that no
+  -- step does, the error output left aside.
+  pub part : IsWorldTold tells → IsDoneInPart (steps_asked setting) (record tells { err = false }) old new
+  -- Where no step is refused, whatever is chosen, and nothing outside failed, the status is 0, unless memory is wanting.
+  pub complete : IsWorldTold tells → IsSure (steps_asked setting) (outside_of old) → NoFault old new → (status ≡ 0) ⊎ (status ≡ 5)
+  -- Status 2 comes exactly where the words ask for nothing, unless they ask for commands to be read.
+  pub usage : (uses_asked setting).reads_commands ≡ false → (status ≡ 2) ↔ IsErr (built_command setting.words)
+  -- Where a word is faulty, the first such word is refused, whatever is told, unless memory is wanting.
+  pub words : (refusal : Refusal) → (asked setting).faulty ≡ Some refusal
+      → IsRefusedWord setting tells old new status refusal ⊎ (status ≡ 5)
+  -- Whatever is told, status 0 says nothing but warnings, and any other one is that of a cause whose error line went out.
+  pub says : HasSaid setting tells old new status
+  -- A command that only reads changes no file and writes none, and neither does one that is all or nothing where it was refused
+  -- by anything but a fault of something outside, whatever is told.
+  pub writes : ((uses_asked setting).changes ≡ false) ⊎ (IsTrue (uses_asked setting).all_or_nothing × (status ≢ 0) × (status ≢ 4))
+      → IsUnwritten old.store new.store
+  -- With any status but 0 a file that the command replaces as a whole is as it was, after a fault of the store too.
+  pub named : IfSome (asked setting).replaces (λ (file : List ℕ). status ≢ 0 → IsTrue tells.store
+      → new.store.files file ≡ old.store.files file)
+  -- With status 0 what was written has been synced: no name is unsynced that was not.
+  pub synced : status ≡ 0 → IsTrue tells.store → AddsNone old.store.unsynced new.store.unsynced
+  -- With status 5 nothing was done with the link: no datagram was taken.
+  pub untaken : status ≡ 5 → new.link ≡ old.link
+  -- No count of faults falls.
+  pub later : IsLater old new

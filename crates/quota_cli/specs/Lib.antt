@@ -1,4 +1,6 @@
 pub mod About
+pub mod Conditions
+pub mod Description
 pub mod Headline
 pub mod Starting
 pub mod Table

@@ -1,18 +1,18 @@
 //! The commands, one module each, behind one contract that all of them share.
-ghost use Rattle.std.specs.Prelude.{ℕ, Option, ◌≡◌, ◌⊎◌, Bool, false, None, Some, Err, IsErrAnd, IsTrue, IfSome, OnOk, OnErr};
-ghost use Rattle.quota_blocks.specs.Unsynced.{AddsNone};
+ghost use Rattle.std.specs.Prelude.{◌≡◌, false, Some, Err, IsTrue};
 ghost use Rattle.run_steps.specs.Done.{seen_of, tells_of};
-ghost use Rattle.run_steps.specs.Run.{CarriesOut};
 ghost use Rattle.command_words.specs.Built.{is_built};
-ghost use Rattle.quota_cli.specs.Table.{MayRefuseCommand, StepsOf, faulty_word, replaced_file, uses_of};
+ghost use Rattle.quota_cli.specs.Description.{IsCarriedOut};
+ghost use Rattle.quota_cli.specs.Table.{described};
 ghost use Rattle.refusals.specs.declared.reason.Refusal.{Refusal};
 
 use command_words::Command;
 use edit_commands::{EditWords, apply_by_word, apply_lines, edit_by_words, print_by_word};
-use file_commands::{check_file, report_file};
+use file_commands::{check_file, convert_file, report_file};
 use quota_blocks::{Link, Sink, Source, Store};
 use refusals::Refusal;
 use run_steps::Invocation;
+use serve_command::serve_files;
 use std::alloc::Global;
 
 /// Carries out a command, but for its error line.
@@ -30,23 +30,21 @@ pub fn carry_out<S: Store, I: Source, O: Sink, E: Sink, L: Link>(
     link: &mut L,
     invocation: Invocation,
 ) -> Result<(), Refusal>
-    requires { IsTrue (is_built command) }
-    ensures carries { CarriesOut (StepsOf command invocation) (uses_of command) (MayRefuseCommand command)
-        (tells_of S.tells I.tells O.tells E.tells L.tells)
+    requires built { IsTrue (is_built command) }
+    requires known { (described command).known }
+    ensures carries { IsCarriedOut (described command) invocation (tells_of S.tells I.tells O.tells E.tells L.tells)
         (seen_of (S.seen store.old) (I.seen input.old) (O.seen out.old) (E.seen err.old) (L.seen link.old))
         (seen_of (S.seen store.new) (I.seen input.new) (O.seen out.new) (E.seen err.new) (L.seen link.new)) result }
-    ensures word { (refusal : Refusal) → faulty_word command ≡ Some refusal → result ≡ Err refusal }
-    ensures named { IfSome (replaced_file command) (λ file. OnErr result (IsTrue S.tells
-        → (S.seen store.new).files file ≡ (S.seen store.old).files file)) }
-    ensures synced { OnOk result (IsTrue S.tells
-        → AddsNone (S.seen store.old).unsynced (S.seen store.new).unsynced) }
-    ensures store { (refusal : Refusal) → faulty_word command ≡ Some refusal → store.new ≡ store.old }
-    ensures input { (uses_of command).input ≡ false → input.new ≡ input.old }
-    ensures keeps { I.keeps false input.old input.new }
-    ensures out { (uses_of command).out ≡ false → out.new ≡ out.old }
-    ensures err { (uses_of command).warns ≡ false → err.new ≡ err.old }
-    ensures quiet { (refusal : Refusal) → faulty_word command ≡ Some refusal → err.new ≡ err.old }
-    ensures link { (uses_of command).link ≡ false → link.new ≡ link.old }
+    // A faulty word is refused before anything is done.
+    ensures word { (refusal : Refusal) → (described command).faulty ≡ Some refusal → result ≡ Err refusal }
+    ensures store { (refusal : Refusal) → (described command).faulty ≡ Some refusal → store.new ≡ store.old }
+    ensures quiet { (refusal : Refusal) → (described command).faulty ≡ Some refusal → err.new ≡ err.old }
+    // A command leaves alone what it does not use.
+    ensures input { (described command).uses.input ≡ false → input.new ≡ input.old }
+    ensures out { (described command).uses.out ≡ false → out.new ≡ out.old }
+    ensures err { (described command).uses.warns ≡ false → err.new ≡ err.old }
+    ensures link { (described command).uses.link ≡ false → link.new ≡ link.old }
+    ensures source { I.keeps false input.old input.new }
 {
     match command {
         Command::Report {
@@ -124,6 +122,19 @@ pub fn carry_out<S: Store, I: Source, O: Sink, E: Sink, L: Link>(
             input,
             invocation.now,
         ),
+        Command::Convert {
+            kind,
+            old,
+            new,
+            source,
+            target,
+        } => convert_file(alloc, kind, old, new, source, target, store),
+        Command::Serve {
+            format,
+            calls,
+            port,
+            exports,
+        } => serve_files(alloc, format, calls, port, exports, store, link),
         _ => unreachable!(),
     }
 }

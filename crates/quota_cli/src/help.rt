@@ -41,10 +41,12 @@ Built so far:
                         the usage that a listing of inodes tells, as
                         find -printf '%U %G %D %i %b\\n' prints it; with -c in
                         a new file, without limits, whatever was there
-Their words are read, and they are not built yet:
   convertquota [-u|-g] -f OLD,NEW SOURCE TARGET
-  rquotad [--format FORMAT] --calls NUMBER --port NUMBER
-          (--export PATH KIND FILE)...
+                        a new file in another format, from one that stays
+  rquotad  [--format FORMAT] --calls NUMBER --port NUMBER
+           (--export PATH KIND FILE)...
+                        so many calls of rquota on 127.0.0.1 are answered
+Their words are read, and they are not built yet:
   script
   generate SEED COUNT FILE
 

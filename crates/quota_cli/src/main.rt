@@ -14,16 +14,20 @@ use help::{About, tell};
 use quota_blocks::Sink;
 use refusals::{Cause, Refusal, UsageKind, Word};
 use std::alloc::Global;
-use std::io::ErrorKind;
+use std::io::{BufReader, ErrorKind};
 use std::process::ExitCode;
 use std::{env, io};
 use system_objects::{FileStore, StreamSink, StreamSource, UdpLink, moment};
 
 mod commands;
 mod help;
+mod laws;
 mod run;
 #[cfg(test)]
 mod tests;
+
+/// The most bytes that are taken from the standard input with one call of the system.
+const READ_AHEAD: usize = 65_536;
 
 /// The words of the command line without the program's own name.
 fn given_words<R: env::Env + AllocGlobal>(rt: &R) -> io::Result<Vec<String>> {
@@ -72,7 +76,10 @@ fn main(rt: HostRuntime) -> ExitCode {
                 return ExitCode::from(tell(&mut out, &mut err, about.text(), rt.alloc()));
             }
             let mut store = FileStore::new(rt.alloc(), &rt);
-            let mut input = StreamSource::new(rt.stdin());
+            let Ok(stdin) = BufReader::with_capacity(rt.alloc(), READ_AHEAD, rt.stdin()) else {
+                return ExitCode::from(stop(&mut err, Cause::Memory, rt.alloc()));
+            };
+            let mut input = StreamSource::new(stdin);
             let mut link = UdpLink::new(&rt);
             run::run(
                 rt.alloc(),

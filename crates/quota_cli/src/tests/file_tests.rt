@@ -1,7 +1,7 @@
 use super::playing::play;
 use file_stories::{
-    calls, checked, ended_checks, names, new_files, refused_listings, reports, summed, trees,
-    turned, words,
+    calls, checked, conversions, ended_checks, names, new_files, refused_conversions,
+    refused_listings, reports, served, summed, trees, turned, words,
 };
 use story_player::FILES;
 
@@ -91,6 +91,26 @@ fn listings_are_summed(rt: HostRuntime) {
 }
 
 #[test]
+fn files_are_converted_between_all_formats(rt: HostRuntime) {
+    play(&rt, rt.alloc(), &[FILES, conversions::PAIRS]);
+}
+
+#[test]
+fn conversions_have_edges(rt: HostRuntime) {
+    play(&rt, rt.alloc(), &[FILES, conversions::ENDS]);
+}
+
+#[test]
+fn the_first_value_without_room_is_told(rt: HostRuntime) {
+    play(&rt, rt.alloc(), &[FILES, refused_conversions::FIRST]);
+}
+
+#[test]
+fn conversions_are_refused_and_calls_fail(rt: HostRuntime) {
+    play(&rt, rt.alloc(), &[FILES, refused_conversions::REFUSED]);
+}
+
+#[test]
 fn each_command_is_read(rt: HostRuntime) {
     play(&rt, rt.alloc(), &[words::COMMANDS]);
 }
@@ -98,4 +118,14 @@ fn each_command_is_read(rt: HostRuntime) {
 #[test]
 fn the_word_at_fault_is_named(rt: HostRuntime) {
     play(&rt, rt.alloc(), &[words::FAULTS]);
+}
+
+#[test]
+fn datagrams_are_answered(rt: HostRuntime) {
+    play(&rt, rt.alloc(), &[FILES, served::ANSWERED]);
+}
+
+#[test]
+fn serving_ends_at_a_fault(rt: HostRuntime) {
+    play(&rt, rt.alloc(), &[FILES, served::ENDED]);
 }

@@ -1,29 +1,22 @@
-use Rattle.std.proofs.Common.{None, false, Result, inr, refl, sym, subst}
+use Rattle.std.proofs.Common.{None, false}
 use Rattle.run_steps.specs.Done.{seen_of, tells_of}
-use Rattle.run_steps.specs.Run.{CarriesOut}
-use Rattle.quota_cli.specs.Table.{AskedSteps, MayRefuseAsked, asked_replaced, asked_uses}
-use Rattle.refusals.specs.declared.reason.Refusal.{Refusal}
-use Rattle.command_words.specs.declared.command.Command.{Command}
-use Rattle.command_words.specs.Built.{built_command}
 use Rattle.command_words.specs.Asked.{command_of}
+use Rattle.command_words.specs.Built.{built_command}
 use Rattle.option_words.specs.Items.{texts_of}
-use Rattle.quota_cli.proofs.CommandLemmas.{asked_built, holds_of_one, not_read, usage_not_read, usage_read}
-use Rattle.run_steps.proofs.PhaseLemmas.{carries_more}
+use Rattle.quota_cli.proofs.CommandLemmas.{asked_built, not_read, read_carried, usage_not_read, usage_read}
 use Rattle.quota_cli.proofs.run.carry_out_words.Goals as goal
 
 pub returns-in-Ok-clause-carries : goal.returns-in-Ok-clause-carries
 returns-in-Ok-clause-carries g c =
     let now = c.carry_out in
-    subst (λ (asked : Result Command Refusal). CarriesOut (AskedSteps asked (record { now = c.args.now; line = None })) (asked_uses asked) (MayRefuseAsked asked)
+    read_carried c.in-Ok.command (built_command (texts_of c.args.words.now)) (record { now = c.args.now; line = None })
     (tells_of g.S.Store.tells g.I.Source.tells g.O.Sink.tells g.E.Sink.tells g.L.Link.tells)
     (seen_of (g.S.Store.seen c.args.store.now) (g.I.Source.seen c.args.input.now) (g.O.Sink.seen c.args.out.now) (g.E.Sink.seen c.args.err.now) (g.L.Link.seen c.args.link.now))
     (seen_of (g.S.Store.seen now.new.store) (g.I.Source.seen now.new.input) (g.O.Sink.seen now.new.out) (g.E.Sink.seen now.new.err) (g.L.Link.seen now.new.link))
-    now.result)
-    (sym c.in-Ok.ensures.read)
-    (carries_more _ _ _ _ _ _ _ now.result (λ cause said may. inr may) (rw c.outside_script-invocation.ensures at now.ensures.carries))
+    now.result c.in-Ok.ensures.read (rw c.outside_script-invocation.ensures at now.ensures.carries)
 
 pub returns-in-Ok-clause-usage : goal.returns-in-Ok-clause-usage
-returns-in-Ok-clause-usage g c = λ no. usage_read c.in-Ok.command (built_command (texts_of c.args.words.now)) c.carry_out.result c.in-Ok.ensures.read c.in-Ok.ensures.built c.carry_out.ensures.carries.may_refuse
+returns-in-Ok-clause-usage g c = λ no. usage_read c.in-Ok.command (built_command (texts_of c.args.words.now)) c.carry_out.result c.in-Ok.ensures.read c.in-Ok.ensures.built c.carry_out.ensures.carries.carries.may_refuse
 
 pub returns-in-Err-clause-carries : goal.returns-in-Err-clause-carries
 returns-in-Err-clause-carries g c =
@@ -36,6 +29,3 @@ returns-in-Err-clause-carries g c =
 pub returns-in-Err-clause-usage : goal.returns-in-Err-clause-usage
 returns-in-Err-clause-usage g c = λ no.
     rw c.usage_refusal.ensures (usage_not_read (built_command (texts_of c.args.words.now)) c.in-Err.fault c.in-Err.ensures.read)
-
-pub returns-in-Err-clause-named : goal.returns-in-Err-clause-named
-returns-in-Err-clause-named g c = holds_of_one (asked_replaced (built_command (texts_of c.args.words.now))) _ (λ file. λ told. refl)

@@ -1,0 +1,52 @@
+-- The names of the files of a conversion: the one that is converted has no name under which a new file is written first.
+use Rattle.std.proofs.Common.{if◌then◌else◌, ◌≡◌, ◌≢◌, ◌∙◌, ℕ, ◌-◌, Bool, true, false, not, ◌&&◌, List, ◌++◌, length, drop, Result, Ok, Err, refl, ap, arith, length-append}
+use Rattle.std.specs.Prelude.{IfOk, codes, nat_le}
+use Rattle.std.specs.List.{list_all}
+use Rattle.std.specs.Str.{bytes_eq}
+use Rattle.std.proofs.Math.Seq.{drop-append_seam}
+use Rattle.quota_blocks.proofs.WorldLemmas.{bytes_eq-same}
+use Rattle.quota_blocks.specs.Replace.{replacement_name}
+use Rattle.refusals.specs.declared.reason.Refusal.{Refusal}
+use Rattle.option_words.specs.FileName.{ends_so, is_file_name, is_graphic}
+use Rattle.command_words.specs.declared.command.Command.{Command}
+use Rattle.command_words.specs.Asked.{command_of}
+use Rattle.command_words.specs.Built.{if_built, is_built, unknown_command}
+use Rattle.command_words.proofs.BuiltLemmas.{HasSourceName, asked_named}
+
+built_named : (asks : Result Command Refusal) → ((command : Command) → asks ≡ Ok command → HasSourceName command) → IfOk (if_built asks) HasSourceName
+built_named (Ok command) named = by_test (is_built command)
+  where
+    by_test : (built : Bool) → IfOk (if built then Ok command else Err unknown_command) HasSourceName
+    by_test true = named command refl
+    by_test false = tt
+built_named (Err refusal) named = tt
+
+-- no words ask for the conversion of a file that has not the name of one
+pub asks_named : (in_script : Bool) (words : List (List ℕ)) → IfOk (if_built (command_of in_script words)) HasSourceName
+asks_named in_script words = built_named (command_of in_script words) (asked_named in_script words)
+
+-- of some tests that all hold the fourth one holds
+fourth : (a b c d e f : Bool) → (a && b && c && not d && e && f) ≡ true → d ≡ false
+fourth false b c d e f all = absurd (cc)
+fourth true false c d e f all = absurd (cc)
+fourth true true false d e f all = absurd (cc)
+fourth true true true true e f all = absurd (cc)
+fourth true true true false e f all = refl
+
+-- a name with an ending added ends so
+ends_added : (name ending : List ℕ) → ends_so (name ++ ending) ending ≡ true
+ends_added name ending =
+    let long : length (name ++ ending) - length ending ≡ length name = omega (arith, length-append name ending) in
+    ap (λ (n : ℕ). bytes_eq (drop n (name ++ ending)) ending) long
+    ∙ ap (λ (rest : List ℕ). bytes_eq rest ending) (drop-append_seam name ending)
+    ∙ bytes_eq-same ending
+
+-- what has the name of a file has none under which a new file is written first
+pub never_new : (source target : List ℕ) → is_file_name source ≡ true → source ≢ replacement_name target
+unfolding replacement_name
+never_new source target named same =
+    let ends : ends_so source (codes ".new") ≡ true = ap (λ (name : List ℕ). ends_so name (codes ".new")) same ∙ ends_added target (codes ".new") in
+    let not_so : ends_so source (codes ".new") ≡ false =
+    fourth (nat_le 1 (length source)) (nat_le (length source) 250) (list_all is_graphic source) (ends_so source (codes ".new")) (not (ends_so source (codes ".undo")))
+    (not (ends_so source (codes ".und"))) named in
+    absurd (cc)

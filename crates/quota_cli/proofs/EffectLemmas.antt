@@ -1,0 +1,30 @@
+-- What holds of every effect of words that ask for one command.
+use Rattle.std.proofs.Common.{◌≡◌, ℕ, true, List, Option, None, Some, sym, subst}
+use Rattle.refusals.specs.declared.reason.Refusal.{Refusal}
+use Rattle.refusals.specs.Status.{end_status, group_of}
+use Rattle.refusals.proofs.GroupLemmas.{status_in-some}
+use Rattle.run_steps.specs.Act.{Act}
+use Rattle.run_steps.specs.Done.{AreDoneInPart, Outside, RunSeen, RunTells, outside_of}
+use Rattle.run_steps.specs.Meaning.{EndsBy, IsSure, closing}
+use Rattle.run_steps.specs.OneCommand.{LooksFirst}
+use Rattle.run_steps.specs.Run.{IsDoneInPart}
+use Rattle.quota_cli.specs.Headline.{Effect, Setting, steps_asked}
+use Rattle.run_steps.proofs.ActLemmas.{part_of_more}
+use Rattle.run_steps.proofs.MeaningLemmas.{looks_same, passed_sure}
+use Rattle.run_steps.proofs.PartLemmas.{part_of_end}
+
+-- what was done in part is a first part of the acts of every effect
+pub part_of_effect : (setting : Setting) (tells : RunTells) (old new : RunSeen) (acts : List Act) (to : Outside) (ended : ℕ) → LooksFirst true true (steps_asked setting)
+    → IsDoneInPart (steps_asked setting) tells old new → Effect setting (outside_of old) acts to ended → AreDoneInPart tells acts old new
+part_of_effect setting tells old new acts to ended looks part effect =
+    subst (λ (a : List Act). AreDoneInPart tells a old new) (sym effect.acts_all)
+    (part_of_more tells effect.own (closing effect.refusal) old new (part_of_end (steps_asked setting) tells old new effect.own to effect.refusal looks part effect.by_steps))
+
+sure_of_end : (setting : Setting) (old : Outside) (acts : List Act) (to : Outside) (refusal : Option Refusal) → LooksFirst true true (steps_asked setting) → EndsBy (steps_asked setting) old acts to refusal
+    → end_status refusal ≡ 0 → IsSure (steps_asked setting) old
+sure_of_end setting old acts to None looks ends zero = passed_sure true true (steps_asked setting) old old acts to looks (looks_same true true old) ends
+sure_of_end setting old acts to (Some refusal) looks ends zero = absurd (status_in-some (group_of refusal.cause) zero)
+
+-- where one effect has status 0 no step is refused
+pub sure_of_effect : (setting : Setting) (old : Outside) (acts : List Act) (to : Outside) → LooksFirst true true (steps_asked setting) → Effect setting old acts to 0 → IsSure (steps_asked setting) old
+sure_of_effect setting old acts to looks effect = sure_of_end setting old effect.own to effect.refusal looks effect.by_steps (sym effect.ended)
