@@ -264,6 +264,37 @@ same 'refused listings leave the file' "$(cmp made want && echo same)" same
 same 'nothing is left beside it' "$(echo *.new)" ''
 rm spread
 
+# A file is converted into each other format and back: the reports are the same but for their first line, which has the
+# name. The source stays, no file is written over, and a refusal makes none.
+rm -f q r
+expect 'a file to convert' 0 '' '' quotacheck -c -F vfsv0 q <<<$'1000 100 2049 12 9\n70000 100 2049 13 8'
+expect 'its limits' 0 '' '' setquota 1000 2 4294967295 3 4294967295 q
+"$run" repquota -v q >shown
+cp q want
+from=q
+for pair in vfsv0,vfsv1 vfsv1,vfsold vfsold,vfsv0 vfsv0,vfsv0; do
+    to=${pair#*,}.converted
+    rm -f "$to"
+    expect "a conversion $pair" 0 '' '' convertquota -f "$pair" "$from" "$to"
+    same "the report after $pair" "$("$run" repquota -v -F "${pair#*,}" "$to" | tail -n +2)" "$(tail -n +2 shown)"
+    same "the file after $pair is for its owner alone" "$(stat -c %a "$to")" 600
+    if [ "$pair" != vfsold,vfsv0 ]; then from=$to; else mv "$to" back; from=back; fi
+done
+same 'a conversion leaves its source' "$(cmp q want && echo same)" same
+expect 'a conversion into a file that is there' 1 '' 'quota: back: exists already' convertquota -f vfsv0,vfsv1 q back
+expect 'a conversion into the file itself' 1 '' 'quota: q: same name' convertquota -f vfsv0,vfsv1 q q
+expect 'a conversion of an absent file' 1 '' 'quota: absent: no such file' convertquota -f vfsv0,vfsv1 absent r
+expect 'a conversion from another format' 3 '' 'quota: q: other format' convertquota -f vfsv1,vfsold q r
+"$run" setquota 4294967295 1 1 1 1 q
+expect 'no room in a flat file for an identifier' 1 '' 'quota: q: no room for id 4294967295 of 4294967295' convertquota -f vfsv0,vfsold q r
+expect 'a conversion into a folder that is absent' 4 '' 'quota: store fault' convertquota -f vfsv0,vfsv1 q absent/r
+same 'refused conversions make no file' "$(echo r* absent*)" ''
+expect 'the last identifier of a flat file' 0 '' '' quotacheck -c r <<<'1048575 0 1 1 8'
+expect 'its conversion' 0 '' '' convertquota -f vfsv1,vfsold r flat
+same 'the size of that file' "$(stat -c %s flat)" 41943040
+same 'nothing is left beside the files' "$(echo *.new)" ''
+rm -f q r back flat shown want ./*.converted
+
 # The owner and the permissions stay, and a file that was left behind is not in the way.
 : >q
 chmod 640 q
@@ -359,6 +390,32 @@ expect 'what it set' 0 "$head
 #1000        --          4        100        200      -        1       10       20      -" '' repquota q
 rm q before empty most more line.txt
 
+# Files of more than 65,536 bytes, of which so many are read ahead and gathered: the lines of a batch do what single
+# commands do, one after another, a file that grew is read to its new end, and a file of names and a quota file are read
+# in turn.
+seq 5000 | awk '{ print $1, 100, 1, $1, 8 }' >owners
+seq 5000 | awk '{ print "user" $1 ":x:" $1 ":1::/:/bin/sh" }' >users
+printf '1 100 200 3 4\n5000 50 60 7 8\nuser70 70 70 7 7\n6000 9 0 0 0\n1 20 20 2 2\n5000 0 0 0 0\n' >few
+for format in vfsold vfsv1; do
+    expect "5,000 owners in a $format file" 0 '' '' quotacheck -c -u -F "$format" --input owners one
+    same "they are more than a window of $format" "$(($(stat -c %s one) > 65536))" 1
+    cp one other
+    expect "a batch of a large $format file" 0 '' '' setquota -F "$format" --names users -b --input few one
+    while read -r name bsoft bhard isoft ihard; do
+        "$run" setquota -F "$format" --names users "$name" "$bsoft" "$bhard" "$isoft" "$ihard" other
+    done <few
+    same "single changes of $format make the same file" "$(cmp one other && echo same)" same
+    same "all names of a large $format file" "$("$run" repquota -F "$format" --names users one | sed 1,4d | awk '{ print $1 }' | cksum)" \
+        "$(seq 5000 | sed 's/^/user/' | cksum)"
+    same "the end of a $format file that grew" "$("$run" repquota -v -F "$format" one | tail -n 1)" \
+        '#6000        --          0          9          0      -        0        0        0      -'
+    "$run" repquota -u -F "$format" one | sed 1,4d | awk '{ print substr($1, 2), 100, 1, substr($1, 2), 2 * $3 }' >owners.again
+    expect "a listing of a large $format file from a pipe" 0 '' '' quotacheck -u -F "$format" other < <(cat owners.again)
+    same "its sums of $format" "$("$run" repquota -u -F "$format" other | sed 1,4d | awk '{ kib += $3; inodes += $7 } END { print NR, kib, inodes }')" \
+        '5000 20000 5000'
+done
+rm one other owners owners.again users few
+
 # The greatest identifier and the greatest use of a flat file.
 expect 'the greatest flat file' 0 '' '' quotacheck -c -F vfsold q <<<'1048575 0 1 1 8589934590'
 same 'its size' "$(stat -c %s q)" 41943040
@@ -406,6 +463,46 @@ for case in 'tree vfsv1 0.0' 'flat vfsold 0.'; do
     done
     same "a $format file after a kill is the old or the new one" "$kept" 90
 done
+
+# Calls over UDP, where the program has `rquotad`: in each format, one for each kind of answer. A datagram without a reply
+# is the first of them, and counts.
+got=0
+"$run" rquotad --calls 1 --port 0 --export /home user none >out.txt 2>err.txt || got=$?
+if [ "$got" = 1 ] && command -v python3 >/dev/null; then
+    same 'an export that is not there' "$(cat err.txt)" 'quota: none: no such file'
+    for format in vfsold vfsv0 vfsv1; do
+        rm -f users members
+        printf '%s\n' '1000 1000 1 1 8' >listing
+        for kind in u:users g:members; do
+            "$run" quotacheck -c "-${kind%:*}" -F "$format" --input listing "${kind#*:}"
+            "$run" setquota "-${kind%:*}" -F "$format" 1000 100 200 10 20 "${kind#*:}"
+        done
+        port=$("$top/tests/serve_client.py" free)
+        timeout 20 "$run" rquotad --format "$format" --calls 14 --port "$port" \
+            --export /home user users --export /home group members >out.txt 2>err.txt &
+        "$top/tests/serve_client.py" ask "$port" own short typed group other root path null program version procedure \
+            set weak garbage >asked.txt 2>asked_err.txt || true
+        got=0
+        wait $! || got=$?
+        same "the status of rquotad over $format" "$got $(cat out.txt err.txt)" '0 '
+        same "what callers are told of $format" "$(cat asked.txt)" '1 quota 1024 1 200 100 4 20 10 1 0 0
+short sent
+2 quota 1024 1 200 100 4 20 10 1 0 0
+3 quota 1024 1 200 100 4 20 10 1 0 0
+4 denied
+5 quota 1024 1 0 0 0 0 0 0 0 0
+6 no quota
+7 done
+8 refused 1
+9 refused 2 1 2
+10 refused 3
+11 denied
+12 rejected 1 5
+13 refused 4'
+    done
+else
+    echo 'real_files: rquotad is not built, or python3 is not there: no call over UDP is shown' >&2
+fi
 
 # Another user than root: a file that was left behind and may not be written is not in the way. A permission that is
 # denied, to write in the folder or to read the file, is a fault.

@@ -1,0 +1,149 @@
+#!/usr/bin/env python3
+"""A client of `rquotad` over UDP on 127.0.0.1, with its own XDR (RFC 4506) and ONC RPC (RFC 5531).
+
+serve_client.py free              prints a port that is free
+serve_client.py ask PORT CASE..   sends the call of each case, and prints its reply in a line
+serve_client.py many PORT COUNT   sends so many calls, each after the reply to the one before, and prints the seconds
+serve_client.py echo PORT COUNT   answers so many datagrams by themselves, to be measured beside `rquotad`
+"""
+
+import socket
+import struct
+import sys
+import time
+
+HOST = "127.0.0.1"
+PROGRAM = 100011
+
+
+def units(*numbers):
+    """Numbers of 32 bits, the highest byte of each first."""
+    return struct.pack(">%dI" % len(numbers), *numbers)
+
+
+def opaque(data):
+    """Bytes with their number in front, filled up to a multiple of four."""
+    return units(len(data)) + data + bytes(-len(data) % 4)
+
+
+def credential(uid, gid, gids=()):
+    """A credential of AUTH_SYS from the machine `h`, and an empty verifier."""
+    body = units(0) + opaque(b"h") + units(uid, gid, len(gids), *gids)
+    return units(1) + opaque(body) + units(0, 0)
+
+
+def call(xid, arguments, program=PROGRAM, version=1, procedure=1, caller=None):
+    """A call, by default one of uid 1000."""
+    if caller is None:
+        caller = credential(1000, 1000)
+    return units(xid, 0, 2, program, version, procedure) + caller + arguments
+
+
+CASES = {
+    "own": call(1, opaque(b"/home") + units(1000)),
+    "typed": call(2, opaque(b"/home") + units(0, 1000), version=2),
+    "group": call(3, opaque(b"/home") + units(1, 1000), version=2,
+                  caller=credential(1001, 7, (8, 1000))),
+    "other": call(4, opaque(b"/home") + units(1000), caller=credential(1001, 1000)),
+    "root": call(5, opaque(b"/home") + units(5), caller=credential(0, 0)),
+    "path": call(6, opaque(b"/nowhere") + units(1000)),
+    "null": call(7, b"", procedure=0, caller=units(0, 0, 0, 0)),
+    "program": call(8, b"", program=100003),
+    "version": call(9, b"", version=3),
+    "procedure": call(10, b"", procedure=9),
+    "set": call(11, units(0) + opaque(b"/home") + units(1000, 1, 1, 0, 0, 0, 0, 0, 0), procedure=3),
+    "weak": call(12, opaque(b"/home") + units(1000), caller=units(0, 0, 0, 0)),
+    "garbage": call(13, opaque(b"/home")),
+    "old": units(14, 0, 1, PROGRAM, 1, 1) + credential(1000, 1000) + opaque(b"/home") + units(1000),
+    "short": b"abc",
+}
+
+
+def told(reply):
+    """A reply in words."""
+    numbers = struct.unpack(">%dI" % (len(reply) // 4), reply)
+    if len(numbers) < 4 or numbers[1] != 1:
+        return "no reply: %s" % reply.hex()
+    xid = numbers[0]
+    if numbers[2] == 1:
+        return "%d rejected %s" % (xid, " ".join(map(str, numbers[3:])))
+    state, rest = numbers[5], numbers[6:]
+    if state != 0:
+        return "%d refused %s" % (xid, " ".join(map(str, (state,) + rest)))
+    if not rest:
+        return "%d done" % xid
+    names = {1: "quota", 2: "no quota", 3: "denied"}
+    return " ".join([str(xid), names.get(rest[0], "unknown")] + list(map(str, rest[1:])))
+
+
+def connected(port):
+    """A socket that talks to the port."""
+    sock = socket.socket(socket.AF_INET, socket.SOCK_DGRAM)
+    sock.connect((HOST, port))
+    sock.settimeout(5)
+    return sock
+
+
+def exchange(sock, datagram):
+    """The reply to a datagram. One that no socket was there to take is sent again, for 5 seconds."""
+    until = time.monotonic() + 5
+    while True:
+        try:
+            sock.send(datagram)
+            return sock.recv(4096)
+        except ConnectionRefusedError:
+            if time.monotonic() > until:
+                raise
+            time.sleep(0.02)
+
+
+def ask(port, names):
+    sock = connected(port)
+    for name in names:
+        if name == "short":
+            sock.send(CASES[name])
+            print("short sent")
+        else:
+            print(told(exchange(sock, CASES[name])))
+
+
+def many(port, count):
+    sock = connected(port)
+    datagram = CASES["own"]
+    exchange(sock, datagram)
+    began = time.monotonic()
+    for _ in range(count - 1):
+        sock.send(datagram)
+        sock.recv(4096)
+    print("%.3f" % (time.monotonic() - began))
+
+
+def echo(port, count):
+    sock = socket.socket(socket.AF_INET, socket.SOCK_DGRAM)
+    sock.bind((HOST, port))
+    for _ in range(count):
+        datagram, sender = sock.recvfrom(4096)
+        sock.sendto(datagram, sender)
+
+
+def free():
+    sock = socket.socket(socket.AF_INET, socket.SOCK_DGRAM)
+    sock.bind((HOST, 0))
+    print(sock.getsockname()[1])
+
+
+def main(words):
+    if words == ["free"]:
+        free()
+    elif len(words) >= 3 and words[0] == "ask":
+        ask(int(words[1]), words[2:])
+    elif len(words) == 3 and words[0] == "many":
+        many(int(words[1]), int(words[2]))
+    elif len(words) == 3 and words[0] == "echo":
+        echo(int(words[1]), int(words[2]))
+    else:
+        sys.exit(__doc__)
+
+
+if __name__ == "__main__":
+    main(sys.argv[1:])
