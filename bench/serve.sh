@@ -20,16 +20,10 @@ seconds() {
     wait "$server"
 }
 
-status=0
-"$program" rquotad --calls 1 --port 0 --export /home user none 2>said || status=$?
-if [ "$status" != 1 ]; then
-    echo 'rquotad is not built: nothing is measured'
-    exit 0
-fi
 ours=$(seconds "$program")
 theirs=$(seconds echo)
 echo "rquotad: $ours s, echo: $theirs s for $calls calls; $(echo "$calls $ours" | awk '{ printf "%.0f", $1 / $2 }') a second, ratio of rates $(ratio "$theirs" "$ours")"
 if command -v strace >/dev/null; then
-    seconds strace -c -f -e trace=network,clock_gettime,poll,read -o counted "$program" >/dev/null
+    seconds strace -c -f -o counted "$program" >/dev/null
     awk -v calls="$calls" '$NF == "total" { printf "calls of the system: %.2f an answer\n", $4 / calls }' counted
 fi

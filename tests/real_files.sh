@@ -464,12 +464,9 @@ for case in 'tree vfsv1 0.0' 'flat vfsold 0.'; do
     same "a $format file after a kill is the old or the new one" "$kept" 90
 done
 
-# Calls over UDP, where the program has `rquotad`: in each format, one for each kind of answer. A datagram without a reply
-# is the first of them, and counts.
-got=0
-"$run" rquotad --calls 1 --port 0 --export /home user none >out.txt 2>err.txt || got=$?
-if [ "$got" = 1 ] && command -v python3 >/dev/null; then
-    same 'an export that is not there' "$(cat err.txt)" 'quota: none: no such file'
+# Calls over UDP: in each format, one for each kind of answer. One datagram without a reply is among them, and counts.
+expect 'an export that is not there' 1 '' 'quota: none: no such file' rquotad --calls 1 --port 0 --export /home user none
+if command -v python3 >/dev/null; then
     for format in vfsold vfsv0 vfsv1; do
         rm -f users members
         printf '%s\n' '1000 1000 1 1 8' >listing
@@ -478,10 +475,10 @@ if [ "$got" = 1 ] && command -v python3 >/dev/null; then
             "$run" setquota "-${kind%:*}" -F "$format" 1000 100 200 10 20 "${kind#*:}"
         done
         port=$("$top/tests/serve_client.py" free)
-        timeout 20 "$run" rquotad --format "$format" --calls 14 --port "$port" \
+        timeout 20 "$run" rquotad --format "$format" --calls 15 --port "$port" \
             --export /home user users --export /home group members >out.txt 2>err.txt &
         "$top/tests/serve_client.py" ask "$port" own short typed group other root path null program version procedure \
-            set weak garbage >asked.txt 2>asked_err.txt || true
+            set weak garbage old >asked.txt 2>asked_err.txt || true
         got=0
         wait $! || got=$?
         same "the status of rquotad over $format" "$got $(cat out.txt err.txt)" '0 '
@@ -498,10 +495,11 @@ short sent
 10 refused 3
 11 denied
 12 rejected 1 5
-13 refused 4'
+13 refused 4
+14 rejected 0 2 2'
     done
 else
-    echo 'real_files: rquotad is not built, or python3 is not there: no call over UDP is shown' >&2
+    echo 'real_files: python3 is not there: no call over UDP is shown' >&2
 fi
 
 # Another user than root: a file that was left behind and may not be written is not in the way. A permission that is
