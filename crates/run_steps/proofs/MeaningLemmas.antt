@@ -1,5 +1,5 @@
 -- Laws of what steps mean.
-use Rattle.std.proofs.Common.{◌≡◌, ◌⊎◌, inl, inr, ℕ, suc, ◌+◌, Bool, true, false, IsTrue, List, [], ◌∷◌, ◌++◌, length, length-append, take, Option, None, Some, Ok, refl, sym, ap, subst, ◌∙◌, append_assoc, append-nil}
+use Rattle.std.proofs.Common.{◌≡◌, ◌⊎◌, inl, inr, ℕ, suc, ◌+◌, Bool, true, false, IsTrue, List, [], ◌∷◌, ◌++◌, length, length-append, take, Option, None, Some, Ok, refl, sym, ap, subst, ◌∙◌, append_assoc}
 use Rattle.std.specs.Prelude.{◌&&◌}
 use Rattle.std.proofs.lemmas.Bool.{false≢true}
 use Rattle.std.proofs.lemmas.Option.{none-some}
@@ -16,7 +16,7 @@ use Rattle.run_steps.specs.Act.{Act, ToOut, ToErr, Answer, Change, Follows, Foll
 use Rattle.run_steps.specs.Done.{Outside}
 use Rattle.run_steps.specs.Meaning.{EndsBy, HasBegun, IsSure}
 use Rattle.run_steps.specs.OneCommand.{AreReceived, IsFirstPart, LooksFirst, ReadsToEnd, Receives, leaves_files}
-use Rattle.run_steps.specs.Steps.{Steps, Ending, Doing, Looking, Opening, Reading, Receiving, Before, InLine, Finish, InARow}
+use Rattle.run_steps.specs.Steps.{Steps, Ending, Doing, Looking, Opening, Reading, Receiving, Before, InLine}
 use Rattle.run_steps.proofs.ActLemmas.{follows-append}
 use Rattle.run_steps.proofs.SeenOnceLemmas.{seen_once}
 
@@ -206,7 +206,7 @@ first_part looks takes (InLine line steps) one other done hand acts now new refu
     first_part looks takes steps one other done hand acts now new ends.0 first same begun ends.2
 
 -- a refusal in a line is none where there is none
-none_in_line : (line : ℕ) (own : Option Refusal) → None ≡ in_line line own → own ≡ None
+pub none_in_line : (line : ℕ) (own : Option Refusal) → None ≡ in_line line own → own ≡ None
 none_in_line line None is = refl
 none_in_line line (Some refusal) is = absurd (none-some _ is)
 
@@ -311,55 +311,3 @@ received count (Before one others) old acts new receives (inr passed) =
     }
 received count (InLine line steps) old acts new receives by =
     received count steps old acts new receives (subst (λ (r : Option Refusal). EndsBy steps old acts new r) (none_in_line line by.0 by.1) by.2)
-
--- Commands in a row.
-
--- a row has begun where its first commands ended, and the next one has begun from what they left
-pub row_begun : (first : List Steps) (next : Steps) (others : List Steps) (old : Outside) (acts : List Act) (middle : Outside) (done hand : List Act) (now : Outside)
-    → EndsBy (InARow first) old acts middle None → HasBegun next middle done hand now → HasBegun (InARow (first ++ next ∷ others)) old (acts ++ done) hand now
-row_begun [] next others old acts middle done hand now ends begun =
-    inl (subst (λ (a : List Act). HasBegun next old (a ++ done) hand now) (sym ends.acts_none) (subst (λ (o : Outside). HasBegun next o done hand now) ends.same begun))
-row_begun (one ∷ first) next others old acts middle done hand now (inl stopped) begun = absurd (none-some stopped.0 stopped.1)
-row_begun (one ∷ first) next others old acts middle done hand now (inr passed) begun = inr (
-  passed.0,
-  passed.1,
-  passed.2 ++ done,
-  ap (λ (a : List Act). a ++ done) passed.3 ∙ append_assoc passed.0 passed.2 done,
-  passed.4,
-  row_begun first next others passed.1 passed.2 middle done hand now passed.5 begun,
-)
-
--- a row is sure where each of its commands is, in all that the ones before it may leave
-pub row_sure : (first : List Steps) (others : List Steps) (old : Outside) → IsSure (InARow first) old
-    → ((acts : List Act) (middle : Outside) → EndsBy (InARow first) old acts middle None → IsSure (InARow others) middle) → IsSure (InARow (first ++ others)) old
-row_sure [] others old sure later = later [] old (record { acts_none = refl; same = refl; ends = refl })
-row_sure (one ∷ first) others old sure later = (
-  sure.0,
-  λ acts middle ends. row_sure first others middle (sure.1 acts middle ends) (λ more last by. later (acts ++ more) last (inr (acts, middle, more, refl, ends, by))),
-)
-
--- Two commands, each in its line of a script.
-
--- what comes last in a row ends it
-last_ends : (steps : Steps) (old : Outside) (acts : List Act) (new : Outside) (refusal : Option Refusal) → EndsBy steps old acts new refusal → EndsBy (Before steps Finish) old acts new refusal
-last_ends steps old acts new None ends = inr (acts, new, [], sym (append-nil acts), ends, record { acts_none = refl; same = refl; ends = refl })
-last_ends steps old acts new (Some refusal) ends = inl (refusal, refl, ends)
-
-pub lines_both : (one other : Steps) (line next : ℕ) (old middle new : Outside) (first rest : List Act) (refusal : Option Refusal) → EndsBy one old first middle None → EndsBy other middle rest new refusal
-    → EndsBy (InARow (InLine line one ∷ InLine next other ∷ [])) old (first ++ rest) new (in_line next refusal)
-lines_both one other line next old middle new first rest refusal ends others =
-    inr (first, middle, rest, refl, (None, refl, ends), last_ends (InLine next other) middle rest new (in_line next refusal) (refusal, refl, others))
-
-pub lines_stopped : (one other : Steps) (line next : ℕ) (old new : Outside) (acts : List Act) (refusal : Refusal) → EndsBy one old acts new (Some refusal)
-    → EndsBy (InARow (InLine line one ∷ InLine next other ∷ [])) old acts new (in_line line (Some refusal))
-lines_stopped one other line next old new acts refusal ends = inl (_, refl, (Some refusal, refl, ends))
-
-pub lines_sure : (one other : Steps) (line next : ℕ) (old : Outside) → IsSure one old → ((acts : List Act) (middle : Outside) → EndsBy one old acts middle None → IsSure other middle)
-    → IsSure (InARow (InLine line one ∷ InLine next other ∷ [])) old
-lines_sure one other line next old sure later = (
-  sure,
-  λ acts middle ends. (
-    later acts middle (subst (λ (r : Option Refusal). EndsBy one old acts middle r) (none_in_line line ends.0 ends.1) ends.2),
-    λ more last by. refl,
-  ),
-)

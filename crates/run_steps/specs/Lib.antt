@@ -1,12 +1,15 @@
 pub mod Act
 pub mod Changing
 pub mod Done
+pub mod InputLine
 pub mod Meaning
 pub mod Naming
 pub mod Numbers
 pub mod OneCommand
 pub mod Opening
+pub mod Row
 pub mod Run
+pub mod SameViews
 pub mod Showing
 pub mod Steps
 pub mod Taking

@@ -7,7 +7,9 @@ ghost use Rattle.run_steps.specs.Act.{Act, Follows};
 ghost use Rattle.run_steps.specs.Done.{AreDoneInPart, Outside, RunSeen, RunTells, outside_of};
 ghost use Rattle.run_steps.specs.Meaning.{EndsBy, HasBegun, IsSure};
 ghost use Rattle.run_steps.specs.OneCommand.{AreReceived, IsFirstPart, LooksFirst, ReadsToEnd, Receives};
+ghost use Rattle.run_steps.specs.Row.{IsBegunAt, IsRefusedAtOne};
 ghost use Rattle.run_steps.specs.Run.{IsDoneInPart};
+ghost use Rattle.run_steps.specs.SameViews.{MeetsSame};
 ghost use Rattle.run_steps.specs.Steps.{InARow, InLine, Steps};
 
 /// What has ended has begun, with all its acts, and none is at hand.
@@ -45,12 +47,23 @@ pub fn steps_are_sure_where_no_end_has_a_refusal()
         → LooksFirst true true steps → EndsBy steps old acts new None → IsSure steps old }
 {}
 
-/// Commands in a row: such a list has begun where its first commands ended and the next one has begun from what they left, and
-/// it is sure where each of its commands is, in all that those before it may leave.
+/// Commands in a row: such a list has begun exactly where its first commands ended and the next one has begun from what they left.
+/// It ends as its first commands and then the others do; the first of its commands that is refused ends it, and nothing else does.
+/// It is sure where each of its commands is, in all that those before it may leave.
 pub fn commands_in_a_row()
     ensures begun { (first : List Steps) (next : Steps) (others : List Steps) (old middle now : Outside) (acts done hand : List Act)
         → EndsBy (InARow first) old acts middle None → HasBegun next middle done hand now
         → HasBegun (InARow (first ++ next ∷ others)) old (acts ++ done) hand now }
+    ensures only_begun { (list : List Steps) (old now : Outside) (done hand : List Act)
+        → HasBegun (InARow list) old done hand now → IsBegunAt list old done hand now }
+    ensures ends { (first others : List Steps) (old middle new : Outside) (acts more : List Act) (refusal : Option Refusal)
+        → EndsBy (InARow first) old acts middle None → EndsBy (InARow others) middle more new refusal
+        → EndsBy (InARow (first ++ others)) old (acts ++ more) new refusal }
+    ensures refused { (first : List Steps) (one : Steps) (others : List Steps) (old middle new : Outside) (acts own : List Act) (refusal : Refusal)
+        → EndsBy (InARow first) old acts middle None → EndsBy one middle own new (Some refusal)
+        → EndsBy (InARow (first ++ one ∷ others)) old (acts ++ own) new (Some refusal) }
+    ensures only_refused { (list : List Steps) (old new : Outside) (acts : List Act) (refusal : Refusal)
+        → EndsBy (InARow list) old acts new (Some refusal) → IsRefusedAtOne list old acts new refusal }
     ensures sure { (first others : List Steps) (old : Outside) → IsSure (InARow first) old
         → ((acts : List Act) (middle : Outside) → EndsBy (InARow first) old acts middle None → IsSure (InARow others) middle)
         → IsSure (InARow (first ++ others)) old }
@@ -80,4 +93,16 @@ pub fn an_input_is_read_to_its_end()
 pub fn so_many_datagrams_are_received()
     ensures { (count : ℕ) (steps : Steps) (old new : Outside) (acts : List Act)
         → Receives count steps → EndsBy steps old acts new None → AreReceived count old.datagrams new.datagrams }
+{}
+
+/// Steps of one command that see the same in two worlds do the same: however they end in each, the acts and the refusal are the
+/// same; and as they end in one, so they may end in the other.
+pub fn steps_that_see_the_same_do_the_same()
+    ensures acts { (steps : Steps) (one other new to : Outside) (acts more : List Act) (refusal stop : Option Refusal)
+        → LooksFirst true true steps → MeetsSame steps one other
+        → EndsBy steps one acts new refusal → EndsBy steps other more to stop
+        → (acts ≡ more) × (refusal ≡ stop) }
+    ensures other { (steps : Steps) (one other new : Outside) (acts : List Act) (refusal : Option Refusal)
+        → LooksFirst true true steps → MeetsSame steps one other
+        → EndsBy steps one acts new refusal → (to : Outside) × EndsBy steps other acts to refusal }
 {}

@@ -4,12 +4,14 @@
 //! The one promise: each helper meets its step.
 #![tactic(auto)]
 
+mod input_line;
 mod invocation;
 pub mod laws;
 mod naming;
 mod numbers;
 mod opening;
 
+pub use input_line::says_nothing;
 pub use invocation::Invocation;
 pub use naming::read_names;
 pub use numbers::{read_grace, read_identifier, read_limits, read_time};

@@ -1,4 +1,4 @@
-use Rattle.run_steps.proofs.MeaningLemmas.{lines_both, lines_stopped, lines_sure}
+use Rattle.run_steps.proofs.InARowLemmas.{lines_both, lines_stopped, lines_sure}
 use Rattle.run_steps.proofs.laws.two_lines_of_a_script.Goals as goal
 
 pub returns-clause-both : goal.returns-clause-both

@@ -1,0 +1,80 @@
+-- Two worlds in which the steps of one command see the same: the files that they open are seen as the same values, or are refused for
+-- the same causes, and from looks at the files as they are the same steps come.
+use Rattle.std.specs.Prelude.{◌≡◌, ◌⊎◌, ℕ, List, ◌∷◌, Option, IfSome, is_some, Result, Ok, Err, ⊤}
+use Rattle.quota_types.specs.declared.file_kind.Format.{Format}
+use Rattle.quota_types.specs.declared.file_kind.Kind.{Kind}
+use Rattle.quota_blocks.specs.QuotaValue.{QuotaValue}
+use Rattle.quota_blocks.specs.Seen.{Datagram}
+use Rattle.quota_blocks.specs.World.{World}
+use Rattle.quota_blocks.specs.declared.quota_file.OpenFault.{OpenFault}
+use Rattle.quota_blocks.specs.declared.quota_file.OpenFault.TheVariants.{Damage as Damaged}
+use Rattle.quota_map.specs.View.{IsView}
+use Rattle.run_steps.specs.Done.{Outside}
+use Rattle.run_steps.specs.Steps.{Steps, Ending, Doing, Looking, Opening, Reading, Receiving, Before, InLine}
+
+-- what is seen of a file is no damage: it is a value, or another refusal
+abbrev pub IsNoDamage : Result QuotaValue OpenFault → Type 0
+IsNoDamage (Err (Damaged damage)) = ⊥
+IsNoDamage _ = ⊤
+
+-- Two files, of which either may be absent, are seen alike by whoever opens them for a kind, in the format that is asked for: as the
+-- same value, or as refused for the same cause, which is no damage.
+pub record IsSeenAlike (kind : Kind) (asked : Option Format) (one other : Option (List ℕ)) : Type 0 where
+  pub view : Result QuotaValue OpenFault
+  pub undamaged : IsNoDamage view
+  pub in_one : IsView one kind asked view
+  pub in_other : IsView other kind asked view
+
+-- a quota file that is opened: its name, whose usage it limits, and the format that is asked for
+pub record FileAsked : Type 0 where
+  pub kind : Kind
+  pub asked : Option Format
+  pub name : List ℕ
+
+-- such a file is seen alike in two worlds
+abbrev pub IsFileAlike : (one other : World) → FileAsked → Type 0
+IsFileAlike one other file = IsSeenAlike file.kind file.asked (one file.name) (other file.name)
+
+-- a file that is read whole, where its name is given, is the same in two worlds: it has the same bytes, or is in neither
+abbrev pub IsSameFile : (one other : World) → Option (List ℕ) → Type 0
+IsSameFile one other named = IfSome named (λ (name : List ℕ). one name ≡ other name)
+
+-- a file of a name, where one is given, is in both worlds or in neither
+abbrev pub IsThereAlike : (one other : World) → Option (List ℕ) → Type 0
+IsThereAlike one other named = IfSome named (λ (name : List ℕ). is_some (one name) ≡ is_some (other name))
+
+-- Steps of one command come to open a file, from what is outside at their start: its opening is met behind the values that are seen of
+-- the files before it, behind the input and behind the datagrams. The files are those at the start, since steps of one command look
+-- first. Commands one after another are none.
+abbrev pub Opens : Steps → Outside → FileAsked → Type 0
+Opens (Ending stated) old file = ⊥
+Opens (Doing act next) old file = Opens next old file
+Opens (Looking next) old file = Opens (next old.files) old file
+Opens (Opening kind asked name next) old file =
+    (file ≡ record { kind = kind; asked = asked; name = name })
+    ⊎ ((value : QuotaValue) × IsView (old.files name) kind asked (Ok value) × Opens (next value) old file)
+Opens (Reading whole next) old file = Opens (next old.input) old file
+Opens (Receiving next) old file =
+    (datagram : Datagram) × (left : List Datagram) × (old.datagrams ≡ datagram ∷ left) × Opens (next datagram) (record old { datagrams = left }) file
+Opens (Before first others) old file = ⊥
+Opens (InLine line steps) old file = Opens steps old file
+
+-- From each look of one command at the files as they are the same steps come in two worlds, whatever is seen of files that are opened,
+-- of the input and of the datagrams. Commands one after another are none.
+abbrev pub LooksAlike : (one other : World) → Steps → Type 0
+LooksAlike one other (Ending stated) = ⊤
+LooksAlike one other (Doing act next) = LooksAlike one other next
+LooksAlike one other (Looking next) = (next one ≡ next other) × LooksAlike one other (next one)
+LooksAlike one other (Opening kind asked name next) = (value : QuotaValue) → LooksAlike one other (next value)
+LooksAlike one other (Reading whole next) = (bytes : List ℕ) → LooksAlike one other (next bytes)
+LooksAlike one other (Receiving next) = (datagram : Datagram) → LooksAlike one other (next datagram)
+LooksAlike one other (Before first others) = ⊥
+LooksAlike one other (InLine line steps) = LooksAlike one other steps
+
+-- Steps of one command meet the same outside, from the one and from the other: the same steps come from their looks at the files, each
+-- file that they come to open is seen alike, and the standard input and the datagrams are the same.
+pub record MeetsSame (steps : Steps) (one other : Outside) : Type 0 where
+  pub looks : LooksAlike one.files other.files steps
+  pub opened : (file : FileAsked) → Opens steps one file → IsFileAlike one.files other.files file
+  pub input : other.input ≡ one.input
+  pub datagrams : other.datagrams ≡ one.datagrams
