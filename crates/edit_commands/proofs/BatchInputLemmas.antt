@@ -19,8 +19,9 @@ use Rattle.refusals.specs.declared.cause.Cause.{Cause}
 use Rattle.refusals.specs.declared.cause.Cause.TheVariants.{TooLarge, LongLine, UnknownName, BadNumber}
 use Rattle.refusals.specs.declared.reason.Refusal.{Refusal}
 use Rattle.refusals.specs.Outcome.{Outcome, Passed, Refused, and_then}
-use Rattle.edit_commands.specs.Batch.{Asked, IsOfLine, LineMayRefuse, asks_then, ends_with, five_of, limits_asked, line_asks, line_named, line_outcome, lines_ask, read_at, read_then, refusal_read, says_nothing, words_ask}
+use Rattle.edit_commands.specs.Batch.{Asked, IsOfLine, LineMayRefuse, asks_then, ends_with, five_of, limits_asked, line_asks, line_named, line_outcome, lines_ask, read_at, read_then, refusal_read, words_ask}
 use Rattle.refusals.specs.Refusals.{refusal_of, stands_in_line}
+use Rattle.run_steps.specs.InputLine.{says_nothing}
 use Rattle.run_steps.specs.Numbers.{identifier_of, known, limit_read, limits_read, number_or_refused}
 
 -- What was read so far.
@@ -154,7 +155,7 @@ pub unnamed : (number : ℕ) (cause : Cause) → stands_in_line cause ≡ false 
 unnamed number cause untrue = named_if (stands_in_line cause) number untrue
 
 -- an outcome that is refused only by a refusal that a line may have
-abbrev OnlyOfLine : {V : Type 0} → List NameLine → List ℕ → Outcome V → Type 0
+abbrev pub OnlyOfLine : {V : Type 0} → List NameLine → List ℕ → Outcome V → Type 0
 OnlyOfLine names place (Passed value) = ⊤
 OnlyOfLine names place (Refused refusal) = IsOfLine names place refusal
 
@@ -171,7 +172,7 @@ asks_if names place true outcome may = tt
 asks_if names place false outcome may = may
 
 -- a line is refused only by a refusal that a line may have
-asks_line : (names : List NameLine) (place : List ℕ) (number : ℕ) (line : List ℕ) → OnlyOfLine names place (line_asks names place number line)
+pub asks_line : (names : List NameLine) (place : List ℕ) (number : ℕ) (line : List ℕ) → OnlyOfLine names place (line_asks names place number line)
 asks_line names place number line =
     asks_if names place (says_nothing line) (words_ask names place number (five_of (words_of line))) (words_line names place number (five_of (words_of line)) (five_line names place number (words_of line)))
 

@@ -2,8 +2,11 @@ pub mod BatchInputLemmas
 pub mod BatchLemmas
 pub mod EditFileLemmas
 pub mod EditLemmas
-pub mod RefusedEditLemmas
 pub mod FormLemmas
+pub mod FullLemmas
+pub mod LimitsLemmas
+pub mod LookLemmas
 pub mod MeaningLemmas
+pub mod RefusedEditLemmas
 pub mod WarningLemmas
 pub mod WordLemmas

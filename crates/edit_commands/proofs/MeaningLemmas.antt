@@ -1,7 +1,7 @@
 -- What the steps of the commands of this crate mean: that they look first, that they read an input to its end, and when they are
 -- sure to succeed.
-use Rattle.std.proofs.Common.{◌≡◌, ◌⊎◌, inl, inr, ℕ, Bool, true, false, IsTrue, List, [], ◌∷◌, ◌++◌, Option, None, Some, Ok, Result, refl, sym, ap, subst, ◌∙◌}
-use Rattle.std.specs.Prelude.{⊤, is_none}
+use Rattle.std.proofs.Common.{◌≡◌, ◌⊎◌, inl, inr, ℕ, Bool, true, IsTrue, List, [], ◌∷◌, ◌++◌, Option, None, Some, Ok, Result, refl, sym, ap, subst, ◌∙◌}
+use Rattle.std.specs.Prelude.{is_none}
 use Rattle.quota_types.specs.declared.file_kind.Kind.{Kind}
 use Rattle.quota_types.specs.declared.file_kind.Format.{Format}
 use Rattle.quota_types.specs.declared.field.Field.{Field}
@@ -32,6 +32,7 @@ use Rattle.edit_commands.specs.declared.edit.FileEdit.TheVariants.{Limits}
 use Rattle.edit_commands.specs.Apply.{ApplySteps, FormSteps, form_step}
 use Rattle.edit_commands.specs.Batch.{Applying, Asked, BatchSteps, ReadSteps, applied, batch_step, does_then, edit_of, first_of, is_to_end, met_at, value_left}
 use Rattle.edit_commands.specs.Edits.{EditSteps, FileEditSteps, changed, edit_step, is_too_large, said_acts, warnings}
+use Rattle.edit_commands.specs.Room.{AllFit, Fits}
 use Rattle.edit_commands.specs.EditWords.{edit_meant, edit_read, names_wanted, skipped_by}
 use Rattle.edit_commands.specs.Print.{PrintSteps, form_on}
 use Rattle.edit_commands.proofs.EditLemmas.{Saying, change_acts, written_passes}
@@ -93,16 +94,6 @@ batch_reads common file invocation = λ files.
     let done = applied file invocation.now asked.edits value in ended_or_stopped done.acts done.refusal asked.refusal))
 
 -- They are sure.
-
--- an edit of a value fits, and leaves another one: the format has room for its fields, and, where something is to be done, a file
--- has blocks for it
-abbrev pub Fits : Edit → (value new : QuotaValue) → Type 0
-Fits edit value new = (edit.edited value ≡ Ok new) × (edit.is_idle value ≡ false → is_too_large edit new ≡ false)
-
--- edits of lines fit, each in the value that the one before left
-abbrev pub AllFit : ℕ → List LineEdit → QuotaValue → Type 0
-AllFit now [] value = ⊤
-AllFit now (line ∷ lines) value = (new : QuotaValue) × Fits (edit_of line now) value new × AllFit now lines new
 
 -- the step of an edit that fits passes
 step_fits : (file : List ℕ) (edit : Edit) (value new : QuotaValue) → Fits edit value new → edit_step file edit value ≡ Passed (change_acts file new (edit.is_idle value))

@@ -1,6 +1,6 @@
 -- `setquota -b`: new limits of many identifiers, a line of an input each. Source: the manual page of setquota; what stands in
 -- a line, and that the edits of the lines before a refused one stay, is this project's own.
-use Rattle.std.specs.Prelude.{◌≡◌, ◌⊎◌, ℕ, ◌+◌, ◌==◌, Bool, true, false, ◌||◌, if◌then◌else◌, List, [], ◌∷◌, ◌++◌, Option, Some, None, is_none, Result, Ok, Err}
+use Rattle.std.specs.Prelude.{◌≡◌, ◌⊎◌, ℕ, ◌+◌, Bool, true, false, if◌then◌else◌, List, [], ◌∷◌, ◌++◌, Option, Some, None, is_none, Result, Ok, Err}
 use Rattle.std.specs.List.{list_all}
 use Rattle.std.specs.Str.{is_utf8}
 use Rattle.id_names.specs.NamesFile.{NameLine}
@@ -8,7 +8,7 @@ use Rattle.quota_types.specs.declared.field.Field.{Field}
 use Rattle.quota_types.specs.declared.file_kind.Format.{Format}
 use Rattle.quota_blocks.specs.InputLines.{InputLines, NoLine, LineThen, LongNext, PastNext, input_lines}
 use Rattle.quota_blocks.specs.QuotaValue.{QuotaValue}
-use Rattle.quota_blocks.specs.Words.{words_eq, words_of}
+use Rattle.quota_blocks.specs.Words.{words_of}
 use Rattle.set_edit.specs.Editing.{Edit}
 use Rattle.set_edit.specs.Edits.{limits_edit}
 use Rattle.set_edit.specs.declared.limits.Limits.{Limits as FourLimits}
@@ -24,6 +24,7 @@ use Rattle.refusals.specs.declared.reason.Refusal.{Refusal}
 use Rattle.command_words.specs.declared.command.Common.{Common}
 use Rattle.run_steps.specs.declared.invocation.Invocation.{Invocation}
 use Rattle.run_steps.specs.Act.{Act}
+use Rattle.run_steps.specs.InputLine.{says_nothing}
 use Rattle.run_steps.specs.Naming.{MayBeNames, NamesMayRefuse}
 use Rattle.run_steps.specs.Opening.{MayRefuseOpening}
 use Rattle.refusals.specs.Outcome.{Outcome, Passed, Refused, and_then}
@@ -51,15 +52,6 @@ met_at number (Passed value) = Passed value
 met_at number (Refused refusal) = Refused (at_line number refusal)
 
 -- What a line says.
-
--- the first byte of a comment is `#`
-abbrev pub is_comment : List ℕ → Bool
-is_comment [] = false
-is_comment (byte ∷ line) = byte == 35
-
--- a line that is passed over is a comment, or has no words
-abbrev pub says_nothing : List ℕ → Bool
-says_nothing line = is_comment line || words_eq (words_of line) []
 
 -- The five words of a line, that for an identifier and those for its four limits. Each has to be UTF-8, and so is the line
 -- then, since a blank is no part of a longer character.

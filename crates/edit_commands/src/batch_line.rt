@@ -1,13 +1,13 @@
 ghost use Rattle.std.specs.Prelude.{◌≡◌, map, true, false, IfOk, MatchOption, MatchResult};
 ghost use Rattle.std.specs.Str.{is_utf8};
 ghost use Rattle.quota_blocks.specs.Words.{words_of};
-ghost use Rattle.edit_commands.specs.Batch.{at_line, five_of, is_comment, limits_asked, line_asks, line_named, line_outcome, read_at, says_nothing};
+ghost use Rattle.edit_commands.specs.Batch.{at_line, five_of, limits_asked, line_asks, line_named, line_outcome, read_at};
 ghost use Rattle.refusals.specs.Outcome.{Passed, Refused};
 
 use id_names::Names;
-use quota_blocks::{has_no_word, words};
+use quota_blocks::words;
 use refusals::{Cause, Place, Refusal, Word};
-use run_steps::{read_identifier, read_limits};
+use run_steps::{read_identifier, read_limits, says_nothing};
 use set_edit::Limits;
 use std::alloc::{AllocError, Global};
 
@@ -66,23 +66,6 @@ pub fn read_edit_line(
             let place = Word::copy_of(alloc, place)?;
             Ok(LineRead::Refused(Refusal::of(Cause::BadLine(number), place)))
         }
-    }
-}
-
-/// Whether a line is passed over: it is a comment, or has no words.
-fn says_nothing(line: &[u8]) -> bool
-    ensures { result ≡ says_nothing line.now }
-{
-    is_comment(line) || has_no_word(line)
-}
-
-/// Whether a line is a comment.
-fn is_comment(line: &[u8]) -> bool
-    ensures { result ≡ is_comment line.now }
-{
-    match line.first() {
-        Some(byte) => *byte == b'#',
-        None => false,
     }
 }
 

@@ -11,6 +11,7 @@ mod edit;
 mod edit_words;
 mod edits;
 mod form_input;
+pub mod laws;
 mod print;
 mod warning;
 

@@ -1,0 +1,110 @@
+-- What the commands of this crate look at: that their looks at the files are alike in two worlds, and which file they come to open.
+use Rattle.std.proofs.Common.{◌≡◌, ℕ, true, List, [], ◌∷◌, ◌++◌, Option, None, Some, refl}
+use Rattle.quota_types.specs.declared.file_kind.Kind.{Kind}
+use Rattle.quota_types.specs.declared.file_kind.Format.{Format}
+use Rattle.quota_blocks.specs.QuotaValue.{QuotaValue}
+use Rattle.quota_blocks.specs.World.{World}
+use Rattle.id_names.specs.NamesFile.{NameLine}
+use Rattle.command_words.specs.declared.command.Common.{Common}
+use Rattle.run_steps.specs.Act.{Act, ToOut}
+use Rattle.run_steps.specs.Done.{Outside}
+use Rattle.run_steps.specs.Numbers.{identifier_of}
+use Rattle.run_steps.specs.SameViews.{FileAsked, IsSameFile, LooksAlike, Opens}
+use Rattle.run_steps.specs.Showing.{ShowingSteps}
+use Rattle.run_steps.specs.Steps.{Doing, DoingAll, Finish, Opening, Steps, Then}
+use Rattle.run_steps.specs.declared.invocation.Invocation.{Invocation}
+use Rattle.run_steps.proofs.LookLemmas.{alike_done, alike_naming, alike_taking, alike_then, opens_done, opens_naming, opens_opening, opens_taking, opens_then}
+use Rattle.edit_commands.specs.declared.edit.EditWords.{EditWords}
+use Rattle.edit_commands.specs.declared.edit.FileEdit.{FileEdit}
+use Rattle.edit_commands.specs.declared.edit.FileEdit.TheVariants.{Limits}
+use Rattle.edit_commands.specs.Apply.{ApplySteps, FormSteps, form_step}
+use Rattle.edit_commands.specs.Batch.{Applying, Asked, BatchSteps, ReadSteps, applied, batch_step, first_of, is_to_end}
+use Rattle.edit_commands.specs.Edits.{EditSteps, FileEditSteps, edit_step, said_acts, warnings}
+use Rattle.edit_commands.specs.EditWords.{edit_meant, edit_read, names_wanted, skipped_by}
+use Rattle.edit_commands.specs.Print.{PrintSteps, form_on}
+use Rattle.set_edit.specs.declared.limits.Limits.{Limits as FourLimits}
+
+-- Their looks are alike.
+
+file_edit_alike : (one other : World) (kind : Kind) (asked : Option Format) (edit : FileEdit) (file : List ℕ) (invocation : Invocation) → LooksAlike one other (FileEditSteps kind asked edit file invocation)
+file_edit_alike one other kind asked edit file invocation = λ value.
+    alike_then one other (edit_step file (edit_meant edit invocation.now) value) _
+    (λ acts. alike_done one other (acts ++ said_acts (warnings invocation.line (skipped_by edit value))) None)
+
+pub edit_alike : (one other : World) (common : Common) (words : EditWords) (file : List ℕ) (invocation : Invocation) → IsSameFile one other (names_wanted words common.names)
+    → LooksAlike one other (EditSteps common words file invocation)
+edit_alike one other common words file invocation names = alike_naming one other common.kind (names_wanted words common.names) _ names (λ lines.
+    alike_then one other (edit_read lines words) _ (λ edit. file_edit_alike one other common.kind common.format edit file invocation))
+
+pub print_alike : (one other : World) (common : Common) (word file : List ℕ) (invocation : Invocation) → IsSameFile one other common.names → LooksAlike one other (PrintSteps common word file invocation)
+print_alike one other common word file invocation names = alike_naming one other common.kind common.names _ names (λ lines.
+    alike_then one other (identifier_of lines word) _ (λ id value. tt))
+
+pub apply_alike : (one other : World) (common : Common) (from : Option (List ℕ)) (word file : List ℕ) (invocation : Invocation) → IsSameFile one other common.names → IsSameFile one other from
+    → LooksAlike one other (ApplySteps common from word file invocation)
+apply_alike one other common from word file invocation names input = alike_naming one other common.kind common.names _ names (λ lines.
+    alike_then one other (identifier_of lines word) _ (λ id.
+    alike_taking one other from (λ limits. true) (form_step common.kind lines file id from) _ input (λ limits. file_edit_alike one other common.kind common.format (Limits id limits) file invocation)))
+
+pub batch_alike : (one other : World) (common : Common) (from : Option (List ℕ)) (file : List ℕ) (invocation : Invocation) → IsSameFile one other common.names → IsSameFile one other from
+    → LooksAlike one other (BatchSteps common from file invocation)
+batch_alike one other common from file invocation names input = alike_naming one other common.kind common.names _ names (λ lines value.
+    alike_taking one other from is_to_end (batch_step lines from) _ input (λ asked.
+    let done = applied file invocation.now asked.edits value in alike_done one other done.acts (first_of done.refusal asked.refusal)))
+
+-- The file that they open.
+
+-- it is the one of this name, for the kind and in the format that are asked for
+abbrev pub IsFileOf : Common → List ℕ → FileAsked → Type 0
+IsFileOf common file opened = opened ≡ record { kind = common.kind; asked = common.format; name = file }
+
+-- what comes of an edit
+abbrev Edited : FileEdit → List ℕ → Invocation → QuotaValue → List Act → Steps
+Edited edit file invocation value acts = DoingAll (acts ++ said_acts (warnings invocation.line (skipped_by edit value))) Finish
+
+file_edit_opens : (common : Common) (edit : FileEdit) (file : List ℕ) (invocation : Invocation) (old : Outside) (opened : FileAsked) → Opens (FileEditSteps common.kind common.format edit file invocation) old opened
+    → IsFileOf common file opened
+file_edit_opens common edit file invocation old opened opens =
+    let is = IsFileOf common file opened in
+    let edited = λ (value : QuotaValue). edit_step file (edit_meant edit invocation.now) value in
+    opens_opening is common.kind common.format file (λ (value : QuotaValue). Then (edited value) (Edited edit file invocation value)) old opened (λ same. same) (λ value.
+    opens_then is (edited value) (Edited edit file invocation value) old opened (λ acts.
+    opens_done is (acts ++ said_acts (warnings invocation.line (skipped_by edit value))) None old opened)) opens
+
+pub edit_opens : (common : Common) (words : EditWords) (file : List ℕ) (invocation : Invocation) (old : Outside) (opened : FileAsked) → Opens (EditSteps common words file invocation) old opened → IsFileOf common file opened
+edit_opens common words file invocation old opened opens =
+    let is = IsFileOf common file opened in
+    let next = λ (edit : FileEdit). FileEditSteps common.kind common.format edit file invocation in
+    opens_naming is common.kind (names_wanted words common.names) (λ (lines : List NameLine). Then (edit_read lines words) next) old opened (λ lines.
+    opens_then is (edit_read lines words) next old opened (λ edit. file_edit_opens common edit file invocation old opened)) opens
+
+pub print_opens : (common : Common) (word file : List ℕ) (invocation : Invocation) (old : Outside) (opened : FileAsked) → Opens (PrintSteps common word file invocation) old opened → IsFileOf common file opened
+print_opens common word file invocation old opened opens =
+    let is = IsFileOf common file opened in
+    let next = λ (lines : List NameLine) (id : ℕ). ShowingSteps common.kind common.format file (form_on common.kind lines file id) in
+    opens_naming is common.kind common.names (λ (lines : List NameLine). Then (identifier_of lines word) (next lines)) old opened (λ lines.
+    opens_then is (identifier_of lines word) (next lines) old opened (λ id.
+    opens_opening is common.kind common.format file (λ (value : QuotaValue). Doing (ToOut (form_on common.kind lines file id value)) Finish) old opened (λ same. same) (λ value none. absurd none))) opens
+
+pub apply_opens : (common : Common) (from : Option (List ℕ)) (word file : List ℕ) (invocation : Invocation) (old : Outside) (opened : FileAsked) → Opens (ApplySteps common from word file invocation) old opened
+    → IsFileOf common file opened
+apply_opens common from word file invocation old opened opens =
+    let is = IsFileOf common file opened in
+    let next = λ (lines : List NameLine) (id : ℕ). FormSteps common.kind common.format lines from id file invocation in
+    opens_naming is common.kind common.names (λ (lines : List NameLine). Then (identifier_of lines word) (next lines)) old opened (λ lines.
+    opens_then is (identifier_of lines word) (next lines) old opened (λ id.
+    opens_taking is from (λ limits. true) (form_step common.kind lines file id from) (λ (limits : FourLimits). FileEditSteps common.kind common.format (Limits id limits) file invocation) old opened (λ limits.
+    file_edit_opens common (Limits id limits) file invocation old opened))) opens
+
+applying_opens : (holds : Type 0) (file : List ℕ) (now : ℕ) (value : QuotaValue) (asked : Asked) (old : Outside) (opened : FileAsked) → Opens (Applying file now value asked) old opened → holds
+applying_opens holds file now value asked old opened opens =
+    let done = applied file now asked.edits value in opens_done holds done.acts (first_of done.refusal asked.refusal) old opened opens
+
+pub batch_opens : (common : Common) (from : Option (List ℕ)) (file : List ℕ) (invocation : Invocation) (old : Outside) (opened : FileAsked) → Opens (BatchSteps common from file invocation) old opened → IsFileOf common file opened
+batch_opens common from file invocation old opened opens =
+    let is = IsFileOf common file opened in
+    let next = λ (lines : List NameLine). Opening common.kind common.format file (ReadSteps lines from file invocation.now) in
+    opens_naming is common.kind common.names next old opened (λ lines.
+    opens_opening is common.kind common.format file (ReadSteps lines from file invocation.now) old opened (λ same. same) (λ value.
+    opens_taking is from is_to_end (batch_step lines from) (Applying file invocation.now value) old opened (λ asked.
+    applying_opens is file invocation.now value asked old opened))) opens
