@@ -96,7 +96,7 @@ sorted_pairs low (entry ∷ list) ascends =
     (below_pairs entry.id (suc entry.id) list ascends.1 (omega arith)) (sorted_pairs (suc entry.id) list ascends.1)
 
 -- the entries of its records are those of the list
-pairs_listed : (list : List Entry) → IsStrictlyIncreasing (ids_of list) → entries (records_of list) ≡ pairs_of list
+pub pairs_listed : (list : List Entry) → IsStrictlyIncreasing (ids_of list) → entries (records_of list) ≡ pairs_of list
 pairs_listed list ascends =
     same_entries nat_cmp nat_cmp_total nat_cmp-IsAntisymmetric (entries (records_of list)) (pairs_of list) (entries_sorted (records_of list))
     (sorted_pairs 0 list (ascends_of (ids_of list) ascends))

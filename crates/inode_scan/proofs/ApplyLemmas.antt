@@ -1,6 +1,6 @@
 -- The records that identifiers are to have, one after another.
-use Rattle.std.proofs.Common.{◌≡◌, ◌≢◌, ℕ, zero, suc, ◌+◌, ◌<◌, ◌≤◌, Bool, true, false, cond, List, [], ◌∷◌, ◌++◌, map, get_or, Option, Some, None, Ok, Err, refl, sym, ap, subst, ◌∙◌, inl, inr, arith, append-nil, append_assoc}
-use Rattle.std.specs.Prelude.{◌==◌, ◌||◌, ◌⊎◌, min, is_some, IfSome, IsSome, slice_get, All}
+use Rattle.std.proofs.Common.{◌≡◌, ◌≢◌, ℕ, suc, ◌+◌, ◌<◌, ◌≤◌, true, false, cond, List, [], ◌∷◌, ◌++◌, map, get_or, Option, Some, None, Ok, Err, refl, sym, ap, subst, ◌∙◌, inl, inr, arith, append-nil, append_assoc}
+use Rattle.std.specs.Prelude.{◌==◌, ◌||◌, ◌⊎◌, min, is_some, IfSome, IsSome, slice_get}
 use Rattle.std.specs.Cmp.{nat_cmp_total, unsigned_tied}
 use Rattle.std.specs.FinMap.{contains_key-keys, entries, find, from_entries, get, get-from_entries, keys}
 use Rattle.std.specs.List.{cons_option, filter_map, list_any}
@@ -9,17 +9,13 @@ use Rattle.std.specs.Option.{option_map, option_to_list}
 use Rattle.std.specs.Ordering.{eq_by_cmp, nat_cmp}
 use Rattle.std.proofs.lemmas.Bool.{cases_lt}
 use Rattle.std.proofs.lemmas.Bool.Decides.{eqb_tells, nat_tests}
-use Rattle.std.proofs.lemmas.Option.{none-some, some_pair_parts}
 use Rattle.std.proofs.lemmas.List.{map-append}
-use Rattle.std.proofs.lemmas.List.Elements.{All-push}
 use Rattle.std.proofs.lemmas.List.Folds.{list_any-append}
 use Rattle.quota_types.specs.declared.field.NoRoom.{NoRoom}
 use Rattle.quota_types.specs.declared.file_kind.Format.{Format}
 use Rattle.quota_types.specs.declared.record.Entry.{Entry}
 use Rattle.quota_types.specs.declared.record.Grace.{Grace}
 use Rattle.quota_types.specs.declared.record.Rec.{Rec}
-use Rattle.quota_types.specs.Kept.{kept_of}
-use Rattle.quota_types.specs.Rec.{is_null_of}
 use Rattle.quota_blocks.specs.Listed.{ids_of, records_of}
 use Rattle.quota_blocks.specs.QuotaValue.{IsAfter, IsNextAfter, Records}
 use Rattle.quota_blocks.proofs.EntriesLemmas.{entries_after, entries_after-all, entries_after-end, entries_after-next}

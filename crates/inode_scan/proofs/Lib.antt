@@ -2,9 +2,14 @@ pub mod ApplyLemmas
 pub mod RisingLemmas
 pub mod FaultLemmas
 pub mod FirstLemmas
+pub mod GeneratedLemmas
+pub mod GeneratingLemmas
 pub mod ListLemmas
+pub mod MadeListingLemmas
+pub mod MadeUsageLemmas
 pub mod RowLemmas
 pub mod ScanLemmas
 pub mod SumLemmas
+pub mod SumsLemmas
 pub mod TallyLemmas
 pub mod UsageLemmas

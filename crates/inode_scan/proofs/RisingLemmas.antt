@@ -1,18 +1,12 @@
 -- That the records of a file with the usage of a listing ascend, and that each is kept.
-use Rattle.std.proofs.Common.{◌≡◌, ◌≢◌, ℕ, zero, suc, ◌+◌, ◌<◌, ◌≤◌, Bool, true, false, cond, List, [], ◌∷◌, ◌++◌, map, get_or, Option, Some, None, Ok, Err, refl, sym, ap, subst, ◌∙◌, inl, inr, arith, append-nil, append_assoc}
-use Rattle.std.specs.Prelude.{◌==◌, ◌||◌, ◌⊎◌, min, is_some, IfSome, IsSome, slice_get, All}
-use Rattle.std.specs.Cmp.{nat_cmp_total, unsigned_tied}
-use Rattle.std.specs.FinMap.{contains_key-keys, entries, find, from_entries, get, get-from_entries, keys}
-use Rattle.std.specs.List.{cons_option, filter_map, list_any}
+use Rattle.std.proofs.Common.{◌≡◌, ℕ, zero, suc, ◌+◌, ◌<◌, ◌≤◌, Bool, true, false, cond, List, [], ◌∷◌, ◌++◌, get_or, Option, Some, None, Err, sym, ap, subst, ◌∙◌, arith, append-nil}
+use Rattle.std.specs.Prelude.{IfSome, All}
+use Rattle.std.specs.FinMap.{get}
 use Rattle.std.specs.List.Sorted.{IsStrictlyIncreasing}
-use Rattle.std.specs.Option.{option_map, option_to_list}
-use Rattle.std.specs.Ordering.{eq_by_cmp, nat_cmp}
-use Rattle.std.proofs.lemmas.Bool.{cases_lt}
-use Rattle.std.proofs.lemmas.Bool.Decides.{eqb_tells, nat_tests}
+use Rattle.std.specs.Option.{option_to_list}
 use Rattle.std.proofs.lemmas.Option.{none-some, some_pair_parts}
 use Rattle.std.proofs.lemmas.List.{map-append}
 use Rattle.std.proofs.lemmas.List.Elements.{All-push}
-use Rattle.std.proofs.lemmas.List.Folds.{list_any-append}
 use Rattle.quota_types.specs.declared.field.NoRoom.{NoRoom}
 use Rattle.quota_types.specs.declared.file_kind.Format.{Format}
 use Rattle.quota_types.specs.declared.record.Entry.{Entry}
@@ -21,11 +15,9 @@ use Rattle.quota_types.specs.declared.record.Rec.{Rec}
 use Rattle.quota_types.specs.Kept.{kept_of}
 use Rattle.quota_types.specs.Rec.{is_null_of}
 use Rattle.quota_blocks.specs.Listed.{ids_of, records_of}
-use Rattle.quota_blocks.specs.QuotaValue.{IsAfter, IsNextAfter, Records}
-use Rattle.quota_blocks.proofs.EntriesLemmas.{entries_after, entries_after-all, entries_after-end, entries_after-next}
+use Rattle.quota_blocks.specs.QuotaValue.{IsAfter, IsNextAfter}
 use Rattle.inode_scan.specs.declared.used.Used.{Used}
-use Rattle.inode_scan.specs.Apply.{IsKeptEntry, applied, first_no_room, kept_entry, kept_records, no_room, wanted, wanted_record}
-use Rattle.inode_scan.specs.Faults.{unless}
+use Rattle.inode_scan.specs.Apply.{IsKeptEntry, applied, no_room, wanted, wanted_record}
 use Rattle.inode_scan.specs.Merge.{first_id, least_id, record_at, records_behind}
 use Rattle.inode_scan.specs.Usage.{IsNextUser, UsageMap}
 use Rattle.inode_scan.proofs.ApplyLemmas.{next_wanted, next_rest, from_after, after_is, IsRest, IsDone, done_more, refused_at}

@@ -1,10 +1,9 @@
 -- The words of a line.
-use Rattle.std.proofs.Common.{◌≡◌, ◌^◌, ◌<◌, ℕ, true, false, List, [], ◌∷◌, Some, None, Result, Ok, Err, refl, ap, ◌∙◌, arith}
-use Rattle.std.specs.Result.{OkIff, result_ok}
-use Rattle.std.proofs.lemmas.Bool.Decides.{nat_tests}
+use Rattle.std.proofs.Common.{◌≡◌, ◌^◌, ℕ, true, false, List, [], ◌∷◌, Option, Some, None, refl, ap, ◌∙◌}
+use Rattle.std.specs.Option.{option_and_then}
 use Rattle.quota_blocks.specs.Numeral.{number_of}
 use Rattle.quota_blocks.specs.Words.{words_eq, words_of}
-use Rattle.inode_scan.specs.Line.{number_below, row_from, row_in, row_of}
+use Rattle.inode_scan.specs.Line.{below, number_below, row_from, row_in, row_of}
 
 -- more than five words say nothing
 pub row_of_more : (owner group device inode blocks : List ℕ) (words : List (List ℕ)) → words_eq words [] ≡ false → row_of (owner ∷ group ∷ device ∷ inode ∷ blocks ∷ words) ≡ None
@@ -29,8 +28,7 @@ pub id_none : (word : List ℕ) → number_of word ≡ None → number_below (2 
 unfolding number_below
 id_none word none = rw none
 
--- a number that is tried as one of 32 bits
-pub id_tried : {E : Type 0} (word : List ℕ) (number : ℕ) (tried : Result ℕ E) → Some number ≡ number_of word → OkIff tried (number < 2 ^ 32) number → result_ok tried ≡ number_below (2 ^ 32) word
+-- a number that is an identifier where it has 32 bits
+pub id_is : (word : List ℕ) (number : ℕ) (id : Option ℕ) → Some number ≡ number_of word → id ≡ below (2 ^ 32) number → id ≡ number_below (2 ^ 32) word
 unfolding number_below
-id_tried word number (Ok id) is fits = rw (← is) (grind (arith, nat_tests, fits))
-id_tried word number (Err fault) is past = rw (← is) (grind (arith, nat_tests, past))
+id_is word number id some is = is ∙ ap (option_and_then (below (2 ^ 32))) some

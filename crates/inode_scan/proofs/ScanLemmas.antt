@@ -64,7 +64,7 @@ behind_more all left now done line behind is = record {
 
 -- nothing is wrong with the lines that were read, and no more come
 pub whole : (kind : Kind) (all left : InputLines) (tally : Tally) (device : Option ℕ) (done : List (List ℕ)) → tally.kind ≡ kind → tally.device ≡ device → IsOf tally done → IsBehind all left done → left ≡ NoLine
-    → scanned_lines kind device all ≡ Ok tally.usage
+    → scanned_lines kind device all ≡ Ok tally.sums
 whole kind all left tally device done same_kind same_device of behind is =
     let lines : read_lines all ≡ done = behind.lines ∙ ap (λ rest. done ++ read_lines rest) is ∙ append-nil done in
     let end : end_fault 1 all ≡ None = behind.end ∙ ap (end_fault (length done + 1)) is in
@@ -75,7 +75,7 @@ whole kind all left tally device done same_kind same_device of behind is =
     ∙ ap (λ ls. Ok (usage_of kind (counted_lines device ls))) lines
     ∙ ap (λ d. Ok (usage_of kind (counted_lines d done))) (sym same_device)
     ∙ ap (λ k. Ok (usage_of k (counted_lines tally.device done))) (sym same_kind)
-    ∙ ap Ok (sym of.kept.usage)
+    ∙ ap Ok (sym of.kept.sums)
 
 -- nothing is wrong with the lines that were read, and no more can be
 pub ended : (kind : Kind) (all left : InputLines) (tally : Tally) (device : Option ℕ) (done : List (List ℕ)) (fault : ScanFault) → tally.device ≡ device → IsOf tally done → IsBehind all left done
@@ -125,7 +125,7 @@ start_bounded reader usage is bounded = subst (λ (r : LinesSeen). IsBounded (r.
 -- The answers.
 
 pub is_whole : (kind : Kind) (device : Option ℕ) (bytes : List ℕ) (left : InputLines) (tally : Tally) (number : ℕ) (done : List (List ℕ)) (tells : Bool) → tally.kind ≡ kind → tally.device ≡ device
-    → IsReadTo tells (input_lines 256 1099511627776 bytes) left tally number done → IsTrue tells → left ≡ NoLine → scanned kind device bytes ≡ Ok tally.usage
+    → IsReadTo tells (input_lines 256 1099511627776 bytes) left tally number done → IsTrue tells → left ≡ NoLine → scanned kind device bytes ≡ Ok tally.sums
 is_whole kind device bytes left tally number done tells same_kind same_device read told none =
     scanned_is kind device bytes ∙ whole kind (input_lines 256 1099511627776 bytes) left tally device done same_kind same_device read.of (read.told told) none
 

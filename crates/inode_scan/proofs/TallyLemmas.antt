@@ -3,9 +3,7 @@ use Rattle.std.proofs.Common.{◌≡◌, ℕ, ◌+◌, Bool, true, false, cond, 
 use Rattle.std.specs.Prelude.{◌&&◌, if◌then◌else◌, is_none, is_some, not, map, IfErr, OnOk}
 use Rattle.std.specs.FinMap as fin
 use Rattle.std.specs.FinMap.{from_entries}
-use Rattle.std.specs.HashMap.{get}
 use Rattle.std.specs.List.{cons_option}
-use Rattle.std.specs.Map.{lookup}
 use Rattle.std.specs.Ordering.{nat_cmp}
 use Rattle.std.specs.Option.{option_and_then, option_map, option_or, option_to_list}
 use Rattle.std.proofs.lemmas.Bool.Decides.{nat_tests}
@@ -17,9 +15,10 @@ use Rattle.inode_scan.specs.declared.inode.FirstLine.{FirstLine}
 use Rattle.inode_scan.specs.declared.row.Row.{Row}
 use Rattle.inode_scan.specs.declared.tally.Tally.{Tally}
 use Rattle.quota_types.specs.declared.file_kind.Kind.{Kind}
+use Rattle.inode_scan.specs.Firsts.{inode_eq, kept_in, kept_or}
 use Rattle.inode_scan.specs.Line.{is_bad, row_in, row_of}
 use Rattle.inode_scan.specs.Listing.{Counted, conflict_of, counted_line, counted_lines, counted_row, fault_of, faults_of, first_lines, first_of, is_asked, is_same_inode, owned, owner_of, usage_of, used_in}
-use Rattle.inode_scan.specs.Tally.{AreBefore, ConflictsAs, IsOf, IsRefusedLine, IsRefusedRow, Keeps, TakesRow, agrees, counted_at, first_kept, get_or_kept, inode_eq, row_at}
+use Rattle.inode_scan.specs.Tally.{AreBefore, ConflictsAs, IsOf, IsRefusedLine, IsRefusedRow, Keeps, TakesRow, agrees, counted_at, first_kept, row_at}
 use Rattle.inode_scan.specs.Usage.{UsageMap, with_inode}
 use Rattle.inode_scan.proofs.FaultLemmas.{faults_of-push}
 use Rattle.inode_scan.proofs.FirstLemmas.{conflict_of-first, conflict_of-later, counted_before, counted_lines-append, first_lines-push, first_of-append}
@@ -40,7 +39,7 @@ none_mapped f None e = refl
 none_mapped f (Some x) e = absurd (cc)
 
 -- what is kept says whether the row's inode has a first line
-kept_at : (tally : Tally) (lines : List Counted) (row : Row) → Keeps tally lines → get inode_eq tally.firsts (inode_of row) ≡ option_map first_kept (first_of lines row)
+kept_at : (tally : Tally) (lines : List Counted) (row : Row) → Keeps tally lines → kept_in tally.firsts (inode_of row) ≡ option_map first_kept (first_of lines row)
 kept_at tally lines row keeps = keeps.firsts (inode_of row) ∙ ap (option_map first_kept) (at_inode lines row)
 
 -- A later line of an inode.
@@ -53,7 +52,7 @@ checked lines row number kept (Some first) found is =
     conflict_of-later lines (counted_at number row) first found
     ∙ ap (λ (k : FirstLine). if agrees k row then None else Some (Conflict number k.number)) same
 
-pub conflict_by : (tally : Tally) (lines : List Counted) (row : Row) (number : ℕ) (kept : FirstLine) → Keeps tally lines → get inode_eq tally.firsts (inode_of row) ≡ Some kept
+pub conflict_by : (tally : Tally) (lines : List Counted) (row : Row) (number : ℕ) (kept : FirstLine) → Keeps tally lines → kept_in tally.firsts (inode_of row) ≡ Some kept
     → conflict_of (lines ++ counted_at number row ∷ []) (counted_at number row) ≡ (if agrees kept row then None else Some (Conflict number kept.number))
 conflict_by tally lines row number kept keeps is = checked lines row number kept (first_of lines row) refl (sym (kept_at tally lines row keeps) ∙ is)
 
@@ -105,16 +104,16 @@ later_kept : (tally : Tally) (lines : List Counted) (row : Row) (number : ℕ) (
 later_kept tally lines row number kept None before keeps found is = absurd (cc)
 later_kept tally lines row number kept (Some first) before keeps found is = record {
   firsts = λ inode. keeps.firsts inode ∙ ap (option_map first_kept) (sym (first_of-later lines row number first inode found));
-  usage = keeps.usage ∙ usage_same tally.kind lines (counted_at number row) first before found;
+  sums = keeps.sums ∙ usage_same tally.kind lines (counted_at number row) first before found;
 }
 
-pub takes_later : (tally : Tally) (row : Row) (number : ℕ) (kept : FirstLine) → get inode_eq tally.firsts (inode_of row) ≡ Some kept → agrees kept row ≡ true → TakesRow tally tally row number
+pub takes_later : (tally : Tally) (row : Row) (number : ℕ) (kept : FirstLine) → kept_in tally.firsts (inode_of row) ≡ Some kept → agrees kept row ≡ true → TakesRow tally tally row number
 takes_later tally row number kept is agreed lines before keeps = (
   later_kept tally lines row number kept (first_of lines row) before keeps refl (sym (kept_at tally lines row keeps) ∙ is),
   conflict_by tally lines row number kept keeps is ∙ ap (λ b. if b then None else Some (Conflict number kept.number)) agreed,
 )
 
-pub conflicts_as : (tally : Tally) (row : Row) (number : ℕ) (kept : FirstLine) → get inode_eq tally.firsts (inode_of row) ≡ Some kept → agrees kept row ≡ false
+pub conflicts_as : (tally : Tally) (row : Row) (number : ℕ) (kept : FirstLine) → kept_in tally.firsts (inode_of row) ≡ Some kept → agrees kept row ≡ false
     → ConflictsAs tally row number (Conflict number kept.number)
 conflicts_as tally row number kept is differs lines keeps =
     conflict_by tally lines row number kept keeps is ∙ ap (λ b. if b then None else Some (Conflict number kept.number)) differs
@@ -124,45 +123,45 @@ abbrev right : Result (Unit {0}) ScanFault
 right = Ok tt
 
 -- what is kept of the first lines stays where a later line of an inode was looked up
-pub stays_kept : (old : Tally) (row : Row) (line kept : FirstLine) (other : Inode) → get inode_eq old.firsts (inode_of row) ≡ Some kept
-    → get_or_kept old (inode_of row) line other ≡ get inode_eq old.firsts other
+pub stays_kept : (old : Tally) (row : Row) (line kept : FirstLine) (other : Inode) → kept_in old.firsts (inode_of row) ≡ Some kept
+    → kept_or old.firsts (inode_of row) line other ≡ kept_in old.firsts other
 stays_kept old row line kept other is = by (inode_eq (inode_of row) other) refl
   where
-    by : (b : Bool) → inode_eq (inode_of row) other ≡ b → option_or (get inode_eq old.firsts other) (if b then Some line else None) ≡ get inode_eq old.firsts other
-    by false differs = option_or-none (get inode_eq old.firsts other)
+    by : (b : Bool) → inode_eq (inode_of row) other ≡ b → option_or (kept_in old.firsts other) (if b then Some line else None) ≡ kept_in old.firsts other
+    by false differs = option_or-none (kept_in old.firsts other)
     by true same =
-        let here : get inode_eq old.firsts other ≡ Some kept = ap (get inode_eq old.firsts) (sym (inode_is row other same)) ∙ is in
+        let here : kept_in old.firsts other ≡ Some kept = ap (kept_in old.firsts) (sym (inode_is row other same)) ∙ is in
         ap (λ o. option_or o (Some line)) here ∙ sym here
 
 -- a line is kept where it is the first one of its inode
-pub new_kept : (old : Tally) (row : Row) (line : FirstLine) (other : Inode) → get inode_eq old.firsts (inode_of row) ≡ None
-    → get_or_kept old (inode_of row) line other ≡ cond (inode_eq (inode_of row) other) (Some line) (get inode_eq old.firsts other)
+pub new_kept : (old : Tally) (row : Row) (line : FirstLine) (other : Inode) → kept_in old.firsts (inode_of row) ≡ None
+    → kept_or old.firsts (inode_of row) line other ≡ cond (inode_eq (inode_of row) other) (Some line) (kept_in old.firsts other)
 new_kept old row line other none = by (inode_eq (inode_of row) other) refl
   where
-    by : (b : Bool) → inode_eq (inode_of row) other ≡ b → option_or (get inode_eq old.firsts other) (if b then Some line else None) ≡ cond b (Some line) (get inode_eq old.firsts other)
-    by false differs = option_or-none (get inode_eq old.firsts other)
-    by true same = ap (λ o. option_or o (Some line)) (ap (get inode_eq old.firsts) (sym (inode_is row other same)) ∙ none)
+    by : (b : Bool) → inode_eq (inode_of row) other ≡ b → option_or (kept_in old.firsts other) (if b then Some line else None) ≡ cond b (Some line) (kept_in old.firsts other)
+    by false differs = option_or-none (kept_in old.firsts other)
+    by true same = ap (λ o. option_or o (Some line)) (ap (kept_in old.firsts) (sym (inode_is row other same)) ∙ none)
 
 -- what is kept of the lines is the same
 pub record KeepsSame (old new : Tally) : Type 0 where
-  pub firsts : (inode : Inode) → get inode_eq new.firsts inode ≡ get inode_eq old.firsts inode
-  pub usage : new.usage ≡ old.usage
+  pub firsts : (inode : Inode) → kept_in new.firsts inode ≡ kept_in old.firsts inode
+  pub sums : new.sums ≡ old.sums
   pub kind : new.kind ≡ old.kind
 
 keeps_same : (old new : Tally) (lines : List Counted) → KeepsSame old new → Keeps old lines → Keeps new lines
 keeps_same old new lines same keeps = record {
   firsts = λ inode. same.firsts inode ∙ keeps.firsts inode;
-  usage = same.usage ∙ keeps.usage ∙ ap (λ (kind : Kind). usage_of kind lines) (sym same.kind);
+  sums = same.sums ∙ keeps.sums ∙ ap (λ (kind : Kind). usage_of kind lines) (sym same.kind);
 }
 
-takes_again : (old new : Tally) (row : Row) (number : ℕ) (kept : FirstLine) → get inode_eq old.firsts (inode_of row) ≡ Some kept → KeepsSame old new → agrees kept row ≡ true → TakesRow old new row number
+takes_again : (old new : Tally) (row : Row) (number : ℕ) (kept : FirstLine) → kept_in old.firsts (inode_of row) ≡ Some kept → KeepsSame old new → agrees kept row ≡ true → TakesRow old new row number
 takes_again old new row number kept is same agreed lines before keeps = (
   keeps_same old new (lines ++ counted_at number row ∷ []) same (takes_later old row number kept is agreed lines before keeps).0,
   (takes_later old row number kept is agreed lines before keeps).1,
 )
 
 -- a row of an inode that has a first line is taken where they agree, and else refused
-pub taken_by : (old new : Tally) (row : Row) (number : ℕ) (kept : FirstLine) (result : Result (Unit {0}) ScanFault) → get inode_eq old.firsts (inode_of row) ≡ Some kept → KeepsSame old new
+pub taken_by : (old new : Tally) (row : Row) (number : ℕ) (kept : FirstLine) (result : Result (Unit {0}) ScanFault) → kept_in old.firsts (inode_of row) ≡ Some kept → KeepsSame old new
     → result ≡ (if agrees kept row then right else Err (Conflict number kept.number)) → OnOk result (TakesRow old new row number)
 taken_by old new row number kept result is same answers =
     subst (λ (r : Result (Unit {0}) ScanFault). OnOk r (TakesRow old new row number)) (sym answers) (by (agrees kept row) refl)
@@ -171,7 +170,7 @@ taken_by old new row number kept result is same answers =
     by true agreed = takes_again old new row number kept is same agreed
     by false differs = tt
 
-pub refused_by : (tally : Tally) (row : Row) (number : ℕ) (kept : FirstLine) (result : Result (Unit {0}) ScanFault) → get inode_eq tally.firsts (inode_of row) ≡ Some kept
+pub refused_by : (tally : Tally) (row : Row) (number : ℕ) (kept : FirstLine) (result : Result (Unit {0}) ScanFault) → kept_in tally.firsts (inode_of row) ≡ Some kept
     → result ≡ (if agrees kept row then right else Err (Conflict number kept.number)) → IfErr result (IsRefusedRow tally row number)
 refused_by tally row number kept result is answers =
     subst (λ (r : Result (Unit {0}) ScanFault). IfErr r (IsRefusedRow tally row number)) (sym answers) (by (agrees kept row) refl)
@@ -197,17 +196,17 @@ first_of-new lines row number old new inode none was is =
 -- what is kept once a row was added whose inode had no first line
 pub record Adds (old new : Tally) (row : Row) (number : ℕ) : Type 0 where
   pub kind : new.kind ≡ old.kind
-  pub firsts : (inode : Inode) → get inode_eq new.firsts inode ≡ cond (inode_eq (inode_of row) inode) (Some (first_kept (counted_at number row))) (get inode_eq old.firsts inode)
-  pub usage : new.usage ≡ fin.insert old.usage (owner_of old.kind row) (with_inode (fin.get old.usage (owner_of old.kind row)) row.blocks)
+  pub firsts : (inode : Inode) → kept_in new.firsts inode ≡ cond (inode_eq (inode_of row) inode) (Some (first_kept (counted_at number row))) (kept_in old.firsts inode)
+  pub sums : new.sums ≡ fin.insert old.sums (owner_of old.kind row) (with_inode (fin.get old.sums (owner_of old.kind row)) row.blocks)
 
-pub takes_first : (old new : Tally) (row : Row) (number : ℕ) → get inode_eq old.firsts (inode_of row) ≡ None → Adds old new row number → TakesRow old new row number
+pub takes_first : (old new : Tally) (row : Row) (number : ℕ) → kept_in old.firsts (inode_of row) ≡ None → Adds old new row number → TakesRow old new row number
 takes_first old new row number absent adds lines before keeps =
     let none : first_of lines row ≡ None = none_mapped first_kept (first_of lines row) (sym (kept_at old lines row keeps) ∙ absent) in (
       record {
-        firsts = λ inode. first_of-new lines row number (get inode_eq old.firsts inode) (get inode_eq new.firsts inode) inode none (keeps.firsts inode) (adds.firsts inode);
-        usage =
-            adds.usage
-            ∙ ap (λ (u : UsageMap). fin.insert u (owner_of old.kind row) (with_inode (fin.get u (owner_of old.kind row)) row.blocks)) keeps.usage
+        firsts = λ inode. first_of-new lines row number (kept_in old.firsts inode) (kept_in new.firsts inode) inode none (keeps.firsts inode) (adds.firsts inode);
+        sums =
+            adds.sums
+            ∙ ap (λ (u : UsageMap). fin.insert u (owner_of old.kind row) (with_inode (fin.get u (owner_of old.kind row)) row.blocks)) keeps.sums
             ∙ usage_of-push old.kind lines (counted_at number row) before none
             ∙ ap (λ (kind : Kind). usage_of kind (lines ++ counted_at number row ∷ [])) (sym adds.kind);
       },
@@ -327,9 +326,9 @@ pub added_usage : (usage new : UsageMap) (row : Row) (id own : ℕ) → new ≡ 
 added_usage usage new row id own is same = is ∙ ap (λ n. fin.insert usage n (with_inode (fin.get usage n) row.blocks)) same
 
 -- where nothing was read
-pub of_none : (tally : Tally) → tally.firsts.entries ≡ [] → tally.usage ≡ fin.empty → IsOf tally []
+pub of_none : (tally : Tally) → ((inode : Inode) → kept_in tally.firsts inode ≡ None) → tally.sums ≡ fin.empty → IsOf tally []
 unfolding counted_lines faults_of first_of
-of_none tally firsts usage = record {
-  kept = record { firsts = λ inode. ap (λ es. lookup (inode_eq inode) es) firsts; usage = usage ∙ sym (usage_of-none tally.kind) };
+of_none tally firsts sums = record {
+  kept = record { firsts = firsts; sums = sums ∙ sym (usage_of-none tally.kind) };
   clean = refl;
 }

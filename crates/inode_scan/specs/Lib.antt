@@ -1,5 +1,7 @@
 pub mod Apply
 pub mod Faults
+pub mod Firsts
+pub mod Generated
 pub mod Line
 pub mod Listing
 pub mod Merge

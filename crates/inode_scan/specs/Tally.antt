@@ -1,21 +1,17 @@
 -- What is kept of the lines of a listing that were read. It is the code's own, and no contract of a public call speaks of it.
-use Rattle.std.specs.Prelude.{◌≡◌, ℕ, ◌+◌, ◌*◌, ◌^◌, ◌<◌, ◌≤◌, ◌&&◌, ◌==◌, Bool, if◌then◌else◌, IfSome, Option, List, [], ◌∷◌, ◌++◌, Some, None, length, ⊤}
+use Rattle.std.specs.Prelude.{◌≡◌, ℕ, ◌+◌, ◌*◌, ◌^◌, ◌<◌, ◌≤◌, ◌&&◌, ◌==◌, Bool, IfSome, List, [], ◌∷◌, ◌++◌, Some, None, length, ⊤}
 use Rattle.std.specs.FinMap as map
-use Rattle.std.specs.HashMap.{get}
 use Rattle.std.specs.List.{AllByRecursion}
-use Rattle.std.specs.Option.{option_map, option_or}
+use Rattle.std.specs.Option.{option_map}
 use Rattle.inode_scan.specs.declared.fault.ScanFault.{ScanFault}
 use Rattle.inode_scan.specs.declared.fault.ScanFault.TheVariants.{Source, TooLarge, BadLine, LongLine, Conflict, Memory}
 use Rattle.inode_scan.specs.declared.inode.Inode.{Inode}
 use Rattle.inode_scan.specs.declared.inode.FirstLine.{FirstLine}
 use Rattle.inode_scan.specs.declared.row.Row.{Row}
 use Rattle.inode_scan.specs.declared.tally.Tally.{Tally}
+use Rattle.inode_scan.specs.Firsts.{kept_in}
 use Rattle.inode_scan.specs.Listing.{Counted, conflict_of, counted_lines, fault_of, faults_of, first_of, usage_of}
 use Rattle.inode_scan.specs.Usage.{UsageMap}
-
--- two inodes are one
-abbrev pub inode_eq : Inode → Inode → Bool
-inode_eq one other = one.device == other.device && one.number == other.number
 
 -- a row of an inode, and of nothing else
 abbrev pub row_at : Inode → Row
@@ -37,14 +33,10 @@ agrees first row = first.owner == row.owner && first.group == row.group && first
 abbrev pub counted_at : ℕ → Row → Counted
 counted_at number row = record { number = number; row = row }
 
--- what is kept of the first line of an inode, where this line is the first one of another inode unless that has one
-abbrev pub get_or_kept : Tally → Inode → FirstLine → Inode → Option FirstLine
-get_or_kept tally inode line other = option_or (get inode_eq tally.firsts other) (if inode_eq inode other then Some line else None)
-
 -- what is kept is that of these lines
 pub record Keeps (tally : Tally) (lines : List Counted) : Type 0 where
-  pub firsts : (inode : Inode) → get inode_eq tally.firsts inode ≡ option_map first_kept (first_of lines (row_at inode))
-  pub usage : tally.usage ≡ usage_of tally.kind lines
+  pub firsts : (inode : Inode) → kept_in tally.firsts inode ≡ option_map first_kept (first_of lines (row_at inode))
+  pub sums : tally.sums ≡ usage_of tally.kind lines
 
 -- lines that stand before one of this number
 abbrev pub AreBefore : ℕ → List Counted → Type 0

@@ -8,9 +8,13 @@
 
 mod applying;
 mod fault;
+mod firsts;
+mod generated;
 mod inode;
+mod narrow;
 mod row;
 mod scanning;
+mod sums;
 mod tally;
 mod usage;
 mod used;
@@ -18,6 +22,7 @@ mod wanted;
 
 pub use applying::apply;
 pub use fault::{ApplyFault, ScanFault};
+pub use generated::Generated;
 pub use scanning::scan;
 pub use usage::Usage;
 pub use used::Used;

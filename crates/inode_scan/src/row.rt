@@ -2,6 +2,7 @@ ghost use Rattle.std.specs.Prelude.{◌≡◌, ◌^◌};
 ghost use Rattle.quota_blocks.specs.Numeral.{number_of};
 ghost use Rattle.inode_scan.specs.Line.{number_below, row_from, row_in};
 
+use crate::narrow::in_32_bits;
 use quota_blocks::{has_no_word, next_word, number_in};
 
 /// What a line of a listing says.
@@ -53,6 +54,5 @@ fn row_from(owner: &[u8], group: &[u8], device: &[u8], inode: &[u8], blocks: &[u
 fn read_id(word: &[u8]) -> Option<u32>
     ensures { result ≡ number_below (2 ^ 32) word.now }
 {
-    let number = number_in(word)?;
-    u32::try_from(number).ok()
+    in_32_bits(number_in(word)?)
 }

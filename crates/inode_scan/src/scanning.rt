@@ -46,7 +46,7 @@ pub fn scan<I: Source>(
     'lines: while next_line(&mut reader, source, &mut line)? {
         tally.take_line(line.as_slice(), reader.lines())?;
     }
-    Ok(tally.into_usage())
+    Ok(tally.into_usage(alloc)?)
 }
 
 /// Puts the next line, where there is one, in place of what stands in `line`.

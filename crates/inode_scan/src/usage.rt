@@ -1,10 +1,10 @@
-ghost use Rattle.std.specs.Prelude.{◌≡◌, ◌+◌, ◌*◌, ◌^◌, ◌<◌, IfSome, OnOk};
+ghost use Rattle.std.specs.Prelude.{◌≡◌, IfOk};
 ghost use Rattle.std.specs.FinMap as map;
-ghost use Rattle.inode_scan.specs.Usage.{IsNextUser, bound_above, with_inode};
+ghost use Rattle.inode_scan.specs.Usage.{IsNextUser, bound_above};
 
 use crate::Used;
-use std::alloc::{AllocFailed, Global};
-use std::collections::BTreeMap;
+use std::alloc::{AllocError, Global};
+use std::collections::{BTreeMap, HashMap};
 use std::marker::Model;
 use std::ops::Bound;
 
@@ -27,24 +27,12 @@ impl Model for Usage {
 }
 
 impl Usage {
-    /// No usage.
-    pub(crate) fn none(alloc: Global) -> Usage
-        ensures { result ≡ map.empty }
+    /// The entries of a map, in order.
+    pub(crate) fn of_entries(alloc: Global, used: HashMap<u32, Used>) -> Result<Usage, AllocError>
+        ensures { IfOk result (λ usage. usage ≡ map.from_entries used.entries) }
     {
-        Usage {
-            used: BTreeMap::new(alloc),
-        }
-    }
-
-    /// Adds an inode of so many blocks of 512 bytes to what an identifier uses.
-    pub(crate) fn add(&mut self, id: u32, blocks: u64) -> Result<(), AllocFailed<(u32, Used)>>
-        requires { IfSome (map.get self.old id) (λ used. (used.space + 512 * blocks < 2 ^ 128)
-            × (used.inodes + 1 < 2 ^ 64)) }
-        ensures { OnOk result (self.new ≡ map.insert self.old id (with_inode (map.get self.old id) blocks)) }
-    {
-        let used = with_inode(self.of(id), blocks);
-        self.used.insert(id, used)?;
-        Ok(())
+        let used = used.into_iter().collect(alloc)?;
+        Ok(Usage { used })
     }
 
     /// What an identifier uses, or `None` where it owns no inode of the listing.
@@ -60,21 +48,6 @@ impl Usage {
     {
         let (id, _used) = self.used.range((above(after), Bound::Unbounded)).next()?;
         Some(*id)
-    }
-}
-
-/// What is used with one more inode of so many blocks of 512 bytes.
-fn with_inode(used: Option<Used>, blocks: u64) -> Used
-    requires { IfSome used (λ used. (used.space + 512 * blocks < 2 ^ 128) × (used.inodes + 1 < 2 ^ 64)) }
-    ensures { result ≡ with_inode used blocks }
-{
-    let space = 512 * u128::from(blocks);
-    match used {
-        Some(used) => Used {
-            space: used.space + space,
-            inodes: used.inodes + 1,
-        },
-        None => Used { space, inodes: 1 },
     }
 }
 

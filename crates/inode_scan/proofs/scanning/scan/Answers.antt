@@ -17,7 +17,7 @@ lines-init g c = record {
     },
   );
   few = start_few c.new-reader.result c.new-reader.ensures;
-  bounded = start_bounded c.new-reader.result c.new-tally.result.usage c.new-reader.ensures c.new-tally.ensures.bounded;
+  bounded = start_bounded c.new-reader.result c.new-tally.result.sums c.new-reader.ensures c.new-tally.ensures.bounded;
   kind = c.new-tally.ensures.kind;
   device = c.new-tally.ensures.device;
   later = omega arith;
@@ -52,7 +52,7 @@ lines-preserved g c =
             (λ done last. c.in_ok-take_line.ensures.taken done (last ∙ sym numbers.0))),
       );
       few = omega (arith, numbers.1, l.invariant.few, found.nearer c.if-branch.true);
-      bounded = subst (λ (k : ℕ). IsBounded k c.take_line.new.self.usage) (omega (arith, numbers.0, numbers.1)) c.in_ok-take_line.ensures.bounded;
+      bounded = subst (λ (k : ℕ). IsBounded k c.take_line.new.self.sums) (omega (arith, numbers.0, numbers.1)) c.in_ok-take_line.ensures.bounded;
       kind = c.take_line.ensures.kind ∙ l.invariant.kind;
       device = c.take_line.ensures.device ∙ l.invariant.device;
       later = omega (arith, l.invariant.later, c.next_line.ensures.later);
@@ -84,4 +84,4 @@ returns-clause-usage g c told =
     let none = none_given g.I.Source.tells c.in_ok-next_line.field-0 left now n.line.items c.in_ok-next_line.ensures.next c.if-branch.false told in
     is_whole c.args.kind c.args.device (g.I.Source.seen c.args.source.now).left left l.tally l.reader.number l.invariant.read.0 g.I.Source.tells
     l.invariant.kind l.invariant.device l.invariant.read.1 told none
-    ∙ ap Ok (sym c.into_usage.ensures)
+    ∙ ap Ok (sym c.in_ok-into_usage.ensures)

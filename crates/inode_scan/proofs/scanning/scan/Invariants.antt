@@ -11,7 +11,7 @@ invariant-lines g l =
     record {
       read : (done : List (List ℕ)) × IsReadTo I.tells (input_lines 256 1099511627776 (I.seen l.fn.source).left) (listing_left l.reader (I.seen l.source).left) l.tally l.reader.number done;
       few : l.reader.number + (1099511627776 - l.reader.given) ≤ 1099511627777;
-      bounded : IsBounded (l.reader.number - 1) l.tally.usage;
+      bounded : IsBounded (l.reader.number - 1) l.tally.sums;
       kind : l.tally.kind ≡ l.fn.kind;
       device : l.tally.device ≡ l.fn.device;
       later : (I.seen l.fn.source).faults ≤ (I.seen l.source).faults;
