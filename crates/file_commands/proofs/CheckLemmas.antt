@@ -91,10 +91,10 @@ listing_may_of name _ = (refl, refl)
 -- Values for which there is no room.
 
 -- an identifier is found at its own entry, not at another one, and not before all of them
-found_here : (pair : ℕ × Rec) (pairs : List (ℕ × Rec)) → find nat_cmp pair.0 (pair ∷ pairs) ≡ Some pair.1
+pub found_here : (pair : ℕ × Rec) (pairs : List (ℕ × Rec)) → find nat_cmp pair.0 (pair ∷ pairs) ≡ Some pair.1
 found_here pair pairs = grind (arith, unsigned_tied pair.0 pair.0, nat_tests)
 
-found_later : (id : ℕ) (pair : ℕ × Rec) (pairs : List (ℕ × Rec)) → id ≢ pair.0 → find nat_cmp id (pair ∷ pairs) ≡ find nat_cmp id pairs
+pub found_later : (id : ℕ) (pair : ℕ × Rec) (pairs : List (ℕ × Rec)) → id ≢ pair.0 → find nat_cmp id (pair ∷ pairs) ≡ find nat_cmp id pairs
 found_later id pair pairs other = grind (arith, unsigned_tied id pair.0, nat_tests)
 
 find_none : (id : ℕ) (pairs : List (ℕ × Rec)) → T (below_all nat_cmp id pairs) → find nat_cmp id pairs ≡ None
@@ -104,7 +104,7 @@ find_none id (pair ∷ pairs) below =
     found_later id pair pairs (omega (arith, less)) ∙ find_none id pairs (grind (arith, nat_tests))
 
 -- what there is no room for is a value of a record that an identifier has
-abbrev Lacks : Format → List (ℕ × Rec) → NoRoomFor → Type 0
+abbrev pub Lacks : Format → List (ℕ × Rec) → NoRoomFor → Type 0
 Lacks format pairs out = (rec : Rec) × (find nat_cmp out.id pairs ≡ Some rec) × (unfit format out.id rec ≡ Some (out.field, out.value))
 
 lacks_here : (format : Format) (pair : ℕ × Rec) (pairs : List (ℕ × Rec)) (out : NoRoomFor) (found : Option (Field × ℕ)) → unfit format pair.0 pair.1 ≡ found
@@ -121,7 +121,7 @@ lacks_later format pair pairs out below lacks = elim (eqb_tells out.id pair.0) [
   | inr other ↦ (lacks.0, found_later out.id pair pairs other.1 ∙ lacks.1, lacks.2)
 ]
 
-first_lacking : (format : Format) (pairs : List (ℕ × Rec)) (out : NoRoomFor) → T (is_sorted nat_cmp pairs) → slice_get (filter_map (no_room format) pairs) 0 ≡ Some out → Lacks format pairs out
+pub first_lacking : (format : Format) (pairs : List (ℕ × Rec)) (out : NoRoomFor) → T (is_sorted nat_cmp pairs) → slice_get (filter_map (no_room format) pairs) 0 ≡ Some out → Lacks format pairs out
 first_lacking format [] out sorted is = absurd (cc)
 first_lacking format (pair ∷ pairs) out sorted is =
     by_found (no_room format pair) refl (first_lacking format pairs out (grind arith)) is
@@ -136,7 +136,7 @@ refused_by None value out is = absurd (cc)
 refused_by (Some refusal) value out is = cc
 
 -- a record that is wanted of an identifier is made of what it has and uses
-made_of : (some : Bool) (made rec : Rec) → cond some (Some made) None ≡ Some rec → made ≡ rec
+pub made_of : (some : Bool) (made rec : Rec) → cond some (Some made) None ≡ Some rec → made ≡ rec
 made_of true made rec is = cc
 made_of false made rec is = absurd (cc)
 

@@ -293,7 +293,7 @@ module _ (kind : Kind) (before after : Format) (source target : List ℕ) (invoc
   not_converted NamesAreSame is looks same leaves =
       names_refused (refusal_of SameName source) (λ told. targets_same source target old.store.files is) looks (λ stated fact. fact) (is, refl) (nowhere_placed SameName source)
   not_converted TargetIsThere is looks same leaves =
-      names_refused (refusal_of TargetExists target) (λ told. targets_there source target old.store.files is.0 (is.1 told)) looks (λ stated fact. fact) refl (nowhere_placed TargetExists target)
+      names_refused (refusal_of TargetExists target) (λ told. targets_there source target old.store.files is.0 (is.1 told)) looks (λ stated fact. fact) (is.0, refl) (nowhere_placed TargetExists target)
   not_converted (Open fault) is looks same leaves = open_refused fault is looks
   not_converted (File fault) is looks same leaves = read_refused fault is.1 looks
   not_converted (Unfit out) is looks same leaves = unfit_refused out is looks

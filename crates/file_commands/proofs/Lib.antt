@@ -1,5 +1,10 @@
 pub mod CheckLemmas
 pub mod ConversionLemmas
+pub mod GenerateLemmas
+pub mod GenerateStepLemmas
+pub mod GeneratedValueLemmas
+pub mod LookLemmas
 pub mod ReplacingLemmas
 pub mod ReportLemmas
 pub mod StepLemmas
+pub mod SummaryLemmas

@@ -1,6 +1,6 @@
 -- `convertquota`. Source: the manual page of convertquota; that both files are named, that neither is in use, and that no file is
 -- written over is this project's own.
-use Rattle.std.specs.Prelude.{◌≡◌, ℕ, false, nat_lt, if◌then◌else◌, IfSome, List, Option, Some, None, Result, Ok, Err, ⊤}
+use Rattle.std.specs.Prelude.{◌≡◌, ◌≢◌, ℕ, false, nat_lt, if◌then◌else◌, IfSome, List, Option, Some, None, Result, Ok, Err, ⊤}
 use Rattle.std.specs.FinMap.{get}
 use Rattle.std.specs.Str.{bytes_eq}
 use Rattle.quota_types.specs.Kept.{IsKept}
@@ -86,12 +86,13 @@ abbrev pub MayLack : Kind → (old new : Format) → NoRoomFor → Type 0
 MayLack kind old new out = (value : QuotaValue) × MayStand kind old value × (converted new value ≡ Err out)
 
 -- The causes for which a file may not be converted, whatever is told, with the name that is said: that of the new file where
--- there is one already, or where it would need too many blocks, and else that of the file that is converted.
+-- there is one already, which is another than that of the file that is converted, or where it would need too many blocks, and else
+-- that of the file that is converted.
 abbrev pub ConvertMayRefuse : Kind → (old new : Format) → (source target : List ℕ) → Cause → List ℕ → Type 0
 ConvertMayRefuse kind old new source target StoreFault name = ⊤
 ConvertMayRefuse kind old new source target Memory name = ⊤
 ConvertMayRefuse kind old new source target SameName name = (source ≡ target) × (name ≡ source)
-ConvertMayRefuse kind old new source target TargetExists name = name ≡ target
+ConvertMayRefuse kind old new source target TargetExists name = (source ≢ target) × (name ≡ target)
 ConvertMayRefuse kind old new source target (NoRoom out) name = MayLack kind old new out × (name ≡ source)
 ConvertMayRefuse kind old new source target (Full blocks limit) name = WritingMayRefuse new target (Full blocks limit) name
 ConvertMayRefuse kind old new source target cause name = MayRefuseOpening (Some old) source cause name

@@ -171,7 +171,7 @@ fn replace_usage<S: Store>(
 }
 
 /// What is said where the records with the usage of a listing have no room, or memory was wanting.
-fn apply_cause(fault: ApplyFault) -> Cause
+pub(crate) fn apply_cause(fault: ApplyFault) -> Cause
     ensures { result ≡ apply_cause fault }
 {
     match fault {

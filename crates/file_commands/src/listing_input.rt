@@ -141,7 +141,7 @@ fn listing_refusal(fault: ScanFault, name: Word) -> Refusal
 }
 
 /// What is said of a listing that gives no usage, where this is said of what it is read from.
-fn scan_cause(failed: Cause, fault: ScanFault) -> Cause
+pub(crate) fn scan_cause(failed: Cause, fault: ScanFault) -> Cause
     ensures { result ≡ scan_cause failed fault }
 {
     match fault {

@@ -50,7 +50,7 @@ pub fn report_file<S: Store, O: Sink>(
 }
 
 /// Opens a quota file, and writes its report with these names.
-fn report_opened<S: Store, O: Sink>(
+pub(crate) fn report_opened<S: Store, O: Sink>(
     alloc: Global,
     names: &Names,
     kind: Kind,

@@ -1,4 +1,5 @@
 pub mod AnsweringLemmas
 pub mod ExportingLemmas
+pub mod LookLemmas
 pub mod StepLemmas
 pub mod WordLemmas

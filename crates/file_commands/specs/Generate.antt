@@ -1,0 +1,94 @@
+-- `generate`: a quota file out of a listing that is made, and a line on both. Source: this project's own.
+use Rattle.std.specs.Prelude.{ℕ, true, false, List, [], ◌++◌, codes, decimal, length, sum_by, Some, None, Result, Ok, Err, ⊤}
+use Rattle.std.specs.FinMap.{entries}
+use Rattle.quota_types.specs.Rec.{kib_of}
+use Rattle.quota_types.specs.declared.field.NoRoom.{NoRoom as NoRoomFor}
+use Rattle.quota_types.specs.declared.file_kind.Format.TheVariants.{V2R1}
+use Rattle.quota_types.specs.declared.file_kind.Kind.TheVariants.{User}
+use Rattle.quota_types.specs.declared.record.Rec.{Rec}
+use Rattle.quota_blocks.specs.QuotaValue.{QuotaValue, Records}
+use Rattle.inode_scan.specs.Generated.{generated}
+use Rattle.inode_scan.specs.Scan.{scanned}
+use Rattle.inode_scan.specs.Usage.{UsageMap}
+use Rattle.report_text.specs.declared.options.Options.{Options}
+use Rattle.refusals.specs.declared.cause.Cause.{Cause}
+use Rattle.refusals.specs.declared.cause.Cause.TheVariants.{StoreFault, SourceFault, SinkFault, LinkFault, Memory, NoRoom}
+use Rattle.refusals.specs.Refusals.{refusal_of}
+use Rattle.run_steps.specs.Act.{Act, Change, ToOut}
+use Rattle.run_steps.specs.Run.{Uses}
+use Rattle.run_steps.specs.Showing.{ShowingMayRefuse}
+use Rattle.run_steps.specs.Steps.{Doing, DoingAll, Finish, Steps, Stop, Then}
+use Rattle.file_commands.specs.Check.{checked, new_value, replaced, scan_outcome}
+use Rattle.file_commands.specs.Report.{report_on}
+
+-- The line.
+
+-- the sum of what is counted of each record
+abbrev pub sum_over : (Rec → ℕ) → Records → ℕ
+sum_over count records = sum_by (λ entry. count entry.1) (entries records)
+
+-- `lines L, inodes I, identifiers K, KiB S, report B bytes`
+unfoldable pub summary_text : (lines inodes identifiers kib bytes : ℕ) → List ℕ
+summary_text lines inodes identifiers kib bytes =
+    codes "lines " ++ decimal lines ++ codes ", inodes " ++ decimal inodes ++ codes ", identifiers " ++ decimal identifiers
+    ++ codes ", KiB " ++ decimal kib ++ codes ", report " ++ decimal bytes ++ codes " bytes\n"
+
+-- the line on records that were made of so many lines, and on which a report has so many bytes
+abbrev pub summary_line : (lines : ℕ) → Records → (bytes : ℕ) → List ℕ
+summary_line lines records bytes =
+    summary_text lines (sum_over (λ rec. rec.inodes) records) (length (entries records)) (sum_over (λ rec. kib_of rec.space) records) bytes
+
+-- a report without options
+abbrev pub no_options : Options
+no_options = record { verbose = false; numeric = false; raw = false }
+
+-- the report of a file of this name, without names and options
+abbrev pub plain_report : List ℕ → (now : ℕ) → QuotaValue → List ℕ
+plain_report file now value = report_on [] file now no_options value
+
+-- the line on a file of this name and value, which was made of so many lines
+abbrev pub summary : (lines : ℕ) → List ℕ → (now : ℕ) → QuotaValue → List ℕ
+summary lines file now value = summary_line lines value.records (length (plain_report file now value))
+
+-- The steps.
+
+-- a file of this value is made, and the line on it is written
+abbrev pub MadeSteps : (lines : ℕ) → List ℕ → (now : ℕ) → Result QuotaValue NoRoomFor → Steps
+MadeSteps lines file now (Ok new) =
+    Then (replaced file (Ok new)) (λ (acts : List Act). DoingAll acts (Doing (ToOut (summary lines file now new)) Finish))
+MadeSteps lines file now (Err out) = Stop (refusal_of (NoRoom out) file)
+
+-- a listing of a seed is made, and of its usage a new file for users, in vfsv1
+abbrev pub GenerateSteps : (seed count : ℕ) → List ℕ → (now : ℕ) → Steps
+GenerateSteps seed count file now =
+    Then (scan_outcome file (scanned User None (generated seed count)))
+    (λ (usage : UsageMap). MadeSteps count file now (checked (new_value User (Some V2R1)) usage now))
+
+-- the file of a value is made, and then the line on it is written
+abbrev pub WrittenSteps : (lines : ℕ) → List ℕ → (now : ℕ) → QuotaValue → Steps
+WrittenSteps lines file now new = Doing (Change file new) (Doing (ToOut (summary lines file now new)) Finish)
+
+-- the store is changed and the output written; the file stays where the line on it is not written
+abbrev pub generate_uses : Uses
+generate_uses = record { input = false; out = true; link = false; changes = true; all_or_nothing = false; warns = false; reads_commands = false; reads_edits = false }
+
+-- What is said.
+
+-- The causes for which it may be refused, whatever is told: a listing that is made always gives a usage, and a file of it has
+-- room for that. So what is left are those of a report on the file.
+abbrev pub GenerateMayRefuse : List ℕ → Cause → List ℕ → Type 0
+GenerateMayRefuse file = ShowingMayRefuse None file
+
+-- where a report in memory is not taken, memory was wanting
+abbrev pub gathered_cause : Cause → Cause
+gathered_cause SinkFault = Memory
+gathered_cause cause = cause
+
+-- Why a report on a file was not gathered: the store failed, memory was wanting, or no value is seen of the file.
+abbrev pub IsUnreported : (rose unseen : Type 0) → Cause → Type 0
+IsUnreported rose unseen StoreFault = rose
+IsUnreported rose unseen Memory = ⊤
+IsUnreported rose unseen SourceFault = ⊥
+IsUnreported rose unseen SinkFault = ⊥
+IsUnreported rose unseen LinkFault = ⊥
+IsUnreported rose unseen _ = unseen
