@@ -1,3 +1,3 @@
-pub mod BuiltLemmas
 pub mod NameLemmas
 pub mod OperandLemmas
+pub mod SourceNameLemmas

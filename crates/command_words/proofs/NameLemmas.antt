@@ -6,24 +6,7 @@ use Rattle.std.specs.Str.{bytes_eq}
 use Rattle.std.proofs.Math.Seq.{drop-append_seam}
 use Rattle.quota_blocks.proofs.WorldLemmas.{bytes_eq-same}
 use Rattle.quota_blocks.specs.Replace.{replacement_name}
-use Rattle.refusals.specs.declared.reason.Refusal.{Refusal}
 use Rattle.option_words.specs.FileName.{ends_so, is_file_name, is_graphic}
-use Rattle.command_words.specs.declared.command.Command.{Command}
-use Rattle.command_words.specs.Asked.{command_of}
-use Rattle.command_words.specs.Built.{if_built, is_built, unknown_command}
-use Rattle.command_words.proofs.BuiltLemmas.{HasSourceName, asked_named}
-
-built_named : (asks : Result Command Refusal) → ((command : Command) → asks ≡ Ok command → HasSourceName command) → IfOk (if_built asks) HasSourceName
-built_named (Ok command) named = by_test (is_built command)
-  where
-    by_test : (built : Bool) → IfOk (if built then Ok command else Err unknown_command) HasSourceName
-    by_test true = named command refl
-    by_test false = tt
-built_named (Err refusal) named = tt
-
--- no words ask for the conversion of a file that has not the name of one
-pub asks_named : (in_script : Bool) (words : List (List ℕ)) → IfOk (if_built (command_of in_script words)) HasSourceName
-asks_named in_script words = built_named (command_of in_script words) (asked_named in_script words)
 
 -- of some tests that all hold the fourth one holds
 fourth : (a b c d e f : Bool) → (a && b && c && not d && e && f) ≡ true → d ≡ false

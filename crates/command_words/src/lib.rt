@@ -4,12 +4,10 @@
 #![tactic(auto)]
 
 mod building;
-mod built;
 mod command;
 mod copies;
 mod mode;
 mod reading;
 
-pub use built::asks_built;
 pub use command::{Command, Common};
 pub use reading::{UsageFault, read_words};

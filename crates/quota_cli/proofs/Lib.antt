@@ -1,5 +1,5 @@
-mod CommandLemmas
+mod AskedLemmas
 mod EffectLemmas
 mod RunLemmas
-mod StepLemmas
-mod SureLemmas
+mod ScriptFullLemmas
+mod ScriptLemmas

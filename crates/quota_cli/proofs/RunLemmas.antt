@@ -14,16 +14,17 @@ use Rattle.refusals.specs.Status.{end_status, group_of, status_of}
 use Rattle.refusals.proofs.GroupLemmas.{ByFault, ByMemory, ByStep, GroupCase, by_group_of, group_case, status_in-some}
 use Rattle.run_steps.specs.Act.{err_bytes}
 use Rattle.run_steps.specs.Done.{AppendsUnless, IsAllTold, IsLater, IsUnwritten, IsWorldTold, NoFault, RunSeen, RunTells, outside_of}
-use Rattle.run_steps.specs.Meaning.{IsSure, closing}
+use Rattle.run_steps.specs.Meaning.{EndsBy, IsSure, closing}
 use Rattle.run_steps.specs.OneCommand.{AreReceived, ReadsToEnd, Receives}
 use Rattle.run_steps.specs.Run.{CarriesOut, HasFailed, HasReason, HasSteps, IsDoneInPart, Uses}
 use Rattle.quota_cli.specs.Headline.{HasEffect, HasEffectUpToErr, HasSaid, IsRefusedWord, IsStopped, Keeps, Setting, asked, steps_asked, uses_asked}
-use Rattle.quota_cli.specs.Description.{IsCarriedOut}
-use Rattle.command_words.specs.Built.{built_command}
+use Rattle.command_words.specs.Asked.{command_of}
+use Rattle.command_table.specs.Description.{IsOnlyRead, StopsIt, IsCarriedOut}
 use Rattle.run_steps.proofs.ActLemmas.{done_and_said, more_err, nothing_before}
 use Rattle.run_steps.proofs.MeaningLemmas.{received, sure_ends, to_end}
 use Rattle.run_steps.proofs.PartLemmas.{part_but_err}
 use Rattle.run_steps.proofs.ReasonLemmas.{reason_but_stated}
+use Rattle.quota_cli.proofs.AskedLemmas.{setting_full}
 
 -- the steps of what the words of a setting ask for were carried out
 abbrev AskedCarried : Setting → RunTells → RunSeen → RunSeen → Result (Unit {0}) Refusal → Type 0
@@ -77,22 +78,22 @@ reason_case setting tells old new refusal carries = group_case (group_of refusal
 -- What was done and said.
 
 refused_up_to_err : (setting : Setting) (tells : RunTells) (old new : RunSeen) (said : SinkSeen) (refusal : Refusal) (status : ℕ) → IsWorldTold tells → ReasonCase setting tells old new refusal
-    → status ≡ status_of refusal.cause → status ≢ 4 → status ≢ 5
+    → status ≡ status_of refusal.cause → status ≢ 4 → status ≢ 5 → old.err.faults ≤ new.err.faults
     → (IsTrue tells.err → AppendsUnless (Rose new.err.faults said.faults) new.err.written said.written (error_line refusal))
     → (has : HasEffectUpToErr setting tells old (once_said new said) status) × (has.before ≡ new.err)
-refused_up_to_err setting tells old new said refusal status told (ByFault is_4 failed) is four five written = absurd (four (is ∙ is_4))
-refused_up_to_err setting tells old new said refusal status told (ByMemory is_5) is four five written = absurd (five (is ∙ is_5))
-refused_up_to_err setting tells old new said refusal status told (ByStep not_4 not_5 stated) is four five written =
-    (record { refusal = Some refusal; before = new.err; has = stated told; ended = is; line = written }, refl)
+refused_up_to_err setting tells old new said refusal status told (ByFault is_4 failed) is four five later written = absurd (four (is ∙ is_4))
+refused_up_to_err setting tells old new said refusal status told (ByMemory is_5) is four five later written = absurd (five (is ∙ is_5))
+refused_up_to_err setting tells old new said refusal status told (ByStep not_4 not_5 stated) is four five later written =
+    (record { refusal = Some refusal; before = new.err; later = later; has = stated told; ended = is; line = written }, refl)
 
 -- what was done and said, and what the error output had got before the error line
 done_so : (setting : Setting) (tells : RunTells) (old new : RunSeen) (said : SinkSeen) (result : Result (Unit {0}) Refusal) (status : ℕ)
     → AskedCarried setting tells old new result → IsFinished tells new.err said result status
     → IsWorldTold tells → status ≢ 4 → status ≢ 5 → (has : HasEffectUpToErr setting tells old (once_said new said) status) × (has.before ≡ new.err)
 done_so setting tells old new said (Ok value) status carries finished told four five =
-    (record { refusal = None; before = new.err; has = carries.done told; ended = finished.status_is; line = finished.written }, refl)
+    (record { refusal = None; before = new.err; later = carries.later.err; has = carries.done told; ended = finished.status_is; line = finished.written }, refl)
 done_so setting tells old new said (Err refusal) status carries finished told four five =
-    refused_up_to_err setting tells old new said refusal status told (reason_case setting tells old new refusal carries) finished.status_is four five finished.written
+    refused_up_to_err setting tells old new said refusal status told (reason_case setting tells old new refusal carries) finished.status_is four five carries.later.err finished.written
 
 run_done : (setting : Setting) (tells : RunTells) (old new : RunSeen) (said : SinkSeen) (result : Result (Unit {0}) Refusal) (status : ℕ)
     → AskedCarried setting tells old new result → IsFinished tells new.err said result status
@@ -131,6 +132,8 @@ whole_effect setting tells old new status has later told none reads =
       done = record { files = done.files; out = done.out; err = done.err; answered = done.answered; writes = done.writes };
       input = nothing_left setting tells has.refusal old (record new { err = has.before }) status has.has has.ended reads;
       datagrams = taken_so setting tells has.refusal old (record new { err = has.before }) status has.has has.ended;
+      full = λ refusal blocks limit is cause. setting_full setting (outside_of old) own (outside_of new) refusal blocks limit
+          (subst (λ (r : Option Refusal). EndsBy (steps_asked setting) (outside_of old) own (outside_of new) r) is has.has.by_steps) cause;
     }
 
 -- a fault without a count that rose is none
@@ -165,11 +168,17 @@ stopped_not : (status other : ℕ) → status ≡ other → other ≢ 4 → othe
 stopped_not status other is not_4 not_5 (inl four) = not_4 (sym is ∙ four)
 stopped_not status other is not_4 not_5 (inr five) = not_5 (sym is ∙ five)
 
+-- a status that is that of a fault or of want of memory is that of the cause
+stops_it : (status other : ℕ) → status ≡ other → (status ≡ 4) ⊎ (status ≡ 5) → (other ≡ 4) ⊎ (other ≡ 5)
+stops_it status other is (inl four) = inl (sym is ∙ four)
+stops_it status other is (inr five) = inr (sym is ∙ five)
+
 run_stopped : (setting : Setting) (tells : RunTells) (old new : RunSeen) (said : SinkSeen) (result : Result (Unit {0}) Refusal) (status : ℕ)
-    → AskedCarried setting tells old new result → IfErr result (λ (refusal : Refusal). refusal.cause ≡ LinkFault → (asked setting).unfinished tells old new) → IsFinished tells new.err said result status
+    → AskedCarried setting tells old new result → IfErr result (λ (refusal : Refusal). refusal.cause ≡ LinkFault → (asked setting).unfinished setting.invocation tells old new)
+    → (IsTrue (uses_asked setting).reads_commands → IfErr result (λ (refusal : Refusal). StopsIt refusal.cause → refusal.place.line ≡ None → IsOnlyRead old new)) → IsFinished tells new.err said result status
     → (status ≡ 4) ⊎ (status ≡ 5) → IsStopped setting tells old (once_said new said) status
-run_stopped setting tells old new said (Ok value) status carries unfinished finished ends = absurd (stopped_not status 0 finished.status_is (λ e. omega (arith, e)) (λ e. omega (arith, e)) ends)
-run_stopped setting tells old new said (Err refusal) status carries unfinished finished ends = record {
+run_stopped setting tells old new said (Ok value) status carries unfinished unbegun finished ends = absurd (stopped_not status 0 finished.status_is (λ e. omega (arith, e)) (λ e. omega (arith, e)) ends)
+run_stopped setting tells old new said (Err refusal) status carries unfinished unbegun finished ends = record {
   refusal = refusal;
   before = new;
   all_else = refl;
@@ -180,6 +189,8 @@ run_stopped setting tells old new said (Err refusal) status carries unfinished f
   line = finished.written;
   part = carries.part;
   unfinished = unfinished;
+  unbegun = λ reads. unbegun reads (stops_it status (status_of refusal.cause) finished.status_is ends);
+  later = carries.later.err;
 }
   where
     by_case : ReasonCase setting tells old new refusal → HasReason (uses_asked setting) old new ⊥ refusal.cause
@@ -208,6 +219,7 @@ run_says setting tells old new said (Ok value) status carries finished =
 run_says setting tells old new said (Err refusal) status carries finished = inr (record {
   refusal = refusal;
   before = new.err;
+  later = carries.later.err;
   may = carries.may_refuse;
   placed = carries.placed;
   reason = reason_but_stated (uses_asked setting) old new _ ⊤ refusal.cause (λ _. tt) carries.refused;
@@ -281,12 +293,12 @@ run_untaken same (Err refusal) status is kept five = kept (sym is ∙ five)
 -- what else a run keeps
 pub run_keeps : (setting : Setting) (tells : RunTells) (old new : RunSeen) (said : SinkSeen) (result : Result (Unit {0}) Refusal) (status : ℕ)
     → IsCarriedOut (asked setting) setting.invocation tells old new result → IsFinished tells new.err said result status
-    → ((uses_asked setting).reads_commands ≡ false → IsErrAnd result (λ (refusal : Refusal). status_of refusal.cause ≡ 2) ↔ IsErr (built_command setting.words))
+    → ((uses_asked setting).reads_commands ≡ false → IsErrAnd result (λ (refusal : Refusal). status_of refusal.cause ≡ 2) ↔ IsErr (command_of false setting.words))
     → ((refusal : Refusal) → (asked setting).faulty ≡ Some refusal → (new.err ≡ old.err) × IsErrAnd result (λ (answered : Refusal). (answered ≡ refusal) ⊎ (answered.cause ≡ Memory)))
     → Keeps setting tells old (once_said new said) status
 run_keeps setting tells old new said result status carried finished usage words = record {
   done = run_done setting tells old new said result status carried.carries finished;
-  stopped = run_stopped setting tells old new said result status carried.carries carried.unfinished finished;
+  stopped = run_stopped setting tells old new said result status carried.carries carried.unfinished carried.unbegun finished;
   part = run_part setting tells old new said result carried.carries;
   complete = run_complete setting tells old new said result status carried.carries finished;
   usage = λ no.
@@ -300,6 +312,14 @@ run_keeps setting tells old new said result status carried finished usage words 
   writes = run_writes setting tells old new said result status carried.carries finished;
   named = run_named (asked setting).replaces (λ (file : List ℕ). IsTrue tells.store → new.store.files file ≡ old.store.files file) result status finished.status_is carried.named;
   synced = run_synced (IsTrue tells.store → AddsNone old.store.unsynced new.store.unsynced) result status finished.status_is carried.synced;
-  untaken = run_untaken (new.link ≡ old.link) result status finished.status_is carried.untaken;
+  untaken = λ one. run_untaken (new.link ≡ old.link) result status finished.status_is (carried.untaken one);
+  unlinked = record {
+    refusal = result_err result;
+    before = new.err;
+    later = carried.carries.later.err;
+    ended = finished.status_is;
+    line = finished.written;
+    unlinked = carried.unlinked;
+  };
   later = run_later setting tells old new said result status carried.carries finished;
 }

@@ -1,9 +1,9 @@
 -- What a run of the program does to what is outside.
-use Rattle.std.specs.Prelude.{◌≡◌, ◌≢◌, ◌⊎◌, ◌↔◌, ℕ, false, IsTrue, IfSome, IsErr, List, [], Option, Some, None, ⊤}
+use Rattle.std.specs.Prelude.{◌≡◌, ◌≢◌, ◌≤◌, ◌⊎◌, ◌↔◌, ℕ, false, IsTrue, IfSome, IsErr, List, [], Option, Some, None, ⊤}
 use Rattle.quota_blocks.specs.Count.{Rose}
 use Rattle.quota_blocks.specs.Seen.{SinkSeen}
 use Rattle.quota_blocks.specs.Unsynced.{AddsNone}
-use Rattle.refusals.specs.declared.cause.Cause.TheVariants.{LinkFault}
+use Rattle.refusals.specs.declared.cause.Cause.TheVariants.{Full, LinkFault}
 use Rattle.refusals.specs.declared.reason.Refusal.{Refusal}
 use Rattle.refusals.specs.Line.{closing_line, error_line}
 use Rattle.refusals.specs.Status.{end_status, status_of}
@@ -14,9 +14,10 @@ use Rattle.run_steps.specs.OneCommand.{AreReceived, Receives}
 use Rattle.run_steps.specs.Run.{HasReason, HasSteps, IsDoneInPart, IsPlacedBy, Uses}
 use Rattle.run_steps.specs.Steps.{Steps}
 use Rattle.run_steps.specs.declared.invocation.Invocation.{Invocation}
-use Rattle.quota_cli.specs.Description.{Description}
-use Rattle.quota_cli.specs.Table.{asked_of}
-use Rattle.command_words.specs.Built.{built_command}
+use Rattle.command_words.specs.Asked.{command_of}
+use Rattle.command_table.specs.Description.{Description, IsOnlyRead}
+use Rattle.command_table.specs.Table.{asked_by}
+use Rattle.quota_cli.specs.Script.{commanded}
 
 -- what a run is given: the words, and when it takes place
 pub record Setting : Type 0 where
@@ -29,7 +30,7 @@ setting_of words now = record { words = words; invocation = record { now = now; 
 
 -- the command that words ask for
 abbrev pub asked : Setting → Description
-asked setting = asked_of (built_command setting.words)
+asked setting = asked_by commanded (command_of false setting.words)
 
 -- its steps
 abbrev pub steps_asked : Setting → Steps
@@ -45,19 +46,23 @@ Effect setting = HasEffectOf (steps_asked setting)
 
 -- The headline: there are acts that with the status are the effect of the words, and they were done: the output and the
 -- error output got exactly their bytes, the link their answers, and the files follow. With status 0 nothing is left of an input
--- that is used, and so many datagrams were taken as the steps receive, the first ones.
+-- that is used, and so many datagrams were taken as the steps receive, the first ones. Where an edit was refused since its file is
+-- full, that file has no room for the edit as the store has it at the end.
 pub record HasEffect (setting : Setting) (tells : RunTells) (old new : RunSeen) (status : ℕ) : Type 0 where
   pub acts : List Act
   pub effect : Effect setting (outside_of old) acts (outside_of new) status
   pub done : AreDone tells acts old new
   pub input : status ≡ 0 → IsTrue (uses_asked setting).input → new.input.left ≡ []
   pub datagrams : (count : ℕ) → Receives count (steps_asked setting) → status ≡ 0 → AreReceived count old.link.left new.link.left
+  pub full : (refusal : Refusal) (blocks limit : ℕ) → effect.refusal ≡ Some refusal → refusal.cause ≡ Full blocks limit
+      → (asked setting).full setting.invocation (outside_of old) new.store.files refusal blocks limit
 
 -- The effect of the words, where the error output may have failed in the error line at the end: it then got a prefix of that
 -- line, and all else was done.
 pub record HasEffectUpToErr (setting : Setting) (tells : RunTells) (old new : RunSeen) (status : ℕ) : Type 0 where
   pub refusal : Option Refusal
   pub before : SinkSeen
+  pub later : old.err.faults ≤ before.faults
   pub has : HasSteps (steps_asked setting) tells refusal old (record new { err = before })
   pub ended : status ≡ end_status refusal
   pub line : IsTrue tells.err → AppendsUnless (Rose before.faults new.err.faults) before.written new.err.written
@@ -69,7 +74,8 @@ IsPlaced setting refusal = IsPlacedBy (uses_asked setting) refusal
 
 -- With status 4 or 5 the run was stopped by a fault or for want of memory, and the error output got the line that says
 -- which. Before that line the steps of the command had begun, and of the act that was at hand a part may have been done. Before
--- it nothing was said, unless the command warns. The link is said to have failed only where not all was done with it.
+-- it nothing was said, unless the command warns. The link is said to have failed only where not all was done with it. Of a script, what
+-- stopped it outside of its lines came before the first of them, when nothing had been done but that the input was read.
 pub record IsStopped (setting : Setting) (tells : RunTells) (old new : RunSeen) (status : ℕ) : Type 0 where
   pub refusal : Refusal
   pub before : RunSeen
@@ -81,13 +87,16 @@ pub record IsStopped (setting : Setting) (tells : RunTells) (old new : RunSeen) 
   pub line : IsTrue tells.err → AppendsUnless (Rose before.err.faults new.err.faults) before.err.written new.err.written
       (error_line refusal)
   pub part : IsWorldTold tells → IsDoneInPart (steps_asked setting) tells old before
-  pub unfinished : refusal.cause ≡ LinkFault → (asked setting).unfinished tells old before
+  pub unfinished : refusal.cause ≡ LinkFault → (asked setting).unfinished setting.invocation tells old before
+  pub unbegun : IsTrue (uses_asked setting).reads_commands → refusal.place.line ≡ None → IsOnlyRead old before
+  pub later : old.err.faults ≤ before.err.faults
 
 -- A run that was refused: the status is the cause's, and at the end its error line went to the error output. Before that
 -- line nothing was said, unless the command warns.
 pub record IsRefusedRun (setting : Setting) (tells : RunTells) (old new : RunSeen) (status : ℕ) : Type 0 where
   pub refusal : Refusal
   pub before : SinkSeen
+  pub later : old.err.faults ≤ before.faults
   pub may : (asked setting).may refusal.cause refusal.name
   pub placed : IsPlaced setting refusal
   pub reason : HasReason (uses_asked setting) old (record new { err = before }) ⊤ refusal.cause
@@ -108,6 +117,16 @@ pub record IsRefusedWord (setting : Setting) (tells : RunTells) (old new : RunSe
   pub line : IsTrue tells.err → AppendsUnless (Rose old.err.faults new.err.faults) old.err.written new.err.written
       (error_line refusal)
 
+-- A run has said a refusal, or none, and the link is as it was where nothing that was come to up to that refusal uses it; this is known
+-- where the input tells.
+pub record LeavesLink (setting : Setting) (tells : RunTells) (old new : RunSeen) (status : ℕ) : Type 0 where
+  pub refusal : Option Refusal
+  pub before : SinkSeen
+  pub later : old.err.faults ≤ before.faults
+  pub ended : status ≡ end_status refusal
+  pub line : IsTrue tells.err → AppendsUnless (Rose before.faults new.err.faults) before.written new.err.written (closing_line refusal)
+  pub unlinked : IsTrue tells.input → (asked setting).links old.input.left refusal ≡ false → new.link ≡ old.link
+
 -- What else a run keeps.
 pub record Keeps (setting : Setting) (tells : RunTells) (old new : RunSeen) (status : ℕ) : Type 0 where
   -- A status other than 4 and 5 is that of the effect, of which everything was done, except that the error output may have
@@ -122,7 +141,7 @@ pub record Keeps (setting : Setting) (tells : RunTells) (old new : RunSeen) (sta
   -- Where no step is refused, whatever is chosen, and nothing outside failed, the status is 0, unless memory is wanting.
   pub complete : IsWorldTold tells → IsSure (steps_asked setting) (outside_of old) → NoFault old new → (status ≡ 0) ⊎ (status ≡ 5)
   -- Status 2 comes exactly where the words ask for nothing, unless they ask for commands to be read.
-  pub usage : (uses_asked setting).reads_commands ≡ false → (status ≡ 2) ↔ IsErr (built_command setting.words)
+  pub usage : (uses_asked setting).reads_commands ≡ false → (status ≡ 2) ↔ IsErr (command_of false setting.words)
   -- Where a word is faulty, the first such word is refused, whatever is told, unless memory is wanting.
   pub words : (refusal : Refusal) → (asked setting).faulty ≡ Some refusal
       → IsRefusedWord setting tells old new status refusal ⊎ (status ≡ 5)
@@ -137,7 +156,9 @@ pub record Keeps (setting : Setting) (tells : RunTells) (old new : RunSeen) (sta
       → new.store.files file ≡ old.store.files file)
   -- With status 0 what was written has been synced: no name is unsynced that was not.
   pub synced : status ≡ 0 → IsTrue tells.store → AddsNone old.store.unsynced new.store.unsynced
-  -- With status 5 nothing was done with the link: no datagram was taken.
-  pub untaken : status ≡ 5 → new.link ≡ old.link
+  -- With status 5 nothing was done with the link: no datagram was taken. This is said of words that ask for no commands to be read.
+  pub untaken : (uses_asked setting).reads_commands ≡ false → status ≡ 5 → new.link ≡ old.link
+  -- The link is as it was where nothing that was come to uses it, up to the refusal that was said.
+  pub unlinked : LeavesLink setting tells old new status
   -- No count of faults falls.
   pub later : IsLater old new

@@ -1,6 +1,5 @@
 pub mod About
-pub mod Conditions
-pub mod Description
+pub mod Carrying
 pub mod Headline
+pub mod Script
 pub mod Starting
-pub mod Table

@@ -19,7 +19,7 @@ const HELP: &str = "Usage: quota_cli COMMAND [OPTION]... [OPERAND]...
 
 The Linux disk quota tools, for quota files while quotas are off.
 
-Built so far:
+Commands:
   repquota [-u|-g] [-v] [-n] [-p] [-F FORMAT] [--names FILE] FILE
                         the report of a quota file
   setquota [-u|-g] [-F FORMAT] [--names FILE]
@@ -46,9 +46,10 @@ Built so far:
   rquotad  [--format FORMAT] --calls NUMBER --port NUMBER
            (--export PATH KIND FILE)...
                         so many calls of rquota on 127.0.0.1 are answered
-Their words are read, and they are not built yet:
-  script
+  script                the commands in the lines of standard input, one after
+                        another; those that read input need --input there
   generate SEED COUNT FILE
+                        a quota file out of a listing that is made, to try with
 
 -u is for users, which is the default, and -g for groups. FORMAT is vfsold,
 vfsv0 or vfsv1; without it the file says which of the last two it has. Limits

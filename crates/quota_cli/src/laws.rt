@@ -1,42 +1,62 @@
-//! Laws of what words mean: what holds of every effect of them, and which conditions make no step of a command refused.
+//! Laws of what words mean: what holds of every effect of them, and which conditions make no step refused. For a list of commands
+//! nothing is said of every effect: another choice of bytes for a changed file may give a later command another answer.
 
-ghost use Rattle.std.specs.Prelude.{List, Option, ℕ};
+ghost use Rattle.std.specs.Prelude.{◌≡◌, false, map, List, None, Ok, Option, ℕ};
+ghost use Rattle.command_table.specs.Views.{AreAlike, SameUnlessFull};
+ghost use Rattle.command_words.specs.Asked.{command_of};
 ghost use Rattle.command_words.specs.declared.command.Command.{Command};
-ghost use Rattle.quota_cli.specs.Headline.{Effect, Setting, asked, steps_asked};
-ghost use Rattle.quota_cli.specs.Table.{described};
+ghost use Rattle.quota_cli.specs.Script.{LineSteps, LinesSteps, is_script};
+ghost use Rattle.run_steps.specs.Steps.{InARow};
+ghost use Rattle.script_lines.specs.Script.{LineSaid};
+ghost use Rattle.quota_cli.specs.Headline.{Effect, Setting, asked, steps_asked, uses_asked};
 ghost use Rattle.run_steps.specs.Act.{Act};
 ghost use Rattle.run_steps.specs.Done.{AreDoneInPart, Outside, RunSeen, RunTells, outside_of};
 ghost use Rattle.refusals.specs.declared.reason.Refusal.{Refusal};
 ghost use Rattle.run_steps.specs.Meaning.{EndsBy, IsSure};
 ghost use Rattle.run_steps.specs.Run.{IsDoneInPart};
-ghost use Rattle.run_steps.specs.declared.invocation.Invocation.{Invocation};
 
-/// What a run has done in part is a first part of the acts of every effect of its words, whatever such an effect chooses, and
-/// of every way in which its steps end, the error line left out.
+/// What a run of one command has done in part is a first part of the acts of every effect of its words, whatever such an effect
+/// chooses, and of every way in which its steps end, the error line left out.
 pub fn a_run_does_a_first_part_of_every_effect()
     ensures steps { (setting : Setting) (tells : RunTells) (old new : RunSeen) (acts : List Act) (to : Outside) (refusal : Option Refusal)
-        → IsDoneInPart (steps_asked setting) tells old new → EndsBy (steps_asked setting) (outside_of old) acts to refusal
+        → (uses_asked setting).reads_commands ≡ false → IsDoneInPart (steps_asked setting) tells old new → EndsBy (steps_asked setting) (outside_of old) acts to refusal
         → AreDoneInPart tells acts old new }
     ensures effect { (setting : Setting) (tells : RunTells) (old new : RunSeen) (acts : List Act) (to : Outside) (status : ℕ)
-        → IsDoneInPart (steps_asked setting) tells old new → Effect setting (outside_of old) acts to status
+        → (uses_asked setting).reads_commands ≡ false → IsDoneInPart (steps_asked setting) tells old new → Effect setting (outside_of old) acts to status
         → AreDoneInPart tells acts old new }
 {}
 
-/// Where one effect of words has status 0, no step is refused, whatever is chosen.
+/// Where one effect of words that ask for one command has status 0, no step is refused, whatever is chosen.
 pub fn one_effect_with_status_0_is_enough()
-    ensures { (setting : Setting) (old to : Outside) (acts : List Act) → Effect setting old acts to 0
+    ensures { (setting : Setting) (old to : Outside) (acts : List Act) → (uses_asked setting).reads_commands ≡ false → Effect setting old acts to 0
         → IsSure (steps_asked setting) old }
 {}
 
-/// The conditions of a command make no step of it refused, and so do those of what words ask for.
-pub fn conditions_make_no_step_refused()
-    ensures commands { (command : Command) (invocation : Invocation) (old : Outside)
-        → (described command).suffices invocation old → IsSure ((described command).steps invocation) old }
-    ensures words { (setting : Setting) (old : Outside)
+/// The conditions of what words ask for make no step of it refused.
+pub fn conditions_of_words_make_no_step_refused()
+    ensures { (setting : Setting) (old : Outside)
         → (asked setting).suffices setting.invocation old → IsSure (steps_asked setting) old }
 {}
 
 /// What is known of the words of a command holds wherever words ask for it.
 pub fn words_ask_for_what_is_known()
     ensures { (setting : Setting) → (asked setting).known }
+{}
+
+/// The lines of a script that is not refused itself are commands in a row, of which the laws of `run_steps` speak.
+pub fn the_lines_of_a_script_are_commands_in_a_row()
+    ensures { (now : ℕ) (lines : List LineSaid) → LinesSteps now lines None ≡ InARow (map (LineSteps now) lines) }
+{}
+
+/// The same views give the same effects of words that ask for one command, as they do of the command itself.
+pub fn the_same_views_give_the_same_effects()
+    ensures acts { (setting : Setting) (command : Command) (one other new to : Outside) (acts more : List Act) (status code : ℕ)
+        → command_of false setting.words ≡ Ok command → is_script command ≡ false → AreAlike command setting.invocation one other
+        → (effect : Effect setting one acts new status) → (also : Effect setting other more to code)
+        → SameUnlessFull command effect.refusal also.refusal ((acts ≡ more) × (status ≡ code)) }
+    ensures other { (setting : Setting) (command : Command) (one other new : Outside) (acts : List Act) (status : ℕ)
+        → command_of false setting.words ≡ Ok command → is_script command ≡ false → AreAlike command setting.invocation one other
+        → (effect : Effect setting one acts new status)
+        → (more : List Act) × (to : Outside) × (code : ℕ) × (also : Effect setting other more to code)
+        × SameUnlessFull command effect.refusal also.refusal ((acts ≡ more) × (status ≡ code)) }
 {}

@@ -19,10 +19,10 @@ use std::process::ExitCode;
 use std::{env, io};
 use system_objects::{FileStore, StreamSink, StreamSource, UdpLink, moment};
 
-mod commands;
 mod help;
 mod laws;
 mod run;
+mod script;
 #[cfg(test)]
 mod tests;
 

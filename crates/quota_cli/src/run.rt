@@ -2,30 +2,24 @@ ghost use Rattle.std.specs.Prelude.{◌≡◌, ◌≢◌, ◌≤◌, ◌⊎◌, 
 ghost use Rattle.std.specs.Result.{result_err};
 ghost use Rattle.quota_blocks.specs.Count.{Rose};
 ghost use Rattle.run_steps.specs.Done.{AppendsUnless, IsAllTold, NoFault, seen_of, tells_of};
-ghost use Rattle.quota_cli.specs.Description.{IsCarriedOut};
 ghost use Rattle.quota_cli.specs.Headline.{HasEffect, Keeps, asked, setting_of, uses_asked};
-ghost use Rattle.quota_cli.specs.Table.{described};
-ghost use Rattle.command_words.specs.Built.{built_command, is_built};
+ghost use Rattle.command_words.specs.Asked.{command_of};
+ghost use Rattle.command_table.specs.Description.{IsCarriedOut};
+ghost use Rattle.quota_cli.specs.Script.{commanded, is_script};
 ghost use Rattle.refusals.specs.declared.cause.Cause.TheVariants.{Memory};
 ghost use Rattle.refusals.specs.declared.reason.Refusal.{Refusal};
 ghost use Rattle.refusals.specs.Line.{closing_line, error_line};
 ghost use Rattle.refusals.specs.Status.{end_status, status_of};
 ghost use Rattle.option_words.specs.Items.{texts_of};
-ghost use Rattle.command_words.specs.Usage.{IsUsageFault, usage_refusal};
 
-use crate::commands::carry_out;
-use command_words::{Command, asks_built};
+use crate::script::run_script;
+use command_table::{carry_out, usage_refusal};
+use command_words::Command;
 pub use command_words::{UsageFault, read_words};
 use quota_blocks::{Link, Sink, Source, Store};
-use refusals::{Cause, Refusal, UsageKind, Word, write_error_line};
+use refusals::{Refusal, write_error_line};
 use run_steps::Invocation;
 use std::alloc::Global;
-
-/// What is said of a command that is not built.
-const UNKNOWN_COMMAND: UsageFault = UsageFault::Usage {
-    kind: UsageKind::UnknownCommand,
-    word: 0,
-};
 
 /// Carries out the command that the words ask for, and answers the status with which the program ends: 0 done,
 /// 1 refused by the command, 2 the words are outside the grammar, 3 the file is no quota file of the kind and format, or
@@ -80,7 +74,7 @@ fn carry_out_words<S: Store, I: Source, O: Sink, E: Sink, L: Link>(
         (seen_of (S.seen store.old) (I.seen input.old) (O.seen out.old) (E.seen err.old) (L.seen link.old))
         (seen_of (S.seen store.new) (I.seen input.new) (O.seen out.new) (E.seen err.new) (L.seen link.new)) result }
     ensures usage { (uses_asked (setting_of (texts_of words.now) now)).reads_commands ≡ false
-        → IsErrAnd result (λ said. status_of said.cause ≡ 2) ↔ IsErr (built_command (texts_of words.now)) }
+        → IsErrAnd result (λ said. status_of said.cause ≡ 2) ↔ IsErr (command_of false (texts_of words.now)) }
     ensures word { (refusal : Refusal) → (asked (setting_of (texts_of words.now) now)).faulty ≡ Some refusal
         → IsErrAnd result (λ said. (said ≡ refusal) ⊎ (said.cause ≡ Memory)) }
     ensures quiet { (refusal : Refusal) → (asked (setting_of (texts_of words.now) now)).faulty ≡ Some refusal → err.new ≡ err.old }
@@ -91,8 +85,8 @@ fn carry_out_words<S: Store, I: Source, O: Sink, E: Sink, L: Link>(
     ensures link { (uses_asked (setting_of (texts_of words.now) now)).link ≡ false → link.new ≡ link.old }
 {
     let invocation = outside_script(now);
-    match read_built(alloc, words) {
-        Ok(command) => carry_out(alloc, command, store, input, out, err, link, invocation),
+    match read_words(alloc, words, false) {
+        Ok(command) => carry_command(alloc, command, store, input, out, err, link, invocation),
         Err(fault) => Err(usage_refusal(alloc, fault)),
     }
 }
@@ -104,51 +98,41 @@ fn outside_script(now: u64) -> Invocation
     Invocation { now, line: None }
 }
 
-/// The command that words ask for, where it is one that is built so far; another one is unknown.
-fn read_built(alloc: Global, words: &[String]) -> Result<Command, UsageFault>
-    ensures read { MatchResult result (λ command. built_command (texts_of words.now) ≡ Ok command)
-        (IsUsageFault (built_command (texts_of words.now))) }
-    ensures built { IfOk result (λ command. IsTrue (is_built command)) }
-    ensures known { IfOk result (λ command. (described command).known) }
+/// Carries out a command of the command line, which may be a script, but for its error line.
+fn carry_command<S: Store, I: Source, O: Sink, E: Sink, L: Link>(
+    alloc: Global,
+    command: Command,
+    store: &mut S,
+    input: &mut I,
+    out: &mut O,
+    err: &mut E,
+    link: &mut L,
+    invocation: Invocation,
+) -> Result<(), Refusal>
+    requires { (commanded command).known }
+    ensures carries { IsCarriedOut (commanded command) invocation (tells_of S.tells I.tells O.tells E.tells L.tells)
+        (seen_of (S.seen store.old) (I.seen input.old) (O.seen out.old) (E.seen err.old) (L.seen link.old))
+        (seen_of (S.seen store.new) (I.seen input.new) (O.seen out.new) (E.seen err.new) (L.seen link.new)) result }
+    ensures word { (refusal : Refusal) → (commanded command).faulty ≡ Some refusal → result ≡ Err refusal }
+    ensures quiet { (refusal : Refusal) → (commanded command).faulty ≡ Some refusal → err.new ≡ err.old }
+    ensures store { (refusal : Refusal) → (commanded command).faulty ≡ Some refusal → store.new ≡ store.old }
+    ensures input { (commanded command).uses.input ≡ false → input.new ≡ input.old }
+    ensures out { (commanded command).uses.out ≡ false → out.new ≡ out.old }
+    ensures link { (commanded command).uses.link ≡ false → link.new ≡ link.old }
+    ensures source { I.keeps false input.old input.new }
 {
-    match read_words(alloc, words, false) {
-        Ok(command) => keep_built(command, asks_built(words)),
-        Err(UsageFault::Memory) => Err(wanting(asks_built(words))),
-        Err(UsageFault::Usage { kind, word }) => Err(UsageFault::Usage { kind, word }),
-    }
-}
-
-/// The command, where it is built.
-fn keep_built(command: Command, built: bool) -> Result<Command, UsageFault>
-    ensures { result ≡ (if built then Ok command else Err (UsageFault.Usage UsageKind.UnknownCommand 0)) }
-{
-    if built {
-        Ok(command)
+    if is_script(&command) {
+        run_script(alloc, store, input, out, err, link, invocation)
     } else {
-        Err(UNKNOWN_COMMAND)
+        carry_out(alloc, command, store, input, out, err, link, invocation)
     }
 }
 
-/// What is said where memory was wanting for a command.
-fn wanting(built: bool) -> UsageFault
-    ensures { result ≡ (if built then UsageFault.Memory else UsageFault.Usage UsageKind.UnknownCommand 0) }
+/// Whether a command is a script.
+fn is_script(command: &Command) -> bool
+    ensures { result ≡ is_script command.now }
 {
-    if built {
-        UsageFault::Memory
-    } else {
-        UNKNOWN_COMMAND
-    }
-}
-
-/// What is said of words that were not read.
-fn usage_refusal(alloc: Global, fault: UsageFault) -> Refusal
-    ensures { result ≡ usage_refusal fault }
-{
-    let cause = match fault {
-        UsageFault::Usage { kind, word } => Cause::Usage { kind, word },
-        UsageFault::Memory => Cause::Memory,
-    };
-    Refusal::of(cause, Word::empty(alloc))
+    matches!(command, Command::Script)
 }
 
 /// Writes the error line of a command that was refused, and answers the status with which the program ends. The status

@@ -1,6 +1,6 @@
 use super::playing::play;
 use file_stories::{
-    calls, checked, conversions, ended_checks, names, new_files, refused_conversions,
+    calls, checked, conversions, ended_checks, generated, names, new_files, refused_conversions,
     refused_listings, reports, served, summed, trees, turned, words,
 };
 use story_player::FILES;
@@ -78,6 +78,11 @@ fn files_are_refused_and_calls_fail(rt: HostRuntime) {
 #[test]
 fn listings_make_new_files(rt: HostRuntime) {
     play(&rt, rt.alloc(), &[FILES, new_files::NEW_FILES]);
+}
+
+#[test]
+fn listings_are_made(rt: HostRuntime) {
+    play(&rt, rt.alloc(), &[generated::GENERATED]);
 }
 
 #[test]

@@ -3,5 +3,6 @@
 mod edit_tests;
 mod file_tests;
 mod playing;
+mod script_tests;
 mod shown;
 mod udp;

@@ -1,45 +1,103 @@
 use quota_blocks::{Link, LinkFault};
-use std::net::{Ipv4Addr, UdpSocket};
-use std::test::Fail;
-use std::time::{Duration, SystemTime};
-use system_objects::UdpLink;
+use std::io;
+use std::net::{Ipv4Addr, Net, UdpSocket};
+use std::process::Abort;
+use std::time::{Clock, Duration};
+use system_objects::{UdpLink, moment};
 
 /// A call that asks for the quota of user 1000 under `/home`, from that user.
-const CALL: &[u8] = b"\0\0\0\x01\0\0\0\0\0\0\0\x02\0\x01\x86\xab\0\0\0\x01\0\0\0\x01\0\0\0\x01\0\0\0\x18\0\0\0\0\0\0\0\x01h\0\0\0\0\0\x03\xe8\0\0\x03\xe8\0\0\0\0\0\0\0\0\0\0\0\0\0\0\0\x05/home\0\0\0\0\0\x03\xe8";
+const CALL: &[u8] =
+    b"\0\0\0\x01\0\0\0\0\0\0\0\x02\0\x01\x86\xab\0\0\0\x01\0\0\0\x01\0\0\0\x01\0\0\0\x18\0\0\0\0\0\0\0\x01h\0\0\0\0\0\x03\xe8\0\0\x03\xe8\0\0\0\0\0\0\0\0\0\0\0\0\0\0\0\x05/home\0\0\0\0\0\x03\xe8";
 
 /// The reply to it, with limits and usage.
-const REPLY: &[u8] = b"\0\0\0\x01\0\0\0\x01\0\0\0\0\0\0\0\0\0\0\0\0\0\0\0\0\0\0\0\x01\0\0\x04\0\0\0\0\x01\0\0\0\xc8\0\0\0\x64\0\0\0\x04\0\0\0\x14\0\0\0\x0a\0\0\0\x01\0\0\0\0\0\0\0\0";
+const REPLY: &[u8] =
+    b"\0\0\0\x01\0\0\0\x01\0\0\0\0\0\0\0\0\0\0\0\0\0\0\0\0\0\0\0\x01\0\0\x04\0\0\0\0\x01\0\0\0\xc8\0\0\0\x64\0\0\0\x04\0\0\0\x14\0\0\0\x0a\0\0\0\x01\0\0\0\0\0\0\0\0";
+
+/// A datagram, what the link gives of it, and what is answered.
+type Exchange = (&'static [u8], &'static [u8], &'static [u8]);
+
+const EXCHANGES: &[Exchange] = &[
+    (CALL, CALL, REPLY),
+    (b"", b"", b"told"),
+    (&[7; 4097], &[7; 4096], b"told"),
+];
+
+/// Whether a link that was not started has no port, gives nothing and answers nothing.
+fn is_idle<R: Net + Clock>(link: &mut UdpLink<'_, R>) -> bool {
+    let mut buf = [0; 4096];
+    link.port() == 0
+        && link.next(&mut buf) == Err(LinkFault)
+        && link.answer(b"early") == Err(LinkFault)
+}
+
+/// Whether a link starts, and answers nothing before a datagram came.
+fn is_started<R: Net + Clock>(link: &mut UdpLink<'_, R>) -> bool {
+    link.start(0) == Ok(()) && link.port() != 0 && link.answer(b"early") == Err(LinkFault)
+}
+
+/// One who waits ten seconds for an answer.
+fn asker<R: Net>(rt: &R) -> io::Result<UdpSocket> {
+    let asker = UdpSocket::bind(rt, (Ipv4Addr::LOCALHOST, 0))?;
+    asker.set_read_timeout(Some(Duration::from_secs(10)))?;
+    Ok(asker)
+}
+
+/// Whether a link gives these bytes, at a moment from this one on and not after the present one.
+fn gives<R: Net + Clock>(
+    rt: &R,
+    link: &mut UdpLink<'_, R>,
+    taken: &[u8],
+    before: u64,
+) -> io::Result<bool> {
+    let mut buf = [0; 4096];
+    let Ok(got) = link.next(&mut buf) else {
+        return Ok(false);
+    };
+    let after = moment(rt)?;
+    Ok(buf.get(..got.len) == Some(taken) && before <= got.now && got.now <= after)
+}
+
+/// Whether the asker gets these bytes from a port.
+fn gets(asker: &UdpSocket, reply: &[u8], port: u16) -> io::Result<bool> {
+    let mut answer = [0; 128];
+    let (len, from) = asker.recv_from(&mut answer)?;
+    Ok(answer.get(..len) == Some(reply) && from.port() == port)
+}
+
+/// Whether a datagram is taken and answered.
+fn goes<R: Net + Clock>(
+    rt: &R,
+    link: &mut UdpLink<'_, R>,
+    asker: &UdpSocket,
+    exchange: &Exchange,
+) -> io::Result<bool> {
+    let before = moment(rt)?;
+    asker.send_to(exchange.0, (Ipv4Addr::LOCALHOST, link.port()))?;
+    let is_taken = gives(rt, link, exchange.1, before)? && link.answer(exchange.2) == Ok(());
+    Ok(is_taken && gets(asker, exchange.2, link.port())?)
+}
+
+/// Whether a link that starts takes datagrams and answers them, one after another.
+fn all_go<R: Net + Clock>(rt: &R, exchanges: &[Exchange]) -> io::Result<bool> {
+    let mut link = UdpLink::new(rt);
+    let asker = asker(rt)?;
+    if !is_idle(&mut link) || !is_started(&mut link) {
+        return Ok(false);
+    }
+    for exchange in exchanges {
+        if !goes(rt, &mut link, &asker, exchange)? {
+            return Ok(false);
+        }
+    }
+    Ok(true)
+}
+
+fn expect_exchanges<R: Net + Clock + Abort>(rt: &R, exchanges: &[Exchange]) {
+    let found = all_go(rt, exchanges);
+    assert!(rt; matches!(found, Ok(true)), "{found:?}");
+}
 
 #[test]
-fn a_udp_link_takes_datagrams_and_answers_their_sender(rt: HostRuntime) -> Result<(), Fail> {
-    let mut buf = [0u8; 4096];
-    let mut link = UdpLink::new(&rt);
-    assert_eq!(rt; link.port(), 0);
-    assert_eq!(rt; link.next(&mut buf), Err(LinkFault));
-    assert_eq!(rt; link.answer(b"early"), Err(LinkFault));
-    link.start(0)?;
-    assert_ne!(rt; link.port(), 0);
-    assert_eq!(rt; link.answer(b"early"), Err(LinkFault));
-    let asker = UdpSocket::bind(&rt, (Ipv4Addr::LOCALHOST, 0))?;
-    asker.set_read_timeout(Some(Duration::from_secs(10)))?;
-    let long = [7u8; 4097];
-    for (question, taken, reply) in [
-        (CALL, CALL, REPLY),
-        (b"".as_slice(), b"".as_slice(), b"told".as_slice()),
-        (long.as_slice(), &long[..4096], b"told".as_slice()),
-    ] {
-        let before = SystemTime::now(&rt)?.duration_since(SystemTime::UNIX_EPOCH)?;
-        asker.send_to(question, (Ipv4Addr::LOCALHOST, link.port()))?;
-        let got = link.next(&mut buf)?;
-        let after = SystemTime::now(&rt)?.duration_since(SystemTime::UNIX_EPOCH)?;
-        assert!(rt; buf.get(..got.len) == Some(taken));
-        assert!(rt; before.as_secs() <= got.now);
-        assert!(rt; got.now <= after.as_secs());
-        link.answer(reply)?;
-        let mut answer = [0u8; 128];
-        let (len, from) = asker.recv_from(&mut answer)?;
-        assert_eq!(rt; answer.get(..len), Some(reply));
-        assert_eq!(rt; from.port(), link.port());
-    }
-    Ok(())
+fn a_udp_link_takes_datagrams_and_answers_their_sender(rt: HostRuntime) {
+    expect_exchanges(&rt, EXCHANGES);
 }

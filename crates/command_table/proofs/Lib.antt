@@ -1,0 +1,5 @@
+pub mod CommandLemmas
+pub mod FullLemmas
+pub mod LookLemmas
+pub mod StepLemmas
+pub mod SureLemmas

@@ -1,0 +1,148 @@
+use Rattle.std.proofs.Common.{ap, refl}
+use Rattle.std.proofs.lemmas.Result.{on_err_weaker, on_ok_weaker}
+use Rattle.command_table.proofs.CommandLemmas.{not_here_carried, of_refusal, of_refusal_weaker}
+use Rattle.command_table.proofs.commands.carry_out.Goals as goal
+
+pub returns-in-Report-clause-carries : goal.returns-in-Report-clause-carries
+returns-in-Report-clause-carries g c = rw c.in-Report.is (record {
+  carries = c.report_file.ensures.carries (g.I.Source.seen c.args.input.now) (g.E.Sink.seen c.args.err.now) (g.L.Link.seen c.args.link.now) g.I.Source.tells g.E.Sink.tells g.L.Link.tells c.args.invocation.line;
+  named = tt;
+  synced = on_ok_weaker c.report_file.result (λ added told. added) c.report_file.ensures.synced;
+  unfinished = of_refusal c.report_file.result _ (λ refusal failed. tt);
+  untaken = λ one. of_refusal c.report_file.result _ (λ refusal five. refl);
+  unlinked = λ told no. refl;
+  unbegun = λ reads. absurd (cc);
+})
+
+pub returns-in-SetLimits-clause-carries : goal.returns-in-SetLimits-clause-carries
+returns-in-SetLimits-clause-carries g c = rw c.in-SetLimits.is (record {
+  carries = c.edit_by_words.ensures.carries (g.I.Source.seen c.args.input.now) (g.O.Sink.seen c.args.out.now) (g.L.Link.seen c.args.link.now) g.I.Source.tells g.O.Sink.tells g.L.Link.tells;
+  named = c.edit_by_words.ensures.named refl;
+  synced = c.edit_by_words.ensures.synced;
+  unfinished = of_refusal c.edit_by_words.result _ (λ refusal failed. tt);
+  untaken = λ one. of_refusal c.edit_by_words.result _ (λ refusal five. refl);
+  unlinked = λ told no. refl;
+  unbegun = λ reads. absurd (cc);
+})
+
+pub returns-in-CopyLimits-clause-carries : goal.returns-in-CopyLimits-clause-carries
+returns-in-CopyLimits-clause-carries g c = rw c.in-CopyLimits.is (record {
+  carries = c.edit_by_words-in-CopyLimits.ensures.carries (g.I.Source.seen c.args.input.now) (g.O.Sink.seen c.args.out.now) (g.L.Link.seen c.args.link.now) g.I.Source.tells g.O.Sink.tells g.L.Link.tells;
+  named = c.edit_by_words-in-CopyLimits.ensures.named refl;
+  synced = c.edit_by_words-in-CopyLimits.ensures.synced;
+  unfinished = of_refusal c.edit_by_words-in-CopyLimits.result _ (λ refusal failed. tt);
+  untaken = λ one. of_refusal c.edit_by_words-in-CopyLimits.result _ (λ refusal five. refl);
+  unlinked = λ told no. refl;
+  unbegun = λ reads. absurd (cc);
+})
+
+pub returns-in-SetGrace-clause-carries : goal.returns-in-SetGrace-clause-carries
+returns-in-SetGrace-clause-carries g c = rw c.in-SetGrace.is (record {
+  carries = c.edit_by_words-in-SetGrace.ensures.carries (g.I.Source.seen c.args.input.now) (g.O.Sink.seen c.args.out.now) (g.L.Link.seen c.args.link.now) g.I.Source.tells g.O.Sink.tells g.L.Link.tells;
+  named = c.edit_by_words-in-SetGrace.ensures.named refl;
+  synced = c.edit_by_words-in-SetGrace.ensures.synced;
+  unfinished = of_refusal c.edit_by_words-in-SetGrace.result _ (λ refusal failed. tt);
+  untaken = λ one. of_refusal c.edit_by_words-in-SetGrace.result _ (λ refusal five. refl);
+  unlinked = λ told no. refl;
+  unbegun = λ reads. absurd (cc);
+})
+
+pub returns-in-SetTimes-clause-carries : goal.returns-in-SetTimes-clause-carries
+returns-in-SetTimes-clause-carries g c = rw c.in-SetTimes.is (record {
+  carries = c.edit_by_words-in-SetTimes.ensures.carries (g.I.Source.seen c.args.input.now) (g.O.Sink.seen c.args.out.now) (g.L.Link.seen c.args.link.now) g.I.Source.tells g.O.Sink.tells g.L.Link.tells;
+  named = tt;
+  synced = c.edit_by_words-in-SetTimes.ensures.synced;
+  unfinished = of_refusal c.edit_by_words-in-SetTimes.result _ (λ refusal failed. tt);
+  untaken = λ one. of_refusal c.edit_by_words-in-SetTimes.result _ (λ refusal five. refl);
+  unlinked = λ told no. refl;
+  unbegun = λ reads. absurd (cc);
+})
+
+pub returns-in-PrintForm-clause-carries : goal.returns-in-PrintForm-clause-carries
+returns-in-PrintForm-clause-carries g c = rw c.in-PrintForm.is (record {
+  carries = c.print_by_word.ensures.carries (g.I.Source.seen c.args.input.now) (g.E.Sink.seen c.args.err.now) (g.L.Link.seen c.args.link.now) g.I.Source.tells g.E.Sink.tells g.L.Link.tells c.args.invocation.now c.args.invocation.line;
+  named = tt;
+  synced = on_ok_weaker c.print_by_word.result (λ added told. added) c.print_by_word.ensures.synced;
+  unfinished = of_refusal c.print_by_word.result _ (λ refusal failed. tt);
+  untaken = λ one. of_refusal c.print_by_word.result _ (λ refusal five. refl);
+  unlinked = λ told no. refl;
+  unbegun = λ reads. absurd (cc);
+})
+
+pub returns-in-Batch-clause-carries : goal.returns-in-Batch-clause-carries
+returns-in-Batch-clause-carries g c = rw c.in-Batch.is (record {
+  carries = c.apply_lines.ensures.carries (g.O.Sink.seen c.args.out.now) (g.E.Sink.seen c.args.err.now) (g.L.Link.seen c.args.link.now) g.O.Sink.tells g.E.Sink.tells g.L.Link.tells c.args.invocation.line;
+  named = tt;
+  synced = c.apply_lines.ensures.synced;
+  unfinished = of_refusal c.apply_lines.result _ (λ refusal failed. tt);
+  untaken = λ one. of_refusal c.apply_lines.result _ (λ refusal five. refl);
+  unlinked = λ told no. refl;
+  unbegun = λ reads. absurd (cc);
+})
+
+pub returns-in-ApplyForm-clause-carries : goal.returns-in-ApplyForm-clause-carries
+returns-in-ApplyForm-clause-carries g c = rw c.in-ApplyForm.is (record {
+  carries = c.apply_by_word.ensures.carries (g.O.Sink.seen c.args.out.now) (g.L.Link.seen c.args.link.now) g.O.Sink.tells g.L.Link.tells;
+  named = c.apply_by_word.ensures.named;
+  synced = c.apply_by_word.ensures.synced;
+  unfinished = of_refusal c.apply_by_word.result _ (λ refusal failed. tt);
+  untaken = λ one. of_refusal c.apply_by_word.result _ (λ refusal five. refl);
+  unlinked = λ told no. refl;
+  unbegun = λ reads. absurd (cc);
+})
+
+pub returns-in-Check-clause-carries : goal.returns-in-Check-clause-carries
+returns-in-Check-clause-carries g c = rw c.in-Check.is (record {
+  carries = c.check_file.ensures.carries (g.O.Sink.seen c.args.out.now) (g.E.Sink.seen c.args.err.now) (g.L.Link.seen c.args.link.now) g.O.Sink.tells g.E.Sink.tells g.L.Link.tells c.args.invocation.line;
+  named = on_err_weaker c.check_file.result (λ same told. same) c.check_file.ensures.named;
+  synced = c.check_file.ensures.synced;
+  unfinished = of_refusal c.check_file.result _ (λ refusal failed. tt);
+  untaken = λ one. of_refusal c.check_file.result _ (λ refusal five. refl);
+  unlinked = λ told no. refl;
+  unbegun = λ reads. absurd (cc);
+})
+
+pub convert_file-requires : goal.convert_file-requires
+convert_file-requires g c = rw c.in-Convert.is at c.requires.known
+
+pub returns-in-Convert-clause-carries : goal.returns-in-Convert-clause-carries
+returns-in-Convert-clause-carries g c = rw c.in-Convert.is (record {
+  carries = c.convert_file.ensures.carries (g.I.Source.seen c.args.input.now) (g.O.Sink.seen c.args.out.now) (g.E.Sink.seen c.args.err.now) (g.L.Link.seen c.args.link.now) g.I.Source.tells g.O.Sink.tells g.E.Sink.tells g.L.Link.tells c.args.invocation;
+  named = on_err_weaker c.convert_file.result (λ same told. same) c.convert_file.ensures.named;
+  synced = c.convert_file.ensures.synced;
+  unfinished = of_refusal c.convert_file.result _ (λ refusal failed. tt);
+  untaken = λ one. of_refusal c.convert_file.result _ (λ refusal five. refl);
+  unlinked = λ told no. refl;
+  unbegun = λ reads. absurd (cc);
+})
+
+pub serve_files-requires-clause-some : goal.serve_files-requires-clause-some
+serve_files-requires-clause-some g c = (rw c.in-Serve.is at c.requires.known).0
+
+pub serve_files-requires-clause-apart : goal.serve_files-requires-clause-apart
+serve_files-requires-clause-apart g c = (rw c.in-Serve.is at c.requires.known).1
+
+pub returns-in-Serve-clause-carries : goal.returns-in-Serve-clause-carries
+returns-in-Serve-clause-carries g c = rw c.in-Serve.is (record {
+  carries = c.serve_files.ensures.carries (g.I.Source.seen c.args.input.now) (g.O.Sink.seen c.args.out.now) (g.E.Sink.seen c.args.err.now) g.I.Source.tells g.O.Sink.tells g.E.Sink.tells c.args.invocation;
+  named = tt;
+  synced = on_ok_weaker c.serve_files.result (λ added told. added) c.serve_files.ensures.synced;
+  unfinished = c.serve_files.ensures.stopped;
+  untaken = λ one. of_refusal_weaker c.serve_files.result _ _ (λ refusal same five. ap g.L.Link.seen (same five)) c.serve_files.ensures.untaken;
+  unlinked = λ told no. absurd (cc);
+  unbegun = λ reads. absurd (cc);
+})
+
+pub returns-in-Script-clause-carries : goal.returns-in-Script-clause-carries
+returns-in-Script-clause-carries g c = rw (c.in-Script.is, c.unknown_command.ensures) (not_here_carried c.args.invocation _ _)
+
+pub returns-in-Generate-clause-carries : goal.returns-in-Generate-clause-carries
+returns-in-Generate-clause-carries g c = rw c.in-Generate.is (record {
+  carries = c.generate_file.ensures.carries (g.I.Source.seen c.args.input.now) (g.E.Sink.seen c.args.err.now) (g.L.Link.seen c.args.link.now) g.I.Source.tells g.E.Sink.tells g.L.Link.tells;
+  named = tt;
+  synced = c.generate_file.ensures.synced;
+  unfinished = of_refusal c.generate_file.result _ (λ refusal failed. tt);
+  untaken = λ one. of_refusal c.generate_file.result _ (λ refusal five. refl);
+  unlinked = λ told no. refl;
+  unbegun = λ reads. absurd (cc);
+})

@@ -1,0 +1,66 @@
+-- What is said of a command, and what all that carry one out keep to.
+use Rattle.std.specs.Prelude.{◌≡◌, ◌⊎◌, ℕ, Bool, false, None, IsTrue, IfErr, IfSome, OnErr, OnOk, List, Option, Result}
+use Rattle.std.specs.Result.{result_err}
+use Rattle.quota_blocks.specs.Unsynced.{AddsNone}
+use Rattle.quota_blocks.specs.World.{World}
+use Rattle.refusals.specs.declared.cause.Cause.{Cause}
+use Rattle.refusals.specs.declared.cause.Cause.TheVariants.{LinkFault}
+use Rattle.refusals.specs.declared.reason.Refusal.{Refusal}
+use Rattle.refusals.specs.Status.{status_of}
+use Rattle.run_steps.specs.Done.{Outside, RunSeen, RunTells}
+use Rattle.run_steps.specs.Run.{CarriesOut, Uses}
+use Rattle.run_steps.specs.Steps.{Steps}
+use Rattle.run_steps.specs.declared.invocation.Invocation.{Invocation}
+
+-- a command of these uses comes to use the link where it uses it, whatever the input says and whichever its refusal is
+abbrev pub links_as : Uses → List ℕ → Option Refusal → Bool
+links_as uses bytes refusal = uses.link
+
+-- All that is said of a command.
+pub record Description : Type 1 where
+  -- its steps, at a moment and in a line of a script or in none
+  pub steps : Invocation → Steps
+  -- which objects outside it uses
+  pub uses : Uses
+  -- the causes for which it may be refused, whatever is told, with the name that is said
+  pub may : Cause → List ℕ → Type 0
+  -- the refusal of its first faulty word, among those that stand for an identifier, a number or a time, where that rests on
+  -- nothing but the words
+  pub faulty : Option Refusal
+  -- the file that it replaces as a whole, which stays as it was where the command was refused
+  pub replaces : Option (List ℕ)
+  -- what is known of its words, wherever words ask for it
+  pub known : Type 0
+  -- what stands where it is said that the link failed: not all that was to be done with the link was done
+  pub unfinished : Invocation → RunTells → RunSeen → RunSeen → Type 0
+  -- what stands of the files at the end where an edit was refused, since the file of which the refusal speaks is full: its blocks would be so
+  -- many, and it may have no more than the limit
+  pub full : Invocation → Outside → World → Refusal → (blocks limit : ℕ) → Type 0
+  -- whether it came to use the link, by the bytes of the input and the refusal with which it ended, if it did with one
+  pub links : List ℕ → Option Refusal → Bool
+  -- conditions that make no step of it refused, whatever is chosen
+  pub suffices : Invocation → Outside → Type 0
+
+-- nothing was done but that the input was read
+pub record IsOnlyRead (old new : RunSeen) : Type 0 where
+  pub store : new.store ≡ old.store
+  pub out : new.out ≡ old.out
+  pub err : new.err ≡ old.err
+  pub link : new.link ≡ old.link
+
+-- a cause is a fault of something outside, or want of memory
+abbrev pub StopsIt : Cause → Type 0
+StopsIt cause = (status_of cause ≡ 4) ⊎ (status_of cause ≡ 5)
+
+-- A command was carried out but for its error line. Where it was refused, for whichever cause, a file that it replaces as a whole
+-- is as it was, and where it was done, what was written has been synced. The link is said to have failed only where not all was done
+-- with it; where memory was wanting for a command that reads no commands nothing was; and what came to no use of it left it as it was. Where
+-- commands were to be read, and what stopped that names no line, nothing was done but that the input was read.
+pub record IsCarriedOut (command : Description) (invocation : Invocation) (tells : RunTells) (old new : RunSeen) (result : Result (Unit {0}) Refusal) : Type 0 where
+  pub carries : CarriesOut (command.steps invocation) command.uses command.may tells old new result
+  pub named : IfSome command.replaces (λ (file : List ℕ). OnErr result (IsTrue tells.store → new.store.files file ≡ old.store.files file))
+  pub synced : OnOk result (IsTrue tells.store → AddsNone old.store.unsynced new.store.unsynced)
+  pub unfinished : IfErr result (λ (refusal : Refusal). refusal.cause ≡ LinkFault → command.unfinished invocation tells old new)
+  pub untaken : command.uses.reads_commands ≡ false → IfErr result (λ (refusal : Refusal). status_of refusal.cause ≡ 5 → new.link ≡ old.link)
+  pub unbegun : IsTrue command.uses.reads_commands → IfErr result (λ (refusal : Refusal). StopsIt refusal.cause → refusal.place.line ≡ None → IsOnlyRead old new)
+  pub unlinked : IsTrue tells.input → command.links old.input.left (result_err result) ≡ false → new.link ≡ old.link

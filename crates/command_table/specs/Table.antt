@@ -1,0 +1,234 @@
+-- The commands that stand alone or in a line of a script: a description of each, and what words ask for.
+use Rattle.std.specs.Prelude.{◌≡◌, ◌≢◌, ◌⊎◌, ◌<◌, ◌^◌, ℕ, [], IsTrue, ⊤, Bool, true, false, if◌then◌else◌, List, Option, Some, None, Result, Ok, Err}
+use Rattle.quota_types.specs.declared.file_kind.Format.{Format}
+use Rattle.quota_types.specs.declared.file_kind.Kind.{Kind}
+use Rattle.quota_blocks.specs.Replace.{replacement_name}
+use Rattle.quota_blocks.specs.World.{World}
+use Rattle.refusals.specs.declared.cause.Cause.{Cause}
+use Rattle.refusals.specs.declared.cause.Cause.TheVariants.{Memory, Usage}
+use Rattle.refusals.specs.declared.cause.UsageKind.TheVariants.{UnknownCommand}
+use Rattle.refusals.specs.declared.reason.Refusal.{Refusal}
+use Rattle.refusals.specs.Refusals.{refusal_of}
+use Rattle.report_text.specs.declared.options.Options.{Options}
+use Rattle.command_words.specs.declared.command.Command.{Command}
+use Rattle.command_words.specs.declared.command.Command.TheVariants.{Report, SetLimits, CopyLimits, SetGrace, SetTimes, Batch, PrintForm, ApplyForm, Check, Convert, Serve, Script, Generate}
+use Rattle.command_words.specs.declared.command.Common.{Common}
+use Rattle.run_steps.specs.Changing.{edit_uses}
+use Rattle.run_steps.specs.Done.{Outside, RunSeen, RunTells}
+use Rattle.run_steps.specs.Run.{Uses}
+use Rattle.run_steps.specs.Showing.{showing_uses}
+use Rattle.run_steps.specs.Steps.{Stop}
+use Rattle.run_steps.specs.declared.invocation.Invocation.{Invocation}
+use Rattle.edit_commands.specs.Apply.{ApplyMayRefuse, ApplySteps, apply_uses}
+use Rattle.edit_commands.specs.Batch.{BatchMayRefuse, BatchSteps, batch_uses}
+use Rattle.edit_commands.specs.EditWords.{words_warn}
+use Rattle.edit_commands.specs.Edits.{EditMayRefuse, EditSteps, faulty_edit}
+use Rattle.edit_commands.specs.Print.{PrintMayRefuse, PrintSteps, faulty_print}
+use Rattle.edit_commands.specs.Room.{IsFullForForm, IsFullForLine, IsFullForWords}
+use Rattle.edit_commands.specs.declared.edit.EditWords.{EditWords}
+use Rattle.edit_commands.specs.declared.edit.EditWords.TheVariants.{Limits, Copy, Grace, Times}
+use Rattle.file_commands.specs.Check.{CheckMayRefuse, CheckSteps, check_uses}
+use Rattle.file_commands.specs.Conversion.{ConvertMayRefuse, ConvertSteps}
+use Rattle.file_commands.specs.Generate.{GenerateMayRefuse, GenerateSteps, generate_uses}
+use Rattle.file_commands.specs.Report.{ReportMayRefuse, ReportSteps}
+use Rattle.option_words.specs.declared.export.Export.{Export}
+use Rattle.rquota_serve.specs.Exported.{Exported, nothing_exported}
+use Rattle.rquota_serve.specs.Serving.{Stopped}
+use Rattle.serve_command.specs.Serve.{AreExported, MayExport, ServeMayRefuse, ServeSteps, serve_uses}
+use Rattle.command_table.specs.Conditions.{CanApply, CanCheck, CanConvert, CanEdit, CanEditLines, CanPrint, CanReport}
+use Rattle.command_table.specs.Description.{Description, links_as}
+
+-- A description of each command.
+
+-- a command that edits no file: a check and a conversion make a file anew and look at none that is full
+abbrev pub edits_none : Invocation → Outside → World → Refusal → (blocks limit : ℕ) → Type 0
+edits_none invocation old files refusal blocks limit = ⊤
+
+-- the report of a file
+abbrev pub reporting : Common → Options → List ℕ → Description
+reporting common options file = record {
+  steps = ReportSteps common options file;
+  uses = showing_uses;
+  may = ReportMayRefuse common file;
+  faulty = None;
+  replaces = None;
+  known = ⊤;
+  unfinished = λ (invocation : Invocation) (tells : RunTells) (old new : RunSeen). ⊤;
+  full = edits_none;
+  links = links_as showing_uses;
+  suffices = λ (invocation : Invocation). CanReport common file;
+}
+
+-- An edit of a file. New times may be refused once they were set, where the error output fails in a warning.
+abbrev pub editing : Common → EditWords → List ℕ → Description
+editing common words file = record {
+  steps = EditSteps common words file;
+  uses = edit_uses (words_warn words);
+  may = EditMayRefuse common words file;
+  faulty = faulty_edit common words;
+  replaces = if words_warn words then None else Some file;
+  known = ⊤;
+  unfinished = λ (invocation : Invocation) (tells : RunTells) (old new : RunSeen). ⊤;
+  full = λ (invocation : Invocation) (old : Outside) (files : World) (refusal : Refusal) (blocks limit : ℕ).
+      (refusal.name ≡ file) × IsFullForWords common words file invocation.now old files blocks limit;
+  links = links_as (edit_uses (words_warn words));
+  suffices = CanEdit common words file;
+}
+
+-- new limits of many identifiers, a line each
+abbrev pub editing_lines : Common → Option (List ℕ) → List ℕ → Description
+editing_lines common input file = record {
+  steps = BatchSteps common input file;
+  uses = batch_uses input;
+  may = BatchMayRefuse common input file;
+  faulty = None;
+  replaces = None;
+  known = ⊤;
+  unfinished = λ (invocation : Invocation) (tells : RunTells) (old new : RunSeen). ⊤;
+  full = λ (invocation : Invocation) (old : Outside) (files : World) (refusal : Refusal) (blocks limit : ℕ).
+      (refusal.name ≡ file) × IsFullForLine common input file invocation.now old files blocks limit;
+  links = links_as (batch_uses input);
+  suffices = CanEditLines common input file;
+}
+
+-- the limits of an identifier as a form
+abbrev pub printing : Common → (name file : List ℕ) → Description
+printing common name file = record {
+  steps = PrintSteps common name file;
+  uses = showing_uses;
+  may = PrintMayRefuse common name file;
+  faulty = faulty_print common name;
+  replaces = None;
+  known = ⊤;
+  unfinished = λ (invocation : Invocation) (tells : RunTells) (old new : RunSeen). ⊤;
+  full = edits_none;
+  links = links_as showing_uses;
+  suffices = λ (invocation : Invocation). CanPrint common name file;
+}
+
+-- a form becomes the limits of an identifier
+abbrev pub applying : Common → Option (List ℕ) → (name file : List ℕ) → Description
+applying common input name file = record {
+  steps = ApplySteps common input name file;
+  uses = apply_uses input;
+  may = ApplyMayRefuse common input name file;
+  faulty = faulty_print common name;
+  replaces = Some file;
+  known = ⊤;
+  unfinished = λ (invocation : Invocation) (tells : RunTells) (old new : RunSeen). ⊤;
+  full = λ (invocation : Invocation) (old : Outside) (files : World) (refusal : Refusal) (blocks limit : ℕ).
+      (refusal.name ≡ file) × IsFullForForm common input name file invocation.now old files blocks limit;
+  links = links_as (apply_uses input);
+  suffices = CanApply common input name file;
+}
+
+-- the usage in a listing becomes that of a file
+abbrev pub checking : Common → (fresh : Bool) → (device : Option ℕ) → Option (List ℕ) → List ℕ → Description
+checking common fresh device input file = record {
+  steps = CheckSteps common fresh device input file;
+  uses = check_uses input;
+  may = CheckMayRefuse common fresh input file;
+  faulty = None;
+  replaces = Some file;
+  known = ⊤;
+  unfinished = λ (invocation : Invocation) (tells : RunTells) (old new : RunSeen). ⊤;
+  full = edits_none;
+  links = links_as (check_uses input);
+  suffices = CanCheck common fresh device input file;
+}
+
+-- A file in another format. The file that is read is not the one that the new one is written under first: no words ask for such a
+-- command, since no name of a file ends so.
+abbrev pub converting : Kind → (old new : Format) → (source target : List ℕ) → Description
+converting kind old new source target = record {
+  steps = ConvertSteps kind old new source target;
+  uses = edit_uses false;
+  may = ConvertMayRefuse kind old new source target;
+  faulty = None;
+  replaces = Some target;
+  known = source ≢ replacement_name target;
+  unfinished = λ (invocation : Invocation) (tells : RunTells) (old new : RunSeen). ⊤;
+  full = edits_none;
+  links = links_as (edit_uses false);
+  suffices = λ (invocation : Invocation). CanConvert kind old new source target;
+}
+
+-- Calls that are answered out of exported files. One call is to be answered at least, and the files may be exported one after another:
+-- no words ask for anything else. The link is said to have failed only where fewer datagrams were taken, or the last reply was not sent.
+abbrev pub serving : Option Format → (calls : ℕ) → List Export → Description
+serving format calls exports = record {
+  steps = ServeSteps format calls exports;
+  uses = serve_uses;
+  may = ServeMayRefuse format exports;
+  faulty = None;
+  replaces = None;
+  known = (0 < calls) × MayExport [] exports;
+  unfinished = λ (invocation : Invocation) (tells : RunTells) (old new : RunSeen). IsTrue tells.link
+      → Stopped (λ (exported : Exported). IsTrue tells.store × AreExported format old.store.files exports nothing_exported exported) calls old.link new.link;
+  full = edits_none;
+  links = links_as serve_uses;
+  suffices = λ (invocation : Invocation) (old : Outside). (exported : Exported) × AreExported format old.files exports nothing_exported exported;
+}
+
+-- A file out of a listing that is made, and a line on it. A count is one of 32 bits.
+abbrev pub generating : (seed count : ℕ) → List ℕ → Description
+generating seed count file = record {
+  steps = λ (invocation : Invocation). GenerateSteps seed count file invocation.now;
+  uses = generate_uses;
+  may = GenerateMayRefuse file;
+  faulty = None;
+  replaces = None;
+  known = ⊤;
+  unfinished = λ (invocation : Invocation) (tells : RunTells) (old new : RunSeen). ⊤;
+  full = edits_none;
+  links = links_as generate_uses;
+  suffices = λ (invocation : Invocation) (old : Outside). count < 2 ^ 32;
+}
+
+-- words that are refused use nothing
+abbrev pub use_nothing : Uses
+use_nothing = record { input = false; out = false; link = false; changes = false; all_or_nothing = true; warns = false; reads_commands = false; reads_edits = false }
+
+-- words that are refused are refused in every line and at every moment
+abbrev pub refused : Refusal → Description
+refused refusal = record {
+  steps = λ (invocation : Invocation). Stop refusal;
+  uses = use_nothing;
+  may = λ (cause : Cause) (name : List ℕ). refusal_of cause name ≡ refusal;
+  faulty = Some refusal;
+  replaces = None;
+  known = ⊤;
+  unfinished = λ (invocation : Invocation) (tells : RunTells) (old new : RunSeen). ⊤;
+  full = edits_none;
+  links = links_as use_nothing;
+  suffices = λ (invocation : Invocation) (old : Outside). ⊥;
+}
+
+-- what is said of a command that is unknown
+abbrev pub unknown_command : Refusal
+unknown_command = refusal_of (Usage UnknownCommand 0) []
+
+-- a command that would read commands is an unknown one here, since a script stands in no script
+abbrev pub not_here : Description
+not_here = record (refused unknown_command) { uses = record use_nothing { reads_commands = true } }
+
+-- The table: a row each.
+abbrev pub described : Command → Description
+described (Report common options file) = reporting common options file
+described (SetLimits common name limits file) = editing common (Limits name limits) file
+described (CopyLimits common proto name file) = editing common (Copy proto name) file
+described (SetGrace common block inode file) = editing common (Grace block inode) file
+described (SetTimes common name block inode file) = editing common (Times name block inode) file
+described (Batch common input file) = editing_lines common input file
+described (PrintForm common name file) = printing common name file
+described (ApplyForm common input name file) = applying common input name file
+described (Check common fresh device input file) = checking common fresh device input file
+described (Convert kind old new source target) = converting kind old new source target
+described (Serve format calls port exports) = serving format calls exports
+described Script = not_here
+described (Generate seed count file) = generating seed count file
+
+-- What is asked for by words that were read, by a table of commands, or their refusal. Memory may be wanting for the words of a command.
+abbrev pub asked_by : (Command → Description) → Result Command Refusal → Description
+asked_by table (Ok command) = record (table command) { may = λ (cause : Cause) (name : List ℕ). (cause ≡ Memory) ⊎ (table command).may cause name }
+asked_by table (Err refusal) = refused refusal

@@ -1,0 +1,91 @@
+-- What words ask for: that it looks at files before it changes one, reads the standard input to its end, and is sure.
+use Rattle.std.proofs.Common.{◌≡◌, ℕ, Bool, true, false, IsTrue, List, Ok, Err, Result, subst}
+use Rattle.refusals.specs.declared.reason.Refusal.{Refusal}
+use Rattle.command_words.specs.declared.command.Command.{Command}
+use Rattle.command_words.specs.Asked.{command_of}
+use Rattle.run_steps.specs.Done.{Outside}
+use Rattle.run_steps.specs.Meaning.{IsSure}
+use Rattle.run_steps.specs.OneCommand.{LooksFirst, ReadsToEnd}
+use Rattle.run_steps.specs.declared.invocation.Invocation.{Invocation}
+use Rattle.command_table.specs.Description.{Description}
+use Rattle.command_table.specs.Table.{asked_by, described}
+use Rattle.command_table.proofs.CommandLemmas.{Spares, asked_known, read_known, spares_single}
+use Rattle.command_table.proofs.FullLemmas.{IsFullSo, asked_by_full, command_full}
+use Rattle.command_table.proofs.StepLemmas.{command_looks, command_reads}
+use Rattle.command_table.proofs.SureLemmas.{asked_sure, command_sure}
+use Rattle.quota_cli.specs.Headline.{Setting, asked, steps_asked, uses_asked}
+use Rattle.quota_cli.specs.Script.{commanded, is_script, script_or, scripting}
+use Rattle.quota_cli.proofs.ScriptFullLemmas.{script_full}
+use Rattle.quota_cli.proofs.ScriptLemmas.{script_reads, script_sure}
+
+-- Rows of the table of the command line: a script, or another command.
+
+-- what holds of a script holds of the row of a command that is one
+pub as_script : (holds : Description → Type 0) (script : Bool) (command : Command) → true ≡ script → holds scripting → holds (script_or script (described command))
+as_script holds script command is one = subst (λ (b : Bool). holds (script_or b (described command))) is one
+
+-- what holds of another command holds of its row
+pub as_single : (holds : Description → Type 0) (script : Bool) (command : Command) → false ≡ script → holds (described command) → holds (script_or script (described command))
+as_single holds script command is one = subst (λ (b : Bool). holds (script_or b (described command))) is one
+
+looks_by : (script : Bool) (command : Command) (invocation : Invocation) → (script_or script (described command)).uses.reads_commands ≡ false
+    → LooksFirst true true ((script_or script (described command)).steps invocation)
+looks_by true command invocation one = absurd (cc)
+looks_by false command invocation one = command_looks command invocation
+
+reads_by : (script : Bool) (command : Command) (invocation : Invocation) → IsTrue (script_or script (described command)).uses.input
+    → ReadsToEnd ((script_or script (described command)).steps invocation)
+reads_by true command invocation uses = script_reads invocation
+reads_by false command invocation uses = command_reads command invocation uses
+
+sure_by : (script : Bool) (command : Command) (invocation : Invocation) (old : Outside) → (script_or script (described command)).suffices invocation old
+    → IsSure ((script_or script (described command)).steps invocation) old
+sure_by true command invocation old can = script_sure invocation old can
+sure_by false command invocation old can = command_sure command invocation old can
+
+full_by : (script : Bool) (command : Command) (invocation : Invocation) → IsFullSo (script_or script (described command)) invocation
+full_by true command invocation = script_full invocation
+full_by false command invocation = command_full command invocation
+
+spares_by : (script : Bool) (command : Command) → (script_or script (described command)).uses.reads_commands ≡ false → Spares (script_or script (described command)).may
+spares_by true command one = absurd (cc)
+spares_by false command one = spares_single command one
+
+-- no command of the command line that reads no commands is refused for its words
+pub spares_commanded : (command : Command) → (commanded command).uses.reads_commands ≡ false → Spares (commanded command).may
+spares_commanded command = spares_by (is_script command) command
+
+known_by : (script : Bool) (command : Command) → (described command).known → (script_or script (described command)).known
+known_by true command known = tt
+known_by false command known = known
+
+-- what is known of a command that words ask for
+pub commanded_known : (words : List (List ℕ)) (command : Command) → command_of false words ≡ Ok command → (commanded command).known
+commanded_known words command is = known_by (is_script command) command (read_known false words command is)
+
+-- What words ask for.
+
+asked_by_looks : (asks : Result Command Refusal) (invocation : Invocation) → (asked_by commanded asks).uses.reads_commands ≡ false → LooksFirst true true ((asked_by commanded asks).steps invocation)
+asked_by_looks (Ok command) invocation one = looks_by (is_script command) command invocation one
+asked_by_looks (Err refusal) invocation one = tt
+
+pub setting_looks : (setting : Setting) → (uses_asked setting).reads_commands ≡ false → LooksFirst true true (steps_asked setting)
+setting_looks setting one = asked_by_looks (command_of false setting.words) setting.invocation one
+
+asked_by_reads : (asks : Result Command Refusal) (invocation : Invocation) → IsTrue (asked_by commanded asks).uses.input → ReadsToEnd ((asked_by commanded asks).steps invocation)
+asked_by_reads (Ok command) invocation uses = reads_by (is_script command) command invocation uses
+asked_by_reads (Err refusal) invocation uses = absurd (cc)
+
+pub setting_reads : (setting : Setting) → IsTrue (uses_asked setting).input → ReadsToEnd (steps_asked setting)
+setting_reads setting uses = asked_by_reads (command_of false setting.words) setting.invocation uses
+
+-- where words ask for an edit that is refused since its file is full, the file has no room for it at the end
+pub setting_full : (setting : Setting) → IsFullSo (asked setting) setting.invocation
+setting_full setting = asked_by_full commanded (command_of false setting.words) setting.invocation (λ command. full_by (is_script command) command setting.invocation)
+
+pub setting_sure : (setting : Setting) (old : Outside) → (asked setting).suffices setting.invocation old → IsSure (steps_asked setting) old
+setting_sure setting old can =
+    asked_sure commanded (command_of false setting.words) setting.invocation old (λ command. sure_by (is_script command) command setting.invocation old) can
+
+pub setting_known : (setting : Setting) → (asked setting).known
+setting_known setting = asked_known commanded (command_of false setting.words) (commanded_known setting.words)

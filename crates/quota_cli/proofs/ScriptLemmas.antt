@@ -1,0 +1,345 @@
+-- Lines of a script that were carried out, one after another, and the script that they stand in.
+use Rattle.std.proofs.Common.{◌≡◌, ◌≤◌, ◌<◌, ◌+◌, ◌⊎◌, ℕ, Bool, true, false, cond, IsTrue, List, [], ◌∷◌, Option, None, Some, Ok, Err, Result, inl, inr, refl, sym, ap, subst, ◌∙◌, arith}
+use Rattle.std.specs.Prelude.{map, ◌&&◌, ◌||◌, IfErr, IfSome, OnOk, is_none}
+use Rattle.std.specs.Result.{result_err}
+use Rattle.std.specs.Str.{is_utf8}
+use Rattle.std.proofs.lemmas.Bool.{false≢true, le-leb}
+use Rattle.std.proofs.lemmas.Option.{none-some}
+use Rattle.std.proofs.lemmas.Result.{IfErr-weaker, on_ok_weaker}
+use Rattle.quota_blocks.specs.Behind.{IsBehind}
+use Rattle.quota_blocks.specs.Count.{Rose}
+use Rattle.quota_blocks.specs.InputLines.{InputLines, NoLine, LineThen, LongNext, PastNext, input_lines}
+use Rattle.quota_blocks.specs.Seen.{SourceSeen}
+use Rattle.quota_blocks.specs.Words.{words_of}
+use Rattle.quota_blocks.proofs.FrameLemmas.{adds_none-then, only_reads-none}
+use Rattle.refusals.specs.declared.cause.Cause.{Cause}
+use Rattle.refusals.specs.declared.cause.Cause.TheVariants.{LinkFault, TooLarge, LongLine, BadLine, Memory}
+use Rattle.refusals.specs.declared.reason.Place.{Place}
+use Rattle.refusals.specs.declared.reason.Refusal.{Refusal}
+use Rattle.refusals.specs.Outcome.{Passed, Refused}
+use Rattle.refusals.specs.Refusals.{in_line, refusal_of}
+use Rattle.run_steps.specs.Done.{Outside, RunSeen, RunTells, outside_of}
+use Rattle.run_steps.specs.Meaning.{IsSure, IsTaken}
+use Rattle.run_steps.specs.OneCommand.{ReadsToEnd}
+use Rattle.run_steps.specs.Run.{HasReason, Uses}
+use Rattle.run_steps.specs.Steps.{Before, InARow, Steps}
+use Rattle.run_steps.specs.declared.invocation.Invocation.{Invocation}
+use Rattle.run_steps.proofs.CarryingLemmas.{MayUseAll, carried_before, carried_in_line, carried_stopped, finish_carried, lined}
+use Rattle.run_steps.proofs.OpeningLemmas.{with_input}
+use Rattle.run_steps.proofs.PartLemmas.{nothing_begun}
+use Rattle.run_steps.proofs.PhaseLemmas.{LeadsTo, carries_more, carries_since, leads_reading, nothing_carried, placed_nowhere, stop_carried}
+use Rattle.script_lines.specs.Script.{IsOfScript, LineSaid, ScriptMayRefuse, ScriptSaid, lines_say, says_then, script_refusal, script_said}
+use Rattle.run_steps.specs.InputLine.{says_nothing}
+use Rattle.command_words.specs.Asked.{command_of}
+use Rattle.script_lines.specs.declared.script.ScriptFault.{ScriptFault}
+use Rattle.script_lines.specs.declared.script.ScriptFault.TheVariants.{Source, Memory as NoMemory}
+use Rattle.command_table.specs.Description.{IsCarriedOut, StopsIt}
+use Rattle.command_table.specs.Table.{asked_by, described}
+use Rattle.command_table.proofs.SureLemmas.{asked_sure, command_sure}
+use Rattle.quota_cli.specs.Carrying.{AreCarried, Ascends, IsLineCarried, IsOneOf, unread_cause}
+use Rattle.quota_cli.specs.Script.{IsLeftUnfinished, LineSteps, LinesSteps, LinesSuffice, RunningMayRefuse, ScriptSteps, asked_in_script, comes_to_link, is_come_to, is_up_to, line_invocation, script_uses, scripting}
+
+-- The numbers of lines.
+
+-- a line of lines whose numbers ascend from above one has a number above it
+above : (least number : ℕ) (lines : List LineSaid) → Ascends least lines → IsOneOf number lines → least < number
+above least number [] ascends one = absurd one
+above least number (line ∷ lines) ascends (inl is) = omega (arith, ascends.0, is)
+above least number (line ∷ lines) ascends (inr one) = let more = above line.number number lines ascends.1 one in omega (arith, ascends.0, more)
+
+ascends_then : (nothing utf8 : Bool) (least number : ℕ) (line : List ℕ) (more : ScriptSaid) → least < number → Ascends number more.lines → Ascends least more.lines
+    → Ascends least (says_then (cond nothing (Passed None) (cond utf8 (Passed (Some (record { number = number; text = line }))) (Refused (script_refusal (BadLine number))))) more).lines
+ascends_then true utf8 least number line more is one other = other
+ascends_then false true least number line more is one other = (is, one)
+ascends_then false false least number line more is one other = tt
+
+lines_ascend : (lines : InputLines) (least number : ℕ) → least < number → Ascends least (lines_say number lines).lines
+lines_ascend NoLine least number is = tt
+lines_ascend (LineThen line more) least number is =
+    ascends_then (says_nothing line) (is_utf8 line) least number line (lines_say (number + 1) more) is
+    (lines_ascend more number (number + 1) (omega arith)) (lines_ascend more least (number + 1) (omega (arith, is)))
+lines_ascend LongNext least number is = tt
+lines_ascend PastNext least number is = tt
+
+-- the numbers of the lines of a script ascend
+pub script_ascends : (bytes : List ℕ) → Ascends 0 (script_said bytes).lines
+script_ascends bytes = lines_ascend (input_lines 4096 16777216 bytes) 0 1 (omega arith)
+
+-- The lines that were come to.
+
+up_to : (place : Option ℕ) (line : LineSaid) (lines : List LineSaid) → Ascends line.number lines → IfSome place (λ (number : ℕ). IsOneOf number lines) → is_up_to place line.number ≡ true
+up_to None line lines ascends one = refl
+up_to (Some number) line lines ascends one = let more = above line.number number lines ascends one in le-leb line.number number (omega (arith, more))
+
+-- a line is come to where the ones behind it were carried out
+come_to : (result : Result (Unit {0}) Refusal) (line : LineSaid) (lines : List LineSaid) → Ascends line.number lines
+    → IfErr result (λ (refusal : Refusal). IfSome refusal.place.line (λ (number : ℕ). IsOneOf number lines)) → is_come_to (result_err result) line ≡ true
+come_to (Ok value) line lines ascends one = refl
+come_to (Err refusal) line lines ascends one = up_to refusal.place.line line lines ascends one
+
+own_number : (place : Option ℕ) (number : ℕ) → place ≡ Some number → is_up_to place number ≡ true
+own_number None number is = absurd (cc)
+own_number (Some last) number is = let same : last ≡ number = cc in le-leb number last (omega (arith, same))
+
+first_false : (a b : Bool) → (a || b) ≡ false → (a ≡ false) × (b ≡ false)
+first_false true b is = absurd (cc)
+first_false false b is = (refl, is)
+
+second_false : (a b : Bool) → a ≡ true → (a && b) ≡ false → b ≡ false
+second_false true b is none = none
+second_false false b is none = absurd (cc)
+
+-- Lines that were carried out.
+
+-- a line was refused, and the ones behind it did not come
+pub lines_stopped : (now : ℕ) (line : LineSaid) (lines : List LineSaid) (ended : Option Refusal) (tells : RunTells) (old new : RunSeen) (refusal : Refusal)
+    → IsLineCarried now line tells old new (Err refusal) → AreCarried now (line ∷ lines) ended tells old new (Err refusal)
+lines_stopped now line lines ended tells old new refusal carried = record {
+  carries = carried_stopped (LineSteps now line) (LinesSteps now lines ended) script_uses RunningMayRefuse tells old new refusal carried.carries;
+  synced = tt;
+  unfinished = λ failed. inl (carried.unfinished failed);
+  lined = λ stopped none. none-some line.number (sym none ∙ carried.named);
+  within = subst (λ (place : Option ℕ). IfSome place (λ (number : ℕ). IsOneOf number (line ∷ lines))) (sym carried.named) (inl refl);
+  unlinked = λ least ascends none.
+      carried.unlinked (second_false _ _ (own_number refusal.place.line line.number carried.named) (first_false _ _ none).0);
+}
+
+within_more : (place : Option ℕ) (line : LineSaid) (lines : List LineSaid) → IfSome place (λ (number : ℕ). IsOneOf number lines) → IfSome place (λ (number : ℕ). IsOneOf number (line ∷ lines))
+within_more None line lines one = tt
+within_more (Some number) line lines one = inr one
+
+-- a line was carried out, and then the ones behind it
+pub lines_passed : (now : ℕ) (line : LineSaid) (lines : List LineSaid) (ended : Option Refusal) (tells : RunTells) (old middle new : RunSeen) (passed : Unit {0}) (result : Result (Unit {0}) Refusal)
+    → IsLineCarried now line tells old middle (Ok passed) → AreCarried now lines ended tells middle new result → AreCarried now (line ∷ lines) ended tells old new result
+lines_passed now line lines ended tells old middle new passed result first then = record {
+  carries = carried_before (LineSteps now line) (LinesSteps now lines ended) script_uses RunningMayRefuse tells old middle new passed result refl first.carries then.carries;
+  synced = on_ok_weaker result (λ added told. adds_none-then old.store.unsynced middle.store.unsynced new.store.unsynced (first.synced told) (added told)) then.synced;
+  unfinished = IfErr-weaker result _ _ (λ refusal left failed. inr (middle, record { done = first.carries.done; unlinked = first.unlinked; later = first.carries.later }, left failed)) then.unfinished;
+  lined = then.lined;
+  within = IfErr-weaker result _ _ (λ refusal one. within_more refusal.place.line line lines one) then.within;
+  unlinked = λ least ascends none.
+      let parts = first_false (is_come_to (result_err result) line && (asked_in_script line.text).uses.link) (comes_to_link lines (result_err result)) none in
+      then.unlinked line.number ascends.1 parts.1
+      ∙ first.unlinked (second_false (is_come_to (result_err result) line) _ (come_to result line lines ascends.1 then.within) parts.0);
+}
+
+-- no line is left, and the script is not refused itself
+pub lines_done : (now : ℕ) (tells : RunTells) (old : RunSeen) (passed : Unit {0}) → AreCarried now [] None tells old old (Ok passed)
+lines_done now tells old passed = record {
+  carries = finish_carried script_uses RunningMayRefuse tells old passed;
+  synced = λ told name is. is;
+  unfinished = tt;
+  lined = tt;
+  within = tt;
+  unlinked = λ least ascends none. refl;
+}
+
+-- a cause for which a script itself is refused is no fault, and belongs to what is stated
+own_reason : (cause : Cause) (name : List ℕ) (tells : RunTells) (old : RunSeen) → ScriptMayRefuse cause name → (stated : Type 0) → stated → HasReason script_uses old old stated cause
+own_reason (BadLine line) name tells old may stated fact = fact
+own_reason (LongLine line) name tells old may stated fact = fact
+own_reason TooLarge name tells old may stated fact = fact
+own_reason _ name tells old may stated fact = absurd may
+
+-- nor does it stop the script as a fault or want of memory does
+own_no_stop : (cause : Cause) (name : List ℕ) → ScriptMayRefuse cause name → StopsIt cause → ⊥
+own_no_stop (BadLine line) name may (inl is) = omega (arith, is)
+own_no_stop (BadLine line) name may (inr is) = omega (arith, is)
+own_no_stop (LongLine line) name may (inl is) = omega (arith, is)
+own_no_stop (LongLine line) name may (inr is) = omega (arith, is)
+own_no_stop TooLarge name may (inl is) = omega (arith, is)
+own_no_stop TooLarge name may (inr is) = omega (arith, is)
+own_no_stop _ name may stopped = absurd may
+
+no_link_fault : (cause : Cause) (name : List ℕ) → ScriptMayRefuse cause name → cause ≡ LinkFault → ⊥
+no_link_fault LinkFault name may is = may
+no_link_fault (BadLine line) name may is = absurd (cc)
+no_link_fault (LongLine line) name may is = absurd (cc)
+no_link_fault TooLarge name may is = absurd (cc)
+no_link_fault _ name may is = may
+
+-- no line is left, and the script is refused itself
+pub lines_refused : (now : ℕ) (tells : RunTells) (old : RunSeen) (refusal : Refusal) → IsOfScript refusal → AreCarried now [] (Some refusal) tells old old (Err refusal)
+lines_refused now tells old refusal own = record {
+  carries = stop_carried script_uses RunningMayRefuse tells old refusal (own_reason refusal.cause refusal.name tells old own.may) (inr (inr (inl own.may))) (placed_nowhere script_uses refusal own.place);
+  synced = tt;
+  unfinished = λ failed. absurd (no_link_fault refusal.cause refusal.name own.may failed);
+  lined = λ stopped none. own_no_stop refusal.cause refusal.name own.may stopped;
+  within = subst (λ (place : Option ℕ). IfSome place (λ (number : ℕ). ⊥)) (sym (ap (λ (p : Place). p.line) own.place)) tt;
+  unlinked = λ least ascends none. refl;
+}
+
+-- What a line asks for.
+
+-- a script may do all that a line does
+widest : MayUseAll script_uses
+widest = record { link = refl; changes = refl; whole = refl; warns = refl; commands = refl; edits = refl }
+
+-- what holds where it was done holds in a line
+ok_in_line : (line : ℕ) (holds : Type 0) (done result : Result (Unit {0}) Refusal) → result_err result ≡ in_line line (result_err done) → OnOk done holds → OnOk result holds
+ok_in_line line holds (Ok passed) (Ok value) is holding = holding
+ok_in_line line holds (Err refusal) (Ok value) is holding = absurd (none-some _ is)
+ok_in_line line holds done (Err refusal) is holding = tt
+
+-- what holds of a refusal and of its reason holds of it in a line
+err_in_line : (line : ℕ) (first second holds : Refusal → Type 0) (done result : Result (Unit {0}) Refusal) → result_err result ≡ in_line line (result_err done)
+    → ((refusal : Refusal) → first refusal → second refusal → holds (lined line refusal)) → IfErr done first → IfErr done second → IfErr result holds
+err_in_line line first second holds (Ok passed) (Ok value) is so one two = tt
+err_in_line line first second holds (Ok passed) (Err refusal) is so one two = absurd (none-some refusal (sym is))
+err_in_line line first second holds (Err refusal) (Ok value) is so one two = tt
+err_in_line line first second holds (Err refusal) (Err said) is so one two =
+    let same : said ≡ lined line refusal = cc in
+    subst holds (sym same) (so refusal one two)
+
+-- the link fails only for a command that uses it
+link_used : (uses : Uses) (old new : RunSeen) (stated : Type 0) (cause : Cause) → HasReason uses old new stated cause → cause ≡ LinkFault → IsTrue uses.link
+link_used uses old new stated cause reason is = (subst (λ (c : Cause). HasReason uses old new stated c) is reason).0
+
+-- what a line asks for was carried out, and so was the line
+pub line_carried : (now : ℕ) (line : LineSaid) (tells : RunTells) (old new : RunSeen) (done result : Result (Unit {0}) Refusal) → result_err result ≡ in_line line.number (result_err done)
+    → ((asked_in_script line.text).uses.link ≡ false → new.link ≡ old.link) → IsCarriedOut (asked_in_script line.text) (line_invocation now line) tells old new done → IsLineCarried now line tells old new result
+line_carried now line tells old new done result is unlinked carried =
+    let asked = asked_in_script line.text in
+    record {
+      carries = carried_in_line line.number (asked.steps (line_invocation now line)) asked.uses script_uses RunningMayRefuse tells old new done result widest is
+          (carries_more (asked.steps (line_invocation now line)) asked.uses asked.may RunningMayRefuse tells old new done (λ cause name may. inr (inr (inr (line.text, may)))) carried.carries);
+      synced = ok_in_line line.number _ done result is carried.synced;
+      unfinished = err_in_line line.number _ _ _ done result is
+          (λ refusal reason left failed. (link_used asked.uses old new _ refusal.cause reason failed, left failed)) carried.carries.refused carried.unfinished;
+      unlinked = unlinked;
+      named = err_in_line line.number _ _ _ done result is (λ refusal reason left. refl) carried.carries.refused carried.unfinished;
+    }
+
+-- words of a line were carried out
+pub text_carried : (text : List ℕ) (invocation : Invocation) (tells : RunTells) (old new : RunSeen) (result : Result (Unit {0}) Refusal)
+    → IsCarriedOut (asked_by described (command_of true (words_of text))) invocation tells old new result → IsCarriedOut (asked_in_script text) invocation tells old new result
+text_carried text invocation tells old new result carried = record {
+  carries = carries_more _ _ _ (asked_in_script text).may tells old new result (λ cause name may. inr may) carried.carries;
+  named = carried.named;
+  synced = carried.synced;
+  unfinished = carried.unfinished;
+  untaken = carried.untaken;
+  unlinked = carried.unlinked;
+  unbegun = carried.unbegun;
+}
+
+every_file : (file : Option (List ℕ)) (holds : List ℕ → Type 0) → ((one : List ℕ) → holds one) → IfSome file holds
+every_file None holds all = tt
+every_file (Some one) holds all = all one
+
+-- memory was wanting for the words of a line
+pub text_wanting : (text : List ℕ) (invocation : Invocation) (tells : RunTells) (old : RunSeen) → IsCarriedOut (asked_in_script text) invocation tells old old (Err (refusal_of Memory []))
+text_wanting text invocation tells old =
+    let asked = asked_in_script text in
+    record {
+      carries = nothing_carried (asked.steps invocation) asked.uses asked.may tells old (refusal_of Memory []) tt (inl refl) (placed_nowhere asked.uses (refusal_of Memory []) refl);
+      named = every_file asked.replaces _ (λ file told. refl);
+      synced = tt;
+      unfinished = λ failed. absurd (cc);
+      untaken = λ one five. refl;
+      unlinked = λ told none. refl;
+      unbegun = λ reads stopped none. record { store = refl; out = refl; err = refl; link = refl };
+    }
+
+-- A script.
+
+-- lines that were said are those of the script
+lines_lead : (invocation : Invocation) (old : RunSeen) (input : SourceSeen) (said : ScriptSaid) → script_said old.input.left ≡ said → IsTaken (is_none said.refusal) old.input.left input.left
+    → LeadsTo (LinesSteps invocation.now said.lines said.refusal) (record (outside_of old) { input = input.left }) (ScriptSteps invocation) (outside_of old)
+lines_lead invocation old input said is taken =
+    let whole = λ (bytes : List ℕ). is_none (script_said bytes).refusal in
+    let next = λ (bytes : List ℕ). LinesSteps invocation.now (script_said bytes).lines (script_said bytes).refusal in
+    subst (λ (s : ScriptSaid). LeadsTo (LinesSteps invocation.now s.lines s.refusal) (record (outside_of old) { input = input.left }) (ScriptSteps invocation) (outside_of old)) is
+    (leads_reading whole next (outside_of old) input.left (subst (λ (s : ScriptSaid). IsTaken (is_none s.refusal) old.input.left input.left) (sym is) taken))
+
+-- the input is read to its end where the script is not refused itself
+script_taken : (refusal : Option Refusal) (old left : List ℕ) → IsBehind old left → (refusal ≡ None → left ≡ []) → IsTaken (is_none refusal) old left
+script_taken None old left behind ended = record { taken = behind.0; behind = behind.1; all = λ all. ended refl }
+script_taken (Some refusal) old left behind ended = record { taken = behind.0; behind = behind.1; all = λ all. absurd (false≢true all) }
+
+-- a script was read, and its lines were carried out
+pub script_carried : (invocation : Invocation) (tells : RunTells) (old : RunSeen) (input : SourceSeen) (new : RunSeen) (result : Result (Unit {0}) Refusal) (said : ScriptSaid)
+    → old.input.faults ≤ input.faults → (IsTrue tells.input → script_said old.input.left ≡ said) → (IsTrue tells.input → IsBehind old.input.left input.left)
+    → (said.refusal ≡ None → IsTrue tells.input → input.left ≡ []) → AreCarried invocation.now said.lines said.refusal tells (with_input old input) new result → IsCarriedOut scripting invocation tells old new result
+script_carried invocation tells old input new result said later is behind ended carried = record {
+  carries = carries_since [] (LinesSteps invocation.now said.lines said.refusal) (ScriptSteps invocation) script_uses true RunningMayRefuse RunningMayRefuse tells old old.store input new result
+      (only_reads-none [] old.store) later (λ told. lines_lead invocation old input said (is told.input)
+      (script_taken said.refusal old.input.left input.left (behind told.input) (λ none. ended none told.input))) (λ cause name may. may) carried.carries;
+  named = tt;
+  synced = carried.synced;
+  unfinished = IfErr-weaker result _ _ (λ refusal left failed told. (
+    input,
+    subst (λ (s : ScriptSaid). IsLeftUnfinished invocation.now s.lines tells (with_input old input) new) (sym (is told)) (left failed),
+  )) carried.unfinished;
+  untaken = λ one. absurd (false≢true (sym one));
+  unbegun = λ reads. IfErr-weaker result _ _ (λ refusal no stopped none. absurd (no stopped none)) carried.lined;
+  unlinked = λ told none. carried.unlinked 0 (subst (λ (s : ScriptSaid). Ascends 0 s.lines) (is told) (script_ascends old.input.left))
+      (subst (λ (s : ScriptSaid). comes_to_link s.lines (result_err result) ≡ false) (is told) none);
+}
+
+unread_reason : (fault : ScriptFault) (old new : RunSeen) (stated : Type 0) → (fault ≡ Source → Rose old.input.faults new.input.faults) → HasReason script_uses old new stated (unread_cause fault)
+unread_reason Source old new stated rose = rose refl
+unread_reason NoMemory old new stated rose = tt
+
+unread_may : (fault : ScriptFault) → RunningMayRefuse (unread_cause fault) []
+unread_may Source = inl refl
+unread_may NoMemory = inr (inl refl)
+
+unread_unlinked : (fault : ScriptFault) → unread_cause fault ≡ LinkFault → ⊥
+unread_unlinked Source is = absurd (cc)
+unread_unlinked NoMemory is = absurd (cc)
+
+-- a script was not read
+pub script_unread : (invocation : Invocation) (tells : RunTells) (old : RunSeen) (input : SourceSeen) (fault : ScriptFault) → old.input.faults ≤ input.faults → (fault ≡ Source → Rose old.input.faults input.faults)
+    → IsCarriedOut scripting invocation tells old (with_input old input) (Err (refusal_of (unread_cause fault) []))
+script_unread invocation tells old input fault later rose = record {
+  carries = record {
+    done = tt;
+    refused = unread_reason fault old (with_input old input) _ rose;
+    part = λ told. nothing_begun (ScriptSteps invocation) tells old (with_input old input) refl (λ is. refl) (λ is. refl) refl refl refl;
+    may_refuse = unread_may fault;
+    placed = record { line = λ none. refl; input_line = λ none. refl };
+    only_reads = λ only. record { files = refl; writes = refl };
+    all_or_nothing = λ whole other. record { files = refl; writes = refl };
+    quiet = λ none. refl;
+    later = record { store = omega arith; input = later; out = omega arith; err = omega arith; link = omega arith };
+  };
+  named = tt;
+  synced = tt;
+  unfinished = λ failed. absurd (unread_unlinked fault failed);
+  untaken = λ one five. refl;
+  unlinked = λ told none. refl;
+  unbegun = λ reads stopped none. record { store = refl; out = refl; err = refl; link = refl };
+}
+
+-- It reads the input to its end, and is sure.
+
+lines_read_on : (now : ℕ) (lines : List LineSaid) (refusal : Refusal) → ReadsToEnd (LinesSteps now lines (Some refusal))
+lines_read_on now [] refusal = tt
+lines_read_on now (line ∷ lines) refusal = inr (lines_read_on now lines refusal)
+
+read_by : (now : ℕ) (lines : List LineSaid) (refusal : Option Refusal) → IsTrue (is_none refusal) ⊎ ReadsToEnd (LinesSteps now lines refusal)
+read_by now lines None = inl refl
+read_by now lines (Some refusal) = inr (lines_read_on now lines refusal)
+
+pub script_reads : (invocation : Invocation) → ReadsToEnd (ScriptSteps invocation)
+script_reads invocation = λ bytes. read_by invocation.now (script_said bytes).lines (script_said bytes).refusal
+
+lines_are_sure : (now : ℕ) (lines : List LineSaid) (old : Outside) → LinesSuffice now lines old → IsSure (LinesSteps now lines None) old
+lines_are_sure now [] old can = refl
+lines_are_sure now (line ∷ lines) old can = (
+  asked_sure described (command_of true (words_of line.text)) (line_invocation now line) old (λ command. command_sure command (line_invocation now line) old) can.0,
+  λ acts middle ends. lines_are_sure now lines middle (can.1 acts middle ends),
+)
+
+pub script_sure : (invocation : Invocation) (old : Outside) → scripting.suffices invocation old → IsSure (ScriptSteps invocation) old
+script_sure invocation old can = λ left taken.
+    let said = script_said old.input in
+    let none : left ≡ [] = taken.all (subst (λ (r : Option Refusal). IsTrue (is_none r)) (sym can.0) refl) in
+    subst (λ (r : Option Refusal). IsSure (LinesSteps invocation.now said.lines r) (record old { input = left })) (sym can.0)
+    (subst (λ (l : List ℕ). IsSure (LinesSteps invocation.now said.lines None) (record old { input = l })) (sym none) (lines_are_sure invocation.now said.lines (record old { input = [] }) can.1))
+
+-- lines of a script that is not refused itself are commands in a row
+pub lines_in_a_row : (now : ℕ) (lines : List LineSaid) → LinesSteps now lines None ≡ InARow (map (LineSteps now) lines)
+lines_in_a_row now [] = refl
+lines_in_a_row now (line ∷ lines) = ap (λ (others : Steps). Before (LineSteps now line) others) (lines_in_a_row now lines)

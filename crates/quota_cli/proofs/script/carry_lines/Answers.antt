@@ -1,0 +1,99 @@
+use Rattle.std.proofs.Common.{◌≡◌, ◌+◌, [], ◌∷◌, Ok, Err, List, Option, None, Some, false, drop, map, refl, sym, ap, subst, ◌∙◌, arith}
+use Rattle.std.proofs.lemmas.List.{drop_all, drop_more}
+use Rattle.std.specs.Prelude.{IfSome}
+use Rattle.refusals.specs.declared.reason.Refusal.{Refusal}
+use Rattle.run_steps.specs.Done.{seen_of, tells_of}
+use Rattle.script_lines.specs.Script.{IsOfScript, line_read}
+use Rattle.script_lines.specs.declared.script.ScriptLine.{ScriptLine}
+use Rattle.quota_cli.specs.Carrying.{AreCarried}
+use Rattle.quota_cli.proofs.ScriptLemmas.{lines_done, lines_passed, lines_refused, lines_stopped}
+use Rattle.quota_cli.proofs.script.carry_lines.Goals as goal
+
+pub loop-line-init : goal.loop-line-init
+loop-line-init g c = record {
+  onward = λ new result carried. carried;
+  same = refl;
+  kept = g.met.I.Source.keeps_any _ _ (g.met.I.Source.keeps_itself _);
+}
+
+pub loop-line-preserved : goal.loop-line-preserved
+loop-line-preserved g c =
+    let S = g.S.Store in
+    let I = g.I.Source in
+    let O = g.O.Sink in
+    let E = g.E.Sink in
+    let L = g.L.Link in
+    let kept = c.loop-line.invariant in
+    let tells = tells_of S.tells I.tells O.tells E.tells L.tells in
+    let before = seen_of (S.seen c.loop-line.store) (I.seen c.loop-line.input) (O.seen c.loop-line.out) (E.seen c.loop-line.err) (L.seen c.loop-line.link) in
+    let after = seen_of (S.seen c.carry_line.new.store) (I.seen c.carry_line.new.input) (O.seen c.carry_line.new.out) (E.seen c.carry_line.new.err) (L.seen c.carry_line.new.link) in
+    let lines = c.args.lines.now in
+    let line = c.line-item.result in
+    let rest = drop (c.loop-line.line-index + 1) lines in
+    let here : drop c.loop-line.line-index lines ≡ line ∷ rest =
+    drop_more lines c.loop-line.line-index line c.loop-line-test.true ∙ ap (λ (l : ScriptLine). l ∷ rest) (sym c.line-item.is) in
+    record {
+      onward = λ new result carried.
+          kept.onward new result
+          (subst (λ (l : List ScriptLine). AreCarried c.args.now (map line_read l) c.args.refusal tells before new result)
+          (sym here)
+          (lines_passed c.args.now (line_read line) (map line_read rest) c.args.refusal tells before after new tt result c.in-Ok.ensures.carries carried));
+      same = kept.same;
+      kept = g.met.I.Source.keeps_on false false _ _ _ kept.kept c.carry_line.ensures.source;
+    }
+
+pub returns-in-Err-clause-carries : goal.returns-in-Err-clause-carries
+returns-in-Err-clause-carries g c =
+    let S = g.S.Store in
+    let I = g.I.Source in
+    let O = g.O.Sink in
+    let E = g.E.Sink in
+    let L = g.L.Link in
+    let kept = c.loop-line.invariant in
+    let tells = tells_of S.tells I.tells O.tells E.tells L.tells in
+    let before = seen_of (S.seen c.loop-line.store) (I.seen c.loop-line.input) (O.seen c.loop-line.out) (E.seen c.loop-line.err) (L.seen c.loop-line.link) in
+    let after = seen_of (S.seen c.carry_line.new.store) (I.seen c.carry_line.new.input) (O.seen c.carry_line.new.out) (E.seen c.carry_line.new.err) (L.seen c.carry_line.new.link) in
+    let lines = c.args.lines.now in
+    let line = c.line-item.result in
+    let rest = drop (c.loop-line.line-index + 1) lines in
+    let here : drop c.loop-line.line-index lines ≡ line ∷ rest =
+    drop_more lines c.loop-line.line-index line c.loop-line-test.true ∙ ap (λ (l : ScriptLine). l ∷ rest) (sym c.line-item.is) in
+    kept.onward after (Err c.in-Err.stop)
+    (subst (λ (l : List ScriptLine). AreCarried c.args.now (map line_read l) c.args.refusal tells before after (Err c.in-Err.stop))
+    (sym here)
+    (lines_stopped c.args.now (line_read line) (map line_read rest) c.args.refusal tells before after c.in-Err.stop c.in-Err.ensures.carries))
+
+pub returns-in-Err-clause-source : goal.returns-in-Err-clause-source
+returns-in-Err-clause-source g c = g.met.I.Source.keeps_on false false _ _ _ c.loop-line.invariant.kept c.carry_line.ensures.source
+
+pub returns-in-None-clause-carries : goal.returns-in-None-clause-carries
+returns-in-None-clause-carries g c =
+    let S = g.S.Store in
+    let I = g.I.Source in
+    let O = g.O.Sink in
+    let E = g.E.Sink in
+    let L = g.L.Link in
+    let tells = tells_of S.tells I.tells O.tells E.tells L.tells in
+    let now = seen_of (S.seen c.loop-line.store) (I.seen c.loop-line.input) (O.seen c.loop-line.out) (E.seen c.loop-line.err) (L.seen c.loop-line.link) in
+    let at_end : drop c.loop-line.line-index c.args.lines.now ≡ [] = drop_all c.loop-line.line-index c.args.lines.now (omega arith) in
+    let none : c.args.refusal ≡ None = sym c.loop-line.invariant.same ∙ c.in-None.is in
+    c.loop-line.invariant.onward now (Ok tt)
+    (subst (λ (r : Option Refusal). AreCarried c.args.now (map line_read (drop c.loop-line.line-index c.args.lines.now)) r tells now now (Ok tt)) (sym none)
+    (subst (λ (l : List ScriptLine). AreCarried c.args.now (map line_read l) None tells now now (Ok tt)) (sym at_end) (lines_done c.args.now tells now tt)))
+
+pub returns-in-Some-clause-carries : goal.returns-in-Some-clause-carries
+returns-in-Some-clause-carries g c =
+    let S = g.S.Store in
+    let I = g.I.Source in
+    let O = g.O.Sink in
+    let E = g.E.Sink in
+    let L = g.L.Link in
+    let tells = tells_of S.tells I.tells O.tells E.tells L.tells in
+    let now = seen_of (S.seen c.loop-line.store) (I.seen c.loop-line.input) (O.seen c.loop-line.out) (E.seen c.loop-line.err) (L.seen c.loop-line.link) in
+    let at_end : drop c.loop-line.line-index c.args.lines.now ≡ [] = drop_all c.loop-line.line-index c.args.lines.now (omega arith) in
+    let refusal = c.in-Some.refusal in
+    let some : c.args.refusal ≡ Some refusal = sym c.loop-line.invariant.same ∙ c.in-Some.is in
+    c.loop-line.invariant.onward now (Err refusal)
+    (subst (λ (r : Option Refusal). AreCarried c.args.now (map line_read (drop c.loop-line.line-index c.args.lines.now)) r tells now now (Err refusal)) (sym some)
+    (subst (λ (l : List ScriptLine). AreCarried c.args.now (map line_read l) (Some refusal) tells now now (Err refusal)) (sym at_end)
+    (lines_refused c.args.now tells now refusal (subst (λ (r : Option Refusal). IfSome r IsOfScript) some c.requires))))

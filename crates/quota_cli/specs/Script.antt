@@ -1,0 +1,139 @@
+-- A script: the commands that the lines of the standard input ask for, one after another. Source: this project's own.
+use Rattle.std.specs.Prelude.{◌≡◌, ◌⊎◌, ℕ, ⊤, Bool, true, false, ◌&&◌, nat_le, IsTrue, List, [], ◌∷◌, Option, Some, None, is_none}
+use Rattle.std.specs.List.{list_any}
+use Rattle.quota_blocks.specs.Seen.{SourceSeen}
+use Rattle.quota_blocks.specs.Words.{words_of}
+use Rattle.quota_blocks.specs.World.{World}
+use Rattle.refusals.specs.declared.cause.Cause.{Cause}
+use Rattle.refusals.specs.declared.cause.Cause.TheVariants.{Memory, SourceFault}
+use Rattle.refusals.specs.declared.reason.Refusal.{Refusal}
+use Rattle.refusals.specs.Refusals.{in_line}
+use Rattle.command_words.specs.Asked.{command_of}
+use Rattle.command_words.specs.declared.command.Command.{Command}
+use Rattle.command_words.specs.declared.command.Command.TheVariants.{Script as ScriptCommand}
+use Rattle.run_steps.specs.Act.{Act}
+use Rattle.run_steps.specs.Done.{IsLater, IsWorldTold, Outside, RunSeen, RunTells}
+use Rattle.run_steps.specs.Meaning.{EndsBy}
+use Rattle.run_steps.specs.Run.{HasSteps, Uses}
+use Rattle.run_steps.specs.Steps.{Before, Ending, InLine, Reading, Steps}
+use Rattle.run_steps.specs.declared.invocation.Invocation.{Invocation}
+use Rattle.script_lines.specs.Script.{LineSaid, ScriptMayRefuse, script_said}
+use Rattle.command_table.specs.Description.{Description}
+use Rattle.command_table.specs.Table.{asked_by, described}
+
+-- Lines.
+
+-- What the words of a line ask for: in a script there is no other script, and what reads an input has to name it. Memory may be
+-- wanting for the words of a line, whatever they ask for.
+abbrev pub asked_in_script : (text : List ℕ) → Description
+asked_in_script text =
+    let command = asked_by described (command_of true (words_of text)) in
+    record command { may = λ (cause : Cause) (name : List ℕ). (cause ≡ Memory) ⊎ command.may cause name }
+
+-- a command in a line of a script, at a moment
+abbrev pub line_invocation : (now : ℕ) → LineSaid → Invocation
+line_invocation now line = record { now = now; line = Some line.number }
+
+-- the steps of what a line asks for, in that line
+abbrev pub LineSteps : (now : ℕ) → LineSaid → Steps
+LineSteps now line = InLine line.number ((asked_in_script line.text).steps (line_invocation now line))
+
+-- lines one after another, up to one that is refused, and behind the last one the refusal of the script itself, if there is one
+abbrev pub LinesSteps : (now : ℕ) → List LineSaid → Option Refusal → Steps
+LinesSteps now [] refusal = Ending refusal
+LinesSteps now (line ∷ lines) refusal = Before (LineSteps now line) (LinesSteps now lines refusal)
+
+-- A script is read before the first of its lines is carried out, and to the end of the input where it is not refused itself.
+abbrev pub ScriptSteps : Invocation → Steps
+ScriptSteps invocation =
+    Reading (λ (bytes : List ℕ). is_none (script_said bytes).refusal)
+    (λ (bytes : List ℕ). LinesSteps invocation.now (script_said bytes).lines (script_said bytes).refusal)
+
+-- What a script does.
+
+-- a script may do what any of its lines does
+abbrev pub script_uses : Uses
+script_uses = record { input = true; out = true; link = true; changes = true; all_or_nothing = false; warns = true; reads_commands = true; reads_edits = true }
+
+-- The causes for which a script may be refused, whatever is told, with the name that is said: the input fails, memory is wanting, the
+-- script itself is refused, or what words in a line ask for is.
+abbrev pub RunningMayRefuse : Cause → List ℕ → Type 0
+RunningMayRefuse cause name =
+    (cause ≡ SourceFault) ⊎ ((cause ≡ Memory) ⊎ (ScriptMayRefuse cause name ⊎ ((text : List ℕ) × (asked_in_script text).may cause name)))
+
+-- A line was carried out: its steps ended well, and the link is as it was where the line does not use it.
+pub record IsLineDone (now : ℕ) (line : LineSaid) (tells : RunTells) (old new : RunSeen) : Type 0 where
+  pub done : IsWorldTold tells → HasSteps (LineSteps now line) tells None old new
+  pub unlinked : (asked_in_script line.text).uses.link ≡ false → new.link ≡ old.link
+  pub later : IsLater old new
+
+-- One of the lines uses the link and was left unfinished, once those before it were carried out.
+abbrev pub IsLeftUnfinished : (now : ℕ) → List LineSaid → RunTells → RunSeen → RunSeen → Type 0
+IsLeftUnfinished now [] tells old new = ⊥
+IsLeftUnfinished now (line ∷ lines) tells old new =
+    (IsTrue (asked_in_script line.text).uses.link × (asked_in_script line.text).unfinished (line_invocation now line) tells old new)
+    ⊎ ((middle : RunSeen) × IsLineDone now line tells old middle × IsLeftUnfinished now lines tells middle new)
+
+-- One of the lines was refused since the file that it edits is full, once those before it were carried out: the one in which the
+-- refusal stands.
+abbrev pub IsFullInLine : (now : ℕ) → List LineSaid → Outside → World → Refusal → (blocks limit : ℕ) → Type 0
+IsFullInLine now [] old files refusal blocks limit = ⊥
+IsFullInLine now (line ∷ lines) old files refusal blocks limit =
+    ((own : Refusal) × (Some refusal ≡ in_line line.number (Some own)) × (asked_in_script line.text).full (line_invocation now line) old files own blocks limit)
+    ⊎ ((acts : List Act) × (middle : Outside) × EndsBy (LineSteps now line) old acts middle None × IsFullInLine now lines middle files refusal blocks limit)
+
+-- a line of this number is not behind the line of that number, if there is one
+abbrev pub is_up_to : Option ℕ → (number : ℕ) → Bool
+is_up_to None number = true
+is_up_to (Some last) number = nat_le number last
+
+-- a line is come to by a script that ends with this refusal, or with none: it is not behind the line in which the refusal stands
+abbrev pub is_come_to : Option Refusal → LineSaid → Bool
+is_come_to None line = true
+is_come_to (Some refusal) line = is_up_to refusal.place.line line.number
+
+-- one of these lines is come to and uses the link
+abbrev pub comes_to_link : List LineSaid → Option Refusal → Bool
+comes_to_link lines refusal = list_any (λ (line : LineSaid). is_come_to refusal line && (asked_in_script line.text).uses.link) lines
+
+-- each line asks for a command whose conditions hold in whatever those before it may leave
+abbrev pub LinesSuffice : (now : ℕ) → List LineSaid → Outside → Type 0
+LinesSuffice now [] old = ⊤
+LinesSuffice now (line ∷ lines) old =
+    (asked_in_script line.text).suffices (line_invocation now line) old
+    × ((acts : List Act) (middle : Outside) → EndsBy (LineSteps now line) old acts middle None → LinesSuffice now lines middle)
+
+-- The commands of the command line.
+
+-- The commands that the lines of the standard input ask for. The link is said to have failed only in a line that was left unfinished;
+-- a script that is not refused itself takes the whole input, so its lines find nothing left of it.
+abbrev pub scripting : Description
+scripting = record {
+  steps = ScriptSteps;
+  uses = script_uses;
+  may = RunningMayRefuse;
+  faulty = None;
+  replaces = None;
+  known = ⊤;
+  unfinished = λ (invocation : Invocation) (tells : RunTells) (old new : RunSeen). IsTrue tells.input
+      → (input : SourceSeen) × IsLeftUnfinished invocation.now (script_said old.input.left).lines tells (record old { input = input }) new;
+  full = λ (invocation : Invocation) (old : Outside) (files : World) (refusal : Refusal) (blocks limit : ℕ). (left : List ℕ)
+      × IsFullInLine invocation.now (script_said old.input).lines (record old { input = left }) files refusal blocks limit;
+  links = λ (bytes : List ℕ). comes_to_link (script_said bytes).lines;
+  suffices = λ (invocation : Invocation) (old : Outside). ((script_said old.input).refusal ≡ None)
+      × LinesSuffice invocation.now (script_said old.input).lines (record old { input = [] });
+}
+
+-- a command is a script
+abbrev pub is_script : Command → Bool
+is_script ScriptCommand = true
+is_script _ = false
+
+-- a script, or else this command
+abbrev pub script_or : (script : Bool) → Description → Description
+script_or true command = scripting
+script_or false command = command
+
+-- the table of the command line: a script, and each command that may stand in one
+abbrev pub commanded : Command → Description
+commanded command = script_or (is_script command) (described command)
