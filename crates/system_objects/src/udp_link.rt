@@ -44,10 +44,14 @@ impl<'a, R: Net + Clock> UdpLink<'a, R> {
         }
     }
 
-    /// Binds a socket to a port, or to one that the system chooses where it is 0.
+    /// Binds a socket to a port, or to one that the system chooses where it is 0. A socket that has the port already is
+    /// kept, and so are the datagrams that wait in it.
     fn bind(&mut self, port: u16) -> io::Result<()>
         ensures { self.new.faults ≡ self.old.faults }
     {
+        if port != 0 && self.port() == port {
+            return Ok(());
+        }
         let socket = UdpSocket::bind(self.system, (Ipv4Addr::LOCALHOST, port))?;
         let port = socket.local_addr()?.port();
         self.bound = Some(Bound {
