@@ -1,4 +1,4 @@
-//! Stories of `repquota`, `quotacheck`, `convertquota`, `rquotad`, names, the words of all commands and the calls of the store: rows as text, which the
+//! Stories of `repquota`, `quotacheck`, `convertquota`, `generate`, `rquotad`, names, the words of all commands and the calls of the store: rows as text, which the
 //! tests of the program carry out.
 #![tactic(auto)]
 
@@ -6,6 +6,7 @@ pub mod calls;
 pub mod checked;
 pub mod conversions;
 pub mod ended_checks;
+pub mod generated;
 pub mod names;
 pub mod new_files;
 pub mod refused_conversions;

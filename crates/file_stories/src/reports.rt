@@ -112,7 +112,7 @@ status 3
 
 = words that are no command
 file q
-run script
+run quota q
 status 2
 ! quota: usage: UnknownCommand at word 0
 run repquota -F vfsold -u -v -q

@@ -1,24 +1,24 @@
 use crate::stage::{Stage, found, set};
-use crate::wrong::{Told, Wrong, number, unmet};
+use crate::verbs::Gather;
+use crate::wrong::{Told, Wrong, holds_if, number, unmet};
 use std::alloc::Global;
 
-/// Carries out a line that gathers bytes, or answers `None` where its verb is another one.
-pub(crate) fn gather(stage: &mut Stage, verb: &str, rest: &str) -> Option<Told> {
-    match verb {
-        "text" => Some(add_line(stage, rest)),
-        "raw" => Some(add(stage, rest.as_bytes())),
-        "hex" => Some(add_hex(stage, rest)),
-        "zeros" => Some(add_zeros(stage, rest)),
-        "fill" => Some(add_filled(stage, rest)),
-        "record" => Some(add_record(stage, rest)),
-        "numbers" => Some(add_numbers(stage, rest)),
-        "put" => Some(put_numbers(stage, rest)),
-        "size" => Some(set_size(stage, rest)),
-        "again" => Some(repeat(stage, rest)),
-        "use" => Some(add_kept(stage, rest)),
-        "get" => Some(add_file(stage, rest)),
-        "keep" => Some(keep(stage, rest)),
-        _ => None,
+/// Carries out a line that gathers bytes.
+pub(crate) fn gather(stage: &mut Stage, what: Gather, rest: &str) -> Told {
+    match what {
+        Gather::Line => add_line(stage, rest),
+        Gather::Raw => add(stage, rest.as_bytes()),
+        Gather::Hex => add_hex(stage, rest),
+        Gather::Zeros => add_times(stage, 0, rest),
+        Gather::Filled => add_filled(stage, rest),
+        Gather::Record => add_record(stage, rest),
+        Gather::Numbers => add_numbers(stage, rest),
+        Gather::Put => put_numbers(stage, rest),
+        Gather::Size => set_size(stage, rest),
+        Gather::Again => repeat(stage, rest),
+        Gather::Kept => add_kept(stage, rest),
+        Gather::File => add_file(stage, rest),
+        Gather::Keep => keep(stage, rest),
     }
 }
 
@@ -75,43 +75,41 @@ fn count(alloc: Global, word: &str) -> Result<usize, Wrong> {
     Ok(number as usize)
 }
 
-fn add_zeros(stage: &mut Stage, rest: &str) -> Told {
-    let more = count(stage.alloc, rest)?;
+/// Adds a byte so many times as a word says.
+fn add_times(stage: &mut Stage, byte: u8, times: &str) -> Told {
+    let more = count(stage.alloc, times)?;
     let all = stage.gathered.len().saturating_add(more);
-    Ok(stage.gathered.resize(all, 0)?)
+    Ok(stage.gathered.resize(all, byte)?)
 }
 
 fn add_filled(stage: &mut Stage, rest: &str) -> Told {
     let Some((byte, times)) = rest.split_once(' ') else {
         return unmet(stage.alloc, "a byte and a number are wanted");
     };
-    let Ok(byte) = byte.parse::<u8>() else {
-        return unmet(stage.alloc, "a byte is misspelt");
-    };
-    let more = count(stage.alloc, times)?;
-    let all = stage.gathered.len().saturating_add(more);
-    Ok(stage.gathered.resize(all, byte)?)
+    match byte.parse::<u8>() {
+        Ok(byte) => add_times(stage, byte, times),
+        Err(_) => unmet(stage.alloc, "a byte is misspelt"),
+    }
+}
+
+/// Adds so many of the lowest bytes of a number, the lowest one first.
+fn add_number(stage: &mut Stage, word: &str, width: usize) -> Told {
+    let bytes = number(stage.alloc, word)?.to_le_bytes();
+    add(stage, bytes.get(..width).unwrap_or(b""))
 }
 
 fn add_record(stage: &mut Stage, rest: &str) -> Told {
     let mut place = 0u32;
     for word in rest.split(' ') {
-        let bytes = number(stage.alloc, word)?.to_le_bytes();
-        let width = if place < 6 { 4 } else { 8 };
-        add(stage, bytes.get(..width).unwrap_or(b""))?;
+        add_number(stage, word, if place < 6 { 4 } else { 8 })?;
         place = place.saturating_add(1);
     }
-    if place == 8 {
-        Ok(())
-    } else {
-        unmet(stage.alloc, "a record has eight numbers")
-    }
+    holds_if(stage.alloc, place == 8, "a record has eight numbers")
 }
 
 fn add_numbers(stage: &mut Stage, rest: &str) -> Told {
     for word in rest.split(' ') {
-        let bytes = number(stage.alloc, word)?.to_le_bytes();
-        add(stage, bytes.get(..4).unwrap_or(b""))?;
+        add_number(stage, word, 4)?;
     }
     Ok(())
 }

@@ -6,8 +6,8 @@
 //! the third runs words, and one of the fourth says what the run before it left. What a run wrote that no line tells,
 //! a status but 0 that no line tells, and a file that it made, changed or took away and that no line names, fail the
 //! row. So does a word or a number that is misspelt, and what was gathered or set and is of no use. Of files it looks at
-//! those that were there before and at those that a word of the run names, and at each with `.new` added; of another one
-//! no line may speak.
+//! those that were there before and at those that a word of the run names, or of the lines of a script, and at each with
+//! `.new` added; of another one no line may speak.
 //!
 //! | Gathers | |
 //! |---|---|
@@ -39,7 +39,7 @@
 //! |---|---|
 //! | `run WORDS` | the words, parted by single spaces |
 //! | `both WORDS` | once with the standard input, and once over the same files with a file `l` of the same bytes and `--input l` behind the words; both must leave the same |
-//! | `sweep OBJECT WORDS` | once with no fault, and then once for each call of the object that this run made, which fails: each must end with status 4 and the line of the object's fault, with an output that is a first part of the whole one, and with each file as it was or as the whole run left it |
+//! | `sweep OBJECT WORDS` | once with no fault, and then once for each call of the object that this run made, which fails: each must end with status 4 and the line of the object's fault, in a script with the number of a line, with an output that is a first part of the whole one, and with each file as it was or as the whole run left it |
 //! | `turn WORDS` | once whole, and then once for each number of reads below that of the whole run, after which the store turns: each must leave what the whole run left, or end with status 3, no output and a line on the file `q`, with each file as it was or as a line allows |
 //! | `read WORDS`, `line WORDS` | the words are read as a command, outside of a script and in one; the verb alone is no words, and with a space behind it one of no bytes |
 //!
@@ -69,10 +69,13 @@ mod program;
 mod reading;
 mod report_head;
 mod runs;
+mod scripts;
 mod setting;
 mod stage;
 mod sweeps;
 mod telling;
+mod turning;
+mod verbs;
 mod watched;
 mod wrong;
 

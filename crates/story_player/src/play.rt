@@ -1,11 +1,12 @@
 use crate::Program;
 use crate::gather::gather;
-use crate::reading::read_some;
+use crate::reading::read;
 use crate::setting::set_up;
 use crate::stage::Stage;
-use crate::sweeps::run_some;
+use crate::sweeps::run;
 use crate::telling::{is_all_told, is_all_used, tell};
-use crate::wrong::{Told, Wrong, unmet};
+use crate::verbs::{VERBS, Verb, verb_in};
+use crate::wrong::{NO_LINE, Told, Wrong, unmet};
 use std::alloc::{AllocError, Global};
 
 /// What fails in stories that are carried out one behind the other, in words: the title of the row, the line that does not
@@ -16,57 +17,54 @@ pub fn failure_of<P: Program>(
     stories: &[&str],
 ) -> Result<Option<String>, AllocError> {
     let mut stage = Stage::new(alloc);
-    for story in stories {
-        let failed = failure_in(program, &mut stage, story)?;
-        if failed.is_some() {
-            return Ok(failed);
-        }
+    match play_all(program, &mut stage, stories) {
+        Ok(()) => Ok(None),
+        Err(Wrong::Said(why)) => Ok(Some(why)),
+        Err(Wrong::Memory) => Err(AllocError),
     }
-    Ok(None)
 }
 
-/// What fails in a story, in words, where something does.
-fn failure_in<P: Program>(
-    program: &P,
-    stage: &mut Stage,
-    story: &str,
-) -> Result<Option<String>, AllocError> {
-    let alloc = stage.alloc;
-    let mut title = String::new(alloc);
-    let mut number = 0u64;
-    for line in story.lines() {
-        number = number.saturating_add(1);
-        if let Err(why) = take_line(program, stage, line) {
-            return Ok(Some(describe(alloc, title.as_str(), number, line, why)?));
-        }
-        if let Some(next) = line.strip_prefix("= ") {
-            title = String::from_str(alloc, next)?;
-        }
+/// Carries out stories, one behind the other.
+fn play_all<P: Program>(program: &P, stage: &mut Stage, stories: &[&str]) -> Told {
+    for story in stories {
+        play(program, stage, story)?;
     }
-    match is_whole(stage) {
-        Ok(()) => Ok(None),
-        Err(why) => Ok(Some(describe(alloc, title.as_str(), number, "the end", why)?)),
+    Ok(())
+}
+
+/// Carries out a story.
+fn play<P: Program>(program: &P, stage: &mut Stage, story: &str) -> Told {
+    stage.begin();
+    for line in story.lines() {
+        stage.number = stage.number.saturating_add(1);
+        let told = take_line(program, stage, line);
+        at_line(stage, line, told)?;
+    }
+    let told = is_whole(stage);
+    at_line(stage, "the end", told)
+}
+
+/// What comes of a line, with its place where it does not hold.
+fn at_line(stage: &Stage, line: &str, told: Told) -> Told {
+    match told {
+        Ok(()) => Ok(()),
+        Err(why) => Err(Wrong::Said(describe(stage, line, why)?)),
     }
 }
 
 /// The line that does not hold, with its place and with what was there instead.
-fn describe(
-    alloc: Global,
-    title: &str,
-    number: u64,
-    line: &str,
-    why: Wrong,
-) -> Result<String, AllocError> {
+fn describe(stage: &Stage, line: &str, why: Wrong) -> Result<String, AllocError> {
+    let (title, number) = (stage.title.as_str(), stage.number);
     match why {
         Wrong::Said(why) => {
-            format!(in alloc; "{title}: line {number}, '{line}': {}", why.as_str())
+            format!(in stage.alloc; "{title}: line {number}, '{line}': {}", why.as_str())
         }
-        Wrong::Memory => format!(in alloc; "{title}: line {number}: no memory"),
+        Wrong::Memory => format!(in stage.alloc; "{title}: line {number}: no memory"),
     }
 }
 
 /// That everything was told of the last run, after which there is none.
-fn is_finished(stage: &mut Stage) -> Told {
+pub(crate) fn is_finished(stage: &mut Stage) -> Told {
     let alloc = stage.alloc;
     if let Some(read) = stage.read.take() {
         return Err(Wrong::Said(read));
@@ -83,34 +81,29 @@ fn is_whole(stage: &mut Stage) -> Told {
     is_all_used(stage)
 }
 
+/// Ends a row and begins the next one.
+fn begin_row(stage: &mut Stage, line: &str) -> Told {
+    is_whole(stage)?;
+    stage.clear();
+    if let Some(title) = line.strip_prefix("= ") {
+        stage.title = String::from_str(stage.alloc, title)?;
+    }
+    Ok(())
+}
+
 /// Carries out a line.
 fn take_line<P: Program>(program: &P, stage: &mut Stage, line: &str) -> Told {
     if line.is_empty() {
         return Ok(());
     }
-    let (verb, rest) = line.split_once(' ').unwrap_or((line, ""));
-    if verb == "=" {
-        is_whole(stage)?;
-        stage.clear();
-        return Ok(());
-    }
-    if matches!(verb, "run" | "both" | "sweep" | "turn" | "read" | "line") {
-        is_finished(stage)?;
-    }
-    if let Some(told) = gather(stage, verb, rest) {
-        return told;
-    }
-    if let Some(told) = set_up(stage, verb, rest) {
-        return told;
-    }
-    if let Some(told) = run_some(program, stage, verb, rest) {
-        return told;
-    }
-    if let Some(told) = read_some(program, stage, verb, line) {
-        return told;
-    }
-    match tell(stage, verb, rest) {
-        Some(told) => told,
-        None => unmet(stage.alloc, "this is no line of a story"),
+    let (word, rest) = line.split_once(' ').unwrap_or((line, ""));
+    match verb_in(VERBS, word) {
+        Some(Verb::Row) => begin_row(stage, line),
+        Some(Verb::Gather(what)) => gather(stage, what, rest),
+        Some(Verb::Set(what)) => set_up(stage, what, rest),
+        Some(Verb::Run(how)) => run(program, stage, how, rest),
+        Some(Verb::Read { in_script }) => read(program, stage, line, in_script),
+        Some(Verb::Tell(what)) => tell(stage, what, rest),
+        None => unmet(stage.alloc, NO_LINE),
     }
 }

@@ -1,8 +1,9 @@
 use crate::Program;
 use crate::objects::Streams;
-use crate::stage::{NamedBytes, Setting, find};
+use crate::scripts::add_words;
+use crate::stage::{NamedBytes, Setting, Stage, find};
 use crate::watched::Watched;
-use crate::wrong::{Wrong, unmet};
+use crate::wrong::{Wrong, holds_if};
 use std::alloc::{AllocError, Global};
 
 /// What a run left.
@@ -11,9 +12,9 @@ pub(crate) struct Ran {
     pub status: u8,
     pub store: Watched,
     pub streams: Streams,
-    /// The files that are there, of those that were there before and of those that the words name.
+    /// The files that are there, of those that were there before and of those that the words or a script name.
     pub files: Vec<NamedBytes>,
-    /// The words.
+    /// The words, and behind them those of the lines of a script.
     pub words: Vec<String>,
     /// How many blocks were read and written.
     pub reads: u64,
@@ -27,6 +28,11 @@ impl Ran {
 
     pub(crate) fn err(&self) -> &[u8] {
         self.streams.err.bytes()
+    }
+
+    /// How many bytes of the input are left.
+    pub(crate) fn left(&self) -> u64 {
+        self.streams.input.left().len() as u64
     }
 }
 
@@ -90,24 +96,20 @@ fn files_of(
     Ok(kept)
 }
 
-/// Runs the words of a line over these files.
-pub(crate) fn run_line<P: Program>(
+/// Runs words over these files, and looks at what they left.
+fn run_words<P: Program>(
     program: &P,
-    alloc: Global,
-    line: &str,
+    stage: &Stage,
     files: &[NamedBytes],
     setting: &Setting,
-    now: u64,
-) -> Result<Ran, Wrong> {
-    let words = words_of(alloc, line)?;
+    mut words: Vec<String>,
+) -> Result<Ran, AllocError> {
+    let alloc = stage.alloc;
     let mut store = Watched::new(alloc, files, &setting.failing.store, setting.good_reads)?;
     let mut streams = Streams::new(alloc, setting)?;
     let (reads, writes) = (store.store.reads(), store.store.writes());
-    let status = program.run(alloc, &words, &mut store, &mut streams, now);
-    let called = streams.called();
-    if !called.is_empty() {
-        return unmet(alloc, called);
-    }
+    let status = program.run(alloc, &words, &mut store, &mut streams, stage.now);
+    add_words(alloc, &mut words, &setting.input)?;
     let after = files_of(alloc, &store, files, &words)?;
     let reads = store.store.reads().saturating_sub(reads);
     let writes = store.store.writes().saturating_sub(writes);
@@ -120,4 +122,29 @@ pub(crate) fn run_line<P: Program>(
         reads,
         writes,
     })
+}
+
+/// Runs the words of a line over these files. They must call nothing that they were not given.
+pub(crate) fn run_over<P: Program>(
+    program: &P,
+    stage: &Stage,
+    files: &[NamedBytes],
+    setting: &Setting,
+    line: &str,
+) -> Result<Ran, Wrong> {
+    let words = words_of(stage.alloc, line)?;
+    let mut ran = run_words(program, stage, files, setting, words)?;
+    let called = ran.streams.called();
+    holds_if(stage.alloc, called.is_empty(), called)?;
+    Ok(ran)
+}
+
+/// Runs the words of a line over the files that are there.
+pub(crate) fn run_line<P: Program>(
+    program: &P,
+    stage: &Stage,
+    setting: &Setting,
+    line: &str,
+) -> Result<Ran, Wrong> {
+    run_over(program, stage, &stage.files, setting, line)
 }

@@ -1,19 +1,19 @@
 use crate::stage::{Failing, Stage, find, set};
+use crate::verbs::Set;
 use crate::wrong::{Told, Wrong, number, unmet};
 
-/// Carries out a line that sets a file or what the next run meets, or answers `None` where its verb is another one.
-pub(crate) fn set_up(stage: &mut Stage, verb: &str, rest: &str) -> Option<Told> {
-    match verb {
-        "file" => Some(set_file(stage, rest)),
-        "drop" => Some(drop_file(stage, rest)),
-        "input" => Some(set_input(stage)),
-        "datagram" => Some(add_datagram(stage, rest)),
-        "now" => Some(set_moment(stage, rest)),
-        "fails" => Some(set_failing(stage, rest)),
-        "turns" => Some(set_turn(stage, rest)),
-        "may" => Some(allow(stage, rest)),
-        "stays" => Some(forbid(stage, rest)),
-        _ => None,
+/// Carries out a line that sets a file, or what the next run meets.
+pub(crate) fn set_up(stage: &mut Stage, what: Set, rest: &str) -> Told {
+    match what {
+        Set::File => set_file(stage, rest),
+        Set::NoFile => drop_file(stage, rest),
+        Set::Input => set_input(stage),
+        Set::Datagram => add_datagram(stage, rest),
+        Set::Moment => set_moment(stage, rest),
+        Set::Failing => set_failing(stage, rest),
+        Set::Turn => set_turn(stage, rest),
+        Set::May => allow(stage, rest),
+        Set::Stays => forbid(stage, rest),
     }
 }
 

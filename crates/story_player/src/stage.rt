@@ -96,6 +96,10 @@ pub(crate) struct Stage {
     pub last: Option<Last>,
     /// What words were read as, where no line has told it yet.
     pub read: Option<String>,
+    /// The title of the row.
+    pub title: String,
+    /// The number of the line in its story.
+    pub number: u64,
 }
 
 impl Stage {
@@ -111,7 +115,15 @@ impl Stage {
             stays: Vec::new(alloc),
             last: None,
             read: None,
+            title: String::new(alloc),
+            number: 0,
         }
+    }
+
+    /// Begins a story.
+    pub(crate) fn begin(&mut self) {
+        self.title = String::new(self.alloc);
+        self.number = 0;
     }
 
     /// Begins a row.

@@ -1,28 +1,40 @@
 use crate::Program;
 use crate::objects::{calls_made, link_calls_made, reads_made};
-use crate::runs::{Ran, run_line};
+use crate::play::is_finished;
+use crate::runs::{Ran, run_line, run_over};
+use crate::scripts::{is_fault_line, last_line};
 use crate::setting::calls_of;
 use crate::stage::{Last, NamedBytes, Setting, Stage, copied, find, has_name, set};
 use crate::telling::instead;
+use crate::turning::run_turn;
+use crate::verbs::Runs;
 use crate::wrong::{Told, Wrong, holds_if, is_number, unmet};
 use std::alloc::Global;
 
 /// A call that no run of a story makes, so that it is known how many it made.
 const NEVER: u64 = 10_000;
 
-/// Carries out a line that runs words, or answers `None` where its verb is another one.
-pub(crate) fn run_some<P: Program>(
+/// Carries out a line that runs words.
+pub(crate) fn run<P: Program>(program: &P, stage: &mut Stage, how: Runs, rest: &str) -> Told {
+    is_finished(stage)?;
+    let mut setting = taken_setting(stage);
+    let ran = run_so(program, stage, &mut setting, how, rest)?;
+    go_on(stage, ran)
+}
+
+/// What words left that are run so.
+fn run_so<P: Program>(
     program: &P,
-    stage: &mut Stage,
-    verb: &str,
+    stage: &Stage,
+    setting: &mut Setting,
+    how: Runs,
     rest: &str,
-) -> Option<Told> {
-    match verb {
-        "run" => Some(run_once(program, stage, rest)),
-        "both" => Some(run_both(program, stage, rest)),
-        "sweep" => Some(sweep(program, stage, rest)),
-        "turn" => Some(turn(program, stage, rest)),
-        _ => None,
+) -> Result<Ran, Wrong> {
+    match how {
+        Runs::Once => run_line(program, stage, setting, rest),
+        Runs::Both => run_both(program, stage, setting, rest),
+        Runs::Sweep => run_sweep(program, stage, setting, rest),
+        Runs::Turn => run_turn(program, stage, setting, rest),
     }
 }
 
@@ -50,19 +62,6 @@ fn go_on(stage: &mut Stage, ran: Ran) -> Told {
     Ok(())
 }
 
-fn run_once<P: Program>(program: &P, stage: &mut Stage, line: &str) -> Told {
-    let setting = taken_setting(stage);
-    let ran = run_line(
-        program,
-        stage.alloc,
-        line,
-        &stage.files,
-        &setting,
-        stage.now,
-    )?;
-    go_on(stage, ran)
-}
-
 /// Whether an error output is that of a run that read the file `l`, where the other one read the standard input.
 fn is_said_of_file(by_input: &[u8], by_file: &[u8]) -> bool {
     match by_input.strip_prefix(b"quota: input: ") {
@@ -72,7 +71,7 @@ fn is_said_of_file(by_input: &[u8], by_file: &[u8]) -> bool {
 }
 
 /// Whether some files are the same as others, apart from one of a name.
-fn are_same(files: &[NamedBytes], others: &[NamedBytes], but: &str) -> bool {
+pub(crate) fn are_same(files: &[NamedBytes], others: &[NamedBytes], but: &str) -> bool {
     let mut are_same = true;
     for (name, bytes) in files {
         let is_same = name.as_str() == but || find(others, name.as_str()) == Some(bytes);
@@ -81,28 +80,58 @@ fn are_same(files: &[NamedBytes], others: &[NamedBytes], but: &str) -> bool {
     are_same
 }
 
-fn run_both<P: Program>(program: &P, stage: &mut Stage, line: &str) -> Told {
-    let alloc = stage.alloc;
-    let mut setting = taken_setting(stage);
-    let by_input = run_line(program, alloc, line, &stage.files, &setting, stage.now)?;
-    let Some(lines) = setting.input.take() else {
-        return unmet(alloc, "there is no input");
-    };
-    let mut files = copied(alloc, &stage.files)?;
-    let copy = Vec::from_slice(alloc, &lines)?;
-    set(alloc, &mut files, "l", copy)?;
-    let words = format!(in alloc; "{line} --input l")?;
-    let by_file = run_line(program, alloc, words.as_str(), &files, &setting, stage.now)?;
+/// Whether a run by the file `l`, which has these lines, left the same as one by the standard input.
+fn are_alike(alloc: Global, by_input: &Ran, by_file: &Ran, lines: &[u8]) -> Told {
     is_number(alloc, u64::from(by_file.status), u64::from(by_input.status))?;
     holds_if(alloc, by_file.out() == by_input.out(), "the outputs differ")?;
     if !is_said_of_file(by_input.err(), by_file.err()) {
         return instead(alloc, by_file.err());
     }
-    let is_kept = find(&by_file.files, "l") == Some(lines.as_slice());
+    let is_kept = find(&by_file.files, "l") == Some(lines);
     let is_same = are_same(&by_file.files, &by_input.files, "l")
         && are_same(&by_input.files, &by_file.files, "l");
-    holds_if(alloc, is_kept && is_same, "the files differ")?;
-    go_on(stage, by_input)
+    holds_if(alloc, is_kept && is_same, "the files differ")
+}
+
+/// Runs words with `--input l` behind them, where the file `l` has these lines.
+fn run_by_file<P: Program>(
+    program: &P,
+    stage: &Stage,
+    setting: &Setting,
+    line: &str,
+    lines: &[u8],
+) -> Result<Ran, Wrong> {
+    let mut files = copied(stage.alloc, &stage.files)?;
+    let copy = Vec::from_slice(stage.alloc, lines)?;
+    set(stage.alloc, &mut files, "l", copy)?;
+    let words = format!(in stage.alloc; "{line} --input l")?;
+    run_over(program, stage, &files, setting, words.as_str())
+}
+
+/// That a run by a file in place of the standard input leaves the same.
+fn is_same_by_file<P: Program>(
+    program: &P,
+    stage: &Stage,
+    setting: &mut Setting,
+    line: &str,
+    by_input: &Ran,
+) -> Told {
+    let Some(lines) = setting.input.take() else {
+        return unmet(stage.alloc, "there is no input");
+    };
+    let by_file = run_by_file(program, stage, setting, line, &lines)?;
+    are_alike(stage.alloc, by_input, &by_file, &lines)
+}
+
+fn run_both<P: Program>(
+    program: &P,
+    stage: &Stage,
+    setting: &mut Setting,
+    line: &str,
+) -> Result<Ran, Wrong> {
+    let by_input = run_line(program, stage, setting, line)?;
+    is_same_by_file(program, stage, setting, line, &by_input)?;
+    Ok(by_input)
 }
 
 /// How many calls of an object a run made, of which the last planned one is [`NEVER`].
@@ -126,7 +155,7 @@ fn plan(alloc: Global, setting: &mut Setting, object: &str, call: u64) -> Told {
 }
 
 /// Whether a line allows that a file is left so besides.
-fn is_allowed(stage: &Stage, name: &str, bytes: Option<&[u8]>) -> bool {
+pub(crate) fn is_allowed(stage: &Stage, name: &str, bytes: Option<&[u8]>) -> bool {
     let mut is_allowed = false;
     for (file, kept) in &stage.may {
         let is_so = bytes.is_some() && find(&stage.kept, kept.as_str()) == bytes;
@@ -177,9 +206,9 @@ fn is_failed(stage: &Stage, whole: &Ran, ran: &Ran, object: &str) -> Told {
     let alloc = stage.alloc;
     is_number(alloc, u64::from(ran.status), 4)?;
     let is_said = if object == "error" {
-        ran.err().ends_with(fault_line(object))
+        is_fault_line(last_line(ran.err()), fault_line(object))
     } else {
-        ran.err() == fault_line(object)
+        is_fault_line(ran.err(), fault_line(object))
     };
     if !is_said {
         return instead(alloc, ran.err());
@@ -197,7 +226,7 @@ fn is_failed(stage: &Stage, whole: &Ran, ran: &Ran, object: &str) -> Told {
 }
 
 /// What came of a run, with the number that was set where it is wrong.
-fn at_call(alloc: Global, call: u64, told: Told) -> Told {
+pub(crate) fn at_call(alloc: Global, call: u64, told: Told) -> Told {
     match told {
         Err(Wrong::Said(why)) => Err(Wrong::Said(format!(in alloc;
             "where {call} is set: {}",
@@ -226,76 +255,109 @@ fn is_back(stage: &Stage, earlier: &[NamedBytes], later: &[NamedBytes]) -> bool 
     is_back
 }
 
-fn sweep<P: Program>(program: &P, stage: &mut Stage, rest: &str) -> Told {
-    let alloc = stage.alloc;
-    let (object, line) = rest.split_once(' ').unwrap_or((rest, ""));
-    let mut setting = taken_setting(stage);
-    plan(alloc, &mut setting, object, NEVER)?;
-    let mut whole = run_line(program, alloc, line, &stage.files, &setting, stage.now)?;
-    is_number(alloc, u64::from(whole.status), 0)?;
-    let made = made_calls(&mut whole, object);
-    holds_if(alloc, made > 0, "it makes no such call")?;
-    let mut earlier = copied(alloc, &stage.files)?;
-    let mut is_met = stage.may.is_empty();
+/// What a sweep goes by: the object whose calls fail, the words, and what they left with no fault.
+#[derive(Clone, Copy)]
+struct Sweep<'a> {
+    object: &'a str,
+    line: &'a str,
+    whole: &'a Ran,
+}
+
+/// How far a sweep is.
+#[derive(Drop)]
+struct Course {
+    /// What the run before left.
+    earlier: Vec<NamedBytes>,
+    /// Whether a run left what a line allows, where one does.
+    is_met: bool,
+}
+
+/// A run of which a call of an object failed, behind one of which an earlier call did.
+fn is_swept(stage: &Stage, sweep: &Sweep<'_>, earlier: &[NamedBytes], ran: &Ran) -> Told {
+    is_failed(stage, sweep.whole, ran, sweep.object)?;
+    let goes_on = !is_back(stage, earlier, &ran.files);
+    holds_if(stage.alloc, goes_on, "a file is old again")
+}
+
+/// Runs words of which a call of an object fails.
+fn run_failing<P: Program>(
+    program: &P,
+    stage: &Stage,
+    setting: &mut Setting,
+    sweep: &Sweep<'_>,
+    call: u64,
+) -> Result<Ran, Wrong> {
+    plan(stage.alloc, setting, sweep.object, call)?;
+    run_line(program, stage, setting, sweep.line)
+}
+
+/// Lets a call fail.
+fn sweep_call<P: Program>(
+    program: &P,
+    stage: &Stage,
+    setting: &mut Setting,
+    sweep: &Sweep<'_>,
+    call: u64,
+    course: &mut Course,
+) -> Told {
+    let ran = run_failing(program, stage, setting, sweep, call)?;
+    let told = is_swept(stage, sweep, &course.earlier, &ran);
+    at_call(stage.alloc, call, told)?;
+    course.is_met = course.is_met || is_between(stage, &ran.files);
+    course.earlier = ran.files;
+    Ok(())
+}
+
+/// Lets so many calls fail, one after another.
+fn sweep_calls<P: Program>(
+    program: &P,
+    stage: &Stage,
+    setting: &mut Setting,
+    sweep: &Sweep<'_>,
+    made: u64,
+) -> Told {
+    holds_if(stage.alloc, made > 0, "it makes no such call")?;
+    let mut course = Course {
+        earlier: copied(stage.alloc, &stage.files)?,
+        is_met: stage.may.is_empty(),
+    };
     for call in 1..=made {
-        plan(alloc, &mut setting, object, call)?;
-        let ran = run_line(program, alloc, line, &stage.files, &setting, stage.now)?;
-        at_call(alloc, call, is_failed(stage, &whole, &ran, object))?;
-        let goes_on = !is_back(stage, &earlier, &ran.files);
-        at_call(alloc, call, holds_if(alloc, goes_on, "a file is old again"))?;
-        is_met = is_met || is_between(stage, &ran.files);
-        earlier = copied(alloc, &ran.files)?;
+        sweep_call(program, stage, setting, sweep, call, &mut course)?;
     }
-    holds_if(alloc, is_met, "no call leaves what a line allows")?;
-    go_on(stage, whole)
+    holds_if(
+        stage.alloc,
+        course.is_met,
+        "no call leaves what a line allows",
+    )
 }
 
-/// Whether two runs left the same.
-fn left_same(whole: &Ran, ran: &Ran) -> bool {
-    whole.out() == ran.out()
-        && whole.err() == ran.err()
-        && are_same(&whole.files, &ran.files, "")
-        && are_same(&ran.files, &whole.files, "")
+/// Runs words that end with status 0.
+pub(crate) fn run_whole<P: Program>(
+    program: &P,
+    stage: &Stage,
+    setting: &Setting,
+    line: &str,
+) -> Result<Ran, Wrong> {
+    let whole = run_line(program, stage, setting, line)?;
+    is_number(stage.alloc, u64::from(whole.status), 0)?;
+    Ok(whole)
 }
 
-/// Whether each file is as it was, or as a line allows, and there is no other one.
-fn are_files_kept(stage: &Stage, ran: &Ran) -> bool {
-    let mut is_kept = ran.files.len() == stage.files.len();
-    for (name, bytes) in &stage.files {
-        let after = find(&ran.files, name.as_str());
-        is_kept = is_kept && (after == Some(bytes) || is_allowed(stage, name.as_str(), after));
-    }
-    is_kept
-}
-
-/// A run over a store that turned.
-fn is_turned(stage: &Stage, whole: &Ran, ran: &Ran) -> Told {
-    let alloc = stage.alloc;
-    if ran.status == 0 {
-        return holds_if(alloc, left_same(whole, ran), "it left something else");
-    }
-    is_number(alloc, u64::from(ran.status), 3)?;
-    holds_if(alloc, ran.out().is_empty(), "there is an output")?;
-    if !ran.err().starts_with(b"quota: q: ") {
-        return instead(alloc, ran.err());
-    }
-    holds_if(alloc, are_files_kept(stage, ran), "a file was changed")
-}
-
-fn turn<P: Program>(program: &P, stage: &mut Stage, line: &str) -> Told {
-    let alloc = stage.alloc;
-    let mut setting = taken_setting(stage);
-    let whole = run_line(program, alloc, line, &stage.files, &setting, stage.now)?;
-    is_number(alloc, u64::from(whole.status), 0)?;
-    let mut damaged = 0u64;
-    for good_reads in 0..whole.reads {
-        setting.good_reads = good_reads;
-        let ran = run_line(program, alloc, line, &stage.files, &setting, stage.now)?;
-        if ran.status != 0 {
-            damaged = damaged.saturating_add(1);
-        }
-        at_call(alloc, good_reads, is_turned(stage, &whole, &ran))?;
-    }
-    holds_if(alloc, damaged > 0, "no run met a damage")?;
-    go_on(stage, whole)
+fn run_sweep<P: Program>(
+    program: &P,
+    stage: &Stage,
+    setting: &mut Setting,
+    rest: &str,
+) -> Result<Ran, Wrong> {
+    let (object, line) = rest.split_once(' ').unwrap_or((rest, ""));
+    plan(stage.alloc, setting, object, NEVER)?;
+    let mut whole = run_whole(program, stage, setting, line)?;
+    let made = made_calls(&mut whole, object);
+    let sweep = Sweep {
+        object,
+        line,
+        whole: &whole,
+    };
+    sweep_calls(program, stage, setting, &sweep, made)?;
+    Ok(whole)
 }

@@ -1,52 +1,45 @@
 use crate::report_head::head_of;
 use crate::stage::{Last, NamedBytes, Stage, find, has_name};
-use crate::wrong::{Told, Wrong, holds_if, is_number, number, unmet};
+use crate::verbs::{OfBytes, OfFile, Tell};
+use crate::wrong::{NO_LINE, Told, Wrong, holds_if, is_number, number, unmet};
 use std::alloc::Global;
 
-/// Carries out a line that says what the last run left, or answers `None` where its verb is another one.
-pub(crate) fn tell(stage: &mut Stage, verb: &str, rest: &str) -> Option<Told> {
-    let alloc = stage.alloc;
-    if verb == "is" {
-        let read = stage.read.take();
-        return Some(tell_read(alloc, read, rest));
-    }
-    let gathers = matches!(verb, "holds" | "begins" | "has" | "sent");
-    let gathered = if gathers {
-        stage.take()
-    } else {
-        Vec::new(alloc)
-    };
-    let Some(last) = &mut stage.last else {
-        return None;
-    };
-    match verb {
-        "status" => Some(tell_status(alloc, last, rest)),
-        ">" => Some(tell_out(alloc, last, rest)),
-        "head" => Some(tell_head(alloc, last, rest)),
-        "!" => Some(tell_err(alloc, last, rest)),
-        "!^" => Some(tell_err_start(alloc, last, rest)),
-        "same" => Some(tell_files(alloc, last, rest, OfFile::Same)),
-        "changes" => Some(tell_files(alloc, last, rest, OfFile::Other)),
-        "absent" => Some(tell_files(alloc, last, rest, OfFile::Absent)),
-        "holds" => Some(tell_bytes(alloc, last, rest, &gathered, OfBytes::All)),
-        "begins" => Some(tell_bytes(alloc, last, rest, &gathered, OfBytes::Start)),
-        "has" => Some(tell_bytes(alloc, last, rest, &gathered, OfBytes::Part)),
-        "sent" => Some(tell_answer(alloc, last, &gathered)),
-        "long" => Some(tell_length(alloc, last, rest)),
-        "at" => Some(tell_numbers(alloc, last, rest)),
-        "reads" => Some(tell_number(alloc, last.ran.reads, rest)),
-        "writes" => Some(tell_number(alloc, last.ran.writes, rest)),
-        "left" => Some(tell_number(alloc, last.ran.streams.input.left().len() as u64, rest)),
-        "calls" => Some(tell_calls(alloc, last, rest)),
-        _ => None,
+/// Carries out a line that says what the last run left.
+pub(crate) fn tell(stage: &mut Stage, what: Tell, rest: &str) -> Told {
+    match what {
+        Tell::Read => tell_read(stage, rest),
+        Tell::Bytes(says) => tell_bytes(stage, rest, says),
+        Tell::Answer => tell_answer(stage),
+        _ => match &mut stage.last {
+            Some(last) => tell_of(stage.alloc, last, what, rest),
+            None => unmet(stage.alloc, NO_LINE),
+        },
     }
 }
 
-fn tell_read(alloc: Global, read: Option<String>, want: &str) -> Told {
-    match read {
+/// Carries out a line that says something of this run.
+fn tell_of(alloc: Global, last: &mut Last, what: Tell, rest: &str) -> Told {
+    match what {
+        Tell::Status => tell_status(alloc, last, rest),
+        Tell::Out => tell_out(alloc, last, rest),
+        Tell::Head => tell_head(alloc, last, rest),
+        Tell::Err => tell_err(alloc, last, rest),
+        Tell::ErrStart => tell_err_start(alloc, last, rest),
+        Tell::Files(says) => tell_files(alloc, last, rest, says),
+        Tell::Length => tell_length(alloc, last, rest),
+        Tell::Numbers => tell_numbers(alloc, last, rest),
+        Tell::Reads => tell_number(alloc, last.ran.reads, rest),
+        Tell::Writes => tell_number(alloc, last.ran.writes, rest),
+        Tell::Left => tell_number(alloc, last.ran.left(), rest),
+        _ => tell_calls(alloc, last, rest),
+    }
+}
+
+fn tell_read(stage: &mut Stage, want: &str) -> Told {
+    match stage.read.take() {
         Some(text) if text.as_str() == want => Ok(()),
         Some(text) => Err(Wrong::Said(text)),
-        None => unmet(alloc, "no words were read"),
+        None => unmet(stage.alloc, "no words were read"),
     }
 }
 
@@ -115,14 +108,6 @@ fn tell_err_start(alloc: Global, last: &mut Last, want: &str) -> Told {
     }
     last.err_told = last.err_told.saturating_add(line.len()).saturating_add(1);
     Ok(())
-}
-
-/// What a line says of a file, beside what it was before the run.
-#[derive(Clone, Copy)]
-enum OfFile {
-    Same,
-    Other,
-    Absent,
 }
 
 impl OfFile {
@@ -199,14 +184,6 @@ fn tell_files(alloc: Global, last: &mut Last, rest: &str, says: OfFile) -> Told 
     Ok(())
 }
 
-/// What a line says of the gathered bytes: they are all those of a file, the first ones, or some of them.
-#[derive(Clone, Copy)]
-enum OfBytes {
-    All,
-    Start,
-    Part,
-}
-
 impl OfBytes {
     fn holds(self, file: &[u8], gathered: &[u8]) -> bool {
         match self {
@@ -219,12 +196,21 @@ impl OfBytes {
     }
 }
 
-fn tell_bytes(alloc: Global, last: &mut Last, file: &str, gathered: &[u8], says: OfBytes) -> Told {
+/// That a file has bytes.
+fn has_bytes(alloc: Global, last: &mut Last, file: &str, gathered: &[u8], says: OfBytes) -> Told {
     name(alloc, last, file)?;
     match find(&last.ran.files, file) {
         Some(bytes) if says.holds(bytes, gathered) => Ok(()),
         Some(bytes) => has_instead(alloc, bytes, gathered),
         None => unmet(alloc, "there is no such file"),
+    }
+}
+
+fn tell_bytes(stage: &mut Stage, file: &str, says: OfBytes) -> Told {
+    let gathered = stage.take();
+    match &mut stage.last {
+        Some(last) => has_bytes(stage.alloc, last, file, &gathered, says),
+        None => unmet(stage.alloc, NO_LINE),
     }
 }
 
@@ -273,7 +259,8 @@ fn tell_numbers(alloc: Global, last: &mut Last, rest: &str) -> Told {
     }
 }
 
-fn tell_answer(alloc: Global, last: &mut Last, gathered: &[u8]) -> Told {
+/// That the next answer of the link has bytes.
+fn is_answer(alloc: Global, last: &mut Last, gathered: &[u8]) -> Told {
     let answers = last.ran.streams.link.answers();
     let Some(answer) = answers.get(last.answers_told) else {
         return unmet(alloc, "no more answers were sent");
@@ -283,6 +270,14 @@ fn tell_answer(alloc: Global, last: &mut Last, gathered: &[u8]) -> Told {
         return Ok(());
     }
     Err(Wrong::Said(format!(in alloc; "it is {answer:?}")?))
+}
+
+fn tell_answer(stage: &mut Stage) -> Told {
+    let gathered = stage.take();
+    match &mut stage.last {
+        Some(last) => is_answer(stage.alloc, last, &gathered),
+        None => unmet(stage.alloc, NO_LINE),
+    }
 }
 
 /// Whether a file is as before, or a line names it.

@@ -14,6 +14,9 @@ impl From<AllocError> for Wrong {
     }
 }
 
+/// What is said of a line that is none of a story.
+pub(crate) const NO_LINE: &str = "this is no line of a story";
+
 /// What comes of a line.
 pub(crate) type Told = Result<(), Wrong>;
 

@@ -1,0 +1,80 @@
+use crate::Program;
+use crate::runs::{Ran, run_line};
+use crate::stage::{Setting, Stage, find};
+use crate::sweeps::{are_same, at_call, is_allowed, run_whole};
+use crate::telling::instead;
+use crate::wrong::{Told, Wrong, holds_if, is_number};
+
+/// Whether two runs left the same.
+fn left_same(whole: &Ran, ran: &Ran) -> bool {
+    whole.out() == ran.out()
+        && whole.err() == ran.err()
+        && are_same(&whole.files, &ran.files, "")
+        && are_same(&ran.files, &whole.files, "")
+}
+
+/// Whether each file is as it was, or as a line allows, and there is no other one.
+fn are_files_kept(stage: &Stage, ran: &Ran) -> bool {
+    let mut is_kept = ran.files.len() == stage.files.len();
+    for (name, bytes) in &stage.files {
+        let after = find(&ran.files, name.as_str());
+        is_kept = is_kept && (after == Some(bytes) || is_allowed(stage, name.as_str(), after));
+    }
+    is_kept
+}
+
+/// A run over a store that turned.
+fn is_turned(stage: &Stage, whole: &Ran, ran: &Ran) -> Told {
+    let alloc = stage.alloc;
+    if ran.status == 0 {
+        return holds_if(alloc, left_same(whole, ran), "it left something else");
+    }
+    is_number(alloc, u64::from(ran.status), 3)?;
+    holds_if(alloc, ran.out().is_empty(), "there is an output")?;
+    if !ran.err().starts_with(b"quota: q: ") {
+        return instead(alloc, ran.err());
+    }
+    holds_if(alloc, are_files_kept(stage, ran), "a file was changed")
+}
+
+/// Whether a run over a store that turns met a damage.
+fn is_damaged<P: Program>(
+    program: &P,
+    stage: &Stage,
+    setting: &Setting,
+    line: &str,
+    whole: &Ran,
+) -> Result<bool, Wrong> {
+    let ran = run_line(program, stage, setting, line)?;
+    let told = is_turned(stage, whole, &ran);
+    at_call(stage.alloc, setting.good_reads, told)?;
+    Ok(ran.status != 0)
+}
+
+/// Lets the store turn after each number of reads below that of the whole run.
+fn turn_each<P: Program>(
+    program: &P,
+    stage: &Stage,
+    setting: &mut Setting,
+    line: &str,
+    whole: &Ran,
+) -> Told {
+    let mut met_damage = false;
+    for good_reads in 0..whole.reads {
+        setting.good_reads = good_reads;
+        met_damage |= is_damaged(program, stage, setting, line, whole)?;
+    }
+    holds_if(stage.alloc, met_damage, "no run met a damage")
+}
+
+/// Runs words over a store that turns, once for each number of reads below that of the whole run.
+pub(crate) fn run_turn<P: Program>(
+    program: &P,
+    stage: &Stage,
+    setting: &mut Setting,
+    line: &str,
+) -> Result<Ran, Wrong> {
+    let whole = run_whole(program, stage, setting, line)?;
+    turn_each(program, stage, setting, line, &whole)?;
+    Ok(whole)
+}
