@@ -81,8 +81,15 @@ rm q
 expect 'a path through a file' 1 '' 'quota: q/x: no such file' repquota -F vfsold -u -v q/x
 expect 'a file that is no tree file' 3 '' 'quota: q: not a quota file' repquota -u q
 expect 'other words' 2 '' 'quota: usage: UnknownOption at word 2' repquota -u -x q
-expect 'a command that is not built' 2 '' "$usage" script
+expect 'an unknown command' 2 '' "$usage" quotaon
 expect 'no words' 2 '' 'quota: usage: NoCommand at word 0'
+made='lines 100000, inodes 90000, identifiers 5000, KiB 11346116, report 450261 bytes'
+expect 'a file out of a made listing' 0 "$made" '' generate 1 100000 g
+cp g h
+rm g
+expect 'another one of the same seed' 0 "$made" '' generate 1 100000 g
+same 'it is the same file' "$(cmp g h && echo same)" same
+rm g h
 expect 'the version' 0 'quota_cli 0.1.0 (vfsold, vfsv0, vfsv1)' '' --version
 same 'the help' "$("$run" --help | head -n 1)" 'Usage: quota_cli COMMAND [OPTION]... [OPERAND]...'
 "$run" --help >help.txt 2>err.txt
@@ -388,7 +395,68 @@ same 'what it left' "$(cmp before q && echo same)" same
 expect 'the greatest form' 0 '' '' edquota --apply 1000 q <most
 expect 'what it set' 0 "$head
 #1000        --          4        100        200      -        1       10       20      -" '' repquota q
-rm q before empty most more line.txt
+rm q before most more
+
+# Scripts: each line is read as a command, over the files as the lines before left them.
+cp empty q
+expect 'a script' 0 "$head
+$seven
+*** Report for user quotas on r
+$(sed 1d <<<"$head")
+$seven" '' script <<'END'
+# new limits, a file in another format, and both reports
+setquota 7 1 2 0 0 q
+
+convertquota -f vfsv1,vfsv0 q r
+repquota -v q
+repquota -F vfsv0 -v r
+END
+same 'nothing is left beside the files of a script' "$(echo [qr].*)" ''
+rm r
+cp empty q
+expect 'a script that ends at a refused line' 1 "$head
+$seven" 'quota: line 3: bad number 10x' script < <(printf '%s\n' 'setquota 7 1 2 0 0 q' 'repquota -v q' 'setquota 7 10x 0 0 0 q' 'repquota -v q')
+cp empty q
+expect 'a warning in a script' 0 '' 'quota: line 2: block time not set, soft limit not exceeded
+quota: line 2: inode time not set, soft limit not exceeded' script <<<$'\nsetquota -T 7 5 5 q'
+expect 'an empty script' 0 '' '' script </dev/null
+expect 'a script of a byte that is no text' 1 '' 'quota: script: bad line 1' script < <(printf '\xff')
+expect 'a script whose words are in no grammar' 2 '' 'quota: line 1: usage: MissingOption at word 3' script <<<'quotacheck -u q'
+mkdir s
+expect 'a script that is no file' 4 '' 'quota: input fault' script <s
+rmdir s
+
+# A script of the greatest size runs, and of a larger one the lines before its end.
+{ padded 'setquota 7 1 2 0 0 q'; times '#' 16383; } >most
+same 'the size of the greatest script' "$(stat -c %s most)" 16777216
+{ cat most; printf '#'; } >more
+cp empty q
+expect 'the greatest script' 0 '' '' script <most
+expect 'what it did' 0 "$head
+$seven" '' repquota -v q
+cp empty q
+expect 'a script of one byte more' 1 '' 'quota: script: too large' script <more
+expect 'what its lines did' 0 "$head
+$seven" '' repquota -v q
+
+# 100,000 lines, of which each hundredth is a command.
+cp empty q
+seq 100000 | awk '{ if ($1 % 100) print "# " $1; else print "edquota --print " $1 " q" }' >s
+"$run" script <s >out.txt 2>err.txt || true
+same 'what a script of 100,000 lines says of a fault' "$(cat err.txt)" ''
+same 'what it prints' "$(sed -n 's/^Disk.*(uid \(.*\)):$/\1/p' out.txt | cksum)" "$(seq 100 100 100000 | cksum)"
+
+# A script is read whole before its first line runs: a line that writes the file of the script itself changes nothing of it.
+# The lines have 40 bytes each, so that they are records of a flat file too.
+{
+    printf '%-39s\n' 'setquota -F vfsold 1 1 2 0 0 s'
+    seq 3000 | awk '{ printf "%-39s\n", "# " $1 }'
+    printf '%-39s\n' 'repquota -F vfsold none'
+} >s
+cp s before
+expect 'a script that changes its own file' 1 '' 'quota: line 3002: none: no such file' script <s
+same 'the file was changed' "$(cmp -s s before || echo other)" other
+rm q s before empty most more line.txt
 
 # Files of more than 65,536 bytes, of which so many are read ahead and gathered: the lines of a batch do what single
 # commands do, one after another, a file that grew is read to its new end, and a file of names and a quota file are read
@@ -498,6 +566,20 @@ short sent
 13 refused 4
 14 rejected 0 2 2'
     done
+
+    # Two lines of a script serve at one port, and the second tells what the line between them set.
+    "$run" quotacheck -c --input listing users
+    port=$("$top/tests/serve_client.py" free)
+    printf '%s\n' "rquotad --calls 1 --port $port --export /home user users" 'setquota 1000 100 200 10 20 users' \
+        "rquotad --calls 1 --port $port --export /home user users" >s
+    timeout 20 "$run" script <s >out.txt 2>err.txt &
+    "$top/tests/serve_client.py" ask "$port" own own >asked.txt 2>asked_err.txt || true
+    got=0
+    wait $! || got=$?
+    same 'the status of a script that serves twice' "$got $(cat out.txt err.txt)" '0 '
+    same 'what its lines tell' "$(cat asked.txt)" '1 quota 1024 1 0 0 4 0 0 1 0 0
+1 quota 1024 1 200 100 4 20 10 1 0 0'
+    rm s
 else
     echo 'real_files: python3 is not there: no call over UDP is shown' >&2
 fi
