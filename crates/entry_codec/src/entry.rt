@@ -1,4 +1,4 @@
-ghost use Rattle.std.specs.Prelude.{◌≡◌, ◌≢◌, ℕ, true, false, None, Some, IfNone, IfSome, length};
+ghost use Rattle.std.specs.Prelude.{◌≡◌, ◌≢◌, ◌≤◌, ℕ, true, false, None, Some, IfNone, IfSome, length};
 ghost use Rattle.entry_codec.specs.Entry.{IsEntry, entry_size, is_unused, padding_of, stored_id, stored_v2r0, stored_v2r1};
 ghost use Rattle.quota_types.specs.Bytes.{number_at};
 ghost use Rattle.quota_types.specs.Kept.{kept_of, without_marker};
@@ -67,6 +67,19 @@ fn used_record(format: Format, id: u32, bytes: &[u8]) -> Rec
     }
 }
 
+/// The identifier of an entry, or none where it is unused.
+pub fn read_id(bytes: &[u8]) -> Option<u32>
+    requires { 4 ≤ length bytes.now }
+    ensures id { IfSome result (λ id. id ≡ stored_id bytes.now) }
+    ensures used { IfSome result (λ _. is_unused bytes.now ≡ false) }
+    ensures unused { IfNone result (is_unused bytes.now ≡ true) }
+{
+    if is_unused(bytes) {
+        return None;
+    }
+    Some(number4(bytes, 0))
+}
+
 /// The identifier and the record of an entry, or none where it is unused.
 pub fn read_entry(format: Format, bytes: &[u8]) -> Option<(u32, Rec)>
     requires tree { format ≢ Format.V1 }
@@ -78,10 +91,7 @@ pub fn read_entry(format: Format, bytes: &[u8]) -> Option<(u32, Rec)>
     ensures fits { IfSome result (λ entry. unfit format entry.0 entry.1 ≡ None) }
     ensures kept { IfSome result (λ entry. kept_of format entry.0 entry.1 ≡ entry.1) }
 {
-    if is_unused(bytes) {
-        return None;
-    }
-    let id = number4(bytes, 0);
+    let id = read_id(bytes)?;
     Some((id, used_record(format, id, bytes)))
 }
 

@@ -13,6 +13,6 @@ pub mod laws;
 mod layout;
 mod numbers;
 
-pub use entry::{read_entry, write_entry};
+pub use entry::{read_entry, read_id, write_entry};
 pub use header::{Header, HeaderFault, read_header, write_header};
 pub use layout::{entries_per_block, entry_size};

@@ -14,3 +14,8 @@ pub mod WordsLemmas
 pub mod InputLinesLemmas
 pub mod InputLemmas
 pub mod NumeralLemmas
+pub mod BlockLemmas
+pub mod FlagsLemmas
+pub mod LeadsLemmas
+pub mod MarkedLemmas
+pub mod WordLemmas

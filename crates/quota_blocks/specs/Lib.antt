@@ -1,4 +1,7 @@
 pub mod Behind
+pub mod Block
+pub mod BlockSet
+pub mod CheckFault
 pub mod Count
 pub mod FileChange
 pub mod Frame
@@ -25,3 +28,5 @@ pub use Rattle.quota_types.specs.Bytes
 pub use Rattle.quota_types.specs.Kept
 pub use Rattle.quota_types.specs.Range
 pub use Rattle.quota_types.specs.Rec
+pub use Rattle.quota_types.specs.Damage
+pub use Rattle.quota_types.specs.Times

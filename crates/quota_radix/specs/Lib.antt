@@ -1,2 +1,17 @@
+pub mod Descent
 pub mod Digits
+pub mod Levels
+pub mod Lookup
+pub mod Reads
+pub mod Tree
+pub mod TreeDefect
 pub use Rattle.quota_types.specs.Bytes
+pub use Rattle.quota_types.specs.Damage
+pub use Rattle.quota_types.specs.Times
+pub use Rattle.quota_blocks.specs.Block
+pub use Rattle.quota_blocks.specs.BlockSet
+pub use Rattle.quota_blocks.specs.CheckFault
+pub use Rattle.quota_blocks.specs.Frame
+pub use Rattle.quota_blocks.specs.Seen
+pub use Rattle.quota_blocks.specs.Unsynced
+pub use Rattle.quota_blocks.specs.World

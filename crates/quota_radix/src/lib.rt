@@ -1,12 +1,20 @@
 //! The tree of a tree quota file, by which an identifier's data block is found: its four levels are indexed by the four
 //! bytes of the identifier.
 //!
-//! The one promise: the digits of an identifier are its bytes, the most significant first, and a reference is the number
-//! at its digit's place.
+//! The one promise: the digits of an identifier are its bytes, the most significant first, a reference is the number at
+//! its digit's place, the leaves that are found are those of the file, and what is said to be wrong with a block of the
+//! tree is wrong with it.
 #![tactic(auto)]
 
+mod descent;
+mod levels;
 mod places;
 mod reference;
+mod tree;
+mod tree_path;
 
+pub use descent::{first_leaf, leaf_block};
 pub use places::digits;
 pub use reference::level_ref;
+pub use tree::find_leaves;
+pub use tree_path::TreePath;

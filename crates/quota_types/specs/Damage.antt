@@ -2,6 +2,8 @@
 use Rattle.std.specs.Prelude.{ℕ, Bool, true, false, List, codes}
 use Rattle.quota_types.specs.declared.damage.DamageKind.{DamageKind}
 use Rattle.quota_types.specs.declared.damage.DamageKind.TheVariants.{Short, RefOut, TwoRoles, NoRole, EmptyTree, ChainOut, ChainLoop, ForeignInChain, MissingInChain, BadPrev, BadCount, MissingEntry, StrayEntry, DoubleEntry, PartialRecord}
+use Rattle.std.specs.Prelude.{◌≡◌}
+use Rattle.std.specs.Prelude.{MatchBool, ⊤}
 
 -- the name of a kind of damage
 abbrev pub damage_name : DamageKind → List ℕ
@@ -27,3 +29,9 @@ names_identifier MissingEntry = true
 names_identifier StrayEntry = true
 names_identifier DoubleEntry = true
 names_identifier _ = false
+
+-- A damage that is in an entry of an identifier names it, and any other damage of a tree file names 0. A record cut off
+-- is no damage of a tree file.
+abbrev pub NamesItsId : DamageKind → ℕ → Type 0
+NamesItsId PartialRecord id = ⊥
+NamesItsId kind id = MatchBool (names_identifier kind) ⊤ (id ≡ 0)

@@ -5,3 +5,4 @@ pub mod Kept
 pub mod Range
 pub mod Rec
 pub mod Timers
+pub mod Times

@@ -81,3 +81,10 @@ pub struct Damage {
     /// The identifier; 0 for the kinds that name none.
     pub id: u32,
 }
+
+/// The damage of a block, of a kind that names no identifier.
+pub fn damage_at(kind: DamageKind, block: u32) -> Damage
+    ensures { result ≡ record { kind = kind; block = block; id = 0 } }
+{
+    Damage { kind, block, id: 0 }
+}

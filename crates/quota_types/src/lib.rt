@@ -16,7 +16,7 @@ mod record;
 mod timers;
 mod wanted;
 
-pub use damage::{Damage, DamageKind};
+pub use damage::{Damage, DamageKind, damage_at};
 pub use field::{Field, NoRoom};
 pub use file_kind::{Format, Kind};
 pub use keeping::kept;

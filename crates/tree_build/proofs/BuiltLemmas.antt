@@ -9,19 +9,19 @@ use Rattle.quota_types.specs.declared.file_kind.Format.{Format}
 use Rattle.quota_types.specs.declared.file_kind.Format.TheVariants.{V1, V2R0, V2R1}
 use Rattle.quota_types.specs.declared.record.Entry.{Entry}
 use Rattle.entry_codec.specs.Entry.{entries_per_block, padding_of}
-use Rattle.tree_build.specs.declared.tree_path.TreePath.{TreePath}
-use Rattle.tree_build.specs.Block.{block_of, stated_count, word_at}
+use Rattle.quota_radix.specs.declared.tree_path.TreePath.{TreePath}
+use Rattle.quota_blocks.specs.Block.{block_of, stated_count, word_at, leads}
 use Rattle.quota_blocks.specs.Listed.{ids_of}
 use Rattle.tree_build.specs.Build.{HasNoPadding, HasOneRoom}
-use Rattle.tree_build.specs.Count.{StandsIn, times}
+use Rattle.quota_types.specs.Times.{StandsIn, times}
 use Rattle.tree_build.specs.Entries.{entry_bytes, has_unused, used_entries, used_ids}
-use Rattle.tree_build.specs.Tree.{blocks_of, data_blocks, ids_at, is_data, leads, leaves, level, lower_blocks, paths, tree_blocks}
+use Rattle.quota_radix.specs.Tree.{blocks_of, data_blocks, ids_at, is_data, leaves, level, lower_blocks, paths, tree_blocks}
 use Rattle.tree_build.specs.NewFile.{AreDataBlocks, IsDataBlock, IsFullTreeBlock, Part, leaves_in, part_of, parts_needed, parts_of}
 use Rattle.tree_build.specs.Roles.{Chained, Filled, OneRole, has_room, roles}
 use Rattle.tree_build.specs.Size.{filled_blocks}
-use Rattle.tree_build.proofs.CountLemmas.{stands_either, times-append, times-cons-other, times-cons-same, times-range-high, times-range-low, times-range-within, only_one}
+use Rattle.quota_types.proofs.TimesLemmas.{stands_either, times-append, times-cons-other, times-cons-same, times-range-high, times-range-low, times-range-within, only_one}
 use Rattle.tree_build.proofs.DataBlockLemmas.{range_parted}
-use Rattle.tree_build.proofs.PathLemmas.{length_ids, data_of_id, data_within, ids_distinct, one_with, times-data_blocks}
+use Rattle.quota_radix.proofs.PathLemmas.{length_ids, data_of_id, data_within, ids_distinct, one_with, times-data_blocks}
 use Rattle.tree_build.proofs.PartsLemmas.{each_part, ids_nowhere, ids_there, length_part, some_entries}
 
 -- A file with the levels and the data blocks of a list: the data blocks stand first, then the levels from the lowest one up.

@@ -8,13 +8,13 @@ use Rattle.quota_types.specs.declared.file_kind.Format.{Format}
 use Rattle.quota_types.specs.declared.file_kind.Format.TheVariants.{V1, V2R0, V2R1}
 use Rattle.quota_types.specs.declared.record.Entry.{Entry}
 use Rattle.entry_codec.specs.Entry.{entries_per_block}
-use Rattle.tree_build.specs.declared.tree_path.TreePath.{TreePath}
-use Rattle.tree_build.specs.Block.{block_of}
+use Rattle.quota_radix.specs.declared.tree_path.TreePath.{TreePath}
+use Rattle.quota_blocks.specs.Block.{block_of}
 use Rattle.tree_build.specs.NewFile.{AreDataBlocks, IsDataBlock, KeepsBlocks, Part, leaves_in, part_of, parts_needed, parts_of}
 use Rattle.tree_build.specs.Size.{filled_blocks}
 use Rattle.tree_build.proofs.EntryLemmas.{range-suc}
 use Rattle.tree_build.proofs.NewFileLemmas.{appended, kept_again, kept_append, kept_first}
-use Rattle.tree_build.proofs.PathLemmas.{each-append}
+use Rattle.quota_radix.proofs.PathLemmas.{each-append}
 
 -- a file with so many of the data blocks of a list, and the leaves of these
 pub record HasParts (format : Format) (list : List Entry) (first : ℕ) (old file : List ℕ) (leaves : List TreePath) (rest : List Entry) (count : ℕ) : Type 0 where

@@ -7,17 +7,19 @@ use Rattle.quota_types.specs.declared.damage.DamageKind.{DamageKind}
 use Rattle.quota_types.specs.declared.damage.DamageKind.TheVariants.{Short, RefOut, TwoRoles, NoRole, EmptyTree, ChainOut, ChainLoop, ForeignInChain, MissingInChain, BadPrev, BadCount, MissingEntry, StrayEntry, DoubleEntry, PartialRecord}
 use Rattle.quota_types.specs.declared.file_kind.Format.{Format}
 use Rattle.entry_codec.specs.Header.{HeaderNumbers}
-use Rattle.tree_build.specs.Block.{block_of, previous_of}
-use Rattle.tree_build.specs.Chain.{IsChain}
-use Rattle.tree_build.specs.Count.{StandsIn, StandsTwiceIn, times}
-use Rattle.tree_build.specs.Defect.{HasBadPrevious, HasNoRole, HasTwoRoles, HasStrayEntry, HasDoubleEntry, IsDefectOf, IsForeign, IsLoop, IsMissing, IsOut, IsTreeDefect}
+use Rattle.quota_blocks.specs.Block.{block_of, previous_of}
+use Rattle.free_chains.specs.Chain.{IsChain}
+use Rattle.quota_types.specs.Times.{StandsIn, StandsTwiceIn, times}
+use Rattle.tree_build.specs.Defect.{HasBadPrevious, HasNoRole, HasTwoRoles, HasStrayEntry, HasDoubleEntry, IsDefectOf, IsForeign, IsMissing, IsTreeDefect}
+use Rattle.free_chains.specs.ChainDefect.{IsLoop, IsOut}
 use Rattle.tree_build.specs.Entries.{used_ids}
 use Rattle.tree_build.specs.Roles.{Chained, Filled, OneRole, roles}
-use Rattle.tree_build.specs.Tree.{data_blocks, ids_at, leaves}
+use Rattle.quota_radix.specs.Tree.{data_blocks, ids_at, leaves}
 use Rattle.tree_build.specs.TreeFile.{IsSound}
-use Rattle.tree_build.proofs.ChainLemmas.{leads_within, one_chain}
-use Rattle.tree_build.proofs.CountLemmas.{length_of_times, times_cases}
-use Rattle.tree_build.proofs.PathLemmas.{ids_distinct}
+use Rattle.quota_blocks.proofs.LeadsLemmas.{leads_within}
+use Rattle.free_chains.proofs.ChainLemmas.{one_chain}
+use Rattle.quota_types.proofs.TimesLemmas.{length_of_times, times_cases}
+use Rattle.quota_radix.proofs.PathLemmas.{ids_distinct}
 
 -- a block has no second role
 no_two_roles : (file : List ℕ) (blocks head block : ℕ) → OneRole file blocks head → HasTwoRoles file blocks head block → ⊥

@@ -1,14 +1,15 @@
 -- Numbers that stand in lists, as a loop over a list finds them.
 use Rattle.std.proofs.Common.{◌≡◌, ℕ, zero, suc, ◌+◌, ◌<◌, ◌≤◌, Bool, true, false, ◌||◌, ◌==◌, List, [], ◌∷◌, ◌++◌, length, map, take, get_or, Option, Some, None, refl, sym, ap, subst, ◌∙◌, inl, inr, arith, true≢false, add-one, ne_eqb, eq-eqb}
 use Rattle.std.proofs.Math.Bool.{or-false}
+use Rattle.std.proofs.lemmas.Bool.{cases_lt}
 use Rattle.std.proofs.Math.Seq.{take-suc}
 use Rattle.std.proofs.lemmas.List.{take_all, map-append}
 use Rattle.std.proofs.lemmas.List.Elements.{filter_map-append}
 use Rattle.std.proofs.lemmas.List.Folds.{list_any-append}
 use Rattle.std.specs.List.{list_any, filter_map, range_with_len, cons_option}
 use Rattle.std.specs.Option.{option_to_list}
-use Rattle.tree_build.specs.Count.{StandsIn, times}
-use Rattle.tree_build.proofs.CountLemmas.{times_cases, times-append, times-cons-same}
+use Rattle.quota_types.specs.Times.{StandsIn, times}
+use Rattle.quota_types.proofs.TimesLemmas.{times_cases, times-append, times-cons-same}
 
 -- a list has a number where the test for it passes for some number
 pub stands_of_any : (others : List ℕ) (x : ℕ) → list_any (λ y. y == x) others ≡ true → StandsIn others x
@@ -35,6 +36,20 @@ stands_more P xs i h before here n stands =
     elim (times_cases (get_or xs i 0) [] n) [
       | inl same ↦ subst P same.0 here
       | inr other ↦ before n (omega (arith, both, stands, other.1))
+    ]
+
+-- numbers of which one more is above all before it stand once each
+pub ascends_more : (xs : List ℕ) (i least : ℕ) → i < length xs → ((n : ℕ) → (times (take i xs) n ≤ 1) × (StandsIn (take i xs) n → n < least)) → least ≤ get_or xs i 0
+    → (n : ℕ) → (times (take (i + 1) xs) n ≤ 1) × (StandsIn (take (i + 1) xs) n → n < get_or xs i 0 + 1)
+ascends_more xs i least h before above n =
+    let split : take (i + 1) xs ≡ take i xs ++ get_or xs i 0 ∷ [] = rw add-one (take-suc xs i 0 h) in
+    let both : times (take (i + 1) xs) n ≡ times (take i xs) n + times (get_or xs i 0 ∷ []) n = ap (λ (ys : List ℕ). times ys n) split ∙ times-append (take i xs) (get_or xs i 0 ∷ []) n in
+    elim (times_cases (get_or xs i 0) [] n) [
+      | inl same ↦ elim (cases_lt (times (take i xs) n) 1) [
+        | inl none ↦ (omega (arith, both, same.1, none), λ stands. omega (arith, same.0))
+        | inr some ↦ absurd (omega (arith, (before n).1 some, above, same.0))
+      ]
+      | inr other ↦ (omega (arith, both, other.1, (before n).0), λ stands. omega (arith, (before n).1 (omega (arith, both, other.1, stands)), above))
     ]
 
 -- the numbers of the whole list

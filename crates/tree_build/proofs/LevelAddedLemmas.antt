@@ -5,18 +5,18 @@ use Rattle.std.proofs.lemmas.List.Concat.{flat_map-append}
 use Rattle.std.specs.Prelude.{All}
 use Rattle.std.specs.List.{AllByRecursion, flat_map, range_with_len}
 use Rattle.std.specs.List.Sorted.{IsStrictlyIncreasing}
-use Rattle.tree_build.specs.declared.tree_path.TreePath.{TreePath}
-use Rattle.tree_build.specs.Block.{block_of}
-use Rattle.tree_build.specs.Tree.{blocks_of, numbers_of, leads, steps}
+use Rattle.quota_radix.specs.declared.tree_path.TreePath.{TreePath}
+use Rattle.quota_blocks.specs.Block.{block_of, leads}
+use Rattle.quota_radix.specs.Tree.{blocks_of, numbers_of, steps}
 use Rattle.tree_build.specs.NewFile.{AllLead, AreSiblings, IsFullTreeBlock, IsLevel, KeepsBlocks, parents_of}
-use Rattle.tree_build.specs.Roles.{IsEmpty}
+use Rattle.quota_radix.specs.TreeDefect.{IsEmpty}
 use Rattle.tree_build.specs.Size.{each_once}
-use Rattle.tree_build.proofs.ChainLemmas.{leads_below}
+use Rattle.quota_blocks.proofs.LeadsLemmas.{leads_below}
 use Rattle.tree_build.proofs.NewFileLemmas.{appended, kept_again, kept_append, kept_first}
 use Rattle.tree_build.proofs.OnceLemmas.{once_run}
-use Rattle.tree_build.proofs.OrderLemmas.{Ascends, ascends_left, ascends_right, each_left, each_of_places, each_right, increasing_of, length_numbers}
-use Rattle.tree_build.proofs.PathLemmas.{each-append, each_weaker}
-use Rattle.tree_build.proofs.StepLemmas.{none_of_zeros, range_push, steps_all, word_in}
+use Rattle.quota_radix.proofs.OrderLemmas.{Ascends, ascends_left, ascends_right, each_left, each_of_places, each_right, increasing_of, length_numbers}
+use Rattle.quota_radix.proofs.PathLemmas.{each-append, each_weaker}
+use Rattle.quota_radix.proofs.StepLemmas.{none_of_zeros, range_push, steps_all, word_in}
 use Rattle.tree_build.proofs.TreeBlockLemmas.{no_path}
 
 -- the steps from a block that is the same in two files

@@ -12,14 +12,14 @@ use Rattle.quota_blocks.specs.Listed.{ids_of}
 use Rattle.quota_blocks.specs.QuotaValue.{IsAfter}
 use Rattle.tree_build.specs.declared.needed.Needed.{Needed}
 use Rattle.tree_build.specs.Beginnings.{IsLastOf, new_beginnings}
-use Rattle.tree_build.specs.Count.{StandsIn}
+use Rattle.quota_types.specs.Times.{StandsIn}
 use Rattle.tree_build.specs.Needed.{HasMet}
 use Rattle.tree_build.specs.Size.{beginnings, each_once}
-use Rattle.tree_build.proofs.CountLemmas.{times-append, times-cons-same, times_cases}
+use Rattle.quota_types.proofs.TimesLemmas.{times-append, times-cons-same, times_cases}
 use Rattle.tree_build.proofs.DataBlockLemmas.{no_entry}
 use Rattle.tree_build.proofs.OnceLemmas.{filter-each_once, is_not}
-use Rattle.tree_build.proofs.OrderLemmas.{Ascends, ascends_of, ascends_right}
-use Rattle.tree_build.proofs.PathLemmas.{each-append, each_weaker}
+use Rattle.quota_radix.proofs.OrderLemmas.{Ascends, ascends_of, ascends_right}
+use Rattle.quota_radix.proofs.PathLemmas.{each-append, each_weaker}
 
 -- a number that is there already adds nothing
 once_known : (xs : List ℕ) (y : ℕ) → StandsIn xs y → each_once (xs ++ y ∷ []) ≡ each_once xs

@@ -6,7 +6,7 @@ use Rattle.std.proofs.lemmas.List.Elements.{filter-append}
 use Rattle.std.specs.List.{AllByRecursion}
 use Rattle.tree_build.specs.NewFile.{parents_of}
 use Rattle.tree_build.specs.Size.{each_once}
-use Rattle.tree_build.proofs.OrderLemmas.{Ascends}
+use Rattle.quota_radix.proofs.OrderLemmas.{Ascends}
 
 -- a number is not another one
 abbrev pub is_not : ℕ → ℕ → Bool

@@ -15,16 +15,16 @@ use Rattle.quota_types.specs.declared.file_kind.Format.TheVariants.{V1, V2R0, V2
 use Rattle.quota_types.specs.declared.record.Entry.{Entry}
 use Rattle.quota_types.specs.declared.record.Rec.{Rec}
 use Rattle.entry_codec.specs.Entry.{entries_per_block}
-use Rattle.tree_build.specs.declared.tree_path.TreePath.{TreePath}
-use Rattle.tree_build.specs.Block.{block_of}
+use Rattle.quota_radix.specs.declared.tree_path.TreePath.{TreePath}
+use Rattle.quota_blocks.specs.Block.{block_of}
 use Rattle.quota_blocks.specs.Listed.{ids_of, records_of}
 use Rattle.tree_build.specs.Entries.{used_entries}
 use Rattle.tree_build.specs.NewFile.{Part, leaves_in, part_of, parts_needed, parts_of}
-use Rattle.tree_build.specs.Tree.{numbers_of, ids_at}
+use Rattle.quota_radix.specs.Tree.{numbers_of, ids_at}
 use Rattle.tree_build.specs.Size.{filled_blocks}
 use Rattle.tree_build.specs.TreeFile.{record_in}
 use Rattle.tree_build.proofs.DataAddedLemmas.{parts_push}
-use Rattle.tree_build.proofs.FindLemmas.{find_first, find_later}
+use Rattle.quota_radix.proofs.FindLemmas.{find_first, find_later}
 
 -- the leaf of an entry in a block
 abbrev pub leaf_at : ℕ → Entry → TreePath

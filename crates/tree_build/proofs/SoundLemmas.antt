@@ -7,17 +7,20 @@ use Rattle.quota_types.specs.declared.damage.DamageKind.{DamageKind}
 use Rattle.quota_types.specs.declared.damage.DamageKind.TheVariants.{Short, RefOut, TwoRoles, NoRole, EmptyTree, ChainOut, ChainLoop, ForeignInChain, MissingInChain, BadPrev, BadCount, MissingEntry, StrayEntry, DoubleEntry}
 use Rattle.quota_types.specs.declared.file_kind.Format.{Format}
 use Rattle.entry_codec.specs.Header.{HeaderNumbers}
-use Rattle.tree_build.specs.Block.{block_of, previous_of, stated_count, word_at}
-use Rattle.tree_build.specs.Chain.{IsChain}
-use Rattle.tree_build.specs.Count.{StandsIn, times}
-use Rattle.tree_build.specs.Defect.{IsDefectOf, IsLoop, IsOut, IsTreeDefect, NamesItsId}
+use Rattle.quota_blocks.specs.Block.{block_of, previous_of, stated_count, word_at, leads}
+use Rattle.free_chains.specs.Chain.{IsChain}
+use Rattle.quota_types.specs.Times.{StandsIn, times}
+use Rattle.tree_build.specs.Defect.{IsDefectOf, IsTreeDefect}
+use Rattle.free_chains.specs.ChainDefect.{IsLoop, IsOut}
+use Rattle.quota_types.specs.Damage.{NamesItsId}
 use Rattle.tree_build.specs.Entries.{used_ids}
 use Rattle.tree_build.specs.Roles.{Chained, Filled, OneRole, has_room, roles}
-use Rattle.tree_build.specs.Tree.{data_blocks, ids_at, leads, leaves, level, lower_blocks, tree_blocks}
+use Rattle.quota_radix.specs.Tree.{data_blocks, ids_at, leaves, level, lower_blocks, tree_blocks}
 use Rattle.tree_build.specs.TreeFile.{IsSound}
-use Rattle.tree_build.proofs.ChainLemmas.{leads_within, some_chain}
-use Rattle.tree_build.proofs.CountLemmas.{length_same_times, stands_cons, stands_either}
-use Rattle.tree_build.proofs.PathLemmas.{data_block_of_id, data_blocks_within, ids_distinct, level_leads}
+use Rattle.quota_blocks.proofs.LeadsLemmas.{leads_within}
+use Rattle.free_chains.proofs.ChainLemmas.{some_chain}
+use Rattle.quota_types.proofs.TimesLemmas.{length_same_times, stands_cons, stands_either}
+use Rattle.quota_radix.proofs.PathLemmas.{data_block_of_id, data_blocks_within, ids_distinct, level_leads}
 
 -- no damage is one of the file
 abbrev pub HasNoDefect : Format → List ℕ → HeaderNumbers → Type 0

@@ -6,16 +6,16 @@ use Rattle.std.specs.List.{AllByRecursion, cons_option}
 use Rattle.std.specs.List.Sorted.{IsStrictlyIncreasing}
 use Rattle.quota_blocks.specs.Span.{KeepsOutside}
 use Rattle.entry_codec.proofs.NumberLemmas.{number_at-zeros}
-use Rattle.tree_build.specs.declared.tree_path.TreePath.{TreePath}
-use Rattle.tree_build.specs.Block.{block_of}
+use Rattle.quota_radix.specs.declared.tree_path.TreePath.{TreePath}
+use Rattle.quota_blocks.specs.Block.{block_of, leads}
 use Rattle.tree_build.specs.NewFile.{AllLead, AreSiblings}
-use Rattle.tree_build.specs.Tree.{numbers_of, leads, steps}
-use Rattle.tree_build.proofs.WordLemmas.{number_same}
+use Rattle.quota_radix.specs.Tree.{numbers_of, steps}
+use Rattle.quota_blocks.proofs.WordLemmas.{number_same}
 use Rattle.tree_build.proofs.DataBlockLemmas.{zero_bytes}
-use Rattle.tree_build.proofs.ChainLemmas.{leads_below}
-use Rattle.tree_build.proofs.OrderLemmas.{Ascends, ascends_apart, ascends_of, each_at, each_both, each_of_places, length_numbers, number_at_place, rises_bound, rises_of}
-use Rattle.tree_build.proofs.PathLemmas.{Rises, each_weaker}
-use Rattle.tree_build.proofs.StepLemmas.{path_by, step_cases, steps_all, steps_from, word_in}
+use Rattle.quota_blocks.proofs.LeadsLemmas.{leads_below}
+use Rattle.quota_radix.proofs.OrderLemmas.{Ascends, ascends_apart, ascends_of, each_at, each_both, each_of_places, length_numbers, number_at_place, rises_bound, rises_of}
+use Rattle.quota_radix.proofs.PathLemmas.{Rises, each_weaker}
+use Rattle.quota_radix.proofs.StepLemmas.{path_by, step_cases, steps_all, steps_from, word_in}
 
 -- a path in the place of one that is not there
 abbrev pub no_path : TreePath

@@ -13,16 +13,16 @@ use Rattle.quota_types.specs.declared.record.Entry.{Entry}
 use Rattle.quota_types.specs.declared.record.Rec.{Rec}
 use Rattle.quota_blocks.specs.QuotaValue.{QuotaValue}
 use Rattle.entry_codec.specs.Header.{format_of, header_of, magic_of, AreOf}
-use Rattle.tree_build.specs.declared.tree_path.TreePath.{TreePath}
-use Rattle.tree_build.specs.Block.{block_of}
-use Rattle.tree_build.specs.Count.{StandsIn}
+use Rattle.quota_radix.specs.declared.tree_path.TreePath.{TreePath}
+use Rattle.quota_blocks.specs.Block.{block_of}
+use Rattle.quota_types.specs.Times.{StandsIn}
 use Rattle.tree_build.specs.Entries.{used_entries}
-use Rattle.tree_build.specs.Tree.{numbers_of, ids_at, leaves}
+use Rattle.quota_radix.specs.Tree.{numbers_of, ids_at, leaves}
 use Rattle.tree_build.specs.Size.{ids_in}
 use Rattle.tree_build.specs.Roles.{Filled, Chained, OneRole}
 use Rattle.tree_build.specs.TreeFile.{IsSound, TreeStandsFor, record_in}
-use Rattle.tree_build.proofs.CountLemmas.{times_cases}
-use Rattle.tree_build.proofs.PathLemmas.{Rises, Rises-paths, each_weaker, leaves_lead}
+use Rattle.quota_types.proofs.TimesLemmas.{times_cases}
+use Rattle.quota_radix.proofs.PathLemmas.{Rises, Rises-paths, each_weaker, leaves_lead}
 use Rattle.entry_codec.specs.declared.header.Header.{Header}
 
 -- an identifier that some entry has is found

@@ -12,12 +12,12 @@ use Rattle.quota_types.specs.declared.file_kind.Format.TheVariants.{V1, V2R0, V2
 use Rattle.quota_types.specs.declared.record.Entry.{Entry}
 use Rattle.entry_codec.specs.Header.{AreOf, format_of, header_of}
 use Rattle.entry_codec.specs.declared.header.Header.{Header}
-use Rattle.tree_build.specs.declared.tree_path.TreePath.{TreePath}
-use Rattle.tree_build.specs.Block.{block_of}
+use Rattle.quota_radix.specs.declared.tree_path.TreePath.{TreePath}
+use Rattle.quota_blocks.specs.Block.{block_of, leads}
 use Rattle.quota_blocks.specs.Listed.{ids_of, records_of, value_of}
 use Rattle.tree_build.specs.Build.{HasNoPadding, HasOneRoom}
 use Rattle.tree_build.specs.Entries.{used_entries}
-use Rattle.tree_build.specs.Tree.{blocks_of, numbers_of, leads, leaves, paths, steps}
+use Rattle.quota_radix.specs.Tree.{blocks_of, numbers_of, leaves, paths, steps}
 use Rattle.tree_build.specs.NewFile.{AllLead, AreBelow, AreDataBlocks, AreSiblings, IsDataBlock, IsLevel, KeepsBlocks, Part, leaves_in, parents_of, part_of, parts_needed, parts_of}
 use Rattle.tree_build.specs.Roles.{Chained, OneRole}
 use Rattle.tree_build.specs.Size.{beginnings, blocks_needed, each_once}
@@ -27,9 +27,9 @@ use Rattle.tree_build.proofs.ValueLemmas.{sound}
 use Rattle.tree_build.proofs.LevelAddedLemmas.{blocks_between, level_kept}
 use Rattle.tree_build.proofs.NewFileLemmas.{block_within, front_is, length-with_root, root_is, root_keeps, with_root}
 use Rattle.tree_build.proofs.OnceLemmas.{ascends-parents_of, each_once-map}
-use Rattle.tree_build.proofs.OrderLemmas.{Ascends, ascends_of, increasing_of}
+use Rattle.quota_radix.proofs.OrderLemmas.{Ascends, ascends_of, increasing_of}
 use Rattle.tree_build.proofs.PartsLemmas.{all_parts, get_record, numbers_of_leaves, record_of_parts}
-use Rattle.tree_build.proofs.PathLemmas.{each-append, each_weaker}
+use Rattle.quota_radix.proofs.PathLemmas.{each-append, each_weaker}
 
 map_again : (f g h : ℕ → ℕ) → ((n : ℕ) → g (f n) ≡ h n) → (ns : List ℕ) → map g (map f ns) ≡ map h ns
 map_again f g h same [] = refl

@@ -1,7 +1,7 @@
 -- Identifiers one after another, each greater than the one before it, and whether one begins otherwise than that.
 use Rattle.std.specs.Prelude.{◌≡◌, ℕ, ◌+◌, ◌/◌, ◌≤◌, ◌==◌, if◌then◌else◌, List, [], Option, Some, None}
 use Rattle.std.specs.List.{AllByRecursion}
-use Rattle.tree_build.specs.Count.{StandsIn}
+use Rattle.quota_types.specs.Times.{StandsIn}
 
 -- how many more beginnings there are once an identifier comes after the last one: none where both begin alike, and else one
 abbrev pub new_beginnings : (divisor : ℕ) → Option ℕ → ℕ → ℕ

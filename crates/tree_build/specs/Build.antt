@@ -5,11 +5,11 @@ use Rattle.quota_types.specs.declared.file_kind.Format.{Format}
 use Rattle.entry_codec.specs.Entry.{entries_per_block, padding_of}
 use Rattle.tree_build.specs.declared.build_fault.BuildFault.{BuildFault}
 use Rattle.tree_build.specs.declared.build_fault.BuildFault.TheVariants.{Full, Memory}
-use Rattle.tree_build.specs.Block.{block_of}
-use Rattle.tree_build.specs.Count.{StandsIn}
+use Rattle.quota_blocks.specs.Block.{block_of}
+use Rattle.quota_types.specs.Times.{StandsIn}
 use Rattle.tree_build.specs.Entries.{entry_bytes}
 use Rattle.tree_build.specs.Roles.{has_room}
-use Rattle.tree_build.specs.Tree.{data_blocks}
+use Rattle.quota_radix.specs.Tree.{data_blocks}
 
 -- At most one data block has an unused entry.
 abbrev pub HasOneRoom : Format → List ℕ → ℕ → Type 0

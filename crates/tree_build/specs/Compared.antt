@@ -6,8 +6,8 @@ use Rattle.quota_types.specs.declared.damage.Damage.{Damage}
 use Rattle.quota_types.specs.declared.damage.DamageKind.{DamageKind}
 use Rattle.quota_types.specs.declared.damage.DamageKind.TheVariants.{BadCount, MissingEntry, StrayEntry, DoubleEntry}
 use Rattle.quota_types.specs.declared.file_kind.Format.{Format}
-use Rattle.tree_build.specs.Block.{block_of, stated_count}
-use Rattle.tree_build.specs.Count.{StandsIn, StandsTwiceIn, times}
+use Rattle.quota_blocks.specs.Block.{block_of, stated_count}
+use Rattle.quota_types.specs.Times.{StandsIn, StandsTwiceIn, times}
 use Rattle.tree_build.specs.Entries.{entry_of, has_unused, used_ids}
 
 -- the identifier of an entry, or none where it is unused

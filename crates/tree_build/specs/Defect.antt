@@ -1,33 +1,27 @@
 -- What may be wrong with a tree file, kind by kind, with the block and the identifier that each kind names. Source: the
 -- rules of `fs/quota/quota_tree.c`, each turned round.
-use Rattle.std.specs.Prelude.{◌≡◌, ◌≢◌, ◌⊎◌, ℕ, ◌*◌, ◌/◌, ◌<◌, ◌≤◌, IsTrue, false, List, ◌∷◌, ◌++◌, length}
+use Rattle.std.specs.Prelude.{◌≡◌, ◌≢◌, ◌⊎◌, ℕ, ◌*◌, ◌/◌, ◌<◌, IsTrue, false, List, ◌∷◌, ◌++◌, length, Some, unwrap_or}
 use Rattle.std.specs.List.{last_or}
-use Rattle.std.specs.Prelude.{MatchBool, Some, unwrap_or, ⊤}
-use Rattle.quota_types.specs.Damage.{names_identifier}
+use Rattle.quota_types.specs.Damage.{NamesItsId}
 use Rattle.quota_types.specs.declared.damage.Damage.{Damage}
 use Rattle.quota_types.specs.declared.damage.DamageKind.{DamageKind}
 use Rattle.quota_types.specs.declared.damage.DamageKind.TheVariants.{Short, RefOut, TwoRoles, NoRole, EmptyTree, ChainOut, ChainLoop, ForeignInChain, MissingInChain, BadPrev, BadCount, MissingEntry, StrayEntry, DoubleEntry, PartialRecord}
 use Rattle.quota_types.specs.declared.file_kind.Format.{Format}
 use Rattle.entry_codec.specs.Header.{HeaderNumbers}
-use Rattle.tree_build.specs.Block.{block_of, previous_of, stated_count, word_at}
-use Rattle.tree_build.specs.Chain.{IsChain}
-use Rattle.tree_build.specs.Count.{StandsIn, StandsTwiceIn, times}
+use Rattle.quota_blocks.specs.Block.{block_of, previous_of, stated_count}
+use Rattle.free_chains.specs.Chain.{IsChain}
+use Rattle.quota_types.specs.Times.{StandsIn, StandsTwiceIn, times}
 use Rattle.tree_build.specs.Entries.{used_ids}
-use Rattle.tree_build.specs.Roles.{IsEmpty, has_room, roles}
-use Rattle.tree_build.specs.Tree.{data_blocks, ids_at, leaves, lower_blocks, tree_blocks}
+use Rattle.quota_radix.specs.TreeDefect.{IsRefOut, IsEmptyTree}
+use Rattle.tree_build.specs.Roles.{has_room, roles}
+use Rattle.quota_radix.specs.Tree.{data_blocks, ids_at, leaves}
+use Rattle.free_chains.specs.ChainDefect.{IsOut, IsLoop}
 
 -- the file has more blocks than header and root and is shorter than they, and the block is the first that is not whole
 pub record IsShort (file : List ℕ) (blocks block : ℕ) : Type 0 where
   pub more : 2 < blocks
   pub short : length file < 1024 * blocks
   pub cut : block ≡ length file / 1024
-
--- a tree block has a reference past the last block
-pub record IsRefOut (file : List ℕ) (blocks block : ℕ) : Type 0 where
-  pub tree : StandsIn (tree_blocks file blocks) block
-  pub digit : ℕ
-  pub is_digit : digit < 256
-  pub out : blocks ≤ word_at file block digit
 
 -- a block has two roles, or one role twice
 pub record HasTwoRoles (file : List ℕ) (blocks free_head block : ℕ) : Type 0 where
@@ -43,23 +37,6 @@ pub record HasNoRole (file : List ℕ) (blocks free_head block : ℕ) : Type 0 w
   pub is_free : IsChain file blocks free_head free end
   pub inside : block < blocks
   pub none : times (roles file blocks free) block ≡ 0
-
--- a tree block below the root has no reference
-pub record IsEmptyTree (file : List ℕ) (blocks block : ℕ) : Type 0 where
-  pub lower : StandsIn (lower_blocks file blocks) block
-  pub empty : IsEmpty file block
-
--- the head or a link of a list leads to this number, which is past the last block
-pub record IsOut (file : List ℕ) (blocks head block : ℕ) : Type 0 where
-  pub chain : List ℕ
-  pub is_chain : IsChain file blocks head chain block
-  pub out : blocks ≤ block
-
--- a link of a list leads to a block that the list has met before
-pub record IsLoop (file : List ℕ) (blocks head block : ℕ) : Type 0 where
-  pub chain : List ℕ
-  pub is_chain : IsChain file blocks head chain block
-  pub met : StandsIn chain block
 
 -- the entry list has a block that is no data block with room
 pub record IsForeign (format : Format) (file : List ℕ) (blocks first block : ℕ) : Type 0 where
@@ -123,12 +100,6 @@ IsDefectOf format file numbers MissingEntry block id = LacksEntry format file nu
 IsDefectOf format file numbers StrayEntry block id = HasStrayEntry format file numbers.blocks block id
 IsDefectOf format file numbers DoubleEntry block id = HasDoubleEntry format file numbers.blocks block id
 IsDefectOf format file numbers PartialRecord block id = ⊥
-
--- A damage that is in an entry of an identifier names it, and any other damage of a tree file names 0. A record cut off
--- is no damage of a tree file.
-abbrev pub NamesItsId : DamageKind → ℕ → Type 0
-NamesItsId PartialRecord id = ⊥
-NamesItsId kind id = MatchBool (names_identifier kind) ⊤ (id ≡ 0)
 
 -- a damage is one of a tree file of this format with these numbers in its header
 abbrev pub IsTreeDefect : Format → List ℕ → HeaderNumbers → Damage → Type 0

@@ -1,16 +1,12 @@
 pub mod Beginnings
-pub mod Block
 pub mod Build
-pub mod Chain
 pub mod Compared
-pub mod Count
 pub mod Defect
 pub mod Entries
 pub mod Needed
 pub mod NewFile
 pub mod Roles
 pub mod Size
-pub mod Tree
 pub mod TreeFile
 pub use Rattle.quota_types.specs.Bytes
 pub use Rattle.quota_types.specs.Kept
@@ -23,3 +19,10 @@ pub use Rattle.entry_codec.specs.Entry
 pub use Rattle.entry_codec.specs.Header
 pub use Rattle.quota_types.specs.Range
 pub use Rattle.quota_blocks.specs.Listed
+pub use Rattle.quota_types.specs.Damage
+pub use Rattle.quota_types.specs.Times
+pub use Rattle.quota_blocks.specs.Block
+pub use Rattle.quota_radix.specs.Tree
+pub use Rattle.quota_radix.specs.TreeDefect
+pub use Rattle.free_chains.specs.Chain
+pub use Rattle.free_chains.specs.ChainDefect

@@ -5,12 +5,12 @@ use Rattle.quota_types.specs.Bytes.{byte_at, number_at}
 use Rattle.quota_types.specs.declared.file_kind.Format.{Format}
 use Rattle.quota_types.specs.declared.record.Entry.{Entry}
 use Rattle.entry_codec.specs.Entry.{entries_per_block, padding_of}
-use Rattle.tree_build.specs.declared.tree_path.TreePath.{TreePath}
-use Rattle.tree_build.specs.Block.{block_of, word_at}
+use Rattle.quota_radix.specs.declared.tree_path.TreePath.{TreePath}
+use Rattle.quota_blocks.specs.Block.{block_of, word_at, leads}
 use Rattle.tree_build.specs.Entries.{entry_bytes, has_unused, used_entries}
-use Rattle.tree_build.specs.Roles.{IsEmpty}
+use Rattle.quota_radix.specs.TreeDefect.{IsEmpty}
 use Rattle.tree_build.specs.Size.{each_once, filled_blocks}
-use Rattle.tree_build.specs.Tree.{leads, steps}
+use Rattle.quota_radix.specs.Tree.{steps}
 
 -- so many first blocks of a file are as they were
 abbrev pub KeepsBlocks : ℕ → List ℕ → List ℕ → Type 0

@@ -2,11 +2,12 @@
 -- entries are those of the leaves. Source: the kernel's `fs/quota/quota_tree.c`, which keeps files so.
 use Rattle.std.specs.Prelude.{◌≡◌, ℕ, ◌<◌, Bool, ◌&&◌, nat_lt, if◌then◌else◌, List, ◌∷◌, ◌++◌, length, map, take}
 use Rattle.quota_types.specs.declared.file_kind.Format.{Format}
-use Rattle.tree_build.specs.Block.{block_of, previous_of, stated_count, word_at}
-use Rattle.tree_build.specs.Chain.{IsChain}
-use Rattle.tree_build.specs.Count.{StandsIn, times}
+use Rattle.quota_blocks.specs.Block.{block_of, previous_of, stated_count, word_at}
+use Rattle.free_chains.specs.Chain.{IsChain}
+use Rattle.quota_types.specs.Times.{StandsIn, times}
 use Rattle.tree_build.specs.Entries.{has_unused, used_ids}
-use Rattle.tree_build.specs.Tree.{data_blocks, ids_at, is_data, leaves, lower_blocks, tree_blocks}
+use Rattle.quota_radix.specs.Tree.{data_blocks, ids_at, is_data, leaves, lower_blocks, tree_blocks}
+use Rattle.quota_radix.specs.TreeDefect.{IsEmpty}
 
 -- the blocks role by role: the header, the tree, the data blocks, the free blocks
 abbrev pub roles : List ℕ → ℕ → List ℕ → List ℕ
@@ -30,10 +31,6 @@ pub record Chained (format : Format) (file : List ℕ) (blocks first : ℕ) : Ty
   pub is_chain : IsChain file blocks first chain 0
   pub has_those : (block : ℕ) → times chain block ≡ (if has_room format file blocks block then 1 else 0)
   pub previous : map (previous_of file) chain ≡ take (length chain) (0 ∷ chain)
-
--- every reference of a tree block is 0
-abbrev pub IsEmpty : List ℕ → ℕ → Type 0
-IsEmpty file block = (digit : ℕ) → digit < 256 → word_at file block digit ≡ 0
 
 -- No tree block below the root is empty; each data block has one used entry of each identifier that leads to it, and
 -- its used entries are as many as it states, and as many as the leaves that name it.

@@ -8,11 +8,11 @@ use Rattle.quota_types.specs.declared.record.Entry.{Entry}
 use Rattle.quota_types.specs.declared.record.Rec.{Rec}
 use Rattle.quota_blocks.specs.QuotaValue.{QuotaValue}
 use Rattle.entry_codec.specs.Header.{HeaderNumbers, format_of, header_of, magic_of}
-use Rattle.tree_build.specs.declared.tree_path.TreePath.{TreePath}
-use Rattle.tree_build.specs.Block.{block_of}
+use Rattle.quota_radix.specs.declared.tree_path.TreePath.{TreePath}
+use Rattle.quota_blocks.specs.Block.{block_of}
 use Rattle.tree_build.specs.Entries.{used_entries}
 use Rattle.tree_build.specs.Roles.{Chained, Filled, OneRole}
-use Rattle.tree_build.specs.Tree.{leaves}
+use Rattle.quota_radix.specs.Tree.{leaves}
 
 -- the record of a block's used entry of an identifier, where there is one
 abbrev pub record_in : Format → List ℕ → ℕ → Option Rec

@@ -1,19 +1,19 @@
-ghost use Rattle.std.specs.Prelude.{◌≡◌, ◌≢◌, ℕ, ◌+◌, ◌<◌, ◌≤◌, ◌++◌, ◌||◌, length, IfOk, IfSome, IsSome, OnOk, IfErr, MatchOption};
+ghost use Rattle.std.specs.Prelude.{◌≡◌, ◌≢◌, ℕ, ◌+◌, ◌<◌, ◌≤◌, ◌++◌, ◌||◌, length, None, IfOk, IfSome, IsSome, OnOk, IfErr, MatchOption};
+ghost use Rattle.std.specs.Bool.{OnFalse, OnTrue};
 ghost use Rattle.arrayvec.specs.ArrayVec.{array_vec_len};
 ghost use Rattle.entry_codec.specs.Entry.{entries_per_block, entry_size, is_unused};
 ghost use Rattle.quota_types.specs.Bytes.{number_at};
 ghost use Rattle.quota_types.specs.Kept.{IsKept};
 ghost use Rattle.tree_build.specs.Compared.{AreEntriesOf, IsEntryDefectAt, id_in};
-ghost use Rattle.tree_build.specs.Count.{StandsIn, StandsTwiceIn, times};
-ghost use Rattle.tree_build.specs.Defect.{NamesItsId};
+ghost use Rattle.quota_types.specs.Times.{StandsIn, StandsTwiceIn, times};
+ghost use Rattle.quota_types.specs.Damage.{NamesItsId};
 ghost use Rattle.tree_build.specs.Entries.{entry_bytes, has_unused, record_by, used_ids};
 ghost use Rattle.tree_build.specs.TreeFile.{record_in};
 
-use crate::damage_at;
 use arrayvec::ArrayVec;
-use entry_codec::{entries_per_block, entry_size, read_entry};
+use entry_codec::{entries_per_block, entry_size, read_entry, read_id};
 use quota_blocks::{le16, le32};
-use quota_types::{Damage, DamageKind, Format, Rec};
+use quota_types::{Damage, DamageKind, Format, Rec, damage_at};
 
 /// What the entries of a data block are used for.
 #[derive(Drop)]
@@ -34,8 +34,8 @@ impl Used {
         ensures unused { self.new.has_unused ≡ (self.old.has_unused || is_unused bytes.now) }
         ensures len { array_vec_len self.new.ids ≤ array_vec_len self.old.ids + 1 }
     {
-        match read_entry(format, bytes) {
-            Some((id, _)) => self.ids.push(id),
+        match read_id(bytes) {
+            Some(id) => self.ids.push(id),
             None => self.has_unused = true,
         }
     }
@@ -69,6 +69,15 @@ fn read_used(format: Format, block: &[u8; 1024]) -> Used
     used
 }
 
+/// Whether the entry of a block at a place among the entries has this identifier. An unused one has 0.
+fn has_id(format: Format, block: &[u8; 1024], place: usize, id: u32) -> bool
+    requires tree { format ≢ Format.V1 }
+    requires place { place < entries_per_block format }
+    ensures other { OnFalse result (record_by format block.now id place ≡ None) }
+{
+    le32(block, 16 + entry_size(format) * place) == id
+}
+
 /// The record of the entry of a block at a place among the entries, where it is used by this identifier.
 fn record_by(format: Format, block: &[u8; 1024], place: usize, id: u32) -> Option<Rec>
     requires tree { format ≢ Format.V1 }
@@ -91,6 +100,9 @@ pub fn find_record(format: Format, block: &[u8; 1024], id: u32) -> Option<Rec>
     ensures kept { IfSome result (IsKept format id) }
 {
     for place in 0..entries_per_block(format) {
+        if !has_id(format, block, place, id) {
+            continue;
+        }
         let rec = record_by(format, block, place, id);
         if rec.is_some() {
             return rec;
@@ -146,6 +158,20 @@ fn count(numbers: &[u32], number: u32) -> usize
     numbers.iter().filter(|other| **other == number).count()
 }
 
+/// Whether each of some numbers is greater than the one before it.
+fn ascends(numbers: &[u32]) -> bool
+    ensures { OnTrue result ((number : ℕ) → times numbers.now number ≤ 1) }
+{
+    let mut least = 0;
+    for number in numbers {
+        if u64::from(*number) < least {
+            return false;
+        }
+        least = u64::from(*number) + 1;
+    }
+    true
+}
+
 /// Compares the entries of a data block with the identifiers that lead to it, and answers whether one is unused.
 pub fn compare_entries(
     format: Format,
@@ -171,12 +197,16 @@ pub fn compare_entries(
 /// Compares the identifiers of a data block's used entries with those that lead to it.
 ///
 /// An identifier without an entry is looked for first: where more of them lead to the block than it has entries, one of
-/// the first `used.len() + 1` has none, and the searches that follow never run.
+/// the first `used.len() + 1` has none, and the searches that follow never run. None runs where both are the same and
+/// ascend, as they mostly do.
 fn compare_ids(number: u32, used: &[u32], ids: &[u32]) -> Result<(), Damage>
     ensures same { OnOk result (AreEntriesOf (length used.now) used.now ids.now) }
     ensures refused { IfErr result (λ damage. (stated : ℕ) → IsEntryDefectAt number stated used.now ids.now damage) }
     ensures names_id { IfErr result (λ damage. NamesItsId damage.kind damage.id) }
 {
+    if used == ids && ascends(used) {
+        return Ok(());
+    }
     if let Some(id) = first_not_in(ids, used) {
         return Err(Damage {
             kind: DamageKind::MissingEntry,

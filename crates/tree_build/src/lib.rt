@@ -5,22 +5,16 @@
 //! the bytes and the entries of a block is so; a built file stands for the map of its list, and has as few blocks as can be.
 #![tactic(auto)]
 
-mod block;
 mod build_fault;
 mod building;
-mod damages;
 mod entries;
 pub mod laws;
 mod needed;
 mod new_data;
 mod new_file;
 mod new_tree;
-mod tree_path;
 
-pub use block::{BLOCK, block_of, read_block};
 pub use build_fault::BuildFault;
 pub use building::build;
-pub use damages::damage_at;
 pub use entries::{compare_entries, find_place, find_record};
 pub use needed::Needed;
-pub use tree_path::TreePath;

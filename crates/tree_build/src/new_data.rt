@@ -7,10 +7,10 @@ ghost use Rattle.entry_codec.specs.Entry.{IsEntry, entries_per_block, entry_size
 ghost use Rattle.tree_build.specs.Entries.{entry_bytes};
 ghost use Rattle.tree_build.specs.NewFile.{AreBelow, AreDataBlocks, IsDataBlock, KeepsBlocks, leaves_in, parts_needed, parts_of};
 
-use crate::TreePath;
 use crate::new_file::NewFile;
 use entry_codec::{entries_per_block, entry_size, write_entry};
 use quota_blocks::set_le16;
+use quota_radix::TreePath;
 use quota_types::{Entry, Format};
 use std::alloc::{AllocError, Global};
 

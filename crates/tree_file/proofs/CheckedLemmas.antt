@@ -6,16 +6,17 @@ use Rattle.entry_codec.specs.declared.header.Header.{Header}
 use Rattle.quota_blocks.specs.QuotaValue.{QuotaValue}
 use Rattle.quota_types.specs.declared.damage.Damage.{Damage}
 use Rattle.quota_types.specs.declared.file_kind.Format.{Format}
-use Rattle.tree_file.specs.declared.checked.CheckFault.{CheckFault}
-use Rattle.tree_file.specs.declared.checked.CheckFault.TheVariants.{Store, Damage as Damaged, Memory}
+use Rattle.quota_blocks.specs.declared.check_fault.CheckFault.{CheckFault}
+use Rattle.quota_blocks.specs.declared.check_fault.CheckFault.TheVariants.{Store, Damage as Damaged, Memory}
 use Rattle.tree_file.specs.declared.roles.Roles.{Roles}
-use Rattle.tree_build.specs.Chain.{IsChain}
-use Rattle.tree_file.specs.Check.{IsCheckFault, IsChecked}
+use Rattle.free_chains.specs.Chain.{IsChain}
+use Rattle.quota_blocks.specs.CheckFault.{IsCheckFault}
+use Rattle.tree_file.specs.Check.{IsChecked}
 use Rattle.tree_build.specs.Defect.{IsTreeDefect}
 use Rattle.tree_file.specs.Found.{AreRoles, IsLengthDefect, IsListedDefect, IsRoleDefect}
 use Rattle.tree_file.specs.Groups.{AreGroupsOf}
 use Rattle.tree_build.specs.Roles.{Chained, Filled}
-use Rattle.tree_build.specs.Tree.{leaves}
+use Rattle.quota_radix.specs.Tree.{leaves}
 use Rattle.tree_build.specs.TreeFile.{IsSound, TreeStandsFor}
 use Rattle.tree_build.proofs.DefectLemmas.{no_defect_of_sound}
 use Rattle.tree_build.proofs.ValueLemmas.{sound_value, sound}

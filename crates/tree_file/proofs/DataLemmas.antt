@@ -6,14 +6,15 @@ use Rattle.std.proofs.lemmas.List.{drop_more, get_or-map, length-map, map-append
 use Rattle.std.proofs.lemmas.List.Elements.{filter-append}
 use Rattle.std.specs.List.{last_or, range_with_len}
 use Rattle.quota_types.specs.declared.file_kind.Format.{Format}
-use Rattle.tree_file.specs.declared.link.Link.{Link}
-use Rattle.tree_build.specs.Block.{block_of}
-use Rattle.tree_file.specs.BlockSet.{AreFlagsOf}
+use Rattle.free_chains.specs.declared.link.Link.{Link}
+use Rattle.quota_blocks.specs.Block.{block_of}
+use Rattle.quota_blocks.specs.BlockSet.{AreFlagsOf}
 use Rattle.tree_build.specs.Compared.{HasEntriesOf, leading_ids, is_room, rooms}
 use Rattle.tree_build.specs.Entries.{has_unused}
-use Rattle.tree_build.specs.Count.{StandsIn, times}
-use Rattle.tree_file.specs.Walk.{AreListed, NamesOther, linked_blocks, previous_in}
-use Rattle.tree_build.proofs.CountLemmas.{times-append, times-filter-no, times-filter-yes, times-range-high, times_cases}
+use Rattle.quota_types.specs.Times.{StandsIn, times}
+use Rattle.tree_file.specs.EntryList.{AreListed, NamesOther}
+use Rattle.free_chains.specs.Walk.{linked_blocks, previous_in}
+use Rattle.quota_types.proofs.TimesLemmas.{times-append, times-filter-no, times-filter-yes, times-range-high, times_cases}
 use Rattle.tree_build.proofs.EntryLemmas.{range-suc}
 
 -- what holds of the numbers of some things holds of those of one more

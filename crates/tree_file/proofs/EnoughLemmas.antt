@@ -11,18 +11,18 @@ use Rattle.quota_types.specs.declared.record.Entry.{Entry}
 use Rattle.quota_blocks.specs.QuotaValue.{QuotaValue}
 use Rattle.entry_codec.specs.Entry.{entries_per_block}
 use Rattle.entry_codec.specs.Header.{header_of}
-use Rattle.tree_build.specs.declared.tree_path.TreePath.{TreePath}
-use Rattle.tree_build.specs.Block.{block_of}
-use Rattle.tree_build.specs.Count.{StandsIn, times}
+use Rattle.quota_radix.specs.declared.tree_path.TreePath.{TreePath}
+use Rattle.quota_blocks.specs.Block.{block_of}
+use Rattle.quota_types.specs.Times.{StandsIn, times}
 use Rattle.tree_build.specs.Entries.{entry_bytes, entry_of, used_entries, used_ids}
-use Rattle.tree_build.specs.Tree.{numbers_of, data_blocks, ids_at, leaves, level, lower_blocks, paths, steps, tree_blocks}
+use Rattle.quota_radix.specs.Tree.{numbers_of, data_blocks, ids_at, leaves, level, lower_blocks, paths, steps, tree_blocks}
 use Rattle.tree_build.specs.Size.{ids_in, beginnings, blocks_needed, each_once}
 use Rattle.tree_build.specs.Roles.{Filled, OneRole, roles}
 use Rattle.tree_build.specs.TreeFile.{TreeStandsFor}
-use Rattle.tree_build.proofs.CountLemmas.{length-range, length_of_times, length_same_times, stands_right, times-cons-same, times-filter-no, times-filter-yes, times-range-high, times-range-within, times_cases}
+use Rattle.quota_types.proofs.TimesLemmas.{length-range, length_of_times, length_same_times, stands_right, times-cons-same, times-filter-no, times-filter-yes, times-range-high, times-range-within, times_cases}
 use Rattle.tree_build.proofs.MeaningLemmas.{one_meaning}
-use Rattle.tree_build.proofs.OrderLemmas.{length_numbers, rises_bound}
-use Rattle.tree_build.proofs.PathLemmas.{Rises, Rises-steps, data_block_of_id, each-append, each_weaker, leaves_lead, one_with}
+use Rattle.quota_radix.proofs.OrderLemmas.{length_numbers, rises_bound}
+use Rattle.quota_radix.proofs.PathLemmas.{Rises, Rises-steps, data_block_of_id, each-append, each_weaker, leaves_lead, one_with}
 use Rattle.tree_build.proofs.ValueLemmas.{sound_value, sound_value_ids}
 
 -- a number stands once at most among those of a list, each once, and only where it stands in the list

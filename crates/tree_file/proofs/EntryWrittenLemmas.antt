@@ -8,7 +8,7 @@ use Rattle.quota_blocks.specs.World.{overwritten}
 use Rattle.entry_codec.specs.declared.header.Header.{Header}
 use Rattle.entry_codec.specs.Entry.{IsEntry, entry_size}
 use Rattle.entry_codec.specs.Header.{AreOf, header_of}
-use Rattle.tree_build.specs.Tree.{numbers_of, leaves}
+use Rattle.quota_radix.specs.Tree.{numbers_of, leaves}
 use Rattle.tree_build.specs.Size.{ids_in, blocks_needed}
 use Rattle.tree_file.specs.Overwritten.{HasEntryAt}
 use Rattle.tree_file.specs.Rebuilt.{value_changed}

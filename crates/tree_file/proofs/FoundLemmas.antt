@@ -9,24 +9,27 @@ use Rattle.quota_types.specs.declared.damage.Damage.{Damage}
 use Rattle.quota_types.specs.declared.damage.DamageKind.{DamageKind}
 use Rattle.quota_types.specs.declared.damage.DamageKind.TheVariants.{BadCount, BadPrev, ChainLoop, ChainOut, DoubleEntry, EmptyTree, ForeignInChain, MissingEntry, MissingInChain, NoRole, PartialRecord, RefOut, Short, StrayEntry, TwoRoles}
 use Rattle.quota_types.specs.declared.file_kind.Format.{Format}
-use Rattle.tree_file.specs.declared.checked.CheckFault.{CheckFault}
-use Rattle.tree_file.specs.declared.checked.CheckFault.TheVariants.{Store, Damage as Damaged, Memory}
-use Rattle.tree_file.specs.declared.link.Link.{Link}
-use Rattle.tree_build.specs.declared.tree_path.TreePath.{TreePath}
-use Rattle.tree_build.specs.Block.{block_of, previous_of, stated_count, bytes_of}
-use Rattle.tree_build.specs.Chain.{IsChain}
-use Rattle.tree_file.specs.Check.{IsCheckFault}
+use Rattle.quota_blocks.specs.declared.check_fault.CheckFault.{CheckFault}
+use Rattle.quota_blocks.specs.declared.check_fault.CheckFault.TheVariants.{Store, Damage as Damaged, Memory}
+use Rattle.free_chains.specs.declared.link.Link.{Link}
+use Rattle.quota_radix.specs.declared.tree_path.TreePath.{TreePath}
+use Rattle.quota_blocks.specs.Block.{block_of, previous_of, stated_count, bytes_of, leads}
+use Rattle.free_chains.specs.Chain.{IsChain}
+use Rattle.quota_blocks.specs.CheckFault.{IsCheckFault}
 use Rattle.tree_build.specs.Compared.{AreEntriesOf, HasEntriesOf, IsDataDefect, IsEntryDefect, leading_ids, is_room, rooms}
-use Rattle.tree_build.specs.Count.{StandsIn, times}
-use Rattle.tree_build.specs.Defect.{IsDefectOf, IsLoop, IsOut, IsTreeDefect, NamesItsId}
+use Rattle.quota_types.specs.Times.{StandsIn, times}
+use Rattle.tree_build.specs.Defect.{IsDefectOf, IsTreeDefect}
+use Rattle.free_chains.specs.ChainDefect.{IsLoop, IsOut}
+use Rattle.quota_types.specs.Damage.{NamesItsId}
 use Rattle.tree_build.specs.Entries.{has_unused, used_ids}
 use Rattle.tree_file.specs.Found.{HasNoEmptyBlock, IsListedDefect}
 use Rattle.tree_file.specs.Groups.{AreGroupsOf}
 use Rattle.tree_build.specs.Roles.{Chained, Filled, has_room}
-use Rattle.tree_build.specs.Tree.{data_blocks, ids_at, is_data, leads, leaves, level}
-use Rattle.tree_file.specs.Walk.{AreLinksTo, AreListed, IsListDefect, IsListDefectOf, IsWalkDefect, IsWalkDefectOf, linked_blocks, previous_in}
-use Rattle.tree_build.proofs.CountLemmas.{length_same_times, times-filter-no, times-filter-yes, times-range-high, times-range-within}
-use Rattle.tree_build.proofs.PathLemmas.{data_block_of_id, data_within, ids_distinct, times-data_blocks, length_ids}
+use Rattle.quota_radix.specs.Tree.{data_blocks, ids_at, is_data, leaves, level}
+use Rattle.free_chains.specs.Walk.{AreLinksTo, IsWalkDefect, IsWalkDefectOf, linked_blocks, previous_in}
+use Rattle.tree_file.specs.EntryList.{AreListed, IsListDefect, IsListDefectOf}
+use Rattle.quota_types.proofs.TimesLemmas.{length_same_times, times-filter-no, times-filter-yes, times-range-high, times-range-within}
+use Rattle.quota_radix.proofs.PathLemmas.{data_block_of_id, data_within, ids_distinct, times-data_blocks, length_ids}
 
 ids_there : (blocks : ℕ) (ps : List TreePath) (groups : List (List ℕ)) (block : ℕ) → AreGroupsOf blocks ps groups → block < blocks → leading_ids groups block ≡ ids_at ps block
 ids_there blocks ps groups block are low =
@@ -84,11 +87,6 @@ times_rooms format file blocks groups block are = elim (cases_lt block blocks) [
         | inr none ↦ ap (λ (b : Bool). if b then 1 else 0) (sym none)
       ]
 ]
-
--- a list that was walked to its end is a chain
-pub walked : (file : List ℕ) (blocks head : ℕ) (links : List Link) → AreLinksTo file head links 0
-    → ((n : ℕ) → times (linked_blocks links) n ≤ 1) → ((n : ℕ) → StandsIn (linked_blocks links) n → IsTrue (leads blocks n)) → IsChain file blocks head (linked_blocks links) 0
-walked file blocks head links are distinct inside = record { linked = are.linked; inside = inside; distinct = distinct; stops = inl refl }
 
 pub chained : (format : Format) (file : List ℕ) (blocks first : ℕ) (groups : List (List ℕ)) (links : List Link) → AreGroupsOf blocks (leaves file blocks) groups
     → IsChain file blocks first (linked_blocks links) 0 → AreLinksTo file first links 0

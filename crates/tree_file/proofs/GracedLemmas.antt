@@ -11,9 +11,9 @@ use Rattle.quota_blocks.specs.World.{overwritten}
 use Rattle.quota_types.proofs.BytesLemmas.{number_at-drop, number_at-take}
 use Rattle.entry_codec.specs.declared.header.Header.{Header}
 use Rattle.entry_codec.specs.Header.{AreOf, format_of, header_of}
-use Rattle.tree_build.specs.Block.{block_of}
+use Rattle.quota_blocks.specs.Block.{block_of}
 use Rattle.tree_build.specs.TreeFile.{TreeStandsFor}
-use Rattle.tree_build.proofs.WordLemmas.{number_same}
+use Rattle.quota_blocks.proofs.WordLemmas.{number_same}
 use Rattle.tree_file.proofs.HeaderKeptLemmas.{KeepsHeader, stands_kept}
 use Rattle.tree_file.proofs.SpanLemmas.{keeps-overwritten, length-overwritten, span-overwritten}
 

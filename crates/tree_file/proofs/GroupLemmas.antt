@@ -7,13 +7,13 @@ use Rattle.std.proofs.lemmas.List.Elements.{filter-append}
 use Rattle.std.proofs.lemmas.List.FromFn.{get_or-map-range_with_len, length-map-range_with_len, map-range_with_len_more}
 use Rattle.std.proofs.lemmas.Bool.{cases_eq, eq-eqb, eqb-false, eqb-true, le-leb, lt-leb, ne_eqb}
 use Rattle.std.proofs.lemmas.Bool.Decides.{eqb_tells}
-use Rattle.tree_build.specs.declared.tree_path.TreePath.{TreePath}
-use Rattle.tree_file.specs.BlockSet.{AreFlagsOf}
-use Rattle.tree_build.specs.Count.{StandsIn, StandsTwiceIn, times}
+use Rattle.quota_radix.specs.declared.tree_path.TreePath.{TreePath}
+use Rattle.quota_blocks.specs.BlockSet.{AreFlagsOf}
+use Rattle.quota_types.specs.Times.{StandsIn, StandsTwiceIn, times}
 use Rattle.tree_file.specs.Groups.{AreGroupsOf, named_blocks}
-use Rattle.tree_build.specs.Tree.{blocks_of, ids_at}
-use Rattle.tree_build.proofs.CountLemmas.{times-append, times-cons-same, times-cons-other, times-filter-yes, times-range-high, times-range-within}
-use Rattle.tree_build.proofs.StepLemmas.{range_push}
+use Rattle.quota_radix.specs.Tree.{blocks_of, ids_at}
+use Rattle.quota_types.proofs.TimesLemmas.{times-append, times-cons-same, times-cons-other, times-filter-yes, times-range-high, times-range-within}
+use Rattle.quota_radix.proofs.StepLemmas.{range_push}
 
 -- one group more, where no leaf is there yet
 pub no_groups_more : (groups now : List (List ℕ)) (count : ℕ) → AreGroupsOf count [] groups → now ≡ groups ++ [] ∷ [] → AreGroupsOf (count + 1) [] now

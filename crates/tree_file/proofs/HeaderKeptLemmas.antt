@@ -8,7 +8,7 @@ use Rattle.quota_types.specs.declared.file_kind.Format.{Format}
 use Rattle.quota_types.specs.declared.record.Grace.{Grace}
 use Rattle.quota_blocks.specs.QuotaValue.{QuotaValue, with_grace}
 use Rattle.entry_codec.specs.Header.{HeaderNumbers, format_of, header_of}
-use Rattle.tree_build.specs.Block.{block_of}
+use Rattle.quota_blocks.specs.Block.{block_of}
 use Rattle.tree_build.specs.NewFile.{KeepsBlocks}
 use Rattle.tree_file.specs.Opened.{whole_blocks}
 use Rattle.tree_build.specs.Roles.{Chained, Filled, OneRole}

@@ -1,18 +1,11 @@
-pub mod AddedStepLemmas
 pub mod CheckedLemmas
 pub mod DataLemmas
-pub mod DescentLemmas
-pub mod DownLemmas
 pub mod EnoughLemmas
 pub mod EntryWrittenLemmas
-pub mod FirstLemmas
-pub mod FlagsLemmas
-pub mod FollowLemmas
 pub mod FoundLemmas
 pub mod GracedLemmas
 pub mod GroupLemmas
 pub mod HeaderKeptLemmas
-pub mod LevelLemmas
 pub mod ListingLemmas
 pub mod LoadingLemmas
 pub mod LookupLemmas
@@ -23,5 +16,3 @@ pub mod ReadLemmas
 pub mod RoleLemmas
 pub mod SameBlocksLemmas
 pub mod SpanLemmas
-pub mod WalkLemmas
-pub mod WayLemmas

@@ -10,9 +10,8 @@ use Rattle.std.specs.List.{AllByRecursion}
 use Rattle.std.specs.Ordering.{nat_cmp}
 use Rattle.quota_types.specs.declared.record.Entry.{Entry}
 use Rattle.quota_types.specs.declared.record.Rec.{Rec}
-use Rattle.quota_blocks.specs.QuotaValue.{Records, IsAfter, IsNextAfter}
+use Rattle.quota_blocks.specs.QuotaValue.{Records, IsAfter, IsNextAfter, QuotaValue}
 use Rattle.quota_blocks.proofs.EntriesLemmas.{entries_after, entries_after-all, entries_after-next, entries_after-end}
-use Rattle.quota_blocks.specs.QuotaValue.{QuotaValue}
 use Rattle.entry_codec.specs.declared.header.Header.{Header}
 use Rattle.entry_codec.specs.Header.{AreOf, header_of}
 use Rattle.quota_blocks.specs.Listed.{ids_of, records_of, value_of}
@@ -21,8 +20,8 @@ use Rattle.tree_build.specs.Size.{ids_in}
 use Rattle.tree_file.specs.Rebuilt.{value_changed}
 use Rattle.tree_build.specs.TreeFile.{TreeStandsFor}
 use Rattle.tree_build.proofs.MeaningLemmas.{header_flags, header_format, header_grace, header_kind}
-use Rattle.tree_build.proofs.OrderLemmas.{Ascends}
-use Rattle.tree_build.proofs.PathLemmas.{each-append, each_weaker}
+use Rattle.quota_radix.proofs.OrderLemmas.{Ascends}
+use Rattle.quota_radix.proofs.PathLemmas.{each-append, each_weaker}
 
 -- the record of another identifier stays
 removed_other : (records : Records) (id k : ℕ) → k ≢ id → get (remove records id) k ≡ get records k

@@ -1,6 +1,6 @@
 -- The record of an identifier among the entries of a block, and in the file that they are a part of.
-use Rattle.std.proofs.Common.{◌≡◌, ℕ, ◌-◌, ◌^◌, ◌<◌, ◌≤◌, Bool, true, cond, ◌==◌, List, [], ◌∷◌, find, Option, Some, None, Result, Ok, Err, OnErr, IfErr, IsErrAnd, option_and_then, option_map, sym, ap, subst, ◌∙◌, inl, inr, arith}
-use Rattle.std.proofs.lemmas.Bool.{cases_Bool, cases_lt, eqb-true}
+use Rattle.std.proofs.Common.{◌≡◌, ℕ, ◌^◌, ◌≤◌, Bool, cond, ◌==◌, List, [], ◌∷◌, find, Option, Some, None, Result, Ok, Err, OnErr, IfErr, IsErrAnd, option_and_then, refl, sym, ap, subst, ◌∙◌, inl, inr, arith}
+use Rattle.std.proofs.lemmas.Bool.{cases_Bool, cases_lt}
 use Rattle.std.specs.FinMap.{get}
 use Rattle.std.specs.List.{AllByRecursion}
 use Rattle.quota_types.specs.declared.damage.Damage.{Damage}
@@ -12,18 +12,21 @@ use Rattle.quota_types.specs.declared.record.Rec.{Rec}
 use Rattle.quota_blocks.specs.QuotaValue.{IsAfter, IsNextAfter, QuotaValue}
 use Rattle.entry_codec.specs.Header.{AreOf, HeaderNumbers, header_of}
 use Rattle.entry_codec.specs.declared.header.Header.{Header}
-use Rattle.tree_build.specs.declared.tree_path.TreePath.{TreePath}
-use Rattle.tree_build.specs.Block.{block_of}
-use Rattle.tree_build.specs.Count.{StandsIn, times}
-use Rattle.tree_build.specs.Defect.{IsDefectOf, IsTreeDefect, NamesItsId}
-use Rattle.tree_file.specs.Descent.{leaf_block, leaf_from}
+use Rattle.quota_radix.specs.declared.tree_path.TreePath.{TreePath}
+use Rattle.quota_blocks.specs.Block.{block_of}
+use Rattle.quota_types.specs.Times.{StandsIn, times}
+use Rattle.tree_build.specs.Defect.{IsDefectOf, IsTreeDefect}
+use Rattle.quota_types.specs.Damage.{NamesItsId}
+use Rattle.quota_radix.specs.Descent.{leaf_from}
 use Rattle.tree_build.specs.Entries.{used_entries, used_ids}
-use Rattle.tree_file.specs.Lookup.{IsLeafFault, IsWayFault, IsWayFaultOf}
-use Rattle.tree_build.specs.Tree.{ids_at, leaves}
+use Rattle.tree_file.specs.Leaf.{IsLeafFault, IsNextId}
+use Rattle.quota_radix.specs.Lookup.{IsWayFault, IsWayFaultOf}
+use Rattle.quota_radix.specs.Tree.{ids_at, leaves}
 use Rattle.tree_build.specs.TreeFile.{TreeStandsFor, record_in, tree_record}
 use Rattle.tree_build.proofs.DefectLemmas.{no_defect_of_sound}
-use Rattle.tree_file.proofs.DescentLemmas.{IsPathFrom, find_above, leaf_is_from, leaf_led_to, no_leaf_from, not_some, option_cases, some_same}
-use Rattle.tree_build.proofs.PathLemmas.{Rises-paths, leaves_lead}
+use Rattle.quota_radix.proofs.DescentLemmas.{IsPathFrom, find_above, leaf_is_from, no_leaf_from, not_some, option_cases, some_same}
+use Rattle.quota_radix.proofs.LeafLemmas.{IsLeaf}
+use Rattle.quota_radix.proofs.PathLemmas.{Rises-paths, leaves_lead}
 use Rattle.tree_build.proofs.ValueLemmas.{found_entry}
 
 -- a damage on the way down is one of the file
@@ -51,13 +54,6 @@ way_refused header file damage of fault = λ value stands.
     (way_defect value.format file (header_of file) damage.kind damage.block damage.id
     (subst (λ (blocks : ℕ). IsWayFaultOf file blocks damage.kind damage.block) (sym of.blocks) fault.fault) fault.no_id)
 
-find_passes : (test : TreePath → Bool) (ps : List TreePath) (p : TreePath) → find test ps ≡ Some p → test p ≡ true
-find_passes test [] p found = absurd (not_some p (sym found))
-find_passes test (q ∷ ps) p found = elim (cases_Bool (test q)) [
-  | inl passes ↦ ap test (sym (some_same q p (sym (ap (λ (b : Bool). cond b (Some q) (find test ps)) passes) ∙ found))) ∙ passes
-  | inr fails ↦ find_passes test ps p (sym (ap (λ (b : Bool). cond b (Some q) (find test ps)) fails) ∙ found)
-]
-
 -- what holds of each path holds of the one that is found
 pub each_found : (P : TreePath → Type 0) (test : TreePath → Bool) (ps : List TreePath) (p : TreePath) → find test ps ≡ Some p → AllByRecursion P ps → P p
 each_found P test [] p found all = absurd (not_some p (sym found))
@@ -65,34 +61,6 @@ each_found P test (q ∷ ps) p found all = elim (cases_Bool (test q)) [
   | inl passes ↦ subst P (some_same q p (sym (ap (λ (b : Bool). cond b (Some q) (find test ps)) passes) ∙ found)) all.0
   | inr fails ↦ each_found P test ps p (sym (ap (λ (b : Bool). cond b (Some q) (find test ps)) fails) ∙ found) all.1
 ]
-
--- the leaf of an identifier is one of the file
-abbrev pub IsLeaf : List ℕ → ℕ → TreePath → Type 0
-IsLeaf file blocks leaf = find (λ (other : TreePath). other.number == leaf.number) (leaves file blocks) ≡ Some leaf
-
--- where the digits of an identifier lead is its leaf
-pub leaf_of_block : (file : List ℕ) (blocks id block : ℕ) → id < 2 ^ 32 → Some block ≡ leaf_block file blocks id → IsLeaf file blocks (record { number = id; block = block })
-leaf_of_block file blocks id block low is =
-    let found : Option TreePath = find (λ (other : TreePath). other.number == id) (leaves file blocks) in
-    let led : Some block ≡ option_map (λ (leaf : TreePath). leaf.block) found = is ∙ leaf_led_to file blocks id low in
-    elim (option_cases found) [
-      | inl none ↦ absurd (let no : Some block ≡ None = led ∙ ap (option_map (λ (leaf : TreePath). leaf.block)) none in cc)
-      | inr there ↦
-          let leaf : TreePath = there.0 in
-          let there_block : Some block ≡ Some leaf.block = led ∙ ap (option_map (λ (leaf : TreePath). leaf.block)) there.1 in
-          let block_is : leaf.block ≡ block = cc in
-          let number_is : leaf.number ≡ id = eqb-true leaf.number id (find_passes (λ (other : TreePath). other.number == id) (leaves file blocks) leaf there.1) in
-          there.1 ∙ (λ i. Some (record { number = number_is i; block = block_is i }))
-    ]
-
-pub no_leaf_of_block : (file : List ℕ) (blocks id : ℕ) → id < 2 ^ 32 → None ≡ leaf_block file blocks id → find (λ (other : TreePath). other.number == id) (leaves file blocks) ≡ None
-no_leaf_of_block file blocks id low is =
-    let found : Option TreePath = find (λ (other : TreePath). other.number == id) (leaves file blocks) in
-    let led : None ≡ option_map (λ (leaf : TreePath). leaf.block) found = is ∙ leaf_led_to file blocks id low in
-    elim (option_cases found) [
-      | inl none ↦ none
-      | inr there ↦ absurd (let some : None ≡ Some there.0.block = led ∙ ap (option_map (λ (leaf : TreePath). leaf.block)) there.1 in cc)
-    ]
 
 -- a leaf whose block has no entry of its identifier is a damage
 leaf_defect : (format : Format) (file : List ℕ) (numbers : HeaderNumbers) (leaf : TreePath) (damage : Damage) → IsLeaf file numbers.blocks leaf → IsLeafFault format file leaf damage
@@ -186,3 +154,21 @@ on_err P (Err e) p = p
 pub on_same : {T : Type 0} (P : Damage → Type 0) (result : Result T Damage) (damage : Damage) → IsErrAnd result (λ e. e ≡ damage) → P damage → IfErr result P
 on_same P (Ok x) damage is p = tt
 on_same P (Err e) damage is p = subst P (sym is) p
+
+-- in a file that stands for a value each leaf has a record
+leaf_record : (header : Header) (file : List ℕ) (leaf : TreePath) → AreOf header (header_of file) → IsLeaf file header.blocks leaf → (value : QuotaValue) → TreeStandsFor file value
+    → (rec : Rec) × (record_in header.format (block_of file leaf.block) leaf.number ≡ Some rec)
+leaf_record header file leaf of is value stands = elim (option_cases (record_in header.format (block_of file leaf.block) leaf.number)) [
+  | inl none ↦
+      let damage : Damage = record { kind = MissingEntry; block = leaf.block; id = leaf.number } in
+      absurd (leaf_refused header file leaf damage of is (record { kind = refl; block = refl; id = refl; none = none }) value stands)
+  | inr there ↦ there
+]
+
+-- so the leaf from an identifier on is that of the next identifier that has a record
+pub leaf_next_id : (header : Header) (file : List ℕ) (after : Option ℕ) (from : ℕ) (leaf : TreePath) → AreOf header (header_of file) → ((id : ℕ) → IsAfter after id → from ≤ id)
+    → ((id : ℕ) → from ≤ id → IsAfter after id) → Some leaf ≡ leaf_from file header.blocks from → (value : QuotaValue) → TreeStandsFor file value
+    → IsNextId after value.records (Some leaf.number)
+leaf_next_id header file after from leaf of first comes_after is value stands =
+    let found = leaf_record header file leaf of (next_leaf file header.blocks from leaf is).0 value stands in
+    (found.0, one_next header file after from leaf found.0 of first comes_after is found.1 value stands)

@@ -11,10 +11,10 @@ use Rattle.quota_blocks.specs.declared.quota_file.OpenFault.{OpenFault}
 use Rattle.quota_blocks.specs.declared.quota_file.OpenFault.TheVariants.{Store, NoFile, TooLarge, Memory, NotQuota, WrongKind, UnknownVersion, BadBlockCount, FormatMismatch, Damage as Damaged}
 use Rattle.entry_codec.specs.Header.{AreOf, HeaderNumbers, header_of}
 use Rattle.entry_codec.specs.declared.header.Header.{Header}
-use Rattle.tree_file.specs.declared.checked.CheckFault.{CheckFault}
-use Rattle.tree_file.specs.declared.checked.CheckFault.TheVariants.{Store as CheckStore, Damage as CheckDamage, Memory as CheckMemory}
-use Rattle.tree_file.specs.Check.{IsCheckFault, open_fault}
-use Rattle.tree_build.specs.Block.{bytes_of}
+use Rattle.quota_blocks.specs.declared.check_fault.CheckFault.{CheckFault}
+use Rattle.quota_blocks.specs.declared.check_fault.CheckFault.TheVariants.{Store as CheckStore, Damage as CheckDamage, Memory as CheckMemory}
+use Rattle.quota_blocks.specs.CheckFault.{IsCheckFault, open_fault}
+use Rattle.quota_blocks.specs.Block.{bytes_of}
 use Rattle.tree_build.specs.Defect.{IsTreeDefect}
 use Rattle.tree_file.specs.Opened.{HoldsTree}
 use Rattle.tree_build.specs.TreeFile.{TreeStandsFor}

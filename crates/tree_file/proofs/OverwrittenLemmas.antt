@@ -20,22 +20,22 @@ use Rattle.quota_blocks.specs.Span.{KeepsOutside}
 use Rattle.entry_codec.specs.Entry.{IsEntry, entries_per_block, entry_size, is_unused, stored_id}
 use Rattle.entry_codec.specs.Header.{AreOf, HeaderNumbers, format_of, header_of}
 use Rattle.entry_codec.specs.declared.header.Header.{Header}
-use Rattle.tree_build.specs.declared.tree_path.TreePath.{TreePath}
-use Rattle.tree_build.specs.Block.{block_of}
-use Rattle.tree_build.specs.Count.{StandsIn, times}
+use Rattle.quota_radix.specs.declared.tree_path.TreePath.{TreePath}
+use Rattle.quota_blocks.specs.Block.{block_of}
+use Rattle.quota_types.specs.Times.{StandsIn, times}
 use Rattle.tree_build.specs.Entries.{entry_bytes, entry_of, has_unused, stored_record, used_by, used_entries, used_ids}
 use Rattle.tree_file.specs.Overwritten.{HasEntryAt}
 use Rattle.tree_build.specs.Roles.{OneRole, roles}
-use Rattle.tree_build.specs.Tree.{data_blocks, ids_at, leaves, level, lower_blocks, tree_blocks}
+use Rattle.quota_radix.specs.Tree.{data_blocks, ids_at, leaves, level, lower_blocks, tree_blocks}
 use Rattle.tree_build.specs.TreeFile.{TreeStandsFor, record_in, tree_record}
-use Rattle.tree_build.proofs.CountLemmas.{times-append, times-cons, times-cons-other, times-cons-same, stands_left, stands_right}
-use Rattle.tree_build.proofs.WordLemmas.{number_same, same_part, byte_in_block}
+use Rattle.quota_types.proofs.TimesLemmas.{times-append, times-cons, times-cons-other, times-cons-same, stands_left, stands_right}
+use Rattle.quota_blocks.proofs.WordLemmas.{number_same, same_part, byte_in_block}
 use Rattle.tree_build.proofs.RecordLemmas.{used_is, found_or_later}
 use Rattle.tree_file.proofs.GracedLemmas.{same_header}
 use Rattle.tree_file.proofs.HeaderKeptLemmas.{KeepsHeader, same_numbers, sound_kept}
 use Rattle.tree_file.proofs.ListingLemmas.{inserted_own, inserted_rest}
 use Rattle.tree_file.proofs.LookupLemmas.{each_found}
-use Rattle.tree_build.proofs.PathLemmas.{data_block_of_id, leaves_lead}
+use Rattle.quota_radix.proofs.PathLemmas.{data_block_of_id, leaves_lead}
 use Rattle.tree_file.proofs.SameBlocksLemmas.{IsInside, KeepsTree, listed_inside, paths_same, record_same}
 
 -- an entry lies within its block

@@ -7,23 +7,26 @@ use Rattle.quota_types.specs.declared.damage.Damage.{Damage}
 use Rattle.quota_types.specs.declared.damage.DamageKind.{DamageKind}
 use Rattle.quota_types.specs.declared.damage.DamageKind.TheVariants.{BadCount, BadPrev, ChainLoop, ChainOut, DoubleEntry, EmptyTree, ForeignInChain, MissingEntry, MissingInChain, NoRole, PartialRecord, RefOut, Short, StrayEntry, TwoRoles}
 use Rattle.quota_types.specs.declared.file_kind.Format.{Format}
-use Rattle.tree_file.specs.declared.checked.CheckFault.{CheckFault}
-use Rattle.tree_file.specs.declared.checked.CheckFault.TheVariants.{Store, Damage as Damaged, Memory}
-use Rattle.tree_file.specs.declared.link.Link.{Link}
-use Rattle.tree_build.specs.declared.tree_path.TreePath.{TreePath}
-use Rattle.tree_file.specs.BlockSet.{AreFlagsOf}
-use Rattle.tree_build.specs.Chain.{IsChain}
-use Rattle.tree_file.specs.Check.{IsCheckFault}
-use Rattle.tree_build.specs.Count.{StandsIn, times}
-use Rattle.tree_build.specs.Defect.{IsDefectOf, IsTreeDefect, NamesItsId}
+use Rattle.quota_blocks.specs.declared.check_fault.CheckFault.{CheckFault}
+use Rattle.quota_blocks.specs.declared.check_fault.CheckFault.TheVariants.{Store, Damage as Damaged, Memory}
+use Rattle.free_chains.specs.declared.link.Link.{Link}
+use Rattle.quota_radix.specs.declared.tree_path.TreePath.{TreePath}
+use Rattle.quota_blocks.specs.BlockSet.{AreFlagsOf}
+use Rattle.free_chains.specs.Chain.{IsChain}
+use Rattle.quota_blocks.specs.CheckFault.{IsCheckFault, IsStepFault}
+use Rattle.quota_types.specs.Times.{StandsIn, times}
+use Rattle.tree_build.specs.Defect.{IsDefectOf, IsTreeDefect}
+use Rattle.quota_types.specs.Damage.{NamesItsId}
 use Rattle.tree_file.specs.Found.{HasNoEmptyBlock, IsRoleDefect}
 use Rattle.tree_file.specs.Groups.{AreGroupsOf, named_blocks}
-use Rattle.tree_file.specs.Levels.{AreTreeBlocksWhole, AreWithin, IsSecondRole, IsStepFault, IsTreeFault, IsTreeFaultOf}
+use Rattle.quota_radix.specs.Levels.{AreTreeBlocksWhole, AreWithin, IsSecondRole, IsTreeFault, IsTreeFaultOf}
 use Rattle.tree_build.specs.Roles.{OneRole, roles}
-use Rattle.tree_build.specs.Tree.{data_blocks, ids_at, leads, leaves, lower_blocks, tree_blocks}
-use Rattle.tree_file.specs.Walk.{linked_blocks}
-use Rattle.tree_build.proofs.ChainLemmas.{leads_within, some_chain}
-use Rattle.tree_build.proofs.CountLemmas.{times-append, times-cons-same, times-cons-other}
+use Rattle.quota_radix.specs.Tree.{data_blocks, ids_at, leaves, lower_blocks, tree_blocks}
+use Rattle.quota_blocks.specs.Block.{leads}
+use Rattle.free_chains.specs.Walk.{linked_blocks}
+use Rattle.quota_blocks.proofs.LeadsLemmas.{leads_within}
+use Rattle.free_chains.proofs.ChainLemmas.{some_chain}
+use Rattle.quota_types.proofs.TimesLemmas.{times-append, times-cons-same, times-cons-other}
 
 -- the set that has the header's block
 pub header_marked : (blocks : ℕ) (flags : List Bool) (result : Bool) → MatchBool result (AreFlagsOf blocks flags (0 ∷ []) × (times [] 0 ≡ 0)) (1 ≤ times [] 0) → AreFlagsOf blocks flags (0 ∷ [])

@@ -5,18 +5,18 @@ use Rattle.std.proofs.lemmas.Bool.{cases_Bool}
 use Rattle.std.specs.List.{AllByRecursion, filter, flat_map, range_with_len}
 use Rattle.quota_types.specs.Bytes.{number_at}
 use Rattle.quota_types.specs.declared.file_kind.Format.{Format}
-use Rattle.tree_build.specs.declared.tree_path.TreePath.{TreePath}
-use Rattle.tree_build.specs.Block.{block_of, next_of, previous_of, stated_count}
-use Rattle.tree_build.specs.Chain.{IsChain}
-use Rattle.tree_build.specs.Count.{StandsIn, times}
+use Rattle.quota_radix.specs.declared.tree_path.TreePath.{TreePath}
+use Rattle.quota_blocks.specs.Block.{block_of, next_of, previous_of, stated_count, leads}
+use Rattle.free_chains.specs.Chain.{IsChain}
+use Rattle.quota_types.specs.Times.{StandsIn, times}
 use Rattle.tree_build.specs.Entries.{has_unused, used_ids}
 use Rattle.tree_build.specs.Roles.{Chained, Filled, OneRole, has_room}
-use Rattle.tree_build.specs.Tree.{data_blocks, ids_at, is_data, leads, leaves, level, lower_blocks, paths, steps, tree_blocks}
+use Rattle.quota_radix.specs.Tree.{data_blocks, ids_at, is_data, leaves, level, lower_blocks, paths, steps, tree_blocks}
 use Rattle.tree_build.specs.TreeFile.{record_in, tree_record}
-use Rattle.tree_build.proofs.ChainLemmas.{leads_within}
-use Rattle.tree_build.proofs.CountLemmas.{stands_either, stands_left, stands_right, times-cons-same, only_one}
+use Rattle.quota_blocks.proofs.LeadsLemmas.{leads_within}
+use Rattle.quota_types.proofs.TimesLemmas.{stands_either, stands_left, stands_right, times-cons-same, only_one}
 use Rattle.tree_build.proofs.LevelAddedLemmas.{empty_kept, flat_map_same, steps_kept}
-use Rattle.tree_build.proofs.PathLemmas.{data_block_of_id, each_weaker, level_leads, paths_lead, times-data_blocks}
+use Rattle.quota_radix.proofs.PathLemmas.{data_block_of_id, each_weaker, level_leads, paths_lead, times-data_blocks}
 
 -- the blocks behind the header are the same
 abbrev pub SameBlocks : ℕ → List ℕ → List ℕ → Type 0

@@ -4,11 +4,12 @@ use Rattle.entry_codec.specs.Header.{HeaderNumbers}
 use Rattle.quota_types.specs.declared.damage.Damage.{Damage}
 use Rattle.quota_types.specs.declared.file_kind.Format.{Format}
 use Rattle.tree_file.specs.declared.roles.Roles.{Roles}
-use Rattle.tree_build.specs.Count.{StandsIn}
+use Rattle.quota_types.specs.Times.{StandsIn}
 use Rattle.tree_build.specs.Defect.{IsTreeDefect}
 use Rattle.tree_file.specs.Groups.{AreGroupsOf}
-use Rattle.tree_build.specs.Roles.{IsEmpty, OneRole}
-use Rattle.tree_build.specs.Tree.{leaves, lower_blocks}
+use Rattle.quota_radix.specs.TreeDefect.{IsEmpty}
+use Rattle.tree_build.specs.Roles.{OneRole}
+use Rattle.quota_radix.specs.Tree.{leaves, lower_blocks}
 
 -- no tree block below the root is empty
 abbrev pub HasNoEmptyBlock : List ℕ → ℕ → Type 0

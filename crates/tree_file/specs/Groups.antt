@@ -1,9 +1,9 @@
 -- Identifiers by the block to which they lead.
 use Rattle.std.specs.Prelude.{◌≡◌, ℕ, nat_le, List, map}
 use Rattle.std.specs.List.{filter, range_with_len}
-use Rattle.tree_build.specs.declared.tree_path.TreePath.{TreePath}
-use Rattle.tree_build.specs.Count.{times}
-use Rattle.tree_build.specs.Tree.{blocks_of, ids_at}
+use Rattle.quota_radix.specs.declared.tree_path.TreePath.{TreePath}
+use Rattle.quota_types.specs.Times.{times}
+use Rattle.quota_radix.specs.Tree.{blocks_of, ids_at}
 
 -- these are, for each of so many blocks, the identifiers of those leaves that name it
 abbrev pub AreGroupsOf : ℕ → List TreePath → List (List ℕ) → Type 0

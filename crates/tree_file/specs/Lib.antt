@@ -1,11 +1,9 @@
-pub mod BlockSet
 pub mod Check
-pub mod Descent
+pub mod EntryList
 pub mod Found
 pub mod Groups
-pub mod Levels
+pub mod Leaf
 pub mod Listing
-pub mod Lookup
 pub mod Opened
 pub mod Overwritten
 pub mod Reads
@@ -13,7 +11,6 @@ pub mod Rebuilt
 pub mod Rests
 pub mod TreeChange
 pub mod View
-pub mod Walk
 pub use Rattle.quota_types.specs.Bytes
 pub use Rattle.quota_types.specs.Kept
 pub use Rattle.quota_types.specs.Range
@@ -30,8 +27,13 @@ pub use Rattle.quota_blocks.specs.Unsynced
 pub use Rattle.quota_blocks.specs.World
 pub use Rattle.entry_codec.specs.Entry
 pub use Rattle.entry_codec.specs.Header
-pub use Rattle.tree_build.specs.Block
+pub use Rattle.quota_blocks.specs.Block
 pub use Rattle.tree_build.specs.Defect
 pub use Rattle.tree_build.specs.Size
 pub use Rattle.tree_build.specs.TreeFile
 pub use Rattle.tree_build.specs.Build
+pub use Rattle.quota_types.specs.Damage
+pub use Rattle.quota_types.specs.Times
+pub use Rattle.quota_blocks.specs.CheckFault
+pub use Rattle.quota_radix.specs.Tree
+pub use Rattle.free_chains.specs.Chain

@@ -4,7 +4,7 @@ use Rattle.std.specs.FinMap.{entries, insert, remove}
 use Rattle.quota_types.specs.declared.record.Entry.{Entry}
 use Rattle.quota_types.specs.declared.record.Rec.{Rec}
 use Rattle.quota_blocks.specs.QuotaValue.{Records}
-use Rattle.tree_build.specs.Defect.{NamesItsId}
+use Rattle.quota_types.specs.Damage.{NamesItsId}
 use Rattle.tree_file.specs.declared.changed_list.ListFault.{ListFault}
 use Rattle.tree_file.specs.declared.changed_list.ListFault.TheVariants.{Damage as Damaged, Memory}
 

@@ -6,7 +6,7 @@ use Rattle.quota_blocks.specs.QuotaValue.{QuotaValue}
 use Rattle.quota_blocks.specs.declared.quota_file.FileFault.{FileFault}
 use Rattle.quota_blocks.specs.declared.quota_file.FileFault.TheVariants.{Store, Damage, Full, Memory}
 use Rattle.entry_codec.specs.Header.{header_of}
-use Rattle.tree_build.specs.Defect.{NamesItsId}
+use Rattle.quota_types.specs.Damage.{NamesItsId}
 use Rattle.tree_build.specs.Size.{blocks_needed, ids_in}
 use Rattle.tree_build.specs.TreeFile.{TreeStandsFor}
 

@@ -3,10 +3,10 @@
 use Rattle.std.specs.Prelude.{◌≡◌, ℕ, ◌+◌, ◌*◌, ◌<◌, ◌==◌, IsSome, List, find, Some}
 use Rattle.quota_types.specs.declared.file_kind.Format.{Format}
 use Rattle.entry_codec.specs.Entry.{entries_per_block, entry_size}
-use Rattle.tree_build.specs.declared.tree_path.TreePath.{TreePath}
-use Rattle.tree_build.specs.Block.{block_of}
+use Rattle.quota_radix.specs.declared.tree_path.TreePath.{TreePath}
+use Rattle.quota_blocks.specs.Block.{block_of}
 use Rattle.tree_build.specs.Entries.{record_by}
-use Rattle.tree_build.specs.Tree.{leaves}
+use Rattle.quota_radix.specs.Tree.{leaves}
 
 -- An identifier leads to a data block, and an entry of that block which it uses begins at a place of the file.
 pub record HasEntryAt (format : Format) (file : List ℕ) (blocks id at : ℕ) : Type 0 where

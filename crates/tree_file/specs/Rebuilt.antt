@@ -4,7 +4,7 @@ use Rattle.quota_types.specs.declared.record.Rec.{Rec}
 use Rattle.quota_blocks.specs.QuotaValue.{QuotaValue}
 use Rattle.quota_blocks.specs.declared.quota_file.FileFault.{FileFault}
 use Rattle.quota_blocks.specs.declared.quota_file.FileFault.TheVariants.{Store, Damage, Full, Memory}
-use Rattle.tree_build.specs.Defect.{NamesItsId}
+use Rattle.quota_types.specs.Damage.{NamesItsId}
 use Rattle.tree_file.specs.Listing.{with_change}
 use Rattle.tree_build.specs.Size.{ids_in, blocks_needed}
 use Rattle.tree_build.specs.TreeFile.{TreeStandsFor}

@@ -5,7 +5,7 @@ ghost use Rattle.quota_types.specs.Kept.{IsKept, kept_of};
 ghost use Rattle.quota_types.specs.Range.{unfit};
 ghost use Rattle.quota_blocks.specs.QuotaValue.{QuotaValue, IsAfter, IsNextAfter};
 ghost use Rattle.quota_blocks.specs.Listed.{ids_of};
-ghost use Rattle.tree_build.specs.Defect.{NamesItsId};
+ghost use Rattle.quota_types.specs.Damage.{NamesItsId};
 ghost use Rattle.tree_file.specs.Listing.{IsListFault, IsListOf, with_change};
 ghost use Rattle.tree_build.specs.TreeFile.{TreeStandsFor};
 ghost use Rattle.tree_file.specs.declared.changed_list.ListFault.TheVariants.{Damage as Damaged, Memory};

@@ -1,10 +1,3 @@
-ghost use Rattle.std.specs.Prelude.{◌≡◌};
-ghost use Rattle.tree_file.specs.declared.checked.CheckFault.TheVariants.{Store as StoreFailed, Damage as Damaged, Memory};
-
-use quota_blocks::StoreFault;
-use quota_types::Damage;
-use std::alloc::{AllocError, AllocFailed};
-
 /// What a check of a tree file found.
 #[derive(Clone, Copy, Debug, PartialEq, Eq)]
 pub struct Checked {
@@ -12,47 +5,4 @@ pub struct Checked {
     pub used: u64,
     /// How many blocks are free.
     pub free: u32,
-}
-
-/// Why a tree file could not be checked, or what is wrong with it.
-#[derive(Clone, Copy, Debug, PartialEq, Eq)]
-pub enum CheckFault {
-    /// The store failed.
-    Store,
-    /// The file is damaged.
-    Damage(Damage),
-    /// There was not enough memory.
-    Memory,
-}
-
-impl From<StoreFault> for CheckFault {
-    ghost from_gives = { λ _ fault. fault ≡ StoreFailed };
-
-    fn from(_: StoreFault) -> Self {
-        CheckFault::Store
-    }
-}
-
-impl From<AllocError> for CheckFault {
-    ghost from_gives = { λ _ fault. fault ≡ Memory };
-
-    fn from(_: AllocError) -> Self {
-        CheckFault::Memory
-    }
-}
-
-impl<T: Drop> From<AllocFailed<T>> for CheckFault {
-    ghost from_gives = { λ _ fault. fault ≡ Memory };
-
-    fn from(_: AllocFailed<T>) -> Self {
-        CheckFault::Memory
-    }
-}
-
-impl From<Damage> for CheckFault {
-    ghost from_gives = { λ damage fault. fault ≡ Damaged damage };
-
-    fn from(damage: Damage) -> Self {
-        CheckFault::Damage(damage)
-    }
 }

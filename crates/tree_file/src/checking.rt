@@ -5,21 +5,21 @@ ghost use Rattle.quota_types.specs.declared.file_kind.Format.TheVariants.{V1};
 ghost use Rattle.quota_blocks.specs.Frame.{OnlyReads};
 ghost use Rattle.quota_blocks.specs.QuotaValue.{QuotaValue};
 ghost use Rattle.quota_blocks.specs.Unsynced.{AddsNone};
-ghost use Rattle.tree_file.specs.declared.checked.CheckFault.TheVariants.{Damage as Damaged};
-ghost use Rattle.tree_file.specs.Check.{IsChecked, IsCheckFault};
-ghost use Rattle.tree_build.specs.Block.{bytes_of};
+ghost use Rattle.quota_blocks.specs.declared.check_fault.CheckFault.TheVariants.{Damage as Damaged};
+ghost use Rattle.tree_file.specs.Check.{IsChecked};
+ghost use Rattle.quota_blocks.specs.CheckFault.{IsCheckFault};
+ghost use Rattle.quota_blocks.specs.Block.{bytes_of};
 ghost use Rattle.tree_build.specs.Defect.{IsTreeDefect};
 ghost use Rattle.tree_file.specs.Found.{IsLengthDefect};
 ghost use Rattle.tree_build.specs.TreeFile.{TreeStandsFor};
 
-use crate::checked::{CheckFault, Checked};
+use crate::checked::Checked;
 use crate::lists::check_lists;
 use crate::roles::check_roles;
 use entry_codec::Header;
-use quota_blocks::Store;
-use quota_types::DamageKind;
+use quota_blocks::{CheckFault, Store};
+use quota_types::{DamageKind, damage_at};
 use std::alloc::Global;
-use tree_build::damage_at;
 
 /// Checks a tree file whose header is this one, and tells how many records it has and how many blocks are free.
 ///

@@ -1,24 +1,22 @@
 ghost use Rattle.std.specs.Prelude.{◌≡◌, ◌≢◌, ℕ, List, ◌+◌, ◌<◌, ◌≤◌, ◌++◌, ◌∷◌, [], ◌&&◌, nat_le, if◌then◌else◌, map, take, length, IsTrue, IfOk, OnOk, IfErr, MatchOption};
 ghost use Rattle.quota_blocks.specs.Frame.{OnlyReads};
 ghost use Rattle.quota_blocks.specs.Unsynced.{AddsNone};
-ghost use Rattle.tree_build.specs.Block.{block_of, stated_count, bytes_of};
-ghost use Rattle.tree_file.specs.BlockSet.{AreFlagsOf};
-ghost use Rattle.tree_file.specs.Check.{IsCheckFault};
+ghost use Rattle.quota_blocks.specs.Block.{block_of, stated_count, bytes_of};
+ghost use Rattle.quota_blocks.specs.BlockSet.{AreFlagsOf};
+ghost use Rattle.quota_blocks.specs.CheckFault.{IsCheckFault};
 ghost use Rattle.tree_build.specs.Compared.{AreEntriesOf, HasEntriesOf, IsDataDefect, IsEntryDefectAt, leading_ids, rooms};
-ghost use Rattle.tree_build.specs.Count.{StandsIn, times};
-ghost use Rattle.tree_build.specs.Defect.{NamesItsId};
+ghost use Rattle.quota_types.specs.Times.{StandsIn, times};
+ghost use Rattle.quota_types.specs.Damage.{NamesItsId};
 ghost use Rattle.tree_build.specs.Entries.{has_unused, used_ids};
 ghost use Rattle.tree_file.specs.Reads.{led_blocks};
-ghost use Rattle.tree_file.specs.Walk.{AreListed, IsListDefect, IsWalk, NamesOther, linked_blocks, previous_in};
+ghost use Rattle.tree_file.specs.EntryList.{AreListed, IsListDefect, NamesOther};
+ghost use Rattle.free_chains.specs.Walk.{IsWalk, linked_blocks, previous_in};
 
-use crate::block_set::BlockSet;
-use crate::chain::Walk;
-use crate::checked::CheckFault;
-use crate::link::Link;
-use quota_blocks::Store;
-use quota_types::{Damage, DamageKind, Format};
+use free_chains::{Link, Walk};
+use quota_blocks::{BlockSet, CheckFault, Store, read_block};
+use quota_types::{Damage, DamageKind, Format, damage_at};
 use std::alloc::Global;
-use tree_build::{compare_entries, damage_at, read_block};
+use tree_build::compare_entries;
 
 /// Checks the entries of a data block against the identifiers that lead to it, and answers whether it has room.
 fn check_block<S: Store>(

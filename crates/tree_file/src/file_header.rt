@@ -3,8 +3,8 @@ ghost use Rattle.entry_codec.specs.Header.{AreOf, header_fault, header_of};
 ghost use Rattle.quota_types.specs.Range.{grace_unfit};
 
 use entry_codec::{Header, HeaderFault, read_header};
+use quota_blocks::BLOCK;
 use quota_types::{Format, Kind};
-use tree_build::BLOCK;
 
 /// The header of a file of this kind, from the file's bytes or the first of them. Bytes past their end count as 0.
 pub(crate) fn header_in(bytes: &[u8], kind: Kind) -> Result<Header, HeaderFault>

@@ -1,14 +1,14 @@
-ghost use Rattle.std.specs.Prelude.{◌<◌, ◌++◌, [], ◌^◌, ℕ, List, length, map, OnOk, IfOk, IfErr};
-ghost use Rattle.tree_build.specs.declared.tree_path.TreePath.{TreePath};
-ghost use Rattle.tree_file.specs.BlockSet.{AreFlagsOf};
+ghost use Rattle.std.specs.Prelude.{◌≡◌, ◌<◌, ◌∷◌, ◌++◌, [], ◌^◌, ℕ, List, length, map, OnOk, IfOk, IfErr};
+ghost use Rattle.quota_radix.specs.declared.tree_path.TreePath.{TreePath};
+ghost use Rattle.quota_blocks.specs.BlockSet.{AreFlagsOf};
 ghost use Rattle.tree_file.specs.Groups.{AreGroupsOf, named_blocks};
-ghost use Rattle.tree_file.specs.Levels.{AreWithin, IsSecondRole, IsStepFault};
+ghost use Rattle.quota_radix.specs.Levels.{AreWithin, IsSecondRole};
+ghost use Rattle.quota_blocks.specs.CheckFault.{IsStepFault};
 
-use crate::block_set::BlockSet;
-use crate::{CheckFault, TreePath};
-use quota_types::DamageKind;
+use quota_blocks::{BlockSet, CheckFault};
+use quota_radix::TreePath;
+use quota_types::{DamageKind, damage_at};
 use std::alloc::{AllocError, Global};
-use tree_build::damage_at;
 
 /// For each block of a file the identifiers that lead to it, in the order of the leaves.
 pub(crate) fn group(
@@ -22,10 +22,22 @@ pub(crate) fn group(
     let mut groups = no_groups(alloc, blocks)?;
     for leaf in leaves {
         if let Some(ids) = groups.get_mut(leaf.block as usize) {
-            ids.push(leaf.number)?;
+            add_to(ids, leaf.number)?;
         }
     }
     Ok(groups)
+}
+
+/// Adds an identifier to those of a block. The first one takes memory for 16 at once, as a block of vfsv1 has 14 entries
+/// and one of vfsv0 has 21.
+fn add_to(ids: &mut Vec<u32>, number: u32) -> Result<(), AllocError>
+    ensures added { OnOk result (ids.new.items ≡ ids.old.items ++ number ∷ []) }
+{
+    if ids.is_empty() {
+        ids.reserve_exact(16)?;
+    }
+    ids.push(number)?;
+    Ok(())
 }
 
 /// For each block no identifier.

@@ -4,29 +4,26 @@
 //! what is said to be wrong with a file is wrong with it; and an opened file is that map, which its changes change.
 #![tactic(auto)]
 
-mod block_set;
-mod chain;
 mod changed_list;
 mod changed_tree;
 mod checked;
 mod checking;
 mod data;
-mod descent;
 mod file_header;
 mod groups;
-mod levels;
-mod link;
 mod lists;
 mod loaded;
 mod loading;
+mod marking;
 mod opened_tree;
 mod opening;
 mod overwriting;
 mod roles;
-mod tree;
 
-pub use checked::{CheckFault, Checked};
+pub use checked::Checked;
 pub use checking::check;
 pub use opened_tree::TreeFile;
 pub use opening::open_tree;
-pub use tree_build::{BuildFault, TreePath, build, laws};
+pub use quota_blocks::CheckFault;
+pub use quota_radix::TreePath;
+pub use tree_build::{BuildFault, build, laws};

@@ -2,19 +2,18 @@ ghost use Rattle.std.specs.Prelude.{◌≡◌, ◌≢◌, ◌+◌, ◌≤◌, le
 ghost use Rattle.quota_types.specs.declared.file_kind.Format.TheVariants.{V1};
 ghost use Rattle.quota_blocks.specs.Frame.{OnlyReads};
 ghost use Rattle.quota_blocks.specs.Unsynced.{AddsNone};
-ghost use Rattle.tree_file.specs.Check.{IsCheckFault};
-ghost use Rattle.tree_build.specs.Block.{bytes_of};
+ghost use Rattle.quota_blocks.specs.CheckFault.{IsCheckFault};
+ghost use Rattle.quota_blocks.specs.Block.{bytes_of};
 ghost use Rattle.tree_file.specs.Found.{HasNoEmptyBlock, IsListedDefect};
 ghost use Rattle.tree_file.specs.Groups.{AreGroupsOf};
 ghost use Rattle.tree_file.specs.Reads.{led_blocks};
 ghost use Rattle.tree_build.specs.Roles.{Chained, Filled};
-ghost use Rattle.tree_build.specs.Tree.{leaves};
+ghost use Rattle.quota_radix.specs.Tree.{leaves};
 
-use crate::chain::walk_chain;
-use crate::checked::CheckFault;
 use crate::data::{check_data, check_listed};
 use entry_codec::Header;
-use quota_blocks::Store;
+use free_chains::walk_chain;
+use quota_blocks::{CheckFault, Store};
 use std::alloc::Global;
 
 /// Checks the entry list, and the entries of each data block against the identifiers that lead to it.

@@ -6,18 +6,18 @@ ghost use Rattle.quota_blocks.specs.QuotaValue.{IsAfter, IsNextAfter, QuotaValue
 ghost use Rattle.quota_blocks.specs.World.{overwritten};
 ghost use Rattle.entry_codec.specs.Entry.{entry_size};
 ghost use Rattle.entry_codec.specs.Header.{AreOf, header_of};
-ghost use Rattle.tree_build.specs.Block.{block_of};
+ghost use Rattle.quota_blocks.specs.Block.{block_of};
 ghost use Rattle.tree_build.specs.Defect.{IsTreeDefect};
-ghost use Rattle.tree_file.specs.Lookup.{IsLeafFault};
+ghost use Rattle.tree_file.specs.Leaf.{IsLeafFault, IsNextId};
 ghost use Rattle.tree_file.specs.Overwritten.{HasEntryAt};
 ghost use Rattle.tree_build.specs.TreeFile.{TreeStandsFor, record_in};
 
-use crate::TreePath;
-use crate::descent::{first_leaf, leaf_block};
 use entry_codec::{Header, entry_size};
+use quota_blocks::{block_of, whole_block};
+use quota_radix::{TreePath, first_leaf, leaf_block};
 use quota_types::{Damage, DamageKind, Entry, Format, Grace, Rec};
 use std::mem::swap;
-use tree_build::{block_of, find_place, find_record};
+use tree_build::{find_place, find_record};
 
 /// The blocks of a tree file as they were loaded, and the header that they begin with. Bytes past their end count as 0.
 #[derive(Debug, Drop)]
@@ -117,6 +117,27 @@ impl LoadedTree {
             rec,
         }))
     }
+
+    /// The least identifier after another one, or the least of all; None where there is none. No data block is read.
+    ///
+    /// # Errors
+    ///
+    /// The file is damaged: a reference on the way leads past the last block, or a block of the tree below the root has
+    /// none.
+    pub(crate) fn next_id(&self, after: Option<u32>) -> Result<Option<u32>, Damage>
+        ensures found { IfOk result (λ found. (value : QuotaValue) → TreeStandsFor self.now.bytes.items value
+            → IsNextId after value.records found) }
+        ensures ascends { IfOk result (λ found. IfSome found (IsAfter after)) }
+        ensures narrow { IfOk result (λ found. IfSome found (λ id. id < 2 ^ 32)) }
+    {
+        let Some(from) = first_after(after) else {
+            return Ok(None);
+        };
+        let Some(leaf) = first_leaf(&self.bytes, self.header.blocks, from)? else {
+            return Ok(None);
+        };
+        Ok(Some(leaf.number))
+    }
 }
 
 /// The first identifier after another one, or 0; None where there is none.
@@ -142,11 +163,32 @@ fn record_at(format: Format, file: &[u8], leaf: TreePath) -> Result<Rec, Damage>
     ensures kept { IfOk result (IsKept format leaf.number) }
     ensures refused { IfErr result (IsLeafFault format file.now leaf) }
 {
-    find_record(format, &block_of(file, leaf.block), leaf.number).ok_or(Damage {
+    find_in(format, file, leaf.block, leaf.number).ok_or(Damage {
         kind: DamageKind::MissingEntry,
         block: leaf.block,
         id: leaf.number,
     })
+}
+
+/// The record of the first entry of a block that is used by an identifier.
+fn find_in(format: Format, file: &[u8], block: u32, id: u32) -> Option<Rec>
+    requires tree { format ≢ V1 }
+    ensures value { result ≡ record_in format (block_of file.now block) id }
+    ensures kept { IfSome result (IsKept format id) }
+{
+    match whole_block(file, block) {
+        Some(block) => find_record(format, block, id),
+        None => find_past_end(format, file, block, id),
+    }
+}
+
+/// The same in a block that the file may not have whole, which is copied.
+fn find_past_end(format: Format, file: &[u8], block: u32, id: u32) -> Option<Rec>
+    requires tree { format ≢ V1 }
+    ensures value { result ≡ record_in format (block_of file.now block) id }
+    ensures kept { IfSome result (IsKept format id) }
+{
+    find_record(format, &block_of(file, block), id)
 }
 
 /// Exchanges bytes with those that a file has from a place on.

@@ -1,12 +1,10 @@
 ghost use Rattle.std.specs.Prelude.{◌≡◌, ◌+◌, ◌*◌, ◌<◌, ◌≤◌, take, vec_len, IsTrue, IfErr, OnOk};
 ghost use Rattle.quota_blocks.specs.Frame.{OnlyReads};
 ghost use Rattle.quota_blocks.specs.Unsynced.{AddsNone};
-ghost use Rattle.tree_file.specs.Check.{IsCheckFault};
-ghost use Rattle.tree_build.specs.Block.{bytes_of};
+ghost use Rattle.quota_blocks.specs.CheckFault.{IsCheckFault};
+ghost use Rattle.quota_blocks.specs.Block.{bytes_of};
 
-use crate::CheckFault;
-use quota_blocks::Store;
-use tree_build::BLOCK;
+use quota_blocks::{BLOCK, CheckFault, Store};
 
 /// Appends the bytes that a file has of a block to those of all blocks before it. Where the file ends before the block there
 /// are none.

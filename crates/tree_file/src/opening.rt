@@ -8,8 +8,8 @@ ghost use Rattle.quota_blocks.specs.Frame.{OnlyReads};
 ghost use Rattle.quota_blocks.specs.QuotaValue.{QuotaValue};
 ghost use Rattle.quota_blocks.specs.Unsynced.{AddsNone};
 ghost use Rattle.std.specs.Bool.{OnFalse, OnTrue};
-ghost use Rattle.tree_file.specs.Check.{IsCheckFault};
-ghost use Rattle.tree_build.specs.Block.{bytes_of};
+ghost use Rattle.quota_blocks.specs.CheckFault.{IsCheckFault};
+ghost use Rattle.quota_blocks.specs.Block.{bytes_of};
 ghost use Rattle.tree_build.specs.Defect.{IsTreeDefect};
 ghost use Rattle.tree_file.specs.Opened.{tree_seen};
 ghost use Rattle.tree_build.specs.TreeFile.{TreeStandsFor};
@@ -18,9 +18,9 @@ ghost use Rattle.tree_file.specs.View.{FitsRequest, HasHeader, IsAsAsked, IsRefu
 use crate::file_header::header_in;
 use crate::loaded::LoadedTree;
 use crate::loading::{append_block, load_rest};
-use crate::{CheckFault, TreeFile, check};
+use crate::{TreeFile, check};
 use entry_codec::{Header, HeaderFault};
-use quota_blocks::{OpenFault, QuotaFile, Store};
+use quota_blocks::{CheckFault, OpenFault, QuotaFile, Store};
 use quota_types::{Format, Kind};
 use std::alloc::Global;
 
@@ -73,20 +73,6 @@ pub fn open_tree<S: Store>(
         usable: true,
         refusals: 0,
     })
-}
-
-impl From<CheckFault> for OpenFault {
-    ghost use Rattle.tree_file.specs.Check.{open_fault};
-
-    ghost from_gives = { λ fault opening. opening ≡ open_fault fault };
-
-    fn from(fault: CheckFault) -> Self {
-        match fault {
-            CheckFault::Store => OpenFault::Store,
-            CheckFault::Damage(damage) => OpenFault::Damage(damage),
-            CheckFault::Memory => OpenFault::Memory,
-        }
-    }
 }
 
 /// The bytes that a file has of its first block.

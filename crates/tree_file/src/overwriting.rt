@@ -49,8 +49,8 @@ fn count_needed(tree: &LoadedTree) -> Result<Needed, Damage>
         → HasMet (ids_in value.records) needed) }
 {
     let mut needed = Needed::none();
-    'ids: while let Some(entry) = tree.next_record(needed.last)? {
-        needed.add(entry.id);
+    'ids: while let Some(id) = tree.next_id(needed.last)? {
+        needed.add(id);
     }
     Ok(needed)
 }

@@ -1,20 +1,18 @@
 ghost use Rattle.std.specs.Prelude.{◌≡◌, ◌+◌, ◌*◌, ◌≤◌, map, IsTrue, IfOk, IfErr, vec_len, OnOk};
 ghost use Rattle.quota_blocks.specs.Frame.{OnlyReads};
 ghost use Rattle.quota_blocks.specs.Unsynced.{AddsNone};
-ghost use Rattle.tree_file.specs.Check.{IsCheckFault};
-ghost use Rattle.tree_build.specs.Block.{bytes_of};
+ghost use Rattle.quota_blocks.specs.CheckFault.{IsCheckFault};
+ghost use Rattle.quota_blocks.specs.Block.{bytes_of};
 ghost use Rattle.tree_file.specs.Found.{AreRoles, IsRoleDefect};
 ghost use Rattle.tree_file.specs.Reads.{led_blocks};
 
-use crate::block_set::BlockSet;
-use crate::chain::{first_without, mark_links, walk_chain};
-use crate::checked::CheckFault;
 use crate::groups::{group, mark_data};
-use crate::tree::find_leaves;
-use quota_blocks::Store;
-use quota_types::DamageKind;
+use crate::marking::{first_without, mark_links};
+use free_chains::walk_chain;
+use quota_blocks::{BlockSet, CheckFault, Store};
+use quota_radix::find_leaves;
+use quota_types::{DamageKind, damage_at};
 use std::alloc::Global;
-use tree_build::damage_at;
 
 /// The block of the header.
 const HEADER: u32 = 0;

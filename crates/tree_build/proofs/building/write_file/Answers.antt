@@ -2,16 +2,16 @@ use Rattle.std.proofs.Common.{◌≡◌, ℕ, ◌+◌, ◌^◌, List, length, sy
 use Rattle.std.specs.List.{flat_map, range_with_len}
 use Rattle.std.specs.List.Sorted.{IsStrictlyIncreasing}
 use Rattle.entry_codec.specs.Header.{header_of}
-use Rattle.tree_build.specs.declared.tree_path.TreePath.{TreePath}
+use Rattle.quota_radix.specs.declared.tree_path.TreePath.{TreePath}
 use Rattle.quota_blocks.specs.Listed.{ids_of, value_of}
 use Rattle.tree_build.specs.Build.{HasNoPadding, HasOneRoom}
-use Rattle.tree_build.specs.Tree.{blocks_of, numbers_of}
+use Rattle.quota_radix.specs.Tree.{blocks_of, numbers_of}
 use Rattle.tree_build.specs.NewFile.{AreBelow, AreDataBlocks, IsLevel, KeepsBlocks, leaves_in, parents_of, parts_needed, parts_of}
 use Rattle.tree_build.specs.Size.{blocks_needed}
 use Rattle.tree_build.specs.TreeFile.{TreeStandsFor}
 use Rattle.tree_build.proofs.NewFileLemmas.{with_root}
 use Rattle.tree_build.proofs.OnceLemmas.{ascends-parents_of}
-use Rattle.tree_build.proofs.OrderLemmas.{ascends_of}
+use Rattle.quota_radix.proofs.OrderLemmas.{ascends_of}
 use Rattle.tree_build.proofs.WrittenLemmas.{IsWritten, are, has_no_padding, has_one_room, leaf_numbers, long, needed_by_levels, rising_parents, stands}
 use Rattle.tree_build.proofs.building.write_file.Goals as goal
 

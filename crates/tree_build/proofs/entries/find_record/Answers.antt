@@ -2,7 +2,7 @@ use Rattle.std.proofs.Common.{◌+◌, ◌<◌, Option, sym, ap, ◌∙◌, arit
 use Rattle.std.specs.Option.{option_or}
 use Rattle.quota_types.specs.declared.record.Rec.{Rec}
 use Rattle.entry_codec.specs.Entry.{entries_per_block}
-use Rattle.tree_build.proofs.FindLemmas.{none_or, some_or}
+use Rattle.quota_radix.proofs.FindLemmas.{none_or, some_or}
 use Rattle.tree_build.proofs.RecordLemmas.{record_from, record_from-first, record_from-next}
 use Rattle.tree_build.proofs.entries.find_record.Goals as goal
 
@@ -26,3 +26,11 @@ loop-place-preserved c =
     ∙ record_from-next c.args.format c.args.block.now c.args.id c.loop-place.place low
     ∙ ap (λ (o : Option Rec). option_or o rest) (sym c.record_by-rec.ensures.value)
     ∙ none_or c.record_by-rec.result rest c.if-is_some.ensures
+
+pub loop-place-preserved-then-not-has_id : goal.loop-place-preserved-then-not-has_id
+loop-place-preserved-then-not-has_id c =
+    let low : c.loop-place.place < entries_per_block c.args.format = omega (arith, c.entries_per_block-place-end.ensures) in
+    let rest : Option Rec = record_from c.args.format c.args.block.now c.args.id (c.loop-place.place + 1) in
+    c.loop-place.invariant
+    ∙ record_from-next c.args.format c.args.block.now c.args.id c.loop-place.place low
+    ∙ ap (λ (o : Option Rec). option_or o rest) c.if-not-has_id.ensures.other

@@ -1,6 +1,6 @@
 use Rattle.std.proofs.Common.{ℕ, ◌≤◌, inl, inr, arith}
 use Rattle.std.proofs.lemmas.Bool.{cases_lt}
-use Rattle.tree_build.specs.Count.{times}
+use Rattle.quota_types.specs.Times.{times}
 use Rattle.tree_build.proofs.EntryLemmas.{stands_in_all, stands_more}
 use Rattle.tree_build.proofs.entries.first_double.Goals as goal
 

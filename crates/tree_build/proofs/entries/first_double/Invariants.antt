@@ -1,5 +1,5 @@
 use Rattle.std.proofs.Common.{ℕ, ◌≤◌, take}
-use Rattle.tree_build.specs.Count.{StandsIn, times}
+use Rattle.quota_types.specs.Times.{StandsIn, times}
 use Rattle.tree_build.proofs.entries.first_double.Given as goal
 
 abbrev pub invariant-loop-number : goal.invariant-loop-number

@@ -1,5 +1,5 @@
 use Rattle.std.proofs.Common.{ℕ, arith}
-use Rattle.tree_build.specs.Count.{StandsIn}
+use Rattle.quota_types.specs.Times.{StandsIn}
 use Rattle.tree_build.proofs.EntryLemmas.{none_of_any, stands_at, stands_in_all, stands_more, stands_of_any}
 use Rattle.tree_build.proofs.entries.first_not_in.Goals as goal
 

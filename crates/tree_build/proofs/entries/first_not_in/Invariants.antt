@@ -1,5 +1,5 @@
 use Rattle.std.proofs.Common.{ℕ, take}
-use Rattle.tree_build.specs.Count.{StandsIn}
+use Rattle.quota_types.specs.Times.{StandsIn}
 use Rattle.tree_build.proofs.entries.first_not_in.Given as goal
 
 abbrev pub invariant-loop-number : goal.invariant-loop-number

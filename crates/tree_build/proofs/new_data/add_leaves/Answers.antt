@@ -1,10 +1,10 @@
 use Rattle.std.proofs.Common.{ℕ, ◌^◌, ◌<◌, ◌++◌, ◌∷◌, [], ◌∙◌, List, take, get_or, sym, ap, subst, append_assoc}
 use Rattle.std.proofs.lemmas.List.{map_more}
 use Rattle.quota_types.specs.declared.record.Entry.{Entry}
-use Rattle.tree_build.specs.declared.tree_path.TreePath.{TreePath}
+use Rattle.quota_radix.specs.declared.tree_path.TreePath.{TreePath}
 use Rattle.tree_build.specs.NewFile.{AreBelow, leaves_in}
 use Rattle.tree_build.proofs.DataBlockLemmas.{no_entry}
-use Rattle.tree_build.proofs.PathLemmas.{each-append}
+use Rattle.quota_radix.proofs.PathLemmas.{each-append}
 use Rattle.tree_build.proofs.new_data.add_leaves.Goals as goal
 
 pub loop-entry-preserved : goal.loop-entry-preserved

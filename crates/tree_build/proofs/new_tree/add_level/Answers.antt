@@ -1,9 +1,9 @@
 use Rattle.std.proofs.Common.{◌≡◌, ◌/◌, ◌++◌, ◌∙◌, [], ◌∷◌, length, take, drop, List, ℕ, sym, ap, subst, arith}
 use Rattle.std.proofs.lemmas.List.{append-nil}
-use Rattle.tree_build.specs.declared.tree_path.TreePath.{TreePath}
-use Rattle.tree_build.specs.Tree.{numbers_of}
+use Rattle.quota_radix.specs.declared.tree_path.TreePath.{TreePath}
+use Rattle.quota_radix.specs.Tree.{numbers_of}
 use Rattle.tree_build.proofs.LevelAddedLemmas.{AreParted, HasLevel, level_all, level_more, level_none, parted}
-use Rattle.tree_build.proofs.OrderLemmas.{ascends_of}
+use Rattle.quota_radix.proofs.OrderLemmas.{ascends_of}
 use Rattle.tree_build.proofs.TreeBlockLemmas.{no_path}
 use Rattle.tree_build.proofs.new_tree.add_level.Goals as goal
 

@@ -1,6 +1,6 @@
 use Rattle.std.proofs.Common.{◌≡◌, ◌/◌}
 use Rattle.std.proofs.lemmas.List.Elements.{All-more}
-use Rattle.tree_build.specs.declared.tree_path.TreePath.{TreePath}
+use Rattle.quota_radix.specs.declared.tree_path.TreePath.{TreePath}
 use Rattle.tree_build.proofs.new_tree.count_siblings.Goals as goal
 
 pub loop-count-preserved : goal.loop-count-preserved

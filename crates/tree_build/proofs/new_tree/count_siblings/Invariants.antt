@@ -1,6 +1,6 @@
 use Rattle.std.proofs.Common.{◌≡◌, ◌/◌, take}
 use Rattle.std.specs.Prelude.{All}
-use Rattle.tree_build.specs.declared.tree_path.TreePath.{TreePath}
+use Rattle.quota_radix.specs.declared.tree_path.TreePath.{TreePath}
 use Rattle.tree_build.proofs.new_tree.count_siblings.Given as goal
 
 abbrev pub invariant-loop-count : goal.invariant-loop-count

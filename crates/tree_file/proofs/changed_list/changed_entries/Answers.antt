@@ -8,7 +8,7 @@ use Rattle.quota_blocks.specs.QuotaValue.{IsAfter, IsNextAfter}
 use Rattle.quota_blocks.specs.Listed.{ids_of}
 use Rattle.tree_file.specs.Listing.{with_change}
 use Rattle.tree_file.proofs.ListingLemmas.{AscendsUpTo, IsListedUpTo, ascends_more, ascends_none, listed_all, listed_more, listed_none}
-use Rattle.tree_build.proofs.OrderLemmas.{increasing_of}
+use Rattle.quota_radix.proofs.OrderLemmas.{increasing_of}
 use Rattle.tree_file.proofs.changed_list.changed_entries.Goals as goal
 
 pub loop-list-init : goal.loop-list-init

@@ -1,10 +1,10 @@
 use Rattle.std.proofs.Common.{ℕ, ◌∙◌, List, Vec, Global, map, sym, subst, arith}
 use Rattle.std.proofs.lemmas.Result.{err_from_is_err_and}
-use Rattle.tree_build.specs.Block.{bytes_of}
+use Rattle.quota_blocks.specs.Block.{bytes_of}
 use Rattle.tree_file.specs.Found.{AreRoles, HasNoEmptyBlock}
 use Rattle.tree_file.specs.Groups.{AreGroupsOf}
 use Rattle.tree_build.specs.Roles.{Chained, Filled}
-use Rattle.tree_build.specs.Tree.{leaves}
+use Rattle.quota_radix.specs.Tree.{leaves}
 use Rattle.tree_file.proofs.CheckedLemmas.{is_checked, length_refused, lists_refused, only_damaged, roles_refused}
 use Rattle.tree_file.proofs.FoundLemmas.{same_bytes}
 use Rattle.tree_file.proofs.checking.check.Goals as goal

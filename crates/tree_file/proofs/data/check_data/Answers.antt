@@ -1,8 +1,8 @@
 use Rattle.std.proofs.Common.{◌≡◌, ℕ, ◌+◌, cond, nat_le, List, [], length, Vec, Global, Option, map, sym, ap, subst, ◌∙◌, arith}
 use Rattle.std.proofs.lemmas.List.{get_or-map, length-map}
 use Rattle.quota_blocks.proofs.FrameLemmas.{adds_none-then, only_reads-then}
-use Rattle.tree_file.specs.BlockSet.{AreFlagsOf}
-use Rattle.tree_build.specs.Block.{bytes_of}
+use Rattle.quota_blocks.specs.BlockSet.{AreFlagsOf}
+use Rattle.quota_blocks.specs.Block.{bytes_of}
 use Rattle.tree_build.specs.Compared.{leading_ids, rooms}
 use Rattle.tree_file.proofs.DataLemmas.{entries_more, room_more}
 use Rattle.tree_file.proofs.ReadLemmas.{led_first, led_more}

@@ -1,8 +1,8 @@
 use Rattle.std.proofs.Common.{ℕ, ◌+◌, ◌<◌, ◌≤◌, map, take, IsTrue}
 use Rattle.quota_blocks.specs.Frame.{OnlyReads}
 use Rattle.quota_blocks.specs.Unsynced.{AddsNone}
-use Rattle.tree_file.specs.BlockSet.{AreFlagsOf}
-use Rattle.tree_build.specs.Block.{bytes_of}
+use Rattle.quota_blocks.specs.BlockSet.{AreFlagsOf}
+use Rattle.quota_blocks.specs.Block.{bytes_of}
 use Rattle.tree_build.specs.Compared.{HasEntriesOf, leading_ids, rooms}
 use Rattle.tree_file.specs.Reads.{led_blocks}
 use Rattle.tree_file.proofs.data.check_data.Given as goal

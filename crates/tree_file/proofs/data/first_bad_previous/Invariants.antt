@@ -1,5 +1,5 @@
 use Rattle.std.proofs.Common.{◌≡◌, ◌∷◌, get_or, take}
-use Rattle.tree_file.specs.Walk.{linked_blocks, previous_in}
+use Rattle.free_chains.specs.Walk.{linked_blocks, previous_in}
 use Rattle.tree_file.proofs.data.first_bad_previous.Given as goal
 
 abbrev pub invariant-loop-link : goal.invariant-loop-link

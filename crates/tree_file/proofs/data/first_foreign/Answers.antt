@@ -1,8 +1,8 @@
 use Rattle.std.proofs.Common.{ℕ}
-use Rattle.tree_file.specs.declared.link.Link.{Link}
-use Rattle.tree_build.specs.Count.{StandsIn}
+use Rattle.free_chains.specs.declared.link.Link.{Link}
+use Rattle.quota_types.specs.Times.{StandsIn}
 use Rattle.tree_file.proofs.DataLemmas.{mapped_all, mapped_more}
-use Rattle.tree_file.proofs.WalkLemmas.{stands_mapped}
+use Rattle.quota_blocks.proofs.MarkedLemmas.{stands_mapped}
 use Rattle.tree_file.proofs.data.first_foreign.Goals as goal
 
 pub returns-then-not-contains : goal.returns-then-not-contains

@@ -1,7 +1,7 @@
 use Rattle.std.proofs.Common.{ℕ, ◌<◌, List, take}
-use Rattle.tree_file.specs.BlockSet.{AreFlagsOf}
-use Rattle.tree_build.specs.Count.{StandsIn}
-use Rattle.tree_file.specs.Walk.{linked_blocks}
+use Rattle.quota_blocks.specs.BlockSet.{AreFlagsOf}
+use Rattle.quota_types.specs.Times.{StandsIn}
+use Rattle.free_chains.specs.Walk.{linked_blocks}
 use Rattle.tree_file.proofs.data.first_foreign.Given as goal
 
 abbrev pub invariant-loop-link : goal.invariant-loop-link

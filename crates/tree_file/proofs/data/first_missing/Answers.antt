@@ -1,5 +1,5 @@
 use Rattle.std.proofs.Common.{below_more, ℕ, arith}
-use Rattle.tree_build.specs.Count.{StandsIn}
+use Rattle.quota_types.specs.Times.{StandsIn}
 use Rattle.tree_file.proofs.data.first_missing.Goals as goal
 use Rattle.tree_file.proofs.data.first_missing.Goals.{else-contains-via-then-contains+else-not-contains, else-contains-via-else-contains}
 

@@ -1,6 +1,6 @@
 use Rattle.std.proofs.Common.{ℕ, ◌<◌, List}
-use Rattle.tree_file.specs.BlockSet.{AreFlagsOf}
-use Rattle.tree_build.specs.Count.{StandsIn}
+use Rattle.quota_blocks.specs.BlockSet.{AreFlagsOf}
+use Rattle.quota_types.specs.Times.{StandsIn}
 use Rattle.tree_file.proofs.data.first_missing.Given as goal
 
 abbrev pub invariant-loop-block : goal.invariant-loop-block

@@ -1,6 +1,6 @@
 use Rattle.std.proofs.Common.{ℕ, map, take, Vec, Global}
 use Rattle.tree_file.specs.Groups.{AreGroupsOf}
-use Rattle.tree_file.specs.Levels.{AreWithin}
+use Rattle.quota_radix.specs.Levels.{AreWithin}
 use Rattle.tree_file.proofs.groups.group.Given as goal
 
 abbrev pub invariant-loop-leaf : goal.invariant-loop-leaf

@@ -1,7 +1,7 @@
 use Rattle.std.proofs.Common.{◌≡◌, ◌<◌, ℕ, [], ◌∷◌, ◌++◌, length, refl, ap, sym, subst, Vec, Global, arith}
-use Rattle.tree_file.specs.BlockSet.{AreFlagsOf}
+use Rattle.quota_blocks.specs.BlockSet.{AreFlagsOf}
 use Rattle.tree_file.specs.Groups.{named_blocks}
-use Rattle.tree_file.specs.declared.block_set.BlockSet.{BlockSet}
+use Rattle.quota_blocks.specs.declared.block_set.BlockSet.{BlockSet}
 use Rattle.tree_file.proofs.GroupLemmas.{count_groups, group_at, marked_no, marked_yes, named_twice, none_of, some_of}
 use Rattle.tree_file.proofs.groups.mark_data.Goals as goal
 use Rattle.tree_file.proofs.groups.mark_data.Goals.{else-not-is_empty-via-then-not-is_empty+else-not-insert, else-not-is_empty-via-else-not-is_empty}

@@ -1,6 +1,6 @@
 use Rattle.std.proofs.Common.{ℕ, List, ◌++◌, map, Vec, Global}
-use Rattle.tree_build.specs.declared.tree_path.TreePath.{TreePath}
-use Rattle.tree_file.specs.BlockSet.{AreFlagsOf}
+use Rattle.quota_radix.specs.declared.tree_path.TreePath.{TreePath}
+use Rattle.quota_blocks.specs.BlockSet.{AreFlagsOf}
 use Rattle.tree_file.specs.Groups.{AreGroupsOf, named_blocks}
 use Rattle.tree_file.proofs.groups.mark_data.Given as goal
 

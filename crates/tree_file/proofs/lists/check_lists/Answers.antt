@@ -1,9 +1,10 @@
 use Rattle.std.proofs.Common.{ℕ, List, Vec, Global, map, subst}
 use Rattle.std.proofs.lemmas.Result.{err_from_is_err_and}
-use Rattle.tree_file.specs.BlockSet.{AreFlagsOf}
-use Rattle.tree_build.specs.Block.{bytes_of}
+use Rattle.quota_blocks.specs.BlockSet.{AreFlagsOf}
+use Rattle.quota_blocks.specs.Block.{bytes_of}
 use Rattle.tree_build.specs.Compared.{HasEntriesOf, leading_ids, rooms}
-use Rattle.tree_file.proofs.FoundLemmas.{chained, data_refused, filled, list_defect, same_bytes, walked}
+use Rattle.tree_file.proofs.FoundLemmas.{chained, data_refused, filled, list_defect, same_bytes}
+use Rattle.free_chains.proofs.WalkLemmas.{walked}
 use Rattle.tree_file.proofs.lists.check_lists.Goals as goal
 
 pub returns-in_err-room-clause-refused : goal.returns-in_err-room-clause-refused

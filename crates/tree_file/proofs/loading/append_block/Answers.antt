@@ -1,5 +1,5 @@
 use Rattle.std.proofs.Common.{◌≡◌, ◌*◌, length, arith}
-use Rattle.tree_build.specs.Block.{bytes_of}
+use Rattle.quota_blocks.specs.Block.{bytes_of}
 use Rattle.tree_file.proofs.LoadingLemmas.{front_stays, loaded_more}
 use Rattle.tree_file.proofs.loading.append_block.Goals as goal
 

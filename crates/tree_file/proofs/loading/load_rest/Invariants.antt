@@ -1,7 +1,7 @@
 use Rattle.std.proofs.Common.{◌≡◌, ◌+◌, ◌*◌, ◌≤◌, IsTrue, take, vec_len}
 use Rattle.quota_blocks.specs.Frame.{OnlyReads}
 use Rattle.quota_blocks.specs.Unsynced.{AddsNone}
-use Rattle.tree_build.specs.Block.{bytes_of}
+use Rattle.quota_blocks.specs.Block.{bytes_of}
 use Rattle.tree_file.proofs.loading.load_rest.Given as goal
 
 abbrev pub invariant-loop-block : goal.invariant-loop-block

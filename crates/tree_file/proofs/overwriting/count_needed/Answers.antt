@@ -1,30 +1,35 @@
-use Rattle.std.proofs.Common.{◌≡◌, ◌++◌, ◌∷◌, [], List, ℕ, Option, refl, sym, subst}
+use Rattle.std.proofs.Common.{◌++◌, ◌∷◌, [], List, ℕ, Option, refl, sym, ap, subst, ◌∙◌}
 use Rattle.std.proofs.lemmas.List.{map-append}
 use Rattle.quota_types.specs.declared.record.Entry.{Entry}
-use Rattle.quota_blocks.specs.QuotaValue.{IsNextAfter}
-use Rattle.quota_blocks.specs.Listed.{ids_of}
 use Rattle.tree_build.specs.Needed.{HasMet}
+use Rattle.tree_file.specs.Leaf.{IsNextId}
 use Rattle.tree_file.proofs.ListingLemmas.{IsListedUpTo, ids_listed, listed_all, listed_more, listed_none}
 use Rattle.tree_file.proofs.overwriting.count_needed.Goals as goal
 
 pub ids-init : goal.ids-init
-ids-init c = ([], c.none-needed.ensures.met, λ value stands. subst (λ (after : Option ℕ). IsListedUpTo value.records after []) (sym c.none-needed.ensures.last) (listed_none value.records))
+ids-init c =
+    ([], c.none-needed.ensures.met, λ value stands. ([], refl, subst (λ (after : Option ℕ). IsListedUpTo value.records after []) (sym c.none-needed.ensures.last) (listed_none value.records)))
 
 pub ids-preserved : goal.ids-preserved
 ids-preserved c =
-    let so_far = c.ids.invariant in
-    let list : List Entry = so_far.0 ++ c.in-Some.entry ∷ [] in
-    let ids : ids_of list ≡ ids_of so_far.0 ++ c.in-Some.entry.id ∷ [] = map-append (λ (entry : Entry). entry.id) so_far.0 (c.in-Some.entry ∷ []) in (
-      list,
-      subst (λ (xs : List ℕ). HasMet xs c.add.new.self) (sym ids) (c.add.ensures.met (ids_of so_far.0) so_far.1),
+    let so_far = c.ids.invariant in (
+      so_far.0 ++ c.in-Some.id ∷ [],
+      c.add.ensures.met so_far.0 so_far.1,
       λ value stands.
-          let next = let P : Option Entry → Type 0 = λ o. IsNextAfter c.ids.needed.last value.records o in subst P c.in-Some.is (c.in_ok-entry.ensures.found value stands) in
-          subst (λ (after : Option ℕ). IsListedUpTo value.records after list) (sym c.add.ensures.last)
-          (listed_more value.records c.ids.needed.last so_far.0 list c.in-Some.entry (so_far.2 value stands) next refl),
+          let listed = so_far.2 value stands in
+          let next = let P : Option ℕ → Type 0 = λ o. IsNextId c.ids.needed.last value.records o in subst P c.in-Some.is (c.in_ok-id.ensures.found value stands) in
+          let entry : Entry = record { id = c.in-Some.id; rec = next.0 } in
+          let list : List Entry = listed.0 ++ entry ∷ [] in (
+            list,
+            map-append (λ (entry : Entry). entry.id) listed.0 (entry ∷ []) ∙ ap (λ (ids : List ℕ). ids ++ c.in-Some.id ∷ []) listed.1,
+            subst (λ (after : Option ℕ). IsListedUpTo value.records after list) (sym c.add.ensures.last)
+                (listed_more value.records c.ids.needed.last listed.0 list entry listed.2 next.1 refl),
+          ),
     )
 
 pub returns : goal.returns
 returns c = λ value stands.
     let so_far = c.ids.invariant in
-    let end = let P : Option Entry → Type 0 = λ o. IsNextAfter c.ids.needed.last value.records o in subst P c.in_default.is (c.in_ok-entry.ensures.found value stands) in
-    subst (λ (xs : List ℕ). HasMet xs c.ids.needed) (ids_listed value.records so_far.0 (listed_all value.records c.ids.needed.last so_far.0 (so_far.2 value stands) end)) so_far.1
+    let listed = so_far.2 value stands in
+    let end = let P : Option ℕ → Type 0 = λ o. IsNextId c.ids.needed.last value.records o in subst P c.in_default.is (c.in_ok-id.ensures.found value stands) in
+    subst (λ (ids : List ℕ). HasMet ids c.ids.needed) (sym listed.1 ∙ ids_listed value.records listed.0 (listed_all value.records c.ids.needed.last listed.0 listed.2 end)) so_far.1

@@ -1,4 +1,4 @@
-use Rattle.std.proofs.Common.{List}
+use Rattle.std.proofs.Common.{◌≡◌, List, ℕ}
 use Rattle.quota_types.specs.declared.record.Entry.{Entry}
 use Rattle.quota_blocks.specs.QuotaValue.{QuotaValue}
 use Rattle.quota_blocks.specs.Listed.{ids_of}
@@ -9,9 +9,9 @@ use Rattle.tree_file.proofs.overwriting.count_needed.Given as goal
 
 abbrev pub invariant-ids : goal.invariant-ids
 invariant-ids l =
-    (list : List Entry)
-    × HasMet (ids_of list) l.needed
-    × ((value : QuotaValue) → TreeStandsFor l.tree.bytes.items value → IsListedUpTo value.records l.needed.last list)
+    (ids : List ℕ)
+    × HasMet ids l.needed
+    × ((value : QuotaValue) → TreeStandsFor l.tree.bytes.items value → (list : List Entry) × (ids_of list ≡ ids) × IsListedUpTo value.records l.needed.last list)
 
 abbrev pub decreases-ids : goal.decreases-ids
 decreases-ids l = ids_after l.needed.last

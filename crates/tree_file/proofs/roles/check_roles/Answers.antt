@@ -1,19 +1,19 @@
 use Rattle.std.proofs.Common.{ℕ, List, [], ◌∷◌, ◌++◌, length, Vec, Global, map, refl, sym, ap, subst, arith, append-nil}
 use Rattle.std.proofs.lemmas.List.{length-map}
 use Rattle.std.proofs.lemmas.Result.{err_from_is_err_and}
-use Rattle.tree_file.specs.declared.link.Link.{Link}
-use Rattle.tree_build.specs.declared.tree_path.TreePath.{TreePath}
-use Rattle.tree_file.specs.BlockSet.{AreFlagsOf}
-use Rattle.tree_build.specs.Block.{bytes_of}
+use Rattle.free_chains.specs.declared.link.Link.{Link}
+use Rattle.quota_radix.specs.declared.tree_path.TreePath.{TreePath}
+use Rattle.quota_blocks.specs.BlockSet.{AreFlagsOf}
+use Rattle.quota_blocks.specs.Block.{bytes_of}
 use Rattle.tree_file.specs.Groups.{AreGroupsOf, named_blocks}
-use Rattle.tree_file.specs.Levels.{IsSecondRole}
+use Rattle.quota_radix.specs.Levels.{IsSecondRole}
 use Rattle.tree_build.specs.Roles.{roles}
-use Rattle.tree_build.specs.Tree.{data_blocks, tree_blocks}
-use Rattle.tree_file.specs.Walk.{AreLinksTo, linked_blocks}
-use Rattle.tree_file.proofs.FoundLemmas.{same_bytes, walked}
+use Rattle.quota_radix.specs.Tree.{data_blocks, tree_blocks}
+use Rattle.free_chains.specs.Walk.{AreLinksTo, linked_blocks}
+use Rattle.tree_file.proofs.FoundLemmas.{same_bytes}
+use Rattle.free_chains.proofs.WalkLemmas.{walked, walk_fits}
 use Rattle.tree_file.proofs.ReadLemmas.{roles_few}
 use Rattle.tree_file.proofs.RoleLemmas.{data_marked, data_marked_refused, groups_are, header_marked, length_groups, links_marked, no_role, none_empty, one_role, one_role-free, second_role, tree_refused}
-use Rattle.tree_file.proofs.WalkLemmas.{walk_fits}
 use Rattle.tree_file.proofs.roles.check_roles.Goals as goal
 
 pub returns-in_err-leaves-clause-refused : goal.returns-in_err-leaves-clause-refused

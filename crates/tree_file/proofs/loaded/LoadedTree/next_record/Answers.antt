@@ -1,6 +1,6 @@
 use Rattle.std.proofs.Common.{◌≡◌, ℕ, List, Some, sym, subst, ◌∙◌}
-use Rattle.tree_file.specs.Descent.{leaf_from}
-use Rattle.tree_build.specs.Block.{block_of}
+use Rattle.quota_radix.specs.Descent.{leaf_from}
+use Rattle.quota_blocks.specs.Block.{block_of}
 use Rattle.entry_codec.specs.Header.{header_of}
 use Rattle.tree_build.specs.Defect.{IsTreeDefect}
 use Rattle.tree_build.specs.TreeFile.{record_in}

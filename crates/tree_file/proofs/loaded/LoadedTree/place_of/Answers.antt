@@ -1,8 +1,8 @@
 use Rattle.std.proofs.Common.{◌≡◌, ◌+◌, ◌*◌, ℕ, List, Some, IsSome, sym, ap, subst, ◌∙◌, arith}
-use Rattle.tree_build.specs.Block.{block_of}
-use Rattle.tree_file.specs.Descent.{leaf_block}
+use Rattle.quota_blocks.specs.Block.{block_of}
+use Rattle.quota_radix.specs.Descent.{leaf_block}
 use Rattle.tree_build.specs.Entries.{record_by}
-use Rattle.tree_file.proofs.LookupLemmas.{leaf_of_block}
+use Rattle.quota_radix.proofs.LeafLemmas.{leaf_of_block}
 use Rattle.tree_file.proofs.loaded.LoadedTree.place_of.Goals as goal
 
 pub returns-then-at-size-clause-there : goal.returns-then-at-size-clause-there

@@ -1,10 +1,11 @@
 use Rattle.std.proofs.Common.{◌≡◌, ℕ, List, Some, None, sym, subst, ◌∙◌, arith}
-use Rattle.tree_file.specs.Descent.{leaf_block}
-use Rattle.tree_build.specs.Block.{block_of}
+use Rattle.quota_radix.specs.Descent.{leaf_block}
+use Rattle.quota_blocks.specs.Block.{block_of}
 use Rattle.entry_codec.specs.Header.{header_of}
 use Rattle.tree_build.specs.Defect.{IsTreeDefect}
 use Rattle.tree_build.specs.TreeFile.{record_in}
-use Rattle.tree_file.proofs.LookupLemmas.{StandsForNone, leaf_damage, leaf_of_block, leaf_refused, no_leaf_of_block, no_record, on_err, on_same, one_record}
+use Rattle.quota_radix.proofs.LeafLemmas.{leaf_of_block, no_leaf_of_block}
+use Rattle.tree_file.proofs.LookupLemmas.{StandsForNone, leaf_damage, leaf_refused, no_record, on_err, on_same, one_record}
 use Rattle.tree_file.proofs.loaded.LoadedTree.record_of.Goals as goal
 
 pub returns-in_default-clause-found : goal.returns-in_default-clause-found

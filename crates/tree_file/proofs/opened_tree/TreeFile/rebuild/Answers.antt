@@ -7,7 +7,7 @@ use Rattle.entry_codec.specs.Entry.{entry_size}
 use Rattle.tree_file.specs.Rebuilt.{value_changed}
 use Rattle.tree_file.specs.TreeChange.{IsBuiltAnew}
 use Rattle.tree_build.specs.TreeFile.{TreeStandsFor}
-use Rattle.tree_file.proofs.DownLemmas.{on_ok}
+use Rattle.quota_radix.proofs.DownLemmas.{on_ok}
 use Rattle.tree_file.proofs.EntryWrittenLemmas.{written_needed, written_of, written_stands}
 use Rattle.tree_file.proofs.MakesLemmas.{is_built_anew, left_as_before, loaded_stands, on_store_fault, rebuild_may, rebuild_refused, rewrite_may, writes_whole}
 use Rattle.tree_file.proofs.SpanLemmas.{length-overwritten}

@@ -1,0 +1,20 @@
+use Rattle.std.proofs.Common.{◌+◌, ◌-◌, ◌≤◌, vec_len, IsTrue}
+use Rattle.quota_blocks.specs.Frame.{OnlyReads}
+use Rattle.quota_blocks.specs.Unsynced.{AddsNone}
+use Rattle.quota_blocks.specs.Block.{bytes_of}
+use Rattle.free_chains.specs.Walk.{AreLinksTo, IsWalk}
+use Rattle.free_chains.proofs.chain.walk_chain.Given as goal
+
+abbrev pub decreases-loop-at : goal.decreases-loop-at
+decreases-loop-at g l = l.blocks - vec_len l.walk.links
+
+abbrev pub invariant-loop-at : goal.invariant-loop-at
+invariant-loop-at g l =
+    let S = g.S.Store in
+    record {
+      is_walk : IsWalk l.blocks l.walk;
+      links : IsTrue S.tells → AreLinksTo (bytes_of ((S.seen l.fn.store).files l.name)) l.head l.walk.links.items l.at;
+      leaves : OnlyReads l.name (S.seen l.fn.store) (S.seen l.store);
+      synced : AddsNone (S.seen l.fn.store).unsynced (S.seen l.store).unsynced;
+      reads : (S.seen l.store).reads ≤ (S.seen l.fn.store).reads + vec_len l.walk.links;
+    }

@@ -1,0 +1,13 @@
+pub mod Chain
+pub mod ChainDefect
+pub mod Walk
+pub use Rattle.quota_types.specs.Bytes
+pub use Rattle.quota_types.specs.Damage
+pub use Rattle.quota_types.specs.Times
+pub use Rattle.quota_blocks.specs.Block
+pub use Rattle.quota_blocks.specs.BlockSet
+pub use Rattle.quota_blocks.specs.CheckFault
+pub use Rattle.quota_blocks.specs.Frame
+pub use Rattle.quota_blocks.specs.Seen
+pub use Rattle.quota_blocks.specs.Unsynced
+pub use Rattle.quota_blocks.specs.World

@@ -1,0 +1,13 @@
+pub mod AddedStepLemmas
+pub mod DescentLemmas
+pub mod DownLemmas
+pub mod FindLemmas
+pub mod FirstLemmas
+pub mod FollowLemmas
+pub mod LeafLemmas
+pub mod LevelLemmas
+pub mod OrderLemmas
+pub mod PathLemmas
+pub mod ReadLemmas
+pub mod StepLemmas
+pub mod WayLemmas

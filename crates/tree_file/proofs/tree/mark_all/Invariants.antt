@@ -1,9 +1,0 @@
-use Rattle.std.proofs.Common.{ℕ, List, ◌++◌, take}
-use Rattle.tree_file.specs.BlockSet.{AreFlagsOf}
-use Rattle.tree_file.specs.Levels.{AreWithin}
-use Rattle.tree_build.specs.Tree.{blocks_of}
-use Rattle.tree_file.proofs.tree.mark_all.Given as goal
-
-abbrev pub invariant-loop-path : goal.invariant-loop-path
-invariant-loop-path l = (blocks bound : ℕ) → (numbers : List ℕ) → AreFlagsOf blocks l.fn.met.flags.items numbers
-    → AreWithin blocks bound l.paths → AreFlagsOf blocks l.met.flags.items (numbers ++ blocks_of (take l.path-index l.paths))
