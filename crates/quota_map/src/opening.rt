@@ -3,7 +3,7 @@ ghost use Rattle.entry_codec.specs.Header.{header_of};
 ghost use Rattle.quota_blocks.specs.Frame.{OnlyReads};
 ghost use Rattle.quota_blocks.specs.QuotaValue.{QuotaValue};
 ghost use Rattle.quota_blocks.specs.Unsynced.{AddsNone};
-ghost use Rattle.tree_build.specs.Block.{bytes_of};
+ghost use Rattle.quota_blocks.specs.Block.{bytes_of};
 ghost use Rattle.quota_map.specs.View.{IsOpenFault, IsOpenedAs, IsView, fresh_seen};
 
 use crate::AnyFile;

@@ -27,7 +27,7 @@ impl Export {
     ghost use Rattle.quota_blocks.specs.Unsynced.{AddsNone};
     ghost use Rattle.quota_map.specs.AnyFile.{HoldsAny, MayRefuse};
     ghost use Rattle.quota_map.specs.View.{IsOpenFault, IsOpenedAs, IsView};
-    ghost use Rattle.tree_build.specs.Block.{bytes_of};
+    ghost use Rattle.quota_blocks.specs.Block.{bytes_of};
     ghost use Rattle.rquota_serve.specs.Exports.{export_seen, fresh_export, is_named};
     ghost use Rattle.rquota_serve.specs.Reply.{record_of};
 

@@ -21,7 +21,7 @@ impl Exports {
     ghost use Rattle.quota_blocks.specs.Unsynced.{AddsNone};
     ghost use Rattle.quota_blocks.specs.World.{World};
     ghost use Rattle.quota_map.specs.View.{IsOpenFault, IsOpenedAs, IsView};
-    ghost use Rattle.tree_build.specs.Block.{bytes_of};
+    ghost use Rattle.quota_blocks.specs.Block.{bytes_of};
     ghost use Rattle.rquota_serve.specs.Exported.{Exported, nothing_exported, with_export};
     ghost use Rattle.rquota_serve.specs.Exports.{CountsOne, ExportSeen, OnlyLooksUp, Serves, export_seen, exports_seen, fresh_export, is_exported, is_named, kept_in, may_add};
     ghost use Rattle.rquota_serve.specs.Refusal.{IsAnswerFault, MayRefuseOne};

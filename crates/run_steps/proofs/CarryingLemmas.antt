@@ -1,6 +1,6 @@
 -- Commands one after another, each of which was carried out: all of them were carried out from the start.
-use Rattle.std.proofs.Common.{◌≡◌, ◌≤◌, ◌⊎◌, ℕ, Bool, true, false, IsTrue, List, [], None, Some, Ok, Err, Result, inl, inr, refl, sym, ap, subst, ◌∙◌, arith, append-nil}
-use Rattle.std.specs.Prelude.{◌&&◌, IfErr, OnOk}
+use Rattle.std.proofs.Common.{◌≡◌, ◌⊎◌, ℕ, Bool, true, false, IsTrue, List, [], None, Some, Ok, Err, Result, inl, inr, refl, sym, subst, ◌∙◌, arith, append-nil}
+use Rattle.std.specs.Prelude.{◌&&◌}
 use Rattle.std.specs.Result.{result_err}
 use Rattle.std.proofs.lemmas.Bool.{false≢true}
 use Rattle.std.proofs.lemmas.Option.{none-some}
@@ -47,7 +47,8 @@ failed_before warns link old middle new SinkFault later failed = sink_failed war
 failed_before warns link old middle new LinkFault later failed = (failed.0, omega (arith, later.link, failed.1))
 failed_before warns link old middle new _ later failed = absurd failed
 
-reason_before : (uses : Uses) (old middle new : RunSeen) (stated stated' : Type 0) (cause : Cause) → IsLater old middle → (stated → stated') → HasReason uses middle new stated cause → HasReason uses old new stated' cause
+-- a reason since a later moment is one since an earlier one
+pub reason_before : (uses : Uses) (old middle new : RunSeen) (stated stated' : Type 0) (cause : Cause) → IsLater old middle → (stated → stated') → HasReason uses middle new stated cause → HasReason uses old new stated' cause
 reason_before uses old middle new stated stated' cause later so reason =
     by_group (group_of cause) _ _ stated stated' (failed_before uses.warns uses.link old middle new cause later) so reason
 

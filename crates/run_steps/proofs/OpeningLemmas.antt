@@ -13,7 +13,7 @@ use Rattle.quota_blocks.specs.World.{World}
 use Rattle.quota_blocks.specs.declared.quota_file.OpenFault.{OpenFault}
 use Rattle.quota_blocks.specs.declared.quota_file.OpenFault.TheVariants.{Store, NoFile, TooLarge, Memory, FormatMismatch, Damage}
 use Rattle.quota_v1.specs.View.{IsFlatFault}
-use Rattle.tree_build.specs.Defect.{NamesItsId}
+use Rattle.quota_types.specs.Damage.{NamesItsId}
 use Rattle.tree_file.specs.View.{IsTreeFault}
 use Rattle.quota_map.specs.View.{IsOpenFault, most_blocks}
 use Rattle.quota_map.proofs.SeenLemmas.{IsOfCall, fault_seen, store_rose}
