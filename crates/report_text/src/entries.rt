@@ -1,4 +1,4 @@
-ghost use Rattle.std.specs.Prelude.{◌≡◌, ◌+◌, ◌≤◌, ◌++◌, length, OnOk, OnErr};
+ghost use Rattle.std.specs.Prelude.{◌≡◌, ◌+◌, ◌≤◌, ◌++◌, [], length, OnOk, OnErr};
 ghost use Rattle.id_names.specs.FirstMatch.{first_name};
 ghost use Rattle.quota_blocks.specs.Count.{Rose};
 ghost use Rattle.quota_blocks.specs.Text.{Gathers, WritesPrefix};
@@ -35,7 +35,9 @@ pub(crate) fn put_entry<O: Sink>(
     if !is_shown(entry, options) {
         return Ok(());
     }
-    text.put(sink, entry_line(entry, names, now, options).as_slice())
+    let mut line = Line::new();
+    push_entry(&mut line, entry, names, now, options);
+    text.put(sink, line.as_slice())
 }
 
 /// Whether an identifier has a line: one that uses neither space nor inodes has it only where all are shown.
@@ -45,20 +47,19 @@ fn is_shown(entry: &Entry, options: &Options) -> bool
     options.verbose || !(entry.rec.space == 0 && entry.rec.inodes == 0)
 }
 
-/// The line of an identifier.
+/// Makes an empty line that of an identifier.
 #[tactic(auto, unfolding(crate::specs::Report::entry_line))]
-pub(crate) fn entry_line(entry: &Entry, names: &Names, now: u64, options: &Options) -> Line
-    ensures { result ≡ entry_line (first_name names.now) now options.now (entry.now.id, entry.now.rec) }
+fn push_entry(line: &mut Line, entry: &Entry, names: &Names, now: u64, options: &Options)
+    requires { line.old ≡ [] }
+    ensures { line.new ≡ entry_line (first_name names.now) now options.now (entry.now.id, entry.now.rec) }
 {
     let blocks = Usage::of_blocks(&entry.rec);
     let inodes = Usage::of_inodes(&entry.rec);
-    let mut line = Line::new();
-    push_name(&mut line, names, entry.id, options);
+    push_name(line, names, entry.id, options);
     line.push_text(&[b' ', blocks.flag(), inodes.flag()]);
-    push_columns(&mut line, 10, &blocks, now, options);
-    push_columns(&mut line, 8, &inodes, now, options);
+    push_columns(line, 10, &blocks, now, options);
+    push_columns(line, 8, &inodes, now, options);
     line.push_text(b"\n");
-    line
 }
 
 /// Appends the name of an identifier; where numbers are asked for, `#` and the identifier.
