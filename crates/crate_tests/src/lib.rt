@@ -22,6 +22,8 @@ mod made_files;
 #[cfg(test)]
 mod map_rows;
 #[cfg(test)]
+mod page_rows;
+#[cfg(test)]
 mod radix_rows;
 #[cfg(test)]
 mod reply_rows;

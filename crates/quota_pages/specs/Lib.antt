@@ -1,0 +1,13 @@
+pub mod Overlay
+pub mod Page
+pub mod Held
+pub mod Pages
+pub mod Flushed
+pub use Rattle.quota_types.specs.Bytes
+pub use Rattle.quota_blocks.specs.Block
+pub use Rattle.quota_blocks.specs.Count
+pub use Rattle.quota_blocks.specs.Frame
+pub use Rattle.quota_blocks.specs.Seen
+pub use Rattle.quota_blocks.specs.Span
+pub use Rattle.quota_blocks.specs.Unsynced
+pub use Rattle.quota_blocks.specs.World

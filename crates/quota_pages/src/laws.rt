@@ -1,0 +1,95 @@
+//! Laws of what a buffer of pages shows.
+
+ghost use Rattle.std.specs.Prelude.{◌≡◌, ◌≢◌, ◌⊎◌, ◌+◌, ◌*◌, ◌<◌, ◌≤◌, ℕ, IsTrue, true, false, IfOk, OnErr, List, [], length, max};
+ghost use Rattle.quota_types.specs.Bytes.{byte_at, number_at};
+ghost use Rattle.quota_blocks.specs.Count.{Rose};
+ghost use Rattle.quota_blocks.specs.World.{World};
+ghost use Rattle.quota_blocks.specs.Block.{block_of};
+ghost use Rattle.quota_pages.specs.Overlay.{bytes_of, with_block};
+ghost use Rattle.quota_pages.specs.Flushed.{IsPartlyFlushed};
+ghost use Rattle.quota_pages.specs.Page.{IsClean, Page, is_lent, shown};
+ghost use Rattle.quota_pages.specs.Pages.{name_of, pages_of};
+ghost use Rattle.quota_pages.specs.declared.page_buffer.Pages.{Pages as Buffer};
+
+use crate::Pages;
+use quota_blocks::{Store, StoreFault, le32, set_le32};
+
+/// A file with a block laid over it has that block under its number, all other bytes as before, and the length of the
+/// file, or up to the end of that block where that is greater.
+pub fn a_block_is_laid_over_a_file()
+    ensures same { (file bytes : List ℕ) (number : ℕ) → length bytes ≡ 1024
+        → block_of (with_block file number bytes) number ≡ bytes }
+    ensures other { (file bytes : List ℕ) (number other : ℕ) → other ≢ number
+        → block_of (with_block file number bytes) other ≡ block_of file other }
+    ensures before { (file bytes : List ℕ) (number at : ℕ) → at < 1024 * number
+        → byte_at (with_block file number bytes) at ≡ byte_at file at }
+    ensures behind { (file bytes : List ℕ) (number at : ℕ) → 1024 * number + 1024 ≤ at
+        → byte_at (with_block file number bytes) at ≡ byte_at file at }
+    ensures size { (file bytes : List ℕ) (number : ℕ)
+        → length (with_block file number bytes) ≡ max (length file) (1024 * number + 1024) }
+{}
+
+/// An empty buffer shows the file as it is, and is clean.
+pub fn an_empty_buffer_shows_the_file()
+    ensures shown { (file : List ℕ) → shown [] file ≡ file }
+    ensures clean { (file : List ℕ) → IsClean [] file }
+{}
+
+/// A block that was not lent for writing is shown as it is in the file. What is shown is as long as the file, or up to the
+/// end of the last block that was lent where that is greater.
+pub fn all_but_lent_blocks_stay()
+    ensures others { (pages : List Page) (file : List ℕ) (number : ℕ) → is_lent pages number ≡ false
+        → block_of (shown pages file) number ≡ block_of file number }
+    ensures grows { (pages : List Page) (file : List ℕ) → length file ≤ length (shown pages file) }
+    ensures covers { (pages : List Page) (file : List ℕ) (number : ℕ) → is_lent pages number ≡ true
+        → 1024 * number + 1024 ≤ length (shown pages file) }
+    ensures ends { (pages : List Page) (file : List ℕ) → (length (shown pages file) ≡ length file)
+        ⊎ ((number : ℕ) × (is_lent pages number ≡ true) × (length (shown pages file) ≡ 1024 * number + 1024)) }
+{}
+
+/// After a fault of a flush each block of the file is the old one, or the one that was shown.
+pub fn a_block_is_the_old_or_the_new_one()
+    ensures { (buffer : Buffer) (old new : World) (number : ℕ)
+        → IsPartlyFlushed (name_of buffer) (pages_of buffer) old new
+        → (block_of (bytes_of new (name_of buffer)) number ≡ block_of (bytes_of old (name_of buffer)) number)
+        ⊎ (block_of (bytes_of new (name_of buffer)) number
+        ≡ block_of (shown (pages_of buffer) (bytes_of old (name_of buffer))) number) }
+{}
+
+/// After a fault of a flush the buffer shows over the file, as that is then, what it showed over the old one, and is as
+/// clean over it.
+pub fn a_fault_leaves_what_is_shown()
+    ensures shown { (buffer : Buffer) (old new : World)
+        → IsPartlyFlushed (name_of buffer) (pages_of buffer) old new
+        → shown (pages_of buffer) (bytes_of new (name_of buffer)) ≡ shown (pages_of buffer) (bytes_of old (name_of buffer)) }
+    ensures clean { (buffer : Buffer) (old new : World)
+        → IsPartlyFlushed (name_of buffer) (pages_of buffer) old new
+        → IsClean (pages_of buffer) (bytes_of old (name_of buffer)) → IsClean (pages_of buffer) (bytes_of new (name_of buffer)) }
+{}
+
+/// A word that is set in one block leaves each other block as it was shown. This answers a word of the other block.
+///
+/// # Errors
+///
+/// The store failed.
+pub fn another_block_stays<S: Store>(
+    pages: &mut Pages,
+    store: &mut S,
+    number: u32,
+    other: u32,
+    at: usize,
+    value: u32,
+) -> Result<u32, StoreFault>
+    requires word { at + 4 ≤ 1024 }
+    requires room { length (pages_of pages.old) + 2 ≤ 12 }
+    ensures stays { IfOk result (λ word. other ≢ number → IsTrue S.tells
+        → IsClean (pages_of pages.old) (bytes_of (S.seen store.old).files (name_of pages.old))
+        → word ≡ number_at 4 (block_of (shown (pages_of pages.old)
+        (bytes_of (S.seen store.old).files (name_of pages.old))) other) at) }
+    ensures cause { OnErr result (Rose (S.seen store.old).faults (S.seen store.new).faults) }
+{
+    let block = pages.page(store, number)?;
+    set_le32(block, at, value);
+    let block = pages.peek(store, other)?;
+    Ok(le32(block, at))
+}

@@ -1,0 +1,187 @@
+ghost use Rattle.std.specs.Prelude.{◌≡◌, IsTrue, length};
+ghost use Rattle.quota_pages.specs.Held.{pages_in};
+ghost use Rattle.quota_pages.specs.Page.{are_distinct};
+
+use crate::block_read::read_block;
+use crate::held_blocks::{Held, ROOM};
+use crate::page_write::write_pages;
+use quota_blocks::{Store, StoreFault};
+
+/// A buffer of up to twelve blocks of one file, of 1,024 bytes each. Bytes past the end of the file are 0.
+#[derive(Drop)]
+pub struct Pages {
+    name: String,
+    held: Held,
+    // Each head has its block, and no block is held twice.
+    ghost beside: { length held.heads.items ≡ length held.blocks.items },
+    ghost distinct: { IsTrue (are_distinct (pages_in held.heads.items held.blocks.items)) },
+}
+
+#[tactic(auto, unfolding(crate::specs::Pages::name_of, crate::specs::Pages::pages_of))]
+impl Pages {
+    ghost use Rattle.std.specs.Prelude.{ℕ, ◌+◌, ◌<◌, ◌≤◌, ◌⊎◌, List, [], true, false, IsOk, IfOk, OnOk, OnErr, MatchOption, slice_index_or, if◌then◌else◌};
+    ghost use Rattle.std.specs.Borrow.{sem};
+    ghost use Rattle.std.specs.String.{string_bytes};
+    ghost use Rattle.arrayvec.specs.ArrayVec.{array_vec_len};
+    ghost use Rattle.quota_blocks.specs.Count.{Rose, counted};
+    ghost use Rattle.quota_blocks.specs.Frame.{ChangesOne, OnlyReads};
+    ghost use Rattle.quota_blocks.specs.Unsynced.{AddsNone};
+    ghost use Rattle.quota_blocks.specs.Block.{block_of};
+    ghost use Rattle.quota_pages.specs.Overlay.{bytes_of};
+    ghost use Rattle.quota_pages.specs.Flushed.{IsPartlyFlushed, counted_by, flushed_files, flushed_names};
+    ghost use Rattle.quota_pages.specs.Page.{HasRoomFor, IsClean, is_buffered, is_lent, is_some_lent, lent_count, shown};
+    ghost use Rattle.quota_pages.specs.Pages.{EndsLent, EndsLookedAt, HasAt, LooksAt, StaysAsItWas, name_of, pages_of};
+
+    /// An empty buffer over the file of this name.
+    pub fn new(name: String) -> Self
+        ensures name { name_of result ≡ string_bytes name }
+        ensures empty { pages_of result ≡ [] }
+    {
+        Pages {
+            name,
+            held: Held::new(),
+        }
+    }
+
+    /// The name of the file.
+    pub fn name(&self) -> &str
+        ensures { result.now ≡ name_of self.now }
+    {
+        self.name.as_str()
+    }
+
+    /// How many more blocks fit.
+    pub fn spare(&self) -> usize
+        ensures { result + length (pages_of self.now) ≡ 12 }
+    {
+        ROOM - self.held.count()
+    }
+
+    /// Lends block `n` for reading: the one that is buffered, or else the file's, which is buffered then.
+    ///
+    /// # Errors
+    ///
+    /// The store failed. The buffer is as before.
+    pub fn peek<S: Store>(&mut self, store: &mut S, n: u32) -> Result<&[u8; 1024], StoreFault>
+        requires { HasRoomFor (pages_of self.old) n }
+        ensures* looked { sem 𝓛 (EndsLookedAt S.tells
+            (bytes_of (S.seen store.old).files (name_of self.old)) n self.entry result) }
+        ensures block { IfOk result (λ block. IsTrue S.tells
+            → IsClean (pages_of self.old) (bytes_of (S.seen store.old).files (name_of self.old))
+            → block.now ≡ block_of (shown (pages_of self.old)
+            (bytes_of (S.seen store.old).files (name_of self.old))) n) }
+        ensures lent { IfOk result (λ block. is_lent (pages_of self.old) n ≡ true
+            → (file : List ℕ) → block.now ≡ block_of (shown (pages_of self.old) file) n) }
+        ensures buffered { is_buffered (pages_of self.old) n ≡ true → (IsOk result) × (store.new ≡ store.old) }
+        ensures reads { (S.seen store.new).reads ≡ (if is_buffered (pages_of self.old) n
+            then (S.seen store.old).reads else counted (S.seen store.old).reads) }
+        ensures cause { OnErr result (Rose (S.seen store.old).faults (S.seen store.new).faults) }
+        ensures leaves { OnlyReads (name_of self.old) (S.seen store.old) (S.seen store.new) }
+        ensures synced { OnOk result (AddsNone (S.seen store.old).unsynced (S.seen store.new).unsynced) }
+    {
+        let place = self.bring(store, n)?;
+        Ok(self.held.block(place))
+    }
+
+    /// Lends block `n` for writing: the one that is buffered, or else the file's, which is buffered then. `flush`
+    /// writes what the caller leaves in it.
+    ///
+    /// # Errors
+    ///
+    /// The store failed. The buffer is as before.
+    pub fn page<S: Store>(&mut self, store: &mut S, n: u32) -> Result<&mut [u8; 1024], StoreFault>
+        requires { HasRoomFor (pages_of self.old) n }
+        ensures* lends { sem 𝓛 (EndsLent S.tells
+            (bytes_of (S.seen store.old).files (name_of self.old)) n self.entry result) }
+        ensures block { IfOk result (λ block. IsTrue S.tells
+            → IsClean (pages_of self.old) (bytes_of (S.seen store.old).files (name_of self.old))
+            → block.now ≡ block_of (shown (pages_of self.old)
+            (bytes_of (S.seen store.old).files (name_of self.old))) n) }
+        ensures lent { IfOk result (λ block. is_lent (pages_of self.old) n ≡ true
+            → (file : List ℕ) → block.now ≡ block_of (shown (pages_of self.old) file) n) }
+        ensures buffered { is_buffered (pages_of self.old) n ≡ true → (IsOk result) × (store.new ≡ store.old) }
+        ensures reads { (S.seen store.new).reads ≡ (if is_buffered (pages_of self.old) n
+            then (S.seen store.old).reads else counted (S.seen store.old).reads) }
+        ensures cause { OnErr result (Rose (S.seen store.old).faults (S.seen store.new).faults) }
+        ensures leaves { OnlyReads (name_of self.old) (S.seen store.old) (S.seen store.new) }
+        ensures synced { OnOk result (AddsNone (S.seen store.old).unsynced (S.seen store.new).unsynced) }
+    {
+        let place = self.bring(store, n)?;
+        Ok(self.held.lend(place))
+    }
+
+    /// Writes each block that was lent for writing, and empties the buffer.
+    ///
+    /// # Errors
+    ///
+    /// The store failed. The buffer is as before, and each block that was lent is the old or the new one in the file.
+    pub fn flush<S: Store>(&mut self, store: &mut S) -> Result<(), StoreFault>
+        ensures flushed { OnOk result (IsTrue S.tells → (S.seen store.new).files
+            ≡ flushed_files (S.seen store.old).files (name_of self.old) (pages_of self.old)) }
+        ensures fault { OnErr result (IsTrue S.tells
+            → IsPartlyFlushed (name_of self.old) (pages_of self.old) (S.seen store.old).files (S.seen store.new).files) }
+        ensures cause { OnErr result (Rose (S.seen store.old).faults (S.seen store.new).faults) }
+        ensures writes { OnOk result ((S.seen store.new).writes
+            ≡ counted_by (S.seen store.old).writes (lent_count (pages_of self.old))) }
+        ensures tried { OnErr result ((S.seen store.new).writes
+            ≤ (S.seen store.old).writes + lent_count (pages_of self.old)) }
+        ensures unsynced { OnOk result (IsTrue S.tells → (S.seen store.new).unsynced
+            ≡ flushed_names (S.seen store.old).unsynced (name_of self.old) (pages_of self.old)) }
+        ensures idle { is_some_lent (pages_of self.old) ≡ false → (IsOk result) × (store.new ≡ store.old) }
+        ensures leaves { ChangesOne (name_of self.old) (S.seen store.old) (S.seen store.new) }
+        ensures name { name_of self.new ≡ name_of self.old }
+        ensures empty { OnOk result (pages_of self.new ≡ []) }
+        ensures kept { OnErr result (pages_of self.new ≡ pages_of self.old) }
+    {
+        write_pages(store, self.name.as_str(), &self.held)?;
+        self.clear();
+        Ok(())
+    }
+
+    /// Empties the buffer, and writes nothing.
+    pub fn clear(&mut self)
+        ensures name { name_of self.new ≡ name_of self.old }
+        ensures empty { pages_of self.new ≡ [] }
+    {
+        self.held.clear();
+    }
+
+    /// The place of block `number`, which is read from the file where it is not buffered.
+    fn bring<S: Store>(&mut self, store: &mut S, number: u32) -> Result<usize, StoreFault>
+        requires { HasRoomFor (pages_of self.old) number }
+        ensures place { IfOk result (λ place. HasAt place number self.new) }
+        ensures looked { OnOk result (LooksAt S.tells
+            (bytes_of (S.seen store.old).files (name_of self.old)) number self.old self.new) }
+        ensures kept { OnErr result (StaysAsItWas self.old self.new) }
+        ensures buffered { is_buffered (pages_of self.old) number ≡ true → (IsOk result) × (store.new ≡ store.old) }
+        ensures reads { (S.seen store.new).reads ≡ (if is_buffered (pages_of self.old) number
+            then (S.seen store.old).reads else counted (S.seen store.old).reads) }
+        ensures cause { OnErr result (Rose (S.seen store.old).faults (S.seen store.new).faults) }
+        ensures leaves { OnlyReads (name_of self.old) (S.seen store.old) (S.seen store.new) }
+        ensures synced { OnOk result (AddsNone (S.seen store.old).unsynced (S.seen store.new).unsynced) }
+    {
+        match self.held.place_of(number) {
+            Some(place) => Ok(place),
+            None => self.read_in(store, number),
+        }
+    }
+
+    /// Reads block `number` from the file, and answers its place.
+    fn read_in<S: Store>(&mut self, store: &mut S, number: u32) -> Result<usize, StoreFault>
+        requires room { length (pages_of self.old) < 12 }
+        requires absent { is_buffered (pages_of self.old) number ≡ false }
+        ensures place { IfOk result (λ place. HasAt place number self.new) }
+        ensures looked { OnOk result (LooksAt S.tells
+            (bytes_of (S.seen store.old).files (name_of self.old)) number self.old self.new) }
+        ensures kept { OnErr result (StaysAsItWas self.old self.new) }
+        ensures reads { (S.seen store.new).reads ≡ counted (S.seen store.old).reads }
+        ensures cause { OnErr result (Rose (S.seen store.old).faults (S.seen store.new).faults) }
+        ensures leaves { OnlyReads (name_of self.old) (S.seen store.old) (S.seen store.new) }
+        ensures synced { OnOk result (AddsNone (S.seen store.old).unsynced (S.seen store.new).unsynced) }
+    {
+        let block = read_block(store, self.name.as_str(), number)?;
+        let place = self.held.count();
+        self.held.push(number, block);
+        Ok(place)
+    }
+}
