@@ -18,7 +18,7 @@ use Rattle.command_words.specs.declared.reading.UsageFault.{UsageFault}
 use Rattle.command_words.specs.declared.reading.UsageFault.TheVariants.{Usage as UsageOf, Memory as NoMemory}
 use Rattle.command_words.specs.Usage.{IsUsageFault, usage_refusal}
 use Rattle.command_words.specs.Asked.{command_of}
-use Rattle.command_words.proofs.SourceNameLemmas.{HasSourceName, asked_named}
+use Rattle.command_words.proofs.KnownLemmas.{IsKnown, is_known}
 use Rattle.command_words.proofs.NameLemmas.{never_new}
 use Rattle.run_steps.specs.Done.{RunSeen, RunTells}
 use Rattle.run_steps.specs.Naming.{NamesMayRefuse}
@@ -218,14 +218,15 @@ usage_not_read (Err refusal) NoMemory is = absurd (cc)
 -- What is known of a command that was read.
 
 -- a conversion reads no file under whose name a new one is written first, where it reads one that has the name of a file
-named_known : (command : Command) → HasSourceName command → CanServe command → (described command).known
-named_known (Convert kind old new source target) named can = never_new source target named
-named_known (Serve format calls port exports) named can = can
-named_known _ named can = tt
+known_by : (command : Command) → IsKnown command → CanServe command → (described command).known
+known_by (Convert kind old new source target) named can = never_new source target named
+known_by (Serve format calls port exports) known can = can
+known_by (Generate seed count file) few can = omega (arith, few)
+known_by _ known can = tt
 
 -- what is known of a command that words ask for
 pub read_known : (in_script : Bool) (words : List (List ℕ)) (command : Command) → command_of in_script words ≡ Ok command → (described command).known
-read_known in_script words command is = named_known command (asked_named in_script words command is) (asked_serves in_script words command is)
+read_known in_script words command is = known_by command (is_known in_script words command is) (asked_serves in_script words command is)
 
 -- what is known of what words ask for
 pub asked_known : (table : Command → Description) (asked : Result Command Refusal) → ((command : Command) → asked ≡ Ok command → (table command).known) → (asked_by table asked).known

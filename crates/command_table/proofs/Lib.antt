@@ -1,5 +1,6 @@
 pub mod CommandLemmas
 pub mod FullLemmas
+pub mod InputLemmas
 pub mod LookLemmas
 pub mod StepLemmas
 pub mod SureLemmas

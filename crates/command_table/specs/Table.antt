@@ -170,7 +170,7 @@ serving format calls exports = record {
   suffices = λ (invocation : Invocation) (old : Outside). (exported : Exported) × AreExported format old.files exports nothing_exported exported;
 }
 
--- A file out of a listing that is made, and a line on it. A count is one of 32 bits.
+-- A file out of a listing that is made, and a line on it. A count is one of 32 bits: no words ask for another one.
 abbrev pub generating : (seed count : ℕ) → List ℕ → Description
 generating seed count file = record {
   steps = λ (invocation : Invocation). GenerateSteps seed count file invocation.now;
@@ -178,7 +178,7 @@ generating seed count file = record {
   may = GenerateMayRefuse file;
   faulty = None;
   replaces = None;
-  known = ⊤;
+  known = count < 2 ^ 32;
   unfinished = λ (invocation : Invocation) (tells : RunTells) (old new : RunSeen). ⊤;
   full = edits_none;
   links = links_as generate_uses;

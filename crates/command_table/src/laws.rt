@@ -1,8 +1,9 @@
 //! Laws of what commands mean: which conditions make no step of one refused, what is known of the words of one, and that the same
 //! views give the same effects.
 
-ghost use Rattle.std.specs.Prelude.{◌≡◌, Bool, Contains, List, ℕ};
+ghost use Rattle.std.specs.Prelude.{◌≡◌, Bool, Contains, List, false, true, ℕ};
 ghost use Rattle.command_words.specs.Asked.{command_of};
+ghost use Rattle.refusals.specs.declared.cause.Cause.TheVariants.{SourceFault};
 ghost use Rattle.command_words.specs.declared.command.Command.{Command};
 ghost use Rattle.command_table.specs.Table.{asked_by, described};
 ghost use Rattle.command_table.specs.Views.{AreAlike, SameUnlessFull, looks_of};
@@ -21,6 +22,13 @@ pub fn conditions_make_no_step_refused()
 /// What is known of the words of a command holds wherever words ask for it, in a script too.
 pub fn words_ask_for_what_is_known()
     ensures { (in_script : Bool) (words : List (List ℕ)) → (asked_by described (command_of in_script words)).known }
+{}
+
+/// Words in a line of a script never use the standard input, which is the script's, and are not refused for a fault of it: what reads
+/// an input there names a file.
+pub fn words_in_a_script_use_no_input()
+    ensures uses { (words : List (List ℕ)) → (asked_by described (command_of true words)).uses.input ≡ false }
+    ensures may { (words : List (List ℕ)) (name : List ℕ) → (asked_by described (command_of true words)).may SourceFault name → ⊥ }
 {}
 
 /// The same views give the same effects of a command. Two worlds are alike for it where each quota file that it comes to open is seen

@@ -1,3 +1,5 @@
+pub mod FormedLemmas
+pub mod InScriptLemmas
+pub mod KnownLemmas
 pub mod NameLemmas
 pub mod OperandLemmas
-pub mod SourceNameLemmas

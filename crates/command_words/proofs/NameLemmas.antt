@@ -1,6 +1,6 @@
 -- The names of the files of a conversion: the one that is converted has no name under which a new file is written first.
-use Rattle.std.proofs.Common.{if◌then◌else◌, ◌≡◌, ◌≢◌, ◌∙◌, ℕ, ◌-◌, Bool, true, false, not, ◌&&◌, List, ◌++◌, length, drop, Result, Ok, Err, refl, ap, arith, length-append}
-use Rattle.std.specs.Prelude.{IfOk, codes, nat_le}
+use Rattle.std.proofs.Common.{◌≡◌, ◌≢◌, ◌∙◌, ℕ, ◌-◌, Bool, true, false, not, ◌&&◌, List, ◌++◌, length, drop, refl, ap, arith, length-append}
+use Rattle.std.specs.Prelude.{codes, nat_le}
 use Rattle.std.specs.List.{list_all}
 use Rattle.std.specs.Str.{bytes_eq}
 use Rattle.std.proofs.Math.Seq.{drop-append_seam}

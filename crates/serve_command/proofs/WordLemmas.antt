@@ -13,43 +13,24 @@ use Rattle.quota_blocks.specs.QuotaFile.{FileSeen}
 use Rattle.quota_blocks.proofs.WorldLemmas.{bytes_eq-true}
 use Rattle.rquota_serve.specs.Exported.{kinds_eq, names_eq}
 use Rattle.rquota_serve.specs.Exports.{ExportSeen, is_exported as is_served, is_named}
-use Rattle.refusals.specs.declared.cause.UsageKind.TheVariants.{UnknownCommand, Excludes, MissingOption, BadValue, BadFileName, Repeated}
+use Rattle.refusals.specs.declared.cause.UsageKind.TheVariants.{BadValue, BadFileName, Repeated}
 use Rattle.option_words.specs.declared.export.Export.{Export}
 use Rattle.option_words.specs.declared.fault.Fault.{Fault}
-use Rattle.option_words.specs.declared.given.Conversion.{Conversion}
 use Rattle.option_words.specs.declared.switch.Setting.{Setting}
 use Rattle.option_words.specs.declared.switch.Setting.TheVariants.{QuotaFormat, Names, Proto, Input, Device, Formats, Calls, Port}
-use Rattle.option_words.specs.declared.tool.Tool.{Tool}
-use Rattle.option_words.specs.Fault.{fault, unless, with_value, ◌>>=◌}
+use Rattle.option_words.specs.Fault.{fault, unless, with_value}
 use Rattle.option_words.specs.FileName.{is_file_name}
 use Rattle.option_words.specs.Given.{Told, has, is_exported, kind_word, nothing_told, put, put_export, with_item, with_items}
-use Rattle.option_words.specs.Items.{AnyWord, Item, Operand, Raised, Set, Exported, Unknown, Unfinished, Plain, items_of, operands_in}
-use Rattle.option_words.specs.Tools.{tool_of}
+use Rattle.option_words.specs.Items.{Item, Raised, Set, Exported, Unknown, Unfinished, Plain}
 use Rattle.option_words.specs.Values.{conversion_of, format_of, is_export_path, kind_of, number_within, within}
-use Rattle.command_words.specs.Asked.{asked, asked_of, command_of, may_stand, refused, settled}
-use Rattle.command_words.specs.Modes.{common_of, excludes, formed, is_value, kind_asked, lacks, mode_of, named}
+use Rattle.command_words.specs.Asked.{command_of}
+use Rattle.command_words.specs.Modes.{mode_of}
 use Rattle.command_words.specs.declared.command.Command.{Command}
-use Rattle.command_words.specs.declared.command.Command.TheVariants.{CopyLimits, Batch, Convert, Serve, Generate}
 use Rattle.command_words.specs.declared.mode.Mode.{Mode}
 use Rattle.command_words.specs.declared.mode.Mode.TheVariants.{Reporting, Limiting, Copying, Batching, SettingGrace, SettingTimes, Printing, Applying, Checking, Converting, Serving, Scripting, Generating}
+use Rattle.command_words.proofs.FormedLemmas.{HoldsOfFormed, holds_of_asked, then_ok, unless_ok, with_value_ok}
 use Rattle.serve_command.specs.Serve.{MayExport}
 use Rattle.serve_command.specs.Words.{CanServe}
-
--- a step that met no fault had none before it
-unless_ok : {A : Type 0} (wrong : Bool) (met : Fault) (next : Result A Fault) (value : A) → unless wrong met next ≡ Ok value → (wrong ≡ false) × (next ≡ Ok value)
-unless_ok true met next value is = absurd (cc)
-unless_ok false met next value is = (refl, is)
-
--- a step over a value that met no fault had the value
-with_value_ok : {A B : Type 0} (given : Option A) (met : Fault) (next : A → Result B Fault) (value : B) → with_value given met next ≡ Ok value
-    → (x : A) × (given ≡ Some x) × (next x ≡ Ok value)
-with_value_ok (Some x) met next value is = (x, refl, is)
-with_value_ok None met next value is = absurd (cc)
-
--- a step behind another one had what that one gave
-then_ok : {A B : Type 0} (step : Result A Fault) (next : A → Result B Fault) (value : B) → step >>= next ≡ Ok value → (x : A) × (step ≡ Ok x) × (next x ≡ Ok value)
-then_ok (Ok x) next value is = (x, refl, is)
-then_ok (Err met) next value is = absurd (cc)
 
 -- Exports behind exports.
 
@@ -185,62 +166,23 @@ given_items (item ∷ items) told new is given =
 
 -- What is asked for.
 
-serves_as : (this command : Command) → ◌≡◌ {A = Result Command Fault} (Ok this) (Ok command) → CanServe this → CanServe command
-serves_as this command is can = let same : this ≡ command = cc in subst CanServe same can
-
-serves_formed : (mode : Mode) (told : Told) (words : ℕ) (operands : List Operand) (command : Command) → IsGiven told → formed mode told words operands ≡ Ok command → CanServe command
-serves_formed Reporting told words (file ∷ []) command given is = serves_as _ command (unless_ok _ _ _ command is).1 tt
-serves_formed Limiting told words (name ∷ bsoft ∷ bhard ∷ isoft ∷ ihard ∷ file ∷ []) command given is = serves_as _ command (unless_ok _ _ _ command is).1 tt
-serves_formed Copying told words (name ∷ file ∷ []) command given is =
-    let next : List ℕ → Result Command Fault = λ proto. Ok (CopyLimits (common_of told) proto name.text file.text) in
-    let inner : with_value told.proto (fault MissingOption words) next ≡ Ok command = (unless_ok _ _ _ command is).1 in
-    serves_as _ command (with_value_ok told.proto (fault MissingOption words) next command inner).2 tt
-serves_formed Batching told words (file ∷ []) command given is =
-    let inner : unless (is_value file told.input) (fault BadFileName file.word) (Ok (Batch (common_of told) told.input file.text)) ≡ Ok command =
-    (unless_ok _ _ _ command is).1 in
-    serves_as _ command (unless_ok _ _ _ command inner).1 tt
-serves_formed SettingGrace told words (block ∷ inode ∷ file ∷ []) command given is = serves_as _ command (unless_ok _ _ _ command is).1 tt
-serves_formed SettingTimes told words (name ∷ block ∷ inode ∷ file ∷ []) command given is = serves_as _ command (unless_ok _ _ _ command is).1 tt
-serves_formed Printing told words (name ∷ file ∷ []) command given is = serves_as _ command (unless_ok _ _ _ command is).1 tt
-serves_formed Applying told words (name ∷ file ∷ []) command given is = serves_as _ command (unless_ok _ _ _ command is).1 tt
-serves_formed Checking told words (file ∷ []) command given is = serves_as _ command (unless_ok _ _ _ command is).1 tt
-serves_formed Converting told words (source ∷ target ∷ []) command given is =
-    let next : Conversion → Result Command Fault = λ formats. Ok (Convert (kind_asked told.flags) formats.old formats.new source.text target.text) in
-    let outer : named target (with_value told.conversion (fault MissingOption words) next) ≡ Ok command = (unless_ok _ _ _ command is).1 in
-    let inner : with_value told.conversion (fault MissingOption words) next ≡ Ok command = (unless_ok _ _ _ command outer).1 in
-    serves_as _ command (with_value_ok told.conversion (fault MissingOption words) next command inner).2 tt
-serves_formed Serving told words [] command given is =
-    let next : ℕ → ℕ → Result Command Fault = λ calls port. Ok (Serve told.format calls port told.exports) in
-    let outer = with_value_ok told.calls (fault MissingOption words) (λ calls. with_value told.port (fault MissingOption words) (next calls)) command is in
-    serves_as _ command (with_value_ok told.port (fault MissingOption words) (next outer.0) command outer.2).2
-    (subst (λ (n : Option ℕ). IfSome n (λ (m : ℕ). 0 < m)) outer.1 given.calls, given.exports)
-serves_formed Scripting told words [] command given is = serves_as _ command is tt
-serves_formed Generating told words (seed ∷ count ∷ file ∷ []) command given is =
-    let last : ℕ → ℕ → Result Command Fault = λ s c. named file (Ok (Generate s c file.text)) in
-    let lines : ℕ → Result Command Fault = λ s. with_value (number_within 1 1000000 count.text) (fault BadValue count.word) (last s) in
-    let outer = with_value_ok (number_of seed.text) (fault BadValue seed.word) lines command is in
-    let inner = with_value_ok (number_within 1 1000000 count.text) (fault BadValue count.word) (last outer.0) command outer.2 in
-    serves_as _ command (unless_ok _ _ _ command inner.2).1 tt
-serves_formed _ told words operands command given is = absurd (cc)
-
-refused_ok : (asks : Result Command Fault) (command : Command) → refused asks ≡ Ok command → asks ≡ Ok command
-refused_ok (Ok this) command is = let same : this ≡ command = cc in ap (λ (c : Command). Ok c) same
-refused_ok (Err met) command is = absurd (cc)
+-- what a mode forms may be served, where it answers calls
+serves_by : (mode : Mode) (told : Told) → IsGiven told → HoldsOfFormed CanServe mode told
+serves_by Reporting told given = λ file. tt
+serves_by Limiting told given = λ name limits file. tt
+serves_by Copying told given = λ proto name file. tt
+serves_by Batching told given = λ file. tt
+serves_by SettingGrace told given = λ block inode file. tt
+serves_by SettingTimes told given = λ name block inode file. tt
+serves_by Printing told given = λ name file. tt
+serves_by Applying told given = λ name file. tt
+serves_by Checking told given = λ file. tt
+serves_by Converting told given = λ old new source target is. tt
+serves_by Serving told given = λ calls port is. (subst (λ (n : Option ℕ). IfSome n (λ (m : ℕ). 0 < m)) is given.calls, given.exports)
+serves_by Scripting told given = tt
+serves_by Generating told given = λ seed count file few. tt
 
 -- words that ask for calls to be answered ask for one at least, and for files that may be exported
 pub asked_serves : (in_script : Bool) (words : List (List ℕ)) (command : Command) → command_of in_script words ≡ Ok command → CanServe command
-asked_serves in_script [] command is = absurd (cc)
-asked_serves in_script (name ∷ texts) command is =
-    let next : Tool → Result Command Fault = λ t. unless (not (may_stand in_script t)) (fault UnknownCommand 0) (asked_of in_script t texts) in
-    let found = with_value_ok (tool_of name) (fault UnknownCommand 0) next command (refused_ok (asked in_script (name ∷ texts)) command is) in
-    let tool = found.0 in
-    let items = items_of tool AnyWord 1 texts in
-    let words = length texts + 1 in
-    let asks = (unless_ok (not (may_stand in_script tool)) (fault UnknownCommand 0) (asked_of in_script tool texts) command found.2).1 in
-    let given = then_ok (with_items items nothing_told) (λ (told : Told). settled in_script tool told words items) command asks in
-    let told = given.0 in
-    let outer : unless (lacks in_script tool told) (fault MissingOption words) (formed (mode_of tool told) told words (operands_in items)) ≡ Ok command =
-    (unless_ok (excludes tool told) (fault Excludes words) _ command given.2).1 in
-    serves_formed (mode_of tool told) told words (operands_in items) command
-    (given_items items nothing_told told given.1 (record { calls = tt; exports = tt }))
-    (unless_ok (lacks in_script tool told) (fault MissingOption words) _ command outer).1
+asked_serves in_script words command = holds_of_asked in_script CanServe words command
+    (λ tool items told given whole. serves_by (mode_of tool told) told (given_items items nothing_told told given (record { calls = tt; exports = tt })))
