@@ -2,8 +2,13 @@
 use Rattle.std.proofs.Common.{◌≡◌, ℕ, Bool, true, false, IsTrue, List, Ok, Err, Result, subst}
 use Rattle.refusals.specs.declared.reason.Refusal.{Refusal}
 use Rattle.command_words.specs.declared.command.Command.{Command}
+use Rattle.command_words.specs.declared.command.Command.TheVariants.{Script}
 use Rattle.command_words.specs.Asked.{command_of}
-use Rattle.run_steps.specs.Done.{Outside}
+use Rattle.command_words.specs.Usage.{IsUsageFault, usage_refusal}
+use Rattle.command_words.specs.declared.reading.UsageFault.{UsageFault}
+use Rattle.command_words.specs.declared.reading.UsageFault.TheVariants.{Usage as UsageOf, Memory as NoMemory}
+use Rattle.script_lines.specs.declared.script.ScriptFault.TheVariants.{Memory as ScriptWantsMemory}
+use Rattle.run_steps.specs.Done.{Outside, RunSeen, RunTells}
 use Rattle.run_steps.specs.Meaning.{IsSure}
 use Rattle.run_steps.specs.OneCommand.{LooksFirst, ReadsToEnd}
 use Rattle.run_steps.specs.declared.invocation.Invocation.{Invocation}
@@ -14,9 +19,9 @@ use Rattle.command_table.proofs.FullLemmas.{IsFullSo, asked_by_full, command_ful
 use Rattle.command_table.proofs.StepLemmas.{command_looks, command_reads}
 use Rattle.command_table.proofs.SureLemmas.{asked_sure, command_sure}
 use Rattle.quota_cli.specs.Headline.{Setting, asked, steps_asked, uses_asked}
-use Rattle.quota_cli.specs.Script.{commanded, is_script, script_or, scripting}
+use Rattle.quota_cli.specs.Script.{StandsInScript, commanded, is_script, script_or, scripting}
 use Rattle.quota_cli.proofs.ScriptFullLemmas.{script_full}
-use Rattle.quota_cli.proofs.ScriptLemmas.{script_reads, script_sure}
+use Rattle.quota_cli.proofs.ScriptLemmas.{script_reads, script_sure, unread_stands}
 
 -- Rows of the table of the command line: a script, or another command.
 
@@ -55,6 +60,11 @@ spares_by false command one = spares_single command one
 pub spares_commanded : (command : Command) → (commanded command).uses.reads_commands ≡ false → Spares (commanded command).may
 spares_commanded command = spares_by (is_script command) command
 
+-- another command reads no commands
+pub reads_no_commands : (command : Command) → false ≡ is_script command → IsTrue (commanded command).uses.reads_commands → ⊥
+reads_no_commands Script is reads = absurd (cc)
+reads_no_commands _ is reads = absurd (cc)
+
 known_by : (script : Bool) (command : Command) → (described command).known → (script_or script (described command)).known
 known_by true command known = tt
 known_by false command known = known
@@ -64,6 +74,13 @@ pub commanded_known : (words : List (List ℕ)) (command : Command) → command_
 commanded_known words command is = known_by (is_script command) command (read_known false words command is)
 
 -- What words ask for.
+
+-- what is said of words that were not read stands in no line, where they ask for a script
+pub words_stand : (asks : Result Command Refusal) (fault : UsageFault) (now : ℕ) (tells : RunTells) (old : RunSeen) → IsUsageFault asks fault → IsTrue (asked_by commanded asks).uses.reads_commands
+    → StandsInScript now tells old old (usage_refusal fault)
+words_stand (Ok command) (UsageOf kind word) now tells old is reads = absurd (cc)
+words_stand (Ok command) NoMemory now tells old is reads = unread_stands now tells old old ScriptWantsMemory
+words_stand (Err refusal) fault now tells old is reads = absurd (cc)
 
 asked_by_looks : (asks : Result Command Refusal) (invocation : Invocation) → (asked_by commanded asks).uses.reads_commands ≡ false → LooksFirst true true ((asked_by commanded asks).steps invocation)
 asked_by_looks (Ok command) invocation one = looks_by (is_script command) command invocation one

@@ -18,6 +18,7 @@ use Rattle.run_steps.specs.Meaning.{EndsBy, IsSure, closing}
 use Rattle.run_steps.specs.OneCommand.{AreReceived, ReadsToEnd, Receives}
 use Rattle.run_steps.specs.Run.{CarriesOut, HasFailed, HasReason, HasSteps, IsDoneInPart, Uses}
 use Rattle.quota_cli.specs.Headline.{HasEffect, HasEffectUpToErr, HasSaid, IsRefusedWord, IsStopped, Keeps, Setting, asked, steps_asked, uses_asked}
+use Rattle.quota_cli.specs.Script.{StandsInScript}
 use Rattle.command_words.specs.Asked.{command_of}
 use Rattle.command_table.specs.Description.{IsOnlyRead, StopsIt, IsCarriedOut}
 use Rattle.run_steps.proofs.ActLemmas.{done_and_said, more_err, nothing_before}
@@ -29,6 +30,10 @@ use Rattle.quota_cli.proofs.AskedLemmas.{setting_full}
 -- the steps of what the words of a setting ask for were carried out
 abbrev AskedCarried : Setting → RunTells → RunSeen → RunSeen → Result (Unit {0}) Refusal → Type 0
 AskedCarried setting = CarriesOut (steps_asked setting) (uses_asked setting) (asked setting).may
+
+-- what is refused stands in the script, where the words ask for one
+abbrev AreStanding : Setting → RunTells → (old new : RunSeen) → Result (Unit {0}) Refusal → Type 0
+AreStanding setting tells old new result = IsTrue (uses_asked setting).reads_commands → IfErr result (StandsInScript setting.invocation.now tells old new)
 
 -- A run ended: the status is that of what was carried out, and the error line of a refusal was written, up to a fault of
 -- the error output.
@@ -175,15 +180,16 @@ stops_it status other is (inr five) = inr (sym is ∙ five)
 
 run_stopped : (setting : Setting) (tells : RunTells) (old new : RunSeen) (said : SinkSeen) (result : Result (Unit {0}) Refusal) (status : ℕ)
     → AskedCarried setting tells old new result → IfErr result (λ (refusal : Refusal). refusal.cause ≡ LinkFault → (asked setting).unfinished setting.invocation tells old new)
-    → (IsTrue (uses_asked setting).reads_commands → IfErr result (λ (refusal : Refusal). StopsIt refusal.cause → refusal.place.line ≡ None → IsOnlyRead old new)) → IsFinished tells new.err said result status
+    → (IsTrue (uses_asked setting).reads_commands → IfErr result (λ (refusal : Refusal). StopsIt refusal.cause → refusal.place.line ≡ None → IsOnlyRead old new))
+    → AreStanding setting tells old new result → IsFinished tells new.err said result status
     → (status ≡ 4) ⊎ (status ≡ 5) → IsStopped setting tells old (once_said new said) status
-run_stopped setting tells old new said (Ok value) status carries unfinished unbegun finished ends = absurd (stopped_not status 0 finished.status_is (λ e. omega (arith, e)) (λ e. omega (arith, e)) ends)
-run_stopped setting tells old new said (Err refusal) status carries unfinished unbegun finished ends = record {
+run_stopped setting tells old new said (Ok value) status carries unfinished unbegun stands finished ends = absurd (stopped_not status 0 finished.status_is (λ e. omega (arith, e)) (λ e. omega (arith, e)) ends)
+run_stopped setting tells old new said (Err refusal) status carries unfinished unbegun stands finished ends = record {
   refusal = refusal;
   before = new;
   all_else = refl;
   reason = by_case (reason_case setting tells old new refusal carries);
-  placed = carries.placed;
+  placed = record { by_uses = carries.placed; in_script = stands };
   status_is = finished.status_is;
   quiet = carries.quiet;
   line = finished.written;
@@ -212,16 +218,16 @@ run_complete setting tells old new said (Err refusal) status carries finished to
         absurd (none-some refusal (sym (sure_ends (steps_asked setting) (outside_of old) has.acts (outside_of new) (Some refusal) sure has.by_steps)))
 
 run_says : (setting : Setting) (tells : RunTells) (old new : RunSeen) (said : SinkSeen) (result : Result (Unit {0}) Refusal) (status : ℕ)
-    → AskedCarried setting tells old new result → IsFinished tells new.err said result status
+    → AskedCarried setting tells old new result → AreStanding setting tells old new result → IsFinished tells new.err said result status
     → HasSaid setting tells old (once_said new said) status
-run_says setting tells old new said (Ok value) status carries finished =
+run_says setting tells old new said (Ok value) status carries stands finished =
     inl (finished.status_is, λ no told. nothing_said new.err said (finished.written told) ∙ ap (λ (s : SinkSeen). s.written) (carries.quiet no))
-run_says setting tells old new said (Err refusal) status carries finished = inr (record {
+run_says setting tells old new said (Err refusal) status carries stands finished = inr (record {
   refusal = refusal;
   before = new.err;
   later = carries.later.err;
   may = carries.may_refuse;
-  placed = carries.placed;
+  placed = record { by_uses = carries.placed; in_script = stands };
   reason = reason_but_stated (uses_asked setting) old new _ ⊤ refusal.cause (λ _. tt) carries.refused;
   status_is = finished.status_is;
   quiet = carries.quiet;
@@ -292,13 +298,13 @@ run_untaken same (Err refusal) status is kept five = kept (sym is ∙ five)
 
 -- what else a run keeps
 pub run_keeps : (setting : Setting) (tells : RunTells) (old new : RunSeen) (said : SinkSeen) (result : Result (Unit {0}) Refusal) (status : ℕ)
-    → IsCarriedOut (asked setting) setting.invocation tells old new result → IsFinished tells new.err said result status
+    → IsCarriedOut (asked setting) setting.invocation tells old new result → AreStanding setting tells old new result → IsFinished tells new.err said result status
     → ((uses_asked setting).reads_commands ≡ false → IsErrAnd result (λ (refusal : Refusal). status_of refusal.cause ≡ 2) ↔ IsErr (command_of false setting.words))
     → ((refusal : Refusal) → (asked setting).faulty ≡ Some refusal → (new.err ≡ old.err) × IsErrAnd result (λ (answered : Refusal). (answered ≡ refusal) ⊎ (answered.cause ≡ Memory)))
     → Keeps setting tells old (once_said new said) status
-run_keeps setting tells old new said result status carried finished usage words = record {
+run_keeps setting tells old new said result status carried stands finished usage words = record {
   done = run_done setting tells old new said result status carried.carries finished;
-  stopped = run_stopped setting tells old new said result status carried.carries carried.unfinished carried.unbegun finished;
+  stopped = run_stopped setting tells old new said result status carried.carries carried.unfinished carried.unbegun stands finished;
   part = run_part setting tells old new said result carried.carries;
   complete = run_complete setting tells old new said result status carried.carries finished;
   usage = λ no.
@@ -308,7 +314,7 @@ run_keeps setting tells old new said result status carried finished usage words 
   words = λ refusal faulty.
       let own = words refusal faulty in
       run_words setting tells old new said result status refusal carried.carries finished own.0 own.1;
-  says = run_says setting tells old new said result status carried.carries finished;
+  says = run_says setting tells old new said result status carried.carries stands finished;
   writes = run_writes setting tells old new said result status carried.carries finished;
   named = run_named (asked setting).replaces (λ (file : List ℕ). IsTrue tells.store → new.store.files file ≡ old.store.files file) result status finished.status_is carried.named;
   synced = run_synced (IsTrue tells.store → AddsNone old.store.unsynced new.store.unsynced) result status finished.status_is carried.synced;

@@ -1,6 +1,6 @@
 -- Lines of a script that were carried out, one after another, and the script that they stand in.
 use Rattle.std.proofs.Common.{◌≡◌, ◌≤◌, ◌<◌, ◌+◌, ◌⊎◌, ℕ, Bool, true, false, cond, IsTrue, List, [], ◌∷◌, Option, None, Some, Ok, Err, Result, inl, inr, refl, sym, ap, subst, ◌∙◌, arith}
-use Rattle.std.specs.Prelude.{map, ◌&&◌, ◌||◌, IfErr, IfSome, OnOk, is_none}
+use Rattle.std.specs.Prelude.{map, ⊤, ◌&&◌, ◌||◌, IfErr, IfSome, IsSome, OnOk, is_none}
 use Rattle.std.specs.Result.{result_err}
 use Rattle.std.specs.Str.{is_utf8}
 use Rattle.std.proofs.lemmas.Bool.{false≢true, le-leb}
@@ -13,11 +13,11 @@ use Rattle.quota_blocks.specs.Seen.{SourceSeen}
 use Rattle.quota_blocks.specs.Words.{words_of}
 use Rattle.quota_blocks.proofs.FrameLemmas.{adds_none-then, only_reads-none}
 use Rattle.refusals.specs.declared.cause.Cause.{Cause}
-use Rattle.refusals.specs.declared.cause.Cause.TheVariants.{LinkFault, TooLarge, LongLine, BadLine, Memory}
+use Rattle.refusals.specs.declared.cause.Cause.TheVariants.{LinkFault, SourceFault, TooLarge, LongLine, BadLine, Memory}
 use Rattle.refusals.specs.declared.reason.Place.{Place}
 use Rattle.refusals.specs.declared.reason.Refusal.{Refusal}
 use Rattle.refusals.specs.Outcome.{Passed, Refused}
-use Rattle.refusals.specs.Refusals.{in_line, refusal_of}
+use Rattle.refusals.specs.Refusals.{in_line, nowhere, refusal_of}
 use Rattle.run_steps.specs.Done.{Outside, RunSeen, RunTells, outside_of}
 use Rattle.run_steps.specs.Meaning.{IsSure, IsTaken}
 use Rattle.run_steps.specs.OneCommand.{ReadsToEnd}
@@ -27,6 +27,7 @@ use Rattle.run_steps.specs.declared.invocation.Invocation.{Invocation}
 use Rattle.run_steps.proofs.CarryingLemmas.{MayUseAll, carried_before, carried_in_line, carried_stopped, finish_carried, lined}
 use Rattle.run_steps.proofs.OpeningLemmas.{with_input}
 use Rattle.run_steps.proofs.PartLemmas.{nothing_begun}
+use Rattle.run_steps.proofs.ReasonLemmas.{reason_but_stated}
 use Rattle.run_steps.proofs.PhaseLemmas.{LeadsTo, carries_more, carries_since, leads_reading, nothing_carried, placed_nowhere, stop_carried}
 use Rattle.script_lines.specs.Script.{IsOfScript, LineSaid, ScriptMayRefuse, ScriptSaid, lines_say, says_then, script_refusal, script_said}
 use Rattle.run_steps.specs.InputLine.{says_nothing}
@@ -35,17 +36,23 @@ use Rattle.script_lines.specs.declared.script.ScriptFault.{ScriptFault}
 use Rattle.script_lines.specs.declared.script.ScriptFault.TheVariants.{Source, Memory as NoMemory}
 use Rattle.command_table.specs.Description.{IsCarriedOut, StopsIt}
 use Rattle.command_table.specs.Table.{asked_by, described}
+use Rattle.command_table.proofs.InputLemmas.{spares_input}
 use Rattle.command_table.proofs.SureLemmas.{asked_sure, command_sure}
-use Rattle.quota_cli.specs.Carrying.{AreCarried, Ascends, IsLineCarried, IsOneOf, unread_cause}
-use Rattle.quota_cli.specs.Script.{IsLeftUnfinished, LineSteps, LinesSteps, LinesSuffice, RunningMayRefuse, ScriptSteps, asked_in_script, comes_to_link, is_come_to, is_up_to, line_invocation, script_uses, scripting}
+use Rattle.quota_cli.specs.Carrying.{AreCarried, Ascends, IsLineCarried, unread_cause}
+use Rattle.quota_cli.specs.Script.{ComesTo, IsLeftUnfinished, IsLineUnfinished, IsOfLine, IsOfLines, StandsInScript, LineSteps, LinesSteps, LinesSuffice, RunningMayRefuse, ScriptSteps, asked_in_script, comes_to_link, is_come_to, is_up_to, line_invocation, script_uses, scripting}
 
 -- The numbers of lines.
 
--- a line of lines whose numbers ascend from above one has a number above it
-above : (least number : ℕ) (lines : List LineSaid) → Ascends least lines → IsOneOf number lines → least < number
-above least number [] ascends one = absurd one
-above least number (line ∷ lines) ascends (inl is) = omega (arith, ascends.0, is)
-above least number (line ∷ lines) ascends (inr one) = let more = above line.number number lines ascends.1 one in omega (arith, ascends.0, more)
+-- a refusal in a line of lines whose numbers ascend from above one names a number above it
+above : (now least number : ℕ) (lines : List LineSaid) (tells : RunTells) (old new : RunSeen) (refusal : Refusal) → refusal.place.line ≡ Some number → Ascends least lines
+    → IsOfLines now lines tells old new refusal → least < number
+above now least number [] tells old new refusal named ascends one = absurd one
+above now least number (line ∷ lines) tells old new refusal named ascends (inl one) =
+    let both : Some number ≡ Some line.number = sym named ∙ one.named in
+    let same : number ≡ line.number = cc (both) in
+    omega (arith, ascends.0, same)
+above now least number (line ∷ lines) tells old new refusal named ascends (inr (middle, done, one)) =
+    let more = above now line.number number lines tells middle new refusal named ascends.1 one in omega (arith, ascends.0, more)
 
 ascends_then : (nothing utf8 : Bool) (least number : ℕ) (line : List ℕ) (more : ScriptSaid) → least < number → Ascends number more.lines → Ascends least more.lines
     → Ascends least (says_then (cond nothing (Passed None) (cond utf8 (Passed (Some (record { number = number; text = line }))) (Refused (script_refusal (BadLine number))))) more).lines
@@ -67,15 +74,17 @@ script_ascends bytes = lines_ascend (input_lines 4096 16777216 bytes) 0 1 (omega
 
 -- The lines that were come to.
 
-up_to : (place : Option ℕ) (line : LineSaid) (lines : List LineSaid) → Ascends line.number lines → IfSome place (λ (number : ℕ). IsOneOf number lines) → is_up_to place line.number ≡ true
-up_to None line lines ascends one = refl
-up_to (Some number) line lines ascends one = let more = above line.number number lines ascends one in le-leb line.number number (omega (arith, more))
+up_to : (place : Option ℕ) (now : ℕ) (line : LineSaid) (lines : List LineSaid) (tells : RunTells) (old new : RunSeen) (refusal : Refusal) → refusal.place.line ≡ place → Ascends line.number lines
+    → (IsSome place → IsOfLines now lines tells old new refusal) → is_up_to place line.number ≡ true
+up_to None now line lines tells old new refusal named ascends one = refl
+up_to (Some number) now line lines tells old new refusal named ascends one =
+    let more = above now line.number number lines tells old new refusal named ascends (one refl) in le-leb line.number number (omega (arith, more))
 
 -- a line is come to where the ones behind it were carried out
-come_to : (result : Result (Unit {0}) Refusal) (line : LineSaid) (lines : List LineSaid) → Ascends line.number lines
-    → IfErr result (λ (refusal : Refusal). IfSome refusal.place.line (λ (number : ℕ). IsOneOf number lines)) → is_come_to (result_err result) line ≡ true
-come_to (Ok value) line lines ascends one = refl
-come_to (Err refusal) line lines ascends one = up_to refusal.place.line line lines ascends one
+come_to : (now : ℕ) (line : LineSaid) (lines : List LineSaid) (tells : RunTells) (old new : RunSeen) (result : Result (Unit {0}) Refusal) → Ascends line.number lines
+    → IfErr result (λ (refusal : Refusal). IsSome refusal.place.line → IsOfLines now lines tells old new refusal) → is_come_to (result_err result) line ≡ true
+come_to now line lines tells old new (Ok value) ascends one = refl
+come_to now line lines tells old new (Err refusal) ascends one = up_to refusal.place.line now line lines tells old new refusal refl ascends one
 
 own_number : (place : Option ℕ) (number : ℕ) → place ≡ Some number → is_up_to place number ≡ true
 own_number None number is = absurd (cc)
@@ -97,16 +106,11 @@ pub lines_stopped : (now : ℕ) (line : LineSaid) (lines : List LineSaid) (ended
 lines_stopped now line lines ended tells old new refusal carried = record {
   carries = carried_stopped (LineSteps now line) (LinesSteps now lines ended) script_uses RunningMayRefuse tells old new refusal carried.carries;
   synced = tt;
-  unfinished = λ failed. inl (carried.unfinished failed);
-  lined = λ stopped none. none-some line.number (sym none ∙ carried.named);
-  within = subst (λ (place : Option ℕ). IfSome place (λ (number : ℕ). IsOneOf number (line ∷ lines))) (sym carried.named) (inl refl);
+  own = λ none. absurd (none-some line.number (sym none ∙ carried.of_line.named));
+  within = λ some. inl carried.of_line;
   unlinked = λ least ascends none.
-      carried.unlinked (second_false _ _ (own_number refusal.place.line line.number carried.named) (first_false _ _ none).0);
+      carried.unlinked (second_false _ _ (own_number refusal.place.line line.number carried.of_line.named) (first_false _ _ none).0);
 }
-
-within_more : (place : Option ℕ) (line : LineSaid) (lines : List LineSaid) → IfSome place (λ (number : ℕ). IsOneOf number lines) → IfSome place (λ (number : ℕ). IsOneOf number (line ∷ lines))
-within_more None line lines one = tt
-within_more (Some number) line lines one = inr one
 
 -- a line was carried out, and then the ones behind it
 pub lines_passed : (now : ℕ) (line : LineSaid) (lines : List LineSaid) (ended : Option Refusal) (tells : RunTells) (old middle new : RunSeen) (passed : Unit {0}) (result : Result (Unit {0}) Refusal)
@@ -114,13 +118,12 @@ pub lines_passed : (now : ℕ) (line : LineSaid) (lines : List LineSaid) (ended 
 lines_passed now line lines ended tells old middle new passed result first then = record {
   carries = carried_before (LineSteps now line) (LinesSteps now lines ended) script_uses RunningMayRefuse tells old middle new passed result refl first.carries then.carries;
   synced = on_ok_weaker result (λ added told. adds_none-then old.store.unsynced middle.store.unsynced new.store.unsynced (first.synced told) (added told)) then.synced;
-  unfinished = IfErr-weaker result _ _ (λ refusal left failed. inr (middle, record { done = first.carries.done; unlinked = first.unlinked; later = first.carries.later }, left failed)) then.unfinished;
-  lined = then.lined;
-  within = IfErr-weaker result _ _ (λ refusal one. within_more refusal.place.line line lines one) then.within;
+  own = then.own;
+  within = IfErr-weaker result _ _ (λ refusal one some. inr (middle, record { done = first.carries.done; unlinked = first.unlinked; later = first.carries.later }, one some)) then.within;
   unlinked = λ least ascends none.
       let parts = first_false (is_come_to (result_err result) line && (asked_in_script line.text).uses.link) (comes_to_link lines (result_err result)) none in
       then.unlinked line.number ascends.1 parts.1
-      ∙ first.unlinked (second_false (is_come_to (result_err result) line) _ (come_to result line lines ascends.1 then.within) parts.0);
+      ∙ first.unlinked (second_false (is_come_to (result_err result) line) _ (come_to now line lines tells middle new result ascends.1 then.within) parts.0);
 }
 
 -- no line is left, and the script is not refused itself
@@ -128,8 +131,7 @@ pub lines_done : (now : ℕ) (tells : RunTells) (old : RunSeen) (passed : Unit {
 lines_done now tells old passed = record {
   carries = finish_carried script_uses RunningMayRefuse tells old passed;
   synced = λ told name is. is;
-  unfinished = tt;
-  lined = tt;
+  own = tt;
   within = tt;
   unlinked = λ least ascends none. refl;
 }
@@ -151,21 +153,13 @@ own_no_stop TooLarge name may (inl is) = omega (arith, is)
 own_no_stop TooLarge name may (inr is) = omega (arith, is)
 own_no_stop _ name may stopped = absurd may
 
-no_link_fault : (cause : Cause) (name : List ℕ) → ScriptMayRefuse cause name → cause ≡ LinkFault → ⊥
-no_link_fault LinkFault name may is = may
-no_link_fault (BadLine line) name may is = absurd (cc)
-no_link_fault (LongLine line) name may is = absurd (cc)
-no_link_fault TooLarge name may is = absurd (cc)
-no_link_fault _ name may is = may
-
 -- no line is left, and the script is refused itself
 pub lines_refused : (now : ℕ) (tells : RunTells) (old : RunSeen) (refusal : Refusal) → IsOfScript refusal → AreCarried now [] (Some refusal) tells old old (Err refusal)
 lines_refused now tells old refusal own = record {
   carries = stop_carried script_uses RunningMayRefuse tells old refusal (own_reason refusal.cause refusal.name tells old own.may) (inr (inr (inl own.may))) (placed_nowhere script_uses refusal own.place);
   synced = tt;
-  unfinished = λ failed. absurd (no_link_fault refusal.cause refusal.name own.may failed);
-  lined = λ stopped none. own_no_stop refusal.cause refusal.name own.may stopped;
-  within = subst (λ (place : Option ℕ). IfSome place (λ (number : ℕ). ⊥)) (sym (ap (λ (p : Place). p.line) own.place)) tt;
+  own = λ none. own.may;
+  within = λ some. let none : IsSome nowhere.line = subst (λ (p : Place). IsSome p.line) own.place some in absurd (false≢true none);
   unlinked = λ least ascends none. refl;
 }
 
@@ -181,15 +175,15 @@ ok_in_line line holds (Ok passed) (Ok value) is holding = holding
 ok_in_line line holds (Err refusal) (Ok value) is holding = absurd (none-some _ is)
 ok_in_line line holds done (Err refusal) is holding = tt
 
--- what holds of a refusal and of its reason holds of it in a line
-err_in_line : (line : ℕ) (first second holds : Refusal → Type 0) (done result : Result (Unit {0}) Refusal) → result_err result ≡ in_line line (result_err done)
-    → ((refusal : Refusal) → first refusal → second refusal → holds (lined line refusal)) → IfErr done first → IfErr done second → IfErr result holds
-err_in_line line first second holds (Ok passed) (Ok value) is so one two = tt
-err_in_line line first second holds (Ok passed) (Err refusal) is so one two = absurd (none-some refusal (sym is))
-err_in_line line first second holds (Err refusal) (Ok value) is so one two = tt
-err_in_line line first second holds (Err refusal) (Err said) is so one two =
+-- what three facts say of a refusal holds of it in a line
+err_in_line : (line : ℕ) (first second third holds : Refusal → Type 0) (done result : Result (Unit {0}) Refusal) → result_err result ≡ in_line line (result_err done)
+    → ((refusal : Refusal) → first refusal → second refusal → third refusal → holds (lined line refusal)) → IfErr done first → IfErr done second → IfErr done third → IfErr result holds
+err_in_line line first second third holds (Ok passed) (Ok value) is so one two three = tt
+err_in_line line first second third holds (Ok passed) (Err refusal) is so one two three = absurd (none-some refusal (sym is))
+err_in_line line first second third holds (Err refusal) (Ok value) is so one two three = tt
+err_in_line line first second third holds (Err refusal) (Err said) is so one two three =
     let same : said ≡ lined line refusal = cc in
-    subst holds (sym same) (so refusal one two)
+    subst holds (sym same) (so refusal one two three)
 
 -- the link fails only for a command that uses it
 link_used : (uses : Uses) (old new : RunSeen) (stated : Type 0) (cause : Cause) → HasReason uses old new stated cause → cause ≡ LinkFault → IsTrue uses.link
@@ -200,14 +194,21 @@ pub line_carried : (now : ℕ) (line : LineSaid) (tells : RunTells) (old new : R
     → ((asked_in_script line.text).uses.link ≡ false → new.link ≡ old.link) → IsCarriedOut (asked_in_script line.text) (line_invocation now line) tells old new done → IsLineCarried now line tells old new result
 line_carried now line tells old new done result is unlinked carried =
     let asked = asked_in_script line.text in
+    let carries = carried_in_line line.number (asked.steps (line_invocation now line)) asked.uses script_uses RunningMayRefuse tells old new done result widest is
+    (carries_more (asked.steps (line_invocation now line)) asked.uses asked.may RunningMayRefuse tells old new done (λ cause name may. inr (inr (inr (line.text, may)))) carried.carries) in
     record {
-      carries = carried_in_line line.number (asked.steps (line_invocation now line)) asked.uses script_uses RunningMayRefuse tells old new done result widest is
-          (carries_more (asked.steps (line_invocation now line)) asked.uses asked.may RunningMayRefuse tells old new done (λ cause name may. inr (inr (inr (line.text, may)))) carried.carries);
+      carries = carries;
       synced = ok_in_line line.number _ done result is carried.synced;
-      unfinished = err_in_line line.number _ _ _ done result is
-          (λ refusal reason left failed. (link_used asked.uses old new _ refusal.cause reason failed, left failed)) carried.carries.refused carried.unfinished;
       unlinked = unlinked;
-      named = err_in_line line.number _ _ _ done result is (λ refusal reason left. refl) carried.carries.refused carried.unfinished;
+      of_line = err_in_line line.number _ _ _ _ done result is
+          (λ refusal reason may left. record {
+            named = refl;
+            may = may;
+            reason = reason_but_stated asked.uses old new _ ⊤ refusal.cause (λ stated. tt) reason;
+            unfinished = λ failed. (link_used asked.uses old new _ refusal.cause reason failed, left failed);
+            part = carries.part;
+          })
+          carried.carries.refused carried.carries.may_refuse carried.unfinished;
     }
 
 -- words of a line were carried out
@@ -257,6 +258,33 @@ script_taken : (refusal : Option Refusal) (old left : List ℕ) → IsBehind old
 script_taken None old left behind ended = record { taken = behind.0; behind = behind.1; all = λ all. ended refl }
 script_taken (Some refusal) old left behind ended = record { taken = behind.0; behind = behind.1; all = λ all. absurd (false≢true all) }
 
+-- what follows for each line follows for the one that was come to
+comes_to_weaker : (one other : LineSaid → RunSeen → Type 0) (now : ℕ) (lines : List LineSaid) (tells : RunTells) (old : RunSeen) → ((line : LineSaid) (before : RunSeen) → one line before → other line before)
+    → ComesTo one now lines tells old → ComesTo other now lines tells old
+comes_to_weaker one other now [] tells old so at = absurd at
+comes_to_weaker one other now (line ∷ lines) tells old so (inl held) = inl (so line old held)
+comes_to_weaker one other now (line ∷ lines) tells old so (inr (middle, done, at)) = inr (middle, done, comes_to_weaker one other now lines tells middle so at)
+
+no_link_fault : (cause : Cause) (name : List ℕ) → ScriptMayRefuse cause name → cause ≡ LinkFault → ⊥
+no_link_fault LinkFault name may is = may
+no_link_fault (BadLine line) name may is = absurd (cc)
+no_link_fault (LongLine line) name may is = absurd (cc)
+no_link_fault TooLarge name may is = absurd (cc)
+no_link_fault _ name may is = may
+
+-- a line was left unfinished where a fault of the link is said of lines
+left_unfinished : (place : Option ℕ) (now : ℕ) (lines : List LineSaid) (tells : RunTells) (old new : RunSeen) (refusal : Refusal) → (place ≡ None → ScriptMayRefuse refusal.cause refusal.name)
+    → (IsSome place → IsOfLines now lines tells old new refusal) → refusal.cause ≡ LinkFault → IsLeftUnfinished now lines tells old new
+left_unfinished None now lines tells old new refusal own one failed = absurd (no_link_fault refusal.cause refusal.name (own refl) failed)
+left_unfinished (Some number) now lines tells old new refusal own one failed =
+    comes_to_weaker (λ (line : LineSaid) (before : RunSeen). IsOfLine now line tells before new refusal) (λ (line : LineSaid) (before : RunSeen). IsLineUnfinished now line tells before new) now lines tells old
+    (λ line before of_line. of_line.unfinished failed) (one refl)
+
+lines_unfinished : (now : ℕ) (lines : List LineSaid) (ended : Option Refusal) (tells : RunTells) (old new : RunSeen) (result : Result (Unit {0}) Refusal) → AreCarried now lines ended tells old new result
+    → IfErr result (λ (refusal : Refusal). refusal.cause ≡ LinkFault → IsLeftUnfinished now lines tells old new)
+lines_unfinished now lines ended tells old new (Ok value) carried = tt
+lines_unfinished now lines ended tells old new (Err refusal) carried = left_unfinished refusal.place.line now lines tells old new refusal carried.own carried.within
+
 -- a script was read, and its lines were carried out
 pub script_carried : (invocation : Invocation) (tells : RunTells) (old : RunSeen) (input : SourceSeen) (new : RunSeen) (result : Result (Unit {0}) Refusal) (said : ScriptSaid)
     → old.input.faults ≤ input.faults → (IsTrue tells.input → script_said old.input.left ≡ said) → (IsTrue tells.input → IsBehind old.input.left input.left)
@@ -270,12 +298,46 @@ script_carried invocation tells old input new result said later is behind ended 
   unfinished = IfErr-weaker result _ _ (λ refusal left failed told. (
     input,
     subst (λ (s : ScriptSaid). IsLeftUnfinished invocation.now s.lines tells (with_input old input) new) (sym (is told)) (left failed),
-  )) carried.unfinished;
+  )) (lines_unfinished invocation.now said.lines said.refusal tells (with_input old input) new result carried);
   untaken = λ one. absurd (false≢true (sym one));
-  unbegun = λ reads. IfErr-weaker result _ _ (λ refusal no stopped none. absurd (no stopped none)) carried.lined;
+  unbegun = λ reads. IfErr-weaker result _ _ (λ refusal own stopped none. absurd (own_no_stop refusal.cause refusal.name (own none) stopped)) carried.own;
   unlinked = λ told none. carried.unlinked 0 (subst (λ (s : ScriptSaid). Ascends 0 s.lines) (is told) (script_ascends old.input.left))
       (subst (λ (s : ScriptSaid). comes_to_link s.lines (result_err result) ≡ false) (is told) none);
 }
+
+not_in_line : (text name : List ℕ) → (asked_in_script text).may SourceFault name → ⊥
+not_in_line text name (inl is) = cc
+not_in_line text name (inr may) = spares_input (words_of text) name may
+
+-- a refusal in a line is no fault of the input
+not_of_input : (now : ℕ) (lines : List LineSaid) (tells : RunTells) (old new : RunSeen) (refusal : Refusal) → refusal.cause ≡ SourceFault → IsOfLines now lines tells old new refusal → ⊥
+not_of_input now [] tells old new refusal is at = at
+not_of_input now (line ∷ lines) tells old new refusal is (inl of_line) =
+    not_in_line line.text refusal.name (subst (λ (c : Cause). (asked_in_script line.text).may c refusal.name) is of_line.may)
+not_of_input now (line ∷ lines) tells old new refusal is (inr (middle, done, at)) = not_of_input now lines tells middle new refusal is at
+
+in_no_line : (place : Option ℕ) (now : ℕ) (lines : List LineSaid) (tells : RunTells) (old new : RunSeen) (refusal : Refusal) → refusal.cause ≡ SourceFault
+    → (IsSome place → IsOfLines now lines tells old new refusal) → place ≡ None
+in_no_line None now lines tells old new refusal is one = refl
+in_no_line (Some number) now lines tells old new refusal is one = absurd (not_of_input now lines tells old new refusal is (one refl))
+
+-- the refusal of a script that was read stands in it
+pub script_stands : (now : ℕ) (tells : RunTells) (old : RunSeen) (input : SourceSeen) (new : RunSeen) (result : Result (Unit {0}) Refusal) (said : ScriptSaid)
+    → (IsTrue tells.input → script_said old.input.left ≡ said) → (said.refusal ≡ None → IsTrue tells.input → input.left ≡ [])
+    → new.input ≡ input → AreCarried now said.lines said.refusal tells (with_input old input) new result → IfErr result (StandsInScript now tells old new)
+script_stands now tells old input new (Ok value) said is ended same carried = tt
+script_stands now tells old input new (Err refusal) said is ended same carried = record {
+  own = λ none. inr (inr (carried.own none));
+  unread = λ fault. in_no_line refusal.place.line now said.lines tells (with_input old input) new refusal fault carried.within;
+  line = λ told some. subst (λ (s : ScriptSaid). IsOfLines now s.lines tells (record old { input = new.input }) new refusal) (sym (is told))
+      (subst (λ (i : SourceSeen). IsOfLines now said.lines tells (with_input old i) new refusal) (sym same) (carried.within some));
+  read = λ told none some. ap (λ (i : SourceSeen). i.left) same ∙ ended (subst (λ (s : ScriptSaid). s.refusal ≡ None) (is told) none) told;
+}
+
+-- what is said of a script that was not read stands in none of its lines
+pub unread_stands : (now : ℕ) (tells : RunTells) (old new : RunSeen) (fault : ScriptFault) → StandsInScript now tells old new (refusal_of (unread_cause fault) [])
+unread_stands now tells old new Source = record { own = λ none. inl refl; unread = λ is. refl; line = λ told some. absurd (false≢true some); read = λ told none some. absurd (false≢true some) }
+unread_stands now tells old new NoMemory = record { own = λ none. inr (inl refl); unread = λ is. refl; line = λ told some. absurd (false≢true some); read = λ told none some. absurd (false≢true some) }
 
 unread_reason : (fault : ScriptFault) (old new : RunSeen) (stated : Type 0) → (fault ≡ Source → Rose old.input.faults new.input.faults) → HasReason script_uses old new stated (unread_cause fault)
 unread_reason Source old new stated rose = rose refl

@@ -1,32 +1,24 @@
 -- Lines of a script that were carried out, but for an error line.
-use Rattle.std.specs.Prelude.{◌≡◌, ◌⊎◌, ◌<◌, ℕ, ⊤, false, IfErr, IfSome, IsTrue, OnOk, List, [], ◌∷◌, Option, None, Some, Result}
+use Rattle.std.specs.Prelude.{◌≡◌, ◌<◌, ℕ, ⊤, false, IfErr, IsSome, IsTrue, OnOk, List, [], ◌∷◌, Option, None, Result}
 use Rattle.std.specs.Result.{result_err}
 use Rattle.quota_blocks.specs.Unsynced.{AddsNone}
 use Rattle.refusals.specs.declared.cause.Cause.{Cause}
-use Rattle.refusals.specs.declared.cause.Cause.TheVariants.{LinkFault, Memory, SourceFault}
+use Rattle.refusals.specs.declared.cause.Cause.TheVariants.{Memory, SourceFault}
 use Rattle.refusals.specs.declared.reason.Refusal.{Refusal}
 use Rattle.run_steps.specs.Done.{RunSeen, RunTells}
 use Rattle.run_steps.specs.Run.{CarriesOut}
-use Rattle.script_lines.specs.Script.{LineSaid}
+use Rattle.script_lines.specs.Script.{LineSaid, ScriptMayRefuse}
 use Rattle.script_lines.specs.declared.script.ScriptFault.{ScriptFault}
 use Rattle.script_lines.specs.declared.script.ScriptFault.TheVariants.{Source, Memory as NoMemory}
-use Rattle.command_table.specs.Description.{StopsIt}
-use Rattle.quota_cli.specs.Script.{IsLeftUnfinished, LineSteps, LinesSteps, RunningMayRefuse, asked_in_script, comes_to_link, line_invocation, script_uses}
+use Rattle.quota_cli.specs.Script.{IsOfLine, IsOfLines, LineSteps, LinesSteps, RunningMayRefuse, asked_in_script, comes_to_link, script_uses}
 
--- A line was carried out: as its steps say, in its line; what it wrote has been synced where it ended well; its refusal names the
+-- A line was carried out: as its steps say, in its line; what it wrote has been synced where it ended well; its refusal is one of this
 -- line; and it left the link as it was where it does not use it.
 pub record IsLineCarried (now : ℕ) (line : LineSaid) (tells : RunTells) (old new : RunSeen) (result : Result (Unit {0}) Refusal) : Type 0 where
   pub carries : CarriesOut (LineSteps now line) script_uses RunningMayRefuse tells old new result
   pub synced : OnOk result (IsTrue tells.store → AddsNone old.store.unsynced new.store.unsynced)
-  pub unfinished : IfErr result (λ (refusal : Refusal). refusal.cause ≡ LinkFault
-      → IsTrue (asked_in_script line.text).uses.link × (asked_in_script line.text).unfinished (line_invocation now line) tells old new)
   pub unlinked : (asked_in_script line.text).uses.link ≡ false → new.link ≡ old.link
-  pub named : IfErr result (λ (refusal : Refusal). refusal.place.line ≡ Some line.number)
-
--- one of these lines has this number
-abbrev pub IsOneOf : (number : ℕ) → List LineSaid → Type 0
-IsOneOf number [] = ⊥
-IsOneOf number (line ∷ lines) = (number ≡ line.number) ⊎ IsOneOf number lines
+  pub of_line : IfErr result (IsOfLine now line tells old new)
 
 -- the numbers of lines ascend from above this one
 abbrev pub Ascends : (least : ℕ) → List LineSaid → Type 0
@@ -34,13 +26,13 @@ Ascends least [] = ⊤
 Ascends least (line ∷ lines) = (least < line.number) × Ascends line.number lines
 
 -- Lines were carried out one after another, with the refusal of the script behind the last one, if there is one. A refusal that stands
--- in a line stands in one of these; a fault and want of memory stand in one; and the link is as it was where no line that was come to uses it.
+-- in a line is that of the one of these lines that was at hand, and one that stands in none is the script's own; and the link is as it was
+-- where no line that was come to uses it.
 pub record AreCarried (now : ℕ) (lines : List LineSaid) (refusal : Option Refusal) (tells : RunTells) (old new : RunSeen) (result : Result (Unit {0}) Refusal) : Type 0 where
   pub carries : CarriesOut (LinesSteps now lines refusal) script_uses RunningMayRefuse tells old new result
   pub synced : OnOk result (IsTrue tells.store → AddsNone old.store.unsynced new.store.unsynced)
-  pub unfinished : IfErr result (λ (said : Refusal). said.cause ≡ LinkFault → IsLeftUnfinished now lines tells old new)
-  pub lined : IfErr result (λ (said : Refusal). StopsIt said.cause → said.place.line ≡ None → ⊥)
-  pub within : IfErr result (λ (said : Refusal). IfSome said.place.line (λ (number : ℕ). IsOneOf number lines))
+  pub own : IfErr result (λ (said : Refusal). said.place.line ≡ None → ScriptMayRefuse said.cause said.name)
+  pub within : IfErr result (λ (said : Refusal). IsSome said.place.line → IsOfLines now lines tells old new said)
   pub unlinked : (least : ℕ) → Ascends least lines → comes_to_link lines (result_err result) ≡ false → new.link ≡ old.link
 
 -- the cause that is said where a script was not read

@@ -17,7 +17,7 @@ use Rattle.run_steps.specs.declared.invocation.Invocation.{Invocation}
 use Rattle.command_words.specs.Asked.{command_of}
 use Rattle.command_table.specs.Description.{Description, IsOnlyRead}
 use Rattle.command_table.specs.Table.{asked_by}
-use Rattle.quota_cli.specs.Script.{commanded}
+use Rattle.quota_cli.specs.Script.{StandsInScript, commanded}
 
 -- what a run is given: the words, and when it takes place
 pub record Setting : Type 0 where
@@ -68,9 +68,10 @@ pub record HasEffectUpToErr (setting : Setting) (tells : RunTells) (old new : Ru
   pub line : IsTrue tells.err → AppendsUnless (Rose before.faults new.err.faults) before.written new.err.written
       (closing_line refusal)
 
--- A refusal that stands only in lines of what the words ask to be read.
-abbrev pub IsPlaced : Setting → Refusal → Type 0
-IsPlaced setting refusal = IsPlacedBy (uses_asked setting) refusal
+-- How a refusal stands in what the words ask to be read: in lines of that alone, and the refusal of a script as one stands in a script.
+pub record IsPlaced (setting : Setting) (tells : RunTells) (old new : RunSeen) (refusal : Refusal) : Type 0 where
+  pub by_uses : IsPlacedBy (uses_asked setting) refusal
+  pub in_script : IsTrue (uses_asked setting).reads_commands → StandsInScript setting.invocation.now tells old new refusal
 
 -- With status 4 or 5 the run was stopped by a fault or for want of memory, and the error output got the line that says
 -- which. Before that line the steps of the command had begun, and of the act that was at hand a part may have been done. Before
@@ -81,7 +82,7 @@ pub record IsStopped (setting : Setting) (tells : RunTells) (old new : RunSeen) 
   pub before : RunSeen
   pub all_else : new ≡ record before { err = new.err }
   pub reason : HasReason (uses_asked setting) old before ⊥ refusal.cause
-  pub placed : IsPlaced setting refusal
+  pub placed : IsPlaced setting tells old before refusal
   pub status_is : status ≡ status_of refusal.cause
   pub quiet : (uses_asked setting).warns ≡ false → before.err ≡ old.err
   pub line : IsTrue tells.err → AppendsUnless (Rose before.err.faults new.err.faults) before.err.written new.err.written
@@ -98,7 +99,7 @@ pub record IsRefusedRun (setting : Setting) (tells : RunTells) (old new : RunSee
   pub before : SinkSeen
   pub later : old.err.faults ≤ before.faults
   pub may : (asked setting).may refusal.cause refusal.name
-  pub placed : IsPlaced setting refusal
+  pub placed : IsPlaced setting tells old (record new { err = before }) refusal
   pub reason : HasReason (uses_asked setting) old (record new { err = before }) ⊤ refusal.cause
   pub status_is : status ≡ status_of refusal.cause
   pub quiet : (uses_asked setting).warns ≡ false → before ≡ old.err

@@ -1,5 +1,3 @@
-pub mod About
 pub mod Carrying
 pub mod Headline
 pub mod Script
-pub mod Starting

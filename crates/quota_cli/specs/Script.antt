@@ -1,11 +1,11 @@
 -- A script: the commands that the lines of the standard input ask for, one after another. Source: this project's own.
-use Rattle.std.specs.Prelude.{◌≡◌, ◌⊎◌, ℕ, ⊤, Bool, true, false, ◌&&◌, nat_le, IsTrue, List, [], ◌∷◌, Option, Some, None, is_none}
+use Rattle.std.specs.Prelude.{◌≡◌, ◌⊎◌, ℕ, ⊤, Bool, true, false, ◌&&◌, nat_le, IsSome, IsTrue, List, [], ◌∷◌, Option, Some, None, is_none}
 use Rattle.std.specs.List.{list_any}
 use Rattle.quota_blocks.specs.Seen.{SourceSeen}
 use Rattle.quota_blocks.specs.Words.{words_of}
 use Rattle.quota_blocks.specs.World.{World}
 use Rattle.refusals.specs.declared.cause.Cause.{Cause}
-use Rattle.refusals.specs.declared.cause.Cause.TheVariants.{Memory, SourceFault}
+use Rattle.refusals.specs.declared.cause.Cause.TheVariants.{LinkFault, Memory, SourceFault}
 use Rattle.refusals.specs.declared.reason.Refusal.{Refusal}
 use Rattle.refusals.specs.Refusals.{in_line}
 use Rattle.command_words.specs.Asked.{command_of}
@@ -14,7 +14,7 @@ use Rattle.command_words.specs.declared.command.Command.TheVariants.{Script as S
 use Rattle.run_steps.specs.Act.{Act}
 use Rattle.run_steps.specs.Done.{IsLater, IsWorldTold, Outside, RunSeen, RunTells}
 use Rattle.run_steps.specs.Meaning.{EndsBy}
-use Rattle.run_steps.specs.Run.{HasSteps, Uses}
+use Rattle.run_steps.specs.Run.{HasReason, HasSteps, IsDoneInPart, Uses}
 use Rattle.run_steps.specs.Steps.{Before, Ending, InLine, Reading, Steps}
 use Rattle.run_steps.specs.declared.invocation.Invocation.{Invocation}
 use Rattle.script_lines.specs.Script.{LineSaid, ScriptMayRefuse, script_said}
@@ -67,12 +67,19 @@ pub record IsLineDone (now : ℕ) (line : LineSaid) (tells : RunTells) (old new 
   pub unlinked : (asked_in_script line.text).uses.link ≡ false → new.link ≡ old.link
   pub later : IsLater old new
 
+-- One of the lines was come to, once those before it were carried out, and this holds of it and of what they left.
+abbrev pub ComesTo : (holds : LineSaid → RunSeen → Type 0) → (now : ℕ) → List LineSaid → RunTells → RunSeen → Type 0
+ComesTo holds now [] tells old = ⊥
+ComesTo holds now (line ∷ lines) tells old = holds line old ⊎ ((middle : RunSeen) × IsLineDone now line tells old middle × ComesTo holds now lines tells middle)
+
+-- a line uses the link, and not all that was to be done with it was done
+abbrev pub IsLineUnfinished : (now : ℕ) → LineSaid → RunTells → RunSeen → RunSeen → Type 0
+IsLineUnfinished now line tells old new =
+    IsTrue (asked_in_script line.text).uses.link × (asked_in_script line.text).unfinished (line_invocation now line) tells old new
+
 -- One of the lines uses the link and was left unfinished, once those before it were carried out.
 abbrev pub IsLeftUnfinished : (now : ℕ) → List LineSaid → RunTells → RunSeen → RunSeen → Type 0
-IsLeftUnfinished now [] tells old new = ⊥
-IsLeftUnfinished now (line ∷ lines) tells old new =
-    (IsTrue (asked_in_script line.text).uses.link × (asked_in_script line.text).unfinished (line_invocation now line) tells old new)
-    ⊎ ((middle : RunSeen) × IsLineDone now line tells old middle × IsLeftUnfinished now lines tells middle new)
+IsLeftUnfinished now lines tells old new = ComesTo (λ (line : LineSaid) (before : RunSeen). IsLineUnfinished now line tells before new) now lines tells old
 
 -- One of the lines was refused since the file that it edits is full, once those before it were carried out: the one in which the
 -- refusal stands.
@@ -102,6 +109,35 @@ LinesSuffice now [] old = ⊤
 LinesSuffice now (line ∷ lines) old =
     (asked_in_script line.text).suffices (line_invocation now line) old
     × ((acts : List Act) (middle : Outside) → EndsBy (LineSteps now line) old acts middle None → LinesSuffice now lines middle)
+
+-- How a refusal stands in a script.
+
+-- A refusal is one of a line that was at hand: it names the line; what the line asks for may be refused so; where that is a fault, a count of
+-- something that the line uses rose in it, and where it is one of the link, the line left it unfinished; and the line's steps were done in part.
+pub record IsOfLine (now : ℕ) (line : LineSaid) (tells : RunTells) (old new : RunSeen) (refusal : Refusal) : Type 0 where
+  pub named : refusal.place.line ≡ Some line.number
+  pub may : (asked_in_script line.text).may refusal.cause refusal.name
+  pub reason : HasReason (asked_in_script line.text).uses old new ⊤ refusal.cause
+  pub unfinished : refusal.cause ≡ LinkFault → IsLineUnfinished now line tells old new
+  pub part : IsWorldTold tells → IsDoneInPart (LineSteps now line) tells old new
+
+-- a refusal is that of one of the lines, which was at hand once those before it were carried out
+abbrev pub IsOfLines : (now : ℕ) → List LineSaid → RunTells → (old new : RunSeen) → Refusal → Type 0
+IsOfLines now lines tells old new refusal = ComesTo (λ (line : LineSaid) (before : RunSeen). IsOfLine now line tells before new refusal) now lines tells old
+
+-- the causes for which a script is refused outside of its lines, with the name that is said: it was not read, or it is refused itself
+abbrev pub IsOwnCause : Cause → List ℕ → Type 0
+IsOwnCause cause name = (cause ≡ SourceFault) ⊎ ((cause ≡ Memory) ⊎ ScriptMayRefuse cause name)
+
+-- How the refusal of a script stands in it. One that stands in no line is the script's own. A fault of the input stands in no line, since no
+-- line reads the input. One that stands in a line is that of the line of the script that was at hand, once those before it were carried out;
+-- and where the script is not refused itself, the input had been read to its end by then.
+pub record StandsInScript (now : ℕ) (tells : RunTells) (old new : RunSeen) (refusal : Refusal) : Type 0 where
+  pub own : refusal.place.line ≡ None → IsOwnCause refusal.cause refusal.name
+  pub unread : refusal.cause ≡ SourceFault → refusal.place.line ≡ None
+  pub line : IsTrue tells.input → IsSome refusal.place.line
+      → IsOfLines now (script_said old.input.left).lines tells (record old { input = new.input }) new refusal
+  pub read : IsTrue tells.input → (script_said old.input.left).refusal ≡ None → IsSome refusal.place.line → new.input.left ≡ []
 
 -- The commands of the command line.
 

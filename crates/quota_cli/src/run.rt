@@ -1,11 +1,11 @@
-ghost use Rattle.std.specs.Prelude.{◌≡◌, ◌≢◌, ◌≤◌, ◌⊎◌, ◌↔◌, false, None, Some, Err, Ok, IsTrue, IsErr, IsErrAnd, IfOk, if◌then◌else◌, MatchResult};
+ghost use Rattle.std.specs.Prelude.{◌≡◌, ◌≢◌, ◌≤◌, ◌⊎◌, ◌↔◌, false, None, Some, Err, Ok, IsTrue, IsErr, IsErrAnd, IfErr, IfOk, if◌then◌else◌, MatchResult};
 ghost use Rattle.std.specs.Result.{result_err};
 ghost use Rattle.quota_blocks.specs.Count.{Rose};
 ghost use Rattle.run_steps.specs.Done.{AppendsUnless, IsAllTold, NoFault, seen_of, tells_of};
 ghost use Rattle.quota_cli.specs.Headline.{HasEffect, Keeps, asked, setting_of, uses_asked};
 ghost use Rattle.command_words.specs.Asked.{command_of};
 ghost use Rattle.command_table.specs.Description.{IsCarriedOut};
-ghost use Rattle.quota_cli.specs.Script.{commanded, is_script};
+ghost use Rattle.quota_cli.specs.Script.{StandsInScript, commanded, is_script};
 ghost use Rattle.refusals.specs.declared.cause.Cause.TheVariants.{Memory};
 ghost use Rattle.refusals.specs.declared.reason.Refusal.{Refusal};
 ghost use Rattle.refusals.specs.Line.{closing_line, error_line};
@@ -73,6 +73,10 @@ fn carry_out_words<S: Store, I: Source, O: Sink, E: Sink, L: Link>(
         (tells_of S.tells I.tells O.tells E.tells L.tells)
         (seen_of (S.seen store.old) (I.seen input.old) (O.seen out.old) (E.seen err.old) (L.seen link.old))
         (seen_of (S.seen store.new) (I.seen input.new) (O.seen out.new) (E.seen err.new) (L.seen link.new)) result }
+    ensures stands { IsTrue (uses_asked (setting_of (texts_of words.now) now)).reads_commands
+        → IfErr result (StandsInScript now (tells_of S.tells I.tells O.tells E.tells L.tells)
+        (seen_of (S.seen store.old) (I.seen input.old) (O.seen out.old) (E.seen err.old) (L.seen link.old))
+        (seen_of (S.seen store.new) (I.seen input.new) (O.seen out.new) (E.seen err.new) (L.seen link.new))) }
     ensures usage { (uses_asked (setting_of (texts_of words.now) now)).reads_commands ≡ false
         → IsErrAnd result (λ said. status_of said.cause ≡ 2) ↔ IsErr (command_of false (texts_of words.now)) }
     ensures word { (refusal : Refusal) → (asked (setting_of (texts_of words.now) now)).faulty ≡ Some refusal
@@ -113,6 +117,9 @@ fn carry_command<S: Store, I: Source, O: Sink, E: Sink, L: Link>(
     ensures carries { IsCarriedOut (commanded command) invocation (tells_of S.tells I.tells O.tells E.tells L.tells)
         (seen_of (S.seen store.old) (I.seen input.old) (O.seen out.old) (E.seen err.old) (L.seen link.old))
         (seen_of (S.seen store.new) (I.seen input.new) (O.seen out.new) (E.seen err.new) (L.seen link.new)) result }
+    ensures stands { IsTrue (commanded command).uses.reads_commands → IfErr result (StandsInScript invocation.now (tells_of S.tells I.tells O.tells E.tells L.tells)
+        (seen_of (S.seen store.old) (I.seen input.old) (O.seen out.old) (E.seen err.old) (L.seen link.old))
+        (seen_of (S.seen store.new) (I.seen input.new) (O.seen out.new) (E.seen err.new) (L.seen link.new))) }
     ensures word { (refusal : Refusal) → (commanded command).faulty ≡ Some refusal → result ≡ Err refusal }
     ensures quiet { (refusal : Refusal) → (commanded command).faulty ≡ Some refusal → err.new ≡ err.old }
     ensures store { (refusal : Refusal) → (commanded command).faulty ≡ Some refusal → store.new ≡ store.old }

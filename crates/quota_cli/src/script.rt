@@ -1,13 +1,13 @@
 //! A script: the commands that the lines of the standard input ask for, one after another.
 
-ghost use Rattle.std.specs.Prelude.{◌≡◌, [], false, true, map, IfSome, Some};
+ghost use Rattle.std.specs.Prelude.{◌≡◌, [], false, true, map, IfErr, IfSome, Some};
 ghost use Rattle.std.specs.Result.{result_err};
 ghost use Rattle.command_table.specs.Description.{IsCarriedOut};
 ghost use Rattle.command_table.specs.Table.{asked_by, described};
 ghost use Rattle.command_words.specs.Asked.{command_of};
 ghost use Rattle.option_words.specs.Items.{texts_of};
 ghost use Rattle.quota_cli.specs.Carrying.{AreCarried, IsLineCarried, unread_cause};
-ghost use Rattle.quota_cli.specs.Script.{asked_in_script, scripting};
+ghost use Rattle.quota_cli.specs.Script.{StandsInScript, asked_in_script, scripting};
 ghost use Rattle.refusals.specs.Refusals.{in_line, refusal_of};
 ghost use Rattle.run_steps.specs.Done.{seen_of, tells_of};
 ghost use Rattle.script_lines.specs.Script.{IsOfScript, line_read};
@@ -40,6 +40,10 @@ pub fn run_script<S: Store, I: Source, O: Sink, E: Sink, L: Link>(
         (seen_of (S.seen store.old) (I.seen input.old) (O.seen out.old) (E.seen err.old) (L.seen link.old))
         (seen_of (S.seen store.new) (I.seen input.new) (O.seen out.new) (E.seen err.new) (L.seen link.new)) result }
     ensures source { I.keeps false input.old input.new }
+    // What is refused stands in the script.
+    ensures stands { IfErr result (StandsInScript invocation.now (tells_of S.tells I.tells O.tells E.tells L.tells)
+        (seen_of (S.seen store.old) (I.seen input.old) (O.seen out.old) (E.seen err.old) (L.seen link.old))
+        (seen_of (S.seen store.new) (I.seen input.new) (O.seen out.new) (E.seen err.new) (L.seen link.new))) }
 {
     match read_script(alloc, input) {
         Ok(script) => {
@@ -88,7 +92,7 @@ fn carry_lines<S: Store, I: Source, O: Sink, E: Sink, L: Link>(
     ensures carries { AreCarried now (map line_read lines.now) refusal (tells_of S.tells I.tells O.tells E.tells L.tells)
         (seen_of (S.seen store.old) (I.seen input.old) (O.seen out.old) (E.seen err.old) (L.seen link.old))
         (seen_of (S.seen store.new) (I.seen input.new) (O.seen out.new) (E.seen err.new) (L.seen link.new)) result }
-    ensures source { I.keeps false input.old input.new }
+    ensures input { input.new ≡ input.old }
 {
     for line in lines {
         match carry_line(alloc, line, store, input, out, err, link, now) {
@@ -116,7 +120,7 @@ fn carry_line<S: Store, I: Source, O: Sink, E: Sink, L: Link>(
     ensures carries { IsLineCarried now (line_read line.now) (tells_of S.tells I.tells O.tells E.tells L.tells)
         (seen_of (S.seen store.old) (I.seen input.old) (O.seen out.old) (E.seen err.old) (L.seen link.old))
         (seen_of (S.seen store.new) (I.seen input.new) (O.seen out.new) (E.seen err.new) (L.seen link.new)) result }
-    ensures source { I.keeps false input.old input.new }
+    ensures input { input.new ≡ input.old }
 {
     let invocation = in_script(now, line.number);
     let text = line.text.as_str();
@@ -163,7 +167,7 @@ fn carry_text<S: Store, I: Source, O: Sink, E: Sink, L: Link>(
         (seen_of (S.seen store.old) (I.seen input.old) (O.seen out.old) (E.seen err.old) (L.seen link.old))
         (seen_of (S.seen store.new) (I.seen input.new) (O.seen out.new) (E.seen err.new) (L.seen link.new)) result }
     ensures link { (asked_in_script text.now).uses.link ≡ false → link.new ≡ link.old }
-    ensures source { I.keeps false input.old input.new }
+    ensures input { input.new ≡ input.old }
 {
     match words_of_line(alloc, text) {
         Ok(words) => carry_words(
@@ -196,7 +200,7 @@ fn carry_words<S: Store, I: Source, O: Sink, E: Sink, L: Link>(
         (seen_of (S.seen store.old) (I.seen input.old) (O.seen out.old) (E.seen err.old) (L.seen link.old))
         (seen_of (S.seen store.new) (I.seen input.new) (O.seen out.new) (E.seen err.new) (L.seen link.new)) result }
     ensures link { (asked_by described (command_of true (texts_of words.now))).uses.link ≡ false → link.new ≡ link.old }
-    ensures source { I.keeps false input.old input.new }
+    ensures input { input.new ≡ input.old }
 {
     match read_words(alloc, words, true) {
         Ok(command) => carry_out(alloc, command, store, input, out, err, link, invocation),

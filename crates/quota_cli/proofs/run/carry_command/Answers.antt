@@ -6,7 +6,7 @@ use Rattle.run_steps.specs.Done.{seen_of, tells_of}
 use Rattle.command_table.specs.Description.{Description, IsCarriedOut}
 use Rattle.command_table.specs.Table.{described}
 use Rattle.quota_cli.specs.Script.{is_script, script_or}
-use Rattle.quota_cli.proofs.AskedLemmas.{as_script, as_single}
+use Rattle.quota_cli.proofs.AskedLemmas.{as_script, as_single, reads_no_commands}
 use Rattle.quota_cli.proofs.run.carry_command.Goals as goal
 
 pub carry_out-requires : goal.carry_out-requires
@@ -23,6 +23,9 @@ returns-then-is_script-clause-carries g c =
     let old = seen_of (S.seen c.args.store.now) (I.seen c.args.input.now) (O.seen c.args.out.now) (E.seen c.args.err.now) (L.seen c.args.link.now) in
     let new = seen_of (S.seen c.run_script.new.store) (I.seen c.run_script.new.input) (O.seen c.run_script.new.out) (E.seen c.run_script.new.err) (L.seen c.run_script.new.link) in
     as_script (λ (d : Description). IsCarriedOut d c.args.invocation tells old new c.run_script.result) (is_script c.args.command) c.args.command c.if-is_script.ensures c.run_script.ensures.carries
+
+pub returns-then-is_script-clause-stands : goal.returns-then-is_script-clause-stands
+returns-then-is_script-clause-stands g c = λ reads. c.run_script.ensures.stands
 
 pub returns-then-is_script-clause-word : goal.returns-then-is_script-clause-word
 returns-then-is_script-clause-word g c =
@@ -59,6 +62,9 @@ returns-else-is_script-clause-carries g c =
     let old = seen_of (S.seen c.args.store.now) (I.seen c.args.input.now) (O.seen c.args.out.now) (E.seen c.args.err.now) (L.seen c.args.link.now) in
     let new = seen_of (S.seen c.carry_out.new.store) (I.seen c.carry_out.new.input) (O.seen c.carry_out.new.out) (E.seen c.carry_out.new.err) (L.seen c.carry_out.new.link) in
     as_single (λ (d : Description). IsCarriedOut d c.args.invocation tells old new c.carry_out.result) (is_script c.args.command) c.args.command c.if-is_script.ensures c.carry_out.ensures.carries
+
+pub returns-else-is_script-clause-stands : goal.returns-else-is_script-clause-stands
+returns-else-is_script-clause-stands g c = λ reads. absurd (reads_no_commands c.args.command c.if-is_script.ensures reads)
 
 pub returns-else-is_script-clause-word : goal.returns-else-is_script-clause-word
 returns-else-is_script-clause-word g c =

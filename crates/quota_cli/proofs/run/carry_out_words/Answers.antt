@@ -4,7 +4,7 @@ use Rattle.command_words.specs.Asked.{command_of}
 use Rattle.option_words.specs.Items.{texts_of}
 use Rattle.command_table.proofs.CommandLemmas.{not_read, read_carried, usage_not_read, usage_read}
 use Rattle.quota_cli.specs.Script.{commanded}
-use Rattle.quota_cli.proofs.AskedLemmas.{commanded_known, spares_commanded}
+use Rattle.quota_cli.proofs.AskedLemmas.{commanded_known, spares_commanded, words_stand}
 use Rattle.quota_cli.proofs.run.carry_out_words.Goals as goal
 
 pub carry_command-requires : goal.carry_command-requires
@@ -19,6 +19,9 @@ returns-in-Ok-clause-carries g c =
     (seen_of (g.S.Store.seen now.new.store) (g.I.Source.seen now.new.input) (g.O.Sink.seen now.new.out) (g.E.Sink.seen now.new.err) (g.L.Link.seen now.new.link))
     now.result c.in-Ok.ensures (rw c.outside_script-invocation.ensures at now.ensures.carries)
 
+pub returns-in-Ok-clause-stands : goal.returns-in-Ok-clause-stands
+returns-in-Ok-clause-stands g c = λ reads. (rw c.outside_script-invocation.ensures at c.carry_command.ensures.stands) (rw c.in-Ok.ensures at reads)
+
 pub returns-in-Ok-clause-usage : goal.returns-in-Ok-clause-usage
 returns-in-Ok-clause-usage g c = λ no. usage_read (commanded c.in-Ok.command).may c.in-Ok.command (command_of false (texts_of c.args.words.now)) c.carry_command.result c.in-Ok.ensures
     (spares_commanded c.in-Ok.command (rw c.in-Ok.ensures at no)) c.carry_command.ensures.carries.carries.may_refuse
@@ -30,6 +33,13 @@ returns-in-Err-clause-carries g c =
     (tells_of g.S.Store.tells g.I.Source.tells g.O.Sink.tells g.E.Sink.tells g.L.Link.tells)
     (seen_of (g.S.Store.seen c.args.store.now) (g.I.Source.seen c.args.input.now) (g.O.Sink.seen c.args.out.now) (g.E.Sink.seen c.args.err.now) (g.L.Link.seen c.args.link.now))
     c.in-Err.fault c.in-Err.ensures)
+
+pub returns-in-Err-clause-stands : goal.returns-in-Err-clause-stands
+returns-in-Err-clause-stands g c = λ reads.
+    rw c.usage_refusal.ensures
+    (words_stand (command_of false (texts_of c.args.words.now)) c.in-Err.fault c.args.now (tells_of g.S.Store.tells g.I.Source.tells g.O.Sink.tells g.E.Sink.tells g.L.Link.tells)
+    (seen_of (g.S.Store.seen c.args.store.now) (g.I.Source.seen c.args.input.now) (g.O.Sink.seen c.args.out.now) (g.E.Sink.seen c.args.err.now) (g.L.Link.seen c.args.link.now))
+    c.in-Err.ensures reads)
 
 pub returns-in-Err-clause-usage : goal.returns-in-Err-clause-usage
 returns-in-Err-clause-usage g c = λ no.

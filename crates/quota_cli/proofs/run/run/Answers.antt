@@ -22,6 +22,6 @@ returns-clause-keeps g c =
     run_keeps (setting_of (texts_of c.args.words.now) c.args.now) (tells_of g.S.Store.tells g.I.Source.tells g.O.Sink.tells g.E.Sink.tells g.L.Link.tells)
     (seen_of (g.S.Store.seen c.args.store.now) (g.I.Source.seen c.args.input.now) (g.O.Sink.seen c.args.out.now) (g.E.Sink.seen c.args.err.now) (g.L.Link.seen c.args.link.now))
     (seen_of (g.S.Store.seen done.new.store) (g.I.Source.seen done.new.input) (g.O.Sink.seen done.new.out) (g.E.Sink.seen done.new.err) (g.L.Link.seen done.new.link))
-    (g.E.Sink.seen c.finish.new.err) done.result c.finish.result done.ensures.carries
+    (g.E.Sink.seen c.finish.new.err) done.result c.finish.result done.ensures.carries done.ensures.stands
     (record { status_is = c.finish.ensures.status; written = c.finish.ensures.line; later = c.finish.ensures.later })
     done.ensures.usage (λ refusal faulty. (ap g.E.Sink.seen (done.ensures.quiet refusal faulty), done.ensures.word refusal faulty))

@@ -1,4 +1,4 @@
-use Rattle.std.proofs.Common.{◌≡◌, ◌+◌, [], ◌∷◌, Ok, Err, List, Option, None, Some, false, drop, map, refl, sym, ap, subst, ◌∙◌, arith}
+use Rattle.std.proofs.Common.{◌≡◌, ◌+◌, [], ◌∷◌, Ok, Err, List, Option, None, Some, drop, map, refl, sym, ap, subst, ◌∙◌, arith}
 use Rattle.std.proofs.lemmas.List.{drop_all, drop_more}
 use Rattle.std.specs.Prelude.{IfSome}
 use Rattle.refusals.specs.declared.reason.Refusal.{Refusal}
@@ -13,7 +13,7 @@ pub loop-line-init : goal.loop-line-init
 loop-line-init g c = record {
   onward = λ new result carried. carried;
   same = refl;
-  kept = g.met.I.Source.keeps_any _ _ (g.met.I.Source.keeps_itself _);
+  input = refl;
 }
 
 pub loop-line-preserved : goal.loop-line-preserved
@@ -39,7 +39,7 @@ loop-line-preserved g c =
           (sym here)
           (lines_passed c.args.now (line_read line) (map line_read rest) c.args.refusal tells before after new tt result c.in-Ok.ensures.carries carried));
       same = kept.same;
-      kept = g.met.I.Source.keeps_on false false _ _ _ kept.kept c.carry_line.ensures.source;
+      input = c.carry_line.ensures.input ∙ kept.input;
     }
 
 pub returns-in-Err-clause-carries : goal.returns-in-Err-clause-carries
@@ -63,8 +63,8 @@ returns-in-Err-clause-carries g c =
     (sym here)
     (lines_stopped c.args.now (line_read line) (map line_read rest) c.args.refusal tells before after c.in-Err.stop c.in-Err.ensures.carries))
 
-pub returns-in-Err-clause-source : goal.returns-in-Err-clause-source
-returns-in-Err-clause-source g c = g.met.I.Source.keeps_on false false _ _ _ c.loop-line.invariant.kept c.carry_line.ensures.source
+pub returns-in-Err-clause-input : goal.returns-in-Err-clause-input
+returns-in-Err-clause-input g c = c.carry_line.ensures.input ∙ c.loop-line.invariant.input
 
 pub returns-in-None-clause-carries : goal.returns-in-None-clause-carries
 returns-in-None-clause-carries g c =

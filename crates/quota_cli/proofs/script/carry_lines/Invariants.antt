@@ -1,4 +1,4 @@
-use Rattle.std.proofs.Common.{◌≡◌, Result, false, drop, map}
+use Rattle.std.proofs.Common.{◌≡◌, Result, drop, map}
 use Rattle.refusals.specs.declared.reason.Refusal.{Refusal}
 use Rattle.run_steps.specs.Done.{RunSeen, seen_of, tells_of}
 use Rattle.script_lines.specs.Script.{line_read}
@@ -19,5 +19,5 @@ invariant-loop-line g l =
           → AreCarried l.now (map line_read l.lines) l.fn.refusal (tells_of S.tells I.tells O.tells E.tells L.tells)
           (seen_of (S.seen l.fn.store) (I.seen l.fn.input) (O.seen l.fn.out) (E.seen l.fn.err) (L.seen l.fn.link)) new result;
       same : l.refusal ≡ l.fn.refusal;
-      kept : I.keeps false l.fn.input l.input;
+      input : l.input ≡ l.fn.input;
     }

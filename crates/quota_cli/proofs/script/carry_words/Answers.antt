@@ -4,6 +4,7 @@ use Rattle.command_words.specs.Asked.{command_of}
 use Rattle.option_words.specs.Items.{texts_of}
 use Rattle.command_table.specs.Table.{described}
 use Rattle.command_table.proofs.CommandLemmas.{not_read, read_carried, read_known}
+use Rattle.command_table.proofs.InputLemmas.{no_input}
 use Rattle.quota_cli.proofs.script.carry_words.Goals as goal
 
 pub carry_out-requires : goal.carry_out-requires
@@ -21,6 +22,9 @@ returns-in-Ok-clause-carries g c =
     let new = seen_of (S.seen c.carry_out.new.store) (I.seen c.carry_out.new.input) (O.seen c.carry_out.new.out) (E.seen c.carry_out.new.err) (L.seen c.carry_out.new.link) in
     read_carried described c.in-Ok.command (command_of true (texts_of c.args.words.now)) c.args.invocation tells old new c.carry_out.result
     c.in-Ok.ensures c.carry_out.ensures.carries
+
+pub returns-in-Ok-clause-input : goal.returns-in-Ok-clause-input
+returns-in-Ok-clause-input g c = c.carry_out.ensures.input (no_input (texts_of c.args.words.now) c.in-Ok.command c.in-Ok.ensures)
 
 pub returns-in-Err-clause-carries : goal.returns-in-Err-clause-carries
 returns-in-Err-clause-carries g c =

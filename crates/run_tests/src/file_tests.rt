@@ -1,4 +1,4 @@
-use super::playing::play;
+use crate::playing::play;
 use file_stories::{
     calls, checked, conversions, ended_checks, generated, names, new_files, refused_conversions,
     refused_listings, reports, served, summed, trees, turned, words,

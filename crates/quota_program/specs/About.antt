@@ -2,8 +2,8 @@
 -- `--version`; that such a word stands alone is this project's own.
 use Rattle.std.specs.Prelude.{ℕ, if◌then◌else◌, List, [], ◌∷◌, Option, Some, None, codes}
 use Rattle.std.specs.Str.{bytes_eq}
-use Rattle.quota_cli.specs.declared.help.About.{About}
-use Rattle.quota_cli.specs.declared.help.About.TheVariants.{Help, Version}
+use Rattle.quota_program.specs.declared.help.About.{About}
+use Rattle.quota_program.specs.declared.help.About.TheVariants.{Help, Version}
 
 -- what a word asks for
 abbrev pub about_of : List ℕ → Option About

@@ -1,6 +1,5 @@
-use super::shown::shown;
-use crate::run::run;
-use command_words::{UsageFault, read_words};
+use crate::shown::shown;
+use quota_cli::run::{UsageFault, read_words, run};
 use std::alloc::{AllocError, Global};
 use std::process::Abort;
 use story_player::{Program, Streams, Watched, failure_of};
@@ -39,7 +38,7 @@ impl Program for QuotaCli {
 }
 
 /// Carries out stories, one behind the other, and fails with what does not hold in them.
-pub(super) fn play(rt: &impl Abort, alloc: Global, stories: &[&str]) {
+pub(crate) fn play(rt: &impl Abort, alloc: Global, stories: &[&str]) {
     match failure_of(&QuotaCli, alloc, stories) {
         Ok(None) => (),
         Ok(Some(why)) => assert!(rt; false, "{why}"),

@@ -1,4 +1,4 @@
-use super::playing::play;
+use crate::playing::play;
 use edit_stories::{
     applied, batches, edits, ended_batches, forms, limits, refused_forms, refused_lines,
 };

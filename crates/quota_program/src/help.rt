@@ -2,15 +2,15 @@ ghost use Rattle.std.specs.Prelude.{◌≡◌, ◌≤◌, ◌++◌, ◌⊎◌, [
 ghost use Rattle.option_words.specs.Items.{texts_of};
 ghost use Rattle.quota_blocks.specs.Count.{Rose};
 ghost use Rattle.quota_blocks.specs.Text.{AppendsPrefix};
-ghost use Rattle.quota_cli.specs.About.{about_asked, about_of};
-ghost use Rattle.quota_cli.specs.declared.help.About.TheVariants.{Version};
+ghost use Rattle.quota_program.specs.About.{about_asked, about_of};
+ghost use Rattle.quota_program.specs.declared.help.About.TheVariants.{Version};
 ghost use Rattle.refusals.specs.Line.{error_line};
 ghost use Rattle.refusals.specs.Refusals.{refusal_of};
 ghost use Rattle.refusals.specs.declared.cause.Cause.TheVariants.{SinkFault as OutputFault};
 ghost use Rattle.run_steps.specs.Done.{AppendsUnless};
 
-use crate::run::refuse;
 use quota_blocks::Sink;
+use quota_cli::run::refuse;
 use refusals::{Cause, Refusal, Word};
 use std::alloc::Global;
 

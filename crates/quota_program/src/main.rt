@@ -1,10 +1,9 @@
-//! The Linux disk quota tools as one program. [`run::run`] carries out a command, and its contract is what the program
-//! promises.
+//! The Linux disk quota tools as one program: [`quota_cli::run::run`] over the words, files and streams of the system.
 #![tactic(auto)]
 
 ghost use Rattle.std.specs.Prelude.{◌≡◌, ◌≤◌, [], IsTrue};
 ghost use Rattle.quota_blocks.specs.Count.{Rose};
-ghost use Rattle.quota_cli.specs.Starting.{starting_cause, words_cause};
+ghost use Rattle.quota_program.specs.Starting.{starting_cause, words_cause};
 ghost use Rattle.refusals.specs.Line.{error_line};
 ghost use Rattle.refusals.specs.Refusals.{refusal_of};
 ghost use Rattle.refusals.specs.Status.{status_of};
@@ -12,6 +11,7 @@ ghost use Rattle.run_steps.specs.Done.{AppendsUnless};
 
 use help::{About, tell};
 use quota_blocks::Sink;
+use quota_cli::run::{refuse, run};
 use refusals::{Cause, Refusal, UsageKind, Word};
 use std::alloc::Global;
 use std::io::{BufReader, ErrorKind};
@@ -20,11 +20,6 @@ use std::{env, io};
 use system_objects::{FileStore, StreamSink, StreamSource, UdpLink, moment};
 
 mod help;
-mod laws;
-mod run;
-mod script;
-#[cfg(test)]
-mod tests;
 
 /// The most bytes that are taken from the standard input with one call of the system.
 const READ_AHEAD: usize = 65_536;
@@ -64,7 +59,7 @@ fn stop<E: Sink>(err: &mut E, cause: Cause, alloc: Global) -> u8
         (E.seen err.old).written (E.seen err.new).written (error_line (refusal_of cause [])) }
     ensures later { (E.seen err.old).faults ≤ (E.seen err.new).faults }
 {
-    run::refuse(err, &Refusal::of(cause, Word::empty(alloc)))
+    refuse(err, &Refusal::of(cause, Word::empty(alloc)))
 }
 
 fn main(rt: HostRuntime) -> ExitCode {
@@ -81,7 +76,7 @@ fn main(rt: HostRuntime) -> ExitCode {
             };
             let mut input = StreamSource::new(stdin);
             let mut link = UdpLink::new(&rt);
-            run::run(
+            run(
                 rt.alloc(),
                 &words,
                 &mut store,

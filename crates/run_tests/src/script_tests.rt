@@ -1,4 +1,4 @@
-use super::playing::play;
+use crate::playing::play;
 use script_stories::{failing, lines, refused, run, serving};
 use story_player::FILES;
 

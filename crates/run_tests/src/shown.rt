@@ -4,7 +4,7 @@ use refusals::Word;
 use std::alloc::{AllocError, Global};
 
 /// A command as one line.
-pub(super) fn shown(alloc: Global, command: &Command) -> Result<String, AllocError> {
+pub(crate) fn shown(alloc: Global, command: &Command) -> Result<String, AllocError> {
     match command {
         Command::SetLimits {
             common,

@@ -1,0 +1,18 @@
+//! Whole runs over objects in memory, as stories; the words of commands; and a link over UDP.
+//!
+//! The crate has tests and nothing else, so that quota_cli is proved once, and nothing that the program stands on stands on
+//! the player of stories or on their texts.
+#![tactic(auto)]
+
+#[cfg(test)]
+mod edit_tests;
+#[cfg(test)]
+mod file_tests;
+#[cfg(test)]
+mod playing;
+#[cfg(test)]
+mod script_tests;
+#[cfg(test)]
+mod shown;
+#[cfg(test)]
+mod udp;
