@@ -50,7 +50,7 @@ cp "$top/samples/quota.user" quota.user
 "$run" repquota -F vfsold -u -v quota.user >/dev/null
 
 # What root is never denied is tried as another user, who runs a copy of the built program.
-cp "$top/crates/quota_cli/out/quota_cli" program
+cp "$top/crates/quota_program/out/quota_program" program
 somebody=("$folder/program")
 if [ "$(id -u)" = 0 ]; then
     chmod 755 . program
