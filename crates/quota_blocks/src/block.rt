@@ -1,5 +1,5 @@
 ghost use Rattle.std.specs.Prelude.{◌≡◌, ◌+◌, ◌*◌, ◌<◌, ◌≤◌, length, IsTrue, IfNone, IfSome, OnOk, OnErr};
-ghost use Rattle.quota_blocks.specs.Count.{Rose};
+ghost use Rattle.quota_blocks.specs.Count.{Rose, counted};
 ghost use Rattle.quota_blocks.specs.Frame.{OnlyReads};
 ghost use Rattle.quota_blocks.specs.Unsynced.{AddsNone};
 ghost use Rattle.quota_blocks.specs.Block.{block_of, bytes_of};
@@ -21,7 +21,7 @@ pub fn read_block<S: Store>(
     ensures cause { OnErr result (Rose (S.seen store.old).faults (S.seen store.new).faults) }
     ensures leaves { OnlyReads name.now (S.seen store.old) (S.seen store.new) }
     ensures synced { OnOk result (AddsNone (S.seen store.old).unsynced (S.seen store.new).unsynced) }
-    ensures reads { (S.seen store.new).reads ≤ (S.seen store.old).reads + 1 }
+    ensures reads { (S.seen store.new).reads ≡ counted (S.seen store.old).reads }
 {
     let count = store.read(name, 1024 * u64::from(number), block)?;
     block[count..].fill(0);

@@ -2,8 +2,9 @@
 use Rattle.std.proofs.Common.{◌≡◌, ℕ, zero, suc, inl, inr, Bool, false, not, ◌&&◌, ◌||◌, IsTrue, List, [], ◌∷◌, get_or, take, refl, sym, ap, subst, ◌∙◌}
 use Rattle.std.specs.Prelude.{◌==◌, fold}
 use Rattle.std.proofs.lemmas.Bool.{cases_Bool, cond-true, cond-false}
+use Rattle.quota_blocks.specs.Block.{bytes_of}
 use Rattle.quota_blocks.specs.World.{World}
-use Rattle.quota_pages.specs.Overlay.{bytes_of, with_block}
+use Rattle.quota_pages.specs.Overlay.{with_block}
 use Rattle.quota_pages.specs.Flushed.{IsPartlyFlushed}
 use Rattle.quota_pages.specs.Page.{IsClean, Page, are_distinct, is_buffered, is_lent, shown, with_page}
 use Rattle.quota_pages.specs.Pages.{name_of, pages_of}
@@ -74,21 +75,21 @@ clean-again file pages count distinct clean = λ place d within kept.
 
 -- the file of a buffer after a fault of a flush
 file_left : (buffer : Pages) (old new : World) (partly : IsPartlyFlushed (name_of buffer) (pages_of buffer) old new)
-    → bytes_of new (name_of buffer) ≡ shown (take partly.count (pages_of buffer)) (bytes_of old (name_of buffer))
+    → bytes_of (new (name_of buffer)) ≡ shown (take partly.count (pages_of buffer)) (bytes_of (old (name_of buffer)))
 file_left buffer old new partly =
-    ap (λ (files : World). bytes_of files (name_of buffer)) partly.files ∙ bytes_flushed old (name_of buffer) (take partly.count (pages_of buffer))
+    ap (λ (files : World). bytes_of (files (name_of buffer))) partly.files ∙ bytes_flushed old (name_of buffer) (take partly.count (pages_of buffer))
 
 -- after a fault of a flush the buffer shows what it showed, and is as clean as it was
 pub shown_left : (buffer : Pages) (old new : World) → IsPartlyFlushed (name_of buffer) (pages_of buffer) old new
-    → shown (pages_of buffer) (bytes_of new (name_of buffer)) ≡ shown (pages_of buffer) (bytes_of old (name_of buffer))
+    → shown (pages_of buffer) (bytes_of (new (name_of buffer))) ≡ shown (pages_of buffer) (bytes_of (old (name_of buffer)))
 unfolding pages_of
 shown_left buffer old new partly =
     ap (λ (file : List ℕ). shown (pages_of buffer) file) (file_left buffer old new partly)
-    ∙ shown-again (bytes_of old (name_of buffer)) (pages_of buffer) partly.count buffer.distinct
+    ∙ shown-again (bytes_of (old (name_of buffer))) (pages_of buffer) partly.count buffer.distinct
 
 pub clean_left : (buffer : Pages) (old new : World) → IsPartlyFlushed (name_of buffer) (pages_of buffer) old new
-    → IsClean (pages_of buffer) (bytes_of old (name_of buffer)) → IsClean (pages_of buffer) (bytes_of new (name_of buffer))
+    → IsClean (pages_of buffer) (bytes_of (old (name_of buffer))) → IsClean (pages_of buffer) (bytes_of (new (name_of buffer)))
 unfolding pages_of
 clean_left buffer old new partly clean =
     subst (λ (file : List ℕ). IsClean (pages_of buffer) file) (sym (file_left buffer old new partly))
-    (clean-again (bytes_of old (name_of buffer)) (pages_of buffer) partly.count buffer.distinct clean)
+    (clean-again (bytes_of (old (name_of buffer))) (pages_of buffer) partly.count buffer.distinct clean)

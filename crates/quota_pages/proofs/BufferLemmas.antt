@@ -6,8 +6,8 @@ use Rattle.std.proofs.Math.Bool.{or-false}
 use Rattle.std.proofs.lemmas.Bool.{cond-true, cond-false, eqb-true}
 use Rattle.std.proofs.lemmas.List.{get_or_default, length-set}
 use Rattle.quota_blocks.specs.World.{World}
-use Rattle.quota_blocks.specs.Block.{block_of}
-use Rattle.quota_pages.specs.Overlay.{bytes_of, whole_block, with_block}
+use Rattle.quota_blocks.specs.Block.{block_of, bytes_of}
+use Rattle.quota_pages.specs.Overlay.{whole_block, with_block}
 use Rattle.quota_pages.specs.Flushed.{IsPartlyFlushed}
 use Rattle.quota_pages.specs.Held.{lent_head, pages_in, with_lent}
 use Rattle.quota_pages.specs.Page.{IsClean, Page, are_distinct, is_buffered, is_lent, lent_count, shown}
@@ -177,27 +177,27 @@ lent_from tells file number place bytes old between new looks has name is =
 
 -- after a fault of a flush a block is the old one or the one that was shown
 pub block_left : (buffer : Pages) (old new : World) (number : ℕ) → IsPartlyFlushed (name_of buffer) (pages_of buffer) old new
-    → (block_of (bytes_of new (name_of buffer)) number ≡ block_of (bytes_of old (name_of buffer)) number)
-    ⊎ (block_of (bytes_of new (name_of buffer)) number ≡ block_of (shown (pages_of buffer) (bytes_of old (name_of buffer))) number)
+    → (block_of (bytes_of (new (name_of buffer))) number ≡ block_of (bytes_of (old (name_of buffer))) number)
+    ⊎ (block_of (bytes_of (new (name_of buffer))) number ≡ block_of (shown (pages_of buffer) (bytes_of (old (name_of buffer)))) number)
 unfolding pages_of
 block_left buffer old new number partly =
     let name = name_of buffer in
-    let left : block_of (bytes_of new name) number ≡ block_of (shown (take partly.count (pages_of buffer)) (bytes_of old name)) number =
-    ap (λ (files : World). block_of (bytes_of files name) number) partly.files
+    let left : block_of (bytes_of (new name)) number ≡ block_of (shown (take partly.count (pages_of buffer)) (bytes_of (old name))) number =
+    ap (λ (files : World). block_of (bytes_of (files name)) number) partly.files
     ∙ ap (λ (file : List ℕ). block_of file number) (bytes_flushed old name (take partly.count (pages_of buffer))) in
-    elim (block_of-shown_take (bytes_of old name) (pages_of buffer) partly.count number buffer.distinct) [
+    elim (block_of-shown_take (bytes_of (old name)) (pages_of buffer) partly.count number buffer.distinct) [
       | inl kept ↦ inl (left ∙ kept)
       | inr shows ↦ inr (left ∙ shows)
     ]
 
 -- a block that is looked at after another one was lent and left with other bytes is as it was shown before
-pub looked_at-lent : (tells : Bool) (files now : World) (number other : ℕ) (bytes block : List ℕ) (old lent : Pages) → Lent tells (bytes_of files (name_of old)) number bytes old lent → now ≡ files → other ≢ number → IsTrue tells
-    → IsClean (pages_of old) (bytes_of files (name_of old))
-    → (IsTrue tells → IsClean (pages_of lent) (bytes_of now (name_of lent)) → block ≡ block_of (shown (pages_of lent) (bytes_of now (name_of lent))) other)
-    → block ≡ block_of (shown (pages_of old) (bytes_of files (name_of old))) other
+pub looked_at-lent : (tells : Bool) (files now : World) (number other : ℕ) (bytes block : List ℕ) (old lent : Pages) → Lent tells (bytes_of (files (name_of old))) number bytes old lent → now ≡ files → other ≢ number → IsTrue tells
+    → IsClean (pages_of old) (bytes_of (files (name_of old)))
+    → (IsTrue tells → IsClean (pages_of lent) (bytes_of (now (name_of lent))) → block ≡ block_of (shown (pages_of lent) (bytes_of (now (name_of lent)))) other)
+    → block ≡ block_of (shown (pages_of old) (bytes_of (files (name_of old)))) other
 looked_at-lent tells files now number other bytes block old lent lends kept differ told clean looked =
-    let file : List ℕ = bytes_of files (name_of old) in
-    let same : file ≡ bytes_of now (name_of lent) = ap (bytes_of files) (sym lends.brings.name) ∙ ap (λ (f : World). bytes_of f (name_of lent)) (sym kept) in
+    let file : List ℕ = bytes_of (files (name_of old)) in
+    let same : file ≡ bytes_of (now (name_of lent)) = ap (λ (name : List ℕ). bytes_of (files name)) (sym lends.brings.name) ∙ ap (λ (f : World). bytes_of (f (name_of lent))) (sym kept) in
     looked told (subst (λ (f : List ℕ). IsClean (pages_of lent) f) same (lends.clean told clean))
     ∙ ap (λ (f : List ℕ). block_of (shown (pages_of lent) f) other) (sym same)
     ∙ ap (λ (f : List ℕ). block_of f other) (lends.shows file)

@@ -7,12 +7,13 @@ use Rattle.std.proofs.lemmas.Bool.{cases_Bool, cond-true, cond-false, false_from
 use Rattle.std.proofs.lemmas.List.{take-append-drop, take_more}
 use Rattle.std.proofs.lemmas.List.Folds.{list_any-append, list_any_at}
 use Rattle.std.proofs.lemmas.List.Sums.{sum_by-append}
+use Rattle.quota_blocks.specs.Block.{bytes_of}
 use Rattle.quota_blocks.specs.Count.{counted}
 use Rattle.quota_blocks.specs.Unsynced.{Names, with_name}
 use Rattle.quota_blocks.specs.World.{World, overwritten, with_bytes, with_file}
 use Rattle.quota_blocks.proofs.UnsyncedLemmas.{with_name-again}
 use Rattle.quota_blocks.proofs.WorldLemmas.{with_file-again, with_file-at}
-use Rattle.quota_pages.specs.Overlay.{bytes_of, whole_block, with_block}
+use Rattle.quota_pages.specs.Overlay.{whole_block, with_block}
 use Rattle.quota_pages.specs.Flushed.{IsPartlyFlushed, counted_by, flushed_files, flushed_names}
 use Rattle.quota_pages.specs.Page.{Page, is_some_lent, lent_count, shown, with_page}
 use Rattle.quota_pages.proofs.BlockLemmas.{whole_block-same}
@@ -38,9 +39,9 @@ flushed-nil files name = refl
 
 pub flushed-kept : (files : World) (name : List ℕ) (page : Page) → page.lent ≡ false → flushed_files files name (page ∷ []) ≡ files
 unfolding flushed_files
-flushed-kept files name page kept = ap (λ (b : Bool). cond (b || false) (with_file files name (Some (shown (page ∷ []) (bytes_of files name)))) files) kept
+flushed-kept files name page kept = ap (λ (b : Bool). cond (b || false) (with_file files name (Some (shown (page ∷ []) (bytes_of (files name))))) files) kept
 
-flushed_lent : (files : World) (name : List ℕ) (pages : List Page) → is_some_lent pages ≡ true → flushed_files files name pages ≡ with_file files name (Some (shown pages (bytes_of files name)))
+flushed_lent : (files : World) (name : List ℕ) (pages : List Page) → is_some_lent pages ≡ true → flushed_files files name pages ≡ with_file files name (Some (shown pages (bytes_of (files name))))
 unfolding flushed_files
 flushed_lent files name pages some = cond-true _ _ _ some
 
@@ -49,19 +50,19 @@ unfolding flushed_files
 flushed_none files name pages none = cond-false _ _ _ none
 
 -- the file of the name, as it is after pages were written
-pub bytes_flushed : (files : World) (name : List ℕ) (pages : List Page) → bytes_of (flushed_files files name pages) name ≡ shown pages (bytes_of files name)
+pub bytes_flushed : (files : World) (name : List ℕ) (pages : List Page) → bytes_of (flushed_files files name pages name) ≡ shown pages (bytes_of (files name))
 bytes_flushed files name pages =
     elim (cases_Bool (is_some_lent pages)) [
-      | inl some ↦ ap (λ (f : World). bytes_of f name) (flushed_lent files name pages some)
-          ∙ ap (λ (file : Option (List ℕ)). unwrap_or file []) (with_file-at files name (Some (shown pages (bytes_of files name))))
-      | inr none ↦ ap (λ (f : World). bytes_of f name) (flushed_none files name pages none) ∙ sym (shown-none (bytes_of files name) pages none)
+      | inl some ↦ ap (λ (f : World). bytes_of (f name)) (flushed_lent files name pages some)
+          ∙ ap (λ (file : Option (List ℕ)). unwrap_or file []) (with_file-at files name (Some (shown pages (bytes_of (files name)))))
+      | inr none ↦ ap (λ (f : World). bytes_of (f name)) (flushed_none files name pages none) ∙ sym (shown-none (bytes_of (files name)) pages none)
     ]
 
 -- a file that was written is written once more
 flushed_over : (files : World) (name : List ℕ) (pages : List Page) (file : List ℕ) → with_file (flushed_files files name pages) name (Some file) ≡ with_file files name (Some file)
 flushed_over files name pages file =
     elim (cases_Bool (is_some_lent pages)) [
-      | inl some ↦ ap (λ (f : World). with_file f name (Some file)) (flushed_lent files name pages some) ∙ with_file-again files name (Some (shown pages (bytes_of files name))) (Some file)
+      | inl some ↦ ap (λ (f : World). with_file f name (Some file)) (flushed_lent files name pages some) ∙ with_file-again files name (Some (shown pages (bytes_of (files name)))) (Some file)
       | inr none ↦ ap (λ (f : World). with_file f name (Some file)) (flushed_none files name pages none)
     ]
 
@@ -76,17 +77,17 @@ shown_one file page = refl
 kept_more : (files : World) (name : List ℕ) (pages : List Page) (page : Page) → page.lent ≡ false → is_some_lent (pages ++ page ∷ []) ≡ is_some_lent pages → flushed_files files name pages ≡ flushed_files files name (pages ++ page ∷ [])
 unfolding flushed_files
 kept_more files name pages page kept same =
-    let shows : shown (pages ++ page ∷ []) (bytes_of files name) ≡ shown pages (bytes_of files name) =
-    shown-push (bytes_of files name) pages page ∙ cond-false _ _ _ kept in
-    ap (λ (b : Bool). cond b (with_file files name (Some (shown pages (bytes_of files name)))) files) (sym same)
+    let shows : shown (pages ++ page ∷ []) (bytes_of (files name)) ≡ shown pages (bytes_of (files name)) =
+    shown-push (bytes_of (files name)) pages page ∙ cond-false _ _ _ kept in
+    ap (λ (b : Bool). cond b (with_file files name (Some (shown pages (bytes_of (files name))))) files) (sym same)
     ∙ ap (λ (file : List ℕ). cond (is_some_lent (pages ++ page ∷ [])) (with_file files name (Some file)) files) (sym shows)
 
 -- the file that one more page shows
-shown_more : (files : World) (name : List ℕ) (pages : List Page) (page : Page) → shown (page ∷ []) (bytes_of (flushed_files files name pages) name) ≡ shown (pages ++ page ∷ []) (bytes_of files name)
+shown_more : (files : World) (name : List ℕ) (pages : List Page) (page : Page) → shown (page ∷ []) (bytes_of (flushed_files files name pages name)) ≡ shown (pages ++ page ∷ []) (bytes_of (files name))
 shown_more files name pages page =
     ap (shown (page ∷ [])) (bytes_flushed files name pages)
-    ∙ shown_one (shown pages (bytes_of files name)) page
-    ∙ sym (shown-push (bytes_of files name) pages page)
+    ∙ shown_one (shown pages (bytes_of (files name))) page
+    ∙ sym (shown-push (bytes_of (files name)) pages page)
 
 -- one more page is written
 pub flushed-push : (files : World) (name : List ℕ) (pages : List Page) (page : Page) → flushed_files (flushed_files files name pages) name (page ∷ []) ≡ flushed_files files name (pages ++ page ∷ [])
@@ -95,7 +96,7 @@ flushed-push files name pages page =
     let some : is_some_lent (pages ++ page ∷ []) ≡ (is_some_lent pages || page.lent) = some_lent-push pages page in
     elim (cases_Bool page.lent) [
       | inl lent ↦ flushed_lent now name (page ∷ []) (ap (λ (b : Bool). b || false) lent)
-          ∙ flushed_over files name pages (shown (page ∷ []) (bytes_of now name))
+          ∙ flushed_over files name pages (shown (page ∷ []) (bytes_of (now name)))
           ∙ ap (λ (file : List ℕ). with_file files name (Some file)) (shown_more files name pages page)
           ∙ sym (flushed_lent files name (pages ++ page ∷ []) (some ∙ ap (λ (b : Bool). is_some_lent pages || b) lent ∙ or-true (is_some_lent pages)))
       | inr kept ↦ flushed-kept now name page kept
@@ -141,8 +142,8 @@ pub flushed-bytes : (files : World) (name : List ℕ) (number : ℕ) (lent : Boo
 unfolding flushed_files shown with_block
 flushed-bytes files name number lent block at is long place =
     ap (λ (n : ℕ). with_bytes files name n block) place
-    ∙ ap (λ (b : List ℕ). with_file files name (Some (overwritten (bytes_of files name) (1024 * number) b))) (sym (whole_block-same block long))
-    ∙ ap (λ (b : Bool). cond (b || false) (with_file files name (Some (cond b (overwritten (bytes_of files name) (1024 * number) (whole_block block)) (bytes_of files name)))) files) (sym is)
+    ∙ ap (λ (b : List ℕ). with_file files name (Some (overwritten (bytes_of (files name)) (1024 * number) b))) (sym (whole_block-same block long))
+    ∙ ap (λ (b : Bool). cond (b || false) (with_file files name (Some (cond b (overwritten (bytes_of (files name)) (1024 * number) (whole_block block)) (bytes_of (files name))))) files) (sym is)
 
 -- files that a call left are those that the page gives
 pub on_ok : {A E : Type 0} (result : Result A E) (told : Type 0) (new written flushed : World) → OnOk result (told → new ≡ written) → written ≡ flushed → OnOk result (told → new ≡ flushed)

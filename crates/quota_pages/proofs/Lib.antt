@@ -4,4 +4,5 @@ pub mod HeldLemmas
 pub mod BufferLemmas
 pub mod FlushLemmas
 pub mod AgainLemmas
-pub mod ReadLemmas
+pub mod UsedLemmas
+pub mod LentLemmas

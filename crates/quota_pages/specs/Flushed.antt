@@ -1,16 +1,16 @@
 -- Files that the pages of a buffer are written into.
 use Rattle.std.specs.Prelude.{◌≡◌, ℕ, zero, suc, true, List, take, Some, if◌then◌else◌}
+use Rattle.quota_blocks.specs.Block.{bytes_of}
 use Rattle.quota_blocks.specs.Count.{counted}
 use Rattle.quota_blocks.specs.Unsynced.{Names, with_name}
 use Rattle.quota_blocks.specs.World.{World, with_file}
-use Rattle.quota_pages.specs.Overlay.{bytes_of}
 use Rattle.quota_pages.specs.Page.{Page, is_some_lent, shown}
 
 -- The files once the named one has what pages show over it. Where no page was lent for writing nothing changes; a file
 -- that was not there is else made.
 unfoldable pub flushed_files : World → List ℕ → List Page → World
 flushed_files files name pages =
-    if is_some_lent pages then with_file files name (Some (shown pages (bytes_of files name))) else files
+    if is_some_lent pages then with_file files name (Some (shown pages (bytes_of (files name)))) else files
 
 -- the names that are unsynced then: the named one besides, where some page was lent for writing
 unfoldable pub flushed_names : Names → List ℕ → List Page → Names

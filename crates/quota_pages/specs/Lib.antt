@@ -3,6 +3,8 @@ pub mod Page
 pub mod Held
 pub mod Pages
 pub mod Flushed
+pub mod Used
+pub use Rattle.quota_types.specs.Times
 pub use Rattle.quota_types.specs.Bytes
 pub use Rattle.quota_blocks.specs.Block
 pub use Rattle.quota_blocks.specs.Count

@@ -1,6 +1,6 @@
 -- A block laid over a file. Source: `V2_DQBLKSIZE_BITS` of the kernel's `fs/quota/quotaio_v2.h`, blocks of 1,024 bytes.
-use Rattle.std.specs.Prelude.{ℕ, ◌*◌, List, [], ◌++◌, take, replicate, unwrap_or}
-use Rattle.quota_blocks.specs.World.{World, overwritten}
+use Rattle.std.specs.Prelude.{ℕ, ◌*◌, List, ◌++◌, take, replicate}
+use Rattle.quota_blocks.specs.World.{overwritten}
 
 -- the 1,024 bytes of a block; bytes that are missing count as 0
 abbrev pub whole_block : List ℕ → List ℕ
@@ -9,7 +9,3 @@ whole_block bytes = take 1024 (bytes ++ replicate 1024 0)
 -- a file with a block laid over it, at 1,024 times its number
 unfoldable pub with_block : List ℕ → ℕ → List ℕ → List ℕ
 with_block file number bytes = overwritten file (1024 * number) (whole_block bytes)
-
--- the bytes of the file of a name; a file that is not there has none
-abbrev pub bytes_of : World → List ℕ → List ℕ
-bytes_of files name = unwrap_or (files name) []

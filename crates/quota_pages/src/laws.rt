@@ -1,14 +1,17 @@
 //! Laws of what a buffer of pages shows.
 
-ghost use Rattle.std.specs.Prelude.{◌≡◌, ◌≢◌, ◌⊎◌, ◌+◌, ◌*◌, ◌<◌, ◌≤◌, ℕ, IsTrue, true, false, IfOk, OnErr, List, [], length, max};
+ghost use Rattle.std.specs.Prelude.{◌≡◌, ◌≢◌, ◌⊎◌, ◌+◌, ◌*◌, ◌<◌, ◌≤◌, ℕ, Bool, IsTrue, true, false, IfOk, OnErr, List, [], ◌++◌, length, max};
 ghost use Rattle.quota_types.specs.Bytes.{byte_at, number_at};
 ghost use Rattle.quota_blocks.specs.Count.{Rose};
 ghost use Rattle.quota_blocks.specs.World.{World};
-ghost use Rattle.quota_blocks.specs.Block.{block_of};
-ghost use Rattle.quota_pages.specs.Overlay.{bytes_of, with_block};
+ghost use Rattle.quota_blocks.specs.Seen.{StoreSeen};
+ghost use Rattle.quota_types.specs.Times.{StandsIn};
+ghost use Rattle.quota_blocks.specs.Block.{block_of, bytes_of};
+ghost use Rattle.quota_pages.specs.Overlay.{with_block};
 ghost use Rattle.quota_pages.specs.Flushed.{IsPartlyFlushed};
 ghost use Rattle.quota_pages.specs.Page.{IsClean, Page, is_lent, shown};
 ghost use Rattle.quota_pages.specs.Pages.{name_of, pages_of};
+ghost use Rattle.quota_pages.specs.Used.{KeepsBlocksBut, LendsSome, LooksAtSome, file_of, shown_over};
 ghost use Rattle.quota_pages.specs.declared.page_buffer.Pages.{Pages as Buffer};
 
 use crate::Pages;
@@ -51,9 +54,9 @@ pub fn all_but_lent_blocks_stay()
 pub fn a_block_is_the_old_or_the_new_one()
     ensures { (buffer : Buffer) (old new : World) (number : ℕ)
         → IsPartlyFlushed (name_of buffer) (pages_of buffer) old new
-        → (block_of (bytes_of new (name_of buffer)) number ≡ block_of (bytes_of old (name_of buffer)) number)
-        ⊎ (block_of (bytes_of new (name_of buffer)) number
-        ≡ block_of (shown (pages_of buffer) (bytes_of old (name_of buffer))) number) }
+        → (block_of (bytes_of (new (name_of buffer))) number ≡ block_of (bytes_of (old (name_of buffer))) number)
+        ⊎ (block_of (bytes_of (new (name_of buffer))) number
+        ≡ block_of (shown (pages_of buffer) (bytes_of (old (name_of buffer)))) number) }
 {}
 
 /// After a fault of a flush the buffer shows over the file, as that is then, what it showed over the old one, and is as
@@ -61,10 +64,33 @@ pub fn a_block_is_the_old_or_the_new_one()
 pub fn a_fault_leaves_what_is_shown()
     ensures shown { (buffer : Buffer) (old new : World)
         → IsPartlyFlushed (name_of buffer) (pages_of buffer) old new
-        → shown (pages_of buffer) (bytes_of new (name_of buffer)) ≡ shown (pages_of buffer) (bytes_of old (name_of buffer)) }
+        → shown (pages_of buffer) (bytes_of (new (name_of buffer)))
+        ≡ shown (pages_of buffer) (bytes_of (old (name_of buffer))) }
     ensures clean { (buffer : Buffer) (old new : World)
         → IsPartlyFlushed (name_of buffer) (pages_of buffer) old new
-        → IsClean (pages_of buffer) (bytes_of old (name_of buffer)) → IsClean (pages_of buffer) (bytes_of new (name_of buffer)) }
+        → IsClean (pages_of buffer) (bytes_of (old (name_of buffer)))
+        → IsClean (pages_of buffer) (bytes_of (new (name_of buffer))) }
+{}
+
+/// Calls that look at pages, one after another, look at as many as both, and leave what is shown. Calls that lend pages,
+/// one after another, lend those of both, and leave all other blocks that are shown. A page that was lent twice counts
+/// once.
+pub fn calls_stand_for_one()
+    ensures looks { (tells : Bool) (one two : ℕ) (before between now : StoreSeen) (old middle new : Buffer)
+        → LooksAtSome tells one before between old middle → LooksAtSome tells two between now middle new
+        → LooksAtSome tells (one + two) before now old new }
+    ensures shown { (tells : Bool) (count : ℕ) (before now : StoreSeen) (old new : Buffer)
+        → LooksAtSome tells count before now old new → shown_over now new ≡ shown_over before old }
+    ensures lends { (tells : Bool) (one two : ℕ) (these those : List ℕ) (before between now : StoreSeen)
+        (old middle new : Buffer)
+        → LendsSome tells one these before between old middle → LendsSome tells two those between now middle new
+        → LendsSome tells (one + two) (these ++ those) before now old new }
+    ensures once { (tells : Bool) (count : ℕ) (numbers more : List ℕ) (before now : StoreSeen) (old new : Buffer)
+        → ((number : ℕ) → StandsIn numbers number → StandsIn more number)
+        → LendsSome tells count numbers before now old new → LendsSome tells count more before now old new }
+    ensures others { (tells : Bool) (count : ℕ) (numbers : List ℕ) (before now : StoreSeen) (old new : Buffer)
+        → LendsSome tells count numbers before now old new
+        → KeepsBlocksBut numbers (shown_over before old) (shown_over now new) }
 {}
 
 /// A word that is set in one block leaves each other block as it was shown. This answers a word of the other block.
@@ -83,9 +109,8 @@ pub fn another_block_stays<S: Store>(
     requires word { at + 4 ≤ 1024 }
     requires room { length (pages_of pages.old) + 2 ≤ 12 }
     ensures stays { IfOk result (λ word. other ≢ number → IsTrue S.tells
-        → IsClean (pages_of pages.old) (bytes_of (S.seen store.old).files (name_of pages.old))
-        → word ≡ number_at 4 (block_of (shown (pages_of pages.old)
-        (bytes_of (S.seen store.old).files (name_of pages.old))) other) at) }
+        → IsClean (pages_of pages.old) (file_of (S.seen store.old) pages.old)
+        → word ≡ number_at 4 (block_of (shown_over (S.seen store.old) pages.old) other) at) }
     ensures cause { OnErr result (Rose (S.seen store.old).faults (S.seen store.new).faults) }
 {
     let block = pages.page(store, number)?;

@@ -7,7 +7,6 @@
 //! lent for writing, and a flush makes the file what was shown.
 #![tactic(auto)]
 
-mod block_read;
 mod held_blocks;
 pub mod laws;
 mod page_buffer;

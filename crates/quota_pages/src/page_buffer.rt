@@ -2,10 +2,9 @@ ghost use Rattle.std.specs.Prelude.{◌≡◌, IsTrue, length};
 ghost use Rattle.quota_pages.specs.Held.{pages_in};
 ghost use Rattle.quota_pages.specs.Page.{are_distinct};
 
-use crate::block_read::read_block;
 use crate::held_blocks::{Held, ROOM};
 use crate::page_write::write_pages;
-use quota_blocks::{Store, StoreFault};
+use quota_blocks::{Store, StoreFault, le32, read_block, set_le32};
 
 /// A buffer of up to twelve blocks of one file, of 1,024 bytes each. Bytes past the end of the file are 0.
 #[derive(Drop)]
@@ -19,7 +18,7 @@ pub struct Pages {
 
 #[tactic(auto, unfolding(crate::specs::Pages::name_of, crate::specs::Pages::pages_of))]
 impl Pages {
-    ghost use Rattle.std.specs.Prelude.{ℕ, ◌+◌, ◌<◌, ◌≤◌, ◌⊎◌, List, [], true, false, IsOk, IfOk, OnOk, OnErr, MatchOption, slice_index_or, if◌then◌else◌};
+    ghost use Rattle.std.specs.Prelude.{ℕ, ◌+◌, ◌<◌, ◌≤◌, ◌⊎◌, List, [], true, false, IsOk, IfOk, OnOk, OnErr, MatchOption, slice_index_or, if◌then◌else◌, ◌∷◌, replicate};
     ghost use Rattle.std.specs.Borrow.{sem};
     ghost use Rattle.std.specs.String.{string_bytes};
     ghost use Rattle.arrayvec.specs.ArrayVec.{array_vec_len};
@@ -27,9 +26,10 @@ impl Pages {
     ghost use Rattle.quota_blocks.specs.Frame.{ChangesOne, OnlyReads};
     ghost use Rattle.quota_blocks.specs.Unsynced.{AddsNone};
     ghost use Rattle.quota_blocks.specs.Block.{block_of};
-    ghost use Rattle.quota_pages.specs.Overlay.{bytes_of};
     ghost use Rattle.quota_pages.specs.Flushed.{IsPartlyFlushed, counted_by, flushed_files, flushed_names};
     ghost use Rattle.quota_pages.specs.Page.{HasRoomFor, IsClean, is_buffered, is_lent, is_some_lent, lent_count, shown};
+    ghost use Rattle.quota_types.specs.Bytes.{number_at};
+    ghost use Rattle.quota_pages.specs.Used.{HasWord, IsKnown, LendsSome, LooksAtSome, file_of, missing, shown_over};
     ghost use Rattle.quota_pages.specs.Pages.{EndsLent, EndsLookedAt, HasAt, LooksAt, StaysAsItWas, name_of, pages_of};
 
     /// An empty buffer over the file of this name.
@@ -64,12 +64,10 @@ impl Pages {
     /// The store failed. The buffer is as before.
     pub fn peek<S: Store>(&mut self, store: &mut S, n: u32) -> Result<&[u8; 1024], StoreFault>
         requires { HasRoomFor (pages_of self.old) n }
-        ensures* looked { sem 𝓛 (EndsLookedAt S.tells
-            (bytes_of (S.seen store.old).files (name_of self.old)) n self.entry result) }
+        ensures* looked { sem 𝓛 (EndsLookedAt S.tells (file_of (S.seen store.old) self.old) n self.entry result) }
         ensures block { IfOk result (λ block. IsTrue S.tells
-            → IsClean (pages_of self.old) (bytes_of (S.seen store.old).files (name_of self.old))
-            → block.now ≡ block_of (shown (pages_of self.old)
-            (bytes_of (S.seen store.old).files (name_of self.old))) n) }
+            → IsClean (pages_of self.old) (file_of (S.seen store.old) self.old)
+            → block.now ≡ block_of (shown_over (S.seen store.old) self.old) n) }
         ensures lent { IfOk result (λ block. is_lent (pages_of self.old) n ≡ true
             → (file : List ℕ) → block.now ≡ block_of (shown (pages_of self.old) file) n) }
         ensures buffered { is_buffered (pages_of self.old) n ≡ true → (IsOk result) × (store.new ≡ store.old) }
@@ -91,12 +89,10 @@ impl Pages {
     /// The store failed. The buffer is as before.
     pub fn page<S: Store>(&mut self, store: &mut S, n: u32) -> Result<&mut [u8; 1024], StoreFault>
         requires { HasRoomFor (pages_of self.old) n }
-        ensures* lends { sem 𝓛 (EndsLent S.tells
-            (bytes_of (S.seen store.old).files (name_of self.old)) n self.entry result) }
+        ensures* lends { sem 𝓛 (EndsLent S.tells (file_of (S.seen store.old) self.old) n self.entry result) }
         ensures block { IfOk result (λ block. IsTrue S.tells
-            → IsClean (pages_of self.old) (bytes_of (S.seen store.old).files (name_of self.old))
-            → block.now ≡ block_of (shown (pages_of self.old)
-            (bytes_of (S.seen store.old).files (name_of self.old))) n) }
+            → IsClean (pages_of self.old) (file_of (S.seen store.old) self.old)
+            → block.now ≡ block_of (shown_over (S.seen store.old) self.old) n) }
         ensures lent { IfOk result (λ block. is_lent (pages_of self.old) n ≡ true
             → (file : List ℕ) → block.now ≡ block_of (shown (pages_of self.old) file) n) }
         ensures buffered { is_buffered (pages_of self.old) n ≡ true → (IsOk result) × (store.new ≡ store.old) }
@@ -108,6 +104,81 @@ impl Pages {
     {
         let place = self.bring(store, n)?;
         Ok(self.held.lend(place))
+    }
+
+    /// The number of four bytes at byte `at` of block `n`, which is buffered then.
+    ///
+    /// # Errors
+    ///
+    /// The store failed. The buffer shows what it showed.
+    pub fn word<S: Store>(&mut self, store: &mut S, n: u32, at: usize) -> Result<u32, StoreFault>
+        requires word { at + 4 ≤ 1024 }
+        requires room { HasRoomFor (pages_of self.old) n }
+        ensures value { IfOk result (λ value. IsKnown S.tells (S.seen store.old) self.old
+            → value ≡ number_at 4 (block_of (shown_over (S.seen store.old) self.old) n) at) }
+        ensures looked { LooksAtSome S.tells (missing (pages_of self.old) n)
+            (S.seen store.old) (S.seen store.new) self.old self.new }
+        ensures brought { OnOk result (is_buffered (pages_of self.new) n ≡ true) }
+        ensures buffered { is_buffered (pages_of self.old) n ≡ true → (IsOk result) × (store.new ≡ store.old) }
+        ensures cause { OnErr result (Rose (S.seen store.old).faults (S.seen store.new).faults) }
+        ensures synced { OnOk result (AddsNone (S.seen store.old).unsynced (S.seen store.new).unsynced) }
+    {
+        let block = self.peek(store, n)?;
+        Ok(le32(block, at))
+    }
+
+    /// Writes a number of four bytes at byte `at` of block `n`. All its other bytes stay.
+    ///
+    /// # Errors
+    ///
+    /// The store failed. The buffer shows what it showed.
+    pub fn set_word<S: Store>(
+        &mut self,
+        store: &mut S,
+        n: u32,
+        at: usize,
+        value: u32,
+    ) -> Result<(), StoreFault>
+        requires word { at + 4 ≤ 1024 }
+        requires room { HasRoomFor (pages_of self.old) n }
+        ensures set { OnOk result (IsKnown S.tells (S.seen store.old) self.old
+            → HasWord n at value (shown_over (S.seen store.old) self.old) (shown_over (S.seen store.new) self.new)) }
+        ensures lends { OnOk result (LendsSome S.tells (missing (pages_of self.old) n) (n ∷ [])
+            (S.seen store.old) (S.seen store.new) self.old self.new) }
+        ensures kept { OnErr result (LooksAtSome S.tells (missing (pages_of self.old) n)
+            (S.seen store.old) (S.seen store.new) self.old self.new) }
+        ensures marked { OnOk result (is_lent (pages_of self.new) n ≡ true) }
+        ensures brought { OnOk result (is_buffered (pages_of self.new) n ≡ true) }
+        ensures buffered { is_buffered (pages_of self.old) n ≡ true → (IsOk result) × (store.new ≡ store.old) }
+        ensures cause { OnErr result (Rose (S.seen store.old).faults (S.seen store.new).faults) }
+        ensures synced { OnOk result (AddsNone (S.seen store.old).unsynced (S.seen store.new).unsynced) }
+    {
+        let block = self.page(store, n)?;
+        set_le32(block, at, value);
+        Ok(())
+    }
+
+    /// Makes each byte of block `n` 0.
+    ///
+    /// # Errors
+    ///
+    /// The store failed. The buffer shows what it showed.
+    pub fn blank<S: Store>(&mut self, store: &mut S, n: u32) -> Result<(), StoreFault>
+        requires { HasRoomFor (pages_of self.old) n }
+        ensures blank { OnOk result (IsKnown S.tells (S.seen store.old) self.old
+            → block_of (shown_over (S.seen store.new) self.new) n ≡ replicate 1024 0) }
+        ensures lends { OnOk result (LendsSome S.tells (missing (pages_of self.old) n) (n ∷ [])
+            (S.seen store.old) (S.seen store.new) self.old self.new) }
+        ensures kept { OnErr result (LooksAtSome S.tells (missing (pages_of self.old) n)
+            (S.seen store.old) (S.seen store.new) self.old self.new) }
+        ensures marked { OnOk result (is_lent (pages_of self.new) n ≡ true) }
+        ensures brought { OnOk result (is_buffered (pages_of self.new) n ≡ true) }
+        ensures buffered { is_buffered (pages_of self.old) n ≡ true → (IsOk result) × (store.new ≡ store.old) }
+        ensures cause { OnErr result (Rose (S.seen store.old).faults (S.seen store.new).faults) }
+        ensures synced { OnOk result (AddsNone (S.seen store.old).unsynced (S.seen store.new).unsynced) }
+    {
+        self.page(store, n)?.fill(0);
+        Ok(())
     }
 
     /// Writes each block that was lent for writing, and empties the buffer.
@@ -150,8 +221,7 @@ impl Pages {
     fn bring<S: Store>(&mut self, store: &mut S, number: u32) -> Result<usize, StoreFault>
         requires { HasRoomFor (pages_of self.old) number }
         ensures place { IfOk result (λ place. HasAt place number self.new) }
-        ensures looked { OnOk result (LooksAt S.tells
-            (bytes_of (S.seen store.old).files (name_of self.old)) number self.old self.new) }
+        ensures looked { OnOk result (LooksAt S.tells (file_of (S.seen store.old) self.old) number self.old self.new) }
         ensures kept { OnErr result (StaysAsItWas self.old self.new) }
         ensures buffered { is_buffered (pages_of self.old) number ≡ true → (IsOk result) × (store.new ≡ store.old) }
         ensures reads { (S.seen store.new).reads ≡ (if is_buffered (pages_of self.old) number
@@ -171,15 +241,15 @@ impl Pages {
         requires room { length (pages_of self.old) < 12 }
         requires absent { is_buffered (pages_of self.old) number ≡ false }
         ensures place { IfOk result (λ place. HasAt place number self.new) }
-        ensures looked { OnOk result (LooksAt S.tells
-            (bytes_of (S.seen store.old).files (name_of self.old)) number self.old self.new) }
+        ensures looked { OnOk result (LooksAt S.tells (file_of (S.seen store.old) self.old) number self.old self.new) }
         ensures kept { OnErr result (StaysAsItWas self.old self.new) }
         ensures reads { (S.seen store.new).reads ≡ counted (S.seen store.old).reads }
         ensures cause { OnErr result (Rose (S.seen store.old).faults (S.seen store.new).faults) }
         ensures leaves { OnlyReads (name_of self.old) (S.seen store.old) (S.seen store.new) }
         ensures synced { OnOk result (AddsNone (S.seen store.old).unsynced (S.seen store.new).unsynced) }
     {
-        let block = read_block(store, self.name.as_str(), number)?;
+        let mut block = [0; 1024];
+        read_block(store, self.name.as_str(), number, &mut block)?;
         let place = self.held.count();
         self.held.push(number, block);
         Ok(place)

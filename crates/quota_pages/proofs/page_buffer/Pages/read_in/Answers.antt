@@ -1,6 +1,5 @@
 use Rattle.std.proofs.Common.{List, ℕ, refl, ap, ◌∙◌, arith}
-use Rattle.quota_blocks.specs.Block.{block_of}
-use Rattle.quota_pages.specs.Overlay.{bytes_of}
+use Rattle.quota_blocks.specs.Block.{block_of, bytes_of}
 use Rattle.quota_pages.specs.Pages.{name_of, pages_of}
 use Rattle.quota_pages.proofs.BufferLemmas.{looks_at-read, page_count, pushed_distinct}
 use Rattle.quota_pages.proofs.HeldLemmas.{pushed_beside, pushed_pages}
@@ -22,6 +21,6 @@ invariant_of-self-clause-distinct g c = pushed_distinct _ _ _ _ _ _ c.args.self.
 pub returns-clause-looked : goal.returns-clause-looked
 unfolding pages_of name_of
 returns-clause-looked g c =
-    looks_at-read g.S.Store.tells (bytes_of (g.S.Store.seen c.args.store.now).files (name_of c.args.self.now)) c.args.number c.in_ok-block.block c.args.self.now _ refl c.requires.absent
+    looks_at-read g.S.Store.tells (bytes_of ((g.S.Store.seen c.args.store.now).files (name_of c.args.self.now))) c.args.number c.read_block.new.block c.args.self.now _ refl c.requires.absent
     (pushed_pages _ _ _ _ _ _ c.args.self.now.beside c.push.ensures.heads c.push.ensures.blocks)
-    (λ told. c.in_ok-block.ensures.bytes told ∙ ap (λ (name : List ℕ). block_of (bytes_of (g.S.Store.seen c.args.store.now).files name) c.args.number) c.as_str.ensures.value)
+    (λ told. c.in_ok-read_block.ensures.bytes told ∙ ap (λ (name : List ℕ). block_of (bytes_of ((g.S.Store.seen c.args.store.now).files name)) c.args.number) c.as_str.ensures.value)

@@ -1,0 +1,68 @@
+-- What calls over a buffer of pages leave of it, and of what it shows over its file.
+use Rattle.std.specs.Prelude.{◌≡◌, ℕ, ◌+◌, ◌*◌, ◌<◌, ◌≤◌, Bool, true, IsTrue, List, length, max, if◌then◌else◌}
+use Rattle.quota_types.specs.Bytes.{number_at}
+use Rattle.quota_types.specs.Times.{StandsIn, times}
+use Rattle.quota_blocks.specs.Block.{block_of, bytes_of}
+use Rattle.quota_blocks.specs.Frame.{OnlyReads}
+use Rattle.quota_blocks.specs.Seen.{StoreSeen}
+use Rattle.quota_blocks.specs.Span.{KeepsOutside}
+use Rattle.quota_pages.specs.Page.{IsClean, Page, is_buffered, is_lent, lent_count, shown}
+use Rattle.quota_pages.specs.Pages.{name_of, pages_of}
+use Rattle.quota_pages.specs.declared.page_buffer.Pages.{Pages}
+
+-- the bytes of a buffer's file, as a store has it
+abbrev pub file_of : StoreSeen → Pages → List ℕ
+file_of seen buffer = bytes_of (seen.files (name_of buffer))
+
+-- what a buffer shows over its file, as a store has it
+abbrev pub shown_over : StoreSeen → Pages → List ℕ
+shown_over seen buffer = shown (pages_of buffer) (file_of seen buffer)
+
+-- What a buffer shows is known: the store tells its files, and the buffer is clean over its file.
+pub record IsKnown (tells : Bool) (seen : StoreSeen) (buffer : Pages) : Type 0 where
+  pub told : IsTrue tells
+  pub clean : IsClean (pages_of buffer) (file_of seen buffer)
+
+-- how many blocks are read to have the one of this number buffered
+abbrev pub missing : List Page → ℕ → ℕ
+missing pages number = if is_buffered pages number then 0 else 1
+
+-- So many pages were looked at, at most: the name and what was buffered stay, and so does what the buffer shows, over any file;
+-- no further page was lent for writing, and no file changed.
+pub record LooksAtSome (tells : Bool) (count : ℕ) (before now : StoreSeen) (old new : Pages) : Type 0 where
+  pub name : name_of new ≡ name_of old
+  pub few : length (pages_of new) ≤ length (pages_of old) + count
+  pub stay : (number : ℕ) → is_buffered (pages_of old) number ≡ true → is_buffered (pages_of new) number ≡ true
+  pub shows : (file : List ℕ) → shown (pages_of new) file ≡ shown (pages_of old) file
+  pub lent : (number : ℕ) → is_lent (pages_of new) number ≡ is_lent (pages_of old) number
+  pub lent_count : lent_count (pages_of new) ≡ lent_count (pages_of old)
+  pub known : IsKnown tells before old → IsKnown tells now new
+  pub leaves : OnlyReads (name_of old) before now
+  pub reads : now.reads ≤ before.reads + count
+
+-- Of a file's blocks all but those of a list have the bytes that they had, and the file grows no further than to the end of
+-- the last of those.
+pub record KeepsBlocksBut (numbers : List ℕ) (old new : List ℕ) : Type 0 where
+  pub others : (number : ℕ) → times numbers number ≡ 0 → block_of new number ≡ block_of old number
+  pub longer : length old ≤ length new
+  pub within : (blocks : ℕ) → ((number : ℕ) → StandsIn numbers number → number < blocks) → length new ≤ max (length old) (1024 * blocks)
+
+-- Pages of no blocks but those of a list were lent for writing, and so many were read, at most: the name and what was buffered
+-- stay, and so does what the buffer shows of other blocks, over any file; a page that was lent before still is, and no file
+-- changed.
+pub record LendsSome (tells : Bool) (count : ℕ) (numbers : List ℕ) (before now : StoreSeen) (old new : Pages) : Type 0 where
+  pub name : name_of new ≡ name_of old
+  pub few : length (pages_of new) ≤ length (pages_of old) + count
+  pub stay : (number : ℕ) → is_buffered (pages_of old) number ≡ true → is_buffered (pages_of new) number ≡ true
+  pub shows : (file : List ℕ) → KeepsBlocksBut numbers (shown (pages_of old) file) (shown (pages_of new) file)
+  pub lent : (number : ℕ) → times numbers number ≡ 0 → is_lent (pages_of new) number ≡ is_lent (pages_of old) number
+  pub still_lent : (number : ℕ) → is_lent (pages_of old) number ≡ true → is_lent (pages_of new) number ≡ true
+  pub lent_count : lent_count (pages_of new) ≤ lent_count (pages_of old) + length numbers
+  pub known : IsKnown tells before old → IsKnown tells now new
+  pub leaves : OnlyReads (name_of old) before now
+  pub reads : now.reads ≤ before.reads + count
+
+-- A block has a number of four bytes at a place, and all its other bytes are as before.
+pub record HasWord (number at value : ℕ) (old new : List ℕ) : Type 0 where
+  pub is : number_at 4 (block_of new number) at ≡ value
+  pub others : KeepsOutside at (at + 4) (block_of old number) (block_of new number)
