@@ -8,7 +8,7 @@ use Rattle.quota_types.specs.Times.{StandsIn, times}
 use Rattle.quota_types.proofs.TimesLemmas.{few_of_distinct, times-append, times-cons-same, times_cases}
 use Rattle.quota_blocks.proofs.LeadsLemmas.{leads_within, leads_from}
 
-goes_on_by_one : (next : ℕ → ℕ) (head at : ℕ) (done : List ℕ) → done ++ at ∷ [] ≡ head ∷ map next done
+pub goes_on_by_one : (next : ℕ → ℕ) (head at : ℕ) (done : List ℕ) → done ++ at ∷ [] ≡ head ∷ map next done
     → (done ++ at ∷ []) ++ next at ∷ [] ≡ head ∷ map next (done ++ at ∷ [])
 goes_on_by_one next head at done linked =
     ap (λ (xs : List ℕ). xs ++ next at ∷ []) linked ∙ ap (λ (xs : List ℕ). head ∷ xs) (sym (map-append next done (at ∷ [])))
@@ -26,14 +26,14 @@ end_or_block blocks at done = elim (cases_lt 0 at) [
   ]
 ]
 
-inside_with : (blocks at : ℕ) (done : List ℕ) → ((n : ℕ) → StandsIn done n → IsTrue (leads blocks n)) → IsTrue (leads blocks at)
+pub inside_with : (blocks at : ℕ) (done : List ℕ) → ((n : ℕ) → StandsIn done n → IsTrue (leads blocks n)) → IsTrue (leads blocks at)
     → (n : ℕ) → StandsIn (done ++ at ∷ []) n → IsTrue (leads blocks n)
 inside_with blocks at done inside here n stands = elim (times_cases at [] n) [
   | inl same ↦ subst (λ (k : ℕ). IsTrue (leads blocks k)) same.0 here
   | inr other ↦ inside n (omega (arith, stands, times-append done (at ∷ []) n, other.1))
 ]
 
-distinct_with : (at : ℕ) (done : List ℕ) → ((n : ℕ) → times done n ≤ 1) → times done at ≡ 0 → (n : ℕ) → times (done ++ at ∷ []) n ≤ 1
+pub distinct_with : (at : ℕ) (done : List ℕ) → ((n : ℕ) → times done n ≤ 1) → times done at ≡ 0 → (n : ℕ) → times (done ++ at ∷ []) n ≤ 1
 distinct_with at done distinct new n = elim (times_cases at [] n) [
   | inl same ↦ omega (arith, times-append done (at ∷ []) n, same.1, ap (λ (k : ℕ). times done k) same.0, new)
   | inr other ↦ omega (arith, times-append done (at ∷ []) n, other.1, distinct n)

@@ -1,5 +1,9 @@
 pub mod Chain
 pub mod ChainDefect
+pub mod ChainFault
+pub mod Links
+pub mod FreeList
+pub mod EntryList
 pub mod Walk
 pub use Rattle.quota_types.specs.Bytes
 pub use Rattle.quota_types.specs.Damage
@@ -7,7 +11,12 @@ pub use Rattle.quota_types.specs.Times
 pub use Rattle.quota_blocks.specs.Block
 pub use Rattle.quota_blocks.specs.BlockSet
 pub use Rattle.quota_blocks.specs.CheckFault
+pub use Rattle.quota_blocks.specs.Count
 pub use Rattle.quota_blocks.specs.Frame
 pub use Rattle.quota_blocks.specs.Seen
+pub use Rattle.quota_blocks.specs.Span
 pub use Rattle.quota_blocks.specs.Unsynced
 pub use Rattle.quota_blocks.specs.World
+pub use Rattle.quota_pages.specs.Page
+pub use Rattle.quota_pages.specs.Pages
+pub use Rattle.quota_pages.specs.Used

@@ -1,0 +1,96 @@
+-- The list of free blocks, counted block by block.
+use Rattle.std.proofs.Common.{◌≡◌, ◌≢◌, subst, ℕ, ◌<◌, ◌≤◌, Bool, true, false, IsTrue, List, [], ◌∷◌, ◌++◌, length, map, refl, sym, ap, ◌∙◌, ◌⊎◌, inl, inr, arith, zero-le, length-append, ◌||◌}
+use Rattle.std.specs.Prelude.{◌==◌}
+use Rattle.std.specs.List.{list_any}
+use Rattle.std.proofs.lemmas.Bool.{true≢false}
+use Rattle.quota_types.specs.Times.{StandsIn, times}
+use Rattle.quota_types.proofs.TimesLemmas.{times_cases}
+use Rattle.std.proofs.lemmas.Bool.Decides.{eqb_tells}
+use Rattle.quota_blocks.specs.Block.{leads, next_of}
+use Rattle.quota_blocks.proofs.LeadsLemmas.{leads_from}
+use Rattle.free_chains.specs.Chain.{IsChain}
+use Rattle.free_chains.specs.FreeList.{CountsFree, EndsBefore}
+use Rattle.free_chains.specs.declared.heads.Heads.{Heads}
+use Rattle.free_chains.proofs.ChainLemmas.{chain_goes_on, distinct_with, goes_on_by_one, inside_with, one_chain}
+
+-- The blocks that were met are the list of a head as far as the number to which the last of them leads.
+pub record IsBegun (file : List ℕ) (blocks head : ℕ) (met : List ℕ) (at : ℕ) : Type 0 where
+  pub linked : met ++ at ∷ [] ≡ head ∷ map (next_of file) met
+  pub inside : (number : ℕ) → StandsIn met number → IsTrue (leads blocks number)
+  pub distinct : (number : ℕ) → times met number ≤ 1
+
+pub begun_none : (file : List ℕ) (blocks head : ℕ) → IsBegun file blocks head [] head
+begun_none file blocks head = record { linked = refl; inside = λ number stands. absurd (omega (arith, stands)); distinct = λ number. zero-le }
+
+pub begun_more : (file : List ℕ) (blocks head : ℕ) (met : List ℕ) (at : ℕ) → IsBegun file blocks head met at → IsTrue (leads blocks at) → times met at ≡ 0 → IsBegun file blocks head (met ++ at ∷ []) (next_of file at)
+begun_more file blocks head met at begun leads_there new = record {
+  linked = goes_on_by_one (next_of file) head at met begun.linked;
+  inside = inside_with blocks at met begun.inside leads_there;
+  distinct = distinct_with at met begun.distinct new;
+}
+
+-- a list that ends is the one that was met
+met_all : (file : List ℕ) (blocks head : ℕ) (met : List ℕ) (at : ℕ) → IsBegun file blocks head met at → (at ≡ 0) ⊎ (blocks ≤ at) ⊎ StandsIn met at → IsChain file blocks head met at
+met_all file blocks head met at begun stops = record { linked = begun.linked; inside = begun.inside; distinct = begun.distinct; stops = stops }
+
+pub counts_ended : (file : List ℕ) (heads : Heads) (most count : ℕ) (met : List ℕ) (at : ℕ) → IsBegun file heads.blocks heads.free met at → (at ≡ 0) ⊎ StandsIn met at → at < heads.blocks → length met ≡ count → count < most → CountsFree file heads most count
+counts_ended file heads most count met at begun stops low long fewer =
+    let whole = met_all file heads.blocks heads.free met at begun (elim stops [ inl none ↦ inl none | inr again ↦ inr (inr again) ]) in
+    record {
+      is = λ chain end c.
+          let same = one_chain file heads.blocks heads.free chain end met at c whole in
+          omega (arith, ap length same.0, long, fewer);
+      inside = λ chain end c less.
+          let same = one_chain file heads.blocks heads.free chain end met at c whole in
+          omega (arith, same.1, low);
+    }
+
+pub counts_most : (file : List ℕ) (heads : Heads) (most : ℕ) (met : List ℕ) (at : ℕ) → IsBegun file heads.blocks heads.free met at → length met ≡ most → CountsFree file heads most most
+counts_most file heads most met at begun long =
+    let whole = chain_goes_on file heads.blocks heads.free met at begun.linked begun.inside begun.distinct in
+    let enough : (chain : List ℕ) (end : ℕ) → IsChain file heads.blocks heads.free chain end → most ≤ length chain = λ chain end c.
+    let same = one_chain file heads.blocks heads.free chain end (met ++ whole.0) whole.1 c whole.2 in
+    omega (arith, ap length same.0, length-append met whole.0, long) in
+    record {
+      is = λ chain end c. omega (arith, enough chain end c);
+      inside = λ chain end c less. absurd (omega (arith, less, enough chain end c));
+    }
+
+pub ends_before : (file : List ℕ) (heads : Heads) (most : ℕ) (met : List ℕ) (at : ℕ) → IsBegun file heads.blocks heads.free met at → heads.blocks ≤ at → length met < most → EndsBefore file heads most at
+ends_before file heads most met at begun out fewer =
+    let whole = met_all file heads.blocks heads.free met at begun (inr (inl out)) in
+    record {
+      few = λ chain end c. let same = one_chain file heads.blocks heads.free chain end met at c whole in omega (arith, ap length same.0, fewer);
+      at = λ chain end c. (one_chain file heads.blocks heads.free chain end met at c whole).1;
+    }
+
+-- a number that is found in a list stands in it
+pub found_stands : (xs : List ℕ) (n : ℕ) → list_any (λ other. other == n) xs ≡ true → StandsIn xs n
+found_stands [] n found = absurd (true≢false (sym found))
+found_stands (x ∷ xs) n found = elim (times_cases x xs n) [
+  | inl same ↦ omega (arith, same.1)
+  | inr other ↦ elim (eqb_tells x n) [
+    | inl is ↦ absurd (other.0 is.1)
+    | inr differs ↦ omega (arith, other.1, found_stands xs n (sym (ap (λ (b : Bool). b || list_any (λ other. other == n) xs) differs.0) ∙ found))
+  ]
+]
+
+-- and one that is not does not
+pub absent_none : (xs : List ℕ) (n : ℕ) → list_any (λ other. other == n) xs ≡ false → times xs n ≡ 0
+absent_none [] n absent = refl
+absent_none (x ∷ xs) n absent = elim (eqb_tells x n) [
+  | inl is ↦ absurd (true≢false (sym (ap (λ (b : Bool). b || list_any (λ other. other == n) xs) is.0) ∙ absent))
+  | inr differs ↦ elim (times_cases x xs n) [
+    | inl same ↦ absurd (differs.1 same.0)
+    | inr other ↦ other.1 ∙ absent_none xs n (sym (ap (λ (b : Bool). b || list_any (λ other. other == n) xs) differs.0) ∙ absent)
+  ]
+]
+
+-- one more block was met, and read
+pub begun_step : (old between : List ℕ) (blocks head : ℕ) (met pushed : List ℕ) (at next : ℕ) → IsBegun old blocks head met at → at ≢ 0 → at < blocks → list_any (λ other. other == at) met ≡ false
+    → pushed ≡ met ++ at ∷ [] → between ≡ old → next ≡ next_of between at → IsBegun old blocks head pushed next
+begun_step old between blocks head met pushed at next begun some low new pushes same link =
+    let more : IsBegun old blocks head (met ++ at ∷ []) (next_of old at) =
+    begun_more old blocks head met at begun (leads_from blocks at (omega (arith, some)) low) (absent_none met at new) in
+    subst (λ (xs : List ℕ). IsBegun old blocks head xs next) (sym pushes)
+    (subst (λ (k : ℕ). IsBegun old blocks head (met ++ at ∷ []) k) (sym (link ∙ ap (λ (file : List ℕ). next_of file at) same)) more)

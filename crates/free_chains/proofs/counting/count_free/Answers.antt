@@ -1,0 +1,41 @@
+use Rattle.std.proofs.Common.{ℕ, ◌+◌, List, ap, arith, inl, inr, refl, sym, ◌∙◌}
+use Rattle.std.specs.Prelude.{◌==◌}
+use Rattle.std.specs.List.{list_any}
+use Rattle.quota_blocks.proofs.FrameLemmas.{adds_none-then}
+use Rattle.quota_pages.proofs.UsedLemmas.{looks_more, looks_then, missing-few, shown_over-looks}
+use Rattle.quota_pages.specs.Pages.{pages_of}
+use Rattle.free_chains.proofs.CountLemmas.{begun_step, counts_ended, counts_most, ends_before, found_stands}
+use Rattle.free_chains.proofs.counting.count_free.Goals as goal
+use Rattle.free_chains.proofs.counting.count_free.Goals.{then-at-eq0-via-then-at-eq0, then-at-eq0-via-else-at-eq0+then-contains}
+
+pub returns-then-at-heads-clause-refused : goal.returns-then-at-heads-clause-refused
+returns-then-at-heads-clause-refused g c = rw c.damage_at.ensures (
+  record { kind = refl; no_id = refl; out = c.if-at-heads.true },
+  λ known. ends_before _ c.args.heads.now c.args.most c.loop-count.met.items c.loop-count.at (c.loop-count.invariant.begun known) c.if-at-heads.true (omega arith),
+)
+
+pub returns-then-at-eq0-clause-count : goal.returns-then-at-eq0-clause-count
+returns-then-at-eq0-clause-count g c = λ known.
+    let met = c.loop-count.met.items in
+    let kept = c.loop-count.invariant in
+    elim c.then-at-eq0.branch [
+      | then-at-eq0-via-then-at-eq0 w ↦ counts_ended _ c.args.heads.now c.args.most c.loop-count.count met c.loop-count.at (kept.begun known) (inl w.if-at-eq0.true) c.if-at-heads.false kept.long c.loop-count-test.true
+      | then-at-eq0-via-else-at-eq0+then-contains w ↦ counts_ended _ c.args.heads.now c.args.most c.loop-count.count met c.loop-count.at (kept.begun known)
+          (inr (found_stands met c.loop-count.at (ap (λ (xs : List ℕ). list_any (λ (other : ℕ). other == c.loop-count.at) xs) (sym w.as_slice.ensures.value) ∙ sym w.contains.ensures.value ∙ w.if-contains.true))) c.if-at-heads.false kept.long c.loop-count-test.true
+    ]
+
+pub loop-count-preserved : goal.loop-count-preserved
+loop-count-preserved g c =
+    let kept = c.loop-count.invariant in
+    record {
+      long = omega (arith, c.push.ensures.len);
+      looked = looks_more (c.loop-count.count + 1) (omega (arith, missing-few (pages_of c.loop-count.pages) c.loop-count.at)) (looks_then kept.looked c.word.ensures.looked);
+      synced = adds_none-then _ _ _ kept.synced c.in_ok-at.ensures.synced;
+      begun = λ known. begun_step _ _ _ _ c.loop-count.met.items _ c.loop-count.at c.in_ok-at.at (kept.begun known) c.if-at-eq0.false c.if-at-heads.false
+          (ap (λ (xs : List ℕ). list_any (λ (other : ℕ). other == c.loop-count.at) xs) (sym c.as_slice.ensures.value) ∙ sym c.contains.ensures.value ∙ c.if-contains.false) c.push.ensures.items (shown_over-looks kept.looked)
+          (c.in_ok-at.ensures.value (kept.looked.known known));
+    }
+
+pub returns-clause-count : goal.returns-clause-count
+returns-clause-count g c = λ known.
+    counts_most _ c.args.heads.now c.args.most c.loop-count.met.items c.loop-count.at (c.loop-count.invariant.begun known) (omega arith)

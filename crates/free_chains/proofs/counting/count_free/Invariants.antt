@@ -1,0 +1,15 @@
+use Rattle.std.proofs.Common.{◌≡◌, length}
+use Rattle.quota_blocks.specs.Unsynced.{AddsNone}
+use Rattle.quota_pages.specs.Used.{IsKnown, LooksAtSome, shown_over}
+use Rattle.free_chains.proofs.CountLemmas.{IsBegun}
+use Rattle.free_chains.proofs.counting.count_free.Given as goal
+
+abbrev pub invariant-loop-count : goal.invariant-loop-count
+invariant-loop-count g l =
+    let S = g.S.Store in
+    record {
+      long : length l.met.items ≡ l.count;
+      looked : LooksAtSome S.tells l.count (S.seen l.fn.store) (S.seen l.store) l.fn.pages l.pages;
+      synced : AddsNone (S.seen l.fn.store).unsynced (S.seen l.store).unsynced;
+      begun : IsKnown S.tells (S.seen l.fn.store) l.fn.pages → IsBegun (shown_over (S.seen l.fn.store) l.fn.pages) l.heads.blocks l.heads.free l.met.items l.at;
+    }

@@ -1,0 +1,21 @@
+use Rattle.std.proofs.Common.{ℕ}
+use Rattle.quota_pages.proofs.UsedLemmas.{shown_over-lends, shown_over-looks}
+use Rattle.free_chains.proofs.EntryListLemmas.{enters}
+use Rattle.free_chains.proofs.LinkLemmas.{enters_behind, enters_lends, enters_links}
+use Rattle.free_chains.proofs.entry_list.enter_entry_list.Goals as goal
+
+pub returns-clause-entered : goal.returns-clause-entered
+returns-clause-entered g c = λ known.
+    let looks = c.word.ensures.looked in
+    let behind = c.in_ok-set_link.ensures in
+    let links = c.in_ok-set_links.ensures in
+    let known' = looks.known known in
+    let first : ℕ = c.args.heads.now.first in
+    enters _ _ c.args.heads.now c.args.n
+    (shown_over-lends (enters_lends first c.args.n looks c.in_ok-word.ensures.brought behind.lends links.lends))
+    (enters_links _ _ _ _ first c.args.n (shown_over-looks looks) (shown_over-lends behind.lends) (links.set (behind.lends.known known')))
+    (enters_behind _ _ _ _ first c.args.n (shown_over-looks looks) (behind.set known') (shown_over-lends links.lends))
+
+pub returns-clause-lends : goal.returns-clause-lends
+returns-clause-lends g c =
+    enters_lends c.args.heads.now.first c.args.n c.word.ensures.looked c.in_ok-word.ensures.brought c.in_ok-set_link.ensures.lends c.in_ok-set_links.ensures.lends

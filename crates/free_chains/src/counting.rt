@@ -1,0 +1,54 @@
+//! How many blocks are free.
+
+ghost use Rattle.std.specs.Prelude.{◌≡◌, ◌+◌, ◌<◌, ◌≤◌, length, IfOk, IfErr, OnOk};
+ghost use Rattle.quota_blocks.specs.Unsynced.{AddsNone};
+ghost use Rattle.quota_pages.specs.Pages.{pages_of};
+ghost use Rattle.quota_pages.specs.Used.{IsKnown, LooksAtSome, shown_over};
+ghost use Rattle.free_chains.specs.ChainFault.{IsChainFault};
+ghost use Rattle.free_chains.specs.FreeList.{CountsFree, EndsBefore};
+
+use crate::chain_fault::ChainFault;
+use crate::heads::Heads;
+use arrayvec::ArrayVec;
+use quota_blocks::Store;
+use quota_pages::Pages;
+use quota_types::{DamageKind, damage_at};
+
+/// Counts the blocks of the list of free blocks, as far as `most`, which is 4 at most. A list that comes to one of its
+/// blocks again ends there. It reads `most` blocks at most.
+///
+/// # Errors
+///
+/// `Store` where the store failed, and `Damage` where the list leads past the last block and has fewer than `most`
+/// blocks before that. The buffer shows what it showed.
+pub fn count_free<S: Store>(
+    pages: &mut Pages,
+    store: &mut S,
+    heads: &Heads,
+    most: u32,
+) -> Result<u32, ChainFault>
+    requires most { most ≤ 4 }
+    requires room { length (pages_of pages.old) + most ≤ 12 }
+    ensures few { IfOk result (λ count. count ≤ most) }
+    ensures count { IfOk result (λ count. IsKnown S.tells (S.seen store.old) pages.old
+        → CountsFree (shown_over (S.seen store.old) pages.old) heads.now most count) }
+    ensures looked { LooksAtSome S.tells most (S.seen store.old) (S.seen store.new) pages.old pages.new }
+    ensures refused { IfErr result (IsChainFault heads.now.blocks (S.seen store.old).faults (S.seen store.new).faults
+        (λ number. IsKnown S.tells (S.seen store.old) pages.old
+        → EndsBefore (shown_over (S.seen store.old) pages.old) heads.now most number)) }
+    ensures synced { OnOk result (AddsNone (S.seen store.old).unsynced (S.seen store.new).unsynced) }
+{
+    let mut met: ArrayVec<u32, 4> = ArrayVec::new();
+    let mut at = heads.free;
+    for count in 0..most {
+        if at >= heads.blocks {
+            return Err(ChainFault::Damage(damage_at(DamageKind::ChainOut, at)));
+        }
+        if at == 0 || met.as_slice().contains(&at) {
+            return Ok(count);
+        }
+        met.push(at);
+        at = pages.word(store, at, 0)?;
+    }
+    Ok(most)
+}

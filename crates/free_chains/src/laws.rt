@@ -1,0 +1,38 @@
+//! Laws of the lists of blocks.
+
+ghost use Rattle.std.specs.Prelude.{◌≡◌, ◌⊎◌, ℕ, ◌≤◌, IsTrue, List};
+ghost use Rattle.quota_types.specs.Times.{StandsIn, times};
+ghost use Rattle.quota_blocks.specs.Block.{leads, next_of};
+ghost use Rattle.quota_pages.specs.Used.{KeepsBlocksBut};
+ghost use Rattle.free_chains.specs.Chain.{IsChain};
+ghost use Rattle.free_chains.specs.EntryList.{NamesPrevious};
+
+/// A list of which no block changed is a list of the new bytes too, and its blocks name the same ones before them.
+pub fn a_list_stays_where_its_blocks_do()
+    ensures chain { (numbers old new : List ℕ) (blocks head : ℕ) (chain : List ℕ) (end : ℕ)
+        → KeepsBlocksBut numbers old new → ((number : ℕ) → StandsIn chain number → times numbers number ≡ 0)
+        → IsChain old blocks head chain end → IsChain new blocks head chain end }
+    ensures previous { (numbers old new chain : List ℕ) → KeepsBlocksBut numbers old new
+        → ((number : ℕ) → StandsIn chain number → times numbers number ≡ 0)
+        → NamesPrevious old chain → NamesPrevious new chain }
+{}
+
+/// A head has one list, which ends in one way.
+pub fn a_head_has_one_list()
+    ensures some { (file : List ℕ) (blocks head : ℕ)
+        → (chain : List ℕ) × (end : ℕ) × IsChain file blocks head chain end }
+    ensures chain { (file : List ℕ) (blocks head : ℕ) (chain : List ℕ) (end : ℕ) (chain' : List ℕ) (end' : ℕ)
+        → IsChain file blocks head chain end → IsChain file blocks head chain' end' → chain ≡ chain' }
+    ensures end { (file : List ℕ) (blocks head : ℕ) (chain : List ℕ) (end : ℕ) (chain' : List ℕ) (end' : ℕ)
+        → IsChain file blocks head chain end → IsChain file blocks head chain' end' → end ≡ end' }
+{}
+
+/// A list that ends at 0 leads to blocks alone, and it is the same list where there are more blocks.
+pub fn a_list_that_ends_leads_to_blocks()
+    ensures head { (file : List ℕ) (blocks head : ℕ) (chain : List ℕ) → IsChain file blocks head chain 0
+        → (head ≡ 0) ⊎ IsTrue (leads blocks head) }
+    ensures links { (file : List ℕ) (blocks head : ℕ) (chain : List ℕ) (number : ℕ) → IsChain file blocks head chain 0
+        → StandsIn chain number → (next_of file number ≡ 0) ⊎ IsTrue (leads blocks (next_of file number)) }
+    ensures more { (file : List ℕ) (blocks more head : ℕ) (chain : List ℕ) → blocks ≤ more
+        → IsChain file blocks head chain 0 → IsChain file more head chain 0 }
+{}
