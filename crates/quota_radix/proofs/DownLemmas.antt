@@ -92,7 +92,7 @@ above_is_tree file blocks =
     ∙ append_assoc root (level file blocks 1 ++ level file blocks 2) (level file blocks 3)
 
 -- how often a block stands in the levels of the tree
-times_in_tree : (file : List ℕ) (blocks block : ℕ)
+pub times_in_tree : (file : List ℕ) (blocks block : ℕ)
     → times (tree_blocks file blocks) block
     ≡ times (level file blocks 0) block + (times (level file blocks 1) block + times (level file blocks 2) block + times (level file blocks 3) block)
 times_in_tree file blocks block =

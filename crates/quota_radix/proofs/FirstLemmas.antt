@@ -31,7 +31,7 @@ unfolding steps
 least_below_step file blocks digits path next leaf first found = first_of_first (paths_below file blocks digits) (later_steps file blocks path 0) next leaf first found
 
 -- a range in two parts
-range-split : (low one two : ℕ) → range_with_len low (one + two) ≡ range_with_len low one ++ range_with_len (low + one) two
+pub range-split : (low one two : ℕ) → range_with_len low (one + two) ≡ range_with_len low one ++ range_with_len (low + one) two
 range-split low zero two =
     let none : zero + two ≡ two = omega arith in
     let same : low ≡ low + zero = omega arith in
@@ -56,7 +56,7 @@ steps-split file blocks path digit low =
     ∙ ap (λ (ps : List TreePath). filter_map (step file blocks path) (range_with_len 0 digit) ++ ps) (later_here file blocks path digit low)
 
 -- digits behind those of a number make one that begins with it
-digits_above : (number : ℕ) (digits : List ℕ) → 256 ^ length digits * number ≤ with_digits number digits
+pub digits_above : (number : ℕ) (digits : List ℕ) → 256 ^ length digits * number ≤ with_digits number digits
 digits_above number [] = omega arith
 digits_above number (digit ∷ digits) =
     let power : ℕ = 256 ^ length digits in
@@ -64,7 +64,7 @@ digits_above number (digit ∷ digits) =
     let step : power * (256 * number) ≤ power * (256 * number + digit) = mul-le-mul_left power (omega arith) in
     omega (arith, more, step, digits_above (256 * number + digit) digits)
 
-digits_below : (number : ℕ) (digits : List ℕ) → ((k : ℕ) → k < length digits → get_or digits k 0 < 256) → with_digits number digits < 256 ^ length digits * suc number
+pub digits_below : (number : ℕ) (digits : List ℕ) → ((k : ℕ) → k < length digits → get_or digits k 0 < 256) → with_digits number digits < 256 ^ length digits * suc number
 digits_below number [] low = omega arith
 digits_below number (digit ∷ digits) low =
     let power : ℕ = 256 ^ length digits in

@@ -18,7 +18,7 @@ use Rattle.quota_types.proofs.TimesLemmas.{stands_cons, stands_left, stands_righ
 use Rattle.quota_radix.proofs.DescentLemmas.{find_in_steps, not_some, some_same, step_there}
 use Rattle.quota_radix.proofs.DownLemmas.{times_above}
 
-pow_small : (gone : ℕ) → gone < 4 → 256 ^ gone ≤ 2 ^ 24
+pub pow_small : (gone : ℕ) → gone < 4 → 256 ^ gone ≤ 2 ^ 24
 pow_small zero few = omega arith
 pow_small (suc zero) few = omega arith
 pow_small (suc (suc zero)) few = omega arith
@@ -167,7 +167,7 @@ none_later file blocks path digit over =
     ap (λ (k : ℕ). path_from 0 (filter_map (step file blocks path) (range_with_len digit k))) none
 
 -- the first of some steps is one of them
-first_is_step : (file : List ℕ) (blocks : ℕ) (path next : TreePath) (first count : ℕ) → path_from 0 (filter_map (step file blocks path) (range_with_len first count)) ≡ Some next
+pub first_is_step : (file : List ℕ) (blocks : ℕ) (path next : TreePath) (first count : ℕ) → path_from 0 (filter_map (step file blocks path) (range_with_len first count)) ≡ Some next
     → (digit : ℕ) × (digit < first + count) × (step file blocks path digit ≡ Some next)
 first_is_step file blocks path next first zero is = absurd (not_some next (sym is))
 first_is_step file blocks path next first (suc count) is =

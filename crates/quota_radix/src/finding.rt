@@ -1,0 +1,121 @@
+ghost use Rattle.std.specs.Prelude.{◌≡◌, ◌+◌, ◌<◌, ◌≤◌, ℕ, length, true, slice_get, IfErr, IfOk, OnOk};
+ghost use Rattle.quota_blocks.specs.Block.{word_at};
+ghost use Rattle.quota_blocks.specs.Unsynced.{AddsNone};
+ghost use Rattle.quota_types.specs.declared.damage.DamageKind.TheVariants.{RefOut};
+ghost use Rattle.quota_pages.specs.Page.{HasRoomFor, is_buffered};
+ghost use Rattle.quota_pages.specs.Pages.{pages_of};
+ghost use Rattle.quota_pages.specs.Used.{IsKnown, LooksAtSome, missing, shown_over};
+ghost use Rattle.quota_radix.specs.Descent.{leaf_block};
+ghost use Rattle.quota_radix.specs.WalkFault.{IsWalkFault};
+ghost use Rattle.quota_radix.specs.Way.{IsFromRoot, IsInsideOnWay, IsOutOnWay, blocks_on_way};
+
+use crate::levels::ROOT;
+use crate::{Path, WalkFault, digits};
+use arrayvec::ArrayVec;
+use quota_blocks::Store;
+use quota_pages::Pages;
+use quota_types::{DamageKind, damage_at};
+
+/// The reference at a digit's place in a block of the tree; 0 is none.
+///
+/// # Errors
+///
+/// The store failed, or the reference leads past the last block.
+pub(crate) fn reference_in<S: Store>(
+    pages: &mut Pages,
+    store: &mut S,
+    blocks: u32,
+    block: u32,
+    digit: u8,
+) -> Result<u32, WalkFault>
+    requires { HasRoomFor (pages_of pages.old) block }
+    ensures is { IfOk result (λ reference. IsKnown S.tells (S.seen store.old) pages.old
+        → reference ≡ word_at (shown_over (S.seen store.old) pages.old) block digit) }
+    ensures inside { IfOk result (λ reference. reference < blocks) }
+    ensures refused { IfErr result (IsWalkFault (S.seen store.old).faults (S.seen store.new).faults
+        (λ damage. (damage ≡ record { kind = RefOut; block = block; id = 0 })
+        × (is_buffered (pages_of pages.new) block ≡ true)
+        × (IsKnown S.tells (S.seen store.old) pages.old
+        → blocks ≤ word_at (shown_over (S.seen store.old) pages.old) block digit))) }
+    ensures looked { LooksAtSome S.tells (missing (pages_of pages.old) block)
+        (S.seen store.old) (S.seen store.new) pages.old pages.new }
+    ensures brought { OnOk result (is_buffered (pages_of pages.new) block ≡ true) }
+    ensures synced { OnOk result (AddsNone (S.seen store.old).unsynced (S.seen store.new).unsynced) }
+{
+    let reference = pages.word(store, block, 4 * usize::from(digit))?;
+    if reference < blocks {
+        Ok(reference)
+    } else {
+        Err(WalkFault::Damage(damage_at(DamageKind::RefOut, block)))
+    }
+}
+
+/// The blocks on the way of an identifier that are there: the root first, and the data block fifth.
+///
+/// The file has so many blocks. At most 4 of them are read.
+///
+/// # Errors
+///
+/// `Store` where the store failed, and `Damage` where a reference on the way leads past the last block: `RefOut` with
+/// the block that has it.
+pub fn find_path<S: Store>(
+    pages: &mut Pages,
+    store: &mut S,
+    blocks: u32,
+    id: u32,
+) -> Result<Path, WalkFault>
+    requires { length (pages_of pages.old) + 4 ≤ 12 }
+    ensures found { IfOk result (λ path. IsKnown S.tells (S.seen store.old) pages.old
+        → path.found.items ≡ blocks_on_way (shown_over (S.seen store.old) pages.old) blocks id) }
+    ensures leaf { IfOk result (λ path. IsKnown S.tells (S.seen store.old) pages.old
+        → slice_get path.found.items 4 ≡ leaf_block (shown_over (S.seen store.old) pages.old) blocks id) }
+    ensures from_root { IfOk result (λ path. IsFromRoot path.found.items) }
+    ensures inside { OnOk result (IsKnown S.tells (S.seen store.old) pages.old
+        → IsInsideOnWay (shown_over (S.seen store.old) pages.old) blocks id) }
+    ensures refused { IfErr result (IsWalkFault (S.seen store.old).faults (S.seen store.new).faults
+        (λ damage. (damage.kind ≡ RefOut) × (IsKnown S.tells (S.seen store.old) pages.old
+        → IsOutOnWay (shown_over (S.seen store.old) pages.old) blocks id damage.block))) }
+    ensures looked { LooksAtSome S.tells 4 (S.seen store.old) (S.seen store.new) pages.old pages.new }
+    ensures synced { OnOk result (AddsNone (S.seen store.old).unsynced (S.seen store.new).unsynced) }
+{
+    let mut found = ArrayVec::new();
+    found.push(ROOT);
+    let mut block = ROOT;
+    for digit in digits(id) {
+        block = reference_in(pages, store, blocks, block, digit)?;
+        if block == 0 {
+            return Ok(Path { found });
+        }
+        found.push(block);
+    }
+    Ok(Path { found })
+}
+
+/// The data block to which an identifier leads by its four digits, or None where one of them leads nowhere.
+///
+/// The file has so many blocks. At most 4 of them are read.
+///
+/// # Errors
+///
+/// `Store` where the store failed, and `Damage` where a reference on the way leads past the last block: `RefOut` with
+/// the block that has it.
+pub fn leaf<S: Store>(
+    pages: &mut Pages,
+    store: &mut S,
+    blocks: u32,
+    id: u32,
+) -> Result<Option<u32>, WalkFault>
+    requires { length (pages_of pages.old) + 4 ≤ 12 }
+    ensures found { IfOk result (λ found. IsKnown S.tells (S.seen store.old) pages.old
+        → found ≡ leaf_block (shown_over (S.seen store.old) pages.old) blocks id) }
+    ensures inside { OnOk result (IsKnown S.tells (S.seen store.old) pages.old
+        → IsInsideOnWay (shown_over (S.seen store.old) pages.old) blocks id) }
+    ensures refused { IfErr result (IsWalkFault (S.seen store.old).faults (S.seen store.new).faults
+        (λ damage. (damage.kind ≡ RefOut) × (IsKnown S.tells (S.seen store.old) pages.old
+        → IsOutOnWay (shown_over (S.seen store.old) pages.old) blocks id damage.block))) }
+    ensures looked { LooksAtSome S.tells 4 (S.seen store.old) (S.seen store.new) pages.old pages.new }
+    ensures synced { OnOk result (AddsNone (S.seen store.old).unsynced (S.seen store.new).unsynced) }
+{
+    let path = find_path(pages, store, blocks, id)?;
+    Ok(path.leaf())
+}
