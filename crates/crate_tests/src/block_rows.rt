@@ -70,38 +70,49 @@ fn numbers_of_a_block_are_read_the_lowest_byte_first(rt: HostRuntime) {
 /// there then.
 type SetRow = (&'static [(usize, usize, u64)], &'static [Part]);
 
+#[rattlefmt::skip]
 const SET: &[SetRow] = &[
-    (
-        &[
-            (2, 0, 0x0201),
-            (4, 3, 0x0403_0201),
-            (8, 1016, 0x0807_0605_0403_0201),
-        ],
-        &[
-            (0, &[1, 2]),
-            (3, &[1, 2, 3, 4]),
-            (1016, &[1, 2, 3, 4, 5, 6, 7, 8]),
-        ],
-    ),
-    (
-        &[(8, 1016, 0x0807_0605_0403_0201), (8, 1016, u64::MAX)],
-        &[(1016, &[255; 8])],
-    ),
-    (
-        &[(8, 1016, u64::MAX), (2, 1022, 0)],
-        &[(1016, &[255, 255, 255, 255, 255, 255, 0, 0])],
-    ),
+    (&[(2, 0, 0x0201), (4, 3, 0x0403_0201), (8, 1016, 0x0807_0605_0403_0201)],
+        &[(0, &[1, 2]), (3, &[1, 2, 3, 4]), (1016, &[1, 2, 3, 4, 5, 6, 7, 8])]),
+    (&[(8, 1016, 0x0807_0605_0403_0201), (8, 1016, u64::MAX)], &[(1016, &[255; 8])]),
+    (&[(8, 1016, u64::MAX), (2, 1022, 0)], &[(1016, &[255, 255, 255, 255, 255, 255, 0, 0])]),
 ];
+
+/// Writes a number of two bytes at a place, and answers whether there is room for it.
+fn set_two(block: &mut [u8; 1024], at: usize, value: u64) -> bool {
+    if at > 1022 || value > 0xffff {
+        return false;
+    }
+    set_le16(block, at, value as u16);
+    true
+}
+
+/// The same of a number of four bytes.
+fn set_four(block: &mut [u8; 1024], at: usize, value: u64) -> bool {
+    if at > 1020 || value > 0xffff_ffff {
+        return false;
+    }
+    set_le32(block, at, value as u32);
+    true
+}
+
+/// The same of a number of eight bytes.
+fn set_eight(block: &mut [u8; 1024], at: usize, value: u64) -> bool {
+    if at > 1016 {
+        return false;
+    }
+    set_le64(block, at, value);
+    true
+}
 
 /// Writes a number of so many bytes at a place, and answers whether there is room for it.
 fn set(block: &mut [u8; 1024], width: usize, at: usize, value: u64) -> bool {
     match width {
-        2 if at <= 1022 && value <= 0xffff => set_le16(block, at, value as u16),
-        4 if at <= 1020 && value <= 0xffff_ffff => set_le32(block, at, value as u32),
-        8 if at <= 1016 => set_le64(block, at, value),
-        _ => return false,
+        2 => set_two(block, at, value),
+        4 => set_four(block, at, value),
+        8 => set_eight(block, at, value),
+        _ => false,
     }
-    true
 }
 
 /// Whether a block of 9 is the wanted one after these numbers were written.

@@ -4,7 +4,7 @@ use std::process::Abort;
 
 /// What a call with xid 1 asks. A `Get` has the numbers of its caller, where its path begins and how long it is, the type
 /// and the identifier.
-#[derive(Clone, Copy, Debug, PartialEq, Eq)]
+#[derive(Clone, Copy, PartialEq, Eq)]
 enum Asks<'a> {
     Silent,
     OldRpc,
@@ -182,6 +182,7 @@ const ASKED_1: Asks<'static> = Asks::Get(1000, 100, &[], 64, 5, 0, 1);
 
 const ASKED_2: Asks<'static> = Asks::Get(1000, 100, &[], 64, 5, 1, 1000);
 
+#[rattlefmt::skip]
 const PROCEDURES: &[BuiltRow] = &[
     ("1.1", &[GET_1, BY_1000, QUESTION], 76, ASKED_1),
     ("1.1 cut", &[GET_1, BY_1000, QUESTION], 75, Asks::Garbage),
@@ -194,21 +195,11 @@ const PROCEDURES: &[BuiltRow] = &[
     ("1.3", &[SET_1, BY_1000, CHANGE], 112, Asks::Set),
     ("1.3 cut", &[SET_1, BY_1000, CHANGE], 111, Asks::Garbage),
     ("1.4", &[SET_ACTIVE_1, BY_1000, CHANGE], 112, Asks::Set),
-    (
-        "1.4 cut",
-        &[SET_ACTIVE_1, BY_1000, CHANGE],
-        111,
-        Asks::Garbage,
-    ),
+    ("1.4 cut", &[SET_ACTIVE_1, BY_1000, CHANGE], 111, Asks::Garbage),
     ("2.3", &[SET_2, BY_1000, CHANGE], 116, Asks::Set),
     ("2.3 cut", &[SET_2, BY_1000, CHANGE], 115, Asks::Garbage),
     ("2.4", &[SET_ACTIVE_2, BY_1000, CHANGE], 116, Asks::Set),
-    (
-        "2.4 cut",
-        &[SET_ACTIVE_2, BY_1000, CHANGE],
-        115,
-        Asks::Garbage,
-    ),
+    ("2.4 cut", &[SET_ACTIVE_2, BY_1000, CHANGE], 115, Asks::Garbage),
     ("1.0", &[(0, &[1, 0, 2, 100_011, 1, 0])], 24, Asks::Null),
     ("2.0", &[(0, &[1, 0, 2, 100_011, 2, 0])], 24, Asks::Null),
 ];
@@ -253,128 +244,31 @@ const SIXTEEN: &[u32] = &[
     31, 32, 33, 34, 35, 36, 37, 38, 39, 40, 41, 42, 43, 44, 45, 46,
 ];
 
+#[rattlefmt::skip]
 const LENGTHS: &[BuiltRow] = &[
-    (
-        "a name of 255 bytes",
-        &[
-            GET_1,
-            (24, &[1, 276, 0, 255]),
-            (296, &[1000, 100, 0]),
-            (320, &[7]),
-        ],
-        2048,
-        Asks::Get(1000, 100, &[], 320, 0, 0, 7),
-    ),
-    (
-        "a name of 256 bytes",
-        &[
-            GET_1,
-            (24, &[1, 276, 0, 256]),
-            (296, &[1000, 100, 0]),
-            (320, &[7]),
-        ],
-        2048,
-        Asks::Auth(1),
-    ),
-    (
-        "3 groups",
-        &[
-            GET_1,
-            (24, &[1, 88, 0, 0, 1000, 100, 3]),
-            (52, GROUPS),
-            AT_132,
-        ],
-        2048,
-        Asks::Get(1000, 100, THREE, 132, 0, 0, 7),
-    ),
-    (
-        "16 groups",
-        &[
-            GET_1,
-            (24, &[1, 88, 0, 0, 1000, 100, 16]),
-            (52, GROUPS),
-            AT_132,
-        ],
-        2048,
-        Asks::Get(1000, 100, SIXTEEN, 132, 0, 0, 7),
-    ),
-    (
-        "17 groups",
-        &[
-            GET_1,
-            (24, &[1, 88, 0, 0, 1000, 100, 17]),
-            (52, GROUPS),
-            AT_132,
-        ],
-        2048,
-        Asks::Auth(1),
-    ),
-    (
-        "bodies of 400 bytes",
-        &[
-            GET_1,
-            (24, &[1, 400, 0, 0, 1000, 100, 0]),
-            (432, &[9, 400]),
-            AT_844,
-        ],
-        2048,
-        Asks::Get(1000, 100, &[], 844, 0, 0, 7),
-    ),
-    (
-        "a credential of 401 bytes",
-        &[
-            GET_1,
-            (24, &[1, 401, 0, 0, 1000, 100, 0]),
-            (432, &[9, 400]),
-            AT_844,
-        ],
-        2048,
-        Asks::Auth(1),
-    ),
-    (
-        "a verifier of 401 bytes",
-        &[
-            GET_1,
-            (24, &[1, 400, 0, 0, 1000, 100, 0]),
-            (432, &[9, 401]),
-            AT_844,
-        ],
-        2048,
-        Asks::Auth(3),
-    ),
-    (
-        "a path of 1,024 bytes",
-        &[GET_1, BY_1000, (60, &[1024]), AT_1088],
-        2048,
-        Asks::Get(1000, 100, &[], 64, 1024, 0, 7),
-    ),
-    (
-        "a path of 1,025 bytes",
-        &[GET_1, BY_1000, (60, &[1025]), AT_1088],
-        2048,
-        Asks::Garbage,
-    ),
-    (
-        "nobody",
-        &[GET_1, (32, &[0, 0, 5, 0x2f68_6f6d, 0x6500_0000, 1000])],
-        56,
-        Asks::Auth(5),
-    ),
-    (
-        "nobody with a verifier of 401 bytes",
-        &[GET_1, (32, &[0, 401, 5, 0x2f68_6f6d, 0x6500_0000, 1000])],
-        56,
-        Asks::Auth(3),
-    ),
-    (
-        "nobody with the longest verifier",
-        &[
-            GET_1,
-            (32, &[0, u32::MAX, 5, 0x2f68_6f6d, 0x6500_0000, 1000]),
-        ],
-        56,
-        Asks::Auth(3),
-    ),
+    ("a name of 255 bytes", &[GET_1, (24, &[1, 276, 0, 255]), (296, &[1000, 100, 0]), (320, &[7])], 2048,
+        Asks::Get(1000, 100, &[], 320, 0, 0, 7)),
+    ("a name of 256 bytes", &[GET_1, (24, &[1, 276, 0, 256]), (296, &[1000, 100, 0]), (320, &[7])], 2048,
+        Asks::Auth(1)),
+    ("3 groups", &[GET_1, (24, &[1, 88, 0, 0, 1000, 100, 3]), (52, GROUPS), AT_132], 2048,
+        Asks::Get(1000, 100, THREE, 132, 0, 0, 7)),
+    ("16 groups", &[GET_1, (24, &[1, 88, 0, 0, 1000, 100, 16]), (52, GROUPS), AT_132], 2048,
+        Asks::Get(1000, 100, SIXTEEN, 132, 0, 0, 7)),
+    ("17 groups", &[GET_1, (24, &[1, 88, 0, 0, 1000, 100, 17]), (52, GROUPS), AT_132], 2048, Asks::Auth(1)),
+    ("bodies of 400 bytes", &[GET_1, (24, &[1, 400, 0, 0, 1000, 100, 0]), (432, &[9, 400]), AT_844], 2048,
+        Asks::Get(1000, 100, &[], 844, 0, 0, 7)),
+    ("a credential of 401 bytes", &[GET_1, (24, &[1, 401, 0, 0, 1000, 100, 0]), (432, &[9, 400]), AT_844], 2048,
+        Asks::Auth(1)),
+    ("a verifier of 401 bytes", &[GET_1, (24, &[1, 400, 0, 0, 1000, 100, 0]), (432, &[9, 401]), AT_844], 2048,
+        Asks::Auth(3)),
+    ("a path of 1,024 bytes", &[GET_1, BY_1000, (60, &[1024]), AT_1088], 2048,
+        Asks::Get(1000, 100, &[], 64, 1024, 0, 7)),
+    ("a path of 1,025 bytes", &[GET_1, BY_1000, (60, &[1025]), AT_1088], 2048, Asks::Garbage),
+    ("nobody", &[GET_1, (32, &[0, 0, 5, 0x2f68_6f6d, 0x6500_0000, 1000])], 56, Asks::Auth(5)),
+    ("nobody with a verifier of 401 bytes", &[GET_1, (32, &[0, 401, 5, 0x2f68_6f6d, 0x6500_0000, 1000])], 56,
+        Asks::Auth(3)),
+    ("nobody with the longest verifier", &[GET_1, (32, &[0, u32::MAX, 5, 0x2f68_6f6d, 0x6500_0000, 1000])], 56,
+        Asks::Auth(3)),
 ];
 
 #[test]

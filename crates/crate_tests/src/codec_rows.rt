@@ -28,18 +28,11 @@ const EMPTY_HEADER: Header = Header {
 /// A place of `EMPTY` with the byte that is put there, the kind that is wanted, and what is read.
 type HeaderRow = (usize, u8, Kind, Result<Header, HeaderFault>);
 
+#[rattlefmt::skip]
 const HEADERS: &[HeaderRow] = &[
     (4, 1, Kind::User, Ok(EMPTY_HEADER)),
     (4, 1, Kind::Group, Err(HeaderFault::WrongKind)),
-    (
-        4,
-        0,
-        Kind::User,
-        Ok(Header {
-            format: Format::V2R0,
-            ..EMPTY_HEADER
-        }),
-    ),
+    (4, 0, Kind::User, Ok(Header { format: Format::V2R0, ..EMPTY_HEADER })),
     (4, 2, Kind::User, Err(HeaderFault::UnknownVersion)),
     (7, 1, Kind::User, Err(HeaderFault::UnknownVersion)),
     (4, 2, Kind::Group, Err(HeaderFault::WrongKind)),

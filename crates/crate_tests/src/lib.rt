@@ -22,7 +22,7 @@ mod made_files;
 #[cfg(test)]
 mod map_rows;
 #[cfg(test)]
-mod page_rows;
+mod opened_steps;
 #[cfg(test)]
 mod radix_rows;
 #[cfg(test)]

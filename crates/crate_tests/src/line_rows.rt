@@ -183,9 +183,7 @@ const LENGTHS: &[usize] = &[4094, 4095, 4096];
 /// The bytes of such an input, with this in place of each newline.
 fn long_text(alloc: Global, len: usize, newline: u8) -> Result<Vec<u8>, AllocError> {
     let mut bytes = vec![in alloc; b'x'; len]?;
-    bytes.push(newline)?;
-    bytes.extend_from_slice(b"yz")?;
-    bytes.push(newline)?;
+    bytes.extend_from_slice(&[newline, b'y', b'z', newline])?;
     Ok(bytes)
 }
 
@@ -220,7 +218,6 @@ fn no_byte_is_lost_at_the_edge_of_a_piece(rt: HostRuntime) {
 }
 
 /// A call of a source over a file of a store, or a look at it.
-#[derive(Clone, Copy, Debug)]
 enum Step {
     /// From a place on.
     Write(u64, &'static [u8]),
@@ -261,8 +258,8 @@ fn fails(source: &mut StoreSource, store: &mut MemStore) -> bool {
 }
 
 /// Whether the step of the source or of its input is as told.
-fn is_read(alloc: Global, source: &mut StoreSource, store: &mut MemStore, step: Step) -> bool {
-    match step {
+fn is_read(alloc: Global, source: &mut StoreSource, store: &mut MemStore, step: &Step) -> bool {
+    match *step {
         Step::Read(want) => reads(source, store, want),
         Step::ReadFails => fails(source, store),
         Step::Input(count, last) => gives(&mut StoreInput { source, store }, count, last),
@@ -275,8 +272,8 @@ fn is_read(alloc: Global, source: &mut StoreSource, store: &mut MemStore, step: 
 }
 
 /// Whether the step is as told.
-fn does(alloc: Global, source: &mut StoreSource, store: &mut MemStore, step: Step) -> bool {
-    match step {
+fn does(alloc: Global, source: &mut StoreSource, store: &mut MemStore, step: &Step) -> bool {
+    match *step {
         Step::Write(at, bytes) => {
             at < 4096 && bytes.len() < 1024 && store.write("q", at, bytes).is_ok()
         }
@@ -320,7 +317,7 @@ fn first_otherwise(alloc: Global, failing: &[u64], steps: &[Step]) -> Result<usi
     let mut source = StoreSource { name, at: 0 };
     let mut store = MemStore::new(Vec::new(alloc), Vec::from_slice(alloc, failing)?);
     for (at, step) in steps.iter().enumerate() {
-        if !does(alloc, &mut source, &mut store, *step) {
+        if !does(alloc, &mut source, &mut store, step) {
             return Ok(at.saturating_add(1));
         }
     }

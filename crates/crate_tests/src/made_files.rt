@@ -1,4 +1,4 @@
-use quota_blocks::{MemStore, ReplaceFault};
+use quota_blocks::{MemStore, ReplaceFault, Store};
 use quota_map::replace_file;
 use quota_types::{Entry, Format, Grace, Kind, Rec};
 use std::alloc::Global;
@@ -67,11 +67,41 @@ pub(crate) enum Made {
     WideInSix,
     /// `NULLS` in vfsv0, of groups.
     Nulls,
+    /// Bytes that stand from their places on, or an empty file.
+    Written(&'static [(u64, &'static [u8])]),
+}
+
+/// Writes bytes from their places on, or makes an empty file.
+fn write_parts(store: &mut MemStore, parts: &[(u64, &[u8])]) -> bool {
+    if parts.is_empty() {
+        return store.create("q").is_ok();
+    }
+    for part in parts {
+        if !write_part(store, part.0, part.1) {
+            return false;
+        }
+    }
+    true
+}
+
+/// Writes bytes from a place on.
+fn write_part(store: &mut MemStore, at: u64, bytes: &[u8]) -> bool {
+    if at >= 4096 || bytes.len() > 1024 {
+        return false;
+    }
+    store.write("q", at, bytes).is_ok()
 }
 
 pub(crate) fn make(alloc: Global, store: &mut MemStore, made: Made) -> Result<(), ReplaceFault> {
     let user = Kind::User;
     match made {
+        Made::Written(parts) => {
+            if write_parts(store, parts) {
+                Ok(())
+            } else {
+                Err(ReplaceFault::Store)
+            }
+        }
         Made::Flat => replace_file(alloc, store, "q", Format::V1, user, PERIODS, 5, &LIST, 0),
         Made::Narrow => replace_file(alloc, store, "q", Format::V2R0, user, PERIODS, 5, &LIST, 7),
         Made::Wide => replace_file(alloc, store, "q", Format::V2R1, user, PERIODS, 5, &LIST, 7),

@@ -32,6 +32,7 @@ const PLAIN: Quota = Quota {
 /// A reply and its units.
 type ReplyRow = (Reply, &'static [u32]);
 
+#[rattlefmt::skip]
 const REPLIES: &[ReplyRow] = &[
     (Reply::Null { xid: 1 }, &[1, 1, 0, 0, 0, 0]),
     (Reply::NoProgram { xid: 1 }, &[1, 1, 0, 0, 0, 1]),
@@ -42,22 +43,8 @@ const REPLIES: &[ReplyRow] = &[
     (Reply::Auth { xid: 1, stat: 5 }, &[1, 1, 1, 1, 5]),
     (Reply::NoQuota { xid: 1 }, &[1, 1, 0, 0, 0, 0, 2]),
     (Reply::Denied { xid: 1 }, &[1, 1, 0, 0, 0, 0, 3]),
-    (
-        Reply::Quota {
-            xid: 1,
-            quota: QUOTA,
-        },
-        &[1, 1, 0, 0, 0, 0, 1, 1024, 1, 200, 100, 4, 20, 10, 2, 30, 40],
-    ),
-    (
-        Reply::Quota {
-            xid: 1,
-            quota: PLAIN,
-        },
-        &[
-            1, 1, 0, 0, 0, 0, 1, 0x400, 1, 0xc8, 0x64, 4, 0x14, 0xa, 1, 0, 0,
-        ],
-    ),
+    (Reply::Quota { xid: 1, quota: QUOTA }, &[1, 1, 0, 0, 0, 0, 1, 1024, 1, 200, 100, 4, 20, 10, 2, 30, 40]),
+    (Reply::Quota { xid: 1, quota: PLAIN }, &[1, 1, 0, 0, 0, 0, 1, 0x400, 1, 0xc8, 0x64, 4, 0x14, 0xa, 1, 0, 0]),
 ];
 
 /// Whether the reply is written over bytes of 255 as these bytes and nothing behind them.

@@ -3,7 +3,6 @@ use std::alloc::Global;
 use std::process::Abort;
 
 /// A call of a store in memory, or a look at it.
-#[derive(Clone, Copy, Debug)]
 enum Step {
     Write(&'static str, u64, &'static [u8]),
     Create(&'static str),
@@ -39,8 +38,8 @@ struct Story {
 }
 
 /// Whether a call that changes something answers Ok.
-fn changes(alloc: Global, store: &mut MemStore, step: Step) -> Result<bool, StoreFault> {
-    match step {
+fn changes(alloc: Global, store: &mut MemStore, step: &Step) -> Result<bool, StoreFault> {
+    match *step {
         Step::Write(name, at, bytes) => {
             if bytes.is_empty() || bytes.len() > 1024 || at > 0x400_0000_0000 {
                 return Ok(false);
@@ -83,22 +82,31 @@ fn replaces(
     }
 }
 
+/// Whether so many bytes are read from a place on into four bytes of 9, which are these then.
+fn reads(
+    store: &mut MemStore,
+    name: &str,
+    at: u64,
+    count: usize,
+    want: [u8; 4],
+) -> Result<bool, StoreFault> {
+    let mut buf = [9; 4];
+    let found = store.read(name, at, &mut buf)?;
+    Ok(found == count && buf == want)
+}
+
 /// Whether a call that reads gives what is told.
-fn gives(store: &mut MemStore, step: Step) -> Result<bool, StoreFault> {
-    match step {
-        Step::Read(name, at, count, want) => {
-            let mut buf = [9; 4];
-            let found = store.read(name, at, &mut buf)?;
-            Ok(found == count && buf == want)
-        }
+fn gives(store: &mut MemStore, step: &Step) -> Result<bool, StoreFault> {
+    match *step {
+        Step::Read(name, at, count, want) => reads(store, name, at, count, want),
         Step::Size(name, want) => Ok(store.size(name)? == want),
         _ => Ok(false),
     }
 }
 
 /// Whether a file is loaded, or isn't, as told.
-fn loads(alloc: Global, store: &mut MemStore, step: Step) -> bool {
-    match step {
+fn loads(alloc: Global, store: &mut MemStore, step: &Step) -> bool {
+    match *step {
         Step::Load(name, most, len, last) => match load(alloc, store, name, most) {
             Ok(bytes) => bytes.len() == len && bytes.ends_with(last),
             Err(_) => false,
@@ -109,8 +117,8 @@ fn loads(alloc: Global, store: &mut MemStore, step: Step) -> bool {
 }
 
 /// Whether the store is as told.
-fn is_as_told(store: &MemStore, step: Step) -> bool {
-    match step {
+fn is_as_told(store: &MemStore, step: &Step) -> bool {
+    match *step {
         Step::File(name, want) => store.file(name) == want,
         Step::Unsynced(name, want) => store.is_unsynced(name) == want,
         Step::Reads(want) => store.reads() == want,
@@ -120,8 +128,8 @@ fn is_as_told(store: &MemStore, step: Step) -> bool {
 }
 
 /// Whether the step is as told, or that the store failed.
-fn step_of(alloc: Global, store: &mut MemStore, step: Step) -> Result<bool, StoreFault> {
-    match step {
+fn step_of(alloc: Global, store: &mut MemStore, step: &Step) -> Result<bool, StoreFault> {
+    match *step {
         Step::Read(..) | Step::Size(..) => gives(store, step),
         Step::Load(..) | Step::LoadFails(..) => Ok(loads(alloc, store, step)),
         Step::File(..) | Step::Unsynced(..) | Step::Reads(_) | Step::Writes(_) => {
@@ -139,7 +147,7 @@ fn first_otherwise(alloc: Global, story: &Story) -> usize {
     let mut store = MemStore::new(Vec::new(alloc), failing);
     for (at, told) in story.steps.iter().enumerate() {
         let want = if told.0 { Ok(true) } else { Err(StoreFault) };
-        if step_of(alloc, &mut store, told.1) != want {
+        if step_of(alloc, &mut store, &told.1) != want {
             return at.saturating_add(1);
         }
     }
@@ -218,22 +226,11 @@ const UNSYNCED: &[Told] = &[
     (OK, Step::Unsynced("t.new", false)),
 ];
 
+#[rattlefmt::skip]
 const STORES: &[Story] = &[
-    Story {
-        title: "files",
-        failing: &[],
-        steps: CALLS,
-    },
-    Story {
-        title: "calls that were named fail",
-        failing: &[2, 3, 5, 7],
-        steps: FAILING_CALLS,
-    },
-    Story {
-        title: "a name is unsynced from its change to its sync",
-        failing: &[],
-        steps: UNSYNCED,
-    },
+    Story { title: "files", failing: &[], steps: CALLS },
+    Story { title: "calls that were named fail", failing: &[2, 3, 5, 7], steps: FAILING_CALLS },
+    Story { title: "a name is unsynced from its change to its sync", failing: &[], steps: UNSYNCED },
 ];
 
 #[test]
@@ -268,47 +265,16 @@ const LOADED: &[Told] = &[
     (OK, Step::Reads(2)),
 ];
 
+#[rattlefmt::skip]
 const WHOLE_FILES: &[Story] = &[
-    Story {
-        title: "loaded",
-        failing: &[],
-        steps: LOADED,
-    },
-    Story {
-        title: "replaced, call 9 fails",
-        failing: &[9],
-        steps: REPLACED,
-    },
-    Story {
-        title: "making the new file fails",
-        failing: &[3],
-        steps: NOT_REPLACED,
-    },
-    Story {
-        title: "the first write fails",
-        failing: &[4],
-        steps: NOT_REPLACED,
-    },
-    Story {
-        title: "the second write fails",
-        failing: &[5],
-        steps: NOT_REPLACED,
-    },
-    Story {
-        title: "the last write fails",
-        failing: &[6],
-        steps: NOT_REPLACED,
-    },
-    Story {
-        title: "the sync fails",
-        failing: &[7],
-        steps: NOT_REPLACED,
-    },
-    Story {
-        title: "the rename fails",
-        failing: &[8],
-        steps: NOT_REPLACED,
-    },
+    Story { title: "loaded", failing: &[], steps: LOADED },
+    Story { title: "replaced, call 9 fails", failing: &[9], steps: REPLACED },
+    Story { title: "making the new file fails", failing: &[3], steps: NOT_REPLACED },
+    Story { title: "the first write fails", failing: &[4], steps: NOT_REPLACED },
+    Story { title: "the second write fails", failing: &[5], steps: NOT_REPLACED },
+    Story { title: "the last write fails", failing: &[6], steps: NOT_REPLACED },
+    Story { title: "the sync fails", failing: &[7], steps: NOT_REPLACED },
+    Story { title: "the rename fails", failing: &[8], steps: NOT_REPLACED },
 ];
 
 #[test]

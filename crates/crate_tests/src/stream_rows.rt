@@ -54,7 +54,6 @@ fn a_source_gives_its_bytes_in_order(rt: HostRuntime) {
 }
 
 /// A call of a link in memory, or a look at it.
-#[derive(Clone, Copy, Debug)]
 enum LinkStep {
     Start,
     /// What is got, and the bytes at the front of a buffer of zeros.
@@ -93,8 +92,8 @@ fn has_sent(link: &MemLink, want: &[u8]) -> bool {
     answers.len() == 1 && answers.iter().all(|answer| answer.as_slice() == want)
 }
 
-fn link_does(link: &mut MemLink, step: LinkStep) -> bool {
-    match step {
+fn link_does(link: &mut MemLink, step: &LinkStep) -> bool {
+    match *step {
         LinkStep::Start => link.start(0).is_ok(),
         LinkStep::Next(want, front) => gets(link, want, front),
         LinkStep::NextFails => get_fails(link),
@@ -113,12 +112,12 @@ fn link_of(alloc: Global) -> Result<MemLink, AllocError> {
 
 fn expect_link(rt: &impl Abort, alloc: Global, steps: &[LinkStep]) {
     let mut link = link_of(alloc);
-    for step in steps {
+    for (at, step) in steps.iter().enumerate() {
         let as_told = match &mut link {
-            Ok(link) => link_does(link, *step),
+            Ok(link) => link_does(link, step),
             Err(_) => false,
         };
-        assert!(rt; as_told, "{step:?}");
+        assert!(rt; as_told, "step {at}, from 0 on");
     }
 }
 
@@ -128,7 +127,6 @@ fn a_link_gives_the_front_of_each_datagram(rt: HostRuntime) {
 }
 
 /// A call on a sink in memory with a text buffer in front of it, or a look at the sink.
-#[derive(Clone, Copy, Debug)]
 enum SinkStep {
     Put(&'static [u8]),
     FlushFails,
@@ -148,8 +146,8 @@ const SINK: &[SinkStep] = &[
     SinkStep::Written(b"one two"),
 ];
 
-fn sink_does(sink: &mut MemSink, text: &mut TextBuffer, step: SinkStep) -> bool {
-    match step {
+fn sink_does(sink: &mut MemSink, text: &mut TextBuffer, step: &SinkStep) -> bool {
+    match *step {
         SinkStep::Put(bytes) => text.put(sink, bytes).is_ok(),
         SinkStep::FlushFails => text.flush(sink) == Err(SinkFault),
         SinkStep::Write(bytes) => sink.write(bytes).is_ok(),
@@ -159,9 +157,9 @@ fn sink_does(sink: &mut MemSink, text: &mut TextBuffer, step: SinkStep) -> bool 
 
 fn expect_sink(rt: &impl Abort, sink: &mut MemSink, steps: &[SinkStep]) {
     let mut text = TextBuffer::new();
-    for step in steps {
-        let as_told = sink_does(sink, &mut text, *step);
-        assert!(rt; as_told, "{step:?}: {:?}", sink.bytes());
+    for (at, step) in steps.iter().enumerate() {
+        let as_told = sink_does(sink, &mut text, step);
+        assert!(rt; as_told, "step {at}, from 0 on: {:?}", sink.bytes());
     }
 }
 

@@ -49,46 +49,15 @@ struct RangeRow {
     want: Option<(Field, u128)>,
 }
 
+#[rattlefmt::skip]
 const RANGES: &[RangeRow] = &[
-    RangeRow {
-        format: Format::V1,
-        id: 1_048_575,
-        rec: Rec {
-            space: 4_398_046_510_080,
-            ..ZEROS
-        },
-        want: None,
-    },
-    RangeRow {
-        format: Format::V1,
-        id: 1_048_576,
-        rec: Rec {
-            space: 4_398_046_510_080,
-            ..ZEROS
-        },
-        want: Some((Field::Id, 1_048_576)),
-    },
-    RangeRow {
-        format: Format::V1,
-        id: 7,
-        rec: Rec {
-            space: 4_398_046_510_081,
-            ..ZEROS
-        },
-        want: Some((Field::Space, 4_398_046_510_081)),
-    },
-    RangeRow {
-        format: Format::V2R0,
-        id: 7,
-        rec: NUMBERS,
-        want: Some((Field::Isoft, 4_294_967_296)),
-    },
-    RangeRow {
-        format: Format::V2R1,
-        id: u32::MAX,
-        rec: NUMBERS,
-        want: None,
-    },
+    RangeRow { format: Format::V1, id: 1_048_575, rec: Rec { space: 4_398_046_510_080, ..ZEROS }, want: None },
+    RangeRow { format: Format::V1, id: 1_048_576, rec: Rec { space: 4_398_046_510_080, ..ZEROS },
+        want: Some((Field::Id, 1_048_576)) },
+    RangeRow { format: Format::V1, id: 7, rec: Rec { space: 4_398_046_510_081, ..ZEROS },
+        want: Some((Field::Space, 4_398_046_510_081)) },
+    RangeRow { format: Format::V2R0, id: 7, rec: NUMBERS, want: Some((Field::Isoft, 4_294_967_296)) },
+    RangeRow { format: Format::V2R1, id: u32::MAX, rec: NUMBERS, want: None },
 ];
 
 fn expect_ranges(rt: &impl Abort, rows: &[RangeRow]) {
@@ -121,36 +90,12 @@ struct GraceRow {
     want: Option<Field>,
 }
 
+#[rattlefmt::skip]
 const GRACE_RANGES: &[GraceRow] = &[
-    GraceRow {
-        format: Format::V1,
-        grace: Grace { block: 0, inode: 1 },
-        want: Some(Field::BlockGrace),
-    },
-    GraceRow {
-        format: Format::V1,
-        grace: Grace {
-            block: u64::MAX,
-            inode: u64::MAX,
-        },
-        want: None,
-    },
-    GraceRow {
-        format: Format::V2R0,
-        grace: Grace {
-            block: 0,
-            inode: 4_294_967_295,
-        },
-        want: None,
-    },
-    GraceRow {
-        format: Format::V2R1,
-        grace: Grace {
-            block: 1,
-            inode: 4_294_967_296,
-        },
-        want: Some(Field::InodeGrace),
-    },
+    GraceRow { format: Format::V1, grace: Grace { block: 0, inode: 1 }, want: Some(Field::BlockGrace) },
+    GraceRow { format: Format::V1, grace: Grace { block: u64::MAX, inode: u64::MAX }, want: None },
+    GraceRow { format: Format::V2R0, grace: Grace { block: 0, inode: 4_294_967_295 }, want: None },
+    GraceRow { format: Format::V2R1, grace: Grace { block: 1, inode: 4_294_967_296 }, want: Some(Field::InodeGrace) },
 ];
 
 fn expect_grace_ranges(rt: &impl Abort, rows: &[GraceRow]) {
@@ -178,34 +123,13 @@ struct TimerRow {
     want: Result<Rec, Field>,
 }
 
+#[rattlefmt::skip]
 const TIMERS: &[TimerRow] = &[
-    TimerRow {
-        title: "starts",
-        rec: OVER,
-        now: 1_700_000_000,
-        want: Ok(STARTED),
-    },
-    TimerRow {
-        title: "runs on",
-        rec: STARTED,
-        now: 1_700_000_010,
-        want: Ok(STARTED),
-    },
-    TimerRow {
-        title: "stops",
-        rec: Rec {
-            bsoft: 4,
-            ..STARTED
-        },
-        now: 1_700_000_010,
-        want: Ok(Rec { bsoft: 4, ..OVER }),
-    },
-    TimerRow {
-        title: "ends past 64 bits",
-        rec: OVER,
-        now: u64::MAX,
-        want: Err(Field::Btime),
-    },
+    TimerRow { title: "starts", rec: OVER, now: 1_700_000_000, want: Ok(STARTED) },
+    TimerRow { title: "runs on", rec: STARTED, now: 1_700_000_010, want: Ok(STARTED) },
+    TimerRow { title: "stops", rec: Rec { bsoft: 4, ..STARTED }, now: 1_700_000_010,
+        want: Ok(Rec { bsoft: 4, ..OVER }) },
+    TimerRow { title: "ends past 64 bits", rec: OVER, now: u64::MAX, want: Err(Field::Btime) },
 ];
 
 fn expect_timers(rt: &impl Abort, rows: &[TimerRow]) {
@@ -268,37 +192,12 @@ const TIMED: Rec = Rec {
     ..ZEROS
 };
 
+#[rattlefmt::skip]
 const KEPT: &[KeptRow] = &[
-    KeptRow {
-        format: Format::V1,
-        id: 7,
-        rec: TIMED,
-        want: Rec {
-            space: 1024,
-            ..TIMED
-        },
-    },
-    KeptRow {
-        format: Format::V1,
-        id: 0,
-        rec: TIMED,
-        want: Rec {
-            space: 1024,
-            ..ZEROS
-        },
-    },
-    KeptRow {
-        format: Format::V2R1,
-        id: 0,
-        rec: TIMED,
-        want: TIMED,
-    },
-    KeptRow {
-        format: Format::V2R1,
-        id: 0,
-        rec: Rec { itime: 1, ..ZEROS },
-        want: ZEROS,
-    },
+    KeptRow { format: Format::V1, id: 7, rec: TIMED, want: Rec { space: 1024, ..TIMED } },
+    KeptRow { format: Format::V1, id: 0, rec: TIMED, want: Rec { space: 1024, ..ZEROS } },
+    KeptRow { format: Format::V2R1, id: 0, rec: TIMED, want: TIMED },
+    KeptRow { format: Format::V2R1, id: 0, rec: Rec { itime: 1, ..ZEROS }, want: ZEROS },
 ];
 
 fn kept_if_fits(format: Format, id: u32, rec: Rec) -> Option<Rec> {
