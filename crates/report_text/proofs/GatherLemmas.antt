@@ -3,6 +3,10 @@ use Rattle.std.proofs.Common.{◌≡◌, ℕ, Bool, List, [], ◌++◌, IsTrue, 
 use Rattle.quota_blocks.specs.Text.{AppendsPrefix, Gathers, IsGathered, WritesPrefix}
 use Rattle.quota_blocks.proofs.TextLemmas.{appends_more, appends_at_flush}
 
+-- pieces that are appended one after another, the first two pairs each as one
+pub appended_pieces : (before a b c d e : List ℕ) → before ++ (a ++ b) ++ (c ++ d) ++ e ≡ before ++ (a ++ b ++ c ++ d ++ e)
+appended_pieces before a b c d e = simp append_assoc
+
 -- a text is put, and then more
 pub gathers_then : (tells : Bool) (written buffered written_1 buffered_1 written_2 buffered_2 text more whole : List ℕ)
     → Gathers tells written buffered written_1 buffered_1 text → Gathers tells written_1 buffered_1 written_2 buffered_2 more
@@ -33,6 +37,20 @@ writes_then tells written buffered written_1 buffered_1 now text more whole one 
 pub gathers_none : (tells : Bool) (written buffered : List ℕ) → Gathers tells written buffered written buffered []
 gathers_none tells written buffered =
     λ told start before gathered. subst (λ (t : List ℕ). IsGathered start t written buffered) (sym (append-nil before)) gathered
+
+-- nothing is put, and then a text is pushed onto what is gathered
+pub gathers_push : (tells : Bool) (written buffered written_1 buffered_1 buffered_2 text : List ℕ)
+    → Gathers tells written buffered written_1 buffered_1 [] → buffered_2 ≡ buffered_1 ++ text
+    → Gathers tells written buffered written_1 buffered_2 text
+gathers_push tells written buffered written_1 buffered_1 buffered_2 text none is =
+    λ told start before gathered.
+    let g : IsGathered start (before ++ []) written_1 buffered_1 = none told start before gathered in
+    record {
+      sent = g.sent;
+      appended = g.appended;
+      whole = ap (λ (t : List ℕ). t ++ text) (sym (append-nil before) ∙ g.whole) ∙ append_assoc g.sent buffered_1 text
+          ∙ ap (λ (t : List ℕ). g.sent ++ t) (sym is);
+    }
 
 -- what was put of a text is a prefix of it, whatever is still gathered
 pub writes_gathered : (tells : Bool) (written buffered now buffered_now text more whole : List ℕ)

@@ -1,2 +1,3 @@
 pub mod GatherLemmas
 pub mod LinesLemmas
+pub mod PageLemmas

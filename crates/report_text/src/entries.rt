@@ -1,20 +1,30 @@
-ghost use Rattle.std.specs.Prelude.{◌≡◌, ◌+◌, ◌≤◌, ◌++◌, [], length, OnOk, OnErr};
+ghost use Rattle.std.specs.Prelude.{◌≡◌, ◌+◌, ◌≤◌, ◌++◌, length, OnOk, OnErr};
 ghost use Rattle.id_names.specs.FirstMatch.{first_name};
 ghost use Rattle.quota_blocks.specs.Count.{Rose};
 ghost use Rattle.quota_blocks.specs.Text.{Gathers, WritesPrefix};
 ghost use Rattle.report_text.specs.Report.{left_in, name_of, numbered, shown_name, columns_in, columns_of, entry_line, is_shown, shown_line};
 
 use crate::Options;
-use crate::line::{COLUMNS, Line, NAME, NUMBER};
-use crate::usage::Usage;
+use crate::page::{CAPACITY, Page};
+use crate::usage::{GRACE, NUMBER, Usage};
 use arrayvec::ArrayVec;
 use id_names::Names;
 use itoa::Buffer;
-use quota_blocks::{Sink, SinkFault, TextBuffer};
+use quota_blocks::{Sink, SinkFault};
 use quota_types::Entry;
 
 /// How many places a name has. A longer one widens its column.
 const NAME_PLACES: usize = 12;
+
+/// How many bytes a name has at most.
+const NAME: usize = 255;
+
+/// How many bytes the columns on blocks, or on inodes, have at most: three numbers and a grace period, a space before
+/// each.
+const COLUMNS: usize = 3 * (1 + NUMBER) + 1 + GRACE;
+
+/// How many bytes a line has at most: a name, a space, two flags, the columns on blocks and on inodes, and a newline.
+const LINE: usize = NAME + 1 + 2 + 2 * COLUMNS + 1;
 
 /// Puts the line of an identifier, where it is shown.
 pub(crate) fn put_entry<O: Sink>(
@@ -22,7 +32,7 @@ pub(crate) fn put_entry<O: Sink>(
     names: &Names,
     now: u64,
     options: &Options,
-    text: &mut TextBuffer,
+    text: &mut Page,
     sink: &mut O,
 ) -> Result<(), SinkFault>
     ensures ok { OnOk result (Gathers O.tells (O.seen sink.old).written text.old (O.seen sink.new).written text.new
@@ -35,9 +45,9 @@ pub(crate) fn put_entry<O: Sink>(
     if !is_shown(entry, options) {
         return Ok(());
     }
-    let mut line = Line::new();
-    push_entry(&mut line, entry, names, now, options);
-    text.put(sink, line.as_slice())
+    text.make_room(sink, LINE)?;
+    push_entry(text, entry, names, now, options);
+    Ok(())
 }
 
 /// Whether an identifier has a line: one that uses neither space nor inodes has it only where all are shown.
@@ -47,71 +57,68 @@ fn is_shown(entry: &Entry, options: &Options) -> bool
     options.verbose || !(entry.rec.space == 0 && entry.rec.inodes == 0)
 }
 
-/// Makes an empty line that of an identifier.
+/// Appends the line of an identifier.
 #[tactic(auto, unfolding(crate::specs::Report::entry_line))]
-fn push_entry(line: &mut Line, entry: &Entry, names: &Names, now: u64, options: &Options)
-    requires { line.old ≡ [] }
-    ensures { line.new ≡ entry_line (first_name names.now) now options.now (entry.now.id, entry.now.rec) }
+fn push_entry(page: &mut Page, entry: &Entry, names: &Names, now: u64, options: &Options)
+    requires { length page.old + LINE ≤ CAPACITY }
+    ensures { page.new ≡ page.old ++ entry_line (first_name names.now) now options.now (entry.now.id, entry.now.rec) }
 {
     let blocks = Usage::of_blocks(&entry.rec);
     let inodes = Usage::of_inodes(&entry.rec);
-    push_name(line, names, entry.id, options);
-    line.push_text(&[b' ', blocks.flag(), inodes.flag()]);
-    push_columns(line, 10, &blocks, now, options);
-    push_columns(line, 8, &inodes, now, options);
-    line.push_text(b"\n");
+    push_name(page, names, entry.id, options);
+    page.push_text(&[b' ', blocks.flag(), inodes.flag()]);
+    push_columns(page, 10, &blocks, now, options);
+    push_columns(page, 8, &inodes, now, options);
+    page.push_text(b"\n");
 }
 
 /// Appends the name of an identifier; where numbers are asked for, `#` and the identifier.
-fn push_name(line: &mut Line, names: &Names, id: u32, options: &Options)
-    requires { length line.old ≤ 64 }
-    ensures text { line.new ≡ line.old ++ left_in NAME_PLACES (name_of (first_name names.now) options.now id) }
-    ensures room { length line.new ≤ length line.old + NAME }
+fn push_name(page: &mut Page, names: &Names, id: u32, options: &Options)
+    requires { length page.old + NAME ≤ CAPACITY }
+    ensures text { page.new ≡ page.old ++ left_in NAME_PLACES (name_of (first_name names.now) options.now id) }
+    ensures room { length page.new ≤ length page.old + NAME }
 {
     if options.numeric {
-        push_numbered(line, id);
+        push_numbered(page, id);
     } else {
-        push_shown_name(line, names, id);
+        push_shown_name(page, names, id);
     }
 }
 
 /// Appends the name of an identifier; where it has none, `#` and the identifier.
-fn push_shown_name(line: &mut Line, names: &Names, id: u32)
-    requires { length line.old ≤ 64 }
-    ensures text { line.new ≡ line.old ++ left_in NAME_PLACES (shown_name (first_name names.now) id) }
-    ensures room { length line.new ≤ length line.old + NAME }
+fn push_shown_name(page: &mut Page, names: &Names, id: u32)
+    requires { length page.old + NAME ≤ CAPACITY }
+    ensures text { page.new ≡ page.old ++ left_in NAME_PLACES (shown_name (first_name names.now) id) }
+    ensures room { length page.new ≤ length page.old + NAME }
 {
     match names.name_of(id) {
-        Some(name) => line.push_left(NAME_PLACES, name),
-        None => push_numbered(line, id),
+        Some(name) => page.push_left(NAME_PLACES, name),
+        None => push_numbered(page, id),
     }
 }
 
 /// Appends `#` and the identifier.
-fn push_numbered(line: &mut Line, id: u32)
-    requires { length line.old ≤ 64 }
-    ensures text { line.new ≡ line.old ++ left_in NAME_PLACES (numbered id) }
-    ensures room { length line.new ≤ length line.old + NAME }
+fn push_numbered(page: &mut Page, id: u32)
+    requires { length page.old + NAME ≤ CAPACITY }
+    ensures text { page.new ≡ page.old ++ left_in NAME_PLACES (numbered id) }
+    ensures room { length page.new ≤ length page.old + NAME }
 {
-    let mut name = ArrayVec::<u8, 12>::new();
     let mut digits = Buffer::new();
-    name.push(b'#');
-    name.try_extend_from_slice(digits.format(id).as_bytes())
-        .unwrap();
-    line.push_left(NAME_PLACES, name.as_slice());
+    page.push_text(b"#");
+    page.push_left(NAME_PLACES - 1, digits.format(id).as_bytes());
 }
 
 /// Appends the four columns on blocks, or on inodes.
-fn push_columns(line: &mut Line, width: usize, usage: &Usage, now: u64, options: &Options)
+fn push_columns(page: &mut Page, width: usize, usage: &Usage, now: u64, options: &Options)
     requires narrow { width ≤ NUMBER }
-    requires room { length line.old ≤ NAME + 3 + COLUMNS }
-    ensures text { line.new ≡ line.old ++ columns_in width (columns_of options.now now usage.now) }
-    ensures room { length line.new ≤ length line.old + COLUMNS }
+    requires room { length page.old + COLUMNS ≤ CAPACITY }
+    ensures text { page.new ≡ page.old ++ columns_in width (columns_of options.now now usage.now) }
+    ensures room { length page.new ≤ length page.old + COLUMNS }
 {
     let mut grace = ArrayVec::new();
     usage.grace_text(now, options, &mut grace);
-    line.push_number(width, usage.used);
-    line.push_number(width, usage.soft);
-    line.push_number(width, usage.hard);
-    line.push_column(6, grace.as_slice());
+    page.push_number(width, usage.used);
+    page.push_number(width, usage.soft);
+    page.push_number(width, usage.hard);
+    page.push_column(6, grace.as_slice());
 }

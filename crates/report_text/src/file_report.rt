@@ -11,9 +11,10 @@ ghost use Rattle.report_text.specs.Report.{report_of, lines_of};
 
 use crate::entries::put_entry;
 use crate::head::put_head;
+use crate::page::Page;
 use crate::{Options, ReportFault};
 use id_names::Names;
-use quota_blocks::{QuotaFile, Sink, Store, TextBuffer};
+use quota_blocks::{QuotaFile, Sink, Store};
 use quota_types::Kind;
 
 /// Writes the report of an opened quota file: a head with `title`, which is usually the file's name, and a line for
@@ -54,7 +55,7 @@ pub fn report<S: Store, F: QuotaFile<S>, O: Sink>(
     ensures uncounted { IfErr result (λ fault. OnSink fault (F.seen file.new ≡ F.seen file.old)) }
     ensures sink_later { (O.seen sink.old).faults ≤ (O.seen sink.new).faults }
 {
-    let mut text = TextBuffer::new();
+    let mut text = Page::new();
     put_head(kind, title, file.grace(), &mut text, sink)?;
     put_entries(file, store, names, now, options, &mut text, sink)?;
     text.flush(sink)?;
@@ -68,7 +69,7 @@ fn put_entries<S: Store, F: QuotaFile<S>, O: Sink>(
     names: &Names,
     now: u64,
     options: &Options,
-    text: &mut TextBuffer,
+    text: &mut Page,
     sink: &mut O,
 ) -> Result<(), ReportFault>
     requires { IsTrue (F.seen file.old).usable }

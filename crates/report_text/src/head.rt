@@ -1,20 +1,24 @@
-ghost use Rattle.std.specs.Prelude.{◌≡◌, ◌≤◌, ◌++◌, length, OnOk, OnErr};
+ghost use Rattle.std.specs.Prelude.{◌≡◌, ◌+◌, ◌≤◌, ◌++◌, length, OnOk, OnErr};
 ghost use Rattle.quota_blocks.specs.Count.{Rose};
 ghost use Rattle.quota_blocks.specs.Text.{Gathers, WritesPrefix};
+ghost use Rattle.report_text.specs.Period.{period_of};
 ghost use Rattle.report_text.specs.Report.{head_of, title_front, title_line, grace_line, heading_line, hyphen_line};
 
-use crate::line::Line;
+use crate::page::{CAPACITY, Page};
 use crate::period_text;
 use arrayvec::ArrayVec;
-use quota_blocks::{Sink, SinkFault, TextBuffer};
+use quota_blocks::{Sink, SinkFault};
 use quota_types::{Grace, Kind};
+
+/// How many bytes the three lines below the title have at most.
+const BELOW: usize = 105 + 90 + 90;
 
 /// Puts the four lines in front of the columns.
 pub(crate) fn put_head<O: Sink>(
     kind: Kind,
     title: &str,
     grace: Grace,
-    text: &mut TextBuffer,
+    text: &mut Page,
     sink: &mut O,
 ) -> Result<(), SinkFault>
     ensures ok { OnOk result (Gathers O.tells (O.seen sink.old).written text.old (O.seen sink.new).written text.new
@@ -25,14 +29,16 @@ pub(crate) fn put_head<O: Sink>(
     ensures later { (O.seen sink.old).faults ≤ (O.seen sink.new).faults }
 {
     put_title(kind, title, text, sink)?;
-    text.put(sink, lines_below(kind, grace).as_slice())
+    text.make_room(sink, BELOW)?;
+    push_below(text, kind, grace);
+    Ok(())
 }
 
 /// Puts the first line.
 fn put_title<O: Sink>(
     kind: Kind,
     title: &str,
-    text: &mut TextBuffer,
+    text: &mut Page,
     sink: &mut O,
 ) -> Result<(), SinkFault>
     ensures ok { OnOk result (Gathers O.tells (O.seen sink.old).written text.old (O.seen sink.new).written text.new
@@ -58,32 +64,38 @@ fn title_front(kind: Kind) -> &'static [u8]
     }
 }
 
-/// The three lines below the title.
-fn lines_below(kind: Kind, grace: Grace) -> Line
-    ensures { result ≡ grace_line grace ++ heading_line kind ++ hyphen_line }
+/// Appends the three lines below the title.
+fn push_below(page: &mut Page, kind: Kind, grace: Grace)
+    requires { length page.old + BELOW ≤ CAPACITY }
+    ensures { page.new ≡ page.old ++ (grace_line grace ++ heading_line kind ++ hyphen_line) }
 {
-    let mut line = grace_line(grace);
-    line.push_text(heading_line(kind));
-    push_hyphens(&mut line);
-    line
+    push_grace_line(page, grace);
+    page.push_text(heading_line(kind));
+    push_hyphens(page);
 }
 
-/// The second line.
+/// Appends the second line.
 #[tactic(auto, unfolding(crate::specs::Report::grace_line))]
-fn grace_line(grace: Grace) -> Line
-    ensures text { result ≡ grace_line grace }
-    ensures room { length result ≤ 105 }
+fn push_grace_line(page: &mut Page, grace: Grace)
+    requires { length page.old + 105 ≤ CAPACITY }
+    ensures text { page.new ≡ page.old ++ grace_line grace }
+    ensures room { length page.new ≤ length page.old + 105 }
 {
-    let mut line = Line::new();
+    push_period(page, b"Block grace time: ", grace.block);
+    push_period(page, b"; Inode grace time: ", grace.inode);
+    page.push_text(b"\n");
+}
+
+/// Appends a text and that of a period of so many seconds.
+fn push_period(page: &mut Page, front: &[u8], seconds: u64)
+    requires { length page.old + length front.now + 24 ≤ CAPACITY }
+    ensures text { page.new ≡ page.old ++ (front.now ++ period_of seconds) }
+    ensures room { length page.new ≤ length page.old + length front.now + 24 }
+{
     let mut period = ArrayVec::new();
-    line.push_text(b"Block grace time: ");
-    period_text(grace.block, &mut period);
-    line.push_text(period.as_slice());
-    line.push_text(b"; Inode grace time: ");
-    period_text(grace.inode, &mut period);
-    line.push_text(period.as_slice());
-    line.push_text(b"\n");
-    line
+    period_text(seconds, &mut period);
+    page.push_text(front);
+    page.push_text(period.as_slice());
 }
 
 /// The line above the columns.
@@ -104,10 +116,10 @@ fn heading_line(kind: Kind) -> &'static [u8]
 
 /// Appends the line of hyphens.
 #[tactic(auto, unfolding(crate::specs::Report::hyphen_line))]
-fn push_hyphens(line: &mut Line)
-    requires { length line.old ≤ 200 }
-    ensures { line.new ≡ line.old ++ hyphen_line }
+fn push_hyphens(page: &mut Page)
+    requires { length page.old + 90 ≤ CAPACITY }
+    ensures { page.new ≡ page.old ++ hyphen_line }
 {
-    line.push_repeated(89, b'-');
-    line.push_text(b"\n");
+    page.push_repeated(89, b'-');
+    page.push_text(b"\n");
 }

@@ -7,8 +7,8 @@ mod entries;
 mod fault;
 mod file_report;
 mod head;
-mod line;
 mod options;
+mod page;
 mod period;
 mod usage;
 

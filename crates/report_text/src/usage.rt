@@ -1,11 +1,16 @@
 ghost use Rattle.std.specs.Prelude.{◌≡◌, ◌≤◌, length};
 ghost use Rattle.report_text.specs.Report.{blocks_of, inodes_of, flag_of, grace_of, grace_left, grace_end};
 
-use crate::line::GRACE;
 use crate::{Options, period_text};
 use arrayvec::ArrayVec;
 use itoa::Buffer;
 use quota_types::{Rec, is_exceeded};
+
+/// How many digits a number below 2^64 has at most.
+pub(crate) const NUMBER: usize = 20;
+
+/// How many bytes the text of a grace period has at most: a number, and `days`.
+pub(crate) const GRACE: usize = NUMBER + 4;
 
 /// What an identifier uses of blocks or of inodes.
 #[derive(Clone, Copy, Debug, PartialEq, Eq)]

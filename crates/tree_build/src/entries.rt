@@ -79,6 +79,7 @@ fn has_id(format: Format, block: &[u8; 1024], place: usize, id: u32) -> bool
 }
 
 /// The record of the entry of a block at a place among the entries, where it is used by this identifier.
+#[inline(always)]
 fn record_by(format: Format, block: &[u8; 1024], place: usize, id: u32) -> Option<Rec>
     requires tree { format ≢ Format.V1 }
     requires place { place < entries_per_block format }

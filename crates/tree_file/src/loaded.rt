@@ -95,6 +95,7 @@ impl LoadedTree {
     ///
     /// The file is damaged: a reference on the way leads past the last block, a block of the tree below the root has none,
     /// or the data block has no entry of the identifier.
+    #[inline(always)]
     pub(crate) fn next_record(&self, after: Option<u32>) -> Result<Option<Entry>, Damage>
         ensures found { IfOk result (λ found. (value : QuotaValue) → TreeStandsFor self.now.bytes.items value
             → IsNextAfter after value.records found) }
@@ -157,6 +158,7 @@ fn first_after(after: Option<u32>) -> Option<u32>
 /// # Errors
 ///
 /// The block has no entry of the leaf's identifier.
+#[inline(always)]
 fn record_at(format: Format, file: &[u8], leaf: TreePath) -> Result<Rec, Damage>
     requires tree { format ≢ V1 }
     ensures found { IfOk result (λ rec. record_in format (block_of file.now leaf.block) leaf.number ≡ Some rec) }

@@ -1,0 +1,10 @@
+use Rattle.std.proofs.Common.{◌∙◌, arith}
+use Rattle.report_text.proofs.PageLemmas.{text_length, spaces_past}
+use Rattle.report_text.proofs.page.Page.push_text.Goals as goal
+
+pub invariant_of-self : goal.invariant_of-self
+invariant_of-self c =
+    let long = text_length _ _ _ _ c.self.told c.self.invariant.0 c.self.view_is c.self.invariant.1 in (
+      omega arith,
+      c.write_at.ensures.rest ∙ spaces_past _ _ _ _ c.self.told c.self.invariant.0 c.self.view_is c.self.invariant.1 _,
+    )
