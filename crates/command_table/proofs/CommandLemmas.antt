@@ -1,6 +1,9 @@
 -- Commands whose words are refused, and what all commands share.
-use Rattle.std.proofs.Common.{◌≡◌, ◌≢◌, ℕ, Bool, true, false, List, [], ◌∷◌, Option, None, Some, Ok, Err, Result, inl, inr, refl, sym, subst, arith}
-use Rattle.std.specs.Prelude.{IfErr, IfSome, IsErr, IsErrAnd, ◌↔◌}
+use Rattle.std.proofs.Common.{◌≡◌, ◌≢◌, ◌∙◌, ℕ, Bool, true, false, IsTrue, List, [], ◌∷◌, Option, None, Some, Ok, Err, Result, inl, inr, refl, sym, subst, arith}
+use Rattle.std.specs.Prelude.{IfErr, IfSome, IsErr, IsErrAnd, OnErr, OnOk, ◌↔◌}
+use Rattle.std.proofs.lemmas.Bool.{false≢true}
+use Rattle.quota_blocks.specs.Unsynced.{AddsNone}
+use Rattle.run_steps.specs.Run.{CarriesOut}
 use Rattle.quota_types.specs.declared.file_kind.Format.{Format}
 use Rattle.quota_types.specs.declared.file_kind.Kind.{Kind}
 use Rattle.quota_blocks.specs.QuotaValue.{QuotaValue}
@@ -239,6 +242,22 @@ asked_known table (Err refusal) each = tt
 pub of_refusal : (result : Result (Unit {0}) Refusal) (holds : Refusal → Type 0) → ((refusal : Refusal) → holds refusal) → IfErr result holds
 of_refusal (Ok value) holds all = tt
 of_refusal (Err refusal) holds all = all refusal
+
+-- a command that uses no link and reads no commands was carried out
+pub carried_alone : (d : Description) (invocation : Invocation) (tells : RunTells) (old new : RunSeen) (result : Result (Unit {0}) Refusal)
+    → d.unfinished invocation tells old new → d.uses.reads_commands ≡ false → new.link ≡ old.link → CarriesOut (d.steps invocation) d.uses
+    d.may tells old new result
+    → IfSome d.replaces (λ (file : List ℕ). OnErr result (IsTrue tells.store → new.store.files file ≡ old.store.files file))
+    → OnOk result (IsTrue tells.store → AddsNone old.store.unsynced new.store.unsynced) → IsCarriedOut d invocation tells old new result
+carried_alone d invocation tells old new result finished one same carries named synced = record {
+  carries = carries;
+  named = named;
+  synced = synced;
+  unfinished = of_refusal result _ (λ refusal failed. finished);
+  untaken = λ _. of_refusal result _ (λ refusal five. same);
+  unlinked = λ told no. same;
+  unbegun = λ reads. absurd (false≢true (sym one ∙ reads));
+}
 
 -- what follows from a fact of a refusal holds of the one that was answered
 pub of_refusal_weaker : (result : Result (Unit {0}) Refusal) (one other : Refusal → Type 0) → ((refusal : Refusal) → one refusal → other refusal) → IfErr result one → IfErr result other

@@ -10,11 +10,8 @@ use Rattle.option_words.specs.FileName.{ends_so, is_file_name, is_graphic}
 
 -- of some tests that all hold the fourth one holds
 fourth : (a b c d e f : Bool) → (a && b && c && not d && e && f) ≡ true → d ≡ false
-fourth false b c d e f all = absurd (cc)
-fourth true false c d e f all = absurd (cc)
-fourth true true false d e f all = absurd (cc)
-fourth true true true true e f all = absurd (cc)
 fourth true true true false e f all = refl
+fourth _ _ _ _ e f all = absurd (cc)
 
 -- a name with an ending added ends so
 ends_added : (name ending : List ℕ) → ends_so (name ++ ending) ending ≡ true

@@ -20,30 +20,13 @@ use Rattle.option_words.specs.Reads.{operands_seen}
 too_many : (mode : Mode) (told : Told) (words : ℕ) (a b c d e f g : Operand) (more other : List Operand)
     → formed mode told words (a ∷ b ∷ c ∷ d ∷ e ∷ f ∷ g ∷ more) ≡ formed mode told words (a ∷ b ∷ c ∷ d ∷ e ∷ f ∷ g ∷ other)
 too_many Reporting told words a b c d e f g more other = refl
-too_many Limiting told words a b c d e f g more other = refl
-too_many Copying told words a b c d e f g more other = refl
-too_many Batching told words a b c d e f g more other = refl
-too_many SettingGrace told words a b c d e f g more other = refl
-too_many SettingTimes told words a b c d e f g more other = refl
-too_many Printing told words a b c d e f g more other = refl
-too_many Applying told words a b c d e f g more other = refl
-too_many Checking told words a b c d e f g more other = refl
-too_many Converting told words a b c d e f g more other = refl
-too_many Serving told words a b c d e f g more other = refl
-too_many Scripting told words a b c d e f g more other = refl
-too_many Generating told words a b c d e f g more other = refl
+too_many _ told words a b c d e f g more other = refl
 
 -- the first seven operands are enough to tell what a mode asks for
 pub formed-take : (mode : Mode) (told : Told) (words : ℕ) (operands : List Operand)
     → formed mode told words (take 7 operands) ≡ formed mode told words operands
-formed-take mode told words [] = refl
-formed-take mode told words (a ∷ []) = refl
-formed-take mode told words (a ∷ b ∷ []) = refl
-formed-take mode told words (a ∷ b ∷ c ∷ []) = refl
-formed-take mode told words (a ∷ b ∷ c ∷ d ∷ []) = refl
-formed-take mode told words (a ∷ b ∷ c ∷ d ∷ e ∷ []) = refl
-formed-take mode told words (a ∷ b ∷ c ∷ d ∷ e ∷ f ∷ []) = refl
 formed-take mode told words (a ∷ b ∷ c ∷ d ∷ e ∷ f ∷ g ∷ more) = too_many mode told words a b c d e f g [] more
+formed-take mode told words _ = refl
 
 -- what six operands ask for as new limits, each by its place
 pub limits_formed : (told : Told) (words : ℕ) (operands : List OperandWord) (any : OperandWord) → length operands ≡ 6
@@ -52,14 +35,9 @@ pub limits_formed : (told : Told) (words : ℕ) (operands : List OperandWord) (a
     ≡ Ok (SetLimits (common_of told) (get_or operands 0 any).text.now
     ((get_or operands 1 any).text.now ∷ (get_or operands 2 any).text.now ∷ (get_or operands 3 any).text.now ∷ (get_or operands 4 any).text.now ∷ [])
     (get_or operands 5 any).text.now)
-limits_formed told words [] any six named = cc
-limits_formed told words (a ∷ []) any six named = cc
-limits_formed told words (a ∷ b ∷ []) any six named = cc
-limits_formed told words (a ∷ b ∷ c ∷ []) any six named = cc
-limits_formed told words (a ∷ b ∷ c ∷ d ∷ []) any six named = cc
-limits_formed told words (a ∷ b ∷ c ∷ d ∷ e ∷ []) any six named = cc
 limits_formed told words (a ∷ b ∷ c ∷ d ∷ e ∷ f ∷ []) any six named = rw named refl
 limits_formed told words (a ∷ b ∷ c ∷ d ∷ e ∷ f ∷ g ∷ more) any six named = absurd (omega arith)
+limits_formed told words _ any six named = cc
 
 -- they ask for a command
 pub limits_ok : (told : Told) (words : ℕ) (operands : List OperandWord) (any : OperandWord) → length operands ≡ 6

@@ -18,11 +18,12 @@ use Rattle.edit_commands.specs.declared.batch_line.LineRead.TheVariants.{Nothing
 use Rattle.refusals.specs.declared.cause.Cause.{Cause}
 use Rattle.refusals.specs.declared.cause.Cause.TheVariants.{TooLarge, LongLine, UnknownName, BadNumber}
 use Rattle.refusals.specs.declared.reason.Refusal.{Refusal}
-use Rattle.refusals.specs.Outcome.{Outcome, Passed, Refused, and_then}
+use Rattle.refusals.specs.Outcome.{Outcome, Passed, Refused}
 use Rattle.edit_commands.specs.Batch.{Asked, IsOfLine, LineMayRefuse, asks_then, ends_with, five_of, limits_asked, line_asks, line_named, line_outcome, lines_ask, read_at, read_then, refusal_read, words_ask}
 use Rattle.refusals.specs.Refusals.{refusal_of, stands_in_line}
 use Rattle.run_steps.specs.InputLine.{says_nothing}
 use Rattle.run_steps.specs.Numbers.{identifier_of, known, limit_read, limits_read, number_or_refused}
+use Rattle.edit_commands.proofs.WordLemmas.{OnlyRefused, only_if, only_then}
 
 -- What was read so far.
 
@@ -78,73 +79,57 @@ refused_taken (Err fault) read told asks more is taken = tt
 
 -- What a line may be refused for.
 
--- an outcome that is refused only for what a line may be refused for
-abbrev OnlyForLine : {V : Type 0} → List NameLine → List ℕ → Outcome V → Type 0
-OnlyForLine names place (Passed value) = ⊤
-OnlyForLine names place (Refused refusal) = LineMayRefuse names place refusal.cause refusal.name
+-- a refusal for what a line may be refused for
+abbrev ForLine : List NameLine → List ℕ → Refusal → Type 0
+ForLine names place refusal = LineMayRefuse names place refusal.cause refusal.name
 
-for_line_then : {V W : Type 0} (names : List NameLine) (place : List ℕ) (outcome : Outcome V) (next : V → Outcome W) → OnlyForLine names place outcome → ((value : V) → OnlyForLine names place (next value))
-    → OnlyForLine names place (and_then outcome next)
-for_line_then names place (Passed value) next one two = two value
-for_line_then names place (Refused refusal) next one two = one
+-- a refusal of this word, which names nothing or is no number
+abbrev IsOfThis : List ℕ → Refusal → Type 0
+IsOfThis word refusal = (refusal ≡ refusal_of UnknownName word) ⊎ (refusal ≡ refusal_of BadNumber word)
 
--- an outcome that is refused only for this word, which names nothing or is no number
-abbrev OnlyForThis : List ℕ → Outcome ℕ → Type 0
-OnlyForThis word (Passed value) = ⊤
-OnlyForThis word (Refused refusal) = (refusal ≡ refusal_of UnknownName word) ⊎ (refusal ≡ refusal_of BadNumber word)
-
-for_this_if : (word : List ℕ) (test : Bool) (one other : Outcome ℕ) → OnlyForThis word one → OnlyForThis word other → OnlyForThis word (cond test one other)
-for_this_if word true one other a b = a
-for_this_if word false one other a b = b
-
-known_this : (found : Option ℕ) (word : List ℕ) → OnlyForThis word (known found word)
+known_this : (found : Option ℕ) (word : List ℕ) → OnlyRefused (IsOfThis word) (known found word)
 known_this (Some id) word = tt
 known_this None word = inl refl
 
-identifier_this : (names : List NameLine) (word : List ℕ) → OnlyForThis word (identifier_of names word)
+identifier_this : (names : List NameLine) (word : List ℕ) → OnlyRefused (IsOfThis word) (identifier_of names word)
 identifier_this names word =
     let named : Outcome ℕ = if nat_lt (value_of word) (2 ^ 32) then Passed (value_of word) else Refused (refusal_of BadNumber word) in
-    for_this_if word (nat_lt 0 (length word) && all_ascii_digits word) named (known (first_id names word) word)
-    (for_this_if word (nat_lt (value_of word) (2 ^ 32)) (Passed (value_of word)) (Refused (refusal_of BadNumber word)) tt (inr refl)) (known_this (first_id names word) word)
+    only_if (IsOfThis word) (nat_lt 0 (length word) && all_ascii_digits word) named (known (first_id names word) word)
+    (only_if (IsOfThis word) (nat_lt (value_of word) (2 ^ 32)) (Passed (value_of word)) (Refused (refusal_of BadNumber word)) tt (inr refl)) (known_this (first_id names word) word)
 
-identifier_line : (names : List NameLine) (place word : List ℕ) (outcome : Outcome ℕ) → identifier_of names word ≡ outcome → OnlyForThis word outcome → OnlyForLine names place outcome
+identifier_line : (names : List NameLine) (place word : List ℕ) (outcome : Outcome ℕ) → identifier_of names word ≡ outcome → OnlyRefused (IsOfThis word) outcome → OnlyRefused (ForLine names place) outcome
 identifier_line names place word (Passed id) is this = tt
 identifier_line names place word (Refused refusal) is (inl same) =
     subst (λ (r : Refusal). LineMayRefuse names place r.cause r.name) (sym same) (is ∙ ap (λ (r : Refusal). Refused r) same)
 identifier_line names place word (Refused refusal) is (inr same) =
     subst (λ (r : Refusal). LineMayRefuse names place r.cause r.name) (sym same) (inl (is ∙ ap (λ (r : Refusal). Refused r) same))
 
-limit_line : (names : List NameLine) (place : List ℕ) (blocks : Bool) (word : List ℕ) (found : Option ℕ) → limit_of blocks word ≡ found → OnlyForLine names place (number_or_refused word found)
+limit_line : (names : List NameLine) (place : List ℕ) (blocks : Bool) (word : List ℕ) (found : Option ℕ) → limit_of blocks word ≡ found → OnlyRefused (ForLine names place) (number_or_refused word found)
 limit_line names place blocks word (Some number) is = tt
 limit_line names place blocks word None is = inr (blocks, ap (number_or_refused word) is)
 
-limits_line : (names : List NameLine) (place bsoft bhard isoft ihard : List ℕ) → OnlyForLine names place (limits_read (bsoft ∷ bhard ∷ isoft ∷ ihard ∷ []))
+limits_line : (names : List NameLine) (place bsoft bhard isoft ihard : List ℕ) → OnlyRefused (ForLine names place) (limits_read (bsoft ∷ bhard ∷ isoft ∷ ihard ∷ []))
 limits_line names place bsoft bhard isoft ihard =
-    for_line_then names place (limit_read true bsoft) _ (limit_line names place true bsoft (limit_of true bsoft) refl) (λ bs.
-    for_line_then names place (limit_read true bhard) _ (limit_line names place true bhard (limit_of true bhard) refl) (λ bh.
-    for_line_then names place (limit_read false isoft) _ (limit_line names place false isoft (limit_of false isoft) refl) (λ is.
-    for_line_then names place (limit_read false ihard) _ (limit_line names place false ihard (limit_of false ihard) refl) (λ ih. tt))))
+    only_then (ForLine names place) (limit_read true bsoft) _ (limit_line names place true bsoft (limit_of true bsoft) refl) (λ bs.
+    only_then (ForLine names place) (limit_read true bhard) _ (limit_line names place true bhard (limit_of true bhard) refl) (λ bh.
+    only_then (ForLine names place) (limit_read false isoft) _ (limit_line names place false isoft (limit_of false isoft) refl) (λ is.
+    only_then (ForLine names place) (limit_read false ihard) _ (limit_line names place false ihard (limit_of false ihard) refl) (λ ih. tt))))
 
 -- words of a line
 abbrev ForFive : List NameLine → List ℕ → ℕ → Option FiveWords → Type 0
 ForFive names place number None = ⊤
-ForFive names place number (Some words) = OnlyForLine names place (limits_asked names number words)
+ForFive names place number (Some words) = OnlyRefused (ForLine names place) (limits_asked names number words)
 
-five_if : (names : List NameLine) (place : List ℕ) (number : ℕ) (test : Bool) (words : FiveWords) → OnlyForLine names place (limits_asked names number words) → ForFive names place number (cond test (Some words) None)
+five_if : (names : List NameLine) (place : List ℕ) (number : ℕ) (test : Bool) (words : FiveWords) → OnlyRefused (ForLine names place) (limits_asked names number words) → ForFive names place number (cond test (Some words) None)
 five_if names place number true words may = may
 five_if names place number false words may = tt
 
 five_line : (names : List NameLine) (place : List ℕ) (number : ℕ) (words : List (List ℕ)) → ForFive names place number (five_of words)
-five_line names place number [] = tt
-five_line names place number (a ∷ []) = tt
-five_line names place number (a ∷ b ∷ []) = tt
-five_line names place number (a ∷ b ∷ c ∷ []) = tt
-five_line names place number (a ∷ b ∷ c ∷ d ∷ []) = tt
 five_line names place number (name ∷ bsoft ∷ bhard ∷ isoft ∷ ihard ∷ []) =
     five_if names place number _ (record { name = name; limits = bsoft ∷ bhard ∷ isoft ∷ ihard ∷ [] })
-    (for_line_then names place (identifier_of names name) _ (identifier_line names place name (identifier_of names name) refl (identifier_this names name)) (λ id.
-    for_line_then names place (limits_read (bsoft ∷ bhard ∷ isoft ∷ ihard ∷ [])) _ (limits_line names place bsoft bhard isoft ihard) (λ limits. tt)))
-five_line names place number (a ∷ b ∷ c ∷ d ∷ e ∷ f ∷ more) = tt
+    (only_then (ForLine names place) (identifier_of names name) _ (identifier_line names place name (identifier_of names name) refl (identifier_this names name)) (λ id.
+    only_then (ForLine names place) (limits_read (bsoft ∷ bhard ∷ isoft ∷ ihard ∷ [])) _ (limits_line names place bsoft bhard isoft ihard) (λ limits. tt)))
+five_line names place number _ = tt
 
 -- a refusal whose cause stands in no line is told with none
 named_if : (stands : Bool) (number : ℕ) → stands ≡ false → (if stands then Some number else None) ≡ None
@@ -154,33 +139,25 @@ named_if false number untrue = refl
 pub unnamed : (number : ℕ) (cause : Cause) → stands_in_line cause ≡ false → line_named number cause ≡ None
 unnamed number cause untrue = named_if (stands_in_line cause) number untrue
 
--- an outcome that is refused only by a refusal that a line may have
-abbrev pub OnlyOfLine : {V : Type 0} → List NameLine → List ℕ → Outcome V → Type 0
-OnlyOfLine names place (Passed value) = ⊤
-OnlyOfLine names place (Refused refusal) = IsOfLine names place refusal
-
-read_line_at : (names : List NameLine) (place : List ℕ) (number : ℕ) (outcome : Outcome LineEdit) → OnlyForLine names place outcome → OnlyOfLine names place (read_at number outcome)
+read_line_at : (names : List NameLine) (place : List ℕ) (number : ℕ) (outcome : Outcome LineEdit) → OnlyRefused (ForLine names place) outcome → OnlyRefused (IsOfLine names place) (read_at number outcome)
 read_line_at names place number (Passed edit) may = tt
 read_line_at names place number (Refused refusal) may = record { may = may; line = refl; input_line = λ untrue. unnamed number refusal.cause untrue }
 
-words_line : (names : List NameLine) (place : List ℕ) (number : ℕ) (five : Option FiveWords) → ForFive names place number five → OnlyOfLine names place (words_ask names place number five)
+words_line : (names : List NameLine) (place : List ℕ) (number : ℕ) (five : Option FiveWords) → ForFive names place number five → OnlyRefused (IsOfLine names place) (words_ask names place number five)
 words_line names place number (Some words) may = read_line_at names place number (limits_asked names number words) may
 words_line names place number None may = record { may = refl; line = refl; input_line = λ untrue. refl }
 
-asks_if : (names : List NameLine) (place : List ℕ) (test : Bool) (outcome : Outcome (Option LineEdit)) → OnlyOfLine names place outcome → OnlyOfLine names place (cond test (Passed None) outcome)
-asks_if names place true outcome may = tt
-asks_if names place false outcome may = may
-
 -- a line is refused only by a refusal that a line may have
-pub asks_line : (names : List NameLine) (place : List ℕ) (number : ℕ) (line : List ℕ) → OnlyOfLine names place (line_asks names place number line)
+pub asks_line : (names : List NameLine) (place : List ℕ) (number : ℕ) (line : List ℕ) → OnlyRefused (IsOfLine names place) (line_asks names place number line)
 asks_line names place number line =
-    asks_if names place (says_nothing line) (words_ask names place number (five_of (words_of line))) (words_line names place number (five_of (words_of line)) (five_line names place number (words_of line)))
+    only_if (IsOfLine names place) (says_nothing line) (Passed None) (words_ask names place number (five_of (words_of line))) tt
+    (words_line names place number (five_of (words_of line)) (five_line names place number (words_of line)))
 
-outcome_may : (names : List NameLine) (place : List ℕ) (read : LineRead) → OnlyOfLine names place (line_outcome read) → IfSome (refusal_read (Some read)) (IsOfLine names place)
+outcome_may : (names : List NameLine) (place : List ℕ) (read : LineRead) → OnlyRefused (IsOfLine names place) (line_outcome read) → IfSome (refusal_read (Some read)) (IsOfLine names place)
 outcome_may names place Nothing may = tt
 outcome_may names place (Found edit) may = tt
 outcome_may names place (Faulty refusal) may = may
 
 pub line_may : (names : List NameLine) (place : List ℕ) (number : ℕ) (line : List ℕ) (read : LineRead) → line_asks names place number line ≡ line_outcome read → IfSome (refusal_read (Some read)) (IsOfLine names place)
 line_may names place number line read asks =
-    outcome_may names place read (subst (λ (o : Outcome (Option LineEdit)). OnlyOfLine names place o) asks (asks_line names place number line))
+    outcome_may names place read (subst (λ (o : Outcome (Option LineEdit)). OnlyRefused (IsOfLine names place) o) asks (asks_line names place number line))

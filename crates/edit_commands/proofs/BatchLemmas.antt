@@ -25,7 +25,7 @@ use Rattle.refusals.specs.declared.reason.Refusal.{Refusal}
 use Rattle.refusals.specs.Outcome.{Outcome, Passed}
 use Rattle.refusals.specs.Refusals.{refusal_of}
 use Rattle.run_steps.specs.Act.{Act}
-use Rattle.run_steps.specs.Done.{IsWorldTold, RunSeen, RunTells, outside_of}
+use Rattle.run_steps.specs.Done.{RunSeen, RunTells, outside_of}
 use Rattle.run_steps.specs.Meaning.{EndsBy}
 use Rattle.run_steps.specs.Opening.{MayRefuseOpening}
 use Rattle.run_steps.specs.Run.{CarriesOut, HasReason, HasSteps, IsDoneInPart}
@@ -33,8 +33,8 @@ use Rattle.run_steps.specs.Steps.{AreDoneThen}
 use Rattle.edit_commands.specs.Batch.{Applied, Applying, Asked, IsOfLine, LineEditMayRefuse, LineSteps, LineMayRefuse, applied, at_line, does_then, edit_of, first_of, line_uses, met_at, value_left}
 use Rattle.edit_commands.specs.Edits.{ChangeMayRefuse, edit_cause}
 use Rattle.run_steps.proofs.DoingLemmas.{AreWritten, done_of, done_steps, doing_begun, doing_ended, doing_ends, written_both, written_none}
-use Rattle.run_steps.proofs.OpeningLemmas.{with_store}
-use Rattle.run_steps.proofs.PartLemmas.{acts_in_part, whole_begun}
+use Rattle.run_steps.proofs.OpeningLemmas.{store_later, with_store}
+use Rattle.run_steps.proofs.PartLemmas.{acts_in_part, carried_whole, part_from}
 use Rattle.run_steps.proofs.ReasonLemmas.{reason_but_stated}
 use Rattle.edit_commands.proofs.BatchInputLemmas.{unnamed}
 use Rattle.edit_commands.proofs.EditFileLemmas.{any_laws}
@@ -101,19 +101,9 @@ pub all_carried : (file : List ℕ) (now : ℕ) (lines : List LineEdit) (start :
     → (IsTrue tells.store → AreMade file now lines [] start old.store store holds) → ReplacesOne file old.store store
     → CarriesOut (LineSteps file now lines start) line_uses may tells old (with_store old store) (Ok tt)
 all_carried file now lines start may tells old store holds made leaves =
-    let all : IsWorldTold tells → HasSteps (LineSteps file now lines start) tells None old (with_store old store) =
-    λ told. made_then file now lines [] start tells old store store holds None (made told.store) (only_reads-none file store) refl in
-    record {
-      done = all;
-      refused = tt;
-      part = λ told. whole_begun (LineSteps file now lines start) tells None old (with_store old store) (all told);
-      may_refuse = tt;
-      placed = tt;
-      only_reads = λ only. absurd (cc);
-      all_or_nothing = λ whole. tt;
-      quiet = λ no. refl;
-      later = record { store = leaves.later; input = omega arith; out = omega arith; err = omega arith; link = omega arith };
-    }
+    carried_whole (LineSteps file now lines start) line_uses may tells old (with_store old store) tt
+    (λ told. made_then file now lines [] start tells old store store holds None (made told.store) (only_reads-none file store) refl)
+    (λ only. absurd (false≢true (sym only))) (λ no. refl) (store_later old store leaves.later)
 
 -- An edit was refused.
 
@@ -171,18 +161,9 @@ has_behind acts own other ended tells old new has = record {
 
 -- and where they were done in part
 part_behind : (acts : List Act) (own other : Option Refusal) (tells : RunTells) (old new : RunSeen) → IsDoneInPart (AreDoneThen acts own) tells old new → IsDoneInPart (AreDoneThen acts other) tells old new
-part_behind acts own other tells old new part = record {
-  done = part.done;
-  hand = part.hand;
-  now = part.now;
-  begun = doing_begun acts own other (outside_of old) part.done part.hand part.now part.begun;
-  files = part.files;
-  out = part.out;
-  err = part.err;
-  answered = part.answered;
-  datagrams = part.datagrams;
-  writes = part.writes;
-}
+part_behind acts own other tells old new part =
+    part_from (AreDoneThen acts own) (AreDoneThen acts other) tells old old.store old.input new refl
+    (doing_begun acts own other (outside_of old)) part
 
 -- the edits before a refused line were made, and then comes its refusal
 pub then_refused : (file : List ℕ) (now : ℕ) (start : QuotaValue) (names : List NameLine) (place : List ℕ) (asked : Asked) (refusal : Refusal) (may more : Cause → List ℕ → Type 0) (tells : RunTells) (old new : RunSeen)
@@ -208,17 +189,10 @@ pub then_ended : (file : List ℕ) (now : ℕ) (start : QuotaValue) (asked : Ask
     → asked.refusal ≡ None → CarriesOut (LineSteps file now asked.edits start) line_uses may tells old new (Ok tt) → CarriesOut (Applying file now start asked) line_uses more tells old new (Ok tt)
 then_ended file now start asked may more tells old new is carries =
     let all = applied file now asked.edits start in
-    record {
-      done = λ told. subst (λ (r : Option Refusal). HasSteps (Applying file now start asked) tells r old new) is (has_behind all.acts all.refusal asked.refusal None tells old new (carries.done told));
-      refused = tt;
-      part = λ told. part_behind all.acts all.refusal (first_of all.refusal asked.refusal) tells old new (carries.part told);
-      may_refuse = tt;
-      placed = tt;
-      only_reads = λ only. absurd (cc);
-      all_or_nothing = λ whole. tt;
-      quiet = carries.quiet;
-      later = carries.later;
-    }
+    carried_whole (Applying file now start asked) line_uses more tells old new tt
+    (λ told. subst (λ (r : Option Refusal). HasSteps (Applying file now start asked) tells r old new) is
+    (has_behind all.acts all.refusal asked.refusal None tells old new (carries.done told)))
+    (λ only. absurd (false≢true (sym only))) carries.quiet carries.later
 
 -- an edit was refused, whatever comes behind the edits
 pub then_stopped : (file : List ℕ) (now : ℕ) (start : QuotaValue) (asked : Asked) (refusal : Refusal) (may more : Cause → List ℕ → Type 0) (tells : RunTells) (old new : RunSeen)

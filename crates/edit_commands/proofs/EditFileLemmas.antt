@@ -1,5 +1,5 @@
 -- From what an edit says of an opened file of any format to what a command says of the file.
-use Rattle.std.proofs.Common.{◌⊎◌, inl, inr, ◌≡◌, ◌≢◌, ℕ, Bool, true, false, IsTrue, List, Option, None, Some, Ok, Err, Result, if◌then◌else◌, refl, sym, ap, subst, ◌∙◌, arith}
+use Rattle.std.proofs.Common.{◌⊎◌, inl, inr, ◌≡◌, ◌≢◌, ℕ, Bool, true, false, IsTrue, List, Option, Ok, Err, Result, if◌then◌else◌, refl, sym, ap, subst, ◌∙◌, arith}
 use Rattle.std.specs.Prelude.{◌&&◌, ◌<◌, nat_lt, IfOk, IfSome, IsOk, IsOkAnd}
 use Rattle.std.proofs.lemmas.Bool.{false≢true}
 use Rattle.std.proofs.lemmas.Bool.Decides.{nat_tests}
@@ -10,12 +10,11 @@ use Rattle.quota_types.specs.declared.field.Field.{Field}
 use Rattle.quota_types.specs.declared.file_kind.Format.{Format}
 use Rattle.quota_types.specs.declared.file_kind.Format.TheVariants.{V1}
 use Rattle.quota_types.specs.declared.record.Rec.{Rec}
-use Rattle.quota_blocks.specs.FileChange.{Put, Remove, changed_value}
 use Rattle.quota_blocks.specs.QuotaFile.{FileSeen, IsChangeFault}
 use Rattle.quota_blocks.specs.QuotaValue.{QuotaValue}
 use Rattle.quota_blocks.specs.Seen.{StoreSeen}
 use Rattle.quota_blocks.specs.World.{World}
-use Rattle.quota_blocks.specs.declared.quota_file.FileFault.TheVariants.{Store, Damage, Full, Memory}
+use Rattle.quota_blocks.specs.declared.quota_file.FileFault.TheVariants.{Store, Full}
 use Rattle.tree_file.specs.Opened.{LacksRoom}
 use Rattle.tree_build.specs.Size.{blocks_needed, ids_in}
 use Rattle.quota_map.specs.AnyFile.{AnyMakes, HoldsAny, MayRefuse, any_seen}
@@ -24,7 +23,7 @@ use Rattle.quota_map.specs.declared.any_file.AnyFile.TheVariants.{V1 as FlatFile
 use Rattle.quota_map.specs.View.{fresh_seen, most_blocks}
 use Rattle.quota_map.proofs.SeenLemmas.{any_held_seen, tree_limit}
 use Rattle.set_edit.specs.EditFault.{OnBroken, OnUnchanged, file_fault}
-use Rattle.set_edit.specs.Edited.{unless_unfit, with_kept}
+use Rattle.set_edit.specs.Edited.{with_kept}
 use Rattle.set_edit.specs.Editing.{Edit, Edits, FileLaws, HasCause, file_at, laws_of}
 use Rattle.set_edit.specs.Times.{skips_both_of, wanted_times}
 use Rattle.set_edit.specs.declared.fault.EditFault.{EditFault}
@@ -40,30 +39,26 @@ use Rattle.run_steps.specs.Changing.{blocks_of}
 use Rattle.edit_commands.specs.EditWords.{MaySkip, edit_meant, edit_warns, skips_none}
 use Rattle.edit_commands.proofs.EditLemmas.{EditedSeen, IsMade}
 use Rattle.edit_commands.proofs.RefusedEditLemmas.{HasEditCause, IsLacking, IsRefusedAt}
+use Rattle.edit_commands.proofs.LimitsLemmas.{fits_field, kept_field, set_format}
 
 -- An edit keeps the format.
 
-kept_format : (value : QuotaValue) (id : ℕ) (kept : Rec) (null : Bool) → (changed_value (if null then Remove id else Put id kept) value).format ≡ value.format
-kept_format value id kept true = refl
-kept_format value id kept false = refl
-
-fits_format : (value next new : QuotaValue) (out : Option (Field × ℕ)) → next.format ≡ value.format → unless_unfit out next ≡ Ok new → new.format ≡ value.format
-fits_format value next new None same is = let next_is : next ≡ new = cc in ap (λ (v : QuotaValue). v.format) (sym next_is) ∙ same
-fits_format value next new (Some field) same is = absurd (cc)
-
 skipped_format : (value : QuotaValue) (id : ℕ) (rec : Rec) (skips : Bool) → (if skips then value else with_kept value id rec).format ≡ value.format
 skipped_format value id rec true = refl
-skipped_format value id rec false = kept_format value id (kept_of value.format id rec) (is_null_of rec)
+skipped_format value id rec false = kept_field (λ (v : QuotaValue). v.format) (λ v r. refl) value id (kept_of value.format id rec)
+    (is_null_of rec)
 
 -- an edited value has the format of the value
 abbrev pub KeepsFormat : Edit → Type 0
 KeepsFormat edit = (value new : QuotaValue) → edit.edited value ≡ Ok new → new.format ≡ value.format
 
 pub keeps_format : (edit : FileEdit) (now : ℕ) → KeepsFormat (edit_meant edit now)
-keeps_format (Limits id limits) now = λ value new is. fits_format value _ new _ (kept_format value id _ _) is
-keeps_format (Copy from to) now = λ value new is. fits_format value _ new _ (kept_format value to _ _) is
-keeps_format (Periods grace) now = λ value new is. fits_format value _ new _ refl is
-keeps_format (Times id block inode) now = λ value new is. fits_format value _ new _ (skipped_format value id (wanted_times value id block inode now) (skips_both_of value id)) is
+keeps_format (Limits id limits) now = λ value new is. set_format value new id limits now is
+keeps_format (Copy from to) now = λ value new is.
+    fits_field (λ (v : QuotaValue). v.format) value _ new _ (kept_field (λ (v : QuotaValue). v.format) (λ v r. refl) value to _ _) is
+keeps_format (Periods grace) now = λ value new is. fits_field (λ (v : QuotaValue). v.format) value _ new _ refl is
+keeps_format (Times id block inode) now = λ value new is.
+    fits_field (λ (v : QuotaValue). v.format) value _ new _ (skipped_format value id (wanted_times value id block inode now) (skips_both_of value id)) is
 
 -- Room in an opened file.
 
@@ -90,10 +85,10 @@ lacks_most tells files (TreeFile file) value new name format seen held same more
 }
 
 -- a number that was found to be less
-less_of : (a b : ℕ) → nat_lt a b ≡ true → a < b
+pub less_of : (a b : ℕ) → nat_lt a b ≡ true → a < b
 less_of a b is = grind (arith, nat_tests)
 
-both_of : (one other : Bool) → IsTrue (one && other) → IsTrue one × IsTrue other
+pub both_of : (one other : Bool) → IsTrue (one && other) → IsTrue one × IsTrue other
 both_of true other is = (refl, is)
 both_of false other is = absurd (false≢true is)
 
@@ -145,10 +140,7 @@ any_made tells edit opened file before after name format value done keeps was he
 -- what an edit leaves that was refused, but for a fault of the store
 whole_unless_fault : (usable : Bool) (same : Type 0) (fault : EditFault) → OnUnchanged fault usable same → status_of (edit_cause fault) ≢ 4 → same
 whole_unless_fault usable same (File Store) kept other = absurd (other refl)
-whole_unless_fault usable same (File (Damage damage)) kept other = kept
-whole_unless_fault usable same (File (Full blocks limit)) kept other = kept
-whole_unless_fault usable same (File Memory) kept other = kept
-whole_unless_fault usable same (Unfit out) kept other = kept
+whole_unless_fault usable same _ kept other = kept
 
 no_err : (edited : Result QuotaValue (Field × ℕ)) (out : Field × ℕ) → IsOk edited → edited ≡ Err out → ⊥
 no_err (Ok new) out ok is = absurd (cc)
@@ -159,10 +151,7 @@ same_where_unfit : (usable : Bool) (same : Type 0) (fault : EditFault) (edited :
     → OnUnchanged fault usable same → OnBroken fault usable (IsOk edited) → edited ≡ Err out → same
 same_where_unfit true same (File Store) edited out kept broken is = kept refl
 same_where_unfit false same (File Store) edited out kept broken is = absurd (no_err edited out (broken refl) is)
-same_where_unfit usable same (File (Damage damage)) edited out kept broken is = kept
-same_where_unfit usable same (File (Full blocks limit)) edited out kept broken is = kept
-same_where_unfit usable same (File Memory) edited out kept broken is = kept
-same_where_unfit usable same (Unfit other) edited out kept broken is = kept
+same_where_unfit usable same _ edited out kept broken is = kept
 
 -- where there is no room for the value nothing was written
 same_where_full : (same : Type 0) (edited : Result QuotaValue (Field × ℕ)) (lacks : QuotaValue → Type 0) (new : QuotaValue)
@@ -174,10 +163,7 @@ same_where_full same (Err out) lacks new full is lacks_it = absurd (cc)
 broken_at : (fault : EditFault) (usable : Bool) (holds : QuotaValue → Type 0) (fact : QuotaValue → Type 0) (value : QuotaValue)
     → OnBroken fault usable ((v : QuotaValue) → holds v → fact v) → holds value → OnBroken fault usable (fact value)
 broken_at (File Store) usable holds fact value broken held = λ no. broken no value held
-broken_at (File (Damage damage)) usable holds fact value broken held = tt
-broken_at (File (Full blocks limit)) usable holds fact value broken held = tt
-broken_at (File Memory) usable holds fact value broken held = tt
-broken_at (Unfit out) usable holds fact value broken held = tt
+broken_at _ usable holds fact value broken held = tt
 
 pub any_refused : {T : Type 0} (name : List ℕ) (edit : Edit) (tells : Bool) (opened file : AnyFile) (before after : StoreSeen) (format : Format) (value : QuotaValue) (fault : EditFault)
     → KeepsFormat edit → any_seen opened ≡ fresh_seen name format → (IsTrue tells → HoldsAny tells before.files opened value) → AnyEdits {T = T} edit tells opened file before after (Err fault)
@@ -209,10 +195,8 @@ set_lacking tells files opened name format value edit (Err out) blocks limit set
 -- what is said of the room of an opened file, where a call on it was refused
 fault_lacking : (before now : ℕ) (holds : QuotaValue → Type 0) (lacks says : ℕ → ℕ → Type 0) (fault : EditFault) → ((blocks limit : ℕ) → lacks blocks limit → says blocks limit)
     → IfSome (file_fault fault) (IsChangeFault before now holds lacks) → IfSome (file_fault fault) (IsChangeFault before now holds says)
-fault_lacking before now holds lacks says (File Store) so cause = cause
-fault_lacking before now holds lacks says (File (Damage damage)) so cause = cause
 fault_lacking before now holds lacks says (File (Full blocks limit)) so cause = so blocks limit cause
-fault_lacking before now holds lacks says (File Memory) so cause = cause
+fault_lacking before now holds lacks says (File _) so cause = cause
 fault_lacking before now holds lacks says (Unfit out) so cause = cause
 
 pub any_cause : (tells : Bool) (edit : Edit) (opened file : AnyFile) (before after : StoreSeen) (name : List ℕ) (format : Format) (fault : EditFault) → KeepsFormat edit → any_seen opened ≡ fresh_seen name format
@@ -238,17 +222,13 @@ edits_unskipped edit tells opened file before after (Err fault) edits = record {
 
 -- an edit that does not warn skips no time
 pub skips_quiet : (edit : FileEdit) (skipped : Skipped) → MaySkip edit skipped → edit_warns edit ≡ false → skipped ≡ skips_none
-skips_quiet (Limits id limits) skipped may quiet = may
-skips_quiet (Copy from to) skipped may quiet = may
-skips_quiet (Periods grace) skipped may quiet = may
 skips_quiet (Times id block inode) skipped may quiet = absurd (false≢true (sym quiet))
+skips_quiet _ skipped may quiet = may
 
 -- an edit that skips a time warns
 pub skips_warn : (edit : FileEdit) (skipped : Skipped) → MaySkip edit skipped → skipped ≢ skips_none → IsTrue (edit_warns edit)
-skips_warn (Limits id limits) skipped may some = absurd (some may)
-skips_warn (Copy from to) skipped may some = absurd (some may)
-skips_warn (Periods grace) skipped may some = absurd (some may)
 skips_warn (Times id block inode) skipped may some = refl
+skips_warn _ skipped may some = absurd (some may)
 
 -- for what the edit of a file may be refused, by the edit at a moment
 pub file_edit_may : (asked : Option Format) (edit : FileEdit) (file : List ℕ) (now : ℕ) (cause : Cause) (said : List ℕ)

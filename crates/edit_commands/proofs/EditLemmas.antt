@@ -25,7 +25,7 @@ use Rattle.edit_commands.specs.Batch.{value_left}
 use Rattle.edit_commands.specs.Edits.{IsSaidInPart, changed, edit_step, is_too_large, said_acts}
 use Rattle.run_steps.proofs.ActLemmas.{answers-append, appends_nothing, changes_none_before, err_bytes-append, follows-append, none_in_part, out_bytes-append}
 use Rattle.run_steps.proofs.DoingLemmas.{AreWritten, done_steps, written_none}
-use Rattle.run_steps.proofs.PartLemmas.{acts_in_part, whole_begun}
+use Rattle.run_steps.proofs.PartLemmas.{acts_in_part, carried_whole}
 
 -- what is seen once the store was used, and lines were said
 abbrev pub with_said : RunSeen → StoreSeen → SinkSeen → RunSeen
@@ -172,17 +172,11 @@ pub edit_made : (name : List ℕ) (edit : Edit) (value : QuotaValue) (lines : Li
     → IsMade name edit value (IsTrue tells.store) old.store store → (IsTrue tells.store → IsTrue tells.err → err.written ≡ old.err.written ++ concat lines)
     → (warns ≡ false → err ≡ old.err) → old.err.faults ≤ err.faults
     → CarriesOut (Saying (edit_step name edit value) lines) (edit_uses warns) may tells old (with_said old store err) (Ok tt)
-edit_made name edit value lines warns may tells old store err made said quiet later = record {
-  done = λ told. made_steps name edit value lines tells old store err made (said told.store) told.store;
-  refused = tt;
-  part = λ told. whole_begun _ tells None old (with_said old store err) (made_steps name edit value lines tells old store err made (said told.store) told.store);
-  may_refuse = tt;
-  placed = tt;
-  only_reads = λ only. absurd (cc);
-  all_or_nothing = λ whole. tt;
-  quiet = quiet;
-  later = record { store = made.leaves.later; input = omega arith; out = omega arith; err = later; link = omega arith };
-}
+edit_made name edit value lines warns may tells old store err made said quiet later =
+    carried_whole (Saying (edit_step name edit value) lines) (edit_uses warns) may tells old (with_said old store err) tt
+    (λ told. made_steps name edit value lines tells old store err made (said told.store) told.store)
+    (λ only. absurd (false≢true (sym only))) quiet
+    (record { store = made.leaves.later; input = omega arith; out = omega arith; err = later; link = omega arith })
 
 -- an edit of a value was made, and the error output failed in a line
 pub edit_unsaid : (name : List ℕ) (edit : Edit) (value : QuotaValue) (lines : List (List ℕ)) (warns : Bool) (may : Cause → List ℕ → Type 0) (tells : RunTells) (old : RunSeen) (store : StoreSeen) (err : SinkSeen)

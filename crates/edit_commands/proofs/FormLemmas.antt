@@ -1,10 +1,10 @@
 -- Forms: why one was not read, and which limits it asks for.
 use Rattle.std.proofs.Common.{◌≡◌, ℕ, Bool, IsTrue, List, [], None, Some, Result, refl, sym, ap, subst}
 use Rattle.quota_blocks.specs.Count.{Rose}
-use Rattle.quota_blocks.specs.declared.line_reader.LineFault.TheVariants.{Source, Long, TooLarge as PastTotal}
+use Rattle.quota_blocks.specs.declared.line_reader.LineFault.TheVariants.{Source}
 use Rattle.set_edit.specs.FormReading.{IsFormFault}
 use Rattle.set_edit.specs.declared.form_reading.FormFault.{FormFault}
-use Rattle.set_edit.specs.declared.form_reading.FormFault.TheVariants.{Lines, BadForm as WrongLine}
+use Rattle.set_edit.specs.declared.form_reading.FormFault.TheVariants.{Lines}
 use Rattle.set_edit.specs.declared.limits.Limits.{Limits as FourLimits}
 use Rattle.refusals.specs.declared.cause.Cause.TheVariants.{StoreFault, SourceFault}
 use Rattle.refusals.specs.declared.reason.Refusal.{Refusal}
@@ -16,17 +16,13 @@ use Rattle.refusals.specs.Refusals.{refusal_of}
 pub form_unread : (read : Result FourLimits FormFault) (before now : ℕ) (tells : Bool) (fault : FormFault) → IsFormFault before now tells read fault
     → IsInputFault ⊥ (Rose before now) (IsTrue tells) (form_outcome [] read) (refusal_of (form_cause SourceFault fault) []) (form_cause SourceFault fault)
 form_unread read before now tells (Lines Source) is = is
-form_unread read before now tells (Lines (Long line)) is = λ told. ap (form_outcome []) (is told)
-form_unread read before now tells (Lines PastTotal) is = λ told. ap (form_outcome []) (is told)
-form_unread read before now tells (WrongLine line) is = λ told. ap (form_outcome []) (is told)
+form_unread read before now tells _ is = λ told. ap (form_outcome []) (is told)
 
 -- a form in a file that gave no limits
 pub form_unread_of : (name : List ℕ) (read : Result FourLimits FormFault) (before now : ℕ) (tells : Bool) (fault : FormFault) → IsFormFault before now tells read fault
     → IsInputFault (Rose before now) ⊥ (IsTrue tells) (form_outcome name read) (refusal_of (form_cause StoreFault fault) name) (form_cause StoreFault fault)
 form_unread_of name read before now tells (Lines Source) is = is
-form_unread_of name read before now tells (Lines (Long line)) is = λ told. ap (form_outcome name) (is told)
-form_unread_of name read before now tells (Lines PastTotal) is = λ told. ap (form_outcome name) (is told)
-form_unread_of name read before now tells (WrongLine line) is = λ told. ap (form_outcome name) (is told)
+form_unread_of name read before now tells _ is = λ told. ap (form_outcome name) (is told)
 
 -- why a form was not read, by the refusal that says so
 pub form_unread_at : (name : List ℕ) (read : Result FourLimits FormFault) (before now : ℕ) (tells : Bool) (fault : FormFault) (refusal : Refusal) → IsFormFault before now tells read fault
@@ -37,12 +33,8 @@ form_unread_at name read before now tells fault refusal is same =
 -- what may be said of a form in the standard input, and of one in a file
 pub form_may : (fault : FormFault) → FormMayRefuse None (form_cause SourceFault fault) []
 form_may (Lines Source) = refl
-form_may (Lines (Long line)) = (refl, refl)
-form_may (Lines PastTotal) = (refl, refl)
-form_may (WrongLine line) = (refl, refl)
+form_may _ = (refl, refl)
 
 pub form_may_of : (name : List ℕ) (fault : FormFault) → FormMayRefuse (Some name) (form_cause StoreFault fault) name
 form_may_of name (Lines Source) = refl
-form_may_of name (Lines (Long line)) = (refl, refl)
-form_may_of name (Lines PastTotal) = (refl, refl)
-form_may_of name (WrongLine line) = (refl, refl)
+form_may_of name _ = (refl, refl)

@@ -1,8 +1,7 @@
 -- A file for which an edit was refused since it is full is so at the end.
-use Rattle.std.proofs.Common.{◌≡◌, inl, inr, ℕ, ◌+◌, ◌<◌, Bool, true, false, cond, IsTrue, List, [], ◌∷◌, length, Option, None, Some, Ok, Err, Result, refl, sym, ap, subst, ◌∙◌, arith}
-use Rattle.std.specs.Prelude.{⊤, ◌&&◌, nat_lt, IfSome}
+use Rattle.std.proofs.Common.{◌≡◌, inl, inr, ℕ, ◌+◌, ◌<◌, Bool, true, false, cond, List, [], ◌∷◌, length, Option, None, Some, Ok, Err, Result, refl, sym, ap, subst, ◌∙◌}
+use Rattle.std.specs.Prelude.{⊤, nat_lt, IfSome}
 use Rattle.std.proofs.lemmas.Bool.{false≢true}
-use Rattle.std.proofs.lemmas.Bool.Decides.{nat_tests}
 use Rattle.std.proofs.lemmas.Option.{none-some}
 use Rattle.id_names.specs.NamesFile.{NameLine, bad_line, names_in}
 use Rattle.quota_types.specs.declared.field.Field.{Field}
@@ -12,14 +11,14 @@ use Rattle.quota_blocks.specs.InputLines.{InputLines, NoLine, LineThen, LongNext
 use Rattle.quota_blocks.specs.QuotaValue.{QuotaValue}
 use Rattle.quota_blocks.specs.StoreInput.{left_from}
 use Rattle.quota_blocks.specs.World.{World}
-use Rattle.quota_blocks.specs.declared.line_reader.LineFault.TheVariants.{Source, Long, TooLarge as PastTotal}
+use Rattle.quota_blocks.specs.declared.line_reader.LineFault.TheVariants.{Source}
 use Rattle.quota_blocks.specs.declared.quota_file.OpenFault.{OpenFault}
-use Rattle.quota_blocks.specs.declared.quota_file.OpenFault.TheVariants.{Store, NoFile, TooLarge, Memory, NotQuota, WrongKind, UnknownVersion, BadBlockCount, FormatMismatch, Damage}
+use Rattle.quota_blocks.specs.declared.quota_file.OpenFault.TheVariants.{Store}
 use Rattle.quota_map.specs.View.{IsView, most_blocks}
 use Rattle.set_edit.specs.Editing.{Edit}
 use Rattle.set_edit.specs.FormReading.{form_read}
 use Rattle.set_edit.specs.declared.form_reading.FormFault.{FormFault}
-use Rattle.set_edit.specs.declared.form_reading.FormFault.TheVariants.{Lines, BadForm as WrongLine}
+use Rattle.set_edit.specs.declared.form_reading.FormFault.TheVariants.{Lines}
 use Rattle.set_edit.specs.declared.limits.Limits.{Limits as FourLimits}
 use Rattle.report_text.specs.Report.{shown_name}
 use Rattle.id_names.specs.FirstMatch.{first_name}
@@ -41,7 +40,7 @@ use Rattle.run_steps.specs.declared.invocation.Invocation.{Invocation}
 use Rattle.run_steps.proofs.DoingLemmas.{doing_ends}
 use Rattle.run_steps.proofs.SeenAgainLemmas.{seen_again}
 use Rattle.edit_commands.specs.Apply.{ApplySteps, FormSteps, form_outcome, form_step}
-use Rattle.edit_commands.specs.Batch.{Applied, Applying, Asked, BatchSteps, LineMayRefuse, ReadSteps, applied, asks_then, batch_step, does_then, edit_of, first_of, is_to_end, line_asks, lines_ask, met_at, value_left}
+use Rattle.edit_commands.specs.Batch.{Applied, Applying, Asked, BatchSteps, IsOfLine, LineMayRefuse, ReadSteps, applied, asks_then, batch_step, does_then, edit_of, first_of, is_to_end, line_asks, lines_ask, met_at, value_left}
 use Rattle.edit_commands.specs.Edits.{EditSteps, FileEditSteps, changed, is_too_large, said_acts, warnings}
 use Rattle.edit_commands.specs.EditWords.{edit_meant, edit_read, names_wanted, skipped_by}
 use Rattle.edit_commands.specs.Room.{IsFullFor, IsFullForForm, IsFullForLine, IsFullForOne, IsFullForWords}
@@ -49,10 +48,11 @@ use Rattle.edit_commands.specs.declared.batch_line.LineEdit.{LineEdit}
 use Rattle.edit_commands.specs.declared.edit.EditWords.{EditWords}
 use Rattle.edit_commands.specs.declared.edit.FileEdit.{FileEdit}
 use Rattle.edit_commands.specs.declared.edit.FileEdit.TheVariants.{Limits}
-use Rattle.edit_commands.proofs.BatchInputLemmas.{OnlyOfLine, asks_line}
+use Rattle.edit_commands.proofs.BatchInputLemmas.{asks_line}
 use Rattle.edit_commands.proofs.EditLemmas.{Saying}
 use Rattle.edit_commands.proofs.LimitsLemmas.{idle_same, set_format, set_kind}
-use Rattle.edit_commands.proofs.WordLemmas.{IsOfWord, edit_refusal, identifier_refusal}
+use Rattle.edit_commands.proofs.WordLemmas.{IsOfWord, OnlyRefused, edit_refusal, identifier_refusal}
+use Rattle.edit_commands.proofs.EditFileLemmas.{both_of, less_of}
 
 -- Steps that are never refused since a file is full.
 
@@ -107,21 +107,11 @@ never_file_said name read each (Some bytes) = each (left_from (Some bytes) 0)
 never_form : (name : List ℕ) (read : Result FourLimits FormFault) → NeverFull (form_outcome name read)
 never_form name (Ok limits) = tt
 never_form name (Err (Lines Source)) = refl
-never_form name (Err (Lines (Long line))) = refl
-never_form name (Err (Lines PastTotal)) = refl
-never_form name (Err (WrongLine line)) = refl
+never_form name (Err _) = refl
 
 never_opened : (fault : OpenFault) → is_full (opening_cause fault) ≡ false
 never_opened Store = refl
-never_opened NoFile = refl
-never_opened (TooLarge number limit) = refl
-never_opened Memory = refl
-never_opened NotQuota = refl
-never_opened WrongKind = refl
-never_opened UnknownVersion = refl
-never_opened BadBlockCount = refl
-never_opened (FormatMismatch found) = refl
-never_opened (Damage damage) = refl
+never_opened _ = refl
 
 -- the lines of an input
 
@@ -129,7 +119,7 @@ never_may : (names : List NameLine) (place : List ℕ) (cause : Cause) (said : L
 never_may names place (Full blocks limit) said may = absurd may
 never_may names place _ said may = refl
 
-never_of_line : {V : Type 0} (names : List NameLine) (place : List ℕ) (outcome : Outcome V) → OnlyOfLine names place outcome → NeverFull outcome
+never_of_line : {V : Type 0} (names : List NameLine) (place : List ℕ) (outcome : Outcome V) → OnlyRefused (IsOfLine names place) outcome → NeverFull outcome
 never_of_line names place (Passed value) only = tt
 never_of_line names place (Refused refusal) only = never_may names place refusal.cause refusal.name only.may
 
@@ -169,15 +159,6 @@ taking_passed (Some name) is_whole read next old acts new refusal blocks limit i
 
 -- The edit of a value.
 
--- both of two tests hold
-both_true : (a b : Bool) → (a && b) ≡ true → IsTrue a × IsTrue b
-both_true true true is = (refl, refl)
-both_true true false is = absurd (false≢true is)
-both_true false b is = absurd (false≢true is)
-
-less_than : (a b : ℕ) → IsTrue (nat_lt a b) → a < b
-less_than a b is = grind (arith, nat_tests)
-
 -- what is said of a value for which there is no room
 full_for : (kind : Kind) (asked : Option Format) (file : List ℕ) (edit : Edit) (value new : QuotaValue) (files : World) (refusal said : Refusal) (blocks limit : ℕ) → IsView (files file) kind asked (Ok value)
     → edit.edited value ≡ Ok new → edit.is_idle value ≡ false → is_too_large edit new ≡ true → refusal.cause ≡ Full blocks limit → Some refusal ≡ Some said → said.cause ≡ Full (blocks_of new) most_blocks → said.name ≡ file
@@ -187,8 +168,8 @@ full_for kind asked file edit value new files refusal said blocks limit view set
     let numbers : Full blocks limit ≡ Full (blocks_of new) most_blocks = sym is ∙ ap (λ (r : Refusal). r.cause) one ∙ cause in
     let needs : blocks ≡ blocks_of new = cc in
     let allowed : limit ≡ most_blocks = cc in
-    let more = both_true edit.needs_room (nat_lt most_blocks (blocks_of new)) large in
-    let passes : most_blocks < blocks_of new = less_than most_blocks (blocks_of new) more.1 in (
+    let more = both_of edit.needs_room (nat_lt most_blocks (blocks_of new)) large in
+    let passes : most_blocks < blocks_of new = less_of most_blocks (blocks_of new) more.1 in (
       ap (λ (r : Refusal). r.name) one ∙ name,
       record {
         value = value;

@@ -19,12 +19,12 @@ use Rattle.set_edit.specs.declared.limits.Limits.{Limits}
 -- What an edit of limits keeps.
 
 -- of a field of the value that a changed record leaves
-kept_field : {A : Type 0} (field : QuotaValue → A) (same : (value : QuotaValue) (records : Records) → field (record value { records = records }) ≡ field value) (value : QuotaValue) (id : ℕ) (kept : Rec) (null : Bool)
+pub kept_field : {A : Type 0} (field : QuotaValue → A) (same : (value : QuotaValue) (records : Records) → field (record value { records = records }) ≡ field value) (value : QuotaValue) (id : ℕ) (kept : Rec) (null : Bool)
     → field (changed_value (if null then Remove id else Put id kept) value) ≡ field value
 kept_field field same value id kept true = same value _
 kept_field field same value id kept false = same value _
 
-fits_field : {A : Type 0} (field : QuotaValue → A) (value next new : QuotaValue) (out : Option (Field × ℕ)) → field next ≡ field value → unless_unfit out next ≡ Ok new → field new ≡ field value
+pub fits_field : {A : Type 0} (field : QuotaValue → A) (value next new : QuotaValue) (out : Option (Field × ℕ)) → field next ≡ field value → unless_unfit out next ≡ Ok new → field new ≡ field value
 fits_field field value next new None same is = let next_is : next ≡ new = cc in ap field (sym next_is) ∙ same
 fits_field field value next new (Some out) same is = absurd (cc)
 

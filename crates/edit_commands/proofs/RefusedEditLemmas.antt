@@ -6,7 +6,7 @@ use Rattle.std.proofs.lemmas.Bool.Decides.{nat_tests}
 use Rattle.quota_types.specs.declared.field.Field.{Field}
 use Rattle.quota_types.specs.declared.field.NoRoom.{NoRoom}
 use Rattle.quota_types.specs.declared.file_kind.Format.{Format}
-use Rattle.quota_types.specs.declared.file_kind.Format.TheVariants.{V1, V2R0, V2R1}
+use Rattle.quota_types.specs.declared.file_kind.Format.TheVariants.{V1}
 use Rattle.quota_blocks.specs.Frame.{OnlyReads, ReplacesOne}
 use Rattle.quota_blocks.specs.QuotaFile.{IfFull, IsChangeFault}
 use Rattle.quota_blocks.specs.QuotaValue.{QuotaValue}
@@ -148,10 +148,8 @@ edit_reason name edit uses old new before holds (Unfit out) le cause = λ value 
 
 -- a file that is full is a tree file
 full_asked : (asked : Option Format) (format : Format) (blocks limit : ℕ) → IsOpenedAs asked format → MayRefuse format (Full blocks limit) → IsTrue (asks_tree asked)
-full_asked None format blocks limit asks may = refl
 full_asked (Some V1) format blocks limit asks may = absurd (may.flat asks)
-full_asked (Some V2R0) format blocks limit asks may = refl
-full_asked (Some V2R1) format blocks limit asks may = refl
+full_asked _ format blocks limit asks may = refl
 
 -- for what an edit may be refused, whatever is told
 pub edit_may : (asked : Option Format) (name : List ℕ) (edit : Edit) (format : Format) (before now : ℕ) (holds : QuotaValue → Type 0) (lacks : ℕ → ℕ → Type 0) (fault : EditFault) → IsOpenedAs asked format → IfSome (file_fault fault) (MayRefuse format)

@@ -30,67 +30,65 @@ use Rattle.run_steps.proofs.PhaseLemmas.{stop_carried}
 abbrev pub IsOfWord : Refusal → Type 0
 IsOfWord refusal = ((refusal.cause ≡ UnknownName) ⊎ (refusal.cause ≡ BadNumber)) × (refusal.place ≡ nowhere)
 
--- an outcome that is refused only for a word
-abbrev OnlyForWord : {V : Type 0} → Outcome V → Type 0
-OnlyForWord (Passed value) = ⊤
-OnlyForWord (Refused refusal) = IsOfWord refusal
+-- an outcome that is refused only so
+abbrev pub OnlyRefused : {V : Type 0} → (Refusal → Type 0) → Outcome V → Type 0
+OnlyRefused so (Passed value) = ⊤
+OnlyRefused so (Refused refusal) = so refusal
 
-for_word_then : {V W : Type 0} (outcome : Outcome V) (next : V → Outcome W) → OnlyForWord outcome → ((value : V) → OnlyForWord (next value)) → OnlyForWord (and_then outcome next)
-for_word_then (Passed value) next one two = two value
-for_word_then (Refused refusal) next one two = one
+pub only_then : {V W : Type 0} (so : Refusal → Type 0) (outcome : Outcome V) (next : V → Outcome W) → OnlyRefused so outcome
+    → ((value : V) → OnlyRefused so (next value)) → OnlyRefused so (and_then outcome next)
+only_then so (Passed value) next one two = two value
+only_then so (Refused refusal) next one two = one
 
-for_word_if : {V : Type 0} (test : Bool) (one other : Outcome V) → OnlyForWord one → OnlyForWord other → OnlyForWord (cond test one other)
-for_word_if true one other a b = a
-for_word_if false one other a b = b
+pub only_if : {V : Type 0} (so : Refusal → Type 0) (test : Bool) (one other : Outcome V) → OnlyRefused so one → OnlyRefused so other
+    → OnlyRefused so (cond test one other)
+only_if so true one other a b = a
+only_if so false one other a b = b
 
-known_word : (found : Option ℕ) (word : List ℕ) → OnlyForWord (known found word)
+known_word : (found : Option ℕ) (word : List ℕ) → OnlyRefused IsOfWord (known found word)
 known_word (Some id) word = tt
 known_word None word = (inl refl, refl)
 
-identifier_word : (names : List NameLine) (word : List ℕ) → OnlyForWord (identifier_of names word)
+identifier_word : (names : List NameLine) (word : List ℕ) → OnlyRefused IsOfWord (identifier_of names word)
 identifier_word names word =
     let named : Outcome ℕ = if nat_lt (value_of word) (2 ^ 32) then Passed (value_of word) else Refused (refusal_of BadNumber word) in
-    for_word_if (nat_lt 0 (length word) && all_ascii_digits word) named (known (first_id names word) word)
-    (for_word_if (nat_lt (value_of word) (2 ^ 32)) (Passed (value_of word)) (Refused (refusal_of BadNumber word)) tt (inr refl, refl)) (known_word (first_id names word) word)
+    only_if IsOfWord (nat_lt 0 (length word) && all_ascii_digits word) named (known (first_id names word) word)
+    (only_if IsOfWord (nat_lt (value_of word) (2 ^ 32)) (Passed (value_of word)) (Refused (refusal_of BadNumber word)) tt (inr refl, refl)) (known_word (first_id names word) word)
 
-number_word : (word : List ℕ) (number : Option ℕ) → OnlyForWord (number_or_refused word number)
+number_word : (word : List ℕ) (number : Option ℕ) → OnlyRefused IsOfWord (number_or_refused word number)
 number_word word (Some number) = tt
 number_word word None = (inr refl, refl)
 
-limits_words : (words : List (List ℕ)) → OnlyForWord (limits_read words)
-limits_words [] = (inr refl, refl)
-limits_words (a ∷ []) = (inr refl, refl)
-limits_words (a ∷ b ∷ []) = (inr refl, refl)
-limits_words (a ∷ b ∷ c ∷ []) = (inr refl, refl)
+limits_words : (words : List (List ℕ)) → OnlyRefused IsOfWord (limits_read words)
 limits_words (a ∷ b ∷ c ∷ d ∷ []) =
-    for_word_then (limit_read true a) _ (number_word a (limit_of true a)) (λ bs.
-    for_word_then (limit_read true b) _ (number_word b (limit_of true b)) (λ bh.
-    for_word_then (limit_read false c) _ (number_word c (limit_of false c)) (λ is.
-    for_word_then (limit_read false d) _ (number_word d (limit_of false d)) (λ ih. tt))))
-limits_words (a ∷ b ∷ c ∷ d ∷ e ∷ more) = (inr refl, refl)
+    only_then IsOfWord (limit_read true a) _ (number_word a (limit_of true a)) (λ bs.
+    only_then IsOfWord (limit_read true b) _ (number_word b (limit_of true b)) (λ bh.
+    only_then IsOfWord (limit_read false c) _ (number_word c (limit_of false c)) (λ is.
+    only_then IsOfWord (limit_read false d) _ (number_word d (limit_of false d)) (λ ih. tt))))
+limits_words _ = (inr refl, refl)
 
-grace_words : (block inode : List ℕ) → OnlyForWord (grace_read block inode)
+grace_words : (block inode : List ℕ) → OnlyRefused IsOfWord (grace_read block inode)
 grace_words block inode =
-    for_word_then (seconds_read block) _ (number_word block (number_of block)) (λ b.
-    for_word_then (seconds_read inode) _ (number_word inode (number_of inode)) (λ i. tt))
+    only_then IsOfWord (seconds_read block) _ (number_word block (number_of block)) (λ b.
+    only_then IsOfWord (seconds_read inode) _ (number_word inode (number_of inode)) (λ i. tt))
 
-time_word : (word : List ℕ) → OnlyForWord (time_read word)
+time_word : (word : List ℕ) → OnlyRefused IsOfWord (time_read word)
 time_word word =
-    for_word_if (bytes_eq word (codes "unset")) (Passed Unset) (and_then (seconds_read word) (λ (seconds : ℕ). Passed (Seconds seconds))) tt
-    (for_word_then (seconds_read word) _ (number_word word (number_of word)) (λ s. tt))
+    only_if IsOfWord (bytes_eq word (codes "unset")) (Passed Unset) (and_then (seconds_read word) (λ (seconds : ℕ). Passed (Seconds seconds))) tt
+    (only_then IsOfWord (seconds_read word) _ (number_word word (number_of word)) (λ s. tt))
 
-edit_words : (names : List NameLine) (words : EditWords) → OnlyForWord (edit_read names words)
-edit_words names (Limits name limits) = for_word_then (identifier_of names name) _ (identifier_word names name) (λ id. for_word_then (limits_read limits) _ (limits_words limits) (λ four. tt))
-edit_words names (Copy proto name) = for_word_then (identifier_of names proto) _ (identifier_word names proto) (λ from. for_word_then (identifier_of names name) _ (identifier_word names name) (λ to. tt))
-edit_words names (Grace block inode) = for_word_then (grace_read block inode) _ (grace_words block inode) (λ grace. tt)
+edit_words : (names : List NameLine) (words : EditWords) → OnlyRefused IsOfWord (edit_read names words)
+edit_words names (Limits name limits) = only_then IsOfWord (identifier_of names name) _ (identifier_word names name) (λ id. only_then IsOfWord (limits_read limits) _ (limits_words limits) (λ four. tt))
+edit_words names (Copy proto name) = only_then IsOfWord (identifier_of names proto) _ (identifier_word names proto) (λ from. only_then IsOfWord (identifier_of names name) _ (identifier_word names name) (λ to. tt))
+edit_words names (Grace block inode) = only_then IsOfWord (grace_read block inode) _ (grace_words block inode) (λ grace. tt)
 edit_words names (Times name block inode) =
-    for_word_then (identifier_of names name) _ (identifier_word names name) (λ id.
-    for_word_then (time_read block) _ (time_word block) (λ b.
-    for_word_then (time_read inode) _ (time_word inode) (λ i. tt)))
+    only_then IsOfWord (identifier_of names name) _ (identifier_word names name) (λ id.
+    only_then IsOfWord (time_read block) _ (time_word block) (λ b.
+    only_then IsOfWord (time_read inode) _ (time_word inode) (λ i. tt)))
 
 -- the refusal of the words of an edit is one of a word
 pub edit_refusal : (names : List NameLine) (words : EditWords) (refusal : Refusal) → edit_read names words ≡ Refused refusal → IsOfWord refusal
-edit_refusal names words refusal read = subst (λ (o : Outcome FileEdit). OnlyForWord o) read (edit_words names words)
+edit_refusal names words refusal read = subst (λ (o : Outcome FileEdit). OnlyRefused IsOfWord o) read (edit_words names words)
 
 -- the refusal of a word belongs to the effect
 word_reason : (uses : Uses) (old : RunSeen) (refusal : Refusal) → (refusal.cause ≡ UnknownName) ⊎ (refusal.cause ≡ BadNumber) → (stated : Type 0) → stated → HasReason uses old old stated refusal.cause
@@ -118,7 +116,7 @@ word_refused outcome next uses more tells old refusal read word allows =
 
 -- the refusal of the word for an identifier is one of a word
 pub identifier_refusal : (names : List NameLine) (word : List ℕ) (refusal : Refusal) → identifier_of names word ≡ Refused refusal → IsOfWord refusal
-identifier_refusal names word refusal read = subst (λ (o : Outcome ℕ). OnlyForWord o) read (identifier_word names word)
+identifier_refusal names word refusal read = subst (λ (o : Outcome ℕ). OnlyRefused IsOfWord o) read (identifier_word names word)
 
 -- words of an edit that are refused
 pub words_refused : (names : List NameLine) (words : EditWords) (next : FileEdit → Steps) (uses : Uses) (more : Cause → List ℕ → Type 0) (tells : RunTells) (old : RunSeen) (refusal : Refusal) → edit_read names words ≡ Refused refusal

@@ -14,7 +14,7 @@ use Rattle.quota_blocks.specs.World.{World}
 use Rattle.quota_types.specs.declared.field.Field.{Field}
 use Rattle.quota_types.specs.declared.field.NoRoom.{NoRoom as NoRoomFor}
 use Rattle.quota_types.specs.declared.file_kind.Format.{Format}
-use Rattle.quota_types.specs.declared.file_kind.Format.TheVariants.{V1, V2R0, V2R1}
+use Rattle.quota_types.specs.declared.file_kind.Format.TheVariants.{V1}
 use Rattle.quota_types.specs.declared.file_kind.Kind.{Kind}
 use Rattle.quota_types.specs.declared.record.Rec.{Rec}
 use Rattle.quota_blocks.specs.Count.{Rose}
@@ -50,7 +50,7 @@ use Rattle.file_commands.specs.Check.{ReplaceSteps, UnfitMayRefuse, UsageMayLack
 use Rattle.run_steps.specs.Changing.{edit_uses}
 use Rattle.file_commands.specs.FileValue.{IsMadeAnew, WritingMayRefuse}
 use Rattle.refusals.specs.Refusals.{refusal_of}
-use Rattle.run_steps.proofs.OpeningLemmas.{nothing_read, store_later, unwritten, with_store}
+use Rattle.run_steps.proofs.OpeningLemmas.{refused_reads, with_store}
 use Rattle.run_steps.proofs.PhaseLemmas.{carries_on, leads_same, stop_carried}
 use Rattle.file_commands.proofs.ReplacingLemmas.{replace_wanting}
 use Rattle.run_steps.proofs.ShowingLemmas.{damage_may}
@@ -187,17 +187,11 @@ pub not_read_whole : (kind : Kind) (asked : Option Format) (name : List ℕ) (ne
     → IsOpenedAs asked format → OnlyReads name old.store store → old.store.faults ≤ before → (IsTrue tells.store → ((value : QuotaValue) → holds value → ⊥) → ⊥)
     → IsReadFault before store.faults holds fault → UnlessMemory fault (MayRefuse format fault) → ((cause : Cause) → MayRefuseOpening asked name cause name → may cause name)
     → CarriesOut (Opening kind asked name next) uses may tells old (with_store old store) (Err (refusal_of (file_cause fault) name))
-not_read_whole kind asked name next uses may tells old store format before holds fault asks reads le seen cause may_be allowed = record {
-  done = tt;
-  refused = read_reason uses old (with_store old store) tells _ before holds fault le seen cause;
-  part = λ told. nothing_read (Opening kind asked name next) name tells old store reads;
-  may_refuse = allowed (file_cause fault) (read_may asked name format before store.faults holds fault asks cause may_be);
-  placed = record { line = λ no. refl; input_line = λ no. refl };
-  only_reads = λ only. unwritten name old.store store reads;
-  all_or_nothing = λ whole other. unwritten name old.store store reads;
-  quiet = λ no. refl;
-  later = store_later old store reads.later;
-}
+not_read_whole kind asked name next uses may tells old store format before holds fault asks reads le seen cause may_be allowed =
+    refused_reads name (Opening kind asked name next) uses may tells old store (refusal_of (file_cause fault) name) reads
+    (read_reason uses old (with_store old store) tells _ before holds fault le seen cause)
+    (allowed (file_cause fault) (read_may asked name format before store.faults holds fault asks cause may_be))
+    (record { line = λ no. refl; input_line = λ no. refl })
 
 -- Steps over a value that is known where the store tells.
 
@@ -211,8 +205,7 @@ carries_same name next one other uses may tells old new result same carries =
 -- the value of a new file has no flags that its format does not have
 pub new_flags : (format : Format) → flags_in format 0 ≡ 0
 new_flags V1 = refl
-new_flags V2R0 = refl
-new_flags V2R1 = refl
+new_flags _ = refl
 
 -- the records were not made, for want of memory or of room
 pub apply_refused : (name : List ℕ) (value : QuotaValue) (usage : UsageMap) (now : ℕ) (fault : ApplyFault) (tells : RunTells) (old : RunSeen)

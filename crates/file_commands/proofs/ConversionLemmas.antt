@@ -1,8 +1,7 @@
 -- Conversions: what was done where a new file was made, and where it was refused.
-use Rattle.std.proofs.Common.{◌≡◌, ◌≢◌, ℕ, Bool, false, IsTrue, List, [], Option, None, Some, Ok, Err, Result, inr, refl, sym, ap, subst, ◌∙◌, arith, append-nil, if◌then◌else◌}
+use Rattle.std.proofs.Common.{◌≡◌, ◌≢◌, ℕ, Bool, false, IsTrue, List, [], Option, None, Some, Ok, Err, Result, inr, refl, sym, ap, subst, ◌∙◌, arith, if◌then◌else◌}
 use Rattle.std.specs.Prelude.{IsSome}
 use Rattle.std.specs.Str.{bytes_eq}
-use Rattle.std.proofs.lemmas.Bool.{false≢true}
 use Rattle.std.specs.List.{slice_get}
 use Rattle.quota_types.specs.declared.field.NoRoom.{NoRoom as NoRoomFor}
 use Rattle.quota_types.specs.declared.file_kind.Format.{Format}
@@ -42,7 +41,7 @@ use Rattle.run_steps.specs.Meaning.{EndsBy}
 use Rattle.run_steps.specs.Run.{CarriesOut, HasReason, HasSteps, IsPlacedBy}
 use Rattle.run_steps.specs.Steps.{DoingAll, Finish, Opening, Steps, Then}
 use Rattle.run_steps.specs.declared.invocation.Invocation.{Invocation}
-use Rattle.run_steps.proofs.OpeningLemmas.{not_opened, outside_same, store_later, with_store}
+use Rattle.run_steps.proofs.OpeningLemmas.{none_done, not_opened, outside_same, refused_so, store_later, with_store}
 use Rattle.run_steps.proofs.PartLemmas.{nothing_begun}
 use Rattle.run_steps.proofs.PhaseLemmas.{carries_on, carries_opening, leads_looking}
 use Rattle.run_steps.proofs.ShowingLemmas.{damage_may}
@@ -59,30 +58,18 @@ module _ (source target : List ℕ) (may : Cause → List ℕ → Type 0) (tells
       → HasReason (edit_uses false) old (with_store old store) (IsWorldTold tells → HasSteps steps tells (Some refusal) old (with_store old store)) refusal.cause
       → may refusal.cause refusal.name → IsPlacedBy (edit_uses false) refusal
       → CarriesOut steps (edit_uses false) may tells old (with_store old store) (Err refusal)
-  looked_carried steps refusal reason allowed placed = record {
-    done = tt;
-    refused = reason;
-    part = λ told. nothing_begun steps tells old (with_store old store) looks.files (λ told. refl) (λ told. refl) refl refl looks.writes;
-    may_refuse = allowed;
-    placed = placed;
-    only_reads = λ only. absurd (false≢true (sym only));
-    all_or_nothing = λ whole other. record { files = looks.files; writes = looks.writes };
-    quiet = λ no. refl;
-    later = store_later old store looks.later;
-  }
+  looked_carried steps refusal reason allowed placed =
+      refused_so steps (edit_uses false) may tells old (with_store old store) refusal
+      (record { files = looks.files; writes = looks.writes }) refl (store_later old store looks.later)
+      (λ told. nothing_begun steps tells old (with_store old store) looks.files (λ told. refl) (λ told. refl) refl refl looks.writes) reason
+      allowed placed
 
   -- steps that end at once
   ended_steps : (steps : Steps) (refusal : Refusal) → ((new : Outside) → new ≡ outside_of old → EndsBy steps (outside_of old) [] new (Some refusal)) → HasSteps steps tells (Some refusal) old (with_store old store)
   ended_steps steps refusal ends = record {
     acts = [];
     by_steps = ends (outside_of (with_store old store)) (outside_same old store looks.files);
-    done = record {
-      files = looks.files;
-      out = λ told. sym (append-nil old.out.written);
-      err = λ told. sym (append-nil old.err.written);
-      answered = sym (append-nil old.link.answers);
-      writes = λ none. looks.writes;
-    };
+    done = none_done tells old store old.input (record { files = looks.files; writes = looks.writes });
   }
 
   looked_refused : {V : Type 0} (outcome : Outcome V) (next : V → Steps) (refusal : Refusal) → (IsTrue tells.store → outcome ≡ Refused refusal)

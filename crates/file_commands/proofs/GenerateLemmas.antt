@@ -22,17 +22,17 @@ use Rattle.refusals.specs.declared.cause.Cause.TheVariants.{StoreFault, SourceFa
 use Rattle.refusals.specs.declared.reason.Refusal.{Refusal}
 use Rattle.refusals.specs.Refusals.{nowhere, refusal_of}
 use Rattle.run_steps.specs.Act.{Act, Change, FollowsAct, ToOut, out_bytes}
-use Rattle.run_steps.specs.Done.{IsUnwritten, IsWorldTold, RunSeen, RunTells, outside_of}
+use Rattle.run_steps.specs.Done.{IsUnwritten, IsWorldTold, RunSeen, RunTells}
 use Rattle.run_steps.specs.Run.{CarriesOut, HasReason, HasSteps, IsDoneInPart, Uses}
 use Rattle.run_steps.specs.Showing.{ShowingMayRefuse, ShowingSteps, showing_uses}
 use Rattle.run_steps.specs.Steps.{Doing, Finish, Steps}
-use Rattle.run_steps.proofs.ActLemmas.{appends_nothing}
 use Rattle.run_steps.proofs.DoingLemmas.{part_of}
-use Rattle.run_steps.proofs.OpeningLemmas.{outside_same, store_later, with_out, with_store}
-use Rattle.run_steps.proofs.PartLemmas.{acts_in_part}
+use Rattle.run_steps.proofs.OpeningLemmas.{refused_so, store_later, with_out, with_store}
+use Rattle.run_steps.proofs.PartLemmas.{acts_in_part, carried_whole}
 use Rattle.run_steps.proofs.PhaseLemmas.{nothing_carried, placed_nowhere}
 use Rattle.run_steps.proofs.ReasonLemmas.{reason_since}
 use Rattle.run_steps.proofs.SeenOnceLemmas.{seen_once}
+use Rattle.run_steps.proofs.ShowingLemmas.{told_begun, told_steps}
 use Rattle.file_commands.specs.FileValue.{replace_cause}
 use Rattle.file_commands.specs.Generate.{GenerateMayRefuse, IsUnreported, gathered_cause, generate_uses}
 
@@ -113,40 +113,16 @@ change_failed name text new tells old store rose same leaves later =
 
 -- A line that is written once files were only read.
 
-told_begun : (text : List ℕ) (tells : RunTells) (old : RunSeen) (store : StoreSeen) (out : SinkSeen) → IsUnwritten old.store store
-    → (IsTrue tells.out → AppendsPrefix old.out.written out.written text) → IsDoneInPart (Doing (ToOut text) Finish) tells old (with_out old store out)
-told_begun text tells old store out unwritten prefix = record {
-  done = [];
-  hand = ToOut text ∷ [];
-  now = outside_of old;
-  begun = inl (record { done_none = refl; at_hand = refl; same = refl });
-  files = unwritten.files;
-  out = λ told.
-      subst (λ (b : List ℕ). AppendsPrefix b out.written (text ++ [])) (sym (append-nil old.out.written))
-      (subst (λ (b : List ℕ). AppendsPrefix old.out.written out.written b) (sym (append-nil text)) (prefix told));
-  err = λ told. appends_nothing (old.err.written ++ []) old.err.written [] (sym (append-nil old.err.written));
-  answered = sym (append-nil old.link.answers);
-  datagrams = refl;
-  writes = λ none. unwritten.writes;
-}
-
 -- it was not written whole
 pub told_in_part : (name text : List ℕ) (tells : RunTells) (old : RunSeen) (store : StoreSeen) (out : SinkSeen) (refusal : Refusal) → IsUnwritten old.store store → old.store.faults ≤ store.faults
     → old.out.faults ≤ out.faults → (IsTrue tells.store → IsTrue tells.out → AppendsPrefix old.out.written out.written text)
     → ((stated : Type 0) → HasReason showing_uses old (with_out old store out) (IsWorldTold tells → stated) refusal.cause)
     → ShowingMayRefuse None name refusal.cause refusal.name → refusal.place ≡ nowhere
     → CarriesOut (Doing (ToOut text) Finish) showing_uses (ShowingMayRefuse None name) tells old (with_out old store out) (Err refusal)
-told_in_part name text tells old store out refusal unwritten later out_later prefix reason may placed = record {
-  done = tt;
-  refused = reason _;
-  part = λ told. told_begun text tells old store out unwritten (prefix told.store);
-  may_refuse = may;
-  placed = placed_nowhere showing_uses refusal placed;
-  only_reads = λ only. unwritten;
-  all_or_nothing = λ whole other. unwritten;
-  quiet = λ no. refl;
-  later = record { store = later; input = omega arith; out = out_later; err = omega arith; link = omega arith };
-}
+told_in_part name text tells old store out refusal unwritten later out_later prefix reason may placed =
+    refused_so (Doing (ToOut text) Finish) showing_uses (ShowingMayRefuse None name) tells old (with_out old store out) refusal
+    unwritten refl (record { store = later; input = omega arith; out = out_later; err = omega arith; link = omega arith })
+    (λ told. told_begun text tells old store out unwritten (prefix told.store)) (reason _) may (placed_nowhere showing_uses refusal placed)
 
 -- the output failed
 pub told_failed : (name text written : List ℕ) (tells : RunTells) (old : RunSeen) (store : StoreSeen) (out : SinkSeen) → IsUnwritten old.store store → old.store.faults ≤ store.faults
@@ -160,28 +136,11 @@ told_failed name text written tells old store out unwritten later out_later is p
 pub told_whole : (name text written : List ℕ) (tells : RunTells) (old : RunSeen) (store : StoreSeen) (out : SinkSeen) → IsUnwritten old.store store → old.store.faults ≤ store.faults
     → old.out.faults ≤ out.faults → (IsTrue tells.store → written ≡ text) → (IsTrue tells.out → out.written ≡ old.out.written ++ written)
     → CarriesOut (Doing (ToOut text) Finish) showing_uses (ShowingMayRefuse None name) tells old (with_out old store out) (Ok tt)
-told_whole name text written tells old store out unwritten later out_later is whole = record {
-  done = λ told. record {
-    acts = ToOut text ∷ [];
-    by_steps = ([], old.store.files, refl, refl, record { acts_none = refl; same = outside_same old store unwritten.files; ends = refl });
-    done = record {
-      files = (old.store.files, refl, unwritten.files);
-      out = λ out_told. whole out_told ∙ ap (λ (b : List ℕ). old.out.written ++ b) (is told.store ∙ sym (append-nil text));
-      err = λ err_told. sym (append-nil old.err.written);
-      answered = sym (append-nil old.link.answers);
-      writes = λ none. unwritten.writes;
-    };
-  };
-  refused = tt;
-  part = λ told. told_begun text tells old store out unwritten
-      (λ out_told. record { done = text; rest = []; appended = whole out_told ∙ ap (λ (b : List ℕ). old.out.written ++ b) (is told.store); prefix = append-nil text });
-  may_refuse = tt;
-  placed = tt;
-  only_reads = λ only. unwritten;
-  all_or_nothing = λ whole. tt;
-  quiet = λ no. refl;
-  later = record { store = later; input = omega arith; out = out_later; err = omega arith; link = omega arith };
-}
+told_whole name text written tells old store out unwritten later out_later is whole =
+    carried_whole (Doing (ToOut text) Finish) showing_uses (ShowingMayRefuse None name) tells old (with_out old store out) tt
+    (λ told. told_steps text tells old store out unwritten (λ out_told. whole out_told ∙ ap (λ (b : List ℕ). old.out.written ++ b)
+    (is told.store)))
+    (λ only. unwritten) (λ no. refl) (record { store = later; input = omega arith; out = out_later; err = omega arith; link = omega arith })
 
 -- A report that is gathered in memory.
 

@@ -23,8 +23,8 @@ use Rattle.refusals.specs.declared.cause.Cause.{Cause}
 use Rattle.refusals.specs.declared.cause.Cause.TheVariants.{StoreFault, Full, Memory}
 use Rattle.refusals.specs.declared.reason.Refusal.{Refusal}
 use Rattle.run_steps.specs.Act.{Act, Change}
-use Rattle.run_steps.specs.Done.{IsWorldTold, RunSeen, RunTells}
-use Rattle.run_steps.specs.Run.{CarriesOut, HasSteps}
+use Rattle.run_steps.specs.Done.{RunSeen, RunTells}
+use Rattle.run_steps.specs.Run.{CarriesOut}
 use Rattle.run_steps.specs.Steps.{AreDoneThen, DoingAll, Finish, Then}
 use Rattle.file_commands.specs.Check.{ReplaceSteps, replaced}
 use Rattle.run_steps.specs.Changing.{blocks_of, edit_uses, written}
@@ -33,7 +33,7 @@ use Rattle.refusals.specs.Outcome.{Outcome, Passed, Refused}
 use Rattle.refusals.specs.Refusals.{refusal_of}
 use Rattle.run_steps.proofs.DoingLemmas.{AreWritten, done_of, done_steps, part_of}
 use Rattle.run_steps.proofs.OpeningLemmas.{store_later, with_store}
-use Rattle.run_steps.proofs.PartLemmas.{acts_in_part, whole_begun}
+use Rattle.run_steps.proofs.PartLemmas.{acts_in_part, carried_whole}
 use Rattle.run_steps.proofs.PhaseLemmas.{nothing_carried, stop_carried}
 
 -- how many blocks a file of a value needs, by its list
@@ -75,19 +75,11 @@ pub replace_made : (name : List ℕ) (new : QuotaValue) (may : Cause → List �
     → CarriesOut (ReplaceSteps name (Ok new)) (edit_uses false) may tells old (with_store old store) (Ok tt)
 replace_made name new may tells old store seen leaves later few =
     let acts = Change name new ∷ [] in
-    let has : IsWorldTold tells → HasSteps (AreDoneThen acts None) tells None old (with_store old store) =
-    λ told. done_steps acts None tells old (with_store old store) refl refl (done_of acts tells old store (change_written name new old.store store (seen told.store) leaves)) in
-    by_outcome name new (Passed acts) may tells old (with_store old store) (Ok tt) (room_for name new few) (record {
-      done = has;
-      refused = tt;
-      part = λ told. whole_begun (AreDoneThen acts None) tells None old (with_store old store) (has told);
-      may_refuse = tt;
-      placed = tt;
-      only_reads = λ only. absurd (false≢true (sym only));
-      all_or_nothing = λ whole. tt;
-      quiet = λ no. refl;
-      later = store_later old store later;
-    })
+    by_outcome name new (Passed acts) may tells old (with_store old store) (Ok tt) (room_for name new few)
+    (carried_whole (AreDoneThen acts None) (edit_uses false) may tells old (with_store old store) tt
+    (λ told. done_steps acts None tells old (with_store old store) refl refl
+    (done_of acts tells old store (change_written name new old.store store (seen told.store) leaves)))
+    (λ only. absurd (false≢true (sym only))) (λ no. refl) (store_later old store later))
 
 -- the store failed
 pub replace_failed : (name : List ℕ) (new : QuotaValue) (may : Cause → List ℕ → Type 0) (tells : RunTells) (old : RunSeen) (store : StoreSeen)

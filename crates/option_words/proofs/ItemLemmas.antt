@@ -14,7 +14,7 @@ use Rattle.option_words.specs.Parts.{parted}
 use Rattle.option_words.specs.Switches.{letter_switch, long_switch}
 use Rattle.option_words.specs.Items.{Operand, operands_in}
 use Rattle.option_words.specs.Given.{Told, nothing_told, with_item, with_items}
-use Rattle.option_words.specs.Items.{AnyWord, Exported, FileOf, Item, KindOf, Next, Operands, PathOf, Plain, Raised, Said, Set, Unfinished, Unknown, ValueOf, end_says, items_of, letter_says, letters_say, long_says, long_word_says, options_say, word_says}
+use Rattle.option_words.specs.Items.{AnyWord, Item, Next, Plain, Said, end_says, items_of, letter_says, letters_say, long_says, long_word_says, options_say, word_says}
 use Rattle.option_words.specs.Reads.{KeepsOperands, Reads, next_of}
 
 -- items in two parts say, behind one item, what both parts say one after the other
@@ -32,21 +32,15 @@ with_items-append (item ∷ some) more told = after_item (with_item item told) s
 -- the operands in two lists of items in a row
 pub operands_in-append : (some more : List Item) → operands_in (some ++ more) ≡ operands_in some ++ operands_in more
 operands_in-append [] more = refl
-operands_in-append (Raised flag ∷ some) more = operands_in-append some more
-operands_in-append (Set setting value word ∷ some) more = operands_in-append some more
-operands_in-append (Exported path kind file word ∷ some) more = operands_in-append some more
-operands_in-append (Unknown word ∷ some) more = operands_in-append some more
-operands_in-append (Unfinished word ∷ some) more = operands_in-append some more
 operands_in-append (Plain text word ∷ some) more = ap (λ (os : List Operand). record { text = text; word = word } ∷ os) (operands_in-append some more)
+operands_in-append (_ ∷ some) more = operands_in-append some more
 
 -- no operand is said by a letter, if none is by those behind it
 no_operand-letter : (switch : Option Switch) (word : ℕ) (behind : List ℕ) (more : Said) → operands_in more.items ≡ []
     → operands_in (letter_says switch word behind more).items ≡ []
 no_operand-letter (Some (Flagged flag)) word behind more none = none
 no_operand-letter (Some (Setting setting)) word [] more none = refl
-no_operand-letter (Some (Setting setting)) word (x ∷ behind) more none = refl
-no_operand-letter (Some Export) word behind more none = refl
-no_operand-letter None word behind more none = refl
+no_operand-letter _ word behind more none = refl
 
 -- letters say no operand
 pub no_operand-letters : (tool : Tool) (word : ℕ) (letters : List ℕ) → operands_in (letters_say tool word letters).items ≡ []
@@ -56,14 +50,14 @@ no_operand-letters tool word (letter ∷ behind) =
 
 -- a long option says no operand
 no_operand-option : (switch : Option Switch) (word : ℕ) (value : Option (List ℕ)) → operands_in (long_says switch word value).items ≡ []
+no_operand-option None word None = refl
+no_operand-option None word (Some value) = refl
 no_operand-option (Some (Flagged flag)) word None = refl
 no_operand-option (Some (Flagged flag)) word (Some value) = refl
 no_operand-option (Some (Setting setting)) word None = refl
 no_operand-option (Some (Setting setting)) word (Some value) = refl
 no_operand-option (Some Export) word None = refl
 no_operand-option (Some Export) word (Some value) = refl
-no_operand-option None word None = refl
-no_operand-option None word (Some value) = refl
 
 -- a word with two hyphens says no operand
 no_operand-long : (tool : Tool) (word : ℕ) (text : List ℕ) (parts : Option (List ℕ × List ℕ)) → operands_in (long_word_says tool word text parts).items ≡ []
@@ -86,11 +80,7 @@ text_at words at word text inside found is = is ∙ ap string_bytes found ∙ sy
 -- no operand is said by the end of the words
 pub operands_in-end : (next : Next) → operands_in (end_says next) ≡ []
 operands_in-end AnyWord = refl
-operands_in-end Operands = refl
-operands_in-end (ValueOf setting began) = refl
-operands_in-end (PathOf began) = refl
-operands_in-end (KindOf path began) = refl
-operands_in-end (FileOf path kind began) = refl
+operands_in-end _ = refl
 
 -- The words before a place were read: with those from there on, the same is given as by all of them, and the same
 -- operands are kept.

@@ -1,5 +1,5 @@
 -- What words ask for: that it looks at files before it changes one, reads the standard input to its end, and is sure.
-use Rattle.std.proofs.Common.{◌≡◌, ℕ, Bool, true, false, IsTrue, List, Ok, Err, Result, subst}
+use Rattle.std.proofs.Common.{◌≡◌, ℕ, Bool, true, false, IsTrue, List, Ok, Err, Result}
 use Rattle.refusals.specs.declared.reason.Refusal.{Refusal}
 use Rattle.command_words.specs.declared.command.Command.{Command}
 use Rattle.command_words.specs.declared.command.Command.TheVariants.{Script}
@@ -12,26 +12,17 @@ use Rattle.run_steps.specs.Done.{Outside, RunSeen, RunTells}
 use Rattle.run_steps.specs.Meaning.{IsSure}
 use Rattle.run_steps.specs.OneCommand.{LooksFirst, ReadsToEnd}
 use Rattle.run_steps.specs.declared.invocation.Invocation.{Invocation}
-use Rattle.command_table.specs.Description.{Description}
 use Rattle.command_table.specs.Table.{asked_by, described}
 use Rattle.command_table.proofs.CommandLemmas.{Spares, asked_known, read_known, spares_single}
 use Rattle.command_table.proofs.FullLemmas.{IsFullSo, asked_by_full, command_full}
 use Rattle.command_table.proofs.StepLemmas.{command_looks, command_reads}
 use Rattle.command_table.proofs.SureLemmas.{asked_sure, command_sure}
 use Rattle.quota_cli.specs.Headline.{Setting, asked, steps_asked, uses_asked}
-use Rattle.quota_cli.specs.Script.{StandsInScript, commanded, is_script, script_or, scripting}
+use Rattle.quota_cli.specs.Script.{StandsInScript, commanded, is_script, script_or}
 use Rattle.quota_cli.proofs.ScriptFullLemmas.{script_full}
 use Rattle.quota_cli.proofs.ScriptLemmas.{script_reads, script_sure, unread_stands}
 
 -- Rows of the table of the command line: a script, or another command.
-
--- what holds of a script holds of the row of a command that is one
-pub as_script : (holds : Description → Type 0) (script : Bool) (command : Command) → true ≡ script → holds scripting → holds (script_or script (described command))
-as_script holds script command is one = subst (λ (b : Bool). holds (script_or b (described command))) is one
-
--- what holds of another command holds of its row
-pub as_single : (holds : Description → Type 0) (script : Bool) (command : Command) → false ≡ script → holds (described command) → holds (script_or script (described command))
-as_single holds script command is one = subst (λ (b : Bool). holds (script_or b (described command))) is one
 
 looks_by : (script : Bool) (command : Command) (invocation : Invocation) → (script_or script (described command)).uses.reads_commands ≡ false
     → LooksFirst true true ((script_or script (described command)).steps invocation)

@@ -12,31 +12,23 @@ use Rattle.run_steps.specs.Meaning.{closing}
 pub out_bytes-append : (acts more : List Act) → out_bytes (acts ++ more) ≡ out_bytes acts ++ out_bytes more
 out_bytes-append [] more = refl
 out_bytes-append (ToOut bytes ∷ acts) more = ap (λ (b : List ℕ). bytes ++ b) (out_bytes-append acts more) ∙ sym (append_assoc bytes (out_bytes acts) (out_bytes more))
-out_bytes-append (ToErr bytes ∷ acts) more = out_bytes-append acts more
-out_bytes-append (Answer bytes ∷ acts) more = out_bytes-append acts more
-out_bytes-append (Change name value ∷ acts) more = out_bytes-append acts more
+out_bytes-append (_ ∷ acts) more = out_bytes-append acts more
 
 pub err_bytes-append : (acts more : List Act) → err_bytes (acts ++ more) ≡ err_bytes acts ++ err_bytes more
 err_bytes-append [] more = refl
-err_bytes-append (ToOut bytes ∷ acts) more = err_bytes-append acts more
 err_bytes-append (ToErr bytes ∷ acts) more = ap (λ (b : List ℕ). bytes ++ b) (err_bytes-append acts more) ∙ sym (append_assoc bytes (err_bytes acts) (err_bytes more))
-err_bytes-append (Answer bytes ∷ acts) more = err_bytes-append acts more
-err_bytes-append (Change name value ∷ acts) more = err_bytes-append acts more
+err_bytes-append (_ ∷ acts) more = err_bytes-append acts more
 
 pub answers-append : (acts more : List Act) → answers (acts ++ more) ≡ answers acts ++ answers more
 answers-append [] more = refl
-answers-append (ToOut bytes ∷ acts) more = answers-append acts more
-answers-append (ToErr bytes ∷ acts) more = answers-append acts more
 answers-append (Answer bytes ∷ acts) more = ap (λ (b : List (List ℕ)). bytes ∷ b) (answers-append acts more)
-answers-append (Change name value ∷ acts) more = answers-append acts more
+answers-append (_ ∷ acts) more = answers-append acts more
 
 -- where more acts change no file, the first ones change none
 pub changes_none_before : (acts more : List Act) → ChangesNone (acts ++ more) → ChangesNone acts
 changes_none_before [] more none = tt
-changes_none_before (ToOut bytes ∷ acts) more none = changes_none_before acts more none
-changes_none_before (ToErr bytes ∷ acts) more none = changes_none_before acts more none
-changes_none_before (Answer bytes ∷ acts) more none = changes_none_before acts more none
 changes_none_before (Change name value ∷ acts) more none = none
+changes_none_before (_ ∷ acts) more none = changes_none_before acts more none
 
 -- files that follow an act and then others
 pub follows-append : (acts more : List Act) (old middle new : World) → Follows acts old middle → Follows more middle new → Follows (acts ++ more) old new
@@ -62,50 +54,18 @@ answers-closing (Some refusal) = refl
 
 -- files that are as they were follow any acts of which none was begun
 pub none_in_part : (acts : List Act) (old new : World) → new ≡ old → FollowsInPart acts old new
-none_in_part [] old new same = same
-none_in_part (ToOut bytes ∷ acts) old new same = same
-none_in_part (ToErr bytes ∷ acts) old new same = same
-none_in_part (Answer bytes ∷ acts) old new same = same
 none_in_part (Change name value ∷ acts) old new same = (ap (λ (w : World). w name) same, λ other differ differs. ap (λ (w : World). w other) same)
+none_in_part _ old new same = same
 
 -- nothing is a prefix of all bytes
 pub appends_nothing : (old new bytes : List ℕ) → new ≡ old → AppendsPrefix old new bytes
 appends_nothing old new bytes same = record { done = []; rest = bytes; appended = same ∙ sym (append-nil old); prefix = refl }
 
--- no act was begun
-pub nothing_done : (tells : RunTells) (acts : List Act) (old new : RunSeen) → new.store.files ≡ old.store.files → (IsTrue tells.out → new.out.written ≡ old.out.written)
-    → (IsTrue tells.err → new.err.written ≡ old.err.written) → new.link.answers ≡ old.link.answers → new.store.writes ≡ old.store.writes → AreDoneInPart tells acts old new
-nothing_done tells acts old new files out err sent writes = record {
-  done = [];
-  rest = acts;
-  whole = refl;
-  files = (old.store.files, refl, none_in_part acts old.store.files new.store.files files);
-  out = λ told. appends_nothing (old.out.written ++ []) new.out.written (out_bytes (take 1 acts)) (out told ∙ sym (append-nil old.out.written));
-  err = λ told. appends_nothing (old.err.written ++ []) new.err.written (err_bytes (take 1 acts)) (err told ∙ sym (append-nil old.err.written));
-  answered = sent ∙ sym (append-nil old.link.answers);
-  writes = λ none. writes;
-}
-
--- all acts were done
-pub all_done : (tells : RunTells) (acts : List Act) (old new : RunSeen) → AreDone tells acts old new → AreDoneInPart tells acts old new
-all_done tells acts old new are = record {
-  done = acts;
-  rest = [];
-  whole = sym (append-nil acts);
-  files = (new.store.files, are.files, refl);
-  out = λ told. appends_nothing (old.out.written ++ out_bytes acts) new.out.written [] (are.out told);
-  err = λ told. appends_nothing (old.err.written ++ err_bytes acts) new.err.written [] (are.err told);
-  answered = are.answered;
-  writes = λ none. are.writes (changes_none_before acts [] none);
-}
-
 -- files of which more acts were to follow
 more_in_part : (rest more : List Act) (middle new : World) → FollowsInPart rest middle new → FollowsInPart (rest ++ more) middle new
 more_in_part [] more middle new same = none_in_part more middle new same
-more_in_part (ToOut bytes ∷ rest) more middle new same = same
-more_in_part (ToErr bytes ∷ rest) more middle new same = same
-more_in_part (Answer bytes ∷ rest) more middle new same = same
 more_in_part (Change name value ∷ rest) more middle new kept = kept
+more_in_part (_ ∷ rest) more middle new same = same
 
 -- what is nothing together is nothing
 pub nothing_before : (done rest : List ℕ) → done ++ rest ≡ [] → done ≡ []

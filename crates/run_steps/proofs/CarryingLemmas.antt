@@ -1,11 +1,10 @@
 -- Commands one after another, each of which was carried out: all of them were carried out from the start.
-use Rattle.std.proofs.Common.{◌≡◌, ◌⊎◌, ℕ, Bool, true, false, IsTrue, List, [], None, Some, Ok, Err, Result, inl, inr, refl, sym, subst, ◌∙◌, arith, append-nil}
+use Rattle.std.proofs.Common.{◌≡◌, ℕ, Bool, true, false, List, [], None, Some, Ok, Err, Result, inl, inr, refl, sym, subst, ◌∙◌, arith}
 use Rattle.std.specs.Prelude.{◌&&◌}
 use Rattle.std.specs.Result.{result_err}
 use Rattle.std.proofs.lemmas.Bool.{false≢true}
 use Rattle.std.proofs.lemmas.Option.{none-some}
 use Rattle.std.proofs.lemmas.Result.{IfErr-weaker, on_ok_weaker}
-use Rattle.quota_blocks.specs.Count.{Rose}
 use Rattle.refusals.specs.declared.cause.Cause.{Cause}
 use Rattle.refusals.specs.declared.cause.Cause.TheVariants.{StoreFault, SourceFault, SinkFault, LinkFault}
 use Rattle.refusals.specs.declared.reason.Refusal.{Refusal}
@@ -15,8 +14,9 @@ use Rattle.refusals.proofs.GroupLemmas.{by_group}
 use Rattle.run_steps.specs.Done.{IsLater, IsUnwritten, IsWorldTold, RunSeen, RunTells}
 use Rattle.run_steps.specs.Run.{CarriesOut, HasFailed, HasReason, HasSteps, IsPlacedBy, Uses}
 use Rattle.run_steps.specs.Steps.{Before, Finish, InLine, Steps}
-use Rattle.run_steps.proofs.PartLemmas.{nothing_begun}
-use Rattle.run_steps.proofs.ReasonLemmas.{reason_but_stated}
+use Rattle.run_steps.proofs.OpeningLemmas.{none_done, store_later}
+use Rattle.run_steps.proofs.PartLemmas.{carried_whole}
+use Rattle.run_steps.proofs.ReasonLemmas.{reason_before, reason_but_stated}
 use Rattle.run_steps.proofs.RowLemmas.{part_before, part_in_line, part_stopped, steps_before, steps_in_line, steps_stopped}
 
 -- Moments one after another.
@@ -33,50 +33,19 @@ later_both old middle new one two = record {
 unwritten_both : (old middle new : RunSeen) → IsUnwritten old.store middle.store → IsUnwritten middle.store new.store → IsUnwritten old.store new.store
 unwritten_both old middle new one two = record { files = two.files ∙ one.files; writes = two.writes ∙ one.writes }
 
-sink_failed : (warns : Bool) (old middle new : RunSeen) → IsLater old middle
-    → Rose middle.out.faults new.out.faults ⊎ (IsTrue warns × Rose middle.err.faults new.err.faults)
-    → Rose old.out.faults new.out.faults ⊎ (IsTrue warns × Rose old.err.faults new.err.faults)
-sink_failed warns old middle new later (inl failed) = inl (omega (arith, later.out, failed))
-sink_failed warns old middle new later (inr failed) = inr (failed.0, omega (arith, later.err, failed.1))
-
--- what failed since a later moment failed since an earlier one
-failed_before : (warns link : Bool) (old middle new : RunSeen) (cause : Cause) → IsLater old middle → HasFailed warns link middle new cause → HasFailed warns link old new cause
-failed_before warns link old middle new StoreFault later failed = omega (arith, later.store, failed)
-failed_before warns link old middle new SourceFault later failed = omega (arith, later.input, failed)
-failed_before warns link old middle new SinkFault later failed = sink_failed warns old middle new later failed
-failed_before warns link old middle new LinkFault later failed = (failed.0, omega (arith, later.link, failed.1))
-failed_before warns link old middle new _ later failed = absurd failed
-
--- a reason since a later moment is one since an earlier one
-pub reason_before : (uses : Uses) (old middle new : RunSeen) (stated stated' : Type 0) (cause : Cause) → IsLater old middle → (stated → stated') → HasReason uses middle new stated cause → HasReason uses old new stated' cause
-reason_before uses old middle new stated stated' cause later so reason =
-    by_group (group_of cause) _ _ stated stated' (failed_before uses.warns uses.link old middle new cause later) so reason
-
 -- Commands one after another.
 
 -- nothing is left to be done
 pub finish_carried : (uses : Uses) (may : Cause → List ℕ → Type 0) (tells : RunTells) (old : RunSeen) (passed : Unit {0}) → CarriesOut Finish uses may tells old old (Ok passed)
-finish_carried uses may tells old passed = record {
-  done = λ told. record {
-    acts = [];
-    by_steps = record { acts_none = refl; same = refl; ends = refl };
-    done = record {
-      files = refl;
-      out = λ is. sym (append-nil old.out.written);
-      err = λ is. sym (append-nil old.err.written);
-      answered = sym (append-nil old.link.answers);
-      writes = λ none. refl;
-    };
-  };
-  refused = tt;
-  part = λ told. nothing_begun Finish tells old old refl (λ is. refl) (λ is. refl) refl refl refl;
-  may_refuse = tt;
-  placed = tt;
-  only_reads = λ only. record { files = refl; writes = refl };
-  all_or_nothing = λ whole. tt;
-  quiet = λ no. refl;
-  later = record { store = omega arith; input = omega arith; out = omega arith; err = omega arith; link = omega arith };
-}
+finish_carried uses may tells old passed =
+    let same : IsUnwritten old.store old.store = record { files = refl; writes = refl } in
+    carried_whole Finish uses may tells old old passed
+    (λ told. record {
+      acts = [];
+      by_steps = record { acts_none = refl; same = refl; ends = refl };
+      done = none_done tells old old.store old.input same;
+    })
+    (λ only. same) (λ no. refl) (store_later old old.store (omega arith))
 
 -- steps were carried out, and then those behind them
 pub carried_before : (one others : Steps) (uses : Uses) (may : Cause → List ℕ → Type 0) (tells : RunTells) (old middle new : RunSeen) (passed : Unit {0}) (result : Result (Unit {0}) Refusal) → uses.all_or_nothing ≡ false

@@ -4,7 +4,7 @@ use Rattle.quota_blocks.specs.Frame.{OnlyReads}
 use Rattle.quota_blocks.specs.Seen.{StoreSeen}
 use Rattle.quota_blocks.specs.World.{World}
 use Rattle.refusals.specs.declared.reason.Refusal.{Refusal}
-use Rattle.run_steps.specs.Act.{Act, ToOut, ToErr, Answer, Change, ChangesNone, Follows, FollowsInPart, answers, err_bytes, out_bytes}
+use Rattle.run_steps.specs.Act.{Act, Change, ChangesNone, Follows, FollowsInPart, answers, err_bytes, out_bytes}
 use Rattle.run_steps.specs.Done.{AreDone, AreDoneInPart, Outside, RunSeen, RunTells, outside_of}
 use Rattle.run_steps.specs.Meaning.{EndsBy, HasBegun}
 use Rattle.run_steps.specs.Run.{HasSteps}
@@ -61,10 +61,8 @@ written_none name old new reads = record { files = reads.files; writes = λ none
 
 pub changes_none_behind : (acts more : List Act) → ChangesNone (acts ++ more) → ChangesNone more
 changes_none_behind [] more none = none
-changes_none_behind (ToOut bytes ∷ acts) more none = changes_none_behind acts more none
-changes_none_behind (ToErr bytes ∷ acts) more none = changes_none_behind acts more none
-changes_none_behind (Answer bytes ∷ acts) more none = changes_none_behind acts more none
 changes_none_behind (Change name value ∷ acts) more none = absurd none
+changes_none_behind (_ ∷ acts) more none = changes_none_behind acts more none
 
 pub written_both : (acts more : List Act) (old middle new : StoreSeen) → AreWritten acts old middle → AreWritten more middle new → AreWritten (acts ++ more) old new
 written_both acts more old middle new one two = record {

@@ -7,7 +7,7 @@ use Rattle.refusals.specs.Refusals.{in_line}
 use Rattle.run_steps.specs.Act.{Act}
 use Rattle.run_steps.specs.Done.{Outside}
 use Rattle.run_steps.specs.Meaning.{EndsBy, HasBegun, IsSure}
-use Rattle.run_steps.specs.Row.{IsBegunAt, IsRefusedAtOne}
+use Rattle.run_steps.specs.Row.{IsBegunAt, IsRefusedAtOne, next_of}
 use Rattle.run_steps.specs.Steps.{Steps, Before, InLine, Finish, InARow}
 use Rattle.run_steps.proofs.MeaningLemmas.{none_in_line}
 
@@ -26,30 +26,25 @@ row_begun (one ∷ first) next others old acts middle done hand now (inr passed)
   row_begun first next others passed.1 passed.2 middle done hand now passed.5 begun,
 )
 
+-- none of a list ended yet
+none_ended : (list : List Steps) (old : Outside) (done hand : List Act) (now : Outside) → HasBegun (next_of list) old done hand now
+    → IsBegunAt list old done hand now
+none_ended list old done hand now begun = record {
+  first = [];
+  rest = list;
+  whole = refl;
+  acts = [];
+  middle = old;
+  ended = record { acts_none = refl; same = refl; ends = refl };
+  more = done;
+  all = refl;
+  begun = begun;
+}
+
 -- and only so
 pub row_only_begun : (list : List Steps) (old : Outside) (done hand : List Act) (now : Outside) → HasBegun (InARow list) old done hand now → IsBegunAt list old done hand now
-row_only_begun [] old done hand now begun = record {
-  first = [];
-  rest = [];
-  whole = refl;
-  acts = [];
-  middle = old;
-  ended = record { acts_none = refl; same = refl; ends = refl };
-  more = done;
-  all = refl;
-  begun = begun;
-}
-row_only_begun (one ∷ others) old done hand now (inl begun) = record {
-  first = [];
-  rest = one ∷ others;
-  whole = refl;
-  acts = [];
-  middle = old;
-  ended = record { acts_none = refl; same = refl; ends = refl };
-  more = done;
-  all = refl;
-  begun = begun;
-}
+row_only_begun [] old done hand now begun = none_ended [] old done hand now begun
+row_only_begun (one ∷ others) old done hand now (inl begun) = none_ended (one ∷ others) old done hand now begun
 row_only_begun (one ∷ others) old done hand now (inr by) =
     let at = row_only_begun others by.1 by.2 hand now by.5 in
     record {

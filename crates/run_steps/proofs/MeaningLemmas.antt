@@ -12,7 +12,7 @@ use Rattle.quota_map.specs.View.{IsView}
 use Rattle.quota_map.proofs.SeenLemmas.{view_or_refused}
 use Rattle.refusals.specs.declared.reason.Refusal.{Refusal}
 use Rattle.refusals.specs.Refusals.{in_line}
-use Rattle.run_steps.specs.Act.{Act, ToOut, ToErr, Answer, Change, Follows, FollowsAct}
+use Rattle.run_steps.specs.Act.{Act, Change, Follows, FollowsAct}
 use Rattle.run_steps.specs.Done.{Outside}
 use Rattle.run_steps.specs.Meaning.{EndsBy, HasBegun, IsSure}
 use Rattle.run_steps.specs.OneCommand.{AreReceived, IsFirstPart, LooksFirst, ReadsToEnd, Receives, leaves_files}
@@ -52,21 +52,6 @@ unbegun (InLine line steps) old = unbegun steps old
 none_follow : (acts : List Act) (old new : Outside) → acts ≡ [] → new ≡ old → Follows acts old.files new.files
 none_follow acts old new none same = subst (λ (a : List Act). Follows a old.files new.files) (sym none) (ap (λ (o : Outside). o.files) same)
 
-pub ends_follow : (steps : Steps) (old : Outside) (acts : List Act) (new : Outside) (refusal : Option Refusal) → EndsBy steps old acts new refusal → Follows acts old.files new.files
-ends_follow (Ending stated) old acts new refusal is = none_follow acts old new is.acts_none is.same
-ends_follow (Doing act next) old acts new refusal by =
-    subst (λ (a : List Act). Follows a old.files new.files) (sym by.2) (by.1, by.3, ends_follow next (record old { files = by.1 }) by.0 new refusal by.4)
-ends_follow (Looking next) old acts new refusal by = ends_follow (next old.files) old acts new refusal by
-ends_follow (Opening kind asked name next) old acts new refusal (inl seen) = ends_follow (next seen.0) old acts new refusal seen.2
-ends_follow (Opening kind asked name next) old acts new refusal (inr bad) = none_follow acts old new bad.2.acts_none bad.2.same
-ends_follow (Reading whole next) old acts new refusal by = ends_follow (next old.input) (record old { input = by.0 }) acts new refusal by.2
-ends_follow (Receiving next) old acts new refusal by = ends_follow (next by.0) (record old { datagrams = by.1 }) acts new refusal by.3
-ends_follow (Before one others) old acts new refusal (inl stopped) = ends_follow one old acts new (Some stopped.0) stopped.2
-ends_follow (Before one others) old acts new refusal (inr passed) =
-    subst (λ (a : List Act). Follows a old.files new.files) (sym passed.3)
-    (follows-append passed.0 passed.2 old.files passed.1.files new.files (ends_follow one old passed.0 passed.1 None passed.4) (ends_follow others passed.1 passed.2 new refusal passed.5))
-ends_follow (InLine line steps) old acts new refusal by = ends_follow steps old acts new by.0 by.2
-
 pub begun_follow : (steps : Steps) (old : Outside) (done hand : List Act) (now : Outside) → HasBegun steps old done hand now → Follows done old.files now.files
 begun_follow (Ending stated) old done hand now is = none_follow done old now is.done_none is.same
 begun_follow (Doing act next) old done hand now (inl is) = none_follow done old now is.done_none is.same
@@ -82,8 +67,12 @@ begun_follow (Receiving next) old done hand now (inr by) = begun_follow (next by
 begun_follow (Before one others) old done hand now (inl by) = begun_follow one old done hand now by
 begun_follow (Before one others) old done hand now (inr by) =
     subst (λ (a : List Act). Follows a old.files now.files) (sym by.3)
-    (follows-append by.0 by.2 old.files by.1.files now.files (ends_follow one old by.0 by.1 None by.4) (begun_follow others by.1 by.2 hand now by.5))
+    (follows-append by.0 by.2 old.files by.1.files now.files (begun_follow one old by.0 [] by.1 (ended_begun one old by.0 by.1 None by.4))
+    (begun_follow others by.1 by.2 hand now by.5))
 begun_follow (InLine line steps) old done hand now by = begun_follow steps old done hand now by
+
+pub ends_follow : (steps : Steps) (old : Outside) (acts : List Act) (new : Outside) (refusal : Option Refusal) → EndsBy steps old acts new refusal → Follows acts old.files new.files
+ends_follow steps old acts new refusal by = begun_follow steps old acts [] new (ended_begun steps old acts new refusal by)
 
 -- Steps that are sure.
 
@@ -131,9 +120,7 @@ same_after : (looks : Bool) (act : Act) (one other one' other' : World) → (IsT
     → IsTrue (looks && leaves_files act) → one' ≡ other'
 same_after false act one other one' other' same first second is = absurd (false≢true is)
 same_after true (Change name value) one other one' other' same first second is = absurd (false≢true is)
-same_after true (ToOut bytes) one other one' other' same first second is = first ∙ same refl ∙ sym second
-same_after true (ToErr bytes) one other one' other' same first second is = first ∙ same refl ∙ sym second
-same_after true (Answer bytes) one other one' other' same first second is = first ∙ same refl ∙ sym second
+same_after true _ one other one' other' same first second is = first ∙ same refl ∙ sym second
 
 -- what is outside is the same as far as steps may still look at it
 pub record LooksSame (looks takes : Bool) (one other : Outside) : Type 0 where

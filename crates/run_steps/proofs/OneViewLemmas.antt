@@ -92,14 +92,12 @@ header_decides kind asked limit file (TooLarge number most) undamaged seen =
     ∙ ap (λ (n : ℕ). Some (TooLarge n limit)) (sym seen.1.exactly)
     ∙ ap (λ (n : ℕ). Some (TooLarge number n)) (sym seen.0.0)
 header_decides kind asked limit file Memory undamaged seen = absurd seen
-header_decides kind asked limit file NotQuota undamaged seen = ap (λ (f : Option HeaderFault). by_fault f (by_version asked (format_of (header_of file).version) limit (header_of file).blocks)) seen.1
-header_decides kind asked limit file WrongKind undamaged seen = ap (λ (f : Option HeaderFault). by_fault f (by_version asked (format_of (header_of file).version) limit (header_of file).blocks)) seen.1
-header_decides kind asked limit file UnknownVersion undamaged seen = ap (λ (f : Option HeaderFault). by_fault f (by_version asked (format_of (header_of file).version) limit (header_of file).blocks)) seen.1
-header_decides kind asked limit file BadBlockCount undamaged seen = ap (λ (f : Option HeaderFault). by_fault f (by_version asked (format_of (header_of file).version) limit (header_of file).blocks)) seen.1
 header_decides kind None limit file (FormatMismatch found) undamaged seen = absurd seen.0
 header_decides kind (Some wanted) limit file (FormatMismatch found) undamaged seen =
     header_known kind (Some wanted) limit (header_of file) found seen.1 ∙ format_differs wanted found limit (header_of file).blocks seen.0
 header_decides kind asked limit file (Damaged damage) undamaged seen = absurd undamaged
+header_decides kind asked limit file _ undamaged seen = ap (λ (f : Option HeaderFault). by_fault f
+    (by_version asked (format_of (header_of file).version) limit (header_of file).blocks)) seen.1
 
 -- the header of a damaged file gives no refusal
 header_passes : (kind : Kind) (asked : Option Format) (limit : ℕ) (file : List ℕ) (damage : _) → IsTreeView (Some file) kind asked limit (Err (Damaged damage)) → by_header kind asked limit (header_of file) ≡ None

@@ -19,10 +19,10 @@ use Rattle.quota_map.specs.View.{IsOpenFault, most_blocks}
 use Rattle.quota_map.proofs.SeenLemmas.{IsOfCall, fault_seen, store_rose}
 use Rattle.refusals.specs.declared.cause.Cause.{Cause}
 use Rattle.refusals.specs.declared.reason.Refusal.{Refusal}
-use Rattle.run_steps.specs.Done.{IsLater, IsUnwritten, IsWorldTold, Outside, RunSeen, RunTells, outside_of}
+use Rattle.run_steps.specs.Done.{AreDone, IsLater, IsUnwritten, IsWorldTold, Outside, RunSeen, RunTells, outside_of}
 use Rattle.run_steps.specs.Meaning.{EndsBy}
 use Rattle.run_steps.specs.Opening.{IsDamageAs, MayRefuseOpening, asks_tree, opening_cause}
-use Rattle.run_steps.specs.Run.{CarriesOut, HasReason, HasSteps, IsDoneInPart, Uses}
+use Rattle.run_steps.specs.Run.{CarriesOut, HasReason, HasSteps, IsDoneInPart, IsPlacedBy, Uses}
 use Rattle.run_steps.specs.Steps.{Opening, Steps}
 use Rattle.run_steps.proofs.PartLemmas.{nothing_begun}
 use Rattle.refusals.specs.Refusals.{refusal_of}
@@ -54,24 +54,58 @@ pub nothing_read : (steps : Steps) (name : List ℕ) (tells : RunTells) (old : R
 nothing_read steps name tells old store reads =
     nothing_begun steps tells old (with_store old store) reads.files (λ told. refl) (λ told. refl) refl refl reads.writes
 
+-- no act was done
+pub none_done : (tells : RunTells) (old : RunSeen) (store : StoreSeen) (input : SourceSeen) → IsUnwritten old.store store
+    → AreDone tells [] old (with_input (with_store old store) input)
+none_done tells old store input same = record {
+  files = same.files;
+  out = λ told. sym (append-nil old.out.written);
+  err = λ told. sym (append-nil old.err.written);
+  answered = sym (append-nil old.link.answers);
+  writes = λ none. same.writes;
+}
+
 -- no act, and a refusal
 pub refused_steps : (name : List ℕ) (steps : Steps) (tells : RunTells) (old : RunSeen) (store : StoreSeen) (refusal : Refusal) → OnlyReads name old.store store
     → ((new : Outside) → new ≡ outside_of old → EndsBy steps (outside_of old) [] new (Some refusal)) → HasSteps steps tells (Some refusal) old (with_store old store)
 refused_steps name steps tells old store refusal reads by = record {
   acts = [];
   by_steps = by (outside_of (with_store old store)) (outside_same old store reads.files);
-  done = record {
-    files = reads.files;
-    out = λ told. sym (append-nil old.out.written);
-    err = λ told. sym (append-nil old.err.written);
-    answered = sym (append-nil old.link.answers);
-    writes = λ none. reads.writes;
-  };
+  done = none_done tells old store old.input (unwritten name old.store store reads);
 }
 
 -- nothing faded while the store was used
 pub store_later : (old : RunSeen) (store : StoreSeen) → old.store.faults ≤ store.faults → IsLater old (with_store old store)
 store_later old store later = record { store = later; input = omega arith; out = omega arith; err = omega arith; link = omega arith }
+
+-- a command was refused where nothing was written
+pub refused_so : (steps : Steps) (uses : Uses) (may : Cause → List ℕ → Type 0) (tells : RunTells) (old new : RunSeen) (refusal : Refusal)
+    → IsUnwritten old.store new.store → new.err ≡ old.err → IsLater old new → (IsWorldTold tells → IsDoneInPart steps tells old new)
+    → HasReason uses old new (IsWorldTold tells → HasSteps steps tells (Some refusal) old new) refusal.cause
+    → may refusal.cause refusal.name → IsPlacedBy uses refusal
+    → CarriesOut steps uses may tells old new (Err refusal)
+refused_so steps uses may tells old new refusal same quiet later part reason allowed placed = record {
+  done = tt;
+  refused = reason;
+  part = part;
+  may_refuse = allowed;
+  placed = placed;
+  only_reads = λ only. same;
+  all_or_nothing = λ whole other. same;
+  quiet = λ no. quiet;
+  later = later;
+}
+
+-- a command was refused where the store was only read
+pub refused_reads : (name : List ℕ) (steps : Steps) (uses : Uses) (may : Cause → List ℕ → Type 0) (tells : RunTells)
+    (old : RunSeen) (store : StoreSeen) (refusal : Refusal) → OnlyReads name old.store store
+    → HasReason uses old (with_store old store) (IsWorldTold tells → HasSteps steps tells (Some refusal) old (with_store old store))
+    refusal.cause → may refusal.cause refusal.name → IsPlacedBy uses refusal
+    → CarriesOut steps uses may tells old (with_store old store) (Err refusal)
+refused_reads name steps uses may tells old store refusal reads reason allowed placed =
+    refused_so steps uses may tells old (with_store old store) refusal (unwritten name old.store store reads) refl
+    (store_later old store reads.later)
+    (λ told. nothing_read steps name tells old store reads) reason allowed placed
 
 -- a refusal that is seen of the file
 seen_steps : (name : List ℕ) (kind : Kind) (asked : Option Format) (next : QuotaValue → Steps) (tells : RunTells) (old : RunSeen) (store : StoreSeen) (fault : OpenFault)
@@ -126,14 +160,8 @@ pub not_opened : (kind : Kind) (asked : Option Format) (name : List ℕ) (next :
     → IsOpenFault old.store.faults store.faults tells.store (old.store.files name) kind asked fault → OnlyReads name old.store store
     → ((cause : Cause) → MayRefuseOpening asked name cause name → may cause name)
     → CarriesOut (Opening kind asked name next) uses may tells old (with_store old store) (Err (refusal_of (opening_cause fault) name))
-not_opened kind asked name next uses may tells old store fault cause reads allowed = record {
-  done = tt;
-  refused = open_reason uses name kind asked next tells old store fault reads cause;
-  part = λ told. nothing_read (Opening kind asked name next) name tells old store reads;
-  may_refuse = allowed (opening_cause fault) (open_may name old.store.faults store.faults tells.store (old.store.files name) kind asked fault cause);
-  placed = record { line = λ no. refl; input_line = λ no. refl };
-  only_reads = λ only. unwritten name old.store store reads;
-  all_or_nothing = λ whole other. unwritten name old.store store reads;
-  quiet = λ no. refl;
-  later = store_later old store reads.later;
-}
+not_opened kind asked name next uses may tells old store fault cause reads allowed =
+    refused_reads name (Opening kind asked name next) uses may tells old store (refusal_of (opening_cause fault) name) reads
+    (open_reason uses name kind asked next tells old store fault reads cause)
+    (allowed (opening_cause fault) (open_may name old.store.faults store.faults tells.store (old.store.files name) kind asked fault cause))
+    (record { line = λ no. refl; input_line = λ no. refl })

@@ -1,15 +1,16 @@
 -- Steps that were done in part.
-use Rattle.std.proofs.Common.{◌≡◌, ◌⊎◌, ℕ, true, false, IsTrue, List, [], ◌∷◌, ◌++◌, take, Option, inl, inr, refl, sym, ap, subst, ◌∙◌, append-nil}
+use Rattle.std.proofs.Common.{◌≡◌, ◌⊎◌, ℕ, true, false, IsTrue, List, [], ◌∷◌, ◌++◌, take, Option, None, Ok, inl, inr, refl, sym, ap, subst, ◌∙◌, append-nil}
 use Rattle.std.proofs.lemmas.Bool.{false≢true}
-use Rattle.quota_blocks.specs.Seen.{SinkSeen}
+use Rattle.quota_blocks.specs.Seen.{SinkSeen, SourceSeen, StoreSeen}
 use Rattle.quota_blocks.specs.Text.{AppendsPrefix}
 use Rattle.quota_blocks.specs.World.{World}
+use Rattle.refusals.specs.declared.cause.Cause.{Cause}
 use Rattle.refusals.specs.declared.reason.Refusal.{Refusal}
-use Rattle.run_steps.specs.Act.{Act, ToOut, ToErr, Answer, Change, ChangesNone, Follows, FollowsInPart, out_bytes, err_bytes}
-use Rattle.run_steps.specs.Done.{AreDoneInPart, Outside, RunSeen, RunTells, outside_of}
+use Rattle.run_steps.specs.Act.{Act, Change, ChangesNone, Follows, FollowsInPart, out_bytes, err_bytes}
+use Rattle.run_steps.specs.Done.{AreDoneInPart, IsLater, IsUnwritten, IsWorldTold, Outside, RunSeen, RunTells, outside_of}
 use Rattle.run_steps.specs.Meaning.{EndsBy, HasBegun}
 use Rattle.run_steps.specs.OneCommand.{LooksFirst}
-use Rattle.run_steps.specs.Run.{HasSteps, IsDoneInPart}
+use Rattle.run_steps.specs.Run.{CarriesOut, HasSteps, IsDoneInPart, Uses}
 use Rattle.run_steps.specs.Steps.{AreDoneThen, Steps}
 use Rattle.run_steps.proofs.ActLemmas.{appends_nothing, changes_none_before, none_appended, none_in_part}
 use Rattle.run_steps.proofs.MeaningLemmas.{begun_follow, ended_begun, first_part, looks_same, unbegun}
@@ -47,6 +48,42 @@ whole_begun steps tells refusal old new has = record {
   writes = λ none. has.done.writes (changes_none_before has.acts [] none);
 }
 
+-- a command whose steps ended with no refusal was carried out
+pub carried_whole : (steps : Steps) (uses : Uses) (may : Cause → List ℕ → Type 0) (tells : RunTells) (old new : RunSeen) (passed : Unit {0})
+    → (IsWorldTold tells → HasSteps steps tells None old new) → (uses.changes ≡ false → IsUnwritten old.store new.store)
+    → (uses.warns ≡ false → new.err ≡ old.err) → IsLater old new
+    → CarriesOut steps uses may tells old new (Ok passed)
+carried_whole steps uses may tells old new passed has unwritten quiet later = record {
+  done = has;
+  refused = tt;
+  part = λ told. whole_begun steps tells None old new (has told);
+  may_refuse = tt;
+  placed = tt;
+  only_reads = unwritten;
+  all_or_nothing = λ whole. tt;
+  quiet = quiet;
+  later = later;
+}
+
+-- Steps were done in part where steps were that they lead to, once the store was read and the input was used.
+pub part_from : (next steps : Steps) (tells : RunTells) (old : RunSeen) (store : StoreSeen) (input : SourceSeen) (new : RunSeen)
+    → store.writes ≡ old.store.writes
+    → ((done hand : List Act) (now : Outside) → HasBegun next (outside_of (record old { store = store; input = input })) done hand now
+    → HasBegun steps (outside_of old) done hand now)
+    → IsDoneInPart next tells (record old { store = store; input = input }) new → IsDoneInPart steps tells old new
+part_from next steps tells old store input new same leads part = record {
+  done = part.done;
+  hand = part.hand;
+  now = part.now;
+  begun = leads part.done part.hand part.now part.begun;
+  files = part.files;
+  out = part.out;
+  err = part.err;
+  answered = part.answered;
+  datagrams = part.datagrams;
+  writes = λ none. part.writes none ∙ same;
+}
+
 -- acts of which the first ones were done have begun
 acts_begun : (done rest : List Act) (end : Option Refusal) (from : Outside) (files : World) → Follows done from.files files
     → HasBegun (AreDoneThen (done ++ rest) end) from done (take 1 rest) (record from { files = files })
@@ -56,18 +93,14 @@ acts_begun (act ∷ done) rest end from files follows = inr (done, follows.0, re
 
 -- of acts that follow in part only the first counts
 first_in_part : (rest : List Act) (old new : World) → FollowsInPart rest old new → FollowsInPart (take 1 rest) old new
-first_in_part [] old new follows = follows
-first_in_part (ToOut bytes ∷ rest) old new follows = follows
-first_in_part (ToErr bytes ∷ rest) old new follows = follows
-first_in_part (Answer bytes ∷ rest) old new follows = follows
 first_in_part (Change name value ∷ rest) old new follows = follows
+first_in_part [] old new follows = follows
+first_in_part (_ ∷ rest) old new follows = follows
 
 all_in_part : (rest : List Act) (old new : World) → FollowsInPart (take 1 rest) old new → FollowsInPart rest old new
-all_in_part [] old new follows = follows
-all_in_part (ToOut bytes ∷ rest) old new follows = follows
-all_in_part (ToErr bytes ∷ rest) old new follows = follows
-all_in_part (Answer bytes ∷ rest) old new follows = follows
 all_in_part (Change name value ∷ rest) old new follows = follows
+all_in_part [] old new follows = follows
+all_in_part (_ ∷ rest) old new follows = follows
 
 -- acts that were done in part are steps that were done in part
 pub acts_in_part : (acts : List Act) (end : Option Refusal) (tells : RunTells) (old new : RunSeen) → new.link.left ≡ old.link.left → AreDoneInPart tells acts old new → IsDoneInPart (AreDoneThen acts end) tells old new

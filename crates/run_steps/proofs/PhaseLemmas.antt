@@ -1,5 +1,5 @@
 -- Commands in phases: what was carried out where a phase was refused, and where it passed and the next one was carried out.
-use Rattle.std.proofs.Common.{◌≡◌, ℕ, ◌≤◌, Bool, true, false, IsTrue, List, [], Option, None, Some, Ok, Err, Result, inl, inr, refl, sym, ap, subst, ◌∙◌, arith, append-nil}
+use Rattle.std.proofs.Common.{◌≡◌, ℕ, ◌≤◌, Bool, true, false, IsTrue, List, [], Option, None, Some, Ok, Err, Result, inl, inr, refl, sym, ap, subst, ◌∙◌, arith}
 use Rattle.std.specs.Prelude.{unwrap_or}
 use Rattle.std.specs.FinMap.{empty}
 use Rattle.std.proofs.lemmas.Bool.{false≢true}
@@ -26,8 +26,9 @@ use Rattle.run_steps.specs.Meaning.{EndsBy, HasBegun, IsTaken}
 use Rattle.run_steps.specs.Naming.{FileOfNamesMayRefuse, IsNamesFault, NamesMayRefuse, names_seen}
 use Rattle.run_steps.specs.Run.{CarriesOut, HasReason, HasSteps, IsDoneInPart, IsPlacedBy, Uses}
 use Rattle.run_steps.specs.Steps.{Steps, Looking, Naming, Opening, Reading, Stop, Then}
-use Rattle.run_steps.proofs.OpeningLemmas.{nothing_read, outside_same, refused_steps, store_later, unwritten, with_input, with_store}
-use Rattle.run_steps.proofs.PartLemmas.{nothing_begun}
+use Rattle.quota_blocks.proofs.FrameLemmas.{only_reads-none}
+use Rattle.run_steps.proofs.OpeningLemmas.{outside_same, refused_reads, refused_steps, with_input, with_store}
+use Rattle.run_steps.proofs.PartLemmas.{part_from}
 use Rattle.run_steps.proofs.ReasonLemmas.{reason_since}
 
 -- Commands that were refused before anything was done.
@@ -36,31 +37,14 @@ use Rattle.run_steps.proofs.ReasonLemmas.{reason_since}
 pub nothing_carried : (steps : Steps) (uses : Uses) (may : Cause → List ℕ → Type 0) (tells : RunTells) (old : RunSeen) (refusal : Refusal)
     → HasReason uses old old (IsWorldTold tells → HasSteps steps tells (Some refusal) old old) refusal.cause
     → may refusal.cause refusal.name → IsPlacedBy uses refusal → CarriesOut steps uses may tells old old (Err refusal)
-nothing_carried steps uses may tells old refusal reason allowed outside = record {
-  done = tt;
-  refused = reason;
-  part = λ told. nothing_begun steps tells old old refl (λ told. refl) (λ told. refl) refl refl refl;
-  may_refuse = allowed;
-  placed = outside;
-  only_reads = λ only. record { files = refl; writes = refl };
-  all_or_nothing = λ whole other. record { files = refl; writes = refl };
-  quiet = λ no. refl;
-  later = record { store = omega arith; input = omega arith; out = omega arith; err = omega arith; link = omega arith };
-}
+nothing_carried steps uses may tells old refusal reason allowed outside =
+    refused_reads [] steps uses may tells old old.store refusal (only_reads-none [] old.store) reason allowed outside
 
 -- a step that is refused at once
 stop_steps : (tells : RunTells) (old : RunSeen) (refusal : Refusal) → HasSteps (Stop refusal) tells (Some refusal) old old
-stop_steps tells old refusal = record {
-  acts = [];
-  by_steps = record { acts_none = refl; same = refl; ends = refl };
-  done = record {
-    files = refl;
-    out = λ told. sym (append-nil old.out.written);
-    err = λ told. sym (append-nil old.err.written);
-    answered = sym (append-nil old.link.answers);
-    writes = λ none. refl;
-  };
-}
+stop_steps tells old refusal =
+    refused_steps [] (Stop refusal) tells old old.store refusal (only_reads-none [] old.store)
+    (λ new same. record { acts_none = refl; same = same; ends = refl })
 
 -- a refusal of words is no fault
 pub stop_carried : (uses : Uses) (may : Cause → List ℕ → Type 0) (tells : RunTells) (old : RunSeen) (refusal : Refusal)
@@ -127,19 +111,10 @@ steps_on name next steps tells refusal old store input new reads leads has = rec
 -- they were done in part
 part_on : (name : List ℕ) (next steps : Steps) (tells : RunTells) (old : RunSeen) (store : StoreSeen) (input : SourceSeen) (new : RunSeen) → OnlyReads name old.store store
     → LeadsTo next (record (outside_of old) { input = input.left }) steps (outside_of old) → IsDoneInPart next tells (with_input (with_store old store) input) new → IsDoneInPart steps tells old new
-part_on name next steps tells old store input new reads leads part = record {
-  done = part.done;
-  hand = part.hand;
-  now = part.now;
-  begun = leads.begun part.done part.hand part.now
-      (subst (λ (o : Outside). HasBegun next o part.done part.hand part.now) (outside_taken old store input reads.files) part.begun);
-  files = part.files;
-  out = part.out;
-  err = part.err;
-  answered = part.answered;
-  datagrams = part.datagrams;
-  writes = λ none. part.writes none ∙ reads.writes;
-}
+part_on name next steps tells old store input new reads leads part =
+    part_from next steps tells old store input new reads.writes
+    (λ done hand now by. leads.begun done hand now (subst (λ (o : Outside). HasBegun next o done hand now)
+    (outside_taken old store input reads.files) by)) part
 
 unwritten_on : (name : List ℕ) (old store new : StoreSeen) → OnlyReads name old store → IsUnwritten store new → IsUnwritten old new
 unwritten_on name old store new reads same = record { files = same.files ∙ reads.files; writes = same.writes ∙ reads.writes }
@@ -209,19 +184,12 @@ names_refused : (kind : Kind) (file : List ℕ) (next : List NameLine → Steps)
     → OnlyReads file old.store store → IsNamesFault old.store.faults store.faults tells.store (names_seen kind (Some file) old.store.files) refusal refusal.cause
     → FileOfNamesMayRefuse file refusal.cause refusal.name → more refusal.cause refusal.name → IsPlacedBy uses refusal
     → CarriesOut (Naming kind (Some file) next) uses more tells old (with_store old store) (Err refusal)
-names_refused kind file next uses more tells old store refusal reads fault may allowed placed = record {
-  done = tt;
-  refused = names_reason uses file tells old store (names_seen kind (Some file) old.store.files) refusal _ refusal.cause refusal.name fault may
-      (λ told is. refused_reading file (names_seen kind (Some file) old.store.files) next (Naming kind (Some file) next) tells old store refusal reads
-      (leads_looking (Then (names_seen kind (Some file) old.store.files) next) _ (outside_of old) refl) is);
-  part = λ told. nothing_read (Naming kind (Some file) next) file tells old store reads;
-  may_refuse = allowed;
-  placed = placed;
-  only_reads = λ only. unwritten file old.store store reads;
-  all_or_nothing = λ whole other. unwritten file old.store store reads;
-  quiet = λ no. refl;
-  later = store_later old store reads.later;
-}
+names_refused kind file next uses more tells old store refusal reads fault may allowed placed =
+    refused_reads file (Naming kind (Some file) next) uses more tells old store refusal reads
+    (names_reason uses file tells old store (names_seen kind (Some file) old.store.files) refusal _ refusal.cause refusal.name fault may
+    (λ told is. refused_reading file (names_seen kind (Some file) old.store.files) next (Naming kind (Some file) next) tells old store
+    refusal reads
+    (leads_looking (Then (names_seen kind (Some file) old.store.files) next) _ (outside_of old) refl) is)) allowed placed
 
 -- a refusal that stands nowhere is placed by any command
 pub placed_nowhere : (uses : Uses) (refusal : Refusal) → refusal.place ≡ nowhere → IsPlacedBy uses refusal
@@ -260,14 +228,22 @@ carries_opening name kind asked next uses may more tells old store new result re
 -- what a command may be refused for, where another one may be
 pub carries_more : (steps : Steps) (uses : Uses) (may more : Cause → List ℕ → Type 0) (tells : RunTells) (old new : RunSeen) (result : Result (Unit {0}) Refusal)
     → ((cause : Cause) (name : List ℕ) → may cause name → more cause name) → CarriesOut steps uses may tells old new result → CarriesOut steps uses more tells old new result
-carries_more steps uses may more tells old new result allows carries = record {
-  done = carries.done;
-  refused = carries.refused;
-  part = carries.part;
-  may_refuse = IfErr-weaker result _ _ (λ refusal may. allows refusal.cause refusal.name may) carries.may_refuse;
-  placed = carries.placed;
-  only_reads = carries.only_reads;
-  all_or_nothing = carries.all_or_nothing;
-  quiet = carries.quiet;
-  later = carries.later;
-}
+carries_more steps uses may more tells old new result allows carries =
+    carries_on [] steps steps uses may more tells old old.store new result (only_reads-none [] old.store)
+    (λ told. leads_same steps steps (outside_of old) refl) allows carries
+
+-- the same steps were carried out
+pub carries_as : (steps other : Steps) (uses : Uses) (may : Cause → List ℕ → Type 0)
+    (tells : RunTells) (old new : RunSeen) (result : Result (Unit {0}) Refusal) → steps ≡ other
+    → CarriesOut steps uses may tells old new result → CarriesOut other uses may tells old new result
+carries_as steps other uses may tells old new result same carries =
+    subst (λ (s : Steps). CarriesOut s uses may tells old new result) same carries
+
+-- a step passed with this value, and what came next was carried out
+pub carries_then : {V : Type 0} (outcome : Outcome V) (value : V) (next : V → Steps) (uses : Uses) (may more : Cause → List ℕ → Type 0)
+    (tells : RunTells) (old new : RunSeen) (result : Result (Unit {0}) Refusal)
+    → outcome ≡ Passed value → ((cause : Cause) (said : List ℕ) → may cause said → more cause said)
+    → CarriesOut (next value) uses may tells old new result → CarriesOut (Then outcome next) uses more tells old new result
+carries_then outcome value next uses may more tells old new result passed allows carries =
+    carries_as (next value) (Then outcome next) uses more tells old new result (ap (λ (o : Outcome _). Then o next) (sym passed))
+    (carries_more (next value) uses may more tells old new result allows carries)

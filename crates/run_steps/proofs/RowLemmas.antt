@@ -9,6 +9,7 @@ use Rattle.run_steps.specs.Run.{HasSteps, IsDoneInPart}
 use Rattle.run_steps.specs.Steps.{Before, InLine, Steps}
 use Rattle.run_steps.proofs.ActLemmas.{answers-append, changes_none_before, err_bytes-append, follows-append, out_bytes-append}
 use Rattle.run_steps.proofs.DoingLemmas.{changes_none_behind}
+use Rattle.run_steps.proofs.PartLemmas.{part_from}
 
 -- acts that were done, and then others
 pub done_both : (tells : RunTells) (acts more : List Act) (old middle new : RunSeen) → AreDone tells acts old middle → AreDone tells more middle new → AreDone tells (acts ++ more) old new
@@ -63,18 +64,8 @@ part_before one others tells old middle new first part = record {
 
 -- steps were done in part, and none behind them came
 pub part_stopped : (one others : Steps) (tells : RunTells) (old new : RunSeen) → IsDoneInPart one tells old new → IsDoneInPart (Before one others) tells old new
-part_stopped one others tells old new part = record {
-  done = part.done;
-  hand = part.hand;
-  now = part.now;
-  begun = inl part.begun;
-  files = part.files;
-  out = part.out;
-  err = part.err;
-  answered = part.answered;
-  datagrams = part.datagrams;
-  writes = part.writes;
-}
+part_stopped one others tells old new part = part_from one (Before one others) tells old old.store old.input new refl
+    (λ done hand now by. inl by) part
 
 -- steps ended in a line of a script
 pub steps_in_line : (line : ℕ) (steps : Steps) (tells : RunTells) (ended : Option Refusal) (old new : RunSeen) → HasSteps steps tells ended old new → HasSteps (InLine line steps) tells (in_line line ended) old new
@@ -82,15 +73,5 @@ steps_in_line line steps tells ended old new has = record { acts = has.acts; by_
 
 -- and were done in part in one
 pub part_in_line : (line : ℕ) (steps : Steps) (tells : RunTells) (old new : RunSeen) → IsDoneInPart steps tells old new → IsDoneInPart (InLine line steps) tells old new
-part_in_line line steps tells old new part = record {
-  done = part.done;
-  hand = part.hand;
-  now = part.now;
-  begun = part.begun;
-  files = part.files;
-  out = part.out;
-  err = part.err;
-  answered = part.answered;
-  datagrams = part.datagrams;
-  writes = part.writes;
-}
+part_in_line line steps tells old new part = part_from steps (InLine line steps) tells old old.store old.input new refl
+    (λ done hand now by. by) part

@@ -12,7 +12,7 @@ use Rattle.quota_blocks.proofs.WorldLemmas.{bytes_eq-ne, bytes_eq-same}
 use Rattle.quota_map.specs.View.{IsView}
 use Rattle.refusals.specs.declared.reason.Refusal.{Refusal}
 use Rattle.refusals.specs.Refusals.{in_line, refusal_of}
-use Rattle.run_steps.specs.Act.{Act, ToOut, ToErr, Answer, Change, FollowsAct}
+use Rattle.run_steps.specs.Act.{Act, Change, FollowsAct}
 use Rattle.run_steps.specs.Done.{Outside}
 use Rattle.run_steps.specs.Meaning.{EndsBy}
 use Rattle.run_steps.specs.OneCommand.{LooksFirst, leaves_files}
@@ -98,9 +98,7 @@ record GoesOn (looks takes : Bool) (one : Outside) (other : World) (here there :
 left_by : (looks : Bool) (act : Act) (world old new : World) → (IsTrue looks → old ≡ world) → FollowsAct act old new → IsTrue (looks && leaves_files act) → new ≡ world
 left_by false act world old new same follows is = absurd (false≢true is)
 left_by true (Change name value) world old new same follows is = absurd (false≢true is)
-left_by true (ToOut bytes) world old new same follows is = follows ∙ same refl
-left_by true (ToErr bytes) world old new same follows is = follows ∙ same refl
-left_by true (Answer bytes) world old new same follows is = follows ∙ same refl
+left_by true _ world old new same follows is = follows ∙ same refl
 
 done_on : (looks takes : Bool) (one : Outside) (other : World) (here there : Outside) (act : Act) (in_one in_other : World) → GoesOn looks takes one other here there
     → FollowsAct act here.files in_one → FollowsAct act there.files in_other
@@ -186,9 +184,6 @@ same_acts looks takes one other (InLine line steps) here there acts new refusal 
 
 -- files that follow an act in one world may follow it in the other: a file that is changed there gets the same bytes
 follow_too : (act : Act) (old new from : World) → FollowsAct act old new → (to : World) × FollowsAct act from to
-follow_too (ToOut bytes) old new from follows = (from, refl)
-follow_too (ToErr bytes) old new from follows = (from, refl)
-follow_too (Answer bytes) old new from follows = (from, refl)
 follow_too (Change name value) old new from follows = (
   with_file from name (new name),
   (
@@ -196,6 +191,7 @@ follow_too (Change name value) old new from follows = (
     λ other differ differs. ap (λ (b : Bool). if b then new name else from other) (bytes_eq-ne name other (λ is. differ (sym is))),
   ),
 )
+follow_too _ old new from follows = (from, refl)
 
 ends_too : (looks takes : Bool) (one : Outside) (other : World) (steps : Steps) (here there : Outside) (acts : List Act) (new : Outside) (refusal : Option Refusal)
     → LooksFirst looks takes steps → SeesSame one other steps → GoesOn looks takes one other here there

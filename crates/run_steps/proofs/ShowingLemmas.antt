@@ -16,12 +16,14 @@ use Rattle.quota_map.specs.View.{IsOpenedAs, IsView}
 use Rattle.refusals.specs.declared.cause.Cause.{Cause}
 use Rattle.refusals.specs.Refusals.{refusal_of}
 use Rattle.run_steps.specs.Act.{ToOut}
-use Rattle.run_steps.specs.Done.{IsWorldTold, RunSeen, RunTells, outside_of}
+use Rattle.run_steps.specs.Done.{IsUnwritten, IsWorldTold, RunSeen, RunTells, outside_of}
 use Rattle.run_steps.specs.Opening.{IsDamageAs, MayRefuseOpening, file_cause}
-use Rattle.run_steps.specs.Run.{CarriesOut, HasReason, IsDoneInPart, Uses}
+use Rattle.run_steps.specs.Run.{CarriesOut, HasReason, HasSteps, IsDoneInPart, Uses}
 use Rattle.run_steps.specs.Showing.{ShowingMayRefuse, ShowingSteps, showing_uses}
 use Rattle.run_steps.proofs.ActLemmas.{appends_nothing}
-use Rattle.run_steps.proofs.OpeningLemmas.{outside_same, unwritten, with_out}
+use Rattle.run_steps.specs.Steps.{Doing, Finish}
+use Rattle.run_steps.proofs.OpeningLemmas.{outside_same, refused_so, unwritten, with_out}
+use Rattle.run_steps.proofs.PartLemmas.{carried_whole, part_from}
 
 -- What was done while a text was shown: the store was only read, and the output got the text about each value that the file
 -- is seen as, or a prefix of it.
@@ -32,25 +34,49 @@ pub record IsShowing (kind : Kind) (asked : Option Format) (name : List ℕ) (te
       → AppendsPrefix old.out.written out.written (text value)
   pub later : old.out.faults ≤ out.faults
 
+-- a text was written, or a prefix of it, once the store was only read
+pub told_begun : (text : List ℕ) (tells : RunTells) (old : RunSeen) (store : StoreSeen) (out : SinkSeen) → IsUnwritten old.store store
+    → (IsTrue tells.out → AppendsPrefix old.out.written out.written text) → IsDoneInPart (Doing (ToOut text) Finish) tells old (with_out old store out)
+told_begun text tells old store out same prefix = record {
+  done = [];
+  hand = ToOut text ∷ [];
+  now = outside_of old;
+  begun = inl (record { done_none = refl; at_hand = refl; same = refl });
+  files = same.files;
+  out = λ told.
+      subst (λ (b : List ℕ). AppendsPrefix b out.written (text ++ [])) (sym (append-nil old.out.written))
+      (subst (λ (b : List ℕ). AppendsPrefix old.out.written out.written b) (sym (append-nil text)) (prefix told));
+  err = λ told. appends_nothing (old.err.written ++ []) old.err.written [] (sym (append-nil old.err.written));
+  answered = sym (append-nil old.link.answers);
+  datagrams = refl;
+  writes = λ none. same.writes;
+}
+
+-- a text was written whole
+pub told_steps : (text : List ℕ) (tells : RunTells) (old : RunSeen) (store : StoreSeen) (out : SinkSeen) → IsUnwritten old.store store
+    → (IsTrue tells.out → out.written ≡ old.out.written ++ text) → HasSteps (Doing (ToOut text) Finish) tells None old
+    (with_out old store out)
+told_steps text tells old store out same whole = record {
+  acts = ToOut text ∷ [];
+  by_steps = ([], old.store.files, refl, refl, record { acts_none = refl; same = outside_same old store same.files; ends = refl });
+  done = record {
+    files = (old.store.files, refl, same.files);
+    out = λ told. whole told ∙ ap (λ (b : List ℕ). old.out.written ++ b) (sym (append-nil text));
+    err = λ told. sym (append-nil old.err.written);
+    answered = sym (append-nil old.link.answers);
+    writes = λ none. same.writes;
+  };
+}
+
 -- a text that is shown, or a prefix of it
 text_begun : (kind : Kind) (asked : Option Format) (name : List ℕ) (text : QuotaValue → List ℕ) (tells : RunTells) (old : RunSeen) (store : StoreSeen) (out : SinkSeen)
     → IsShowing kind asked name text tells old store out → IsTrue tells.store → IsDoneInPart (ShowingSteps kind asked name text) tells old (with_out old store out)
 text_begun kind asked name text tells old store out showing told =
     let good = showing.seen told in
-    record {
-      done = [];
-      hand = ToOut (text good.0) ∷ [];
-      now = outside_of old;
-      begun = inr (good.0, good.1, inl (record { done_none = refl; at_hand = refl; same = refl }));
-      files = showing.reads.files;
-      out = λ out_told.
-          subst (λ (b : List ℕ). AppendsPrefix b out.written (text good.0 ++ [])) (sym (append-nil old.out.written))
-          (subst (λ (b : List ℕ). AppendsPrefix old.out.written out.written b) (sym (append-nil (text good.0))) (showing.prefix told out_told good.0 good.1));
-      err = λ err_told. appends_nothing (old.err.written ++ []) old.err.written [] (sym (append-nil old.err.written));
-      answered = sym (append-nil old.link.answers);
-      datagrams = refl;
-      writes = λ none. showing.reads.writes;
-    }
+    part_from (Doing (ToOut (text good.0)) Finish) (ShowingSteps kind asked name text) tells old old.store old.input
+    (with_out old store out) refl (λ done hand now by. inr (good.0, good.1, by))
+    (told_begun (text good.0) tells old store out (unwritten name old.store store showing.reads)
+    (λ out_told. showing.prefix told out_told good.0 good.1))
 
 -- a text was shown whole
 pub shown_whole : (kind : Kind) (asked : Option Format) (name : List ℕ) (text : QuotaValue → List ℕ) (may : Cause → List ℕ → Type 0) (tells : RunTells) (old : RunSeen) (store : StoreSeen) (out : SinkSeen)
@@ -58,29 +84,15 @@ pub shown_whole : (kind : Kind) (asked : Option Format) (name : List ℕ) (text 
     → (IsTrue tells.store → IsTrue tells.out → (value : QuotaValue) → IsView (old.store.files name) kind asked (Ok value)
     → out.written ≡ old.out.written ++ text value)
     → CarriesOut (ShowingSteps kind asked name text) showing_uses may tells old (with_out old store out) (Ok tt)
-shown_whole kind asked name text may tells old store out showing written = record {
-  done = λ told.
-      let good = showing.seen told.store in
-      record {
-        acts = ToOut (text good.0) ∷ [];
-        by_steps = inl (good.0, good.1, ([], old.store.files, refl, refl, record { acts_none = refl; same = outside_same old store showing.reads.files; ends = refl }));
-        done = record {
-          files = (old.store.files, refl, showing.reads.files);
-          out = λ out_told. written told.store out_told good.0 good.1 ∙ ap (λ (b : List ℕ). old.out.written ++ b) (sym (append-nil (text good.0)));
-          err = λ err_told. sym (append-nil old.err.written);
-          answered = sym (append-nil old.link.answers);
-          writes = λ none. showing.reads.writes;
-        };
-      };
-  refused = tt;
-  part = λ told. text_begun kind asked name text tells old store out showing told.store;
-  may_refuse = tt;
-  placed = tt;
-  only_reads = λ only. unwritten name old.store store showing.reads;
-  all_or_nothing = λ whole. tt;
-  quiet = λ no. refl;
-  later = record { store = showing.reads.later; input = omega arith; out = showing.later; err = omega arith; link = omega arith };
-}
+shown_whole kind asked name text may tells old store out showing written =
+    let same = unwritten name old.store store showing.reads in
+    carried_whole (ShowingSteps kind asked name text) showing_uses may tells old (with_out old store out) tt
+    (λ told.
+    let good = showing.seen told.store in
+    let has = told_steps (text good.0) tells old store out same (λ out_told. written told.store out_told good.0 good.1) in
+    record { acts = has.acts; by_steps = inl (good.0, good.1, has.by_steps); done = has.done })
+    (λ only. same) (λ no. refl)
+    (record { store = showing.reads.later; input = omega arith; out = showing.later; err = omega arith; link = omega arith })
 
 -- Why a text was not shown whole: its cause is no fault of the effect, and it is one that may be.
 pub record IsUnshown (asked : Option Format) (name : List ℕ) (tells : RunTells) (old : RunSeen) (store : StoreSeen) (out : SinkSeen) (cause : Cause) : Type 1 where
@@ -91,17 +103,13 @@ pub record IsUnshown (asked : Option Format) (name : List ℕ) (tells : RunTells
 pub shown_in_part : (kind : Kind) (asked : Option Format) (name : List ℕ) (text : QuotaValue → List ℕ) (tells : RunTells) (old : RunSeen) (store : StoreSeen) (out : SinkSeen) (cause : Cause)
     → IsShowing kind asked name text tells old store out → IsUnshown asked name tells old store out cause
     → CarriesOut (ShowingSteps kind asked name text) showing_uses (ShowingMayRefuse asked name) tells old (with_out old store out) (Err (refusal_of cause name))
-shown_in_part kind asked name text tells old store out cause showing unshown = record {
-  done = tt;
-  refused = unshown.reason _;
-  part = λ told. text_begun kind asked name text tells old store out showing told.store;
-  may_refuse = unshown.may;
-  placed = record { line = λ no. refl; input_line = λ no. refl };
-  only_reads = λ only. unwritten name old.store store showing.reads;
-  all_or_nothing = λ whole other. unwritten name old.store store showing.reads;
-  quiet = λ no. refl;
-  later = record { store = showing.reads.later; input = omega arith; out = showing.later; err = omega arith; link = omega arith };
-}
+shown_in_part kind asked name text tells old store out cause showing unshown =
+    refused_so (ShowingSteps kind asked name text) showing_uses (ShowingMayRefuse asked name) tells old (with_out old store out)
+    (refusal_of cause name)
+    (unwritten name old.store store showing.reads) refl
+    (record { store = showing.reads.later; input = omega arith; out = showing.later; err = omega arith; link = omega arith })
+    (λ told. text_begun kind asked name text tells old store out showing told.store) (unshown.reason _) unshown.may
+    (record { line = λ no. refl; input_line = λ no. refl })
 
 -- a damage that a call on an opened file answers is one of the format that was asked for
 pub damage_may : (asked : Option Format) (format : Format) (damage : Damage) → IsOpenedAs asked format → MayRefuse format (FileDamaged damage) → IsDamageAs asked damage

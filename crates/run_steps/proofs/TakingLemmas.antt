@@ -1,6 +1,6 @@
 -- Steps that read an input: what was carried out where it was refused, and where it was read and the next steps were carried
 -- out.
-use Rattle.std.proofs.Common.{◌≡◌, ℕ, ◌≤◌, Bool, false, IsTrue, List, [], Option, None, Some, Err, Result, refl, sym, ap, subst, arith, append-nil}
+use Rattle.std.proofs.Common.{◌≡◌, ℕ, ◌≤◌, Bool, false, IsTrue, List, [], Option, None, Some, Err, Result, refl, sym, ap, subst, arith}
 use Rattle.std.specs.Prelude.{IsSome}
 use Rattle.quota_blocks.specs.Behind.{IsBehind}
 use Rattle.quota_blocks.specs.Count.{Rose}
@@ -15,7 +15,7 @@ use Rattle.run_steps.specs.Meaning.{IsTaken}
 use Rattle.run_steps.specs.Run.{CarriesOut, HasReason, HasSteps, IsPlacedBy, Uses}
 use Rattle.run_steps.specs.Steps.{Steps, Then}
 use Rattle.run_steps.specs.Taking.{InputKind, InputMayRefuse, IsInputFault, Taking, file_said, input_said, reading, reads_whole}
-use Rattle.run_steps.proofs.OpeningLemmas.{unwritten, with_input, with_store}
+use Rattle.run_steps.proofs.OpeningLemmas.{none_done, refused_so, unwritten, with_input, with_store}
 use Rattle.run_steps.proofs.PartLemmas.{nothing_begun}
 use Rattle.run_steps.proofs.PhaseLemmas.{LeadsTo, carries_since, leads_looking, leads_reading, leads_same, outside_taken}
 
@@ -71,13 +71,7 @@ refused_taking name from is_whole read next tells old store input refusal reads 
   acts = [];
   by_steps = (leads_taking from is_whole read next (Refused refusal) (outside_of old) input.left said taken).ends [] (outside_of (with_input (with_store old store) input)) (Some refusal)
       (record { acts_none = refl; same = outside_taken old store input reads.files; ends = refl });
-  done = record {
-    files = reads.files;
-    out = λ told. sym (append-nil old.out.written);
-    err = λ told. sym (append-nil old.err.written);
-    answered = sym (append-nil old.link.answers);
-    writes = λ none. reads.writes;
-  };
+  done = none_done tells old store input (unwritten name old.store store reads);
 }
 
 -- why the input was not read
@@ -99,18 +93,15 @@ pub input_refused : {V : Type 0} (name : List ℕ) (what : InputKind) (from : Op
     → (IsWorldTold tells → HasTaken from false old.input.left input.left)
     → InputMayRefuse what from refusal.cause refusal.name → more refusal.cause refusal.name → IsPlacedBy uses refusal
     → CarriesOut (Taking from is_whole read next) uses more tells old (with_input (with_store old store) input) (Err refusal)
-input_refused name what from is_whole read next uses more tells old store input refusal reads le fault taken may allowed placed = record {
-  done = tt;
-  refused = input_reason uses what from tells old store input (input_said from read old.store.files old.input.left) refusal _ refusal.cause refusal.name fault may
-      (λ told is. refused_taking name from is_whole read next tells old store input refusal reads is (taken told));
-  part = λ told. nothing_begun (Taking from is_whole read next) tells old (with_input (with_store old store) input) reads.files (λ out. refl) (λ err. refl) refl refl reads.writes;
-  may_refuse = allowed;
-  placed = placed;
-  only_reads = λ only. unwritten name old.store store reads;
-  all_or_nothing = λ whole other. unwritten name old.store store reads;
-  quiet = λ no. refl;
-  later = record { store = reads.later; input = le; out = omega arith; err = omega arith; link = omega arith };
-}
+input_refused name what from is_whole read next uses more tells old store input refusal reads le fault taken may allowed placed =
+    let steps = Taking from is_whole read next in
+    let new = with_input (with_store old store) input in
+    refused_so steps uses more tells old new refusal (unwritten name old.store store reads) refl
+    (record { store = reads.later; input = le; out = omega arith; err = omega arith; link = omega arith })
+    (λ told. nothing_begun steps tells old new reads.files (λ out. refl) (λ err. refl) refl refl reads.writes)
+    (input_reason uses what from tells old store input (input_said from read old.store.files old.input.left) refusal _ refusal.cause
+    refusal.name fault may
+    (λ told is. refused_taking name from is_whole read next tells old store input refusal reads is (taken told))) allowed placed
 
 -- a reason is one where more is known of the counts and less is told
 pub fault_more : {V : Type 0} (sr sr' ir ir' told told' : Type 0) (said : Outcome V) (refusal : Refusal) (cause : Cause) → (sr → sr') → (ir → ir') → (told' → told)

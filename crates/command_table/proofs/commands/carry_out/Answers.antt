@@ -1,120 +1,60 @@
 use Rattle.std.proofs.Common.{ap, refl}
 use Rattle.std.proofs.lemmas.Result.{on_err_weaker, on_ok_weaker}
-use Rattle.command_table.proofs.CommandLemmas.{not_here_carried, of_refusal, of_refusal_weaker}
+use Rattle.command_table.proofs.CommandLemmas.{carried_alone, not_here_carried, of_refusal_weaker}
 use Rattle.command_table.proofs.commands.carry_out.Goals as goal
 
 pub returns-in-Report-clause-carries : goal.returns-in-Report-clause-carries
-returns-in-Report-clause-carries g c = rw c.in-Report.is (record {
-  carries = c.report_file.ensures.carries (g.I.Source.seen c.args.input.now) (g.E.Sink.seen c.args.err.now) (g.L.Link.seen c.args.link.now) g.I.Source.tells g.E.Sink.tells g.L.Link.tells c.args.invocation.line;
-  named = tt;
-  synced = on_ok_weaker c.report_file.result (λ added told. added) c.report_file.ensures.synced;
-  unfinished = of_refusal c.report_file.result _ (λ refusal failed. tt);
-  untaken = λ one. of_refusal c.report_file.result _ (λ refusal five. refl);
-  unlinked = λ told no. refl;
-  unbegun = λ reads. absurd (cc);
-})
+returns-in-Report-clause-carries g c =
+    rw c.in-Report.is (carried_alone _ _ _ _ _ _ tt refl refl (c.report_file.ensures.carries _ _ _ _ _ _ c.args.invocation.line)
+    tt (on_ok_weaker c.report_file.result (λ added told. added) c.report_file.ensures.synced))
 
 pub returns-in-SetLimits-clause-carries : goal.returns-in-SetLimits-clause-carries
-returns-in-SetLimits-clause-carries g c = rw c.in-SetLimits.is (record {
-  carries = c.edit_by_words.ensures.carries (g.I.Source.seen c.args.input.now) (g.O.Sink.seen c.args.out.now) (g.L.Link.seen c.args.link.now) g.I.Source.tells g.O.Sink.tells g.L.Link.tells;
-  named = c.edit_by_words.ensures.named refl;
-  synced = c.edit_by_words.ensures.synced;
-  unfinished = of_refusal c.edit_by_words.result _ (λ refusal failed. tt);
-  untaken = λ one. of_refusal c.edit_by_words.result _ (λ refusal five. refl);
-  unlinked = λ told no. refl;
-  unbegun = λ reads. absurd (cc);
-})
+returns-in-SetLimits-clause-carries g c =
+    rw c.in-SetLimits.is (carried_alone _ _ _ _ _ _ tt refl refl (c.edit_by_words.ensures.carries _ _ _ _ _ _)
+    (c.edit_by_words.ensures.named refl) c.edit_by_words.ensures.synced)
 
 pub returns-in-CopyLimits-clause-carries : goal.returns-in-CopyLimits-clause-carries
-returns-in-CopyLimits-clause-carries g c = rw c.in-CopyLimits.is (record {
-  carries = c.edit_by_words-in-CopyLimits.ensures.carries (g.I.Source.seen c.args.input.now) (g.O.Sink.seen c.args.out.now) (g.L.Link.seen c.args.link.now) g.I.Source.tells g.O.Sink.tells g.L.Link.tells;
-  named = c.edit_by_words-in-CopyLimits.ensures.named refl;
-  synced = c.edit_by_words-in-CopyLimits.ensures.synced;
-  unfinished = of_refusal c.edit_by_words-in-CopyLimits.result _ (λ refusal failed. tt);
-  untaken = λ one. of_refusal c.edit_by_words-in-CopyLimits.result _ (λ refusal five. refl);
-  unlinked = λ told no. refl;
-  unbegun = λ reads. absurd (cc);
-})
+returns-in-CopyLimits-clause-carries g c =
+    rw c.in-CopyLimits.is (carried_alone _ _ _ _ _ _ tt refl refl (c.edit_by_words-in-CopyLimits.ensures.carries _ _ _ _ _ _)
+    (c.edit_by_words-in-CopyLimits.ensures.named refl) c.edit_by_words-in-CopyLimits.ensures.synced)
 
 pub returns-in-SetGrace-clause-carries : goal.returns-in-SetGrace-clause-carries
-returns-in-SetGrace-clause-carries g c = rw c.in-SetGrace.is (record {
-  carries = c.edit_by_words-in-SetGrace.ensures.carries (g.I.Source.seen c.args.input.now) (g.O.Sink.seen c.args.out.now) (g.L.Link.seen c.args.link.now) g.I.Source.tells g.O.Sink.tells g.L.Link.tells;
-  named = c.edit_by_words-in-SetGrace.ensures.named refl;
-  synced = c.edit_by_words-in-SetGrace.ensures.synced;
-  unfinished = of_refusal c.edit_by_words-in-SetGrace.result _ (λ refusal failed. tt);
-  untaken = λ one. of_refusal c.edit_by_words-in-SetGrace.result _ (λ refusal five. refl);
-  unlinked = λ told no. refl;
-  unbegun = λ reads. absurd (cc);
-})
+returns-in-SetGrace-clause-carries g c =
+    rw c.in-SetGrace.is (carried_alone _ _ _ _ _ _ tt refl refl (c.edit_by_words-in-SetGrace.ensures.carries _ _ _ _ _ _)
+    (c.edit_by_words-in-SetGrace.ensures.named refl) c.edit_by_words-in-SetGrace.ensures.synced)
 
 pub returns-in-SetTimes-clause-carries : goal.returns-in-SetTimes-clause-carries
-returns-in-SetTimes-clause-carries g c = rw c.in-SetTimes.is (record {
-  carries = c.edit_by_words-in-SetTimes.ensures.carries (g.I.Source.seen c.args.input.now) (g.O.Sink.seen c.args.out.now) (g.L.Link.seen c.args.link.now) g.I.Source.tells g.O.Sink.tells g.L.Link.tells;
-  named = tt;
-  synced = c.edit_by_words-in-SetTimes.ensures.synced;
-  unfinished = of_refusal c.edit_by_words-in-SetTimes.result _ (λ refusal failed. tt);
-  untaken = λ one. of_refusal c.edit_by_words-in-SetTimes.result _ (λ refusal five. refl);
-  unlinked = λ told no. refl;
-  unbegun = λ reads. absurd (cc);
-})
+returns-in-SetTimes-clause-carries g c =
+    rw c.in-SetTimes.is (carried_alone _ _ _ _ _ _ tt refl refl (c.edit_by_words-in-SetTimes.ensures.carries _ _ _ _ _ _)
+    tt c.edit_by_words-in-SetTimes.ensures.synced)
 
 pub returns-in-PrintForm-clause-carries : goal.returns-in-PrintForm-clause-carries
-returns-in-PrintForm-clause-carries g c = rw c.in-PrintForm.is (record {
-  carries = c.print_by_word.ensures.carries (g.I.Source.seen c.args.input.now) (g.E.Sink.seen c.args.err.now) (g.L.Link.seen c.args.link.now) g.I.Source.tells g.E.Sink.tells g.L.Link.tells c.args.invocation.now c.args.invocation.line;
-  named = tt;
-  synced = on_ok_weaker c.print_by_word.result (λ added told. added) c.print_by_word.ensures.synced;
-  unfinished = of_refusal c.print_by_word.result _ (λ refusal failed. tt);
-  untaken = λ one. of_refusal c.print_by_word.result _ (λ refusal five. refl);
-  unlinked = λ told no. refl;
-  unbegun = λ reads. absurd (cc);
-})
+returns-in-PrintForm-clause-carries g c =
+    rw c.in-PrintForm.is (carried_alone _ _ _ _ _ _ tt refl refl (c.print_by_word.ensures.carries _ _ _ _ _ _ c.args.invocation.now c.args.invocation.line)
+    tt (on_ok_weaker c.print_by_word.result (λ added told. added) c.print_by_word.ensures.synced))
 
 pub returns-in-Batch-clause-carries : goal.returns-in-Batch-clause-carries
-returns-in-Batch-clause-carries g c = rw c.in-Batch.is (record {
-  carries = c.apply_lines.ensures.carries (g.O.Sink.seen c.args.out.now) (g.E.Sink.seen c.args.err.now) (g.L.Link.seen c.args.link.now) g.O.Sink.tells g.E.Sink.tells g.L.Link.tells c.args.invocation.line;
-  named = tt;
-  synced = c.apply_lines.ensures.synced;
-  unfinished = of_refusal c.apply_lines.result _ (λ refusal failed. tt);
-  untaken = λ one. of_refusal c.apply_lines.result _ (λ refusal five. refl);
-  unlinked = λ told no. refl;
-  unbegun = λ reads. absurd (cc);
-})
+returns-in-Batch-clause-carries g c =
+    rw c.in-Batch.is (carried_alone _ _ _ _ _ _ tt refl refl (c.apply_lines.ensures.carries _ _ _ _ _ _ c.args.invocation.line)
+    tt c.apply_lines.ensures.synced)
 
 pub returns-in-ApplyForm-clause-carries : goal.returns-in-ApplyForm-clause-carries
-returns-in-ApplyForm-clause-carries g c = rw c.in-ApplyForm.is (record {
-  carries = c.apply_by_word.ensures.carries (g.O.Sink.seen c.args.out.now) (g.L.Link.seen c.args.link.now) g.O.Sink.tells g.L.Link.tells;
-  named = c.apply_by_word.ensures.named;
-  synced = c.apply_by_word.ensures.synced;
-  unfinished = of_refusal c.apply_by_word.result _ (λ refusal failed. tt);
-  untaken = λ one. of_refusal c.apply_by_word.result _ (λ refusal five. refl);
-  unlinked = λ told no. refl;
-  unbegun = λ reads. absurd (cc);
-})
+returns-in-ApplyForm-clause-carries g c =
+    rw c.in-ApplyForm.is (carried_alone _ _ _ _ _ _ tt refl refl (c.apply_by_word.ensures.carries _ _ _ _)
+    c.apply_by_word.ensures.named c.apply_by_word.ensures.synced)
 
 pub returns-in-Check-clause-carries : goal.returns-in-Check-clause-carries
-returns-in-Check-clause-carries g c = rw c.in-Check.is (record {
-  carries = c.check_file.ensures.carries (g.O.Sink.seen c.args.out.now) (g.E.Sink.seen c.args.err.now) (g.L.Link.seen c.args.link.now) g.O.Sink.tells g.E.Sink.tells g.L.Link.tells c.args.invocation.line;
-  named = on_err_weaker c.check_file.result (λ same told. same) c.check_file.ensures.named;
-  synced = c.check_file.ensures.synced;
-  unfinished = of_refusal c.check_file.result _ (λ refusal failed. tt);
-  untaken = λ one. of_refusal c.check_file.result _ (λ refusal five. refl);
-  unlinked = λ told no. refl;
-  unbegun = λ reads. absurd (cc);
-})
+returns-in-Check-clause-carries g c =
+    rw c.in-Check.is (carried_alone _ _ _ _ _ _ tt refl refl (c.check_file.ensures.carries _ _ _ _ _ _ c.args.invocation.line)
+    (on_err_weaker c.check_file.result (λ same told. same) c.check_file.ensures.named) c.check_file.ensures.synced)
 
 pub convert_file-requires : goal.convert_file-requires
 convert_file-requires g c = rw c.in-Convert.is at c.requires.known
 
 pub returns-in-Convert-clause-carries : goal.returns-in-Convert-clause-carries
-returns-in-Convert-clause-carries g c = rw c.in-Convert.is (record {
-  carries = c.convert_file.ensures.carries (g.I.Source.seen c.args.input.now) (g.O.Sink.seen c.args.out.now) (g.E.Sink.seen c.args.err.now) (g.L.Link.seen c.args.link.now) g.I.Source.tells g.O.Sink.tells g.E.Sink.tells g.L.Link.tells c.args.invocation;
-  named = on_err_weaker c.convert_file.result (λ same told. same) c.convert_file.ensures.named;
-  synced = c.convert_file.ensures.synced;
-  unfinished = of_refusal c.convert_file.result _ (λ refusal failed. tt);
-  untaken = λ one. of_refusal c.convert_file.result _ (λ refusal five. refl);
-  unlinked = λ told no. refl;
-  unbegun = λ reads. absurd (cc);
-})
+returns-in-Convert-clause-carries g c =
+    rw c.in-Convert.is (carried_alone _ _ _ _ _ _ tt refl refl (c.convert_file.ensures.carries _ _ _ _ _ _ _ _ c.args.invocation)
+    (on_err_weaker c.convert_file.result (λ same told. same) c.convert_file.ensures.named) c.convert_file.ensures.synced)
 
 pub serve_files-requires-clause-some : goal.serve_files-requires-clause-some
 serve_files-requires-clause-some g c = (rw c.in-Serve.is at c.requires.known).0
@@ -137,12 +77,6 @@ pub returns-in-Script-clause-carries : goal.returns-in-Script-clause-carries
 returns-in-Script-clause-carries g c = rw (c.in-Script.is, c.unknown_command.ensures) (not_here_carried c.args.invocation _ _)
 
 pub returns-in-Generate-clause-carries : goal.returns-in-Generate-clause-carries
-returns-in-Generate-clause-carries g c = rw c.in-Generate.is (record {
-  carries = c.generate_file.ensures.carries (g.I.Source.seen c.args.input.now) (g.E.Sink.seen c.args.err.now) (g.L.Link.seen c.args.link.now) g.I.Source.tells g.E.Sink.tells g.L.Link.tells;
-  named = tt;
-  synced = c.generate_file.ensures.synced;
-  unfinished = of_refusal c.generate_file.result _ (λ refusal failed. tt);
-  untaken = λ one. of_refusal c.generate_file.result _ (λ refusal five. refl);
-  unlinked = λ told no. refl;
-  unbegun = λ reads. absurd (cc);
-})
+returns-in-Generate-clause-carries g c =
+    rw c.in-Generate.is (carried_alone _ _ _ _ _ _ tt refl refl (c.generate_file.ensures.carries _ _ _ _ _ _)
+    tt c.generate_file.ensures.synced)

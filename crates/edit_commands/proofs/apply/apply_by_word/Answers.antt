@@ -1,21 +1,13 @@
-use Rattle.std.proofs.Common.{[], inl, inr, ◌∙◌}
-use Rattle.std.specs.Prelude.{unwrap_or}
-use Rattle.run_steps.specs.Done.{seen_of, tells_of}
+use Rattle.std.proofs.Common.{inl, inr, ◌∙◌}
 use Rattle.run_steps.proofs.PhaseLemmas.{carries_naming, naming_refused}
 use Rattle.edit_commands.proofs.WordLemmas.{faulty_word_given, faulty_word_none}
 use Rattle.edit_commands.proofs.apply.apply_by_word.Goals as goal
 
 pub returns-in-Ok-clause-carries : goal.returns-in-Ok-clause-carries
 returns-in-Ok-clause-carries g c = λ out link out_tells link_tells.
-    let S = g.S.Store in
-    let I = g.I.Source in
-    let E = g.E.Sink in
     let read = c.in-Ok.ensures in
-    carries_naming (unwrap_or c.args.common.names []) c.args.common.kind c.args.common.names c.in-Ok.names _ _ _ _
-    (tells_of S.tells I.tells out_tells E.tells link_tells)
-    (seen_of (S.seen c.args.store.now) (I.seen c.args.input.now) out (E.seen c.args.err.now) link) (S.seen c.read_names.new.store)
-    (seen_of (S.seen c.apply_named.new.store) (I.seen c.apply_named.new.input) out (E.seen c.apply_named.new.err) link) c.apply_named.result
-    read.leaves read.read (λ cause said may. inr (c.in-Ok.names, read.given, may))
+    carries_naming _ c.args.common.kind c.args.common.names c.in-Ok.names _ _ _ _ _ _ _ _ _ read.leaves read.read
+    (λ cause said may. inr (c.in-Ok.names, read.given, may))
     (c.apply_named.ensures.carries out link out_tells link_tells)
 
 pub returns-in-Ok-clause-word : goal.returns-in-Ok-clause-word
@@ -29,14 +21,8 @@ returns-in-Ok-clause-store g c = λ refusal faulty.
 
 pub returns-in-Err-clause-carries : goal.returns-in-Err-clause-carries
 returns-in-Err-clause-carries g c = λ out link out_tells link_tells.
-    let S = g.S.Store in
-    let I = g.I.Source in
-    let E = g.E.Sink in
     let read = c.in-Err.ensures in
-    naming_refused c.args.common.kind c.args.common.names _ _ _
-    (tells_of S.tells I.tells out_tells E.tells link_tells)
-    (seen_of (S.seen c.args.store.now) (I.seen c.args.input.now) out (E.seen c.args.err.now) link) (S.seen c.read_names.new.store) c.in-Err.refusal
-    read.leaves read.refused read.may (λ may. inl may) read.placed
+    naming_refused c.args.common.kind c.args.common.names _ _ _ _ _ _ _ read.leaves read.refused read.may (λ may. inl may) read.placed
 
 pub returns-in-Err-clause-word : goal.returns-in-Err-clause-word
 returns-in-Err-clause-word g c = λ refusal faulty.

@@ -1,27 +1,15 @@
-use Rattle.std.proofs.Common.{[], inl, inr}
-use Rattle.std.specs.Prelude.{unwrap_or}
-use Rattle.run_steps.specs.Done.{seen_of, tells_of}
+use Rattle.std.proofs.Common.{inl, inr}
 use Rattle.run_steps.proofs.PhaseLemmas.{carries_naming, naming_refused}
 use Rattle.edit_commands.proofs.batch.apply_lines.Goals as goal
 
 pub returns-in-Ok-clause-carries : goal.returns-in-Ok-clause-carries
 returns-in-Ok-clause-carries g c = λ out err link out_tells err_tells link_tells line.
-    let S = g.S.Store in
-    let I = g.I.Source in
     let read = c.in-Ok.ensures in
-    carries_naming (unwrap_or c.args.common.names []) c.args.common.kind c.args.common.names c.in-Ok.names _ _ _ _
-    (tells_of S.tells I.tells out_tells err_tells link_tells)
-    (seen_of (S.seen c.args.store.now) (I.seen c.args.input.now) out err link) (S.seen c.read_names.new.store)
-    (seen_of (S.seen c.apply_named.new.store) (I.seen c.apply_named.new.input) out err link) c.apply_named.result
-    read.leaves read.read (λ cause said may. inr (c.in-Ok.names, read.given, may))
+    carries_naming _ c.args.common.kind c.args.common.names c.in-Ok.names _ _ _ _ _ _ _ _ _ read.leaves read.read
+    (λ cause said may. inr (c.in-Ok.names, read.given, may))
     (c.apply_named.ensures.carries out err link out_tells err_tells link_tells)
 
 pub returns-in-Err-clause-carries : goal.returns-in-Err-clause-carries
 returns-in-Err-clause-carries g c = λ out err link out_tells err_tells link_tells line.
-    let S = g.S.Store in
-    let I = g.I.Source in
     let read = c.in-Err.ensures in
-    naming_refused c.args.common.kind c.args.common.names _ _ _
-    (tells_of S.tells I.tells out_tells err_tells link_tells)
-    (seen_of (S.seen c.args.store.now) (I.seen c.args.input.now) out err link) (S.seen c.read_names.new.store) c.in-Err.refusal
-    read.leaves read.refused read.may (λ may. inl may) read.placed
+    naming_refused c.args.common.kind c.args.common.names _ _ _ _ _ _ _ read.leaves read.refused read.may (λ may. inl may) read.placed

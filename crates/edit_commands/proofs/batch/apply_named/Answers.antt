@@ -1,31 +1,19 @@
 use Rattle.std.proofs.Common.{inl, inr, sym}
-use Rattle.run_steps.specs.Done.{seen_of, tells_of}
 use Rattle.run_steps.proofs.OpeningLemmas.{not_opened}
 use Rattle.run_steps.proofs.PhaseLemmas.{carries_opening}
 use Rattle.edit_commands.proofs.batch.apply_named.Goals as goal
 
 pub returns-in-Ok-clause-carries : goal.returns-in-Ok-clause-carries
 returns-in-Ok-clause-carries g c = λ out err link out_tells err_tells link_tells.
-    let S = g.S.Store in
-    let I = g.I.Source in
     let opened = c.in-Ok.ensures in
     let file = c.as_str.ensures in
-    carries_opening c.args.file c.args.kind c.args.format _ _ _ _
-    (tells_of S.tells I.tells out_tells err_tells link_tells)
-    (seen_of (S.seen c.args.store.now) (I.seen c.args.input.now) out err link) (S.seen c.open_file.new.store)
-    (seen_of (S.seen c.apply_opened.new.store) (I.seen c.apply_opened.new.input) out err link) c.apply_opened.result
-    (rw file at opened.leaves) (λ told. rw file at (opened.seen told)) (λ cause said may. may)
+    carries_opening c.args.file c.args.kind c.args.format _ _ _ _ _ _ _ _ _ (rw file at opened.leaves)
+    (λ told. rw file at (opened.seen told)) (λ cause said may. may)
     (λ value view. c.apply_opened.ensures.carries c.args.format opened.as_asked value (λ told. opened.held told value (rw (sym file) at (view told)))
     out err link out_tells err_tells link_tells)
 
 pub returns-in-Err-clause-carries : goal.returns-in-Err-clause-carries
 returns-in-Err-clause-carries g c = λ out err link out_tells err_tells link_tells.
-    let S = g.S.Store in
-    let I = g.I.Source in
     rw (c.of.ensures, c.opening_cause.ensures)
-    (not_opened c.args.kind c.args.format c.args.file _ _ _
-    (tells_of S.tells I.tells out_tells err_tells link_tells)
-    (seen_of (S.seen c.args.store.now) (I.seen c.args.input.now) out err link)
-    (S.seen c.open_file.new.store) c.in-Err.fault
-    (rw c.as_str.ensures at c.in-Err.ensures.refused) (rw c.as_str.ensures at c.in-Err.ensures.leaves)
-    (λ cause may. inl (inr may)))
+    (not_opened c.args.kind c.args.format c.args.file _ _ _ _ _ _ c.in-Err.fault
+    (rw c.as_str.ensures at c.in-Err.ensures.refused) (rw c.as_str.ensures at c.in-Err.ensures.leaves) (λ cause may. inl (inr may)))

@@ -1,10 +1,9 @@
-use Rattle.std.proofs.Common.{false, [], Option, Ok, Err, inl, inr, sym, ap, subst}
-use Rattle.std.specs.Prelude.{IfSome, unwrap_or}
+use Rattle.std.proofs.Common.{false, Option, inl, inr, sym, ap, subst}
+use Rattle.std.specs.Prelude.{IfSome}
 use Rattle.std.proofs.lemmas.Bool.{false≢true}
 use Rattle.quota_blocks.specs.World.{World}
 use Rattle.quota_map.specs.AnyFile.{HoldsAny}
 use Rattle.refusals.specs.declared.reason.Refusal.{Refusal}
-use Rattle.run_steps.specs.Done.{seen_of, tells_of}
 use Rattle.run_steps.specs.Taking.{Lines, input_name}
 use Rattle.edit_commands.specs.Batch.{Applying, Asked, IsOfLine, LineEditMayRefuse, is_to_end, line_uses}
 use Rattle.edit_commands.proofs.BatchLemmas.{ends_none, then_ended, then_refused, then_stopped}
@@ -14,76 +13,53 @@ use Rattle.edit_commands.proofs.batch.apply_opened.Goals as goal
 
 pub returns-in-Some-clause-carries : goal.returns-in-Some-clause-carries
 returns-in-Some-clause-carries g c = λ format as_asked value held out err link out_tells err_tells link_tells.
-    let S = g.S.Store in
-    let I = g.I.Source in
     let took = c.in-Ok.ensures in
-    let tells = tells_of S.tells I.tells out_tells err_tells link_tells in
-    let old = seen_of (S.seen c.args.store.now) (I.seen c.args.input.now) out err link in
-    let middle = seen_of (S.seen c.take_batch.new.store) (I.seen c.take_batch.new.input) out err link in
-    let new = seen_of (S.seen c.edit_all.new.store) (I.seen c.take_batch.new.input) out err link in
     let asked : Asked = record { edits = c.in-Ok.batch.edits.items; refusal = c.in-Ok.batch.refusal } in
     let may = subst (λ (o : Option Refusal). IfSome o (IsOfLine c.args.names.now (input_name c.args.from))) c.in-Some.is took.may_ask in
-    carries_taking (unwrap_or c.args.from []) c.args.from is_to_end _ (Applying c.args.file c.args.now value) asked line_uses _ _ tells old
-    (S.seen c.take_batch.new.store) (I.seen c.take_batch.new.input) new (Err c.in-Some.refusal)
+    carries_taking _ c.args.from is_to_end _ (Applying c.args.file c.args.now value) asked line_uses _ _ _ _ _ _ _ _
     took.leaves took.later (λ told. took.read told.store told.input)
-    (λ told. has_taken c.args.from (is_to_end asked) _ _ (took.behind told.input) (λ all none. took.ended (ends_none asked.refusal all) none told.input) (λ some. ap (λ i. (I.seen i).left) (took.untouched some)))
-    (λ cause said may. may)
-    (then_refused c.args.file c.args.now value c.args.names.now (input_name c.args.from) asked c.in-Some.refusal (LineEditMayRefuse format c.args.file) _ tells middle new
+    (λ told. has_taken c.args.from (is_to_end asked) _ _ (took.behind told.input)
+    (λ all none. took.ended (ends_none asked.refusal all) none told.input)
+    (λ some. ap (λ i. (g.I.Source.seen i).left) (took.untouched some))) (λ cause said may. may)
+    (then_refused _ _ _ c.args.names.now (input_name c.args.from) asked c.in-Some.refusal (LineEditMayRefuse format c.args.file) _ _ _ _
     c.in-Some.is may (inr (inr may.may))
     (rw c.as_slice.ensures.value at (c.in-Ok-edit_all.ensures.carries format as_asked value
-    (λ told. subst (λ (files : World). HoldsAny S.tells files c.args.opened value) (sym took.leaves.files) (held told))
-    (I.seen c.take_batch.new.input) out err link I.tells out_tells err_tells link_tells)))
+    (λ told. subst (λ (files : World). HoldsAny g.S.Store.tells files c.args.opened value) (sym took.leaves.files) (held told))
+    (g.I.Source.seen c.take_batch.new.input) out err link g.I.Source.tells out_tells err_tells link_tells)))
 
 pub returns-in-Ok-edit_all-clause-carries : goal.returns-in-Ok-edit_all-clause-carries
 returns-in-Ok-edit_all-clause-carries g c = λ format as_asked value held out err link out_tells err_tells link_tells.
-    let S = g.S.Store in
-    let I = g.I.Source in
     let took = c.in-Ok.ensures in
-    let tells = tells_of S.tells I.tells out_tells err_tells link_tells in
-    let old = seen_of (S.seen c.args.store.now) (I.seen c.args.input.now) out err link in
-    let middle = seen_of (S.seen c.take_batch.new.store) (I.seen c.take_batch.new.input) out err link in
-    let new = seen_of (S.seen c.edit_all.new.store) (I.seen c.take_batch.new.input) out err link in
     let asked : Asked = record { edits = c.in-Ok.batch.edits.items; refusal = c.in-Ok.batch.refusal } in
-    carries_taking (unwrap_or c.args.from []) c.args.from is_to_end _ (Applying c.args.file c.args.now value) asked line_uses _ _ tells old
-    (S.seen c.take_batch.new.store) (I.seen c.take_batch.new.input) new (Ok tt)
+    carries_taking _ c.args.from is_to_end _ (Applying c.args.file c.args.now value) asked line_uses _ _ _ _ _ _ _ _
     took.leaves took.later (λ told. took.read told.store told.input)
-    (λ told. has_taken c.args.from (is_to_end asked) _ _ (took.behind told.input) (λ all none. took.ended (ends_none asked.refusal all) none told.input) (λ some. ap (λ i. (I.seen i).left) (took.untouched some)))
-    (λ cause said may. may)
-    (then_ended c.args.file c.args.now value asked (LineEditMayRefuse format c.args.file) _ tells middle new c.in-None.is
+    (λ told. has_taken c.args.from (is_to_end asked) _ _ (took.behind told.input)
+    (λ all none. took.ended (ends_none asked.refusal all) none told.input)
+    (λ some. ap (λ i. (g.I.Source.seen i).left) (took.untouched some))) (λ cause said may. may)
+    (then_ended _ _ _ asked (LineEditMayRefuse format c.args.file) _ _ _ _ c.in-None.is
     (rw c.as_slice.ensures.value at (c.in-Ok-edit_all.ensures.carries format as_asked value
-    (λ told. subst (λ (files : World). HoldsAny S.tells files c.args.opened value) (sym took.leaves.files) (held told))
-    (I.seen c.take_batch.new.input) out err link I.tells out_tells err_tells link_tells)))
+    (λ told. subst (λ (files : World). HoldsAny g.S.Store.tells files c.args.opened value) (sym took.leaves.files) (held told))
+    (g.I.Source.seen c.take_batch.new.input) out err link g.I.Source.tells out_tells err_tells link_tells)))
 
 pub returns-in-Ok-clause-carries : goal.returns-in-Ok-clause-carries
 returns-in-Ok-clause-carries g c = λ format as_asked value held out err link out_tells err_tells link_tells.
-    let S = g.S.Store in
-    let I = g.I.Source in
     let took = c.in-Ok.ensures in
-    let tells = tells_of S.tells I.tells out_tells err_tells link_tells in
-    let old = seen_of (S.seen c.args.store.now) (I.seen c.args.input.now) out err link in
-    let middle = seen_of (S.seen c.take_batch.new.store) (I.seen c.take_batch.new.input) out err link in
-    let new = seen_of (S.seen c.edit_all.new.store) (I.seen c.take_batch.new.input) out err link in
     let asked : Asked = record { edits = c.in-Ok.batch.edits.items; refusal = c.in-Ok.batch.refusal } in
-    carries_taking (unwrap_or c.args.from []) c.args.from is_to_end _ (Applying c.args.file c.args.now value) asked line_uses _ _ tells old
-    (S.seen c.take_batch.new.store) (I.seen c.take_batch.new.input) new (Err c.in-Err-edit_all.refusal)
+    carries_taking _ c.args.from is_to_end _ (Applying c.args.file c.args.now value) asked line_uses _ _ _ _ _ _ _ _
     took.leaves took.later (λ told. took.read told.store told.input)
-    (λ told. has_taken c.args.from (is_to_end asked) _ _ (took.behind told.input) (λ all none. took.ended (ends_none asked.refusal all) none told.input) (λ some. ap (λ i. (I.seen i).left) (took.untouched some)))
-    (λ cause said may. may)
-    (then_stopped c.args.file c.args.now value asked c.in-Err-edit_all.refusal (LineEditMayRefuse format c.args.file) _ tells middle new (λ cause said may. inl may)
+    (λ told. has_taken c.args.from (is_to_end asked) _ _ (took.behind told.input)
+    (λ all none. took.ended (ends_none asked.refusal all) none told.input)
+    (λ some. ap (λ i. (g.I.Source.seen i).left) (took.untouched some))) (λ cause said may. may)
+    (then_stopped _ _ _ asked c.in-Err-edit_all.refusal (LineEditMayRefuse format c.args.file) _ _ _ _ (λ cause said may. inl may)
     (rw c.as_slice.ensures.value at (c.in-Err-edit_all.ensures.carries format as_asked value
-    (λ told. subst (λ (files : World). HoldsAny S.tells files c.args.opened value) (sym took.leaves.files) (held told))
-    (I.seen c.take_batch.new.input) out err link I.tells out_tells err_tells link_tells)))
+    (λ told. subst (λ (files : World). HoldsAny g.S.Store.tells files c.args.opened value) (sym took.leaves.files) (held told))
+    (g.I.Source.seen c.take_batch.new.input) out err link g.I.Source.tells out_tells err_tells link_tells)))
 
 pub returns-clause-carries : goal.returns-clause-carries
 returns-clause-carries g c = λ format as_asked value held out err link out_tells err_tells link_tells.
-    let S = g.S.Store in
-    let I = g.I.Source in
     let took = c.in-Err.ensures in
-    input_refused (unwrap_or c.args.from []) Lines c.args.from is_to_end _ (Applying c.args.file c.args.now value) _ _
-    (tells_of S.tells I.tells out_tells err_tells link_tells)
-    (seen_of (S.seen c.args.store.now) (I.seen c.args.input.now) out err link)
-    (S.seen c.take_batch.new.store) (I.seen c.take_batch.new.input) c.in-Err.refusal
-    took.leaves took.later
+    input_refused _ Lines c.args.from is_to_end _ (Applying c.args.file c.args.now value) _ _ _ _ _ _ _ took.leaves took.later
     (fault_more _ _ _ _ _ _ _ c.in-Err.refusal c.in-Err.refusal.cause (λ rose. rose) (λ rose. rose) (λ told. (told.store, told.input)) took.refused)
-    (λ told. has_taken c.args.from false _ _ (took.behind told.input) (λ all. absurd (false≢true all)) (λ some. ap (λ i. (I.seen i).left) (took.untouched some)))
+    (λ told. has_taken c.args.from false _ _ (took.behind told.input) (λ all. absurd (false≢true all))
+    (λ some. ap (λ i. (g.I.Source.seen i).left) (took.untouched some)))
     took.may (inr (inl took.may)) (placed_nowhere line_uses c.in-Err.refusal took.placed)

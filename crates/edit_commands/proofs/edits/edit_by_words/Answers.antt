@@ -1,8 +1,6 @@
-use Rattle.std.proofs.Common.{[], inl, inr, ap, ◌∙◌}
-use Rattle.std.specs.Prelude.{unwrap_or}
+use Rattle.std.proofs.Common.{inl, inr, ap, ◌∙◌}
 use Rattle.std.proofs.lemmas.Result.{on_err_weaker}
 use Rattle.quota_blocks.specs.World.{World}
-use Rattle.run_steps.specs.Done.{seen_of, tells_of}
 use Rattle.edit_commands.specs.EditWords.{names_wanted}
 use Rattle.run_steps.proofs.PhaseLemmas.{carries_naming, naming_refused}
 use Rattle.edit_commands.proofs.WordLemmas.{faulty_given, faulty_none}
@@ -10,16 +8,10 @@ use Rattle.edit_commands.proofs.edits.edit_by_words.Goals as goal
 
 pub returns-in-Ok-clause-carries : goal.returns-in-Ok-clause-carries
 returns-in-Ok-clause-carries g c = λ input out link input_tells out_tells link_tells.
-    let S = g.S.Store in
-    let E = g.E.Sink in
     let read = rw c.names_wanted-names.ensures at c.in-Ok.ensures in
-    let wanted = names_wanted c.args.words c.args.common.names in
-    carries_naming (unwrap_or wanted []) c.args.common.kind wanted c.in-Ok.names _ _ _ _
-    (tells_of S.tells input_tells out_tells E.tells link_tells)
-    (seen_of (S.seen c.args.store.now) input out (E.seen c.args.err.now) link) (S.seen c.read_names.new.store)
-    (seen_of (S.seen c.edit_named.new.store) input out (E.seen c.edit_named.new.err) link) c.edit_named.result
-    read.leaves read.read (λ cause said may. inr (c.in-Ok.names, read.given, may))
-    (c.edit_named.ensures.carries input out link input_tells out_tells link_tells)
+    carries_naming _ c.args.common.kind (names_wanted c.args.words c.args.common.names) c.in-Ok.names _ _ _ _ _ _ _ _ _ read.leaves
+    read.read
+    (λ cause said may. inr (c.in-Ok.names, read.given, may)) (c.edit_named.ensures.carries input out link input_tells out_tells link_tells)
 
 pub returns-in-Ok-clause-word : goal.returns-in-Ok-clause-word
 returns-in-Ok-clause-word g c = λ refusal faulty.
@@ -43,13 +35,9 @@ returns-in-Ok-clause-named g c = λ no.
 
 pub returns-in-Err-clause-carries : goal.returns-in-Err-clause-carries
 returns-in-Err-clause-carries g c = λ input out link input_tells out_tells link_tells.
-    let S = g.S.Store in
-    let E = g.E.Sink in
     let read = rw c.names_wanted-names.ensures at c.in-Err.ensures in
-    naming_refused c.args.common.kind (names_wanted c.args.words c.args.common.names) _ _ _
-    (tells_of S.tells input_tells out_tells E.tells link_tells)
-    (seen_of (S.seen c.args.store.now) input out (E.seen c.args.err.now) link) (S.seen c.read_names.new.store) c.in-Err.refusal
-    read.leaves read.refused read.may (λ may. inl may) read.placed
+    naming_refused c.args.common.kind (names_wanted c.args.words c.args.common.names) _ _ _ _ _ _ _ read.leaves read.refused read.may
+    (λ may. inl may) read.placed
 
 pub returns-in-Err-clause-word : goal.returns-in-Err-clause-word
 returns-in-Err-clause-word g c = λ refusal faulty.

@@ -1,115 +1,77 @@
-use Rattle.std.proofs.Common.{◌≡◌, ℕ, IsTrue, List, Err, Ok, inl, inr, refl, sym, ap, ◌∙◌}
+use Rattle.std.proofs.Common.{◌≡◌, ℕ, IsTrue, List, inl, inr, refl, sym, ap, ◌∙◌}
 use Rattle.std.proofs.lemmas.Bool.{false≢true}
 use Rattle.quota_blocks.specs.QuotaFile.{FileSeen}
 use Rattle.quota_blocks.specs.World.{World}
 use Rattle.quota_blocks.proofs.FrameLemmas.{adds_none-then}
-use Rattle.quota_map.specs.AnyFile.{HoldsAny, any_seen}
+use Rattle.quota_map.specs.AnyFile.{any_seen}
 use Rattle.quota_map.specs.View.{fresh_seen}
-use Rattle.refusals.specs.declared.cause.Cause.TheVariants.{SinkFault}
-use Rattle.refusals.specs.Refusals.{refusal_of}
-use Rattle.run_steps.specs.Changing.{edit_uses}
-use Rattle.run_steps.specs.Done.{seen_of, tells_of}
 use Rattle.edit_commands.specs.Edits.{edit_cause, warnings}
-use Rattle.edit_commands.specs.EditWords.{edit_meant, edit_warns, skipped_by}
+use Rattle.edit_commands.specs.EditWords.{edit_meant, skipped_by}
 use Rattle.edit_commands.proofs.EditFileLemmas.{any_cause, any_made, any_refused, file_edit_may, keeps_format, skips_quiet, skips_warn}
-use Rattle.edit_commands.proofs.EditLemmas.{edit_made, edit_unsaid, with_said}
+use Rattle.edit_commands.proofs.EditLemmas.{edit_made, edit_unsaid}
 use Rattle.edit_commands.proofs.RefusedEditLemmas.{edit_may, edit_unmade}
-use Rattle.run_steps.proofs.OpeningLemmas.{not_opened, with_store}
+use Rattle.run_steps.proofs.OpeningLemmas.{not_opened}
 use Rattle.run_steps.proofs.PhaseLemmas.{carries_opening}
 use Rattle.edit_commands.proofs.edits.edit_file.Goals as goal
 
 pub returns-in-Ok-write_warnings-clause-carries : goal.returns-in-Ok-write_warnings-clause-carries
 returns-in-Ok-write_warnings-clause-carries g c = λ input out link input_tells out_tells link_tells.
-    let S = g.S.Store in
-    let E = g.E.Sink in
     let opened = c.in-Ok.ensures in
     let name = c.as_str.ensures in
-    let file = c.args.file in
-    let edit = edit_meant c.args.edit.now c.args.invocation.now in
-    let keeps = keeps_format c.args.edit.now c.args.invocation.now in
-    let tells = tells_of S.tells input_tells out_tells E.tells link_tells in
-    let old = seen_of (S.seen c.args.store.now) input out (E.seen c.args.err.now) link in
-    let before = S.seen c.open_file.new.store in
-    let after = S.seen c.make_edit.new.store in
-    let format = (any_seen c.in-Ok.opened).format in
-    let was : any_seen c.in-Ok.opened ≡ fresh_seen file format = opened.fresh ∙ ap (λ (n : List ℕ). fresh_seen n format) name in
+    let was = opened.fresh ∙ ap (λ (n : List ℕ). fresh_seen n (any_seen c.in-Ok.opened).format) name in
     let made = c.in-Ok-make_edit.ensures in
     let said = c.in-Ok-write_warnings.ensures in
-    carries_opening file c.args.kind c.args.format _ (edit_uses (edit_warns c.args.edit.now)) _ _ tells old before (with_said old after (E.seen c.write_warnings.new.err)) (Ok tt)
+    carries_opening c.args.file c.args.kind c.args.format _ _ _ _ _ _ (g.S.Store.seen c.open_file.new.store) _ _
     (rw name at opened.leaves) (λ told. rw name at (opened.seen told)) (λ cause may allowed. allowed) (λ value view.
-    let held : IsTrue S.tells → HoldsAny S.tells before.files c.in-Ok.opened value = λ told. opened.held told value (rw (sym name) at (view told)) in
-    edit_made file edit value (warnings c.args.invocation.line (skipped_by c.args.edit.now value)) (edit_warns c.args.edit.now) _ tells (with_store old before) after (E.seen c.write_warnings.new.err)
-    (any_made S.tells edit c.in-Ok.opened c.make_edit.new.opened before after file format value c.in-Ok-make_edit.skipped keeps was held made.edits)
+    let held = λ (told : IsTrue g.S.Store.tells). opened.held told value (rw (sym name) at (view told)) in
+    edit_made c.args.file (edit_meant c.args.edit.now c.args.invocation.now) value
+    (warnings c.args.invocation.line (skipped_by c.args.edit.now value)) _ _ _ _ _ _
+    (any_made _ _ _ _ _ _ _ _ value c.in-Ok-make_edit.skipped (keeps_format c.args.edit.now c.args.invocation.now) was held made.edits)
     (λ told err_told. rw (made.skipped value (held told)) at (said.ok err_told))
-    (λ no. ap (λ e. E.seen e) (said.quiet (skips_quiet c.args.edit.now c.in-Ok-make_edit.skipped made.skips no)))
-    said.later)
+    (λ no. ap (λ e. g.E.Sink.seen e) (said.quiet (skips_quiet c.args.edit.now c.in-Ok-make_edit.skipped made.skips no))) said.later)
 
 pub returns-in-Err-write_warnings-clause-carries : goal.returns-in-Err-write_warnings-clause-carries
 returns-in-Err-write_warnings-clause-carries g c = λ input out link input_tells out_tells link_tells.
-    let S = g.S.Store in
-    let E = g.E.Sink in
     let opened = c.in-Ok.ensures in
     let name = c.as_str.ensures in
-    let file = c.args.file in
-    let edit = edit_meant c.args.edit.now c.args.invocation.now in
-    let keeps = keeps_format c.args.edit.now c.args.invocation.now in
-    let tells = tells_of S.tells input_tells out_tells E.tells link_tells in
-    let old = seen_of (S.seen c.args.store.now) input out (E.seen c.args.err.now) link in
-    let before = S.seen c.open_file.new.store in
-    let after = S.seen c.make_edit.new.store in
-    let format = (any_seen c.in-Ok.opened).format in
-    let was : any_seen c.in-Ok.opened ≡ fresh_seen file format = opened.fresh ∙ ap (λ (n : List ℕ). fresh_seen n format) name in
+    let was = opened.fresh ∙ ap (λ (n : List ℕ). fresh_seen n (any_seen c.in-Ok.opened).format) name in
     let made = c.in-Ok-make_edit.ensures in
     let said = c.in-Err-write_warnings.ensures in
     let warns = skips_warn c.args.edit.now c.in-Ok-make_edit.skipped made.skips said.some in
     rw c.of.ensures
-    (carries_opening file c.args.kind c.args.format _ (edit_uses (edit_warns c.args.edit.now)) _ _ tells old before (with_said old after (E.seen c.write_warnings.new.err)) (Err (refusal_of SinkFault file))
+    (carries_opening c.args.file c.args.kind c.args.format _ _ _ _ _ _ (g.S.Store.seen c.open_file.new.store) _ _
     (rw name at opened.leaves) (λ told. rw name at (opened.seen told)) (λ cause may allowed. allowed) (λ value view.
-    let held : IsTrue S.tells → HoldsAny S.tells before.files c.in-Ok.opened value = λ told. opened.held told value (rw (sym name) at (view told)) in
-    edit_unsaid file edit value (warnings c.args.invocation.line (skipped_by c.args.edit.now value)) (edit_warns c.args.edit.now) _ tells (with_store old before) after (E.seen c.write_warnings.new.err)
-    (any_made S.tells edit c.in-Ok.opened c.make_edit.new.opened before after file format value c.in-Ok-make_edit.skipped keeps was held made.edits)
-    (λ told err_told. rw (made.skipped value (held told)) at (said.fault err_told))
-    warns said.cause said.later (inr (inr (warns, refl)))))
+    let held = λ (told : IsTrue g.S.Store.tells). opened.held told value (rw (sym name) at (view told)) in
+    edit_unsaid c.args.file (edit_meant c.args.edit.now c.args.invocation.now) value
+    (warnings c.args.invocation.line (skipped_by c.args.edit.now value)) _ _ _ _ _ _
+    (any_made _ _ _ _ _ _ _ _ value c.in-Ok-make_edit.skipped (keeps_format c.args.edit.now c.args.invocation.now) was held made.edits)
+    (λ told err_told. rw (made.skipped value (held told)) at (said.fault err_told)) warns said.cause said.later (inr (inr (warns, refl)))))
 
 pub returns-in-Err-make_edit-clause-carries : goal.returns-in-Err-make_edit-clause-carries
 returns-in-Err-make_edit-clause-carries g c = λ input out link input_tells out_tells link_tells.
-    let S = g.S.Store in
-    let E = g.E.Sink in
     let opened = c.in-Ok.ensures in
     let name = c.as_str.ensures in
-    let file = c.args.file in
-    let edit = edit_meant c.args.edit.now c.args.invocation.now in
-    let keeps = keeps_format c.args.edit.now c.args.invocation.now in
-    let tells = tells_of S.tells input_tells out_tells E.tells link_tells in
-    let old = seen_of (S.seen c.args.store.now) input out (E.seen c.args.err.now) link in
-    let before = S.seen c.open_file.new.store in
-    let after = S.seen c.make_edit.new.store in
-    let format = (any_seen c.in-Ok.opened).format in
-    let was : any_seen c.in-Ok.opened ≡ fresh_seen file format = opened.fresh ∙ ap (λ (n : List ℕ). fresh_seen n format) name in
+    let was = opened.fresh ∙ ap (λ (n : List ℕ). fresh_seen n (any_seen c.in-Ok.opened).format) name in
     let made = c.in-Err-make_edit.ensures in
-    let fault = c.in-Err-make_edit.fault in
     let cause = made.edits.cause in
+    let keeps = keeps_format c.args.edit.now c.args.invocation.now in
     rw (c.of-in-Err-make_edit.ensures, c.edit_cause.ensures)
-    (carries_opening file c.args.kind c.args.format _ (edit_uses (edit_warns c.args.edit.now)) _ _ tells old before (with_store old after) (Err (refusal_of (edit_cause fault) file))
+    (carries_opening c.args.file c.args.kind c.args.format _ _ _ _ _ _ (g.S.Store.seen c.open_file.new.store) _ _
     (rw name at opened.leaves) (λ told. rw name at (opened.seen told)) (λ cause may allowed. allowed) (λ value view.
-    let held : IsTrue S.tells → HoldsAny S.tells before.files c.in-Ok.opened value = λ told. opened.held told value (rw (sym name) at (view told)) in
-    edit_unmade file edit value (warnings c.args.invocation.line (skipped_by c.args.edit.now value)) (edit_warns c.args.edit.now) _ tells (with_store old before) after (HoldsAny S.tells before.files c.in-Ok.opened) fault held
-    (any_refused file edit S.tells c.in-Ok.opened c.make_edit.new.opened before after format value fault keeps was held made.edits)
-    (any_cause S.tells edit c.in-Ok.opened c.make_edit.new.opened before after file format fault keeps was cause)
-    (file_edit_may c.args.format c.args.edit.now file c.args.invocation.now (edit_cause fault) file
-    (edit_may c.args.format file edit format _ _ _ _ fault opened.as_asked cause.may cause.passes cause.id cause.field cause.refused))))
+    let held = λ (told : IsTrue g.S.Store.tells). opened.held told value (rw (sym name) at (view told)) in
+    edit_unmade c.args.file (edit_meant c.args.edit.now c.args.invocation.now) value
+    (warnings c.args.invocation.line (skipped_by c.args.edit.now value)) _ _ _ _ _ _ c.in-Err-make_edit.fault held
+    (any_refused c.args.file _ _ _ _ _ _ _ value c.in-Err-make_edit.fault keeps was held made.edits)
+    (any_cause _ _ _ _ _ _ c.args.file _ c.in-Err-make_edit.fault keeps was cause)
+    (file_edit_may c.args.format c.args.edit.now c.args.file c.args.invocation.now (edit_cause c.in-Err-make_edit.fault) c.args.file
+    (edit_may c.args.format c.args.file (edit_meant c.args.edit.now c.args.invocation.now) (any_seen c.in-Ok.opened).format _ _ _ _
+    c.in-Err-make_edit.fault opened.as_asked cause.may cause.passes cause.id cause.field cause.refused))))
 
 pub returns-in-Err-clause-carries : goal.returns-in-Err-clause-carries
 returns-in-Err-clause-carries g c = λ input out link input_tells out_tells link_tells.
-    let S = g.S.Store in
-    let E = g.E.Sink in
     rw (c.of-in-Err.ensures, c.opening_cause.ensures)
-    (not_opened c.args.kind c.args.format c.args.file _ _ _
-    (tells_of S.tells input_tells out_tells E.tells link_tells)
-    (seen_of (S.seen c.args.store.now) input out (E.seen c.args.err.now) link)
-    (S.seen c.open_file.new.store) c.in-Err.fault
-    (rw c.as_str.ensures at c.in-Err.ensures.refused) (rw c.as_str.ensures at c.in-Err.ensures.leaves)
-    (λ cause may. inr (inl may)))
+    (not_opened c.args.kind c.args.format c.args.file _ _ _ _ _ _ c.in-Err.fault
+    (rw c.as_str.ensures at c.in-Err.ensures.refused) (rw c.as_str.ensures at c.in-Err.ensures.leaves) (λ cause may. inr (inl may)))
 
 pub returns-in-Err-write_warnings-clause-named : goal.returns-in-Err-write_warnings-clause-named
 returns-in-Err-write_warnings-clause-named g c = λ no.

@@ -1,20 +1,13 @@
-use Rattle.std.proofs.Common.{[], inl, inr, ◌∙◌}
-use Rattle.std.specs.Prelude.{unwrap_or}
-use Rattle.run_steps.specs.Done.{seen_of, tells_of}
+use Rattle.std.proofs.Common.{inl, inr, ◌∙◌}
 use Rattle.run_steps.proofs.PhaseLemmas.{carries_naming, naming_refused}
 use Rattle.edit_commands.proofs.WordLemmas.{faulty_word_given, faulty_word_none}
 use Rattle.edit_commands.proofs.print.print_by_word.Goals as goal
 
 pub returns-in-Ok-clause-carries : goal.returns-in-Ok-clause-carries
 returns-in-Ok-clause-carries g c = λ input err link input_tells err_tells link_tells now line.
-    let S = g.S.Store in
-    let O = g.O.Sink in
     let read = c.in-Ok.ensures in
-    carries_naming (unwrap_or c.args.common.names []) c.args.common.kind c.args.common.names c.in-Ok.names _ _ _ _
-    (tells_of S.tells input_tells O.tells err_tells link_tells)
-    (seen_of (S.seen c.args.store.now) input (O.seen c.args.out.now) err link) (S.seen c.read_names.new.store)
-    (seen_of (S.seen c.print_named.new.store) input (O.seen c.print_named.new.out) err link) c.print_named.result
-    read.leaves read.read (λ cause said may. inr (c.in-Ok.names, read.given, may))
+    carries_naming _ c.args.common.kind c.args.common.names c.in-Ok.names _ _ _ _ _ _ _ _ _ read.leaves read.read
+    (λ cause said may. inr (c.in-Ok.names, read.given, may))
     (c.print_named.ensures.carries input err link input_tells err_tells link_tells)
 
 pub returns-in-Ok-clause-word : goal.returns-in-Ok-clause-word
@@ -28,13 +21,8 @@ returns-in-Ok-clause-store g c = λ refusal faulty.
 
 pub returns-in-Err-clause-carries : goal.returns-in-Err-clause-carries
 returns-in-Err-clause-carries g c = λ input err link input_tells err_tells link_tells now line.
-    let S = g.S.Store in
-    let O = g.O.Sink in
     let read = c.in-Err.ensures in
-    naming_refused c.args.common.kind c.args.common.names _ _ _
-    (tells_of S.tells input_tells O.tells err_tells link_tells)
-    (seen_of (S.seen c.args.store.now) input (O.seen c.args.out.now) err link) (S.seen c.read_names.new.store) c.in-Err.refusal
-    read.leaves read.refused read.may (λ may. inl may) read.placed
+    naming_refused c.args.common.kind c.args.common.names _ _ _ _ _ _ _ read.leaves read.refused read.may (λ may. inl may) read.placed
 
 pub returns-in-Err-clause-word : goal.returns-in-Err-clause-word
 returns-in-Err-clause-word g c = λ refusal faulty.

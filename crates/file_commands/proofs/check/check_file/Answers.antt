@@ -32,12 +32,10 @@ returns-clause-carries g c = λ out err link out_tells err_tells link_tells line
 
 pub returns-then-fresh-clause-anew : goal.returns-then-fresh-clause-anew
 returns-then-fresh-clause-anew g c =
-    let S = g.S.Store in
     let is = c.new-value.ensures in
     rw c.if-fresh.true (on_ok_weaker c.check_value.result
     (λ anew told. anew_since c.new-value.result.kind c.args.common.kind (λ (f : Format). f ≡ c.new-value.result.format) (λ (f : Format). f ≡ new_format c.args.common.format)
-    [] c.args.file (S.seen c.args.store.now) (S.seen c.args.store.now) (S.seen c.check_value.new.store)
-    (only_reads-none [] (S.seen c.args.store.now)) is.kind (λ f same. same ∙ is.format) (anew told))
+    [] c.args.file _ _ (g.S.Store.seen c.check_value.new.store) (only_reads-none [] (g.S.Store.seen c.args.store.now)) is.kind (λ f same. same ∙ is.format) (anew told))
     c.check_value.ensures.anew)
 
 pub returns-clause-anew : goal.returns-clause-anew

@@ -1,48 +1,35 @@
-use Rattle.std.proofs.Common.{◌≡◌, true, false, [], inl, inr, refl, ap}
-use Rattle.std.specs.Prelude.{unwrap_or}
+use Rattle.std.proofs.Common.{◌≡◌, true, false, inl, inr, refl, ap}
 use Rattle.std.proofs.lemmas.Bool.{false≢true}
 use Rattle.std.proofs.lemmas.Result.{on_ok_weaker}
 use Rattle.quota_blocks.proofs.FrameLemmas.{adds_none-then}
 use Rattle.inode_scan.specs.Usage.{UsageMap}
-use Rattle.run_steps.specs.Done.{IsWorldTold, seen_of, tells_of}
 use Rattle.run_steps.specs.Taking.{AListing}
 use Rattle.file_commands.specs.Check.{ReplaceSteps, check_uses, checked}
 use Rattle.file_commands.specs.FileValue.{value_in}
 use Rattle.quota_types.specs.declared.file_kind.Format.{Format}
 use Rattle.file_commands.proofs.CheckLemmas.{anew_since}
 use Rattle.run_steps.proofs.PhaseLemmas.{placed_nowhere}
-use Rattle.run_steps.proofs.TakingLemmas.{HasTaken, carries_taking, fault_more, has_taken, input_refused}
+use Rattle.run_steps.proofs.TakingLemmas.{carries_taking, fault_more, has_taken, input_refused}
 use Rattle.file_commands.proofs.check.check_value.Goals as goal
 
 pub returns-in-Ok-clause-carries : goal.returns-in-Ok-clause-carries
 returns-in-Ok-clause-carries g c = λ out err link out_tells err_tells link_tells.
-    let S = g.S.Store in
-    let I = g.I.Source in
     let took = c.in-Ok.ensures in
-    let usage : UsageMap = c.in-Ok.usage in
-    let tells = tells_of S.tells I.tells out_tells err_tells link_tells in
-    let old = seen_of (S.seen c.args.store.now) (I.seen c.args.input.now) out err link in
-    let taken : IsWorldTold tells → HasTaken c.args.from true (I.seen c.args.input.now).left (I.seen c.take_usage.new.input).left =
-    λ told. has_taken c.args.from true _ _ (took.behind told.input) (λ all none. took.ended none told.input) (λ some. ap (λ i. (I.seen i).left) (took.untouched some)) in
-    carries_taking (unwrap_or c.args.from []) c.args.from (λ (u : UsageMap). true) _ (λ (u : UsageMap). ReplaceSteps c.args.file (checked (value_in c.args.value) u c.args.now)) usage _ _ _
-    tells old (S.seen c.take_usage.new.store) (I.seen c.take_usage.new.input)
-    (seen_of (S.seen c.replace_usage.new.store) (I.seen c.take_usage.new.input) out err link) c.replace_usage.result
-    took.leaves took.later (λ told. took.read told.store told.input) taken
-    (λ cause said may. inr may)
-    (c.replace_usage.ensures.carries (I.seen c.take_usage.new.input) out err link I.tells out_tells err_tells link_tells)
+    carries_taking _ c.args.from (λ (u : UsageMap). true) _ (λ (u : UsageMap). ReplaceSteps c.args.file
+    (checked (value_in c.args.value) u c.args.now)) c.in-Ok.usage
+    _ _ _ _ _ _ _ _ _ took.leaves took.later (λ told. took.read told.store told.input)
+    (λ told. has_taken c.args.from true _ _ (took.behind told.input) (λ all none. took.ended none told.input)
+    (λ some. ap (λ i. (g.I.Source.seen i).left) (took.untouched some)))
+    (λ cause said may. inr may) (c.replace_usage.ensures.carries (g.I.Source.seen c.take_usage.new.input) out err link g.I.Source.tells
+    out_tells err_tells link_tells)
 
 pub returns-in-Err-clause-carries : goal.returns-in-Err-clause-carries
 returns-in-Err-clause-carries g c = λ out err link out_tells err_tells link_tells.
-    let S = g.S.Store in
-    let I = g.I.Source in
     let took = c.in-Err.ensures in
-    input_refused (unwrap_or c.args.from []) AListing c.args.from (λ (u : UsageMap). true) _ _ _ _
-    (tells_of S.tells I.tells out_tells err_tells link_tells)
-    (seen_of (S.seen c.args.store.now) (I.seen c.args.input.now) out err link)
-    (S.seen c.take_usage.new.store) (I.seen c.take_usage.new.input) c.in-Err.refusal
-    took.leaves took.later
+    input_refused _ AListing c.args.from (λ (u : UsageMap). true) _ _ _ _ _ _ _ _ _ took.leaves took.later
     (fault_more _ _ _ _ _ _ _ c.in-Err.refusal c.in-Err.refusal.cause (λ rose. rose) (λ rose. rose) (λ told. (told.store, told.input)) took.refused)
-    (λ told. has_taken c.args.from false _ _ (took.behind told.input) (λ no. absurd (false≢true no)) (λ some. ap (λ i. (I.seen i).left) (took.untouched some)))
+    (λ told. has_taken c.args.from false _ _ (took.behind told.input) (λ no. absurd (false≢true no))
+    (λ some. ap (λ i. (g.I.Source.seen i).left) (took.untouched some)))
     took.may (inl took.may) (placed_nowhere (check_uses c.args.from) c.in-Err.refusal took.placed)
 
 pub returns-in-Ok-clause-synced : goal.returns-in-Ok-clause-synced
@@ -51,9 +38,7 @@ returns-in-Ok-clause-synced g c =
 
 pub returns-in-Ok-clause-anew : goal.returns-in-Ok-clause-anew
 returns-in-Ok-clause-anew g c =
-    let S = g.S.Store in
     on_ok_weaker c.replace_usage.result
     (λ anew told. anew_since c.args.value.kind c.args.value.kind (λ (f : Format). f ≡ c.args.value.format) (λ (f : Format). f ≡ c.args.value.format)
-    (unwrap_or c.args.from []) c.args.file (S.seen c.args.store.now) (S.seen c.take_usage.new.store) (S.seen c.replace_usage.new.store)
-    c.in-Ok.ensures.leaves refl (λ f is. is) (anew told))
+    _ c.args.file _ _ (g.S.Store.seen c.replace_usage.new.store) c.in-Ok.ensures.leaves refl (λ f is. is) (anew told))
     c.replace_usage.ensures.anew

@@ -1,28 +1,22 @@
 use Rattle.std.proofs.Common.{sym}
 use Rattle.quota_blocks.proofs.ReplaceLemmas.{replacement_name-ne}
-use Rattle.run_steps.specs.Done.{seen_of, tells_of}
 use Rattle.file_commands.proofs.ConversionLemmas.{converted_anew, converted_done, not_converted}
 use Rattle.file_commands.proofs.conversion.convert_file.Goals as goal
 
 pub returns-in-Ok-clause-carries : goal.returns-in-Ok-clause-carries
 returns-in-Ok-clause-carries g c = λ input out err link input_tells out_tells err_tells link_tells invocation.
-    let S = g.S.Store in
-    converted_done c.args.kind c.args.old c.args.new c.args.source c.args.target invocation
-    (tells_of S.tells input_tells out_tells err_tells link_tells) (seen_of (S.seen c.args.store.now) input out err link) (S.seen c.convert.new.store)
+    converted_done c.args.kind c.args.old c.args.new c.args.source c.args.target invocation _ _ _
     (rw (c.as_str.ensures, c.as_str-2.ensures) at c.in-Ok.ensures.made) (rw (c.as_str.ensures, c.as_str-2.ensures) at c.in-Ok.ensures.leaves)
 
 pub returns-in-Ok-clause-anew : goal.returns-in-Ok-clause-anew
 returns-in-Ok-clause-anew g c =
-    let S = g.S.Store in
-    converted_anew c.args.kind c.args.old c.args.new c.args.source c.args.target S.tells (S.seen c.args.store.now) (S.seen c.convert.new.store)
+    converted_anew c.args.kind c.args.old c.args.new c.args.source c.args.target _ _ _
     (rw (c.as_str.ensures, c.as_str-2.ensures) at c.in-Ok.ensures.made)
 
 pub returns-in-Err-clause-carries : goal.returns-in-Err-clause-carries
 returns-in-Err-clause-carries g c = λ input out err link input_tells out_tells err_tells link_tells invocation.
-    let S = g.S.Store in
     rw c.convert_refusal.ensures
-    (not_converted c.args.kind c.args.old c.args.new c.args.source c.args.target invocation
-    (tells_of S.tells input_tells out_tells err_tells link_tells) (seen_of (S.seen c.args.store.now) input out err link) (S.seen c.convert.new.store) c.in-Err.fault
+    (not_converted c.args.kind c.args.old c.args.new c.args.source c.args.target invocation _ _ _ c.in-Err.fault
     (rw (c.as_str.ensures, c.as_str-2.ensures) at c.in-Err.ensures.refused) (rw (c.as_str.ensures, c.as_str-2.ensures) at c.in-Err.ensures.unwritten)
     ((rw c.as_str-2.ensures at c.in-Err.ensures.unchanged) c.args.target (λ same. replacement_name-ne c.args.target (sym same)))
     (rw (c.as_str.ensures, c.as_str-2.ensures) at c.in-Err.ensures.leaves))

@@ -4,25 +4,24 @@ use Rattle.quota_blocks.specs.Listed.{value_of}
 use Rattle.quota_blocks.proofs.ReplaceLemmas.{replacement_name-ne}
 use Rattle.quota_map.specs.Replacing.{flags_in}
 use Rattle.quota_map.specs.View.{IsView}
-use Rattle.run_steps.specs.Done.{seen_of, tells_of}
 use Rattle.file_commands.specs.FileValue.{value_in}
 use Rattle.file_commands.proofs.ReplacingLemmas.{made_anew, needed_of, replace_made, replace_refused}
 use Rattle.file_commands.proofs.file_value.write_value.Goals as goal
 
 pub returns-in-Ok-clause-carries : goal.returns-in-Ok-clause-carries
 returns-in-Ok-clause-carries g c = λ input out err link input_tells out_tells err_tells link_tells.
-    let S = g.S.Store in
     let file = c.as_str.ensures in
     let list = c.as_slice.ensures.value in
     let done = c.in-Ok.ensures in
-    replace_made c.args.file (value_in c.args.value.now) _ (tells_of S.tells input_tells out_tells err_tells link_tells)
-    (seen_of (S.seen c.args.store.now) input out err link) (S.seen c.replace_file.new.store)
+    let value = c.args.value.now in
+    let files = (g.S.Store.seen c.replace_file.new.store).files in
+    replace_made c.args.file (value_in value) _ _ _ _
     (λ told.
-    subst (λ (n : List ℕ). IsView ((S.seen c.replace_file.new.store).files n) c.args.value.now.kind (Some c.args.value.now.format) (Ok (value_in c.args.value.now))) file
-    (subst (λ (l : List Entry). IsView ((S.seen c.replace_file.new.store).files c.as_str.result.now) c.args.value.now.kind (Some c.args.value.now.format)
-    (Ok (value_of c.args.value.now.kind c.args.value.now.format c.args.value.now.grace (flags_in c.args.value.now.format c.args.value.now.flags) l))) list
+    subst (λ (n : List ℕ). IsView (files n) value.kind (Some value.format) (Ok (value_in value))) file
+    (subst (λ (l : List Entry). IsView (files c.as_str.result.now) value.kind (Some value.format)
+    (Ok (value_of value.kind value.format value.grace (flags_in value.format value.flags) l))) list
     (done.seen told (omega arith)))) (rw file at done.leaves.files) done.leaves.later
-    (rw (needed_of c.args.value.now c.requires.in_order) (rw list at done.few))
+    (rw (needed_of value c.requires.in_order) (rw list at done.few))
 
 pub returns-in-Err-clause-named : goal.returns-in-Err-clause-named
 returns-in-Err-clause-named g c =
@@ -30,16 +29,12 @@ returns-in-Err-clause-named g c =
 
 pub returns-in-Err-clause-carries : goal.returns-in-Err-clause-carries
 returns-in-Err-clause-carries g c = λ input out err link input_tells out_tells err_tells link_tells.
-    let S = g.S.Store in
     let file = c.as_str.ensures in
-    let list = c.as_slice.ensures.value in
     let left = c.in-Err.ensures in
     rw (c.of.ensures, c.replace_cause.ensures)
-    (replace_refused c.args.file c.args.value.now (tells_of S.tells input_tells out_tells err_tells link_tells)
-    (seen_of (S.seen c.args.store.now) input out err link) (S.seen c.replace_file.new.store) c.in-Err.fault c.requires.in_order
-    (rw list at left.refused) left.unwritten
-    ((rw file at left.unchanged) c.args.file (λ same. replacement_name-ne c.args.file (sym same)))
-    (rw file at left.leaves))
+    (replace_refused c.args.file c.args.value.now _ _ _ c.in-Err.fault c.requires.in_order (rw c.as_slice.ensures.value at left.refused)
+    left.unwritten
+    ((rw file at left.unchanged) c.args.file (λ same. replacement_name-ne c.args.file (sym same))) (rw file at left.leaves))
 
 pub returns-in-Ok-clause-anew : goal.returns-in-Ok-clause-anew
 returns-in-Ok-clause-anew g c = λ told.

@@ -8,37 +8,27 @@ use Rattle.quota_blocks.proofs.UnsyncedLemmas.{replaced-adds_none}
 use Rattle.quota_map.specs.Replacing.{flags_in}
 use Rattle.quota_map.specs.View.{IsView}
 use Rattle.tree_build.specs.Size.{blocks_needed}
-use Rattle.run_steps.specs.Act.{ToOut}
-use Rattle.run_steps.specs.Done.{seen_of, tells_of}
 use Rattle.run_steps.specs.Showing.{showing_uses}
-use Rattle.run_steps.specs.Steps.{Doing, Finish}
 use Rattle.file_commands.specs.FileValue.{value_in}
-use Rattle.file_commands.specs.Generate.{summary}
 use Rattle.file_commands.proofs.GenerateLemmas.{carries_changed, put_refused, view_any}
 use Rattle.file_commands.proofs.ReplacingLemmas.{needed_of}
 use Rattle.file_commands.proofs.generate.write_made.Goals as goal
 
 pub returns-in-Ok-clause-carries : goal.returns-in-Ok-clause-carries
 returns-in-Ok-clause-carries g c = λ input err link input_tells err_tells link_tells.
-    let S = g.S.Store in
-    let O = g.O.Sink in
     let file = c.as_str.ensures in
-    let list = c.as_slice.ensures.value in
     let made = c.in-Ok.ensures in
     let value = c.args.value.now in
-    let new = value_in value in
-    let store = S.seen c.replace_file.new.store in
-    let view = λ (told : IsTrue S.tells).
-    subst (λ (n : List ℕ). IsView (store.files n) value.kind (Some value.format) (Ok new)) file
-    (subst (λ (l : List Entry). IsView (store.files c.as_str.result.now) value.kind (Some value.format) (Ok (value_of value.kind value.format value.grace (flags_in value.format value.flags) l))) list
-    (made.seen told (omega arith))) in
-    carries_changed c.args.file new (Doing (ToOut (summary c.args.count c.args.file c.args.now new)) Finish) showing_uses _
-    (tells_of S.tells input_tells O.tells err_tells link_tells)
-    (seen_of (S.seen c.args.store.now) input (O.seen c.args.out.now) err link) store
-    (seen_of (S.seen c.tell_made.new.store) input (O.seen c.tell_made.new.out) err link) c.tell_made.result
-    (λ told. (view told, rw file at made.leaves.files)) made.leaves.later
+    let store = g.S.Store.seen c.replace_file.new.store in
+    let view = λ (told : IsTrue g.S.Store.tells).
+    subst (λ (n : List ℕ). IsView (store.files n) value.kind (Some value.format) (Ok (value_in value))) file
+    (subst (λ (l : List Entry). IsView (store.files c.as_str.result.now) value.kind (Some value.format)
+    (Ok (value_of value.kind value.format value.grace (flags_in value.format value.flags) l)))
+    c.as_slice.ensures.value (made.seen told (omega arith))) in
+    carries_changed c.args.file (value_in value) _ showing_uses _ _ _ store _ _ (λ told. (view told, rw file at made.leaves.files))
+    made.leaves.later
     (c.tell_made.ensures.carries input err link input_tells err_tells link_tells
-    (λ told. view_any (store.files c.args.file) value.kind value.format new c.requires.kind c.requires.format (view told)))
+    (λ told. view_any (store.files c.args.file) value.kind value.format (value_in value) c.requires.kind c.requires.format (view told)))
 
 pub returns-in-Ok-clause-synced : goal.returns-in-Ok-clause-synced
 returns-in-Ok-clause-synced g c =
@@ -47,16 +37,10 @@ returns-in-Ok-clause-synced g c =
 
 pub returns-in-Err-clause-carries : goal.returns-in-Err-clause-carries
 returns-in-Err-clause-carries g c = λ input err link input_tells err_tells link_tells.
-    let S = g.S.Store in
-    let O = g.O.Sink in
     let file = c.as_str.ensures in
-    let list = c.as_slice.ensures.value in
     let left = c.in-Err.ensures in
     let value = c.args.value.now in
     rw (c.of.ensures, c.replace_cause.ensures)
-    (put_refused c.args.file (summary c.args.count c.args.file c.args.now (value_in value)) (value_in value) (tells_of S.tells input_tells O.tells err_tells link_tells)
-    (seen_of (S.seen c.args.store.now) input (O.seen c.args.out.now) err link) (S.seen c.replace_file.new.store) (blocks_needed value.format (ids_of value.entries.items)) c.in-Err.fault
-    (rw (needed_of value c.requires.writable.in_order) at c.requires.few)
-    (rw list at left.refused) left.unwritten
-    ((rw file at left.unchanged) c.args.file (λ same. replacement_name-ne c.args.file (sym same)))
-    (rw file at left.leaves))
+    (put_refused c.args.file _ (value_in value) _ _ _ (blocks_needed value.format (ids_of value.entries.items)) c.in-Err.fault
+    (rw (needed_of value c.requires.writable.in_order) at c.requires.few) (rw c.as_slice.ensures.value at left.refused) left.unwritten
+    ((rw file at left.unchanged) c.args.file (λ same. replacement_name-ne c.args.file (sym same))) (rw file at left.leaves))

@@ -1,11 +1,11 @@
-use Rattle.std.proofs.Common.{◌≡◌, Ok, inr, sym, ap, ◌∙◌, IsTrue}
+use Rattle.std.proofs.Common.{Ok, inr, sym, ap, ◌∙◌, IsTrue}
 use Rattle.quota_blocks.specs.QuotaFile.{FileSeen}
 use Rattle.quota_blocks.specs.QuotaValue.{QuotaValue}
 use Rattle.quota_blocks.proofs.FrameLemmas.{only_reads-then}
 use Rattle.quota_map.specs.AnyFile.{any_seen}
 use Rattle.quota_map.specs.View.{IsView}
 use Rattle.quota_map.proofs.SeenLemmas.{view_kind}
-use Rattle.run_steps.specs.Done.{seen_of, tells_of}
+use Rattle.run_steps.specs.Done.{seen_of}
 use Rattle.file_commands.specs.Report.{report_cause, report_on}
 use Rattle.run_steps.proofs.OpeningLemmas.{not_opened}
 use Rattle.refusals.proofs.PieceLemmas.{appends_whole}
@@ -15,25 +15,18 @@ use Rattle.file_commands.proofs.report.report_opened.Goals as goal
 
 pub returns-in-Ok-report-clause-carries : goal.returns-in-Ok-report-clause-carries
 returns-in-Ok-report-clause-carries g c = λ input err link input_tells err_tells link_tells.
-    let S = g.S.Store in
-    let O = g.O.Sink in
     let opened = c.in-Ok.ensures in
     let reported = c.in-Ok-report.ensures in
     let file = c.as_str.ensures in
-    let named : (any_seen c.in-Ok.opened).name ≡ c.args.file = ap (λ (s : FileSeen). s.name) opened.fresh ∙ file in
-    let tells = tells_of S.tells input_tells O.tells err_tells link_tells in
-    let old = seen_of (S.seen c.args.store.now) input (O.seen c.args.out.now) err link in
-    let reads = only_reads-then c.args.file (S.seen c.args.store.now) (S.seen c.open_file.new.store) (S.seen c.report.new.store)
-    (rw file at opened.leaves) (rw named at reported.leaves) in
-    let held = λ (told : IsTrue S.tells) (value : QuotaValue) (view : IsView ((S.seen c.args.store.now).files c.args.file) c.args.kind c.args.format (Ok value)).
-    opened.held told value (rw (sym file) at view) in
-    let written = λ (told : IsTrue S.tells) (out_told : IsTrue O.tells) (value : QuotaValue) (view : IsView ((S.seen c.args.store.now).files c.args.file) c.args.kind c.args.format (Ok value)).
-    rw c.as_str-in-Ok.ensures at (reported.ok out_told value (held told value view) (view_kind _ c.args.kind c.args.format value view)) in
-    shown_whole c.args.kind c.args.format c.args.file (report_on c.args.names.now c.args.file c.args.now c.args.options.now) _ tells old
-    (S.seen c.report.new.store) (O.seen c.report.new.sink)
+    let written = λ (told : IsTrue g.S.Store.tells) (out_told : IsTrue g.O.Sink.tells) (value : QuotaValue)
+    (view : IsView ((g.S.Store.seen c.args.store.now).files c.args.file) c.args.kind c.args.format (Ok value)).
+    rw c.as_str-in-Ok.ensures at (reported.ok out_told value (opened.held told value (rw (sym file) at view))
+    (view_kind _ c.args.kind c.args.format value view)) in
+    shown_whole _ _ _ (report_on c.args.names.now c.args.file c.args.now c.args.options.now) _ _ _ _ _
     (record {
       seen = λ told. rw file at (opened.seen told);
-      reads = reads;
+      reads = only_reads-then c.args.file _ _ _ (rw file at opened.leaves)
+          (rw (ap (λ (s : FileSeen). s.name) opened.fresh ∙ file) at reported.leaves);
       prefix = λ told out_told value view. appends_whole _ _ _ (written told out_told value view);
       later = reported.sink_later;
     })
@@ -41,38 +34,30 @@ returns-in-Ok-report-clause-carries g c = λ input err link input_tells err_tell
 
 pub returns-in-Err-report-clause-carries : goal.returns-in-Err-report-clause-carries
 returns-in-Err-report-clause-carries g c = λ input err link input_tells err_tells link_tells.
-    let S = g.S.Store in
-    let O = g.O.Sink in
     let opened = c.in-Ok.ensures in
     let reported = c.in-Err-report.ensures in
     let file = c.as_str.ensures in
-    let named : (any_seen c.in-Ok.opened).name ≡ c.args.file = ap (λ (s : FileSeen). s.name) opened.fresh ∙ file in
-    let tells = tells_of S.tells input_tells O.tells err_tells link_tells in
-    let old = seen_of (S.seen c.args.store.now) input (O.seen c.args.out.now) err link in
-    let reads = only_reads-then c.args.file (S.seen c.args.store.now) (S.seen c.open_file.new.store) (S.seen c.report.new.store)
-    (rw file at opened.leaves) (rw named at reported.leaves) in
-    let held = λ (told : IsTrue S.tells) (value : QuotaValue) (view : IsView ((S.seen c.args.store.now).files c.args.file) c.args.kind c.args.format (Ok value)).
-    opened.held told value (rw (sym file) at view) in
+    let old = seen_of (g.S.Store.seen c.args.store.now) input (g.O.Sink.seen c.args.out.now) err link in
+    let after = g.S.Store.seen c.report.new.store in
+    let out = g.O.Sink.seen c.report.new.sink in
     rw (c.of.ensures, c.report_cause.ensures)
-    (shown_in_part c.args.kind c.args.format c.args.file (report_on c.args.names.now c.args.file c.args.now c.args.options.now) tells old
-    (S.seen c.report.new.store) (O.seen c.report.new.sink) (report_cause c.in-Err-report.fault)
+    (shown_in_part c.args.kind c.args.format c.args.file (report_on c.args.names.now c.args.file c.args.now c.args.options.now)
+    _ old after out (report_cause c.in-Err-report.fault)
     (record {
       seen = λ told. rw file at (opened.seen told);
-      reads = reads;
-      prefix = λ told out_told value view. rw c.as_str-in-Ok.ensures at (reported.fault out_told value (held told value view) (view_kind _ c.args.kind c.args.format value view));
+      reads = only_reads-then c.args.file _ _ _ (rw file at opened.leaves)
+          (rw (ap (λ (s : FileSeen). s.name) opened.fresh ∙ file) at reported.leaves);
+      prefix = λ told out_told value view.
+          rw c.as_str-in-Ok.ensures at (reported.fault out_told value (opened.held told value (rw (sym file) at view))
+          (view_kind _ c.args.kind c.args.format value view));
       later = reported.sink_later;
     })
-    (report_unshown c.args.format c.args.file tells old (S.seen c.report.new.store) (O.seen c.report.new.sink) (any_seen c.in-Ok.opened).format (S.seen c.open_file.new.store).faults _ c.in-Err-report.fault
-    opened.as_asked opened.leaves.later
-    (λ told none. let good = opened.seen told in none good.0 (opened.held told good.0 good.1))
-    reported.refused reported.may))
+    (report_unshown c.args.format c.args.file _ old after out (any_seen c.in-Ok.opened).format _ _ c.in-Err-report.fault opened.as_asked
+    opened.leaves.later
+    (λ told none. let good = opened.seen told in none good.0 (opened.held told good.0 good.1)) reported.refused reported.may))
 
 pub returns-in-Err-clause-carries : goal.returns-in-Err-clause-carries
 returns-in-Err-clause-carries g c = λ input err link input_tells err_tells link_tells.
     rw (c.of-in-Err.ensures, c.opening_cause.ensures)
-    (not_opened c.args.kind c.args.format c.args.file _ _ _
-    (tells_of g.S.Store.tells input_tells g.O.Sink.tells err_tells link_tells)
-    (seen_of (g.S.Store.seen c.args.store.now) input (g.O.Sink.seen c.args.out.now) err link)
-    (g.S.Store.seen c.open_file.new.store) c.in-Err.fault
-    (rw c.as_str.ensures at c.in-Err.ensures.refused) (rw c.as_str.ensures at c.in-Err.ensures.leaves)
-    (λ cause may. inr may))
+    (not_opened c.args.kind c.args.format c.args.file _ _ _ _ _ _ c.in-Err.fault
+    (rw c.as_str.ensures at c.in-Err.ensures.refused) (rw c.as_str.ensures at c.in-Err.ensures.leaves) (λ cause may. inr may))

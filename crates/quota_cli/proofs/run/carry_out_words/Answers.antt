@@ -1,5 +1,4 @@
 use Rattle.std.proofs.Common.{None, false}
-use Rattle.run_steps.specs.Done.{seen_of, tells_of}
 use Rattle.command_words.specs.Asked.{command_of}
 use Rattle.option_words.specs.Items.{texts_of}
 use Rattle.command_table.proofs.CommandLemmas.{not_read, read_carried, usage_not_read, usage_read}
@@ -12,12 +11,8 @@ carry_command-requires g c = commanded_known (texts_of c.args.words.now) c.in-Ok
 
 pub returns-in-Ok-clause-carries : goal.returns-in-Ok-clause-carries
 returns-in-Ok-clause-carries g c =
-    let now = c.carry_command in
-    read_carried commanded c.in-Ok.command (command_of false (texts_of c.args.words.now)) (record { now = c.args.now; line = None })
-    (tells_of g.S.Store.tells g.I.Source.tells g.O.Sink.tells g.E.Sink.tells g.L.Link.tells)
-    (seen_of (g.S.Store.seen c.args.store.now) (g.I.Source.seen c.args.input.now) (g.O.Sink.seen c.args.out.now) (g.E.Sink.seen c.args.err.now) (g.L.Link.seen c.args.link.now))
-    (seen_of (g.S.Store.seen now.new.store) (g.I.Source.seen now.new.input) (g.O.Sink.seen now.new.out) (g.E.Sink.seen now.new.err) (g.L.Link.seen now.new.link))
-    now.result c.in-Ok.ensures (rw c.outside_script-invocation.ensures at now.ensures.carries)
+    read_carried commanded c.in-Ok.command (command_of false (texts_of c.args.words.now)) (record { now = c.args.now; line = None }) _ _ _
+    c.carry_command.result c.in-Ok.ensures (rw c.outside_script-invocation.ensures at c.carry_command.ensures.carries)
 
 pub returns-in-Ok-clause-stands : goal.returns-in-Ok-clause-stands
 returns-in-Ok-clause-stands g c = λ reads. (rw c.outside_script-invocation.ensures at c.carry_command.ensures.stands) (rw c.in-Ok.ensures at reads)
@@ -29,17 +24,13 @@ returns-in-Ok-clause-usage g c = λ no. usage_read (commanded c.in-Ok.command).m
 pub returns-in-Err-clause-carries : goal.returns-in-Err-clause-carries
 returns-in-Err-clause-carries g c =
     rw c.usage_refusal.ensures
-    (not_read commanded (command_of false (texts_of c.args.words.now)) (record { now = c.args.now; line = None })
-    (tells_of g.S.Store.tells g.I.Source.tells g.O.Sink.tells g.E.Sink.tells g.L.Link.tells)
-    (seen_of (g.S.Store.seen c.args.store.now) (g.I.Source.seen c.args.input.now) (g.O.Sink.seen c.args.out.now) (g.E.Sink.seen c.args.err.now) (g.L.Link.seen c.args.link.now))
-    c.in-Err.fault c.in-Err.ensures)
+    (not_read commanded (command_of false (texts_of c.args.words.now)) (record { now = c.args.now; line = None }) _ _ c.in-Err.fault
+    c.in-Err.ensures)
 
 pub returns-in-Err-clause-stands : goal.returns-in-Err-clause-stands
 returns-in-Err-clause-stands g c = λ reads.
-    rw c.usage_refusal.ensures
-    (words_stand (command_of false (texts_of c.args.words.now)) c.in-Err.fault c.args.now (tells_of g.S.Store.tells g.I.Source.tells g.O.Sink.tells g.E.Sink.tells g.L.Link.tells)
-    (seen_of (g.S.Store.seen c.args.store.now) (g.I.Source.seen c.args.input.now) (g.O.Sink.seen c.args.out.now) (g.E.Sink.seen c.args.err.now) (g.L.Link.seen c.args.link.now))
-    c.in-Err.ensures reads)
+    rw c.usage_refusal.ensures (words_stand (command_of false (texts_of c.args.words.now)) c.in-Err.fault c.args.now _ _ c.in-Err.ensures
+    reads)
 
 pub returns-in-Err-clause-usage : goal.returns-in-Err-clause-usage
 returns-in-Err-clause-usage g c = λ no.

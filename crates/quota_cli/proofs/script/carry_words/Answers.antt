@@ -1,5 +1,4 @@
 use Rattle.std.proofs.Common.{true}
-use Rattle.run_steps.specs.Done.{seen_of, tells_of}
 use Rattle.command_words.specs.Asked.{command_of}
 use Rattle.option_words.specs.Items.{texts_of}
 use Rattle.command_table.specs.Table.{described}
@@ -12,15 +11,7 @@ carry_out-requires g c = record { known = read_known true (texts_of c.args.words
 
 pub returns-in-Ok-clause-carries : goal.returns-in-Ok-clause-carries
 returns-in-Ok-clause-carries g c =
-    let S = g.S.Store in
-    let I = g.I.Source in
-    let O = g.O.Sink in
-    let E = g.E.Sink in
-    let L = g.L.Link in
-    let tells = tells_of S.tells I.tells O.tells E.tells L.tells in
-    let old = seen_of (S.seen c.args.store.now) (I.seen c.args.input.now) (O.seen c.args.out.now) (E.seen c.args.err.now) (L.seen c.args.link.now) in
-    let new = seen_of (S.seen c.carry_out.new.store) (I.seen c.carry_out.new.input) (O.seen c.carry_out.new.out) (E.seen c.carry_out.new.err) (L.seen c.carry_out.new.link) in
-    read_carried described c.in-Ok.command (command_of true (texts_of c.args.words.now)) c.args.invocation tells old new c.carry_out.result
+    read_carried described c.in-Ok.command (command_of true (texts_of c.args.words.now)) c.args.invocation _ _ _ c.carry_out.result
     c.in-Ok.ensures c.carry_out.ensures.carries
 
 pub returns-in-Ok-clause-input : goal.returns-in-Ok-clause-input
@@ -28,11 +19,5 @@ returns-in-Ok-clause-input g c = c.carry_out.ensures.input (no_input (texts_of c
 
 pub returns-in-Err-clause-carries : goal.returns-in-Err-clause-carries
 returns-in-Err-clause-carries g c =
-    let S = g.S.Store in
-    let I = g.I.Source in
-    let O = g.O.Sink in
-    let E = g.E.Sink in
-    let L = g.L.Link in
-    let tells = tells_of S.tells I.tells O.tells E.tells L.tells in
-    let old = seen_of (S.seen c.args.store.now) (I.seen c.args.input.now) (O.seen c.args.out.now) (E.seen c.args.err.now) (L.seen c.args.link.now) in
-    rw c.usage_refusal.ensures (not_read described (command_of true (texts_of c.args.words.now)) c.args.invocation tells old c.in-Err.fault c.in-Err.ensures)
+    rw c.usage_refusal.ensures (not_read described (command_of true (texts_of c.args.words.now)) c.args.invocation _ _ c.in-Err.fault
+    c.in-Err.ensures)
