@@ -8,8 +8,8 @@ use Rattle.quota_types.specs.Kept.{without_marker}
 use Rattle.quota_types.specs.declared.file_kind.Format.{Format}
 use Rattle.quota_types.specs.declared.file_kind.Format.TheVariants.{V2R0, V2R1}
 use Rattle.quota_types.specs.declared.record.Rec.{Rec}
+use Rattle.quota_types.proofs.BytesLemmas.{number_at-zeros}
 use Rattle.entry_codec.specs.Entry.{IsEntry, IsUsedBy, is_unused, stored_id, stored_v2r0, stored_v2r1}
-use Rattle.entry_codec.proofs.NumberLemmas.{number_at-zeros}
 
 -- the record of zeros
 abbrev pub zeros : Rec
@@ -30,7 +30,7 @@ unused_byte bytes unused k = elim (cases_lt k (length bytes)) [
 ]
 
 unused_number : (bytes : List ℕ) → is_unused bytes ≡ true → (width at : ℕ) → number_at width bytes at ≡ 0
-unused_number bytes unused width at = number_at-zeros width bytes at (unused_byte bytes unused)
+unused_number bytes unused width at = number_at-zeros width at bytes (λ k from to. unused_byte bytes unused k)
 
 unused_v2r0 : (bytes : List ℕ) → is_unused bytes ≡ true → stored_v2r0 bytes ≡ zeros
 unused_v2r0 bytes unused = simp (unused_number bytes unused)

@@ -17,15 +17,6 @@ little_from-number_at (suc width) at file = ap (λ (rest : ℕ). get_or file at 
 pub little_number-drop : (width at : ℕ) (file : List ℕ) → little_number width (drop at file) ≡ number_at width file at
 little_number-drop width at file = little_from-number_at width 0 (drop at file) ∙ number_at-drop width at file 0 ∙ ap (number_at width file) (omega arith)
 
--- a number of a file of zeros
-pub number_at-zeros : (width : ℕ) (bytes : List ℕ) (at : ℕ) → ((k : ℕ) → get_or bytes k 0 ≡ 0) → number_at width bytes at ≡ 0
-unfolding number_at
-number_at-zeros zero bytes at h = refl
-number_at-zeros (suc width) bytes at h =
-    let rest = number_at-zeros width bytes (suc at) h in
-    let byte = h at in
-    omega arith
-
 -- numbers before a place, where the bytes before it are the same
 pub number_at-before : (width : ℕ) (xs ys : List ℕ) (most at : ℕ) → take most xs ≡ take most ys → at + width ≤ most → number_at width xs at ≡ number_at width ys at
 number_at-before width xs ys most at same h =

@@ -7,10 +7,10 @@ use Rattle.quota_types.specs.Kept.{without_marker}
 use Rattle.quota_types.specs.declared.file_kind.Format.{Format}
 use Rattle.quota_types.specs.declared.file_kind.Format.TheVariants.{V1, V2R0, V2R1}
 use Rattle.quota_types.specs.declared.record.Rec.{Rec}
+use Rattle.quota_types.proofs.BytesLemmas.{number_at-past}
 use Rattle.entry_codec.specs.Entry.{AreBytes, IsSpelling, IsUsedBy, is_unused, stored_id, stored_v2r0, stored_v2r1}
 use Rattle.entry_codec.specs.Header.{HeaderNumbers, header_of}
 use Rattle.entry_codec.proofs.EntryLemmas.{zeros}
-use Rattle.entry_codec.proofs.NumberLemmas.{number_at-zeros}
 
 same_byte : (x y rest rest' : ℕ) → x < 256 → y < 256 → x + 256 * rest ≡ y + 256 * rest' → (x ≡ y) × (rest ≡ rest')
 same_byte x y rest rest' hx hy same = (omega arith, omega arith)
@@ -90,18 +90,19 @@ same_v2r1 xs ys hx hy same_id same_padding same =
     (ap (λ (r : Rec). r.itime) same)
 
 -- bytes that are all 0 are unused
-all_zero : (xs : List ℕ) → ((k : ℕ) → k < length xs → byte_at xs k ≡ 0) → is_unused xs ≡ true
-all_zero [] h = refl
-all_zero (x ∷ xs) h =
+-- an entry of bytes that are 0 is unused
+pub is_unused-zeros : (xs : List ℕ) → ((k : ℕ) → k < length xs → byte_at xs k ≡ 0) → is_unused xs ≡ true
+is_unused-zeros [] h = refl
+is_unused-zeros (x ∷ xs) h =
     let byte : x ≡ 0 = h 0 (omega arith) in
-    let rest = all_zero xs (λ k lt. h (suc k) (omega arith)) in
+    let rest = is_unused-zeros xs (λ k lt. h (suc k) (omega arith)) in
     rw (byte, rest)
 
 no_bytes : AreBytes []
 no_bytes k = omega arith
 
 no_number : (width at : ℕ) → number_at width [] at ≡ 0
-no_number width at = number_at-zeros width [] at (λ k. refl)
+no_number width at = number_at-past width at [] (omega arith)
 
 -- the marker of identifier 0 is the one record that is read as another one
 marker_cases : (id : ℕ) (stored : Rec) → (without_marker id stored ≡ stored) ⊎ ((id ≡ 0) × (stored ≡ record zeros { itime = 1 }) × (without_marker id stored ≡ zeros))
@@ -124,13 +125,13 @@ not_zeros_v2r0 : (xs : List ℕ) → AreBytes xs → length xs ≡ 48 → is_unu
 not_zeros_v2r0 xs hx size used is_zero same =
     let none : stored_v2r0 [] ≡ zeros = simp no_number in
     let below = same_v2r0 xs [] hx no_bytes (is_zero ∙ sym (no_number 4 0)) (same ∙ sym none) in
-    used (all_zero xs (λ k lt. below k (omega arith)))
+    used (is_unused-zeros xs (λ k lt. below k (omega arith)))
 
 not_zeros_v2r1 : (xs : List ℕ) → AreBytes xs → length xs ≡ 72 → is_unused xs ≢ true → number_at 4 xs 4 ≡ 0 → stored_id xs ≡ 0 → stored_v2r1 xs ≢ zeros
 not_zeros_v2r1 xs hx size used padding is_zero same =
     let none : stored_v2r1 [] ≡ zeros = simp no_number in
     let below = same_v2r1 xs [] hx no_bytes (is_zero ∙ sym (no_number 4 0)) (padding ∙ sym (no_number 4 4)) (same ∙ sym none) in
-    used (all_zero xs (λ k lt. below k (omega arith)))
+    used (is_unused-zeros xs (λ k lt. below k (omega arith)))
 
 -- the stored records of two entries of one identifier and record
 same_used : (xs ys : List ℕ) (id : ℕ) (rec stored other : Rec) → IsUsedBy xs stored id rec → IsUsedBy ys other id rec → (stored_id xs ≡ 0 → stored ≢ zeros) → (stored_id ys ≡ 0 → other ≢ zeros) → stored ≡ other

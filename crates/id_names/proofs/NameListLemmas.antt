@@ -7,8 +7,9 @@ use Rattle.std.proofs.lemmas.List.{length-map, map-append}
 use Rattle.std.proofs.lemmas.Map.Made.{lookup_key_passes}
 use Rattle.std.proofs.lemmas.Option.{slice_get-map}
 use Rattle.std.proofs.lemmas.Slice.Eq.{bytes_eq-Decides}
+use Rattle.quota_types.proofs.ListLemmas.{option_or-none}
 use Rattle.id_names.specs.Index.{name_list}
-use Rattle.id_names.proofs.FirstLemmas.{lookup_push, option_or-none}
+use Rattle.id_names.proofs.FirstLemmas.{lookup_push}
 
 -- what stands in a list stands in a longer one
 pub slice_get-kept : {X : Type 0} (xs ys : List X) (place : ℕ) (x : X) → slice_get xs place ≡ Some x → slice_get (xs ++ ys) place ≡ Some x

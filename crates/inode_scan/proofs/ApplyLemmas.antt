@@ -1,6 +1,6 @@
 -- The records that identifiers are to have, one after another.
-use Rattle.std.proofs.Common.{◌≡◌, ◌≢◌, ℕ, suc, ◌+◌, ◌<◌, ◌≤◌, true, false, cond, List, [], ◌∷◌, ◌++◌, map, get_or, Option, Some, None, Ok, Err, refl, sym, ap, subst, ◌∙◌, inl, inr, arith, append-nil, append_assoc}
-use Rattle.std.specs.Prelude.{◌==◌, ◌||◌, ◌⊎◌, min, is_some, IfSome, IsSome, slice_get}
+use Rattle.std.proofs.Common.{◌≡◌, ◌≢◌, ℕ, suc, ◌<◌, ◌≤◌, true, false, cond, List, [], ◌∷◌, ◌++◌, map, Option, Some, None, Ok, Err, refl, sym, ap, subst, ◌∙◌, inl, inr, arith, append-nil, append_assoc, eq-eqb, ne_eqb}
+use Rattle.std.specs.Prelude.{◌||◌, ◌⊎◌, min, is_some, IfSome, IsSome, slice_get}
 use Rattle.std.specs.Cmp.{nat_cmp_total, unsigned_tied}
 use Rattle.std.specs.FinMap.{contains_key-keys, entries, find, from_entries, get, get-from_entries, keys}
 use Rattle.std.specs.List.{cons_option, filter_map, list_any}
@@ -8,7 +8,7 @@ use Rattle.std.specs.List.Sorted.{IsStrictlyIncreasing}
 use Rattle.std.specs.Option.{option_map, option_to_list}
 use Rattle.std.specs.Ordering.{eq_by_cmp, nat_cmp}
 use Rattle.std.proofs.lemmas.Bool.{cases_lt}
-use Rattle.std.proofs.lemmas.Bool.Decides.{eqb_tells, nat_tests}
+use Rattle.std.proofs.lemmas.Bool.Decides.{eqb_tells}
 use Rattle.std.proofs.lemmas.List.{map-append}
 use Rattle.std.proofs.lemmas.List.Folds.{list_any-append}
 use Rattle.quota_types.specs.declared.field.NoRoom.{NoRoom}
@@ -16,9 +16,11 @@ use Rattle.quota_types.specs.declared.file_kind.Format.{Format}
 use Rattle.quota_types.specs.declared.record.Entry.{Entry}
 use Rattle.quota_types.specs.declared.record.Grace.{Grace}
 use Rattle.quota_types.specs.declared.record.Rec.{Rec}
+use Rattle.quota_types.proofs.AscendsLemmas.{Ascends, Ascends-of}
 use Rattle.quota_blocks.specs.Listed.{ids_of, records_of}
 use Rattle.quota_blocks.specs.QuotaValue.{IsAfter, IsNextAfter, Records}
-use Rattle.quota_blocks.proofs.EntriesLemmas.{entries_after, entries_after-all, entries_after-end, entries_after-next}
+use Rattle.quota_blocks.proofs.EntriesLemmas.{entries_after, entries_after-all, entries_after-end, entries_after-next, IsAfter-more}
+use Rattle.quota_blocks.proofs.ListedLemmas.{pairs_of}
 use Rattle.inode_scan.specs.declared.used.Used.{Used}
 use Rattle.inode_scan.specs.Apply.{IsKeptEntry, applied, first_no_room, kept_entry, kept_records, no_room, wanted, wanted_record}
 use Rattle.inode_scan.specs.Faults.{unless}
@@ -27,17 +29,11 @@ use Rattle.inode_scan.specs.Usage.{IsNextUser, UsageMap}
 
 -- Numbers.
 
-same_number : (id n : ℕ) → id ≡ n → (id == n) ≡ true
-same_number id n own = grind (arith, nat_tests)
-
-other_number : (id n : ℕ) → id ≢ n → (id == n) ≡ false
-other_number id n other = grind (arith, nat_tests)
-
 tied : (id n : ℕ) → id ≡ n → eq_by_cmp nat_cmp id n ≡ true
-tied id n own = unsigned_tied id n ∙ same_number id n own
+tied id n own = unsigned_tied id n ∙ eq-eqb id n own
 
 untied : (id n : ℕ) → id ≢ n → eq_by_cmp nat_cmp id n ≡ false
-untied id n other = unsigned_tied id n ∙ other_number id n other
+untied id n other = unsigned_tied id n ∙ ne_eqb id n other
 
 -- What is wanted, at one identifier.
 
@@ -84,27 +80,6 @@ wanted_some grace now records usage id some =
     ∙ ap (λ b. cond b (Some (wanted_record grace now (get records id) (get usage id))) None) (either_some (get records id) (get usage id) some)
 
 -- Lists whose identifiers ascend.
-
--- numbers strictly ascend, from one on
-abbrev pub Ascends : ℕ → List ℕ → Type 0
-Ascends low [] = Unit {0}
-Ascends low (x ∷ xs) = (low ≤ x) × Ascends (suc x) xs
-
-abbrev pub pairs_of : List Entry → List (ℕ × Rec)
-pairs_of list = map (λ entry. (entry.id, entry.rec)) list
-
-ascends_from : (x : ℕ) (xs : List ℕ) → IsStrictlyIncreasing (x ∷ xs) → Ascends x (x ∷ xs)
-ascends_from x [] rising = (omega arith, tt)
-ascends_from x (y ∷ ys) rising =
-    let next : x < y = rising 0 (omega arith) in
-    let rest : Ascends y (y ∷ ys) = ascends_from y ys (λ k lt.
-    let same : suc k + 1 ≡ suc (k + 1) = omega arith in
-    subst (λ (n : ℕ). get_or (y ∷ ys) k 0 < get_or (x ∷ y ∷ ys) n 0) same (rising (suc k) (omega arith))) in
-    (omega arith, (omega arith, rest.1))
-
-pub ascends_of : (xs : List ℕ) → IsStrictlyIncreasing xs → Ascends 0 xs
-ascends_of [] rising = tt
-ascends_of (x ∷ xs) rising = (omega arith, (ascends_from x xs rising).1)
 
 -- what is below all is not found
 below_all : (low id : ℕ) (list : List Entry) → Ascends low (ids_of list) → id < low → find nat_cmp id (pairs_of list) ≡ None
@@ -168,17 +143,13 @@ pub record IsRest (after : Option ℕ) (list rest : List Entry) : Type 0 where
   pub ascends : Ascends (from_after after) (ids_of rest)
 
 pub rest_all : (list : List Entry) → IsStrictlyIncreasing (ids_of list) → IsRest None list list
-rest_all list rising = record { same = λ id is. refl; ascends = ascends_of (ids_of list) rising }
-
-later_after : (after : Option ℕ) (id k : ℕ) → IsAfter after id → id < k → IsAfter after k
-later_after None id k is lt = tt
-later_after (Some after) id k is lt = omega arith
+rest_all list rising = record { same = λ id is. refl; ascends = Ascends-of (ids_of list) rising }
 
 rest_more : (after : Option ℕ) (list rest : List Entry) (id : ℕ) → IsRest after list rest → IsAfter after id → IsFrom id rest → IsRest (Some id) list (records_behind id rest)
 rest_more after list rest id is later from = record {
   same = λ k behind.
       get-from_entries nat_cmp_total (pairs_of (records_behind id rest)) k ∙ behind_same id k rest behind
-      ∙ sym (get-from_entries nat_cmp_total (pairs_of rest) k) ∙ is.same k (later_after after id k later behind);
+      ∙ sym (get-from_entries nat_cmp_total (pairs_of rest) k) ∙ is.same k (IsAfter-more after id k later behind);
   ascends = behind_ascends (from_after after) id rest is.ascends from;
 }
 
@@ -221,7 +192,7 @@ first_after after list (entry ∷ rest) id is e = let same : entry.id ≡ id = c
 
 first_record : (rest : List Entry) (id : ℕ) → first_id rest ≡ Some id → IsSome (record_at id rest)
 first_record [] id e = none_some id e
-first_record (entry ∷ rest) id e = let same : entry.id ≡ id = cc in ap (λ b. is_some (cond b (Some entry.rec) None)) (same_number entry.id id same)
+first_record (entry ∷ rest) id e = let same : entry.id ≡ id = cc in ap (λ b. is_some (cond b (Some entry.rec) None)) (eq-eqb entry.id id same)
 
 user_after : (after : Option ℕ) (usage : UsageMap) (used : Option ℕ) (id : ℕ) → IsNextUser after usage used → used ≡ Some id → IsAfter after id × IsSome (get usage id)
 user_after after usage None id next e = none_some id e

@@ -4,11 +4,12 @@ use Rattle.std.specs.Prelude.{if◌then◌else◌, IsSome, IfSome, slice_get}
 use Rattle.std.specs.List.{AllByRecursion, cons_option, enumerate_from, filter_map}
 use Rattle.std.specs.Option.{option_and_then, option_to_list}
 use Rattle.std.proofs.lemmas.List.Elements.{filter_map-append}
+use Rattle.quota_types.proofs.ListLemmas.{AllByRecursion-weaker}
 use Rattle.inode_scan.specs.declared.fault.ScanFault.{ScanFault}
 use Rattle.inode_scan.specs.Line.{is_bad}
 use Rattle.inode_scan.specs.declared.fault.ScanFault.TheVariants.{BadLine, Conflict}
 use Rattle.inode_scan.specs.Listing.{Counted, conflict_of, counted_line, counted_lines, fault_of, faults_of, first_of, is_agreed}
-use Rattle.inode_scan.proofs.ListLemmas.{each_given, each_weaker, enumerate_from-append, filter_map_same}
+use Rattle.inode_scan.proofs.ListLemmas.{each_given, enumerate_from-append, filter_map_same}
 use Rattle.inode_scan.proofs.FirstLemmas.{all_found, counted_lines-append, first_of-kept}
 
 -- a line that counts among these lines has the same fault among more
@@ -46,7 +47,7 @@ faults_of-append device lines more =
     ∙ ap (λ faults. faults ++ faults_behind device lines more)
     (ap (λ context. filter_map (fault_of device context) (enumerate_from 1 lines)) all
     ∙ filter_map_same (fault_of device (counted ++ later)) (fault_of device counted) (enumerate_from 1 lines)
-    (each_weaker (λ (line : ℕ × List ℕ). IfSome (counted_line device line) (λ c. IsSome (first_of counted c.row))) (λ (line : ℕ × List ℕ). fault_of device (counted ++ later) line ≡ fault_of device counted line)
+    (AllByRecursion-weaker (λ (line : ℕ × List ℕ). IfSome (counted_line device line) (λ c. IsSome (first_of counted c.row))) (λ (line : ℕ × List ℕ). fault_of device (counted ++ later) line ≡ fault_of device counted line)
     (enumerate_from 1 lines) (λ line found. fault_kept device counted later line found) (found_each device lines)))
 
 one_given : {X Y : Type 0} (h : X → Option Y) (x : X) → filter_map h (x ∷ []) ≡ option_to_list (h x)

@@ -6,11 +6,12 @@ use Rattle.std.specs.Option.{option_map, option_or}
 use Rattle.std.proofs.lemmas.Bool.Decides.{nat_tests}
 use Rattle.std.proofs.lemmas.List.Elements.{filter-append, filter_map-append}
 use Rattle.std.proofs.lemmas.List.Folds.{find-append}
+use Rattle.quota_types.proofs.ListLemmas.{AllByRecursion-weaker}
 use Rattle.inode_scan.specs.declared.fault.ScanFault.TheVariants.{Conflict}
 use Rattle.inode_scan.specs.declared.row.Row.{Row}
 use Rattle.inode_scan.specs.Listing.{Counted, conflict_of, counted_line, counted_lines, counted_row, first_lines, first_of, has_number, is_agreed, is_first, is_same_inode}
 use Rattle.inode_scan.specs.Tally.{AreBefore}
-use Rattle.inode_scan.proofs.ListLemmas.{each_weaker, enumerate_from-append, filter_same}
+use Rattle.inode_scan.proofs.ListLemmas.{enumerate_from-append, filter_same}
 
 same_itself : (row : Row) → is_same_inode row row ≡ true
 same_itself row = grind (arith, nat_tests)
@@ -40,7 +41,7 @@ pub all_found : (lines : List Counted) → AllByRecursion (λ line. IsSome (firs
 all_found [] = tt
 all_found (line ∷ lines) = (
   first_of-front line lines,
-  each_weaker (λ (other : Counted). IsSome (first_of lines other.row)) (λ (other : Counted). IsSome (first_of (line ∷ lines) other.row)) lines
+  AllByRecursion-weaker (λ (other : Counted). IsSome (first_of lines other.row)) (λ (other : Counted). IsSome (first_of (line ∷ lines) other.row)) lines
       (λ other found. first_of-behind line lines other.row found) (all_found lines),
 )
 
@@ -74,7 +75,7 @@ unfolding first_lines
 first_lines-push lines line before =
     let all : List Counted = lines ++ line ∷ [] in
     let front : filter (is_first all) lines ≡ filter (is_first lines) lines = filter_same (is_first all) (is_first lines) lines
-    (each_weaker (λ (other : Counted). IsSome (first_of lines other.row)) (λ (other : Counted). is_first all other ≡ is_first lines other) lines
+    (AllByRecursion-weaker (λ (other : Counted). IsSome (first_of lines other.row)) (λ (other : Counted). is_first all other ≡ is_first lines other) lines
     (λ other found. ap (has_number other.number) (first_of-kept lines (line ∷ []) other.row found)) (all_found lines)) in
     let last : is_first all line ≡ not (is_some (first_of lines line.row)) =
     ap (has_number line.number) (first_of-append lines (line ∷ []) line.row ∙ ap (option_or (first_of lines line.row)) (first_of-itself line))
@@ -119,7 +120,7 @@ before_by : (device : Option ℕ) (number : ℕ) (lines : List (List ℕ)) → A
 before_by device number [] = tt
 before_by device number (line ∷ lines) =
     by (counted_row device line)
-    (each_weaker (λ (other : Counted). other.number < number + 1 + length lines) (λ (other : Counted). other.number < number + length (line ∷ lines)) _
+    (AllByRecursion-weaker (λ (other : Counted). other.number < number + 1 + length lines) (λ (other : Counted). other.number < number + length (line ∷ lines)) _
     (λ other lt. omega (arith, lt)) (before_by device (number + 1) lines))
   where
     by : (row : Option Row) → AreBefore (number + length (line ∷ lines)) (filter_map (counted_line device) (enumerate_from (number + 1) lines))

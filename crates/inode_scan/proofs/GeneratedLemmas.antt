@@ -1,5 +1,5 @@
 -- What the lines of a listing that is made say.
-use Rattle.std.proofs.Common.{◌≡◌, ℕ, suc, ◌+◌, ◌-◌, ◌^◌, ◌<◌, ◌≤◌, inl, Bool, true, false, cond, List, [], ◌∷◌, ◌++◌, length, take, drop, codes, decimal, Some, None, refl, sym, ap, ◌∙◌, arith, rules, append_assoc, length-append}
+use Rattle.std.proofs.Common.{◌≡◌, ℕ, suc, ◌+◌, ◌-◌, ◌^◌, ◌<◌, ◌≤◌, inl, Bool, true, false, cond, List, [], ◌∷◌, ◌++◌, length, take, drop, codes, decimal, Some, None, refl, sym, ap, ◌∙◌, arith, append_assoc, length-append}
 use Rattle.std.specs.Prelude.{not, ◌||◌, filter}
 use Rattle.std.specs.Int.{IsInRange}
 use Rattle.std.specs.List.{AllByRecursion, list_any, position_or_len}
@@ -11,7 +11,7 @@ use Rattle.std.proofs.lemmas.List.{drop_at, take_at}
 use Rattle.std.proofs.lemmas.List.Elements.{All-from_recursion}
 use Rattle.std.proofs.lemmas.List.Folds.{list_any-append}
 use Rattle.std.proofs.lemmas.List.Splits.{slice_split_none}
-use Rattle.std.proofs.lemmas.Str.Parse.{IsNumeralModel, digit_from_value, numerals_by_value, numerals_by_weight, tells_all_ascii_digits, tells_digits}
+use Rattle.std.proofs.lemmas.Str.Parse.{IsNumeralModel, digit_from_value, numerals_by_value, tells_digits}
 use Rattle.quota_blocks.specs.InputLines.{InputLines, NoLine, LineThen, input_lines, lines_from}
 use Rattle.quota_blocks.specs.Lines.{NextLine, Line, is_newline, next_line_of}
 use Rattle.quota_blocks.specs.Numeral.{number_of, value_of}
@@ -19,16 +19,13 @@ use Rattle.quota_blocks.specs.Words.{is_blank, is_word, words_of}
 use Rattle.quota_blocks.proofs.InputLinesLemmas.{input_lines-step}
 use Rattle.quota_blocks.proofs.LinesLemmas.{next-end, next-line}
 use Rattle.quota_blocks.proofs.WordsLemmas.{words_of-append}
+use Rattle.quota_blocks.proofs.NumeralLemmas.{IsNumeralModel-value_of}
 use Rattle.inode_scan.specs.declared.row.Row.{Row}
 use Rattle.inode_scan.specs.Generated.{lines_text, row_text}
 use Rattle.inode_scan.specs.Line.{number_below, row_in, row_of}
 use Rattle.inode_scan.specs.Scan.{end_fault, read_lines}
 
 -- Numbers in decimal.
-
--- `value_of` is the value of decimal digits as std has it
-own : IsNumeralModel (λ ds. all_ascii_digits ds ≡ true) value_of
-own = numerals_by_weight (λ ds. all_ascii_digits ds ≡ true) tells_all_ascii_digits value_of (search rules)
 
 digits : IsNumeralModel (AllDigits 10) (digits_value 10)
 digits = numerals_by_value (AllDigits 10) tells_digits
@@ -41,8 +38,8 @@ unfolding number_of
 number_of-decimal n small =
     let some : 0 < length (decimal n) = decimal_nonempty n small in
     let few : length (decimal n) ≤ 20 = length-decimal-le 20 n (omega arith) (omega arith) small in
-    let all : all_ascii_digits (decimal n) ≡ true = digits_decimal own n small in
-    let value : value_of (decimal n) ≡ n = digits_value-decimal own n small in
+    let all : all_ascii_digits (decimal n) ≡ true = digits_decimal IsNumeralModel-value_of n small in
+    let value : value_of (decimal n) ≡ n = digits_value-decimal IsNumeralModel-value_of n small in
     grind (arith, nat_tests)
 
 number_below-decimal : (n : ℕ) → n < 2 ^ 32 → number_below (2 ^ 32) (decimal n) ≡ Some n

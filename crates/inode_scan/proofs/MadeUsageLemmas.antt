@@ -3,7 +3,7 @@ use Rattle.std.proofs.Common.{◌≡◌, ℕ, ◌*◌, ◌^◌, ◌<◌, ◌≤�
 use Rattle.std.specs.Prelude.{All, IfSome, filter, not, ◌==◌}
 use Rattle.std.specs.Cmp.{nat_cmp_total, unsigned_tied}
 use Rattle.std.specs.FinMap.{find, get, get-from_entries}
-use Rattle.std.specs.List.{AllByRecursion, cons_option, enumerate_from, filter_map}
+use Rattle.std.specs.List.{AllByRecursion, enumerate_from, filter_map}
 use Rattle.std.specs.Ordering.{nat_cmp}
 use Rattle.std.proofs.lemmas.Bool.Decides.{eqb_tells}
 use Rattle.std.proofs.lemmas.List.Elements.{All-filter, All-from_recursion, All-weaker, recursion_from_All}
@@ -11,10 +11,10 @@ use Rattle.std.proofs.lemmas.List.Filters.{length-filter_both}
 use Rattle.std.proofs.lemmas.List.FromFn.{length-enumerate_from}
 use Rattle.std.proofs.lemmas.List.Sums.{sum_by-le}
 use Rattle.quota_types.specs.declared.file_kind.Kind.TheVariants.{User}
+use Rattle.quota_types.proofs.ListLemmas.{length-filter_map, AllByRecursion-weaker}
 use Rattle.inode_scan.specs.declared.used.Used.{Used}
 use Rattle.inode_scan.specs.Generated.{generated_lines}
 use Rattle.inode_scan.specs.Listing.{Counted, counted_line, counted_lines, first_lines, is_first, owned, owner_of, usage_of, used_in}
-use Rattle.inode_scan.proofs.ListLemmas.{each_weaker}
 use Rattle.inode_scan.proofs.MadeListingLemmas.{IsSmall, Made, all_counted, all_lines, generated_usage, length-lines, row_small}
 
 -- a line that counts says no more than so much
@@ -23,14 +23,6 @@ Small line = IsSmall line.row
 
 fewer_kept : {X : Type 0} (p : X → Bool) (xs : List X) → length (filter p xs) ≤ length xs
 fewer_kept p xs = omega (arith, length-filter_both p (λ x. not (p x)) (λ x. refl) xs)
-
-fewer_given : {X Y : Type 0} (h : X → Option Y) (xs : List X) → length (filter_map h xs) ≤ length xs
-fewer_given h [] = omega arith
-fewer_given {X} {Y} h (x ∷ xs) = by (h x) (fewer_given h xs)
-  where
-    by : (o : Option Y) → length (filter_map h xs) ≤ length xs → length (cons_option o (filter_map h xs)) ≤ length (x ∷ xs)
-    by None few = omega arith
-    by (Some y) few = omega arith
 
 -- what a user of such a listing uses fits 64 bits, and there are 5,000 of them at most
 pub record IsSmallUser (id : ℕ) (used : Used) : Type 0 where
@@ -63,11 +55,11 @@ generated_small seed count id few =
     let numbered : List (ℕ × List ℕ) = enumerate_from 1 lines in
     let counted : List Counted = filter_map (counted_line None) numbered in
     let small : AllByRecursion Small counted =
-    each_weaker (Made seed count) Small counted (λ line made. row_small seed count line.row made) (all_counted seed count 1 lines few (all_lines seed 0 count count (omega arith))) in
+    AllByRecursion-weaker (Made seed count) Small counted (λ line made. row_small seed count line.row made) (all_counted seed count 1 lines few (all_lines seed 0 count count (omega arith))) in
     let firsts : List Counted = filter (is_first counted) counted in
     let all : All Small firsts = All-filter (is_first counted) Small counted (All-from_recursion Small counted small) in
     let short : length firsts ≤ count =
-    omega (arith, fewer_kept (is_first counted) counted, fewer_given (counted_line None) numbered, length-enumerate_from 1 lines, length-lines seed 0 count) in
+    omega (arith, fewer_kept (is_first counted) counted, length-filter_map (counted_line None) numbered, length-enumerate_from 1 lines, length-lines seed 0 count) in
     let made : ℕ → Used = λ k. used_in (owned User firsts k) in
     let pairs : List (ℕ × Used) = map (λ (first : Counted). (first.row.owner, made first.row.owner)) firsts in
     subst (λ (o : Option Used). IfSome o (IsSmallUser id)) (sym (get-from_entries nat_cmp_total pairs id))

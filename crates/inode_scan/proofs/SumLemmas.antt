@@ -1,10 +1,10 @@
 -- The usage that lines add up to, identifier by identifier, where one more line is the first of its inode.
-use Rattle.std.proofs.Common.{◌≡◌, ℕ, ◌+◌, ◌-◌, ◌*◌, ◌^◌, ◌<◌, ◌≤◌, Bool, true, false, cond, List, [], ◌∷◌, ◌++◌, map, Option, Some, None, refl, sym, ap, ◌∙◌, subst, inl, inr, arith, length-append, append-nil}
+use Rattle.std.proofs.Common.{◌≡◌, ℕ, ◌+◌, ◌-◌, ◌*◌, ◌^◌, ◌<◌, ◌≤◌, Bool, true, false, cond, List, [], ◌∷◌, ◌++◌, map, Option, Some, None, refl, sym, ap, ◌∙◌, subst, inl, inr, arith, length-append, append-nil, eq-eqb, ne_eqb}
 use Rattle.std.specs.Prelude.{◌==◌, if◌then◌else◌, is_some, IfSome}
 use Rattle.std.specs.Cmp.{nat_cmp_total, unsigned_tied}
 use Rattle.std.specs.FinMap.{empty, find, get, get-empty, get-from_entries, get-insert, insert, nat_cmp-IsAntisymmetric, same_map}
 use Rattle.std.specs.Ordering.{eq_by_cmp, nat_cmp}
-use Rattle.std.proofs.lemmas.Bool.Decides.{eqb_tells, nat_tests}
+use Rattle.std.proofs.lemmas.Bool.Decides.{eqb_tells}
 use Rattle.std.proofs.lemmas.List.Elements.{filter-append}
 use Rattle.std.proofs.lemmas.List.Sums.{sum_by-append}
 use Rattle.quota_types.specs.declared.file_kind.Kind.{Kind}
@@ -33,21 +33,15 @@ if_any-own (line ∷ lines) = refl
 abbrev entries_by : Kind → (ℕ → Used) → List Counted → List (ℕ × Used)
 entries_by kind made lines = map (λ line. let id : ℕ = owner_of kind line.row in (id, made id)) lines
 
-same_number : (id n : ℕ) → n ≡ id → (id == n) ≡ true
-same_number id n own = grind (arith, nat_tests)
-
-other_number : (id n : ℕ) → (n ≡ id → ⊥) → (id == n) ≡ false
-other_number id n other = grind (arith, nat_tests)
-
 found_by : (kind : Kind) (made : ℕ → Used) (lines : List Counted) (id : ℕ) → find nat_cmp id (entries_by kind made lines) ≡ if_any (owned kind lines id) (made id)
 found_by kind made [] id = refl
 found_by kind made (line ∷ lines) id = elim (eqb_tells (owner_of kind line.row) id) [
   | inl own ↦
-      ap (λ b. cond b (Some (made (owner_of kind line.row))) (find nat_cmp id (entries_by kind made lines))) (unsigned_tied id (owner_of kind line.row) ∙ same_number id (owner_of kind line.row) own.1)
+      ap (λ b. cond b (Some (made (owner_of kind line.row))) (find nat_cmp id (entries_by kind made lines))) (unsigned_tied id (owner_of kind line.row) ∙ eq-eqb id (owner_of kind line.row) (sym own.1))
       ∙ ap (λ n. Some (made n)) own.1
       ∙ ap (λ b. if_any (cond b (line ∷ owned kind lines id) (owned kind lines id)) (made id)) (sym own.0)
   | inr other ↦
-      ap (λ b. cond b (Some (made (owner_of kind line.row))) (find nat_cmp id (entries_by kind made lines))) (unsigned_tied id (owner_of kind line.row) ∙ other_number id (owner_of kind line.row) other.1)
+      ap (λ b. cond b (Some (made (owner_of kind line.row))) (find nat_cmp id (entries_by kind made lines))) (unsigned_tied id (owner_of kind line.row) ∙ ne_eqb id (owner_of kind line.row) (λ same. other.1 (sym same)))
       ∙ found_by kind made lines id
       ∙ ap (λ b. if_any (cond b (line ∷ owned kind lines id) (owned kind lines id)) (made id)) (sym other.0)
 ]
@@ -94,13 +88,13 @@ usage_of-push kind lines line before none =
         ≡ usage_in (owned kind (first_lines (lines ++ line ∷ [])) id)
     at id = elim (eqb_tells (owner_of kind line.row) id) [
       | inl same ↦
-          ap (λ b. cond b (Some (with_inode (get (usage_of kind lines) (owner_of kind line.row)) line.row.blocks)) (get (usage_of kind lines) id)) (unsigned_tied id (owner_of kind line.row) ∙ same_number id (owner_of kind line.row) same.1)
+          ap (λ b. cond b (Some (with_inode (get (usage_of kind lines) (owner_of kind line.row)) line.row.blocks)) (get (usage_of kind lines) id)) (unsigned_tied id (owner_of kind line.row) ∙ eq-eqb id (owner_of kind line.row) (sym same.1))
           ∙ ap (λ n. Some (with_inode (get (usage_of kind lines) n) line.row.blocks)) same.1
           ∙ ap (λ o. Some (with_inode o line.row.blocks)) (usage_of-get kind lines id)
           ∙ sym (used_push (owned kind (first_lines lines) id) line)
           ∙ ap (λ b. usage_in (owned kind (first_lines lines) id ++ (if b then line ∷ [] else []))) (sym same.0) ∙ ap usage_in (sym (mine id))
       | inr other ↦
-          ap (λ b. cond b (Some (with_inode (get (usage_of kind lines) (owner_of kind line.row)) line.row.blocks)) (get (usage_of kind lines) id)) (unsigned_tied id (owner_of kind line.row) ∙ other_number id (owner_of kind line.row) other.1)
+          ap (λ b. cond b (Some (with_inode (get (usage_of kind lines) (owner_of kind line.row)) line.row.blocks)) (get (usage_of kind lines) id)) (unsigned_tied id (owner_of kind line.row) ∙ ne_eqb id (owner_of kind line.row) (λ same. other.1 (sym same)))
           ∙ usage_of-get kind lines id
           ∙ ap usage_in (sym (append-nil (owned kind (first_lines lines) id)))
           ∙ ap (λ b. usage_in (owned kind (first_lines lines) id ++ (if b then line ∷ [] else []))) (sym other.0) ∙ ap usage_in (sym (mine id))

@@ -1,6 +1,5 @@
 -- Usages in the hash map that keeps them while they are added up.
-use Rattle.std.proofs.Common.{◌≡◌, ℕ, nat_eq, cond, List, [], ◌∷◌, Option, Some, None, refl, sym, ap, ◌∙◌}
-use Rattle.std.specs.Prelude.{IsSome}
+use Rattle.std.proofs.Common.{◌≡◌, ℕ, nat_eq, cond, List, [], ◌∷◌, Some, refl, sym, ap, ◌∙◌}
 use Rattle.std.specs.BTreeMap as tree
 use Rattle.std.specs.Cmp.{eq_by_cmp_equiv, nat_cmp_total, nat_eq_equiv, unsigned_tied}
 use Rattle.std.specs.FinMap.{find, from_entries, get, get-from_entries, get-insert, insert, nat_cmp-IsAntisymmetric, same_map}
@@ -19,10 +18,6 @@ found_at (e ∷ es) id =
 -- what the map of entries has for an identifier
 pub get_sum : (es : List (ℕ × Used)) (id : ℕ) → get (from_entries {R = nat_cmp} es) id ≡ lookup (nat_eq id) es
 get_sum es id = get-from_entries nat_cmp_total es id ∙ found_at es id
-
-pub is_there : (found : Option Used) (used : Used) → found ≡ Some used → IsSome found
-is_there None used is = absurd (cc)
-is_there (Some other) used is = refl
 
 -- the map of entries of which one was put in
 pub sum_put : (es now : List (ℕ × Used)) (id : ℕ) (used : Used) → ((other : ℕ) → lookup (nat_eq other) now ≡ cond (nat_eq id other) (Some used) (lookup (nat_eq other) es))

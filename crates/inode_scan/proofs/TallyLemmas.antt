@@ -15,6 +15,7 @@ use Rattle.inode_scan.specs.declared.inode.FirstLine.{FirstLine}
 use Rattle.inode_scan.specs.declared.row.Row.{Row}
 use Rattle.inode_scan.specs.declared.tally.Tally.{Tally}
 use Rattle.quota_types.specs.declared.file_kind.Kind.{Kind}
+use Rattle.quota_types.proofs.ListLemmas.{option_or-none}
 use Rattle.inode_scan.specs.Firsts.{inode_eq, kept_in, kept_or}
 use Rattle.inode_scan.specs.Line.{is_bad, row_in, row_of}
 use Rattle.inode_scan.specs.Listing.{Counted, conflict_of, counted_line, counted_lines, counted_row, fault_of, faults_of, first_lines, first_of, is_asked, is_same_inode, owned, owner_of, usage_of, used_in}
@@ -74,10 +75,6 @@ one_line row number inode = ap (λ b. cond b (Some (counted_at number row)) None
 first_of-push : (lines : List Counted) (row : Row) (number : ℕ) (inode : Inode)
     → first_of (lines ++ counted_at number row ∷ []) (row_at inode) ≡ option_or (first_of lines (row_at inode)) (cond (inode_eq (inode_of row) inode) (Some (counted_at number row)) None)
 first_of-push lines row number inode = first_of-append lines (counted_at number row ∷ []) (row_at inode) ∙ ap (option_or (first_of lines (row_at inode))) (one_line row number inode)
-
-option_or-none : {X : Type 0} (o : Option X) → option_or o None ≡ o
-option_or-none None = refl
-option_or-none (Some x) = refl
 
 -- the first lines stay where a line of an inode that has one is added
 first_of-later : (lines : List Counted) (row : Row) (number : ℕ) (first : Counted) (inode : Inode) → first_of lines row ≡ Some first

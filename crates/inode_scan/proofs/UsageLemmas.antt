@@ -56,7 +56,7 @@ none_unless : (found : Option Used) → (IsSome found → ⊥) → found ≡ Non
 none_unless None not = refl
 none_unless (Some used) not = absurd (not refl)
 
-some_is : (found : Option Used) (used : Used) → found ≡ Some used → IsSome found
+pub some_is : (found : Option Used) (used : Used) → found ≡ Some used → IsSome found
 some_is found used is = subst (λ (o : Option Used). IsSome o) (sym is) refl
 
 pub next_found : (after : Option ℕ) (m : BTreeMap ℕ Used) (from : List (ℕ × Used)) (e : ℕ × Used) (rest : List (ℕ × Used)) → IsRangeOf nat_cmp (bound_above after) Unbounded m from → from ≡ e ∷ rest

@@ -1,7 +1,7 @@
 -- Numbers in parts of a file.
-use Rattle.std.proofs.Common.{◌≡◌, ℕ, zero, suc, ◌+◌, ◌*◌, ◌≤◌, List, take, drop, refl, ap, ◌∙◌, arith}
-use Rattle.std.proofs.lemmas.List.{get_or-drop, get_or-take}
-use Rattle.quota_types.specs.Bytes.{number_at}
+use Rattle.std.proofs.Common.{◌≡◌, ℕ, zero, suc, ◌+◌, ◌*◌, ◌<◌, ◌≤◌, List, length, take, drop, refl, ap, ◌∙◌, arith}
+use Rattle.std.proofs.lemmas.List.{get_or-drop, get_or-take, get_or_past}
+use Rattle.quota_types.specs.Bytes.{byte_at, number_at}
 
 -- a number in two equal parts
 number_by : (byte byte' rest rest' : ℕ) → byte ≡ byte' → rest ≡ rest' → byte + 256 * rest ≡ byte' + 256 * rest'
@@ -24,3 +24,16 @@ unfolding number_at
 number_at-take zero most file at h = refl
 number_at-take (suc width) most file at h =
     number_by _ _ _ _ (get_or-take most file at 0 (omega arith)) (number_at-take width most file (suc at) (omega arith))
+
+-- a number of bytes that are 0
+pub number_at-zeros : (width at : ℕ) (file : List ℕ) → ((k : ℕ) → at ≤ k → k < at + width → byte_at file k ≡ 0) → number_at width file at ≡ 0
+unfolding number_at
+number_at-zeros zero at file zeros = refl
+number_at-zeros (suc width) at file zeros =
+    let byte : byte_at file at ≡ 0 = zeros at (omega arith) (omega arith) in
+    let rest = number_at-zeros width (suc at) file (λ k from to. zeros k (omega arith) (omega arith)) in
+    omega arith
+
+-- past the end there are zeros
+pub number_at-past : (width at : ℕ) (file : List ℕ) → length file ≤ at → number_at width file at ≡ 0
+number_at-past width at file past = number_at-zeros width at file (λ k from to. get_or_past file k 0 (omega arith))

@@ -1,9 +1,10 @@
 -- How often numbers stand in lists.
-use Rattle.std.proofs.Common.{◌≡◌, ◌≢◌, ℕ, zero, suc, ◌+◌, ◌<◌, ◌≤◌, Bool, true, false, cond, ◌==◌, List, [], ◌∷◌, ◌++◌, length, filter, refl, sym, ap, ◌∙◌, ◌⊎◌, inl, inr, arith, true≢false, zero-le, length-append}
+use Rattle.std.proofs.Common.{◌≡◌, ◌≢◌, ℕ, zero, suc, ◌+◌, ◌<◌, ◌≤◌, Bool, true, false, cond, ◌||◌, ◌==◌, List, [], ◌∷◌, ◌++◌, length, get_or, filter, refl, sym, ap, ◌∙◌, ◌⊎◌, inl, inr, arith, true≢false, zero-le, length-append, ne_eqb, eq-eqb}
 use Rattle.std.proofs.lemmas.List.Sums.{sum_by-cons, sum_by-append}
 use Rattle.std.proofs.lemmas.Bool.{cases_Bool, cases_lt}
 use Rattle.std.proofs.lemmas.Bool.Decides.{eqb_tells}
-use Rattle.std.specs.List.{range_with_len}
+use Rattle.std.proofs.lemmas.List.FromFn.{length-range_with_len}
+use Rattle.std.specs.List.{list_any, range_with_len}
 use Rattle.quota_types.specs.Times.{StandsIn, times}
 
 pub times-cons : (x : ℕ) (xs : List ℕ) (n : ℕ) → times (x ∷ xs) n ≡ cond (x == n) 1 0 + times xs n
@@ -37,6 +38,28 @@ stands_left xs ys n stands = omega (arith, times-append xs ys n, stands)
 
 pub stands_right : (xs ys : List ℕ) (n : ℕ) → StandsIn ys n → StandsIn (xs ++ ys) n
 stands_right xs ys n stands = omega (arith, times-append xs ys n, stands)
+
+-- a list has a number that a test finds in it
+pub StandsIn-list_any : (xs : List ℕ) (n : ℕ) → list_any (λ other. other == n) xs ≡ true → StandsIn xs n
+StandsIn-list_any [] n found = absurd (true≢false (sym found))
+StandsIn-list_any (x ∷ xs) n found = elim (times_cases x xs n) [
+  | inl same ↦ omega (arith, same.1)
+  | inr other ↦ omega (arith, other.1, StandsIn-list_any xs n (sym (ap (λ (b : Bool). b || list_any (λ other. other == n) xs) (ne_eqb x n other.0)) ∙ found))
+]
+
+-- and else it has not
+pub times-list_any : (xs : List ℕ) (n : ℕ) → list_any (λ other. other == n) xs ≡ false → times xs n ≡ 0
+times-list_any [] n absent = refl
+times-list_any (x ∷ xs) n absent = elim (times_cases x xs n) [
+  | inl same ↦ absurd (true≢false (sym (ap (λ (b : Bool). b || list_any (λ other. other == n) xs) (eq-eqb x n same.0)) ∙ absent))
+  | inr other ↦ other.1 ∙ times-list_any xs n (sym (ap (λ (b : Bool). b || list_any (λ other. other == n) xs) (ne_eqb x n other.0)) ∙ absent)
+]
+
+-- a number stands in the list at whose place it is
+pub StandsIn-get_or : (xs : List ℕ) (k : ℕ) → k < length xs → StandsIn xs (get_or xs k 0)
+StandsIn-get_or [] k low = absurd (omega arith)
+StandsIn-get_or (x ∷ xs) zero low = omega (arith, times-cons-same x xs)
+StandsIn-get_or (x ∷ xs) (suc k) low = stands_right (x ∷ []) xs (get_or xs k 0) (StandsIn-get_or xs k (omega arith))
 
 -- a number that stands in a list stands at some place
 pub found_in : (x : ℕ) (ys : List ℕ) → StandsIn ys x → (before : List ℕ) × (behind : List ℕ) × (ys ≡ before ++ x ∷ behind)
@@ -83,9 +106,17 @@ times-range-within low (suc count) n ge lt = elim (times_cases low (range_with_l
   | inr other ↦ other.1 ∙ (let ne : low ≢ n = other.0 in times-range-within (low + 1) count n (omega arith) (omega arith))
 ]
 
-pub length-range : (low count : ℕ) → length (range_with_len low count) ≡ count
-length-range low zero = refl
-length-range low (suc count) = let rest = length-range (low + 1) count in omega arith
+-- a range in two parts
+pub range_with_len-add : (low one two : ℕ) → range_with_len low (one + two) ≡ range_with_len low one ++ range_with_len (low + one) two
+range_with_len-add low zero two =
+    let none : zero + two ≡ two = omega arith in
+    let same : low ≡ low + zero = omega arith in
+    ap (range_with_len low) none ∙ ap (λ (k : ℕ). range_with_len k two) same
+range_with_len-add low (suc one) two =
+    let more : suc one + two ≡ suc (one + two) = omega arith in
+    let same : low + 1 + one ≡ low + suc one = omega arith in
+    ap (range_with_len low) more
+    ∙ ap (λ (ns : List ℕ). low ∷ ns) (range_with_len-add (low + 1) one two ∙ ap (λ (k : ℕ). range_with_len (low + 1) one ++ range_with_len k two) same)
 
 -- where each number stands once at most, there are no more than there are numbers below a bound
 pub few_of_distinct : (bound : ℕ) (numbers : List ℕ) → ((n : ℕ) → times numbers n ≤ 1) → ((n : ℕ) → StandsIn numbers n → n < bound) → length numbers ≤ bound
@@ -97,7 +128,7 @@ few_of_distinct bound numbers distinct inside =
         | inr none ↦ omega arith
       ]
     ] in
-    omega (arith, length_of_times numbers (range_with_len 0 bound) fewer, length-range 0 bound)
+    omega (arith, length_of_times numbers (range_with_len 0 bound) fewer, length-range_with_len 0 bound)
 
 -- and fewer, where 0 is none of them
 pub fewer_of_distinct : (bound : ℕ) (numbers : List ℕ) → 0 < bound → ((n : ℕ) → times numbers n ≤ 1) → ((n : ℕ) → StandsIn numbers n → (0 < n) × (n < bound)) → length numbers < bound

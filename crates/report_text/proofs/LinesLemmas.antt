@@ -1,25 +1,16 @@
 -- The lines of identifiers that are put one after another.
-use Rattle.std.proofs.Common.{◌≡◌, ℕ, ◌-◌, ◌^◌, ◌<◌, Bool, List, [], ◌∷◌, ◌++◌, Option, Some, None, refl, sym, ap, subst, ◌∙◌, arith, append_assoc, append-nil}
+use Rattle.std.proofs.Common.{◌≡◌, ℕ, Bool, List, [], ◌∷◌, ◌++◌, Option, Some, None, refl, sym, ap, subst, ◌∙◌, arith, append_assoc, append-nil}
 use Rattle.std.specs.FinMap.{entries}
 use Rattle.quota_types.specs.declared.file_kind.Kind.{Kind}
 use Rattle.quota_types.specs.declared.record.Rec.{Rec}
 use Rattle.quota_types.specs.declared.record.Grace.{Grace}
 use Rattle.quota_types.specs.declared.record.Entry.{Entry}
-use Rattle.quota_blocks.specs.QuotaValue.{QuotaValue, Records, IsAfter, IsNextAfter}
+use Rattle.quota_blocks.specs.QuotaValue.{QuotaValue, Records, IsNextAfter}
 use Rattle.quota_blocks.proofs.EntriesLemmas.{entries_after, entries_after-all, entries_after-next, entries_after-end}
 use Rattle.report_text.specs.declared.options.Options.{Options}
 use Rattle.quota_blocks.specs.Text.{Gathers, WritesPrefix}
 use Rattle.report_text.specs.Report.{report_of, head_of, lines_of, shown_line}
 use Rattle.report_text.proofs.GatherLemmas.{gathers_none, gathers_then, writes_more, writes_then, writes_gathered}
-
--- how many identifiers there may be after one
-abbrev pub ids_after : Option ℕ → ℕ
-ids_after None = 2 ^ 32
-ids_after (Some id) = 2 ^ 32 - 1 - id
-
-pub ids_after-falls : (after : Option ℕ) (id : ℕ) → IsAfter after id → id < 2 ^ 32 → ids_after (Some id) < ids_after after
-ids_after-falls None id is fits = omega arith
-ids_after-falls (Some after) id is fits = omega arith
 
 module _ (names : ℕ → Option (List ℕ)) (now : ℕ) (options : Options) where
   -- the lines of entries are that of the first, where it is shown, and those of the others

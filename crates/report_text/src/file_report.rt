@@ -1,11 +1,10 @@
-ghost use Rattle.std.specs.Prelude.{◌≡◌, ◌≤◌, ◌++◌, true, IsTrue, OnOk, OnErr, IfErr, IfSome};
+ghost use Rattle.std.specs.Prelude.{◌≡◌, ◌≤◌, ◌++◌, true, IsTrue, OnOk, OnErr, IfErr, IfSome, is_ok};
 ghost use Rattle.std.specs.FinMap.{entries};
 ghost use Rattle.id_names.specs.FirstMatch.{first_name};
 ghost use Rattle.quota_blocks.specs.Frame.{OnlyReads};
 ghost use Rattle.quota_blocks.specs.QuotaFile.{CountsRefusal};
 ghost use Rattle.quota_blocks.specs.QuotaValue.{QuotaValue};
 ghost use Rattle.quota_blocks.specs.Text.{AppendsPrefix, Gathers, WritesPrefix};
-ghost use Rattle.quota_blocks.specs.Unsynced.{AddsNone};
 ghost use Rattle.report_text.specs.Fault.{IsReportFault, OnSink, file_fault};
 ghost use Rattle.report_text.specs.Report.{report_of, lines_of};
 
@@ -47,8 +46,7 @@ pub fn report<S: Store, F: QuotaFile<S>, O: Sink>(
         (S.seen store.old).faults (S.seen store.new).faults (F.holds file.old store.old)) }
     ensures may { IfErr result (λ fault. IfSome (file_fault fault) (F.may_refuse (F.seen file.old).format)) }
     ensures stays { (value : QuotaValue) → F.holds file.old store.old value → F.holds file.new store.new value }
-    ensures leaves { OnlyReads (F.seen file.old).name (S.seen store.old) (S.seen store.new) }
-    ensures synced { OnOk result (AddsNone (S.seen store.old).unsynced (S.seen store.new).unsynced) }
+    ensures leaves { OnlyReads (is_ok result) (F.seen file.old).name (S.seen store.old) (S.seen store.new) }
     ensures same { OnOk result (F.seen file.new ≡ F.seen file.old) }
     ensures counted { IfErr result (λ fault. IfSome (file_fault fault) (λ _.
         CountsRefusal true (F.seen file.old) (F.seen file.new))) }
@@ -83,8 +81,7 @@ fn put_entries<S: Store, F: QuotaFile<S>, O: Sink>(
         (S.seen store.old).faults (S.seen store.new).faults (F.holds file.old store.old)) }
     ensures may { IfErr result (λ fault. IfSome (file_fault fault) (F.may_refuse (F.seen file.old).format)) }
     ensures stays { (value : QuotaValue) → F.holds file.old store.old value → F.holds file.new store.new value }
-    ensures leaves { OnlyReads (F.seen file.old).name (S.seen store.old) (S.seen store.new) }
-    ensures synced { OnOk result (AddsNone (S.seen store.old).unsynced (S.seen store.new).unsynced) }
+    ensures leaves { OnlyReads (is_ok result) (F.seen file.old).name (S.seen store.old) (S.seen store.new) }
     ensures same { OnOk result (F.seen file.new ≡ F.seen file.old) }
     ensures counted { IfErr result (λ fault. IfSome (file_fault fault) (λ _.
         CountsRefusal true (F.seen file.old) (F.seen file.new))) }

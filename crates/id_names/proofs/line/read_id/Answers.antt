@@ -1,7 +1,8 @@
-use Rattle.std.proofs.Common.{◌≡◌, true, get_or, length, sym, ◌∙◌, arith}
+use Rattle.std.proofs.Common.{◌≡◌, true, get_or, length, sym, ◌∙◌, arith, ◌^◌}
 use Rattle.std.proofs.lemmas.Bool.Decides.{nat_tests}
 use Rattle.std.specs.Char.{is_ascii_digit}
-use Rattle.id_names.proofs.IdLemmas.{id_of_field-spoilt, id_of_field-too_large, id_of_field-read, read_more, digit_value-digit}
+use Rattle.quota_types.proofs.DigitsLemmas.{digit_value-digit, IsReadBelow-more}
+use Rattle.id_names.proofs.IdLemmas.{id_of_field-spoilt, id_of_field-too_large, id_of_field-read}
 use Rattle.id_names.proofs.line.read_id.Goals as goal
 
 pub returns-then-not-is_ascii_digit : goal.returns-then-not-is_ascii_digit
@@ -25,7 +26,7 @@ returns-in_err-id c =
 pub loop-digit-preserved : goal.loop-digit-preserved
 loop-digit-preserved c =
     let digit : is_ascii_digit (get_or c.args.field.now c.loop-digit.digit-index 0) ≡ true = sym c.is_ascii_digit.ensures.value ∙ c.if-not-is_ascii_digit.false in
-    read_more c.args.field.now c.loop-digit.digit-index c.loop-digit.id c.in_ok-id.id c.loop-digit.invariant c.loop-digit-test.true digit
+    IsReadBelow-more (2 ^ 32) c.args.field.now c.loop-digit.digit-index c.loop-digit.id c.in_ok-id.id c.loop-digit.invariant c.loop-digit-test.true digit
     (omega (arith, c.in_ok-checked_mul.ensures, c.in_ok-id.ensures, digit_value-digit (get_or c.args.field.now c.loop-digit.digit-index 0) digit))
     (omega (arith, c.in_ok-id.ensures))
 

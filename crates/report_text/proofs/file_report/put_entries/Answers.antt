@@ -1,10 +1,10 @@
-use Rattle.std.proofs.Common.{◌∙◌, refl, sym, subst, IsTrue, Option, arith}
+use Rattle.std.proofs.Common.{◌∙◌, refl, sym, subst, IsTrue, Option, arith, true}
 use Rattle.std.proofs.lemmas.Result.{err_from_is_err_and}
 use Rattle.quota_types.specs.declared.record.Entry.{Entry}
 use Rattle.quota_blocks.specs.Frame.{OnlyReads}
 use Rattle.quota_blocks.specs.QuotaFile.{FileSeen}
 use Rattle.quota_blocks.specs.QuotaValue.{IsNextAfter}
-use Rattle.quota_blocks.proofs.FrameLemmas.{adds_none-then, only_reads-none, only_reads-then}
+use Rattle.quota_blocks.proofs.FrameLemmas.{only_reads-none, only_reads-then}
 use Rattle.report_text.proofs.LinesLemmas.{put_none, put_more, put_all, put_fault, put_part}
 use Rattle.report_text.proofs.file_report.put_entries.Goals as goal
 
@@ -15,7 +15,6 @@ loop-entry-init g c = record {
   same = refl;
   usable = c.requires;
   leaves = only_reads-none _ _;
-  synced = λ name is. is;
   sink_later = omega arith;
 }
 
@@ -47,8 +46,7 @@ loop-entry-preserved g c =
       same = found.same ∙ kept.same;
       usable = subst (λ (seen : FileSeen). IsTrue seen.usable) (sym found.same) kept.usable;
       leaves = only_reads-then _ _ _ _ kept.leaves
-          (subst (λ (seen : FileSeen). OnlyReads seen.name (g.S.Store.seen c.loop-entry.store) (g.S.Store.seen c.next_after.new.store)) kept.same found.leaves);
-      synced = adds_none-then _ _ _ kept.synced found.synced;
+          (subst (λ (seen : FileSeen). OnlyReads true seen.name (g.S.Store.seen c.loop-entry.store) (g.S.Store.seen c.next_after.new.store)) kept.same found.leaves);
       sink_later = omega (arith, put.later, kept.sink_later);
     }
 

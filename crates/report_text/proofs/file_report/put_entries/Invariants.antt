@@ -1,9 +1,9 @@
-use Rattle.std.proofs.Common.{◌≡◌, ◌≤◌, IsTrue}
+use Rattle.std.proofs.Common.{◌≡◌, ◌≤◌, IsTrue, true}
 use Rattle.id_names.specs.FirstMatch.{first_name}
 use Rattle.quota_blocks.specs.Frame.{OnlyReads}
 use Rattle.quota_blocks.specs.QuotaValue.{QuotaValue}
-use Rattle.quota_blocks.specs.Unsynced.{AddsNone}
-use Rattle.report_text.proofs.LinesLemmas.{IsPutUpTo, ids_after}
+use Rattle.quota_blocks.proofs.EntriesLemmas.{ids_after}
+use Rattle.report_text.proofs.LinesLemmas.{IsPutUpTo}
 use Rattle.report_text.proofs.file_report.put_entries.Given as goal
 
 abbrev pub invariant-loop-entry : goal.invariant-loop-entry
@@ -17,8 +17,7 @@ invariant-loop-entry g l =
       stays : (value : QuotaValue) → F.holds l.fn.file l.fn.store value → F.holds l.file l.store value;
       same : F.seen l.file ≡ F.seen l.fn.file;
       usable : IsTrue (F.seen l.file).usable;
-      leaves : OnlyReads (F.seen l.fn.file).name (S.seen l.fn.store) (S.seen l.store);
-      synced : AddsNone (S.seen l.fn.store).unsynced (S.seen l.store).unsynced;
+      leaves : OnlyReads true (F.seen l.fn.file).name (S.seen l.fn.store) (S.seen l.store);
       sink_later : (O.seen l.fn.sink).faults ≤ (O.seen l.sink).faults;
     }
 

@@ -4,7 +4,8 @@ use Rattle.std.specs.FinMap.{get, insert}
 use Rattle.std.specs.Map.{lookup}
 use Rattle.inode_scan.specs.declared.used.Used.{Used}
 use Rattle.inode_scan.specs.Usage.{UsageMap, with_inode}
-use Rattle.inode_scan.proofs.SumsLemmas.{get_sum, is_there, sum_put}
+use Rattle.inode_scan.proofs.SumsLemmas.{get_sum, sum_put}
+use Rattle.inode_scan.proofs.UsageLemmas.{some_is}
 use Rattle.inode_scan.proofs.sums.Sums.add.Goals as goal
 
 pub with_inode-requires : goal.with_inode-requires
@@ -16,7 +17,7 @@ pub returns-in-Some : goal.returns-in-Some
 returns-in-Some c =
     let used : Used = c.with_inode.result in
     let some : lookup (nat_eq c.args.id) c.self.inside.used.entries ≡ Some c.in-Some.used.now = sym c.in-Some.ensures.value in
-    let put = ((c.get_mut.follows.holds used).3 (is_there _ c.in-Some.used.now some)).0 in
+    let put = ((c.get_mut.follows.holds used).3 (some_is _ c.in-Some.used.now some)).0 in
     sum_put c.self.inside.used.entries _ c.args.id used put
     ∙ ap (λ (m : UsageMap). insert m c.args.id used) c.self.view_is
     ∙ ap (insert c.args.self.now c.args.id) (c.with_inode.ensures
