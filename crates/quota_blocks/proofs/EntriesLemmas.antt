@@ -1,5 +1,5 @@
 -- The entries of a finite map whose identifiers come after another one.
-use Rattle.std.proofs.Common.{◌≡◌, ◌≢◌, ℕ, ◌<◌, ◌≤◌, Bool, true, false, cond, nat_lt, T, List, [], ◌∷◌, Option, Some, None, filter, refl, sym, ap, subst, ◌∙◌, arith, eq-eqb, inl, inr}
+use Rattle.std.proofs.Common.{◌≡◌, ◌≢◌, ℕ, ◌-◌, ◌^◌, ◌<◌, ◌≤◌, Bool, true, false, cond, nat_lt, T, List, [], ◌∷◌, Option, Some, None, filter, refl, sym, ap, subst, ◌∙◌, arith, eq-eqb, inl, inr}
 use Rattle.std.proofs.lemmas.Bool.Decides.{nat_tests, eqb_tells}
 use Rattle.std.proofs.lemmas.Option.{none-some, same_Some}
 use Rattle.std.proofs.lemmas.Bool.{true≢false}
@@ -65,9 +65,14 @@ not_after None id other h t = absurd (true≢false t)
 not_after (Some after) id other h t = grind (arith, nat_tests)
 
 -- what comes after that which comes after comes after
-after_more : (after : Option ℕ) (id more : ℕ) → IsAfter after id → id < more → IsAfter after more
-after_more None id more h lt = tt
-after_more (Some after) id more h lt = omega arith
+pub IsAfter-more : (after : Option ℕ) (id more : ℕ) → IsAfter after id → id < more → IsAfter after more
+IsAfter-more None id more h lt = tt
+IsAfter-more (Some after) id more h lt = omega arith
+
+-- how many identifiers there may be after one, or after none
+abbrev pub ids_after : Option ℕ → ℕ
+ids_after None = 2 ^ 32
+ids_after (Some id) = 2 ^ 32 - 1 - id
 
 -- where all that is above a number comes after, so do entries that are all above it
 all_after : {X : Type 0} (after : Option ℕ) (low : ℕ) (es : List (ℕ × X)) → ((k : ℕ) → low < k → IsAfter after k) → T (below_all nat_cmp low es) → entries_after after es ≡ es
@@ -84,7 +89,7 @@ first_found {X} after id x e es above is here same =
     let is_here : IsAfter after e.0 = subst (IsAfter after) (sym same) is in
     let itself_not : nat_lt id e.0 ≡ false = grind (arith, nat_tests) in
     ap (λ (b : Bool). cond b (e ∷ entries_after after es) (entries_after after es)) (after_test after e.0 is_here)
-    ∙ ap (λ (rest : List (ℕ × X)). e ∷ rest) (all_after after e.0 es (λ k lt. after_more after e.0 k is_here lt) above)
+    ∙ ap (λ (rest : List (ℕ × X)). e ∷ rest) (all_after after e.0 es (λ k lt. IsAfter-more after e.0 k is_here lt) above)
     ∙ ap (λ (k : ℕ). (k, e.1) ∷ es) same ∙ ap (λ (y : X). (id, y) ∷ es) value
     ∙ ap (λ (rest : List (ℕ × X)). (id, x) ∷ rest)
     (sym (ap (λ (b : Bool). cond b (e ∷ entries_after (Some id) es) (entries_after (Some id) es)) itself_not

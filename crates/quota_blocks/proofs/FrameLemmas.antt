@@ -1,11 +1,11 @@
 -- What calls on a store leave, for no call and for two in a row.
-use Rattle.std.proofs.Common.{◌≡◌, inl, inr, ℕ, false, IsTrue, List, refl, sym, subst, ◌∙◌, arith}
+use Rattle.std.proofs.Common.{◌≡◌, inl, inr, ℕ, Bool, true, false, IsTrue, List, refl, sym, subst, ◌∙◌, arith, ◌⊎◌, ap}
 use Rattle.std.proofs.lemmas.Bool.{cases_Bool, false≢true}
-use Rattle.quota_blocks.specs.Frame.{ChangesOne, ChangesTwo, IsSynced, OnlyReads, ReplacesOne}
+use Rattle.quota_blocks.specs.Frame.{AreSynced, ChangesOne, ChangesTwo, IsSynced, OnlyReads, ReplacesOne}
 use Rattle.quota_blocks.specs.Replace.{replacement_name}
 use Rattle.quota_blocks.specs.Seen.{StoreSeen}
 use Rattle.quota_blocks.specs.Unsynced.{AddsNone, Names}
-use Rattle.quota_blocks.specs.World.{KeepsOthers, KeepsOtherTwo}
+use Rattle.quota_blocks.specs.World.{KeepsOthers, KeepsOtherTwo, World}
 
 -- where nothing changed all others are as they were
 pub keeps_others-same : {T : Type 0} (name : List ℕ) (old new : List ℕ → T) → new ≡ old → KeepsOthers name old new
@@ -18,15 +18,36 @@ pub keeps_other_two-then : {T : Type 0} (one two : List ℕ) (old between new : 
 keeps_other_two-then one two old between new first second other differ differs = second other differ differs ∙ first other differ differs
 
 -- a call that was not made reads only
-pub only_reads-none : (name : List ℕ) (seen : StoreSeen) → OnlyReads name seen seen
-only_reads-none name seen = record { files = refl; unsynced = λ other differ. refl; later = omega arith; writes = refl }
+pub only_reads-none : {done : Bool} (name : List ℕ) (seen : StoreSeen) → OnlyReads done name seen seen
+only_reads-none name seen = record { files = refl; unsynced = λ other differ. refl; later = omega arith; writes = refl; synced = λ done other is. is }
 
-pub only_reads-then : (name : List ℕ) (old between new : StoreSeen) → OnlyReads name old between → OnlyReads name between new → OnlyReads name old new
+pub only_reads-then : {done : Bool} (name : List ℕ) (old between new : StoreSeen) → OnlyReads true name old between → OnlyReads done name between new → OnlyReads done name old new
 only_reads-then name old between new first second = record {
   files = second.files ∙ first.files;
   unsynced = keeps_others-then name _ _ _ first.unsynced second.unsynced;
   later = omega (arith, first.later, second.later);
   writes = second.writes ∙ first.writes;
+  synced = λ done other is. first.synced refl other (second.synced done other is);
+}
+
+-- what was done is also what was not said to be done
+pub only_reads-less : {done : Bool} (name : List ℕ) (old new : StoreSeen) → OnlyReads done name old new → OnlyReads false name old new
+only_reads-less name old new read = record {
+  files = read.files;
+  unsynced = read.unsynced;
+  later = read.later;
+  writes = read.writes;
+  synced = λ done. absurd (false≢true done);
+}
+
+-- two calls in a row, of which nothing is said of names that were synced
+pub only_reads-any : {one two : Bool} (name : List ℕ) (old between new : StoreSeen) → OnlyReads one name old between → OnlyReads two name between new → OnlyReads false name old new
+only_reads-any name old between new first second = record {
+  files = second.files ∙ first.files;
+  unsynced = keeps_others-then name _ _ _ first.unsynced second.unsynced;
+  later = omega (arith, first.later, second.later);
+  writes = second.writes ∙ first.writes;
+  synced = λ done. absurd (false≢true done);
 }
 
 pub changes_one-none : (name : List ℕ) (seen : StoreSeen) → ChangesOne name seen seen
@@ -41,7 +62,7 @@ changes_one-then name old between new first second = record {
 }
 
 -- a call that only reads or syncs one name, after a change of it
-pub changes_one-synced : (name : List ℕ) (old between new : StoreSeen) → ChangesOne name old between → OnlyReads name between new → new.reads ≡ between.reads → ChangesOne name old new
+pub changes_one-synced : {done : Bool} (name : List ℕ) (old between new : StoreSeen) → ChangesOne name old between → OnlyReads done name between new → new.reads ≡ between.reads → ChangesOne name old new
 changes_one-synced name old between new first second reads = record {
   files = keeps_others-then name _ _ _ first.files (keeps_others-same name _ _ second.files);
   unsynced = keeps_others-then name _ _ _ first.unsynced second.unsynced;
@@ -76,7 +97,7 @@ replaces_one-then name old between new first second = record {
 }
 
 -- a call that only reads replaces nothing
-pub replaces_one-read : (name : List ℕ) (old new : StoreSeen) → OnlyReads name old new → ReplacesOne name old new
+pub replaces_one-read : {done : Bool} (name : List ℕ) (old new : StoreSeen) → OnlyReads done name old new → ReplacesOne name old new
 replaces_one-read name old new read = record {
   files = λ other differ differs. keeps_others-same name _ _ read.files other differ;
   unsynced = λ other differ differs. read.unsynced other differ;
@@ -84,7 +105,7 @@ replaces_one-read name old new read = record {
 }
 
 -- a change after a call that only reads
-pub replaces_one-after_read : (name : List ℕ) (old between new : StoreSeen) → OnlyReads name old between → ReplacesOne name between new → ReplacesOne name old new
+pub replaces_one-after_read : {done : Bool} (name : List ℕ) (old between new : StoreSeen) → OnlyReads done name old between → ReplacesOne name between new → ReplacesOne name old new
 replaces_one-after_read name old between new first second =
     replaces_one-then name old between new (replaces_one-read name old between first) second
 
@@ -121,17 +142,50 @@ still_synced name old new adds was =
     ]
 
 pub is_synced-none : (name : List ℕ) (seen : StoreSeen) → IsSynced name seen seen
-is_synced-none name seen = record { none = λ other is. is; named = inr refl }
+is_synced-none name seen = record { none = λ other is. is; changed = λ other. inr refl; named = inr (refl, refl) }
+
+-- a call that only read has nothing to sync
+pub is_synced-read : (name : List ℕ) (old new : StoreSeen) → OnlyReads true name old new → IsSynced name old new
+is_synced-read name old new read = record {
+  none = read.synced refl;
+  changed = λ other. inr (ap (λ (files : World). files other) read.files);
+  named = inr (read.writes, read.files);
+}
+
+-- a name is synced after two changes, or its file is as before both
+synced_then : (name : List ℕ) (old between new : StoreSeen) → AddsNone between.unsynced new.unsynced → (between.unsynced name ≡ false) ⊎ (between.files name ≡ old.files name)
+    → (new.unsynced name ≡ false) ⊎ (new.files name ≡ between.files name) → (new.unsynced name ≡ false) ⊎ (new.files name ≡ old.files name)
+synced_then name old between new adds first (inl synced) = inl synced
+synced_then name old between new adds (inl synced) (inr same) = inl (still_synced name between.unsynced new.unsynced adds synced)
+synced_then name old between new adds (inr was) (inr same) = inr (same ∙ was)
 
 pub is_synced-then : (name : List ℕ) (old between new : StoreSeen) → IsSynced name old between → IsSynced name between new → IsSynced name old new
 is_synced-then name old between new first second = record {
   none = adds_none-then old.unsynced between.unsynced new.unsynced first.none second.none;
+  changed = λ other. synced_then other old between new second.none (first.changed other) (second.changed other);
   named =
       elim second.named [
         | inl synced ↦ inl synced
         | inr unwritten ↦ elim first.named [
           | inl synced ↦ inl (still_synced name between.unsynced new.unsynced second.none synced)
-          | inr none ↦ inr (unwritten ∙ none)
+          | inr none ↦ inr (unwritten.0 ∙ none.0, unwritten.1 ∙ none.1)
         ]
       ];
+}
+
+-- what was done for one file, as what was done for all
+pub are_synced : (name : List ℕ) (old new : StoreSeen) → IsSynced name old new → AreSynced old new
+are_synced name old new synced = record { none = synced.none; changed = synced.changed }
+
+pub are_synced-none : (seen : StoreSeen) → AreSynced seen seen
+are_synced-none seen = record { none = λ other is. is; changed = λ other. inr refl }
+
+-- calls that only read have nothing to sync
+pub are_synced-read : (name : List ℕ) (old new : StoreSeen) → OnlyReads true name old new → AreSynced old new
+are_synced-read name old new read = record { none = read.synced refl; changed = λ other. inr (ap (λ (files : World). files other) read.files) }
+
+pub are_synced-then : (old between new : StoreSeen) → AreSynced old between → AreSynced between new → AreSynced old new
+are_synced-then old between new first second = record {
+  none = adds_none-then old.unsynced between.unsynced new.unsynced first.none second.none;
+  changed = λ other. synced_then other old between new second.none (first.changed other) (second.changed other);
 }

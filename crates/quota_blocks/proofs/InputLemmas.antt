@@ -1,16 +1,11 @@
 -- What is left of a file once bytes were taken from its front.
-use Rattle.std.proofs.Common.{◌≡◌, ℕ, zero, suc, ◌+◌, ◌-◌, ◌^◌, ◌≤◌, List, [], ◌∷◌, ◌++◌, length, take, drop, Option, Some, None, refl, sym, ap, ◌∙◌, arith, length-take}
+use Rattle.std.proofs.Common.{◌≡◌, ℕ, ◌+◌, ◌-◌, ◌^◌, ◌≤◌, List, [], ◌++◌, length, take, drop, Option, Some, None, sym, ap, ◌∙◌, arith, length-take}
 use Rattle.std.proofs.Math.Seq.{take-add}
 use Rattle.std.proofs.lemmas.List.{drop-drop, drop_all, take-append-le, take_all}
 use Rattle.std.specs.Option.{unwrap_or}
 use Rattle.quota_blocks.specs.StoreInput.{left_from}
 use Rattle.quota_blocks.specs.World.{World, bytes_from}
-
--- as many from the front as a longer front has
-take_length_take : (n : ℕ) (xs : List ℕ) → take (length (take n xs)) xs ≡ take n xs
-take_length_take zero xs = refl
-take_length_take (suc n) [] = refl
-take_length_take (suc n) (x ∷ xs) = ap (λ (ys : List ℕ). x ∷ ys) (take_length_take n xs)
+use Rattle.quota_blocks.proofs.LoadLemmas.{take-length-take}
 
 -- a front of what may be taken, and then the rest of it
 front_taken : (most want count : ℕ) (left : List ℕ) → want ≤ most → count ≡ length (take want left) → take most left ≡ take want left ++ take (most - count) (drop count left)
@@ -18,7 +13,7 @@ front_taken most want count left within is =
     let split : most ≡ count + (most - count) = omega (arith, is, length-take want left) in
     ap (λ (n : ℕ). take n left) split
     ∙ take-add count (most - count) left
-    ∙ ap (λ (front : List ℕ). front ++ take (most - count) (drop count left)) (ap (λ (n : ℕ). take n left) is ∙ take_length_take want left)
+    ∙ ap (λ (front : List ℕ). front ++ take (most - count) (drop count left)) (ap (λ (n : ℕ). take n left) is ∙ take-length-take want left)
 
 -- bytes were taken from the place on, and the place moved behind them
 pub left_moved : (file : Option (List ℕ)) (at want count : ℕ) (buf rest : List ℕ) → want ≤ 2 ^ 64 - 1 - at → count ≤ length buf

@@ -2,12 +2,16 @@ pub mod NumberLemmas
 pub mod TextLemmas
 pub mod LoadLemmas
 pub mod LinesLemmas
+pub mod CountLemmas
 pub mod EntriesLemmas
+pub mod ListedLemmas
 pub mod NamedFilesLemmas
 pub mod OverwriteLemmas
 pub mod WorldLemmas
 pub mod ReplaceLemmas
 pub mod FrameLemmas
+pub mod ChangesLemmas
+pub mod LookupLemmas
 pub mod UnsyncedLemmas
 pub mod TakenLemmas
 pub mod WordsLemmas

@@ -1,5 +1,5 @@
 -- A file that is read block by block.
-use Rattle.std.proofs.Common.{◌≡◌, ℕ, zero, suc, ◌<◌, ◌≤◌, List, [], ◌∷◌, ◌++◌, length, take, drop, Option, Some, None, refl, sym, ap, subst, ◌∙◌, arith, length-append, length-take, length-drop}
+use Rattle.std.proofs.Common.{◌≡◌, ℕ, zero, suc, ◌+◌, ◌-◌, ◌<◌, ◌≤◌, min, List, [], ◌∷◌, ◌++◌, length, take, drop, Option, Some, None, refl, sym, ap, subst, ◌∙◌, arith, length-append, length-take, length-drop}
 use Rattle.std.proofs.Math.Seq.{take-add}
 use Rattle.std.proofs.lemmas.List.{take_all}
 use Rattle.std.proofs.lemmas.Option.{same_Some, none-some}
@@ -18,10 +18,11 @@ pub begun_none : (file : Option (List ℕ)) (size : ℕ) → Some size ≡ optio
 begun_none None size e = absurd (none-some size (sym e))
 begun_none (Some whole) size e = record { whole = whole; there = refl; long = same_Some _ _ (sym e); front = refl }
 
-take_length_take : (n : ℕ) (xs : List ℕ) → take (length (take n xs)) xs ≡ take n xs
-take_length_take zero xs = refl
-take_length_take (suc n) [] = refl
-take_length_take (suc n) (x ∷ xs) = ap (λ (ys : List ℕ). x ∷ ys) (take_length_take n xs)
+-- as many from the front as a longer front has
+pub take-length-take : (n : ℕ) (xs : List ℕ) → take (length (take n xs)) xs ≡ take n xs
+take-length-take zero xs = refl
+take-length-take (suc n) [] = refl
+take-length-take (suc n) (x ∷ xs) = ap (λ (ys : List ℕ). x ∷ ys) (take-length-take n xs)
 
 more_of : (whole bytes : List ℕ) (wanted : ℕ) → take (length bytes) whole ≡ bytes → take (length (bytes ++ take wanted (drop (length bytes) whole))) whole ≡ bytes ++ take wanted (drop (length bytes) whole)
 more_of whole bytes wanted front =
@@ -29,7 +30,7 @@ more_of whole bytes wanted front =
     ap (λ (n : ℕ). take n whole) (length-append bytes (take wanted rest))
     ∙ take-add (length bytes) (length (take wanted rest)) whole
     ∙ ap (λ (f : List ℕ). f ++ take (length (take wanted rest)) rest) front
-    ∙ ap (λ (t : List ℕ). bytes ++ t) (take_length_take wanted rest)
+    ∙ ap (λ (t : List ℕ). bytes ++ t) (take-length-take wanted rest)
 
 -- one more read
 pub begun_more : (file : Option (List ℕ)) (size : ℕ) (bytes : List ℕ) (wanted : ℕ) (got : List ℕ) → IsBegun file size bytes → got ≡ bytes_from file (length bytes) wanted → IsBegun file size (bytes ++ got)
@@ -59,3 +60,13 @@ pub begun_step : (file now : Option (List ℕ)) (size : ℕ) (bytes more : List 
 begun_step file now size bytes more at wanted b same place e =
     let is : more ≡ bytes ++ bytes_from file (length bytes) wanted = e ∙ ap (λ (f : Option (List ℕ)). bytes ++ bytes_from f at wanted) same ∙ ap (λ (n : ℕ). bytes ++ bytes_from file n wanted) place in
     subst (λ (t : List ℕ). IsBegun file size t) (sym is) (begun_more file size bytes wanted (bytes_from file (length bytes) wanted) b refl)
+
+-- how far one more read of a store whose files stay comes
+pub begun_ends : (file now : Option (List ℕ)) (size : ℕ) (bytes more : List ℕ) (at wanted : ℕ) → IsBegun file size bytes → now ≡ file → at ≡ length bytes → more ≡ bytes ++ bytes_from now at wanted
+    → wanted ≡ min (size - at) 1024 → at ≤ size → length more ≡ min size (at + 1024)
+begun_ends file now size bytes more at wanted b same place e asked within =
+    let rest : bytes_from now at wanted ≡ take wanted (drop at b.whole) =
+    ap (λ (f : Option (List ℕ)). bytes_from f at wanted) (same ∙ b.there) in
+    let long : length more ≡ length bytes + length (take wanted (drop at b.whole)) =
+    ap length e ∙ length-append bytes (bytes_from now at wanted) ∙ ap (λ (r : List ℕ). length bytes + length r) rest in
+    omega (arith, long, length-take wanted (drop at b.whole), length-drop at b.whole, b.long, place, asked, within)

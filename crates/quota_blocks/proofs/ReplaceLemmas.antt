@@ -1,10 +1,12 @@
 -- A file that is written in pieces under another name, and then renamed.
-use Rattle.std.proofs.Common.{◌≡◌, ◌≢◌, ◌⊎◌, inl, inr, Bool, cond, ℕ, ◌+◌, ◌-◌, ◌≤◌, List, [], ◌++◌, length, take, drop, replicate, Option, None, Some, sym, ap, subst, ◌∙◌, arith, append-nil, length-append, length-take}
+use Rattle.std.proofs.Common.{◌≡◌, ◌≢◌, ◌⊎◌, inl, inr, Bool, cond, ℕ, ◌+◌, ◌-◌, ◌%◌, ◌<◌, ◌≤◌, min, List, [], ◌++◌, length, take, drop, replicate, Option, None, Some, sym, ap, subst, ◌∙◌, arith, append-nil, length-append, length-take}
 use Rattle.std.specs.Prelude.{codes}
-use Rattle.std.specs.Option.{option_map_or, unwrap_or}
+use Rattle.std.specs.Option.{IsSomeAnd, option_map_or, unwrap_or}
 use Rattle.std.proofs.Math.Seq.{take-add}
+use Rattle.std.proofs.lemmas.Bool.{cases_lt}
+use Rattle.quota_blocks.specs.Count.{counted}
 use Rattle.std.proofs.lemmas.List.{take_all, drop_all}
-use Rattle.quota_blocks.specs.Replace.{replacement_name}
+use Rattle.quota_blocks.specs.Replace.{WritesAnew, pieces_of, replaced_files, replacement_name}
 use Rattle.quota_blocks.specs.World.{World, KeepsOthers, overwritten, with_bytes, with_file, with_new_name}
 use Rattle.quota_blocks.proofs.FrameLemmas.{keeps_others-then}
 use Rattle.quota_blocks.proofs.WorldLemmas.{bytes_eq-ne, with_file-at, with_file-again, KeepsOthers-with_file}
@@ -60,3 +62,35 @@ replaced-cleared files name bytes =
     ap (λ (same : Bool). cond same (Some bytes) (with_file files (replacement_name name) None (replacement_name name)))
     (bytes_eq-ne name (replacement_name name) (λ same. replacement_name-ne name (sym same)))
     ∙ with_file-at files (replacement_name name) None
+
+-- the named file, once it was replaced by these bytes
+pub replaced-named : (files new : World) (name bytes : List ℕ) → new ≡ replaced_files files name bytes → new name ≡ Some bytes
+replaced-named files new name bytes is =
+    ap (λ (f : World). f name) is ∙ with_file-at (with_file files (replacement_name name) None) name (Some bytes)
+
+-- a file that was there was written anew
+pub writes_anew : (so : List ℕ → List ℕ → Type 0) (files new : World) (name before bytes : List ℕ) → files name ≡ Some before → new ≡ replaced_files files name bytes → so before bytes
+    → WritesAnew so name files new
+writes_anew so files new name before bytes was is changed = record {
+  named =
+      subst (λ (n : Option (List ℕ)). IsSomeAnd n (λ (b : List ℕ). IsSomeAnd (new name) (so b))) (sym was)
+      (subst (λ (n : Option (List ℕ)). IsSomeAnd n (so before)) (sym (replaced-named files new name bytes is)) changed);
+  cleared = ap (λ (f : World). f (replacement_name name)) is ∙ replaced-cleared files name bytes;
+}
+
+-- pieces of 1,024 bytes end at a multiple of that, or at the end
+pub piece-whole : (at end long : ℕ) → at < long → end ≡ min long (at + 1024) → (at % 1024 ≡ 0) ⊎ (at ≡ long) → (end % 1024 ≡ 0) ⊎ (end ≡ long)
+piece-whole at end long below is (inl aligned) = elim (cases_lt long (at + 1024)) [
+  | inl last ↦ inr (omega (arith, is, last))
+  | inr more ↦ inl (omega (arith, is, more, aligned))
+]
+piece-whole at end long below is (inr ended) = absurd (omega (arith, below, ended))
+
+-- one more piece is one more call
+pub piece-counted : (at end long before now : ℕ) → at < long → end ≡ min long (at + 1024) → (at % 1024 ≡ 0) ⊎ (at ≡ long) → now ≤ before + pieces_of at
+    → counted now ≤ before + pieces_of end
+piece-counted at end long before now below is (inl aligned) few = elim (cases_lt long (at + 1024)) [
+  | inl last ↦ omega (arith, is, last, below, aligned, few)
+  | inr more ↦ omega (arith, is, more, aligned, few)
+]
+piece-counted at end long before now below is (inr ended) few = absurd (omega (arith, below, ended))

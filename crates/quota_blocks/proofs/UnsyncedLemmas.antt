@@ -1,5 +1,5 @@
 -- Names that are unsynced, call by call, and as a set in memory.
-use Rattle.std.proofs.Common.{◌≡◌, ◌≢◌, inl, inr, ℕ, Bool, true, false, cond, not, IsTrue, List, [], ◌∷◌, ◌++◌, ◌||◌, Some, Result, Ok, Err, OnOk, OnErr, filter, refl, sym, ap, subst, ◌∙◌, String}
+use Rattle.std.proofs.Common.{◌≡◌, ◌≢◌, ◌⊎◌, inl, inr, ℕ, Bool, true, false, cond, not, IsTrue, List, [], ◌∷◌, ◌++◌, ◌||◌, Some, Result, Ok, Err, OnOk, OnErr, filter, refl, sym, ap, subst, ◌∙◌, String}
 use Rattle.std.specs.Option.{is_some}
 use Rattle.std.specs.Str.{bytes_eq}
 use Rattle.std.specs.String.{string_bytes}
@@ -8,7 +8,7 @@ use Rattle.std.proofs.lemmas.Bool.{cases_Bool, cond-true, cond-false, false≢tr
 use Rattle.std.proofs.lemmas.List.Folds.{list_any-append}
 use Rattle.quota_blocks.specs.Frame.{replaced_names}
 use Rattle.quota_blocks.specs.NameSet.{names_in}
-use Rattle.quota_blocks.specs.Replace.{replacement_name}
+use Rattle.quota_blocks.specs.Replace.{ReplacesOnly, replacement_name}
 use Rattle.quota_blocks.specs.Unsynced.{AddsNone, Names, with_handed, with_name}
 use Rattle.quota_blocks.specs.World.{KeepsOthers, KeepsOtherTwo, World, with_file}
 use Rattle.quota_blocks.proofs.WorldLemmas.{apart_names, bytes_eq-ne, bytes_eq-same, bytes_eq-true, with_file-at}
@@ -104,6 +104,10 @@ off_adds_none : (test was : Bool) → IsTrue (cond test false was) → IsTrue wa
 off_adds_none true was is = absurd (false≢true is)
 off_adds_none false was is = is
 
+-- a name that was synced adds none
+pub with_name-adds_none : (old new : Names) (name : List ℕ) → new ≡ with_name old name false → AddsNone old new
+with_name-adds_none old new name e n is = off_adds_none (bytes_eq name n) (old n) (subst (λ (s : Names). IsTrue (s n)) e is)
+
 -- a replacement makes no name unsynced that was not
 pub replaced-adds_none : (old new : Names) (name : List ℕ) → new ≡ replaced_names old name → AddsNone old new
 replaced-adds_none old new name e n is =
@@ -113,6 +117,21 @@ replaced-adds_none old new name e n is =
 -- the replaced name is synced
 pub replaced-named : (old new : Names) (name : List ℕ) → new ≡ replaced_names old name → new name ≡ false
 replaced-named old new name e = ap (λ (s : Names). s name) e ∙ with_name-at (with_name old (replacement_name name) false) name false
+
+-- a file that was replaced is synced, and all others are as before
+pub replaced-changed : (names names' : Names) (files files' : World) (name : List ℕ) → names' ≡ replaced_names names name → ReplacesOnly name files files'
+    → (other : List ℕ) → (names' other ≡ false) ⊎ (files' other ≡ files other)
+replaced-changed names names' files files' name is leaves other =
+    let at : names' other ≡ cond (bytes_eq name other) false (cond (bytes_eq (replacement_name name) other) false (names other)) = ap (λ (n : Names). n other) is in
+    elim (cases_Bool (bytes_eq name other)) [
+      | inl same ↦ inl (at ∙ cond-true _ _ _ same)
+      | inr differs ↦ elim (cases_Bool (bytes_eq (replacement_name name) other)) [
+        | inl added ↦ inl (at ∙ cond-false _ _ _ differs ∙ cond-true _ _ _ added)
+        | inr apart ↦ inr (leaves other
+            (λ same. true≢false (sym (ap (λ (n : List ℕ). bytes_eq name n) same ∙ bytes_eq-same name) ∙ differs))
+            (λ same. true≢false (sym (ap (λ (n : List ℕ). bytes_eq (replacement_name name) n) same ∙ bytes_eq-same (replacement_name name)) ∙ apart)))
+      ]
+    ]
 
 filtered : (name other : List ℕ) (texts : List (String Global)) → names_in (filter (λ (text : String Global). not (bytes_eq (string_bytes text) name)) texts) other ≡ with_name (names_in texts) name false other
 filtered name other [] = sym (both_false (bytes_eq name other))

@@ -1,7 +1,7 @@
 -- Numbers of a block and of a part of one are numbers of the file.
-use Rattle.std.proofs.Common.{◌≡◌, ℕ, zero, suc, ◌+◌, ◌*◌, ◌<◌, ◌≤◌, List, [], ◌∷◌, ◌++◌, length, get_or, take, drop, replicate, refl, ap, ◌∙◌, inl, inr, arith, sym, length-take, length-drop}
+use Rattle.std.proofs.Common.{◌≡◌, ℕ, zero, suc, ◌+◌, ◌*◌, ◌<◌, ◌≤◌, List, [], ◌∷◌, ◌++◌, length, get_or, take, drop, replicate, refl, ap, ◌∙◌, inl, inr, arith, sym, length-append, length-take, length-drop}
 use Rattle.std.proofs.lemmas.Bool.{cases_lt}
-use Rattle.std.proofs.lemmas.List.{get_or_past, get_or-drop, get_or-take, get_or-replicate}
+use Rattle.std.proofs.lemmas.List.{get_or_past, get_or-drop, get_or-take, get_or-replicate, length-replicate}
 use Rattle.quota_types.specs.Bytes.{byte_at, number_at}
 use Rattle.quota_blocks.specs.Block.{block_of}
 use Rattle.std.proofs.lemmas.Grind.{same_number_lists}
@@ -41,19 +41,21 @@ number_shifted (suc width) from shift xs ys same =
 zeros_past : (xs : List ℕ) (count k : ℕ) → get_or (xs ++ replicate count 0) k 0 ≡ get_or xs k 0
 zeros_past [] count k = elim (cases_lt k count) [
   | inl low ↦ get_or-replicate count k 0 0 low
-  | inr high ↦ get_or_past (replicate count 0) k 0 (omega (arith, high, long count))
+  | inr high ↦ get_or_past (replicate count 0) k 0 (omega (arith, high, length-replicate {A = ℕ} count 0))
 ]
-  where
-    long : (n : ℕ) → length {A = ℕ} (replicate n 0) ≡ n
-    long zero = refl
-    long (suc n) = ap suc (long n)
 zeros_past (x ∷ xs) count zero = refl
 zeros_past (x ∷ xs) count (suc k) = zeros_past xs count k
 
--- a byte of a block is one of the file
-pub byte_in_block : (file : List ℕ) (number at : ℕ) → at < 1024 → byte_at (block_of file number) at ≡ byte_at file (1024 * number + at)
+-- a block has 1,024 bytes
+pub length-block_of : (file : List ℕ) (number : ℕ) → length (block_of file number) ≡ 1024
 unfolding block_of
-byte_in_block file number at low =
+length-block_of file number =
+    omega (arith, length-take 1024 (drop (1024 * number) file ++ replicate 1024 0), length-append (drop (1024 * number) file) (replicate 1024 0), length-replicate {A = ℕ} 1024 0)
+
+-- a byte of a block is one of the file
+pub byte_at-block_of : (file : List ℕ) (number at : ℕ) → at < 1024 → byte_at (block_of file number) at ≡ byte_at file (1024 * number + at)
+unfolding block_of
+byte_at-block_of file number at low =
     get_or-take 1024 (drop (1024 * number) file ++ replicate 1024 0) at 0 low
     ∙ zeros_past (drop (1024 * number) file) 1024 at
     ∙ get_or-drop (1024 * number) file at 0
@@ -61,7 +63,7 @@ byte_in_block file number at low =
 -- and so is a number
 pub number_in_block : (width : ℕ) (file : List ℕ) (number at : ℕ) → at + width ≤ 1024 → number_at width (block_of file number) at ≡ number_at width file (1024 * number + at)
 number_in_block width file number at low =
-    number_shifted width at (1024 * number) (block_of file number) file (λ k above below. byte_in_block file number k (omega arith))
+    number_shifted width at (1024 * number) (block_of file number) file (λ k above below. byte_at-block_of file number k (omega arith))
 
 -- a number of a part is one of the whole
 pub number_in_part : (width size at : ℕ) (xs : List ℕ) → width ≤ size → number_at width (take size (drop at xs)) 0 ≡ number_at width xs at

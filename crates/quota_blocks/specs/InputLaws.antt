@@ -32,17 +32,16 @@ module _ {S : Type 0} (tells : Bool) (seen : S → StoreSeen) where
     source = refl;
     store = refl;
     name = refl;
-    leaves = record { files = refl; unsynced = λ other differs. refl; later = le_refl _; writes = refl };
+    leaves = record { files = refl; unsynced = λ other differs. refl; later = le_refl _; writes = refl; synced = λ ok name is. is };
     unsynced = inr (λ name is. is);
-    synced = λ ok name is. is;
     behind = λ told. behind_nothing _;
   }
 
   pub keeps_input_on : (ok ok_last : Bool) (first between last : StoreInput S) → KeepsInput tells seen ok first between → KeepsInput tells seen ok_last between last
       → KeepsInput tells seen (ok && ok_last) first last
   keeps_input_on ok ok_last first between last one two =
-      let read : OnlyReads (string_bytes first.source.now.name) (seen between.store.now) (seen last.store.now) =
-      subst (λ (name : List ℕ). OnlyReads name (seen between.store.now) (seen last.store.now)) one.name two.leaves in
+      let read : OnlyReads ok_last (string_bytes first.source.now.name) (seen between.store.now) (seen last.store.now) =
+      subst (λ (name : List ℕ). OnlyReads ok_last name (seen between.store.now) (seen last.store.now)) one.name two.leaves in
       record {
         source = two.source ∙ one.source;
         store = two.store ∙ one.store;
@@ -52,9 +51,9 @@ module _ {S : Type 0} (tells : Bool) (seen : S → StoreSeen) where
           unsynced = λ other differs. read.unsynced other differs ∙ one.leaves.unsynced other differs;
           later = le_trans one.leaves.later read.later;
           writes = read.writes ∙ one.leaves.writes;
+          synced = λ both name is. one.leaves.synced (and_parts ok ok_last both).0 name (read.synced (and_parts ok ok_last both).1 name is);
         };
         unsynced = unsynced_on _ _ _ _ _ _ one.leaves.later read.later one.unsynced two.unsynced;
-        synced = λ both name is. one.synced (and_parts ok ok_last both).0 name (two.synced (and_parts ok ok_last both).1 name is);
         behind = λ told. behind_on _ _ _ (one.behind told) (two.behind told);
       }
 
@@ -63,8 +62,13 @@ module _ {S : Type 0} (tells : Bool) (seen : S → StoreSeen) where
     source = kept.source;
     store = kept.store;
     name = kept.name;
-    leaves = kept.leaves;
+    leaves = record {
+      files = kept.leaves.files;
+      unsynced = kept.leaves.unsynced;
+      later = kept.leaves.later;
+      writes = kept.leaves.writes;
+      synced = λ not. absurd (false≢true not);
+    };
     unsynced = kept.unsynced;
-    synced = λ not. absurd (false≢true not);
     behind = kept.behind;
   }

@@ -1,9 +1,11 @@
 pub mod Behind
 pub mod Block
 pub mod BlockSet
+pub mod Changes
 pub mod CheckFault
 pub mod Count
 pub mod FileChange
+pub mod FileUse
 pub mod Frame
 pub mod InMemory
 pub mod InputLaws

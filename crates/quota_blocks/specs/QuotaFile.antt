@@ -53,13 +53,6 @@ UnlessStoreFailed (Damage _) P = P
 UnlessStoreFailed (Full _ _) P = P
 UnlessStoreFailed Memory P = P
 
--- a fact where the store failed
-abbrev pub OnStore : FileFault → Type 0 → Type 0
-OnStore Store P = P
-OnStore (Damage _) P = ⊤
-OnStore (Full _ _) P = ⊤
-OnStore Memory P = ⊤
-
 -- the store failed
 abbrev pub is_store_fault : FileFault → Bool
 is_store_fault Store = true

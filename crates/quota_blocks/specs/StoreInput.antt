@@ -29,7 +29,6 @@ pub record KeepsInput {S : Type 0} (tells : Bool) (seen : S → StoreSeen) (ok :
   pub source : new.source.ghost_name ≡ old.source.ghost_name
   pub store : new.store.ghost_name ≡ old.store.ghost_name
   pub name : string_bytes new.source.now.name ≡ string_bytes old.source.now.name
-  pub leaves : OnlyReads (string_bytes old.source.now.name) (seen old.store.now) (seen new.store.now)
+  pub leaves : OnlyReads ok (string_bytes old.source.now.name) (seen old.store.now) (seen new.store.now)
   pub unsynced : Rose (seen old.store.now).faults (seen new.store.now).faults ⊎ AddsNone (seen old.store.now).unsynced (seen new.store.now).unsynced
-  pub synced : IsTrue ok → AddsNone (seen old.store.now).unsynced (seen new.store.now).unsynced
   pub behind : IsTrue tells → IsBehind (store_input_seen seen old).left (store_input_seen seen new).left

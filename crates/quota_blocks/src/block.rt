@@ -1,7 +1,6 @@
-ghost use Rattle.std.specs.Prelude.{◌≡◌, ◌+◌, ◌*◌, ◌<◌, ◌≤◌, length, IsTrue, IfNone, IfSome, OnOk, OnErr};
+ghost use Rattle.std.specs.Prelude.{◌≡◌, ◌+◌, ◌*◌, ◌<◌, ◌≤◌, length, IsTrue, IfNone, IfSome, OnOk, OnErr, is_ok};
 ghost use Rattle.quota_blocks.specs.Count.{Rose, counted};
 ghost use Rattle.quota_blocks.specs.Frame.{OnlyReads};
-ghost use Rattle.quota_blocks.specs.Unsynced.{AddsNone};
 ghost use Rattle.quota_blocks.specs.Block.{block_of, bytes_of};
 
 use crate::{Store, StoreFault};
@@ -19,8 +18,7 @@ pub fn read_block<S: Store>(
     ensures bytes { OnOk result (IsTrue S.tells
         → block.new ≡ block_of (bytes_of ((S.seen store.old).files name.now)) number) }
     ensures cause { OnErr result (Rose (S.seen store.old).faults (S.seen store.new).faults) }
-    ensures leaves { OnlyReads name.now (S.seen store.old) (S.seen store.new) }
-    ensures synced { OnOk result (AddsNone (S.seen store.old).unsynced (S.seen store.new).unsynced) }
+    ensures leaves { OnlyReads (is_ok result) name.now (S.seen store.old) (S.seen store.new) }
     ensures reads { (S.seen store.new).reads ≡ counted (S.seen store.old).reads }
 {
     let count = store.read(name, 1024 * u64::from(number), block)?;

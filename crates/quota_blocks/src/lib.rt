@@ -5,7 +5,7 @@
 //! adapter over the real thing does not. `load` reads a whole file and `replace` puts one in the place of another,
 //! `TextBuffer` gathers text in front of a sink, `LineReader` gives the lines of a source, such as a file of a store
 //! behind `StoreInput`, `words` the words of a line, `number_in` the number that a word of digits spells, and `QuotaFile`
-//! is what every format of quota file offers. `read_block` reads a block of a file, `le16` to `set_le64` read and write the
+//! is what every format of quota file offers, and `FileUse` what an opened one keeps besides its bytes. `read_block` reads a block of a file, `le16` to `set_le64` read and write the
 //! numbers in one, and a `BlockSet` is a set of a file's blocks.
 //!
 //! The one promise: every answer has a cause that the caller can see, and what is told of the outside stays in step
@@ -17,6 +17,7 @@ mod block_number;
 mod block_set;
 mod check_fault;
 mod failures;
+mod file_use;
 mod line_reader;
 mod line_words;
 mod link;
@@ -41,6 +42,7 @@ pub use block::{BLOCK, block_of, read_block, whole_block};
 pub use block_number::{le16, le32, le64, set_le16, set_le32, set_le64};
 pub use block_set::BlockSet;
 pub use check_fault::CheckFault;
+pub use file_use::FileUse;
 pub use line_reader::{LineFault, LineReader};
 pub use line_words::{after_words, has_no_word, has_words, next_word, words};
 pub use link::{Got, Link, LinkFault};

@@ -1,4 +1,4 @@
-ghost use Rattle.std.specs.Prelude.{◌≡◌, ◌≢◌, ◌+◌, ◌<◌, ◌≤◌, ◌^◌, ◌↔◌, [], None, Some, length, take, true, false, Contains, IsErr, IsSome, IfOk, OnOk, OnErr};
+ghost use Rattle.std.specs.Prelude.{◌≡◌, ◌≢◌, ◌+◌, ◌<◌, ◌≤◌, ◌^◌, ◌↔◌, [], None, Some, length, take, true, false, Contains, IsErr, IsSome, IfOk, OnOk, OnErr, is_ok};
 ghost use Rattle.std.specs.Option.{option_copied, option_map};
 ghost use Rattle.quota_blocks.specs.Count.{Rose, counted};
 ghost use Rattle.quota_blocks.specs.Frame.{ChangesOne, ChangesTwo, OnlyReads};
@@ -48,6 +48,13 @@ impl MemStore {
         ensures { option_copied result ≡ (⟦<MemStore as Store>⟧.seen self.now).files name.now }
     {
         self.files.find(name)
+    }
+
+    /// The bytes of a file, or `None` where there is none of this name. They are not copied, and no memory is taken.
+    pub fn into_file(self, name: &str) -> Option<Vec<u8>>
+        ensures { option_map (λ file. file.items) result ≡ (⟦<MemStore as Store>⟧.seen self).files name.now }
+    {
+        self.files.into_file(name)
     }
 
     /// Whether a name was written or made since it was last synced.
@@ -135,9 +142,8 @@ impl Store for MemStore {
         ensures plan { mem_store_plan self.new
             ≡ record (mem_store_plan self.old) { calls = counted (mem_store_plan self.old).calls } }
         ensures cause { OnErr result (Rose (mem_store_seen self.old).faults (mem_store_seen self.new).faults) }
-        ensures leaves { OnlyReads name.now (mem_store_seen self.old) (mem_store_seen self.new) }
+        ensures leaves { OnlyReads (is_ok result) name.now (mem_store_seen self.old) (mem_store_seen self.new) }
         ensures reads { (mem_store_seen self.new).reads ≡ (mem_store_seen self.old).reads }
-        ensures synced { OnOk result (AddsNone (mem_store_seen self.old).unsynced (mem_store_seen self.new).unsynced) }
     {
         if self.failures.next_fails() {
             return Err(StoreFault);
@@ -159,9 +165,8 @@ impl Store for MemStore {
         ensures plan { mem_store_plan self.new
             ≡ record (mem_store_plan self.old) { calls = counted (mem_store_plan self.old).calls } }
         ensures cause { OnErr result (Rose (mem_store_seen self.old).faults (mem_store_seen self.new).faults) }
-        ensures leaves { OnlyReads name.now (mem_store_seen self.old) (mem_store_seen self.new) }
+        ensures leaves { OnlyReads (is_ok result) name.now (mem_store_seen self.old) (mem_store_seen self.new) }
         ensures reads { (mem_store_seen self.new).reads ≡ counted (mem_store_seen self.old).reads }
-        ensures synced { OnOk result (AddsNone (mem_store_seen self.old).unsynced (mem_store_seen self.new).unsynced) }
     {
         self.reads = self.reads.saturating_add(1);
         if self.failures.next_fails() {
@@ -229,7 +234,7 @@ impl Store for MemStore {
         ensures plan { mem_store_plan self.new
             ≡ record (mem_store_plan self.old) { calls = counted (mem_store_plan self.old).calls } }
         ensures cause { OnErr result (Rose (mem_store_seen self.old).faults (mem_store_seen self.new).faults) }
-        ensures leaves { OnlyReads name.now (mem_store_seen self.old) (mem_store_seen self.new) }
+        ensures leaves { OnlyReads (is_ok result) name.now (mem_store_seen self.old) (mem_store_seen self.new) }
         ensures reads { (mem_store_seen self.new).reads ≡ (mem_store_seen self.old).reads }
     {
         if self.failures.next_fails() {

@@ -1,5 +1,5 @@
 ghost use Rattle.std.specs.Prelude.{◌≡◌, ◌≢◌, ◌+◌, ◌-◌, ◌<◌, ◌≤◌, ◌^◌, ◌++◌, [], length, take, drop, replicate, position, None, Some, OnOk, OnErr};
-ghost use Rattle.std.specs.Option.{option_copied};
+ghost use Rattle.std.specs.Option.{option_copied, option_map};
 ghost use Rattle.std.specs.Str.{bytes_eq};
 ghost use Rattle.std.specs.String.{string_bytes};
 ghost use Rattle.quota_blocks.specs.MemStore.{HaveDistinctNames, NamedFile, file_named};
@@ -31,6 +31,15 @@ impl NamedFiles {
             .iter()
             .find(|file| file.0.as_str() == name)
             .map(|file| file.1.as_slice())
+    }
+
+    /// The bytes of a file, or `None` where there is none of this name. They are not copied, and no memory is taken.
+    pub(crate) fn into_file(self, name: &str) -> Option<Vec<u8>>
+        ensures { option_map (λ file. file.items) result ≡ file_named self.entries.items name.now }
+    {
+        let place = self.position(name)?;
+        let mut entries = self.entries;
+        Some(entries.swap_remove(place).1)
     }
 
     fn position(&self, name: &str) -> Option<usize>

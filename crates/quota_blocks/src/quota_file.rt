@@ -1,14 +1,14 @@
-ghost use Rattle.std.specs.Prelude.{◌≡◌, ◌^◌, ◌<◌, ◌≤◌, ◌+◌, ℕ, List, Option, None, true, not, IsTrue, IsSome, IfOk, IfErr, IfSome, OnOk, OnErr};
+ghost use Rattle.std.specs.Prelude.{◌≡◌, ◌^◌, ◌<◌, ◌≤◌, ◌+◌, ℕ, List, Option, None, true, IsTrue, IfOk, IfErr, IfSome, OnOk, OnErr, is_ok};
 ghost use Rattle.std.specs.FinMap.{get};
 ghost use Rattle.quota_types.specs.declared.file_kind.Format.{Format};
 ghost use Rattle.quota_types.specs.Kept.{IsKept};
 ghost use Rattle.quota_types.specs.Range.{grace_unfit};
 ghost use Rattle.quota_types.specs.Rec.{IsNull};
-ghost use Rattle.quota_blocks.specs.FileChange.{FileChange, IsLeft, Put, Remove, SetGrace};
-ghost use Rattle.quota_blocks.specs.Frame.{IsSynced, OnlyReads, ReplacesOne};
-ghost use Rattle.quota_blocks.specs.QuotaFile.{CountsRefusal, FileSeen, IfFull, IsChangeFault, IsLookupFault, OnStore, UnlessStoreFailed, is_store_fault};
-ghost use Rattle.quota_blocks.specs.QuotaValue.{QuotaValue, IsAfter, IsNextAfter, with_grace, with_record, without_record};
-ghost use Rattle.quota_blocks.specs.Unsynced.{AddsNone};
+ghost use Rattle.quota_blocks.specs.Changes.{Changes, file_at, laws_of};
+ghost use Rattle.quota_blocks.specs.FileChange.{FileChange, Put, Remove, SetGrace};
+ghost use Rattle.quota_blocks.specs.Frame.{OnlyReads};
+ghost use Rattle.quota_blocks.specs.QuotaFile.{CountsRefusal, FileSeen, IsLookupFault};
+ghost use Rattle.quota_blocks.specs.QuotaValue.{QuotaValue, IsAfter, IsNextAfter};
 ghost use Rattle.quota_blocks.specs.World.{World};
 ghost use Rattle.quota_blocks.specs.declared.quota_file.FileFault.{FileFault};
 
@@ -83,9 +83,10 @@ pub enum OpenFault {
 /// An opened quota file, whatever its format. Each call is given the store that the file was opened from.
 ///
 /// What a change needs of memory is taken from the allocator that the opened file keeps. A change for which there is no
-/// room writes nothing, whatever else fails, and one that is refused for anything but a fault of the store has changed nothing. After one in which the store failed the opened file is not used again.
-/// What the named file is left as then rests on how the type writes, which `may_leave` says: a type that writes the whole
-/// file anew and then renames it leaves the old one, and one that writes in place may have written some blocks.
+/// room writes nothing, whatever else fails, and one that is refused for anything but a fault of the store has changed
+/// nothing. After one in which the store failed the opened file is not used again, and the named file is as it was, or as
+/// `may_leave` says, which rests on how the type writes: one that writes the whole file anew and then renames it leaves the
+/// old one, and one that writes in place may have written some blocks.
 ///
 /// No refusal is lost: `seen` has a count of them, which each refused call raises and no other call changes.
 pub trait QuotaFile<S: Store> {
@@ -102,9 +103,9 @@ pub trait QuotaFile<S: Store> {
     /// The named file, as it is, has no room for the value: it would need so many blocks, and may have only so many.
     ghost lacks_room: { FileSeen → Option (List ℕ) → QuotaValue → ℕ → ℕ → Type 0 };
 
-    /// What a change of the file of this name makes of the files, as far as the format says more than which value the
-    /// file stands for.
-    ghost makes: { FileChange → List ℕ → World → World → Type 0 };
+    /// What a change of the file of this name, which has this format, makes of the files, as far as the format says more
+    /// than which value the file stands for.
+    ghost makes: { Format → FileChange → List ℕ → World → World → Type 0 };
 
     /// What a change that failed may leave the file as, between the bytes before and those that it would have made.
     ghost may_leave: { Format → Option (List ℕ) → Option (List ℕ) → Option (List ℕ) → Type 0 };
@@ -114,6 +115,12 @@ pub trait QuotaFile<S: Store> {
 
     /// How many calls of `read` one call of `next_after` makes at most, on a file of these bytes.
     ghost next_reads: { FileSeen → Option (List ℕ) → ℕ };
+
+    /// How many calls of `read` one change makes at most.
+    ghost change_reads: { FileSeen → ℕ };
+
+    /// How many calls of `write` one change makes at most.
+    ghost change_writes: { FileSeen → ℕ };
 
     /// The format of the file.
     fn format(&self) -> Format
@@ -144,8 +151,7 @@ pub trait QuotaFile<S: Store> {
             (holds self.old store.old)) }
         ensures may { IfErr result (may_refuse (seen self.old).format) }
         ensures stays { (value : QuotaValue) → holds self.old store.old value → holds self.new store.new value }
-        ensures leaves { OnlyReads (seen self.old).name (S.seen store.old) (S.seen store.new) }
-        ensures synced { OnOk result (AddsNone (S.seen store.old).unsynced (S.seen store.new).unsynced) }
+        ensures leaves { OnlyReads (is_ok result) (seen self.old).name (S.seen store.old) (S.seen store.new) }
         ensures reads { (S.seen store.new).reads ≤ (S.seen store.old).reads + get_reads (seen self.old).format }
         ensures same { OnOk result (seen self.new ≡ seen self.old) }
         ensures counted { OnErr result (CountsRefusal true (seen self.old) (seen self.new)) };
@@ -168,8 +174,7 @@ pub trait QuotaFile<S: Store> {
             (holds self.old store.old)) }
         ensures may { IfErr result (may_refuse (seen self.old).format) }
         ensures stays { (value : QuotaValue) → holds self.old store.old value → holds self.new store.new value }
-        ensures leaves { OnlyReads (seen self.old).name (S.seen store.old) (S.seen store.new) }
-        ensures synced { OnOk result (AddsNone (S.seen store.old).unsynced (S.seen store.new).unsynced) }
+        ensures leaves { OnlyReads (is_ok result) (seen self.old).name (S.seen store.old) (S.seen store.new) }
         ensures reads { (S.seen store.new).reads
             ≤ (S.seen store.old).reads + next_reads (seen self.old) ((S.seen store.old).files (seen self.old).name) }
         ensures same { OnOk result (seen self.new ≡ seen self.old) }
@@ -185,77 +190,23 @@ pub trait QuotaFile<S: Store> {
         requires usable { IsTrue (seen self.old).usable }
         requires not_null { ¬ (IsNull rec) }
         requires kept { IsKept (seen self.old).format id rec }
-        ensures put { OnOk result ((value : QuotaValue) → holds self.old store.old value
-            → holds self.new store.new (with_record value id rec)) }
-        ensures makes { OnOk result ((value : QuotaValue) → holds self.old store.old value
-            → makes (Put id rec) (seen self.old).name (S.seen store.old).files (S.seen store.new).files) }
-        ensures room { OnOk result ((value : QuotaValue) (blocks limit : ℕ) → holds self.old store.old value
-            → ¬ (lacks_room (seen self.old) ((S.seen store.old).files (seen self.old).name) (with_record value id rec) blocks limit)) }
-        ensures full { (value : QuotaValue) (blocks limit : ℕ) → holds self.old store.old value
-            → lacks_room (seen self.old) ((S.seen store.old).files (seen self.old).name) (with_record value id rec) blocks limit
-            → OnlyReads (seen self.old).name (S.seen store.old) (S.seen store.new) }
-        ensures passes { IfErr result (λ fault. IfFull fault (λ blocks limit. limit < blocks)) }
-        ensures refused { IfErr result (IsChangeFault (S.seen store.old).faults (S.seen store.new).faults
-            (holds self.old store.old) (λ blocks limit. (value : QuotaValue) → holds self.old store.old value
-            → lacks_room (seen self.old) ((S.seen store.old).files (seen self.old).name) (with_record value id rec) blocks limit)) }
-        ensures may { IfErr result (may_refuse (seen self.old).format) }
-        ensures stays { IfErr result (λ fault. UnlessStoreFailed fault ((value : QuotaValue) → holds self.old store.old value
-            → holds self.new store.new value)) }
-        ensures unwritten { IfErr result (λ fault. UnlessStoreFailed fault
-            (OnlyReads (seen self.old).name (S.seen store.old) (S.seen store.new))) }
-        ensures left { IfErr result (λ fault. OnStore fault ((value : QuotaValue) → holds self.old store.old value
-            → IsLeft (makes (Put id rec) (seen self.old).name) (may_leave (seen self.old).format) (seen self.old).name
-            (S.seen store.old).files (S.seen store.new).files)) }
-        ensures between { OnErr result (IsTrue S.tells → (after : Option (List ℕ))
-            × may_leave (seen self.old).format ((S.seen store.old).files (seen self.old).name) after
-            ((S.seen store.new).files (seen self.old).name)) }
-        ensures leaves { ReplacesOne (seen self.old).name (S.seen store.old) (S.seen store.new) }
-        ensures synced { OnOk result (IsTrue S.tells
-            → IsSynced (seen self.old).name (S.seen store.old) (S.seen store.new)) }
-        ensures same { OnOk result (seen self.new ≡ seen self.old) }
-        ensures counted { IfErr result (λ fault. CountsRefusal (not (is_store_fault fault)) (seen self.old) (seen self.new)) };
+        ensures changes { Changes (Put id rec) (laws_of S.tells makes may_leave lacks_room may_refuse
+            change_reads change_writes)
+            (file_at (holds self.old store.old) (seen self.old) (S.seen store.old))
+            (file_at (holds self.new store.new) (seen self.new) (S.seen store.new)) result };
 
-    /// Takes an identifier's record away. All other records stay. Where it has none nothing changes. What was written
-    /// is synced then.
+    /// Takes an identifier's record away. All other records stay. Where it has none nothing is written, and nothing but a
+    /// fault of the store refuses it. What was written is synced then.
     ///
     /// # Errors
     ///
     /// The store failed, the file is damaged or full, or there is not enough memory.
     fn remove(&mut self, store: &mut S, id: u32) -> Result<(), FileFault>
         requires { IsTrue (seen self.old).usable }
-        ensures removed { OnOk result ((value : QuotaValue) → holds self.old store.old value
-            → holds self.new store.new (without_record value id)) }
-        ensures absent { (value : QuotaValue) → holds self.old store.old value → get value.records id ≡ None
-            → OnlyReads (seen self.old).name (S.seen store.old) (S.seen store.new) }
-        ensures present { IfErr result (λ fault. IfFull fault (λ _ _. (value : QuotaValue)
-            → holds self.old store.old value → IsSome (get value.records id))) }
-        ensures makes { OnOk result ((value : QuotaValue) → holds self.old store.old value
-            → makes (Remove id) (seen self.old).name (S.seen store.old).files (S.seen store.new).files) }
-        ensures room { OnOk result ((value : QuotaValue) (blocks limit : ℕ) → holds self.old store.old value
-            → ¬ (lacks_room (seen self.old) ((S.seen store.old).files (seen self.old).name) (without_record value id) blocks limit)) }
-        ensures full { (value : QuotaValue) (blocks limit : ℕ) → holds self.old store.old value
-            → lacks_room (seen self.old) ((S.seen store.old).files (seen self.old).name) (without_record value id) blocks limit
-            → OnlyReads (seen self.old).name (S.seen store.old) (S.seen store.new) }
-        ensures passes { IfErr result (λ fault. IfFull fault (λ blocks limit. limit < blocks)) }
-        ensures refused { IfErr result (IsChangeFault (S.seen store.old).faults (S.seen store.new).faults
-            (holds self.old store.old) (λ blocks limit. (value : QuotaValue) → holds self.old store.old value
-            → lacks_room (seen self.old) ((S.seen store.old).files (seen self.old).name) (without_record value id) blocks limit)) }
-        ensures may { IfErr result (may_refuse (seen self.old).format) }
-        ensures stays { IfErr result (λ fault. UnlessStoreFailed fault ((value : QuotaValue) → holds self.old store.old value
-            → holds self.new store.new value)) }
-        ensures unwritten { IfErr result (λ fault. UnlessStoreFailed fault
-            (OnlyReads (seen self.old).name (S.seen store.old) (S.seen store.new))) }
-        ensures left { IfErr result (λ fault. OnStore fault ((value : QuotaValue) → holds self.old store.old value
-            → IsLeft (makes (Remove id) (seen self.old).name) (may_leave (seen self.old).format) (seen self.old).name
-            (S.seen store.old).files (S.seen store.new).files)) }
-        ensures between { OnErr result (IsTrue S.tells → (after : Option (List ℕ))
-            × may_leave (seen self.old).format ((S.seen store.old).files (seen self.old).name) after
-            ((S.seen store.new).files (seen self.old).name)) }
-        ensures leaves { ReplacesOne (seen self.old).name (S.seen store.old) (S.seen store.new) }
-        ensures synced { OnOk result (IsTrue S.tells
-            → IsSynced (seen self.old).name (S.seen store.old) (S.seen store.new)) }
-        ensures same { OnOk result (seen self.new ≡ seen self.old) }
-        ensures counted { IfErr result (λ fault. CountsRefusal (not (is_store_fault fault)) (seen self.old) (seen self.new)) };
+        ensures changes { Changes (Remove id) (laws_of S.tells makes may_leave lacks_room may_refuse
+            change_reads change_writes)
+            (file_at (holds self.old store.old) (seen self.old) (S.seen store.old))
+            (file_at (holds self.new store.new) (seen self.new) (S.seen store.new)) result };
 
     /// Sets both grace periods, for which the format has room. All records stay. What was written is synced then.
     /// `Full` never comes.
@@ -266,28 +217,10 @@ pub trait QuotaFile<S: Store> {
     fn set_grace(&mut self, store: &mut S, grace: Grace) -> Result<(), FileFault>
         requires usable { IsTrue (seen self.old).usable }
         requires fits { grace_unfit (seen self.old).format grace ≡ None }
-        ensures set { OnOk result ((value : QuotaValue) → holds self.old store.old value
-            → holds self.new store.new (with_grace value grace)) }
-        ensures makes { OnOk result ((value : QuotaValue) → holds self.old store.old value
-            → makes (SetGrace grace) (seen self.old).name (S.seen store.old).files (S.seen store.new).files) }
-        ensures refused { IfErr result (IsChangeFault (S.seen store.old).faults (S.seen store.new).faults
-            (holds self.old store.old) (λ _ _. ⊥)) }
-        ensures may { IfErr result (may_refuse (seen self.old).format) }
-        ensures stays { IfErr result (λ fault. UnlessStoreFailed fault ((value : QuotaValue) → holds self.old store.old value
-            → holds self.new store.new value)) }
-        ensures unwritten { IfErr result (λ fault. UnlessStoreFailed fault
-            (OnlyReads (seen self.old).name (S.seen store.old) (S.seen store.new))) }
-        ensures left { IfErr result (λ fault. OnStore fault ((value : QuotaValue) → holds self.old store.old value
-            → IsLeft (makes (SetGrace grace) (seen self.old).name) (may_leave (seen self.old).format) (seen self.old).name
-            (S.seen store.old).files (S.seen store.new).files)) }
-        ensures between { OnErr result (IsTrue S.tells → (after : Option (List ℕ))
-            × may_leave (seen self.old).format ((S.seen store.old).files (seen self.old).name) after
-            ((S.seen store.new).files (seen self.old).name)) }
-        ensures leaves { ReplacesOne (seen self.old).name (S.seen store.old) (S.seen store.new) }
-        ensures synced { OnOk result (IsTrue S.tells
-            → IsSynced (seen self.old).name (S.seen store.old) (S.seen store.new)) }
-        ensures same { OnOk result (seen self.new ≡ seen self.old) }
-        ensures counted { IfErr result (λ fault. CountsRefusal (not (is_store_fault fault)) (seen self.old) (seen self.new)) };
+        ensures changes { Changes (SetGrace grace) (laws_of S.tells makes may_leave lacks_room may_refuse
+            change_reads change_writes)
+            (file_at (holds self.old store.old) (seen self.old) (S.seen store.old))
+            (file_at (holds self.new store.new) (seen self.new) (S.seen store.new)) result };
 
     /// What an opened file with its store holds rests on the named file, and on no other file of the store.
     ghost rests_on_named: { (file : Self) (one other : S) (value : QuotaValue)

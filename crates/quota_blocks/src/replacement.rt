@@ -1,8 +1,8 @@
-ghost use Rattle.std.specs.Prelude.{◌≡◌, ◌^◌, ◌≤◌, length, false, None, Some, IsTrue, IfOk, IfErr, OnOk, OnErr};
+ghost use Rattle.std.specs.Prelude.{◌≡◌, ◌+◌, ◌^◌, ◌≤◌, length, false, None, Some, IsTrue, IfOk, IfErr, OnOk, OnErr};
 ghost use Rattle.std.specs.String.{string_bytes};
 ghost use Rattle.quota_blocks.specs.Count.{Rose};
 ghost use Rattle.quota_blocks.specs.Frame.{ChangesOne, ReplacesOne, replaced_names};
-ghost use Rattle.quota_blocks.specs.Replace.{IsReplaceFault, OnNoMemory, replaced_files, replacement_name};
+ghost use Rattle.quota_blocks.specs.Replace.{IsReplaceFault, OnNoMemory, pieces_of, replaced_files, replacement_name};
 ghost use Rattle.quota_blocks.specs.Unsynced.{with_name};
 ghost use Rattle.quota_blocks.specs.World.{KeepsOthers, with_file};
 ghost use Rattle.quota_blocks.specs.declared.replacement.ReplaceFault.TheVariants.{Store as StoreFailed, Memory};
@@ -68,6 +68,7 @@ pub fn replace<S: Store>(
     ensures memory { IfErr result (λ fault. OnNoMemory fault (S.seen store.new ≡ S.seen store.old)) }
     ensures leaves { ReplacesOne name.now (S.seen store.old) (S.seen store.new) }
     ensures reads { (S.seen store.new).reads ≡ (S.seen store.old).reads }
+    ensures writes { (S.seen store.new).writes ≤ (S.seen store.old).writes + pieces_of (length bytes.now) }
 {
     let new_name = name_of_new(alloc, name)?;
     write_new(store, new_name.as_str(), bytes)?;
@@ -93,6 +94,7 @@ fn write_new<S: Store>(store: &mut S, name: &str, bytes: &[u8]) -> Result<(), St
         → (S.seen store.new).unsynced ≡ with_name (S.seen store.old).unsynced name.now false) }
     ensures cause { OnErr result (Rose (S.seen store.old).faults (S.seen store.new).faults) }
     ensures leaves { ChangesOne name.now (S.seen store.old) (S.seen store.new) }
+    ensures writes { (S.seen store.new).writes ≤ (S.seen store.old).writes + pieces_of (length bytes.now) }
 {
     store.create(name)?;
     let mut at = 0;

@@ -1,4 +1,4 @@
-ghost use Rattle.std.specs.Prelude.{◌≡◌, ◌≢◌, ◌≤◌, ◌^◌, ◌⊎◌, Bool, [], length, take, true, false, None, Some, IsSome, IsTrue, IfOk, OnOk, OnErr};
+ghost use Rattle.std.specs.Prelude.{◌≡◌, ◌≢◌, ◌≤◌, ◌^◌, ◌⊎◌, Bool, [], length, take, true, false, None, Some, IsSome, IsTrue, IfOk, OnOk, OnErr, is_ok};
 ghost use Rattle.std.specs.Option.{option_map};
 ghost use Rattle.quota_blocks.specs.Count.{Rose, counted};
 ghost use Rattle.quota_blocks.specs.Frame.{ChangesOne, ChangesTwo, OnlyReads};
@@ -31,9 +31,8 @@ pub trait Store {
         ensures found { IfOk result (λ found. IsTrue tells
             → found ≡ option_map length ((seen self.old).files name.now)) }
         ensures cause { OnErr result (Rose (seen self.old).faults (seen self.new).faults) }
-        ensures leaves { OnlyReads name.now (seen self.old) (seen self.new) }
-        ensures reads { (seen self.new).reads ≡ (seen self.old).reads }
-        ensures synced { OnOk result (AddsNone (seen self.old).unsynced (seen self.new).unsynced) };
+        ensures leaves { OnlyReads (is_ok result) name.now (seen self.old) (seen self.new) }
+        ensures reads { (seen self.new).reads ≡ (seen self.old).reads };
 
     /// Reads the bytes of a file from place `at` on, as many as `buf` holds or the file has, and answers how many.
     /// A file that is not there has none.
@@ -49,9 +48,8 @@ pub trait Store {
         ensures bytes { IfOk result (λ count. IsTrue tells
             → take count buf.new ≡ bytes_from ((seen self.old).files name.now) at (length buf.old)) }
         ensures cause { OnErr result (Rose (seen self.old).faults (seen self.new).faults) }
-        ensures leaves { OnlyReads name.now (seen self.old) (seen self.new) }
-        ensures reads { (seen self.new).reads ≡ counted (seen self.old).reads }
-        ensures synced { OnOk result (AddsNone (seen self.old).unsynced (seen self.new).unsynced) };
+        ensures leaves { OnlyReads (is_ok result) name.now (seen self.old) (seen self.new) }
+        ensures reads { (seen self.new).reads ≡ counted (seen self.old).reads };
 
     /// Writes bytes into a file at place `at`. A file that is not there is made, and a gap past the old end is filled
     /// with zeros. All other files stay. The name is unsynced then.
@@ -99,7 +97,7 @@ pub trait Store {
         ensures unsynced { OnOk result (IsTrue tells
             → (seen self.new).unsynced ≡ with_name (seen self.old).unsynced name.now false) }
         ensures cause { OnErr result (Rose (seen self.old).faults (seen self.new).faults) }
-        ensures leaves { OnlyReads name.now (seen self.old) (seen self.new) }
+        ensures leaves { OnlyReads (is_ok result) name.now (seen self.old) (seen self.new) }
         ensures reads { (seen self.new).reads ≡ (seen self.old).reads };
 
     /// Gives the file of name `from` the name `to`, in place of the file that had it. All other files stay. Where there

@@ -1,8 +1,7 @@
-ghost use Rattle.std.specs.Prelude.{◌≡◌, ◌≤◌, ◌+◌, ◌-◌, ◌^◌, length, take, min, IsTrue, IfOk, OnOk, OnErr};
+ghost use Rattle.std.specs.Prelude.{◌≡◌, ◌≤◌, ◌+◌, ◌-◌, ◌^◌, length, take, min, IsTrue, IfOk, OnOk, OnErr, is_ok};
 ghost use Rattle.std.specs.String.{string_bytes};
 ghost use Rattle.quota_blocks.specs.Count.{Rose, counted};
 ghost use Rattle.quota_blocks.specs.Frame.{OnlyReads};
-ghost use Rattle.quota_blocks.specs.Unsynced.{AddsNone};
 ghost use Rattle.quota_blocks.specs.World.{bytes_from};
 
 use crate::{Store, StoreFault};
@@ -36,9 +35,8 @@ impl StoreSource {
         ensures name { self.new.name ≡ self.old.name }
         ensures fault { OnErr result (self.new.at ≡ self.old.at) }
         ensures cause { OnErr result (Rose (S.seen store.old).faults (S.seen store.new).faults) }
-        ensures leaves { OnlyReads (string_bytes self.old.name) (S.seen store.old) (S.seen store.new) }
+        ensures leaves { OnlyReads (is_ok result) (string_bytes self.old.name) (S.seen store.old) (S.seen store.new) }
         ensures reads { (S.seen store.new).reads ≡ counted (S.seen store.old).reads }
-        ensures synced { OnOk result (AddsNone (S.seen store.old).unsynced (S.seen store.new).unsynced) }
     {
         let places = u64::MAX - self.at;
         let wanted = (buf.len() as u64).min(places) as usize;

@@ -1,8 +1,8 @@
-ghost use Rattle.std.specs.Prelude.{◌≡◌, ◌+◌, ◌≤◌, ◌++◌, length, min, vec_len, Some, IsTrue, IfOk, IfErr, OnOk};
-ghost use Rattle.quota_blocks.specs.Count.{Rose};
+ghost use Rattle.std.specs.Prelude.{◌≡◌, ◌+◌, ◌≤◌, ◌++◌, length, min, vec_len, Some, IsTrue, IfOk, IfErr, OnOk, is_ok};
+ghost use Rattle.quota_blocks.specs.Count.{Rose, counted};
 ghost use Rattle.quota_blocks.specs.Frame.{OnlyReads};
 ghost use Rattle.quota_blocks.specs.Load.{IsLoadFault, IsReadFault};
-ghost use Rattle.quota_blocks.specs.Unsynced.{AddsNone};
+ghost use Rattle.quota_blocks.specs.Replace.{pieces_of};
 ghost use Rattle.quota_blocks.specs.World.{bytes_from};
 ghost use Rattle.quota_blocks.specs.declared.whole_file.LoadFault.TheVariants.{Store as StoreFailed, Memory};
 
@@ -53,8 +53,9 @@ pub fn load<S: Store>(
     ensures within { IfOk result (λ bytes. length bytes.items ≤ most) }
     ensures refused { IfErr result (IsLoadFault (S.seen store.old).faults (S.seen store.new).faults S.tells
         ((S.seen store.old).files name.now) most) }
-    ensures leaves { OnlyReads name.now (S.seen store.old) (S.seen store.new) }
-    ensures synced { OnOk result (AddsNone (S.seen store.old).unsynced (S.seen store.new).unsynced) }
+    ensures leaves { OnlyReads (is_ok result) name.now (S.seen store.old) (S.seen store.new) }
+    ensures reads { IfOk result (λ bytes. IsTrue S.tells
+        → (S.seen store.new).reads ≤ (S.seen store.old).reads + pieces_of (length bytes.items)) }
 {
     let Some(size) = store.size(name)? else {
         return Err(LoadFault::NoFile);
@@ -86,8 +87,8 @@ fn append_block<S: Store>(
     ensures count { IfOk result (λ count. vec_len bytes.new ≡ vec_len bytes.old + count) }
     ensures within { IfOk result (λ count. count ≤ most) }
     ensures refused { IfErr result (IsReadFault (S.seen store.old).faults (S.seen store.new).faults) }
-    ensures leaves { OnlyReads name.now (S.seen store.old) (S.seen store.new) }
-    ensures synced { OnOk result (AddsNone (S.seen store.old).unsynced (S.seen store.new).unsynced) }
+    ensures leaves { OnlyReads (is_ok result) name.now (S.seen store.old) (S.seen store.new) }
+    ensures reads { (S.seen store.new).reads ≡ counted (S.seen store.old).reads }
 {
     let mut block = [0u8; 1024];
     let wanted = most.min(1024);

@@ -1,7 +1,8 @@
-use Rattle.std.proofs.Common.{◌≡◌, true, get_or, length, sym, ◌∙◌, arith}
+use Rattle.std.proofs.Common.{◌≡◌, ◌^◌, true, get_or, length, sym, ◌∙◌, arith}
 use Rattle.std.proofs.lemmas.Bool.Decides.{nat_tests}
 use Rattle.std.specs.Char.{is_ascii_digit}
-use Rattle.quota_blocks.proofs.NumeralLemmas.{number_of-spoilt, number_of-too_large, number_of-read, read_more, digit_value-digit}
+use Rattle.quota_types.proofs.DigitsLemmas.{IsReadBelow-more, digit_value-digit}
+use Rattle.quota_blocks.proofs.NumeralLemmas.{number_of-spoilt, number_of-too_large, number_of-read}
 use Rattle.quota_blocks.proofs.numeral.number_in.Goals as goal
 
 pub returns-then-not-is_ascii_digit : goal.returns-then-not-is_ascii_digit
@@ -25,7 +26,7 @@ returns-in_err-number c =
 pub loop-digit-preserved : goal.loop-digit-preserved
 loop-digit-preserved c =
     let digit : is_ascii_digit (get_or c.args.word.now c.loop-digit.digit-index 0) ≡ true = sym c.is_ascii_digit.ensures.value ∙ c.if-not-is_ascii_digit.false in
-    read_more c.args.word.now c.loop-digit.digit-index c.loop-digit.number c.in_ok-number.number c.loop-digit.invariant c.loop-digit-test.true digit
+    IsReadBelow-more (2 ^ 64) c.args.word.now c.loop-digit.digit-index c.loop-digit.number c.in_ok-number.number c.loop-digit.invariant c.loop-digit-test.true digit
     (omega (arith, c.in_ok-checked_mul.ensures, c.in_ok-number.ensures, digit_value-digit (get_or c.args.word.now c.loop-digit.digit-index 0) digit))
     (omega (arith, c.in_ok-number.ensures))
 

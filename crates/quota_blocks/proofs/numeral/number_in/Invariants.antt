@@ -1,5 +1,6 @@
-use Rattle.quota_blocks.proofs.NumeralLemmas.{IsRead}
+use Rattle.std.specs.Prelude.{◌^◌}
+use Rattle.quota_types.proofs.DigitsLemmas.{IsReadBelow}
 use Rattle.quota_blocks.proofs.numeral.number_in.Given as goal
 
 abbrev pub invariant-loop-digit : goal.invariant-loop-digit
-invariant-loop-digit l = IsRead l.word l.digit-index l.number
+invariant-loop-digit l = IsReadBelow (2 ^ 64) l.word l.digit-index l.number

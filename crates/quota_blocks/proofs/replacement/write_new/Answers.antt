@@ -1,6 +1,7 @@
-use Rattle.std.proofs.Common.{IsTrue, ◌∙◌, arith}
+use Rattle.std.proofs.Common.{◌+◌, ◌≤◌, ℕ, length, IsTrue, sym, subst, ◌∙◌, arith}
+use Rattle.quota_blocks.specs.Replace.{pieces_of}
 use Rattle.quota_blocks.proofs.FrameLemmas.{changes_one-then}
-use Rattle.quota_blocks.proofs.ReplaceLemmas.{with_bytes-piece}
+use Rattle.quota_blocks.proofs.ReplaceLemmas.{piece-counted, piece-whole, with_bytes-piece}
 use Rattle.quota_blocks.proofs.UnsyncedLemmas.{synced_on_ok, with_name-more}
 use Rattle.quota_blocks.proofs.replacement.write_new.Goals as goal
 
@@ -13,6 +14,9 @@ loop-at-preserved g c =
           ∙ with_bytes-piece _ _ c.args.name.now c.args.bytes.now c.loop-at.at c.min-end.result (omega arith) (omega arith) (kept.written told);
       unsynced = λ told. with_name-more _ _ _ _ (kept.unsynced told) (wrote.unsynced told);
       within = omega arith;
+      whole = piece-whole c.loop-at.at c.min-end.result (length c.args.bytes.now) (omega arith) (omega arith) kept.whole;
+      writes = subst (λ (w : ℕ). w ≤ (g.S.Store.seen c.args.store.now).writes + pieces_of c.min-end.result) (sym wrote.writes)
+          (piece-counted c.loop-at.at c.min-end.result (length c.args.bytes.now) _ _ (omega arith) (omega arith) kept.whole kept.writes);
       leaves = changes_one-then _ _ _ _ kept.leaves wrote.leaves;
     }
 

@@ -1,5 +1,6 @@
-use Rattle.std.proofs.Common.{◌≡◌, ◌-◌, ◌≤◌, length, take, true, Some, IsTrue}
+use Rattle.std.proofs.Common.{◌≡◌, ◌⊎◌, ◌+◌, ◌-◌, ◌%◌, ◌≤◌, length, take, true, Some, IsTrue}
 use Rattle.quota_blocks.specs.Frame.{ChangesOne}
+use Rattle.quota_blocks.specs.Replace.{pieces_of}
 use Rattle.quota_blocks.specs.Unsynced.{with_name}
 use Rattle.quota_blocks.specs.World.{with_file}
 use Rattle.quota_blocks.proofs.replacement.write_new.Given as goal
@@ -14,5 +15,7 @@ invariant-loop-at g l =
       written : IsTrue S.tells → (S.seen l.store).files ≡ with_file (S.seen l.fn.store).files l.name (Some (take l.at l.bytes));
       unsynced : IsTrue S.tells → (S.seen l.store).unsynced ≡ with_name (S.seen l.fn.store).unsynced l.name true;
       within : l.at ≤ length l.bytes;
+      whole : (l.at % 1024 ≡ 0) ⊎ (l.at ≡ length l.bytes);
+      writes : (S.seen l.store).writes ≤ (S.seen l.fn.store).writes + pieces_of l.at;
       leaves : ChangesOne l.name (S.seen l.fn.store) (S.seen l.store);
     }

@@ -1,6 +1,6 @@
-use Rattle.std.proofs.Common.{◌-◌, ◌≤◌, vec_len, IsTrue}
+use Rattle.std.proofs.Common.{◌≡◌, ◌⊎◌, ◌+◌, ◌-◌, ◌%◌, ◌≤◌, true, vec_len, IsTrue}
 use Rattle.quota_blocks.specs.Frame.{OnlyReads}
-use Rattle.quota_blocks.specs.Unsynced.{AddsNone}
+use Rattle.quota_blocks.specs.Replace.{pieces_of}
 use Rattle.quota_blocks.proofs.LoadLemmas.{IsBegun}
 use Rattle.quota_blocks.proofs.whole_file.load.Given as goal
 
@@ -13,6 +13,7 @@ invariant-loop-bytes g l =
     record {
       begun : IsTrue S.tells → IsBegun ((S.seen l.fn.store).files l.name) l.len l.bytes.items;
       within : vec_len l.bytes ≤ l.len;
-      leaves : OnlyReads l.name (S.seen l.fn.store) (S.seen l.store);
-      synced : AddsNone (S.seen l.fn.store).unsynced (S.seen l.store).unsynced;
+      whole : IsTrue S.tells → (vec_len l.bytes % 1024 ≡ 0) ⊎ (vec_len l.bytes ≡ l.len);
+      reads : IsTrue S.tells → (S.seen l.store).reads ≤ (S.seen l.fn.store).reads + pieces_of (vec_len l.bytes);
+      leaves : OnlyReads true l.name (S.seen l.fn.store) (S.seen l.store);
     }

@@ -16,7 +16,6 @@ returns-in-Ok-clause-keeps g c =
       store = refl;
       name = ap string_bytes read.name;
       leaves = read.leaves;
-      unsynced = inr read.synced;
-      synced = λ ok. read.synced;
+      unsynced = inr (read.leaves.synced refl);
       behind = λ told. (_, returns-in-Ok-clause-taken g c told);
     }

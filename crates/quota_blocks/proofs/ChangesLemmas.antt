@@ -1,0 +1,258 @@
+-- What is said of a change of an opened file, from what was done for it.
+use Rattle.std.proofs.Common.{◌≡◌, ℕ, ◌+◌, ◌<◌, ◌≤◌, Bool, true, false, IsTrue, List, Option, Result, Ok, Err, OnOk, OnErr, IfErr, inl, inr, refl, sym, ap, subst, ◌∙◌, arith}
+use Rattle.std.specs.Prelude.{not}
+use Rattle.std.proofs.lemmas.Bool.{false≢true}
+use Rattle.quota_blocks.specs.Changes.{Changes, FileAt, FileLaws, IsRefused, LacksRoom, LacksRoomFor}
+use Rattle.quota_blocks.specs.Count.{Rose}
+use Rattle.quota_blocks.specs.FileChange.{FileChange, IsLeft, changed_value, edit_by, has_nothing_to_do, may_lack_room}
+use Rattle.quota_blocks.specs.Frame.{IsSynced, OnlyReads, ReplacesOne}
+use Rattle.quota_blocks.specs.QuotaFile.{CountsRefusal, IfFull, IsChangeFault, UnlessStoreFailed, is_store_fault}
+use Rattle.quota_blocks.specs.QuotaValue.{QuotaValue}
+use Rattle.quota_blocks.specs.Replace.{IsRewriteFault}
+use Rattle.quota_blocks.specs.World.{World}
+use Rattle.quota_blocks.specs.declared.quota_file.FileFault.{FileFault}
+use Rattle.quota_blocks.specs.declared.quota_file.FileFault.TheVariants.{Store, Damage, Full, Memory}
+use Rattle.quota_blocks.proofs.FrameLemmas.{is_synced-read, only_reads-less, replaces_one-read}
+
+-- a fact that always holds
+pub unless_store-always : (fault : FileFault) (P : Type 0) → P → UnlessStoreFailed fault P
+unless_store-always Store P fact = tt
+unless_store-always (Damage at) P fact = fact
+unless_store-always (Full blocks limit) P fact = fact
+unless_store-always Memory P fact = fact
+
+-- How many calls a change made: no more than it may.
+pub record IsBounded (laws : FileLaws) (old new : FileAt) : Type 0 where
+  pub reads : new.store.reads ≤ old.store.reads + laws.change_reads old.seen
+  pub writes : new.store.writes ≤ old.store.writes + laws.change_writes old.seen
+
+-- no call was made
+pub bounded-none : (laws : FileLaws) (old new : FileAt) → new.store.reads ≡ old.store.reads → new.store.writes ≡ old.store.writes → IsBounded laws old new
+bounded-none laws old new reads writes = record { reads = omega (arith, reads); writes = omega (arith, writes) }
+
+-- There was something to do at each value that the file holds, and there was room for what it becomes.
+pub record IsWanted (change : FileChange) (laws : FileLaws) (old : FileAt) : Type 0 where
+  pub busy : (value : QuotaValue) → old.holds value → has_nothing_to_do change value ≡ false
+  pub room : IsTrue (may_lack_room change) → (value : QuotaValue) (blocks limit : ℕ) → old.holds value → ¬ (LacksRoom laws old (changed_value change value) blocks limit)
+
+-- nothing was to be done, and nothing was
+pub changes-idle : (change : FileChange) (laws : FileLaws) (old new : FileAt) (told : Unit {0})
+    → ((value : QuotaValue) → old.holds value → has_nothing_to_do change value ≡ true)
+    → ((value : QuotaValue) → old.holds value → new.holds (changed_value change value))
+    → OnlyReads true old.seen.name old.store new.store → new.seen ≡ old.seen
+    → IsBounded laws old new → Changes change laws old new (Ok told)
+changes-idle change laws old new told idle set read same bounded = record {
+  edits = record {
+    done = record {
+      set = set;
+      makes = λ value holds busy. absurd (false≢true (sym busy ∙ idle value holds));
+      room = λ needs value blocks limit holds busy. absurd (false≢true (sym busy ∙ idle value holds));
+      synced = λ tells. is_synced-read old.seen.name old.store new.store read;
+      same = same;
+    };
+    refused = tt;
+    idle = λ value holds is. read;
+    full = λ needs value blocks limit holds lacks. read;
+    leaves = replaces_one-read old.seen.name old.store new.store read;
+  };
+  ends = tt;
+  reads = bounded.reads;
+  writes = bounded.writes;
+}
+
+-- it was done
+pub changes-done : (change : FileChange) (laws : FileLaws) (old new : FileAt) (told : Unit {0}) → IsWanted change laws old
+    → ((value : QuotaValue) → old.holds value → new.holds (changed_value change value))
+    → ((value : QuotaValue) → old.holds value → laws.makes old.seen.format change old.seen.name old.store.files new.store.files)
+    → (IsTrue laws.tells → IsSynced old.seen.name old.store new.store) → new.seen ≡ old.seen → ReplacesOne old.seen.name old.store new.store
+    → IsBounded laws old new → Changes change laws old new (Ok told)
+changes-done change laws old new told wanted set makes synced same leaves bounded = record {
+  edits = record {
+    done = record {
+      set = set;
+      makes = λ value holds busy. makes value holds;
+      room = λ needs value blocks limit holds busy. wanted.room needs value blocks limit holds;
+      synced = synced;
+      same = same;
+    };
+    refused = tt;
+    idle = λ value holds is. absurd (false≢true (sym (wanted.busy value holds) ∙ is));
+    full = λ needs value blocks limit holds lacks. absurd (wanted.room needs value blocks limit holds lacks);
+    leaves = leaves;
+  };
+  ends = tt;
+  reads = bounded.reads;
+  writes = bounded.writes;
+}
+
+-- it was refused by a fault that isn't one of the store, before anything was written
+pub changes-refused : (change : FileChange) (laws : FileLaws) (old new : FileAt) (fault : FileFault) → is_store_fault fault ≡ false
+    → IsChangeFault old.store.faults new.store.faults old.holds (LacksRoomFor (edit_by change) laws old) fault
+    → laws.may_refuse old.seen.format fault
+    → IfFull fault (λ blocks limit. (limit ≡ old.seen.limit) × (limit < blocks))
+    → ((value : QuotaValue) → old.holds value → has_nothing_to_do change value ≡ false)
+    → CountsRefusal true old.seen new.seen
+    → ((value : QuotaValue) → old.holds value → new.holds value)
+    → OnlyReads false old.seen.name old.store new.store
+    → IsBounded laws old new → Changes change laws old new (Err fault)
+changes-refused change laws old new fault other cause may passes busy counted stays read bounded = record {
+  edits = record {
+    done = tt;
+    refused = record {
+      cause = cause;
+      may = may;
+      passes = passes;
+      busy = unless_store-always fault _ busy;
+      counted = subst (λ (still : Bool). CountsRefusal still old.seen new.seen) (sym counted.usable) counted;
+      usable = λ is. counted.usable;
+      stays = λ usable. stays;
+      unwritten = λ usable. read;
+      fits = λ ended. absurd (false≢true (sym ended ∙ counted.usable));
+      left = λ ended. absurd (false≢true (sym ended ∙ counted.usable));
+      between = λ tells. inl (ap (λ (files : World). files old.seen.name) read.files);
+    };
+    idle = λ value holds is. read;
+    full = λ needs value blocks limit holds lacks. read;
+    leaves = replaces_one-read old.seen.name old.store new.store read;
+  };
+  ends = λ is. absurd (false≢true (sym other ∙ is));
+  reads = bounded.reads;
+  writes = bounded.writes;
+}
+
+-- the store failed while the file was written anew, and the named file is as it was
+pub changes-failed : (change : FileChange) (laws : FileLaws) (old new : FileAt) → IsWanted change laws old
+    → Rose old.store.faults new.store.faults → laws.may_refuse old.seen.format Store
+    → CountsRefusal false old.seen new.seen
+    → new.store.files old.seen.name ≡ old.store.files old.seen.name → ReplacesOne old.seen.name old.store new.store
+    → IsBounded laws old new → Changes change laws old new (Err Store)
+changes-failed change laws old new wanted rose may counted same leaves bounded = record {
+  edits = record {
+    done = tt;
+    refused = record {
+      cause = rose;
+      may = may;
+      passes = tt;
+      busy = tt;
+      counted = subst (λ (still : Bool). CountsRefusal still old.seen new.seen) (sym counted.usable) counted;
+      usable = λ is. absurd (false≢true (sym is));
+      stays = λ usable. absurd (false≢true (sym counted.usable ∙ usable));
+      unwritten = λ usable. absurd (false≢true (sym counted.usable ∙ usable));
+      fits = λ ended value holds. refl;
+      left = λ ended value holds. inl same;
+      between = λ tells. inl same;
+    };
+    idle = λ value holds is. absurd (false≢true (sym (wanted.busy value holds) ∙ is));
+    full = λ needs value blocks limit holds lacks. absurd (wanted.room needs value blocks limit holds lacks);
+    leaves = leaves;
+  };
+  ends = λ is. counted.usable;
+  reads = bounded.reads;
+  writes = bounded.writes;
+}
+
+-- The file was to be written anew for a change that was wanted.
+pub changes-anew : (change : FileChange) (laws : FileLaws) (old new : FileAt) (result : Result (Unit {0}) FileFault) → IsWanted change laws old
+    → laws.may_refuse old.seen.format Store → laws.may_refuse old.seen.format Memory
+    → OnOk result ((value : QuotaValue) → old.holds value → new.holds (changed_value change value))
+    → OnOk result ((value : QuotaValue) → old.holds value → laws.makes old.seen.format change old.seen.name old.store.files new.store.files)
+    → OnOk result (IsTrue laws.tells → IsSynced old.seen.name old.store new.store)
+    → OnOk result (new.seen ≡ old.seen)
+    → IfErr result (IsRewriteFault old.store.faults new.store.faults)
+    → OnErr result (new.store.files old.seen.name ≡ old.store.files old.seen.name)
+    → OnErr result (new.store.files ≡ old.store.files → (value : QuotaValue) → old.holds value → new.holds value)
+    → IfErr result (λ fault. UnlessStoreFailed fault (OnlyReads true old.seen.name old.store new.store))
+    → IfErr result (λ fault. CountsRefusal (not (is_store_fault fault)) old.seen new.seen)
+    → ReplacesOne old.seen.name old.store new.store → IsBounded laws old new
+    → Changes change laws old new result
+changes-anew change laws old new (Ok told) wanted may_store may_memory set makes synced same refused unchanged stays unwritten counted leaves bounded =
+    changes-done change laws old new told wanted set makes synced same leaves bounded
+changes-anew change laws old new (Err Store) wanted may_store may_memory set makes synced same refused unchanged stays unwritten counted leaves bounded =
+    changes-failed change laws old new wanted refused may_store counted unchanged leaves bounded
+changes-anew change laws old new (Err (Damage at)) wanted may_store may_memory set makes synced same refused unchanged stays unwritten counted leaves bounded = absurd refused
+changes-anew change laws old new (Err (Full blocks limit)) wanted may_store may_memory set makes synced same refused unchanged stays unwritten counted leaves bounded = absurd refused
+changes-anew change laws old new (Err Memory) wanted may_store may_memory set makes synced same refused unchanged stays unwritten counted leaves bounded =
+    changes-refused change laws old new Memory refl tt may_memory tt wanted.busy counted (stays unwritten.files) (only_reads-less old.seen.name old.store new.store unwritten) bounded
+
+-- What is said of the changes of one type of file is said of those of another one, for this change of this file: what it makes
+-- and leaves, and the faults that may come, are some of the other's, and of the values that it becomes the same lack room.
+pub record IsWiderAt (change : FileChange) (laws wider : FileLaws) (old : FileAt) : Type 0 where
+  pub tells : wider.tells ≡ laws.tells
+  pub reads : laws.change_reads old.seen ≤ wider.change_reads old.seen
+  pub writes : laws.change_writes old.seen ≤ wider.change_writes old.seen
+  pub makes : (files : World) → laws.makes old.seen.format change old.seen.name old.store.files files → wider.makes old.seen.format change old.seen.name old.store.files files
+  pub may_leave : (before after left : Option (List ℕ)) → laws.may_leave old.seen.format before after left → wider.may_leave old.seen.format before after left
+  pub may_refuse : (fault : FileFault) → laws.may_refuse old.seen.format fault → wider.may_refuse old.seen.format fault
+  pub lacks : (value : QuotaValue) (blocks limit : ℕ) → old.holds value → LacksRoom laws old (changed_value change value) blocks limit → LacksRoom wider old (changed_value change value) blocks limit
+  pub has : (value : QuotaValue) (blocks limit : ℕ) → old.holds value → LacksRoom wider old (changed_value change value) blocks limit → LacksRoom laws old (changed_value change value) blocks limit
+
+change_fault-wider : (change : FileChange) (laws wider : FileLaws) (old : FileAt) (now : ℕ) → IsWiderAt change laws wider old → (fault : FileFault)
+    → IsChangeFault old.store.faults now old.holds (LacksRoomFor (edit_by change) laws old) fault → IsChangeFault old.store.faults now old.holds (LacksRoomFor (edit_by change) wider old) fault
+change_fault-wider change laws wider old now so Store cause = cause
+change_fault-wider change laws wider old now so (Damage at) cause = cause
+change_fault-wider change laws wider old now so (Full blocks limit) cause = (cause.0, λ value holds. so.lacks value blocks limit holds (cause.1 value holds))
+change_fault-wider change laws wider old now so Memory cause = tt
+
+left-wider : (change : FileChange) (laws wider : FileLaws) (old : FileAt) (new : World) → IsWiderAt change laws wider old
+    → IsLeft (laws.makes old.seen.format change old.seen.name) (laws.may_leave old.seen.format) old.seen.name old.store.files new
+    → IsLeft (wider.makes old.seen.format change old.seen.name) (wider.may_leave old.seen.format) old.seen.name old.store.files new
+left-wider change laws wider old new so left = record {
+  after = left.after;
+  made = so.makes left.after left.made;
+  left = so.may_leave _ _ _ left.left;
+}
+
+refused-wider : (change : FileChange) (laws wider : FileLaws) (old new : FileAt) → IsWiderAt change laws wider old → (fault : FileFault) → IsRefused (edit_by change) laws old new fault
+    → IsRefused (edit_by change) wider old new fault
+refused-wider change laws wider old new so fault refused = record {
+  cause = change_fault-wider change laws wider old new.store.faults so fault refused.cause;
+  may = so.may_refuse fault refused.may;
+  passes = refused.passes;
+  busy = refused.busy;
+  counted = refused.counted;
+  usable = refused.usable;
+  stays = refused.stays;
+  unwritten = refused.unwritten;
+  fits = refused.fits;
+  left = λ ended value holds. elim (refused.left ended value holds) [
+    | inl same ↦ inl same
+    | inr left ↦ inr (left-wider change laws wider old new.store.files so left)
+  ];
+  between = λ told. elim (refused.between (subst IsTrue so.tells told)) [
+    | inl same ↦ inl same
+    | inr left ↦ inr (left.0, so.may_leave _ _ _ left.1)
+  ];
+}
+
+pub changes-wider : (change : FileChange) (laws wider : FileLaws) (old new : FileAt) (result : Result (Unit {0}) FileFault) → IsWiderAt change laws wider old
+    → Changes change laws old new result → Changes change wider old new result
+changes-wider change laws wider old new (Ok told) so changes = record {
+  edits = record {
+    done = record {
+      set = changes.edits.done.set;
+      makes = λ value holds busy. so.makes new.store.files (changes.edits.done.makes value holds busy);
+      room = λ needs value blocks limit holds busy lacks. changes.edits.done.room needs value blocks limit holds busy (so.has value blocks limit holds lacks);
+      synced = λ told. changes.edits.done.synced (subst IsTrue so.tells told);
+      same = changes.edits.done.same;
+    };
+    refused = tt;
+    idle = changes.edits.idle;
+    full = λ needs value blocks limit holds lacks. changes.edits.full needs value blocks limit holds (so.has value blocks limit holds lacks);
+    leaves = changes.edits.leaves;
+  };
+  ends = tt;
+  reads = omega (arith, so.reads, changes.reads);
+  writes = omega (arith, so.writes, changes.writes);
+}
+changes-wider change laws wider old new (Err fault) so changes = record {
+  edits = record {
+    done = tt;
+    refused = refused-wider change laws wider old new so fault changes.edits.refused;
+    idle = changes.edits.idle;
+    full = λ needs value blocks limit holds lacks. changes.edits.full needs value blocks limit holds (so.has value blocks limit holds lacks);
+    leaves = changes.edits.leaves;
+  };
+  ends = changes.ends;
+  reads = omega (arith, so.reads, changes.reads);
+  writes = omega (arith, so.writes, changes.writes);
+}
