@@ -1,11 +1,9 @@
 -- The list of free blocks, counted block by block.
-use Rattle.std.proofs.Common.{◌≡◌, ◌≢◌, subst, ℕ, ◌<◌, ◌≤◌, Bool, true, false, IsTrue, List, [], ◌∷◌, ◌++◌, length, map, refl, sym, ap, ◌∙◌, ◌⊎◌, inl, inr, arith, zero-le, length-append, ◌||◌}
+use Rattle.std.proofs.Common.{◌≡◌, ◌≢◌, subst, ℕ, ◌<◌, ◌≤◌, false, IsTrue, List, [], ◌∷◌, ◌++◌, length, map, refl, sym, ap, ◌∙◌, ◌⊎◌, inl, inr, arith, zero-le, length-append}
 use Rattle.std.specs.Prelude.{◌==◌}
 use Rattle.std.specs.List.{list_any}
-use Rattle.std.proofs.lemmas.Bool.{true≢false}
 use Rattle.quota_types.specs.Times.{StandsIn, times}
-use Rattle.quota_types.proofs.TimesLemmas.{times_cases}
-use Rattle.std.proofs.lemmas.Bool.Decides.{eqb_tells}
+use Rattle.quota_types.proofs.TimesLemmas.{times-list_any}
 use Rattle.quota_blocks.specs.Block.{leads, next_of}
 use Rattle.quota_blocks.proofs.LeadsLemmas.{leads_from}
 use Rattle.free_chains.specs.Chain.{IsChain}
@@ -64,33 +62,11 @@ ends_before file heads most met at begun out fewer =
       at = λ chain end c. (one_chain file heads.blocks heads.free chain end met at c whole).1;
     }
 
--- a number that is found in a list stands in it
-pub found_stands : (xs : List ℕ) (n : ℕ) → list_any (λ other. other == n) xs ≡ true → StandsIn xs n
-found_stands [] n found = absurd (true≢false (sym found))
-found_stands (x ∷ xs) n found = elim (times_cases x xs n) [
-  | inl same ↦ omega (arith, same.1)
-  | inr other ↦ elim (eqb_tells x n) [
-    | inl is ↦ absurd (other.0 is.1)
-    | inr differs ↦ omega (arith, other.1, found_stands xs n (sym (ap (λ (b : Bool). b || list_any (λ other. other == n) xs) differs.0) ∙ found))
-  ]
-]
-
--- and one that is not does not
-pub absent_none : (xs : List ℕ) (n : ℕ) → list_any (λ other. other == n) xs ≡ false → times xs n ≡ 0
-absent_none [] n absent = refl
-absent_none (x ∷ xs) n absent = elim (eqb_tells x n) [
-  | inl is ↦ absurd (true≢false (sym (ap (λ (b : Bool). b || list_any (λ other. other == n) xs) is.0) ∙ absent))
-  | inr differs ↦ elim (times_cases x xs n) [
-    | inl same ↦ absurd (differs.1 same.0)
-    | inr other ↦ other.1 ∙ absent_none xs n (sym (ap (λ (b : Bool). b || list_any (λ other. other == n) xs) differs.0) ∙ absent)
-  ]
-]
-
 -- one more block was met, and read
 pub begun_step : (old between : List ℕ) (blocks head : ℕ) (met pushed : List ℕ) (at next : ℕ) → IsBegun old blocks head met at → at ≢ 0 → at < blocks → list_any (λ other. other == at) met ≡ false
     → pushed ≡ met ++ at ∷ [] → between ≡ old → next ≡ next_of between at → IsBegun old blocks head pushed next
 begun_step old between blocks head met pushed at next begun some low new pushes same link =
     let more : IsBegun old blocks head (met ++ at ∷ []) (next_of old at) =
-    begun_more old blocks head met at begun (leads_from blocks at (omega (arith, some)) low) (absent_none met at new) in
+    begun_more old blocks head met at begun (leads_from blocks at (omega (arith, some)) low) (times-list_any met at new) in
     subst (λ (xs : List ℕ). IsBegun old blocks head xs next) (sym pushes)
     (subst (λ (k : ℕ). IsBegun old blocks head (met ++ at ∷ []) k) (sym (link ∙ ap (λ (file : List ℕ). next_of file at) same)) more)

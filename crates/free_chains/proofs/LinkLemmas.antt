@@ -1,9 +1,8 @@
 -- Words that are written in turn, and the blocks that are lent for them.
-use Rattle.std.proofs.Common.{◌≡◌, ◌≢◌, ℕ, ◌+◌, ◌≤◌, Bool, true, List, [], ◌∷◌, ◌++◌, sym, ap, subst, ◌∙◌, inl, inr, arith}
+use Rattle.std.proofs.Common.{◌≡◌, ◌≢◌, ℕ, ◌≤◌, Bool, true, List, [], ◌∷◌, ◌++◌, sym, subst, ◌∙◌, inl, inr, arith}
 use Rattle.std.specs.Prelude.{◌==◌}
 use Rattle.std.proofs.lemmas.Bool.{cond-true, cond-false}
 use Rattle.std.proofs.lemmas.Bool.Decides.{eqb_tells}
-use Rattle.quota_types.specs.Bytes.{number_at}
 use Rattle.quota_types.proofs.TimesLemmas.{stands_either, stands_left, stands_right, times-append}
 use Rattle.quota_blocks.specs.Block.{block_of}
 use Rattle.quota_blocks.specs.Seen.{StoreSeen}
@@ -14,7 +13,7 @@ use Rattle.quota_pages.specs.Pages.{pages_of}
 use Rattle.quota_pages.specs.Used.{HasWord, KeepsBlocksBut, LendsSome, LooksAtSome, missing}
 use Rattle.quota_pages.specs.declared.page_buffer.Pages.{Pages}
 use Rattle.quota_pages.proofs.LentLemmas.{lends_among}
-use Rattle.quota_pages.proofs.UsedLemmas.{lends_more, lends_then, looks_then_lends, missing-few, missing-there}
+use Rattle.quota_pages.proofs.UsedLemmas.{lends_more, lends_then, looks_then_lends, missing-few, missing-there, HasWord-earlier, HasWord-later}
 use Rattle.free_chains.specs.Links.{HasLinks, led_to, missing_at}
 use Rattle.free_chains.specs.EntryList.{AreApart, Unlinks}
 use Rattle.free_chains.proofs.EntryListLemmas.{not_led_to}
@@ -31,19 +30,7 @@ has_links number behind before old between new first second = record {
   };
 }
 
--- a word or both links were written, and the block was not changed before or after
-pub word_later : (number at value : ℕ) (old between new : List ℕ) → HasWord number at value old between → block_of new number ≡ block_of between number → HasWord number at value old new
-word_later number at value old between new word same = record {
-  is = ap (λ (block : List ℕ). number_at 4 block at) same ∙ word.is;
-  others = subst (λ (block : List ℕ). KeepsOutside at (at + 4) (block_of old number) block) (sym same) word.others;
-}
-
-pub word_earlier : (number at value : ℕ) (old between new : List ℕ) → block_of between number ≡ block_of old number → HasWord number at value between new → HasWord number at value old new
-word_earlier number at value old between new same word = record {
-  is = word.is;
-  others = subst (λ (block : List ℕ). KeepsOutside at (at + 4) block (block_of new number)) same word.others;
-}
-
+-- both links were written in a block that was as before
 pub links_earlier : (number behind before : ℕ) (old between new : List ℕ) → block_of between number ≡ block_of old number → HasLinks number behind before between new → HasLinks number behind before old new
 links_earlier number behind before old between new same links = record {
   next = links.next;
@@ -66,7 +53,7 @@ enters_links zero one two three first block same keeps links other =
 pub enters_behind : (zero one two three : List ℕ) (first block : ℕ) → one ≡ zero → (first ≢ 0 → HasWord first 4 block one two) → KeepsBlocksBut (block ∷ []) two three → block ≢ first → first ≢ 0 → HasWord first 4 block zero three
 enters_behind zero one two three first block same word keeps other some =
     subst (λ (file : List ℕ). HasWord first 4 block file three) same
-    (word_later first 4 block one two three (word some) (stays_but_one two three block first keeps (λ is. other (sym is))))
+    (HasWord-later first 4 block one two three (word some) (stays_but_one two three block first keeps (λ is. other (sym is))))
 
 -- the blocks around a block name each other, and then its links are cleared
 unlinks_in_turn : (one two three four : List ℕ) (block next previous : ℕ) → AreApart block next previous → (next ≢ 0 → HasWord next 4 previous one two) → KeepsBlocksBut (led_to next) one two
@@ -75,12 +62,12 @@ unlinks_in_turn one two three four block next previous apart behind keeps before
   links = links_earlier block 0 0 one three four
       (stays_beside two three previous block keeps' (λ same. apart.previous_other (sym same)) ∙ stays_beside one two next block keeps (λ same. apart.next_other (sym same))) cleared;
   before = λ some.
-      word_later previous 0 next one three four
-      (word_earlier previous 0 next one two three (stays_beside one two next previous keeps (λ same. apart.each_other (λ none. some (same ∙ none)) (sym same))) (before some))
+      HasWord-later previous 0 next one three four
+      (HasWord-earlier previous 0 next one two three (stays_beside one two next previous keeps (λ same. apart.each_other (λ none. some (same ∙ none)) (sym same))) (before some))
       (stays_but_one three four block previous keeps'' apart.previous_other);
   behind = λ some.
-      word_later next 4 previous one three four
-      (word_later next 4 previous one two three (behind some) (stays_beside two three previous next keeps' (apart.each_other some)))
+      HasWord-later next 4 previous one three four
+      (HasWord-later next 4 previous one two three (behind some) (stays_beside two three previous next keeps' (apart.each_other some)))
       (stays_but_one three four block next keeps'' apart.next_other);
 }
 

@@ -1,6 +1,5 @@
-ghost use Rattle.std.specs.Prelude.{◌≡◌, ◌≢◌, ℕ, ◌+◌, ◌<◌, ◌≤◌, [], vec_len, IsTrue, IfOk, OnOk, IfErr};
+ghost use Rattle.std.specs.Prelude.{◌≡◌, ◌≢◌, ℕ, ◌+◌, ◌<◌, ◌≤◌, [], vec_len, IsTrue, IfOk, OnOk, IfErr, is_ok};
 ghost use Rattle.quota_blocks.specs.Frame.{OnlyReads};
-ghost use Rattle.quota_blocks.specs.Unsynced.{AddsNone};
 ghost use Rattle.quota_blocks.specs.CheckFault.{IsCheckFault};
 ghost use Rattle.quota_blocks.specs.Block.{bytes_of};
 ghost use Rattle.free_chains.specs.Walk.{AreLinksTo, IsWalk, IsWalkDefect};
@@ -51,8 +50,7 @@ impl Walk {
             → IsWalk blocks self.old
             → AreLinksTo (bytes_of ((S.seen store.old).files name.now)) head self.old.links.items at
             → IsWalkDefect (bytes_of ((S.seen store.old).files name.now)) blocks head damage)) }
-        ensures leaves { OnlyReads name.now (S.seen store.old) (S.seen store.new) }
-        ensures synced { OnOk result (AddsNone (S.seen store.old).unsynced (S.seen store.new).unsynced) }
+        ensures leaves { OnlyReads (is_ok result) name.now (S.seen store.old) (S.seen store.new) }
         ensures reads { (S.seen store.new).reads ≤ (S.seen store.old).reads + 1 }
         ensures few_reads { IsWalk blocks self.old → (S.seen store.new).reads + vec_len self.old.links
             ≤ (S.seen store.old).reads + blocks }
@@ -95,8 +93,7 @@ pub fn walk_chain<S: Store>(
     ensures refused { IfErr result (IsCheckFault (S.seen store.old).faults (S.seen store.new).faults
         (λ damage. IsTrue S.tells
         → IsWalkDefect (bytes_of ((S.seen store.old).files name.now)) blocks head damage)) }
-    ensures leaves { OnlyReads name.now (S.seen store.old) (S.seen store.new) }
-    ensures synced { OnOk result (AddsNone (S.seen store.old).unsynced (S.seen store.new).unsynced) }
+    ensures leaves { OnlyReads (is_ok result) name.now (S.seen store.old) (S.seen store.new) }
     ensures reads { IfOk result (λ walk. (S.seen store.new).reads ≤ (S.seen store.old).reads + vec_len walk.links) }
     ensures few_reads { (S.seen store.new).reads ≤ (S.seen store.old).reads + blocks }
 {

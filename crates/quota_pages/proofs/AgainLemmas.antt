@@ -1,7 +1,7 @@
 -- Pages that are laid over a file over which the first of them lie already.
 use Rattle.std.proofs.Common.{◌≡◌, ℕ, zero, suc, inl, inr, Bool, false, not, ◌&&◌, ◌||◌, IsTrue, List, [], ◌∷◌, get_or, take, refl, sym, ap, subst, ◌∙◌}
 use Rattle.std.specs.Prelude.{◌==◌, fold}
-use Rattle.std.proofs.lemmas.Bool.{cases_Bool, cond-true, cond-false}
+use Rattle.std.proofs.lemmas.Bool.{cases_Bool, cond-true, cond-false, or_parts, and_parts, not-true}
 use Rattle.quota_blocks.specs.Block.{bytes_of}
 use Rattle.quota_blocks.specs.World.{World}
 use Rattle.quota_pages.specs.Overlay.{with_block}
@@ -11,7 +11,7 @@ use Rattle.quota_pages.specs.Pages.{name_of, pages_of}
 use Rattle.quota_pages.specs.declared.page_buffer.Pages.{Pages}
 use Rattle.quota_pages.proofs.BlockLemmas.{with_block-again}
 use Rattle.quota_pages.proofs.FlushLemmas.{bytes_flushed}
-use Rattle.quota_pages.proofs.PageLemmas.{block_of-shown_other, both, folded_swap, is_lent-at, neither, not_false}
+use Rattle.quota_pages.proofs.PageLemmas.{block_of-shown_other, folded_swap, is_lent-at}
 
 -- a page that is laid over a file twice
 page_twice : (file : List ℕ) (page : Page) → with_page (with_page file page) page ≡ with_page file page
@@ -39,23 +39,23 @@ is_buffered-take : (pages : List Page) (count number : ℕ) → is_buffered page
 is_buffered-take pages zero number none = refl
 is_buffered-take [] (suc count) number none = refl
 is_buffered-take (page ∷ pages) (suc count) number none =
-    let parts = neither (page.number == number) (is_buffered pages number) none in
+    let parts = or_parts (page.number == number) (is_buffered pages number) none in
     ap (λ (b : Bool). b || is_buffered (take count pages) number) parts.0 ∙ is_buffered-take pages count number parts.1
 
 is_lent-take : (pages : List Page) (count number : ℕ) → is_lent pages number ≡ false → is_lent (take count pages) number ≡ false
 is_lent-take pages zero number none = refl
 is_lent-take [] (suc count) number none = refl
 is_lent-take (page ∷ pages) (suc count) number none =
-    let parts = neither (page.lent && page.number == number) (is_lent pages number) none in
+    let parts = or_parts (page.lent && page.number == number) (is_lent pages number) none in
     ap (λ (b : Bool). b || is_lent (take count pages) number) parts.0 ∙ is_lent-take pages count number parts.1
 
 folded_again : (file : List ℕ) (pages : List Page) (count : ℕ) → IsTrue (are_distinct pages) → fold with_page (fold with_page file (take count pages)) pages ≡ fold with_page file pages
 folded_again file pages zero distinct = refl
 folded_again file [] (suc count) distinct = refl
 folded_again file (page ∷ pages) (suc count) distinct =
-    let parts = both (not (is_buffered pages page.number)) (are_distinct pages) distinct in
+    let parts = and_parts (not (is_buffered pages page.number)) (are_distinct pages) distinct in
     let first : List ℕ = with_page file page in
-    let other : is_buffered (take count pages) page.number ≡ false = is_buffered-take pages count page.number (not_false _ parts.0) in
+    let other : is_buffered (take count pages) page.number ≡ false = is_buffered-take pages count page.number (not-true _ parts.0) in
     ap (λ (f : List ℕ). fold with_page f pages)
     (sym (folded_page first (take count pages) page other) ∙ ap (λ (f : List ℕ). fold with_page f (take count pages)) (page_twice file page))
     ∙ folded_again first pages count parts.1

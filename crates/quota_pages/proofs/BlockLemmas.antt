@@ -6,6 +6,7 @@ use Rattle.std.proofs.lemmas.List.{get_or-append_right, get_or_append_left, get_
 use Rattle.quota_types.specs.Bytes.{byte_at}
 use Rattle.quota_blocks.specs.World.{overwritten}
 use Rattle.quota_blocks.specs.Block.{block_of}
+use Rattle.quota_blocks.proofs.WordLemmas.{byte_at-block_of, length-block_of}
 use Rattle.quota_pages.specs.Overlay.{whole_block, with_block}
 
 -- two lists of as many bytes with the same byte at each place
@@ -79,14 +80,6 @@ byte_at-whole_block bytes at within = byte_at-filled 1024 bytes at within
 -- bytes that are a block as they are
 pub whole_block-same : (bytes : List ℕ) → length bytes ≡ 1024 → whole_block bytes ≡ bytes
 whole_block-same bytes long = filled-whole 1024 bytes long
-
-pub length-block_of : (file : List ℕ) (number : ℕ) → length (block_of file number) ≡ 1024
-unfolding block_of
-length-block_of file number = length-whole_block (drop (1024 * number) file)
-
-pub byte_at-block_of : (file : List ℕ) (number at : ℕ) → at < 1024 → byte_at (block_of file number) at ≡ byte_at file (1024 * number + at)
-unfolding block_of
-byte_at-block_of file number at within = byte_at-whole_block (drop (1024 * number) file) at within ∙ get_or-drop (1024 * number) file at 0
 
 pub length-with_block : (file : List ℕ) (number : ℕ) (bytes : List ℕ) → length (with_block file number bytes) ≡ (1024 * number + 1024) + (length file - (1024 * number + 1024))
 unfolding with_block

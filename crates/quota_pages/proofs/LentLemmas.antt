@@ -1,7 +1,7 @@
 -- The numbers of the pages that were lent for writing: no more are lent than were, and stand in a list.
 use Rattle.std.proofs.Common.{◌≡◌, ℕ, ◌+◌, ◌≤◌, Bool, true, false, cond, not, ◌&&◌, ◌||◌, IsTrue, List, [], ◌∷◌, ◌++◌, length, refl, sym, ap, ◌∙◌, inl, inr, arith, length-append}
 use Rattle.std.specs.Prelude.{◌==◌}
-use Rattle.std.proofs.lemmas.Bool.{cases_lt, cond-false, cond_both, eqb-true}
+use Rattle.std.proofs.lemmas.Bool.{cases_lt, cond-false, cond_both, eqb-true, and_parts, not-true}
 use Rattle.std.proofs.lemmas.List.Sums.{sum_by-cons}
 use Rattle.quota_types.specs.Times.{StandsIn, times}
 use Rattle.quota_types.proofs.TimesLemmas.{length_of_times, times-append, times-cons}
@@ -10,7 +10,7 @@ use Rattle.quota_pages.specs.Page.{Page, are_distinct, is_buffered, is_lent, len
 use Rattle.quota_pages.specs.Pages.{pages_of}
 use Rattle.quota_pages.specs.Used.{LendsSome}
 use Rattle.quota_pages.specs.declared.page_buffer.Pages.{Pages}
-use Rattle.quota_pages.proofs.PageLemmas.{both, is_lent-none, not_false}
+use Rattle.quota_pages.proofs.PageLemmas.{is_lent-none}
 use Rattle.quota_pages.proofs.UsedLemmas.{keeps_more}
 
 -- the numbers of the pages that were lent for writing
@@ -42,9 +42,9 @@ more_times false same rest number other numbers is apart counts = counts
 times-lent_numbers : (pages : List Page) (number : ℕ) → IsTrue (are_distinct pages) → times (lent_numbers pages) number ≡ cond (is_lent pages number) 1 0
 times-lent_numbers [] number distinct = refl
 times-lent_numbers (page ∷ pages) number distinct =
-    let parts = both (not (is_buffered pages page.number)) (are_distinct pages) distinct in
+    let parts = and_parts (not (is_buffered pages page.number)) (are_distinct pages) distinct in
     more_times page.lent (page.number == number) (is_lent pages number) page.number number (lent_numbers pages) refl
-    (λ same. ap (is_lent pages) (sym (eqb-true page.number number same)) ∙ is_lent-none pages page.number (not_false _ parts.0))
+    (λ same. ap (is_lent pages) (sym (eqb-true page.number number same)) ∙ is_lent-none pages page.number (not-true _ parts.0))
     (times-lent_numbers pages number parts.1)
 
 -- Where all but the numbers of a list are lent as they were, no more pages are lent than were, and stand in the list.

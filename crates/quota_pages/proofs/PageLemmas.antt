@@ -2,7 +2,7 @@
 use Rattle.std.proofs.Common.{◌≡◌, ◌≢◌, ℕ, zero, suc, ◌+◌, ◌-◌, ◌*◌, ◌<◌, ◌≤◌, ◌⊎◌, inl, inr, Bool, true, false, cond, not, ◌&&◌, ◌||◌, IsTrue, List, [], ◌∷◌, ◌++◌, length, set, get_or, take, drop, refl, sym, ap, subst, ◌∙◌, arith, eq-eqb}
 use Rattle.std.specs.Prelude.{◌==◌, fold}
 use Rattle.std.proofs.Math.Bool.{and-false, and-true, or-false, or-true}
-use Rattle.std.proofs.lemmas.Bool.{cases_Bool, cases_lt, cond-true, cond-false, true≢false, false≢true, eqb-true, false_from_ne_true}
+use Rattle.std.proofs.lemmas.Bool.{cases_Bool, cases_lt, cond-true, cond-false, true≢false, false≢true, eqb-true, false_from_ne_true, or_parts, and_parts, not-true}
 use Rattle.std.proofs.lemmas.List.{set-get_or, take-append-drop}
 use Rattle.std.proofs.lemmas.List.Elements.{All-push, All-set}
 use Rattle.std.proofs.lemmas.List.Folds.{list_any-append, list_any_at}
@@ -20,19 +20,6 @@ lent_page number bytes = record { number = number; bytes = bytes; lent = true }
 differ : (one other : ℕ) → (one == other) ≡ false → other ≢ one
 differ one other failed same = true≢false (sym (eq-eqb one other (sym same)) ∙ failed)
 
--- both parts of a test that failed
-pub neither : (one other : Bool) → (one || other) ≡ false → (one ≡ false) × (other ≡ false)
-neither true other failed = absurd (true≢false failed)
-neither false other failed = (refl, failed)
-
-pub both : (one other : Bool) → IsTrue (one && other) → IsTrue one × IsTrue other
-both true other passed = (refl, passed)
-both false other passed = absurd (false≢true passed)
-
-pub not_false : (test : Bool) → IsTrue (not test) → test ≡ false
-not_false true passed = absurd (false≢true passed)
-not_false false passed = refl
-
 -- a page is laid over a file where a block of another number was, or the other way round
 page_swap : (file : List ℕ) (page : Page) (number : ℕ) (bytes : List ℕ) → number ≢ page.number → with_page (with_block file number bytes) page ≡ with_block (with_page file page) number bytes
 page_swap file page number bytes other =
@@ -45,7 +32,7 @@ page_swap file page number bytes other =
 pub folded_swap : (file : List ℕ) (pages : List Page) (number : ℕ) (bytes : List ℕ) → is_buffered pages number ≡ false → fold with_page (with_block file number bytes) pages ≡ with_block (fold with_page file pages) number bytes
 folded_swap file [] number bytes other = refl
 folded_swap file (page ∷ pages) number bytes other =
-    let parts = neither (page.number == number) (is_buffered pages number) other in
+    let parts = or_parts (page.number == number) (is_buffered pages number) other in
     ap (λ (f : List ℕ). fold with_page f pages) (page_swap file page number bytes (differ page.number number parts.0))
     ∙ folded_swap (with_page file page) pages number bytes parts.1
 
@@ -61,12 +48,12 @@ folded_set : (file : List ℕ) (pages : List Page) (place number : ℕ) (bytes :
     → fold with_page file (set pages place (lent_page number bytes)) ≡ with_block (fold with_page file pages) number bytes
 folded_set file [] place number bytes d within is distinct = absurd (omega arith)
 folded_set file (page ∷ pages) zero number bytes d within is distinct =
-    let parts = both (not (is_buffered pages page.number)) (are_distinct pages) distinct in
-    let other : is_buffered pages number ≡ false = ap (is_buffered pages) (sym is) ∙ not_false _ parts.0 in
+    let parts = and_parts (not (is_buffered pages page.number)) (are_distinct pages) distinct in
+    let other : is_buffered pages number ≡ false = ap (is_buffered pages) (sym is) ∙ not-true _ parts.0 in
     ap (λ (f : List ℕ). fold with_page f pages) (sym (page_again file page number bytes is))
     ∙ folded_swap (with_page file page) pages number bytes other
 folded_set file (page ∷ pages) (suc place) number bytes d within is distinct =
-    folded_set (with_page file page) pages place number bytes d (omega arith) is (both (not (is_buffered pages page.number)) (are_distinct pages) distinct).1
+    folded_set (with_page file page) pages place number bytes d (omega arith) is (and_parts (not (is_buffered pages page.number)) (are_distinct pages) distinct).1
 
 -- pages of which one was lent and left with these bytes
 pub shown-set : (file : List ℕ) (pages : List Page) (place number : ℕ) (bytes : List ℕ) (d : Page) → place < length pages → (get_or pages place d).number ≡ number → IsTrue (are_distinct pages)
@@ -91,7 +78,7 @@ page_other file page number other =
 folded_other : (file : List ℕ) (pages : List Page) (number : ℕ) → is_lent pages number ≡ false → block_of (fold with_page file pages) number ≡ block_of file number
 folded_other file [] number other = refl
 folded_other file (page ∷ pages) number other =
-    let parts = neither (page.lent && page.number == number) (is_lent pages number) other in
+    let parts = or_parts (page.lent && page.number == number) (is_lent pages number) other in
     folded_other (with_page file page) pages number parts.1 ∙ page_other file page number parts.0
 
 pub block_of-shown_other : (file : List ℕ) (pages : List Page) (number : ℕ) → is_lent pages number ≡ false → block_of (shown pages file) number ≡ block_of file number
@@ -106,7 +93,7 @@ is_buffered-at pages place number d within is = list_any_at (λ page. page.numbe
 pub is_lent-none : (pages : List Page) (number : ℕ) → is_buffered pages number ≡ false → is_lent pages number ≡ false
 is_lent-none [] number none = refl
 is_lent-none (page ∷ pages) number none =
-    let parts = neither (page.number == number) (is_buffered pages number) none in
+    let parts = or_parts (page.number == number) (is_buffered pages number) none in
     ap (λ (b : Bool). (page.lent && b) || is_lent pages number) parts.0
     ∙ ap (λ (b : Bool). b || is_lent pages number) (and-false page.lent)
     ∙ is_lent-none pages number parts.1
@@ -115,16 +102,16 @@ is_lent-none (page ∷ pages) number none =
 pub is_lent-at : (pages : List Page) (place number : ℕ) (d : Page) → place < length pages → (get_or pages place d).number ≡ number → IsTrue (are_distinct pages) → is_lent pages number ≡ (get_or pages place d).lent
 is_lent-at [] place number d within is distinct = absurd (omega arith)
 is_lent-at (page ∷ pages) zero number d within is distinct =
-    let parts = both (not (is_buffered pages page.number)) (are_distinct pages) distinct in
-    let other : is_buffered pages number ≡ false = ap (is_buffered pages) (sym is) ∙ not_false _ parts.0 in
+    let parts = and_parts (not (is_buffered pages page.number)) (are_distinct pages) distinct in
+    let other : is_buffered pages number ≡ false = ap (is_buffered pages) (sym is) ∙ not-true _ parts.0 in
     ap (λ (b : Bool). (page.lent && b) || is_lent pages number) (eq-eqb _ _ is)
     ∙ ap (λ (b : Bool). (page.lent && true) || b) (is_lent-none pages number other)
     ∙ (or-false (page.lent && true) ∙ and-true page.lent)
 is_lent-at (page ∷ pages) (suc place) number d within is distinct =
-    let parts = both (not (is_buffered pages page.number)) (are_distinct pages) distinct in
+    let parts = and_parts (not (is_buffered pages page.number)) (are_distinct pages) distinct in
     let there : is_buffered pages number ≡ true = is_buffered-at pages place number d (omega arith) is in
     let apart : (page.number == number) ≡ false = false_from_ne_true _ (λ same.
-    false≢true (sym (not_false _ parts.0) ∙ ap (is_buffered pages) (eqb-true _ _ same) ∙ there)) in
+    false≢true (sym (not-true _ parts.0) ∙ ap (is_buffered pages) (eqb-true _ _ same) ∙ there)) in
     ap (λ (b : Bool). (page.lent && b) || is_lent pages number) apart
     ∙ ap (λ (b : Bool). b || is_lent pages number) (and-false page.lent)
     ∙ is_lent-at pages place number d (omega arith) is parts.1
@@ -197,7 +184,7 @@ is_lent-push pages page other kept =
 pub are_distinct-push : (pages : List Page) (page : Page) → is_buffered pages page.number ≡ false → are_distinct (pages ++ page ∷ []) ≡ are_distinct pages
 are_distinct-push [] page none = refl
 are_distinct-push (first ∷ pages) page none =
-    let parts = neither (first.number == page.number) (is_buffered pages page.number) none in
+    let parts = or_parts (first.number == page.number) (is_buffered pages page.number) none in
     let apart : (page.number == first.number) ≡ false = false_from_ne_true _ (λ same. true≢false (sym (eq-eqb _ _ (sym (eqb-true _ _ same))) ∙ parts.0)) in
     ap (λ (b : Bool). not b && are_distinct (pages ++ page ∷ []))
     (is_buffered-push pages page first.number ∙ ap (λ (b : Bool). is_buffered pages first.number || b) apart ∙ or-false (is_buffered pages first.number))
@@ -262,9 +249,9 @@ lent_apart : (pages : List Page) (count number : ℕ) → IsTrue (are_distinct p
 lent_apart pages zero number distinct behind = refl
 lent_apart [] (suc count) number distinct behind = refl
 lent_apart (page ∷ pages) (suc count) number distinct behind =
-    let parts = both (not (is_buffered pages page.number)) (are_distinct pages) distinct in
+    let parts = and_parts (not (is_buffered pages page.number)) (are_distinct pages) distinct in
     let apart : (page.number == number) ≡ false = false_from_ne_true _ (λ same.
-    true≢false (sym (is_buffered-behind pages count page.number (ap (is_lent (drop count pages)) (eqb-true _ _ same) ∙ behind)) ∙ not_false _ parts.0)) in
+    true≢false (sym (is_buffered-behind pages count page.number (ap (is_lent (drop count pages)) (eqb-true _ _ same) ∙ behind)) ∙ not-true _ parts.0)) in
     ap (λ (b : Bool). (page.lent && b) || is_lent (take count pages) number) apart
     ∙ ap (λ (b : Bool). b || is_lent (take count pages) number) (and-false page.lent)
     ∙ lent_apart pages count number parts.1 behind
@@ -305,7 +292,7 @@ shown-grows file pages = folded_grows file pages
 
 page_covers : (file : List ℕ) (page : Page) (number : ℕ) → (page.lent && page.number == number) ≡ true → 1024 * number + 1024 ≤ length (with_page file page)
 page_covers file page number is =
-    let parts = both page.lent (page.number == number) is in
+    let parts = and_parts page.lent (page.number == number) is in
     subst (λ (f : List ℕ). 1024 * number + 1024 ≤ length f) (sym (cond-true _ _ _ parts.0))
     (omega (arith, eqb-true _ _ parts.1, length-with_block file page.number page.bytes))
 

@@ -13,14 +13,14 @@ use Rattle.quota_blocks.specs.Frame.{OnlyReads}
 use Rattle.quota_blocks.specs.Seen.{StoreSeen}
 use Rattle.quota_blocks.specs.Span.{KeepsOutside}
 use Rattle.quota_blocks.specs.World.{World}
-use Rattle.quota_blocks.proofs.FrameLemmas.{only_reads-none, only_reads-then}
-use Rattle.quota_blocks.proofs.WordLemmas.{number_same}
+use Rattle.quota_blocks.proofs.FrameLemmas.{only_reads-none, only_reads-any, only_reads-less}
+use Rattle.quota_blocks.proofs.WordLemmas.{number_same, length-block_of}
 use Rattle.quota_pages.specs.Overlay.{whole_block, with_block}
 use Rattle.quota_pages.specs.Page.{HasRoomFor, IsClean, Page, is_buffered, is_lent, lent_count, shown}
 use Rattle.quota_pages.specs.Pages.{Brings, Lent, LooksAt, StaysAsItWas, name_of, pages_of}
 use Rattle.quota_pages.specs.Used.{HasWord, IsKnown, KeepsBlocksBut, LendsSome, LooksAtSome, file_of, missing, shown_over}
 use Rattle.quota_pages.specs.declared.page_buffer.Pages.{Pages}
-use Rattle.quota_pages.proofs.BlockLemmas.{block_of-with_block_other, block_of-with_block_same, byte_at-whole_block, length-block_of, length-whole_block, length-with_block}
+use Rattle.quota_pages.proofs.BlockLemmas.{block_of-with_block_other, block_of-with_block_same, byte_at-whole_block, length-whole_block, length-with_block}
 
 -- how many blocks are missing to have one buffered
 pub missing-there : (pages : List Page) (number : ℕ) → is_buffered pages number ≡ true → missing pages number ≡ 0
@@ -101,7 +101,7 @@ looks_then {before} {between} {now} {old} first second = record {
   lent = λ number. second.lent number ∙ first.lent number;
   lent_count = second.lent_count ∙ first.lent_count;
   known = λ known. second.known (first.known known);
-  leaves = only_reads-then (name_of old) before between now first.leaves (subst (λ (name : List ℕ). OnlyReads name between now) first.name second.leaves);
+  leaves = only_reads-any (name_of old) before between now first.leaves (subst (λ (name : List ℕ). OnlyReads false name between now) first.name second.leaves);
   reads = omega (arith, first.reads, second.reads);
 }
 
@@ -119,7 +119,7 @@ looks_more more fewer looks = record {
 }
 
 -- a block was looked at
-pub looks_of_block : {tells : Bool} {number : ℕ} (before now : StoreSeen) {old new : Pages} → LooksAt tells (file_of before old) number old new → OnlyReads (name_of old) before now
+pub looks_of_block : {tells done : Bool} {number : ℕ} (before now : StoreSeen) {old new : Pages} → LooksAt tells (file_of before old) number old new → OnlyReads done (name_of old) before now
     → now.reads ≡ cond (is_buffered (pages_of old) number) before.reads (counted before.reads) → LooksAtSome tells (missing (pages_of old) number) before now old new
 looks_of_block {tells} {number} before now {old} {new} looks leaves reads = record {
   name = looks.brings.name;
@@ -129,12 +129,12 @@ looks_of_block {tells} {number} before now {old} {new} looks leaves reads = reco
   lent = looks.lent;
   lent_count = looks.lent_count;
   known = known_along tells before now old new looks.brings.name leaves.files looks.clean;
-  leaves = leaves;
+  leaves = only_reads-less (name_of old) before now leaves;
   reads = one_read (is_buffered (pages_of old) number) before.reads now.reads reads;
 }
 
 -- or was not, since the store failed
-pub looks_of_fault : (tells : Bool) (number : ℕ) (before now : StoreSeen) {old new : Pages} → StaysAsItWas old new → OnlyReads (name_of old) before now
+pub looks_of_fault : {done : Bool} (tells : Bool) (number : ℕ) (before now : StoreSeen) {old new : Pages} → StaysAsItWas old new → OnlyReads done (name_of old) before now
     → now.reads ≡ cond (is_buffered (pages_of old) number) before.reads (counted before.reads) → LooksAtSome tells (missing (pages_of old) number) before now old new
 looks_of_fault tells number before now {old} {new} stays leaves reads = record {
   name = stays.name;
@@ -145,13 +145,13 @@ looks_of_fault tells number before now {old} {new} stays leaves reads = record {
   lent_count = ap (λ (pages : List Page). lent_count pages) stays.pages;
   known = known_along tells before now old new stays.name leaves.files
       (λ told clean. subst (λ (pages : List Page). IsClean pages (file_of before old)) (sym stays.pages) clean);
-  leaves = leaves;
+  leaves = only_reads-less (name_of old) before now leaves;
   reads = one_read (is_buffered (pages_of old) number) before.reads now.reads reads;
 }
 
 -- a call that looks at a block, whatever it answers
-pub looks_of_peek : {A E : Type 0} (tells : Bool) (number : ℕ) (before now : StoreSeen) {old new : Pages} (result : Result A E)
-    → MatchResult result (λ _. LooksAt tells (file_of before old) number old new) (λ _. StaysAsItWas old new) → OnlyReads (name_of old) before now
+pub looks_of_peek : {A E : Type 0} {done : Bool} (tells : Bool) (number : ℕ) (before now : StoreSeen) {old new : Pages} (result : Result A E)
+    → MatchResult result (λ _. LooksAt tells (file_of before old) number old new) (λ _. StaysAsItWas old new) → OnlyReads done (name_of old) before now
     → now.reads ≡ cond (is_buffered (pages_of old) number) before.reads (counted before.reads) → LooksAtSome tells (missing (pages_of old) number) before now old new
 looks_of_peek tells number before now (Ok _) looks leaves reads = looks_of_block before now looks leaves reads
 looks_of_peek tells number before now (Err _) stays leaves reads = looks_of_fault tells number before now stays leaves reads
@@ -217,7 +217,7 @@ pub marked : {tells : Bool} {file bytes : List ℕ} {number : ℕ} {old new : Pa
 marked {number = number} {old = old} lent = lent.lent number ∙ ap (λ (b : Bool). is_lent (pages_of old) number || b) (eq-eqb number number refl) ∙ or-true (is_lent (pages_of old) number)
 
 -- a block was lent for writing, and left with these bytes
-pub lends_of_page : {tells : Bool} {number : ℕ} {bytes : List ℕ} (before now : StoreSeen) {old new : Pages} → Lent tells (file_of before old) number bytes old new → OnlyReads (name_of old) before now
+pub lends_of_page : {tells done : Bool} {number : ℕ} {bytes : List ℕ} (before now : StoreSeen) {old new : Pages} → Lent tells (file_of before old) number bytes old new → OnlyReads done (name_of old) before now
     → now.reads ≡ cond (is_buffered (pages_of old) number) before.reads (counted before.reads) → LendsSome tells (missing (pages_of old) number) (number ∷ []) before now old new
 lends_of_page {tells} {number} {bytes} before now {old} {new} lent leaves reads = record {
   name = lent.brings.name;
@@ -230,7 +230,7 @@ lends_of_page {tells} {number} {bytes} before now {old} {new} lent leaves reads 
   still_lent = λ other there. lent.lent other ∙ ap (λ (b : Bool). b || number == other) there;
   lent_count = one_lent (is_lent (pages_of old) number) (lent_count (pages_of old)) (lent_count (pages_of new)) lent.lent_count;
   known = known_along tells before now old new lent.brings.name leaves.files lent.clean;
-  leaves = leaves;
+  leaves = only_reads-less (name_of old) before now leaves;
   reads = one_read (is_buffered (pages_of old) number) before.reads now.reads reads;
 }
   where
@@ -266,7 +266,7 @@ lends_then {these} {those} {before} {between} {now} {old} first second = record 
   still_lent = λ number there. second.still_lent number (first.still_lent number there);
   lent_count = omega (arith, first.lent_count, second.lent_count, length-append these those);
   known = λ known. second.known (first.known known);
-  leaves = only_reads-then (name_of old) before between now first.leaves (subst (λ (name : List ℕ). OnlyReads name between now) first.name second.leaves);
+  leaves = only_reads-any (name_of old) before between now first.leaves (subst (λ (name : List ℕ). OnlyReads false name between now) first.name second.leaves);
   reads = omega (arith, first.reads, second.reads);
 }
 
@@ -299,7 +299,7 @@ shown_over-lends {numbers} {before} {now} {old} {new} lends =
     subst (λ (file : List ℕ). KeepsBlocksBut numbers (shown_over before old) (shown (pages_of new) file)) (sym (same_file before now old new lends.name lends.leaves.files))
     (lends.shows (file_of before old))
 
-pub shown_over-lent : {tells : Bool} {number : ℕ} {bytes : List ℕ} (before now : StoreSeen) {old new : Pages} → Lent tells (file_of before old) number bytes old new → OnlyReads (name_of old) before now
+pub shown_over-lent : {tells done : Bool} {number : ℕ} {bytes : List ℕ} (before now : StoreSeen) {old new : Pages} → Lent tells (file_of before old) number bytes old new → OnlyReads done (name_of old) before now
     → shown_over now new ≡ with_block (shown_over before old) number bytes
 shown_over-lent before now {old} {new} lent leaves =
     ap (shown (pages_of new)) (same_file before now old new lent.brings.name leaves.files) ∙ lent.shows (file_of before old)
@@ -353,3 +353,16 @@ blank_block number size bytes old new zeros laid =
     ∙ ap whole_block zeros
     ∙ ap (take 1024) (replicate-append-replicate size 1024 0)
     ∙ take-replicate 1024 (size + 1024) 0 (omega arith)
+
+-- a number was written in a block that was as before, or that stays since
+pub HasWord-earlier : (number at value : ℕ) (old between new : List ℕ) → block_of between number ≡ block_of old number → HasWord number at value between new → HasWord number at value old new
+HasWord-earlier number at value old between new same word = record {
+  is = word.is;
+  others = subst (λ (block : List ℕ). KeepsOutside at (at + 4) block (block_of new number)) same word.others;
+}
+
+pub HasWord-later : (number at value : ℕ) (old between new : List ℕ) → HasWord number at value old between → block_of new number ≡ block_of between number → HasWord number at value old new
+HasWord-later number at value old between new word same = record {
+  is = ap (λ (block : List ℕ). number_at 4 block at) same ∙ word.is;
+  others = subst (λ (block : List ℕ). KeepsOutside at (at + 4) (block_of old number) block) (sym same) word.others;
+}

@@ -1,5 +1,5 @@
 -- What calls over a buffer of pages leave of it, and of what it shows over its file.
-use Rattle.std.specs.Prelude.{◌≡◌, ℕ, ◌+◌, ◌*◌, ◌<◌, ◌≤◌, Bool, true, IsTrue, List, length, max, if◌then◌else◌}
+use Rattle.std.specs.Prelude.{◌≡◌, ℕ, ◌+◌, ◌*◌, ◌<◌, ◌≤◌, Bool, true, false, IsTrue, List, length, max, if◌then◌else◌}
 use Rattle.quota_types.specs.Bytes.{number_at}
 use Rattle.quota_types.specs.Times.{StandsIn, times}
 use Rattle.quota_blocks.specs.Block.{block_of, bytes_of}
@@ -37,7 +37,7 @@ pub record LooksAtSome (tells : Bool) (count : ℕ) (before now : StoreSeen) (ol
   pub lent : (number : ℕ) → is_lent (pages_of new) number ≡ is_lent (pages_of old) number
   pub lent_count : lent_count (pages_of new) ≡ lent_count (pages_of old)
   pub known : IsKnown tells before old → IsKnown tells now new
-  pub leaves : OnlyReads (name_of old) before now
+  pub leaves : OnlyReads false (name_of old) before now
   pub reads : now.reads ≤ before.reads + count
 
 -- Of a file's blocks all but those of a list have the bytes that they had, and the file grows no further than to the end of
@@ -59,7 +59,7 @@ pub record LendsSome (tells : Bool) (count : ℕ) (numbers : List ℕ) (before n
   pub still_lent : (number : ℕ) → is_lent (pages_of old) number ≡ true → is_lent (pages_of new) number ≡ true
   pub lent_count : lent_count (pages_of new) ≤ lent_count (pages_of old) + length numbers
   pub known : IsKnown tells before old → IsKnown tells now new
-  pub leaves : OnlyReads (name_of old) before now
+  pub leaves : OnlyReads false (name_of old) before now
   pub reads : now.reads ≤ before.reads + count
 
 -- A block has a number of four bytes at a place, and all its other bytes are as before.

@@ -1,4 +1,4 @@
-ghost use Rattle.std.specs.Prelude.{◌≡◌, IsTrue, length};
+ghost use Rattle.std.specs.Prelude.{◌≡◌, IsTrue, length, is_ok};
 ghost use Rattle.quota_pages.specs.Held.{pages_in};
 ghost use Rattle.quota_pages.specs.Page.{are_distinct};
 
@@ -74,8 +74,7 @@ impl Pages {
         ensures reads { (S.seen store.new).reads ≡ (if is_buffered (pages_of self.old) n
             then (S.seen store.old).reads else counted (S.seen store.old).reads) }
         ensures cause { OnErr result (Rose (S.seen store.old).faults (S.seen store.new).faults) }
-        ensures leaves { OnlyReads (name_of self.old) (S.seen store.old) (S.seen store.new) }
-        ensures synced { OnOk result (AddsNone (S.seen store.old).unsynced (S.seen store.new).unsynced) }
+        ensures leaves { OnlyReads (is_ok result) (name_of self.old) (S.seen store.old) (S.seen store.new) }
     {
         let place = self.bring(store, n)?;
         Ok(self.held.block(place))
@@ -99,8 +98,7 @@ impl Pages {
         ensures reads { (S.seen store.new).reads ≡ (if is_buffered (pages_of self.old) n
             then (S.seen store.old).reads else counted (S.seen store.old).reads) }
         ensures cause { OnErr result (Rose (S.seen store.old).faults (S.seen store.new).faults) }
-        ensures leaves { OnlyReads (name_of self.old) (S.seen store.old) (S.seen store.new) }
-        ensures synced { OnOk result (AddsNone (S.seen store.old).unsynced (S.seen store.new).unsynced) }
+        ensures leaves { OnlyReads (is_ok result) (name_of self.old) (S.seen store.old) (S.seen store.new) }
     {
         let place = self.bring(store, n)?;
         Ok(self.held.lend(place))
@@ -227,8 +225,7 @@ impl Pages {
         ensures reads { (S.seen store.new).reads ≡ (if is_buffered (pages_of self.old) number
             then (S.seen store.old).reads else counted (S.seen store.old).reads) }
         ensures cause { OnErr result (Rose (S.seen store.old).faults (S.seen store.new).faults) }
-        ensures leaves { OnlyReads (name_of self.old) (S.seen store.old) (S.seen store.new) }
-        ensures synced { OnOk result (AddsNone (S.seen store.old).unsynced (S.seen store.new).unsynced) }
+        ensures leaves { OnlyReads (is_ok result) (name_of self.old) (S.seen store.old) (S.seen store.new) }
     {
         match self.held.place_of(number) {
             Some(place) => Ok(place),
@@ -245,8 +242,7 @@ impl Pages {
         ensures kept { OnErr result (StaysAsItWas self.old self.new) }
         ensures reads { (S.seen store.new).reads ≡ counted (S.seen store.old).reads }
         ensures cause { OnErr result (Rose (S.seen store.old).faults (S.seen store.new).faults) }
-        ensures leaves { OnlyReads (name_of self.old) (S.seen store.old) (S.seen store.new) }
-        ensures synced { OnOk result (AddsNone (S.seen store.old).unsynced (S.seen store.new).unsynced) }
+        ensures leaves { OnlyReads (is_ok result) (name_of self.old) (S.seen store.old) (S.seen store.new) }
     {
         let mut block = [0; 1024];
         read_block(store, self.name.as_str(), number, &mut block)?;

@@ -5,14 +5,15 @@ use Rattle.std.specs.List.{cons_option, filter_map, range_with_len}
 use Rattle.std.proofs.lemmas.Bool.{cases_eq, cases_lt}
 use Rattle.std.proofs.lemmas.List.{get_or_append_left}
 use Rattle.std.proofs.lemmas.List.Elements.{filter_map-append}
+use Rattle.std.proofs.lemmas.Option.{none-some, same_Some}
 use Rattle.quota_types.specs.declared.damage.Damage.{Damage}
 use Rattle.quota_types.specs.declared.damage.DamageKind.TheVariants.{RefOut}
+use Rattle.quota_types.proofs.TimesLemmas.{range_with_len-add}
 use Rattle.quota_blocks.specs.Block.{word_at, leads}
 use Rattle.quota_radix.specs.Descent.{block_led_to, leaf_block, led_by}
 use Rattle.quota_radix.specs.Digits.{digits_of}
 use Rattle.quota_radix.specs.Way.{IsInsideOnWay, IsOutOnWay, block_on_way, blocks_on_way, digit_on_way}
-use Rattle.quota_radix.proofs.FirstLemmas.{range-split}
-use Rattle.quota_radix.proofs.FollowLemmas.{leads_on}
+use Rattle.quota_radix.proofs.StepLemmas.{leads_on}
 
 pub divided : (id gone : ℕ) → gone < 4 → id / 256 ^ (3 - gone) / 256 ≡ id / 256 ^ (4 - gone)
 divided id zero few = omega arith
@@ -29,6 +30,10 @@ digit_there id (suc zero) few = refl
 digit_there id (suc (suc zero)) few = refl
 digit_there id (suc (suc (suc zero))) few = omega arith
 digit_there id (suc (suc (suc (suc gone)))) few = absurd (omega arith)
+
+-- the same of digits that were found
+pub nth : (digits : List ℕ) (id index : ℕ) → digits ≡ digits_of id → get_or digits index 0 ≡ get_or (digits_of id) index 0
+nth digits id index are = ap (λ (ds : List ℕ). get_or ds index 0) are
 
 -- one more digit leads on from where those before it do
 way_onward : (file : List ℕ) (blocks id gone : ℕ) → gone < 4
@@ -74,7 +79,7 @@ none_later file blocks id gone later none from few =
 given_more : (f : ℕ → Option ℕ) (count : ℕ) → filter_map f (range_with_len 0 (count + 1)) ≡ filter_map f (range_with_len 0 count) ++ cons_option (f count) []
 given_more f count =
     let from : 0 + count ≡ count = omega arith in
-    ap (filter_map f) (range-split 0 count 1)
+    ap (filter_map f) (range_with_len-add 0 count 1)
     ∙ filter_map-append f (range_with_len 0 count) (range_with_len (0 + count) 1)
     ∙ ap (λ (k : ℕ). filter_map f (range_with_len 0 count) ++ cons_option (f k) []) from
 
@@ -87,16 +92,10 @@ given_none f first (suc count) none =
 
 given_all : (f : ℕ → Option ℕ) (count more : ℕ) → ((k : ℕ) → count ≤ k → k < count + more → f k ≡ None) → filter_map f (range_with_len 0 (count + more)) ≡ filter_map f (range_with_len 0 count)
 given_all f count more none =
-    ap (filter_map f) (range-split 0 count more)
+    ap (filter_map f) (range_with_len-add 0 count more)
     ∙ filter_map-append f (range_with_len 0 count) (range_with_len (0 + count) more)
     ∙ ap (λ (xs : List ℕ). filter_map f (range_with_len 0 count) ++ xs) (given_none f (0 + count) more (λ k from to. none k (omega arith) (omega arith)))
     ∙ append-nil (filter_map f (range_with_len 0 count))
-
-some_same : (a b : ℕ) → Some a ≡ Some b → a ≡ b
-some_same a b is = cc
-
-not_none : (a : ℕ) → Some a ≡ None → ⊥
-not_none a is = cc
 
 -- some digits of an identifier lead to a block, and to these blocks before it, by references that lead to none past the last
 pub record IsAlong (file : List ℕ) (blocks id gone block : ℕ) (found : List ℕ) : Type 0 where
@@ -120,7 +119,7 @@ inside_more : (file : List ℕ) (blocks id gone block word : ℕ) (found : List 
     → (before other : ℕ) → before < gone + 1 → block_on_way file blocks id before ≡ Some other → word_at file other (digit_on_way id before) < blocks
 inside_more file blocks id gone block word found along is low before other under there = elim (cases_eq before gone) [
   | inl same ↦
-      let here : other ≡ block = some_same other block (sym there ∙ ap (block_on_way file blocks id) same ∙ along.led) in
+      let here : other ≡ block = same_Some other block (sym there ∙ ap (block_on_way file blocks id) same ∙ along.led) in
       let word_is : word ≡ word_at file other (digit_on_way id before) =
       is ∙ ap (λ (b : ℕ). word_at file b (digit_on_way id gone)) (sym here) ∙ ap (λ (k : ℕ). word_at file other (digit_on_way id k)) (sym same) in
       subst (λ (w : ℕ). w < blocks) word_is low
@@ -165,7 +164,7 @@ along_end_inside file blocks id gone block word digit found few digit_is along i
     ap (block_on_way file blocks id) (add-one gone) ∙ way_ends file blocks id gone block word few along.led there none in
     elim (cases_lt before (gone + 1)) [
       | inl early ↦ inside_more file blocks id gone block word found along there low before other early led
-      | inr late ↦ absurd (not_none other (sym led ∙ none_later file blocks id (gone + 1) before next late (omega arith)))
+      | inr late ↦ absurd (none-some other (sym (none_later file blocks id (gone + 1) before next late (omega arith)) ∙ led))
     ]
 
 -- and where all digits led on
@@ -177,6 +176,27 @@ along_all file blocks id gone block found last along =
 
 pub along_all_inside : (file : List ℕ) (blocks id gone block : ℕ) (found : List ℕ) → 4 ≤ gone → IsAlong file blocks id gone block found → IsInsideOnWay file blocks id
 along_all_inside file blocks id gone block found last along before other under led = along.inside before other (omega arith) led
+
+-- the data block is where all four digits lead
+way_to_leaf : (file : List ℕ) (blocks id : ℕ) → block_on_way file blocks id 4 ≡ leaf_block file blocks id
+unfolding block_on_way
+way_to_leaf file blocks id =
+    let whole : id / 1 ≡ id = omega arith in
+    ap (block_led_to file blocks 4) whole
+
+pub along_leaf : (file : List ℕ) (blocks id gone block : ℕ) (found : List ℕ) → 4 ≤ gone → IsAlong file blocks id gone block found → Some block ≡ leaf_block file blocks id
+along_leaf file blocks id gone block found last along =
+    let four : gone ≡ 4 = omega (arith, along.few, last) in
+    sym along.led ∙ ap (block_on_way file blocks id) four ∙ way_to_leaf file blocks id
+
+-- and is none where the way ends before
+pub along_no_leaf : (file : List ℕ) (blocks id gone block word digit : ℕ) (found : List ℕ) → gone < 4 → digit ≡ get_or (digits_of id) gone 0 → IsAlong file blocks id gone block found
+    → word ≡ word_at file block digit → word ≡ 0 → None ≡ leaf_block file blocks id
+along_no_leaf file blocks id gone block word digit found few digit_is along is none =
+    let there : word ≡ word_at file block (digit_on_way id gone) = is ∙ ap (word_at file block) (digit_is ∙ digit_there id gone few) in
+    let next : block_on_way file blocks id (gone + 1) ≡ None =
+    ap (block_on_way file blocks id) (add-one gone) ∙ way_ends file blocks id gone block word few along.led there none in
+    sym (none_later file blocks id (gone + 1) 4 next (omega arith) (omega arith)) ∙ way_to_leaf file blocks id
 
 -- a reference on the way that leads past the last block
 pub along_out : (file : List ℕ) (blocks id gone block digit : ℕ) (found : List ℕ) (damage : Damage) → gone < 4 → digit ≡ get_or (digits_of id) gone 0 → IsAlong file blocks id gone block found
@@ -207,12 +227,11 @@ fifth None after next last three four five =
 pub fifth_is_leaf : (file : List ℕ) (blocks id : ℕ) → slice_get (blocks_on_way file blocks id) 4 ≡ leaf_block file blocks id
 unfolding blocks_on_way block_on_way
 fifth_is_leaf file blocks id =
-    let whole : id / 1 ≡ id = omega arith in
     fifth (block_on_way file blocks id 1) (block_on_way file blocks id 2) (block_on_way file blocks id 3) (block_on_way file blocks id 4)
     (λ none. none_later file blocks id 1 2 none (omega arith) (omega arith))
     (λ none. none_later file blocks id 2 3 none (omega arith) (omega arith))
     (λ none. none_later file blocks id 3 4 none (omega arith) (omega arith))
-    ∙ ap (block_led_to file blocks 4) whole
+    ∙ way_to_leaf file blocks id
 
 -- the blocks of a way begin with the root, also with one more
 pub root_first : (found new : List ℕ) (word : ℕ) → 1 ≤ length found → new ≡ found ++ word ∷ [] → get_or found 0 0 ≡ 1 → get_or new 0 0 ≡ 1

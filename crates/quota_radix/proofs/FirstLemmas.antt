@@ -1,9 +1,10 @@
 -- The first leaf from a number on, by the way down: along the digits of the number, or else by the next greater digit.
-use Rattle.std.proofs.Common.{◌≡◌, ℕ, zero, suc, ◌+◌, ◌-◌, ◌*◌, ◌^◌, ◌<◌, ◌≤◌, List, [], ◌∷◌, ◌++◌, length, get_or, Option, Some, None, option_and_then, refl, sym, ap, subst, ◌∙◌, arith, pow-suc, mul-le-mul_left}
+use Rattle.std.proofs.Common.{◌≡◌, ℕ, suc, ◌+◌, ◌-◌, ◌*◌, ◌^◌, ◌<◌, ◌≤◌, List, [], ◌∷◌, ◌++◌, length, get_or, Option, Some, None, option_and_then, refl, sym, ap, subst, ◌∙◌, arith, pow-suc, mul-le-mul_left}
 use Rattle.std.proofs.lemmas.List.Concat.{flat_map-append}
 use Rattle.std.proofs.lemmas.List.Elements.{filter_map-append}
 use Rattle.std.specs.List.{cons_option, filter_map, flat_map, range_with_len}
 use Rattle.std.specs.Option.{option_or}
+use Rattle.quota_types.proofs.TimesLemmas.{range_with_len-add}
 use Rattle.quota_radix.specs.declared.tree_path.TreePath.{TreePath}
 use Rattle.quota_radix.specs.Descent.{later_steps, path_from, paths_below, with_digits}
 use Rattle.quota_radix.specs.Tree.{step, steps}
@@ -30,18 +31,6 @@ pub least_below_step : (file : List ℕ) (blocks digits : ℕ) (path next leaf :
 unfolding steps
 least_below_step file blocks digits path next leaf first found = first_of_first (paths_below file blocks digits) (later_steps file blocks path 0) next leaf first found
 
--- a range in two parts
-pub range-split : (low one two : ℕ) → range_with_len low (one + two) ≡ range_with_len low one ++ range_with_len (low + one) two
-range-split low zero two =
-    let none : zero + two ≡ two = omega arith in
-    let same : low ≡ low + zero = omega arith in
-    ap (range_with_len low) none ∙ ap (λ (k : ℕ). range_with_len k two) same
-range-split low (suc one) two =
-    let more : suc one + two ≡ suc (one + two) = omega arith in
-    let same : low + 1 + one ≡ low + suc one = omega arith in
-    ap (range_with_len low) more
-    ∙ ap (λ (ns : List ℕ). low ∷ ns) (range-split (low + 1) one two ∙ ap (λ (k : ℕ). range_with_len (low + 1) one ++ range_with_len k two) same)
-
 -- the steps before a digit, that by it, and those behind it
 steps-split : (file : List ℕ) (blocks : ℕ) (path : TreePath) (digit : ℕ) → digit < 256
     → steps file blocks path ≡ filter_map (step file blocks path) (range_with_len 0 digit) ++ cons_option (step file blocks path digit) (later_steps file blocks path (digit + 1))
@@ -50,7 +39,7 @@ steps-split file blocks path digit low =
     let all : 256 ≡ digit + (256 - digit) = omega arith in
     let same : 0 + digit ≡ digit = omega arith in
     ap (λ (k : ℕ). filter_map (step file blocks path) (range_with_len 0 k)) all
-    ∙ ap (filter_map (step file blocks path)) (range-split 0 digit (256 - digit))
+    ∙ ap (filter_map (step file blocks path)) (range_with_len-add 0 digit (256 - digit))
     ∙ filter_map-append (step file blocks path) (range_with_len 0 digit) (range_with_len (0 + digit) (256 - digit))
     ∙ ap (λ (k : ℕ). filter_map (step file blocks path) (range_with_len 0 digit) ++ filter_map (step file blocks path) (range_with_len k (256 - digit))) same
     ∙ ap (λ (ps : List TreePath). filter_map (step file blocks path) (range_with_len 0 digit) ++ ps) (later_here file blocks path digit low)

@@ -3,18 +3,25 @@ use Rattle.std.proofs.Common.{◌≡◌, ℕ, zero, suc, ◌+◌, ◌-◌, ◌*�
 use Rattle.std.specs.Prelude.{IfOk, IfSome}
 use Rattle.std.proofs.lemmas.Bool.{cases_Bool, cases_eq, cases_lt}
 use Rattle.std.proofs.lemmas.Bool.Decides.{nat_tests}
+use Rattle.quota_types.specs.Damage.{NamesItsId}
+use Rattle.quota_types.proofs.TimesLemmas.{times-cons-same}
+use Rattle.quota_types.specs.Times.{StandsIn}
+use Rattle.quota_types.specs.declared.damage.Damage.{Damage}
+use Rattle.quota_types.specs.declared.damage.DamageKind.{DamageKind}
+use Rattle.quota_types.specs.declared.damage.DamageKind.TheVariants.{RefOut}
 use Rattle.quota_blocks.specs.Block.{word_at, leads}
 use Rattle.quota_radix.specs.declared.tree_path.TreePath.{TreePath}
 use Rattle.quota_radix.specs.Descent.{block_led_to, later_steps, led_by, path_from, paths_below, with_digits}
 use Rattle.quota_radix.specs.Digits.{id_of}
-use Rattle.quota_radix.specs.Tree.{step}
-use Rattle.quota_radix.specs.Way.{IsClearTo, IsInsideBy, IsInsideFrom, IsInsideOnWay, IsInsideUpTo, block_on_way, digit_on_way, number_in}
+use Rattle.quota_radix.specs.Lookup.{IsWayFault}
+use Rattle.quota_radix.specs.Tree.{level, step}
+use Rattle.quota_radix.specs.Way.{IsClearTo, IsInsideBy, IsInsideFrom, IsInsideOnWay, IsInsideUpTo, IsOutOnWay, block_on_way, digit_on_way, number_in}
 use Rattle.quota_radix.proofs.AlongLemmas.{divided}
 use Rattle.quota_radix.proofs.DescentLemmas.{Rises-paths_below, not_some, some_same}
 use Rattle.quota_radix.proofs.FirstLemmas.{digits_above}
 use Rattle.quota_radix.proofs.OrderLemmas.{rises_bound}
 use Rattle.quota_radix.proofs.PathLemmas.{Rises}
-use Rattle.quota_radix.proofs.WayLemmas.{first_is_step, step_is}
+use Rattle.quota_radix.proofs.WayLemmas.{first_is_step, level_onward, out_fault, step_is}
 
 -- what follows of an identifier that may be there
 some_so : (P Q : ℕ → Type 0) (last : Option ℕ) → ((id : ℕ) → P id → Q id) → IfSome last P → IfSome last Q
@@ -88,6 +95,7 @@ below_most file blocks k from next leaf found =
 pub by_some : (file : List ℕ) (blocks k least : ℕ) (path next leaf : TreePath) (found : Option TreePath) → found ≡ path_from 0 (later_steps file blocks path least) → found ≡ Some next
     → IsClearTo file blocks path least found → path_from 0 (paths_below file blocks k next) ≡ Some leaf → IsInsideFrom file blocks k next 0 (Some leaf.number)
     → IsInsideBy file blocks k path least (Some leaf.number)
+unfolding IsClearTo
 by_some file blocks k least path next leaf found first is clear below behind = λ digit from to upto.
     let by = first_is_step file blocks path next least (256 - least) (sym first ∙ is) in
     let there = step_is file blocks path next by.0 by.2 in
@@ -108,6 +116,7 @@ by_some file blocks k least path next leaf found first is clear below behind = �
 -- none at all, where none leads on
 pub by_none : (file : List ℕ) (blocks k least : ℕ) (path : TreePath) (found : Option TreePath) (last : Option ℕ) → found ≡ None → IsClearTo file blocks path least found
     → IsInsideBy file blocks k path least last
+unfolding IsClearTo
 by_none file blocks k least path found last is clear = λ digit from to upto.
     let none = subst (IsClearTo file blocks path least) is clear digit from to tt in
     (omega (arith, none.0, none.1), λ led. absurd (not_led blocks (word_at file path.block digit) led none.0))
@@ -191,6 +200,26 @@ led_from file blocks digit word (Some block) led =
     let there = led_some file blocks digit block word led in
     (block, refl, there.0, there.1)
 
+-- where digits lead stands in the tree
+led_stands : (file : List ℕ) (blocks gone number block : ℕ) → block_led_to file blocks gone number ≡ Some block → StandsIn (level file blocks gone) block
+led_stands file blocks zero number block led =
+    let one : 1 ≡ block = cc in
+    subst (λ (b : ℕ). StandsIn (level file blocks 0) b) one (omega (arith, times-cons-same 1 []))
+led_stands file blocks (suc gone) number block led =
+    let from = led_from file blocks (number % 256) block (block_led_to file blocks gone (number / 256)) led in
+    let above : StandsIn (level file blocks gone) from.0 = led_stands file blocks gone (number / 256) from.0 from.1 in
+    subst (λ (b : ℕ). StandsIn (level file blocks (suc gone)) b) from.3
+    (level_onward file blocks gone (number % 256) from.0 (word_at file from.0 (number % 256)) (omega arith) refl from.2 above)
+
+-- a reference on the way of an identifier that leads past the last block is a damage
+pub out_on_way : (file : List ℕ) (blocks id : ℕ) (damage : Damage) → damage.kind ≡ RefOut → NamesItsId damage.kind damage.id → IsOutOnWay file blocks id damage.block → IsWayFault file blocks damage
+unfolding block_on_way digit_on_way
+out_on_way file blocks id damage kind named out =
+    let no_id : damage.id ≡ 0 = subst (λ (k : DamageKind). NamesItsId k damage.id) kind named in
+    let digit : ℕ = id / 256 ^ (3 - out.gone) % 256 in
+    out_fault file blocks out.gone damage.block digit (word_at file damage.block digit) damage out.few (led_stands file blocks out.gone (id / 256 ^ (4 - out.gone)) damage.block out.led)
+    (omega arith) refl out.out (λ i. record { kind = kind i; block = damage.block; id = no_id i })
+
 -- from the root down by the digits of a number
 inside_at : (file : List ℕ) (blocks first : ℕ) (last : Option ℕ) (gone to_go number block : ℕ) → gone + to_go ≡ 4 → IsInsideFrom file blocks 4 (record { number = 0; block = 1 }) first last
     → number < 256 ^ gone → block_led_to file blocks gone number ≡ Some block → first < 256 ^ to_go * (number + 1) → IfSome last (λ id. 256 ^ to_go * number ≤ id)
@@ -228,13 +257,12 @@ inside_up_to file blocks first last inside gone number block few small led reach
     plus_one k = omega arith
 
 -- what the root's references say of an identifier's digits
-pub root_up_to : (file : List ℕ) (blocks from first : ℕ) (digits : List ℕ) (found there : Option TreePath) → length digits ≡ 4 → id_of digits ≡ from → from ≡ first → found ≡ there
-    → IsInsideFrom file blocks (length digits) (record { number = 0; block = 1 }) (with_digits 0 digits) (number_in found) → IsInsideUpTo file blocks first (number_in there)
-root_up_to file blocks from first digits found there four id is same inside =
-    inside_up_to file blocks first (number_in there)
-    (subst (λ (o : Option TreePath). IsInsideFrom file blocks 4 (record { number = 0; block = 1 }) first (number_in o)) same
-    (subst (λ (n : ℕ). IsInsideFrom file blocks 4 (record { number = 0; block = 1 }) n (number_in found)) (id ∙ is)
-    (subst (λ (k : ℕ). IsInsideFrom file blocks k (record { number = 0; block = 1 }) (with_digits 0 digits) (number_in found)) four inside)))
+pub root_up_to : (file : List ℕ) (blocks from : ℕ) (digits : List ℕ) (last : Option ℕ) → length digits ≡ 4 → id_of digits ≡ from
+    → IsInsideFrom file blocks (length digits) (record { number = 0; block = 1 }) (with_digits 0 digits) last → IsInsideUpTo file blocks from last
+root_up_to file blocks from digits last four id inside =
+    inside_up_to file blocks from last
+    (subst (λ (n : ℕ). IsInsideFrom file blocks 4 (record { number = 0; block = 1 }) n last) id
+    (subst (λ (k : ℕ). IsInsideFrom file blocks k (record { number = 0; block = 1 }) (with_digits 0 digits) last) four inside))
 
 -- behind the last identifier there is no reference
 pub none_up_to : (file : List ℕ) (blocks first : ℕ) (last : Option ℕ) → first ≡ 2 ^ 32 → IsInsideUpTo file blocks first last

@@ -4,7 +4,6 @@ pub mod DescentLemmas
 pub mod DownLemmas
 pub mod FindLemmas
 pub mod FirstLemmas
-pub mod FollowLemmas
 pub mod InsideLemmas
 pub mod LeafLemmas
 pub mod LevelLemmas

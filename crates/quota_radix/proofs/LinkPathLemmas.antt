@@ -4,7 +4,8 @@ use Rattle.std.specs.List.{flat_map, range_with_len}
 use Rattle.std.proofs.lemmas.Bool.{cases_Bool, cases_eq, cases_lt}
 use Rattle.std.proofs.lemmas.List.{get_or-replicate, map-append}
 use Rattle.std.proofs.lemmas.List.Concat.{flat_map-append}
-use Rattle.quota_types.specs.Bytes.{byte_at, number_at}
+use Rattle.std.proofs.lemmas.Option.{none-some, same_Some}
+use Rattle.quota_types.specs.Bytes.{number_at}
 use Rattle.quota_types.specs.Times.{StandsIn, times}
 use Rattle.quota_blocks.specs.Block.{block_of, word_at, leads}
 use Rattle.quota_pages.specs.Used.{HasWord}
@@ -13,6 +14,7 @@ use Rattle.quota_radix.specs.Descent.{block_led_to, led_by}
 use Rattle.quota_radix.specs.Link.{GainsBlocks, HasWay, path_along}
 use Rattle.quota_radix.specs.Tree.{blocks_of, level, paths, steps, tree_blocks}
 use Rattle.quota_types.proofs.TimesLemmas.{times-append, times-cons-same}
+use Rattle.quota_types.proofs.BytesLemmas.{number_at-zeros}
 use Rattle.quota_blocks.proofs.WordLemmas.{number_same}
 use Rattle.quota_radix.proofs.PathLemmas.{Rises, Rises-paths}
 use Rattle.quota_radix.proofs.DescentLemmas.{path_led_to}
@@ -43,20 +45,11 @@ front_small id (suc (suc zero)) small few = omega arith
 front_small id (suc (suc (suc zero))) small few = omega arith
 front_small id (suc (suc (suc (suc digits)))) small few = absurd (omega arith)
 
--- a number of bytes that are 0
-number_of_zeros : (width : ℕ) (bytes : List ℕ) (at : ℕ) → ((k : ℕ) → k < at + width → byte_at bytes k ≡ 0) → number_at width bytes at ≡ 0
-unfolding number_at
-number_of_zeros zero bytes at zeros = refl
-number_of_zeros (suc width) bytes at zeros =
-    let first : byte_at bytes at ≡ 0 = zeros at (omega arith) in
-    let rest : number_at width bytes (suc at) ≡ 0 = number_of_zeros width bytes (suc at) (λ k low. zeros k (omega arith)) in
-    omega arith
-
 -- a block of zeros has no reference
 word_of_zeros : (file : List ℕ) (block digit : ℕ) → block_of file block ≡ replicate 1024 0 → digit < 256 → word_at file block digit ≡ 0
 word_of_zeros file block digit blank low =
     ap (λ (bytes : List ℕ). number_at 4 bytes (4 * digit)) blank
-    ∙ number_of_zeros 4 (replicate 1024 0) (4 * digit) (λ k below. get_or-replicate 1024 k 0 0 (omega arith))
+    ∙ number_at-zeros 4 (4 * digit) (replicate 1024 0) (λ k above below. get_or-replicate 1024 k 0 0 (omega arith))
 
 -- where one reference of a block was set, the others are as before
 word_kept : (block digit value other : ℕ) (old new : List ℕ) → HasWord block (4 * digit) value old new → other ≢ digit → word_at new block other ≡ word_at old block other
@@ -77,16 +70,10 @@ gains_ref block digit value blocks old new low none leading set = record {
   others = λ other inside ne. word_kept block digit value other old new set ne;
 }
 
-some_number : (a b : ℕ) → Some a ≡ Some b → a ≡ b
-some_number a b is = cc
-
-some_not_none : (a : ℕ) → Some a ≡ None → ⊥
-some_not_none a is = cc
-
 -- a path to a block that is there
 path_to : (o : Option TreePath) (block : ℕ) → Some block ≡ option_map (λ (path : TreePath). path.block) o → (path : TreePath) × (o ≡ Some path) × (path.block ≡ block)
-path_to None block is = absurd (some_not_none block is)
-path_to (Some path) block is = (path, refl, sym (some_number block path.block is))
+path_to None block is = absurd (none-some block (sym is))
+path_to (Some path) block is = (path, refl, sym (same_Some block path.block is))
 
 -- a level above another one is among those above it
 level_above : (file : List ℕ) (blocks block upper lower : ℕ) → upper < lower → times (level file blocks upper) block ≤ times (blocks_above file blocks lower) block
@@ -107,8 +94,9 @@ two_levels file blocks block one two ne few few' = elim (cases_lt one two) [
   | inr below ↦ omega (arith, level_above file blocks block two one (omega arith), times_above file blocks one block few)
 ]
 
-in_tree : (file : List ℕ) (blocks digits block : ℕ) → digits < 4 → StandsIn (level file blocks digits) block → StandsIn (tree_blocks file blocks) block
-in_tree file blocks digits block few stands = omega (arith, stands, times_above file blocks digits block few)
+-- the blocks to which the paths of less than four digits come are those of the tree
+pub level_in_tree : (file : List ℕ) (blocks digits block : ℕ) → digits < 4 → StandsIn (level file blocks digits) block → StandsIn (tree_blocks file blocks) block
+level_in_tree file blocks digits block few stands = omega (arith, stands, times_above file blocks digits block few)
 
 gains_as : (low high high' : ℕ) (path path' : TreePath) (old old' new new' : List TreePath) → high ≡ high' → path ≡ path' → old ≡ old' → new ≡ new'
     → Gains low high path old new → Gains low high' path' old' new'
@@ -164,7 +152,7 @@ module _ (way : List ℕ) (gone id blocks : ℕ) (old new : List ℕ) (linked : 
       (λ same.
       let here : StandsIn (level old blocks gone) block = subst (λ (k : ℕ). StandsIn (level old blocks gone) k) (sym same) last_stands in
       omega (arith, stands, here, two_levels old blocks block digits gone ne few linked.few, linked.once block))
-      (in_tree old blocks digits block few stands)
+      (level_in_tree old blocks digits block few stands)
 
   -- the paths to the levels down to that of the last block that was there
   same_paths : (digits : ℕ) → digits ≤ gone → paths new blocks digits ≡ paths old blocks digits
@@ -183,7 +171,7 @@ module _ (way : List ℕ) (gone id blocks : ℕ) (old new : List ℕ) (linked : 
       sym (ap (λ (n : ℕ). option_and_then (led_by old blocks digit) (block_led_to old blocks gone n)) up ∙ ap (option_and_then (led_by old blocks digit)) linked.led)
       ∙ linked.ends in
       elim (cases_Bool (leads blocks word)) [
-        | inl leading ↦ absurd (some_not_none word (sym (ap (λ (b : Bool). cond b (Some word) None) leading) ∙ is))
+        | inl leading ↦ absurd (none-some word (sym is ∙ ap (λ (b : Bool). cond b (Some word) None) leading))
         | inr other ↦ other
       ]
 
@@ -218,8 +206,8 @@ module _ (way : List ℕ) (gone id blocks : ℕ) (old new : List ℕ) (linked : 
       (sym (ap (flat_map f) split.is ∙ flat_map-append f before (path ∷ behind)))
       (ap (flat_map (steps new blocks)) (sym (same_paths gone (omega arith) ∙ split.is)))
       (onward_gains old new blocks 0 (256 ^ gone) digit value before behind path rises.0 rises.1
-      (λ block stands. stays block (apart block (omega (arith, stands))) (in_tree old blocks gone block linked.few (omega (arith, stands, among block))))
-      (λ block stands. stays block (apart block (omega (arith, stands))) (in_tree old blocks gone block linked.few (omega (arith, stands, among block, rest block))))
+      (λ block stands. stays block (apart block (omega (arith, stands))) (level_in_tree old blocks gone block linked.few (omega (arith, stands, among block))))
+      (λ block stands. stays block (apart block (omega (arith, stands))) (level_in_tree old blocks gone block linked.few (omega (arith, stands, among block, rest block))))
       (gains_ref path.block digit value blocks old new (omega arith) none (linked.leading (suc gone) (omega arith) (omega (arith, linked.few))) set))
 
   -- and those further down
@@ -264,7 +252,7 @@ pub last_in_tree : (file : List ℕ) (blocks id gone block : ℕ) → id < 2 ^ 3
 last_in_tree file blocks id gone block small few led =
     let test : TreePath → Bool = λ other. other.number == front_of id gone in
     let to = path_to (find test (paths file blocks gone)) block (sym led ∙ path_led_to file blocks gone (front_of id gone) (front_small id gone small few)) in
-    in_tree file blocks gone block few (subst (λ (n : ℕ). StandsIn (level file blocks gone) n) to.2 (found_stands test (paths file blocks gone) to.0 to.1))
+    level_in_tree file blocks gone block few (subst (λ (n : ℕ). StandsIn (level file blocks gone) n) to.2 (found_stands test (paths file blocks gone) to.0 to.1))
 
 -- the blocks of the tree, level by level
 tree_gains : (way fresh : List ℕ) (gone blocks block : ℕ) (old new : List ℕ) → gone < 4 → fresh ≡ map (λ (k : ℕ). get_or way k 0) (range_with_len (suc gone) (3 - gone))

@@ -11,10 +11,10 @@ use Rattle.quota_blocks.specs.Block.{block_of, word_at, leads}
 use Rattle.quota_types.specs.Times.{StandsIn, times}
 use Rattle.quota_radix.specs.Link.{with_path}
 use Rattle.quota_radix.specs.Tree.{blocks_of, steps}
-use Rattle.quota_types.proofs.TimesLemmas.{stands_right, times-append, times-cons, times-cons-same}
-use Rattle.quota_radix.proofs.PathLemmas.{Rises, Rises-append, Rises-flat_map, Rises_wider, each_weaker, rising_steps}
+use Rattle.quota_types.proofs.TimesLemmas.{stands_right, times-append, times-cons, times-cons-same, range_with_len-add}
+use Rattle.quota_types.proofs.ListLemmas.{AllByRecursion-weaker}
+use Rattle.quota_radix.proofs.PathLemmas.{Rises, Rises-append, Rises-flat_map, Rises_wider, rising_steps}
 use Rattle.quota_radix.proofs.DescentLemmas.{not_some, some_same}
-use Rattle.quota_radix.proofs.FirstLemmas.{range-split}
 use Rattle.quota_radix.proofs.OrderLemmas.{rises_bound}
 use Rattle.quota_radix.proofs.StepLemmas.{none_of_zeros, path_by, step_by, steps_from, word_in}
 
@@ -28,15 +28,15 @@ pub record Gains (low high : ℕ) (path : TreePath) (old new : List TreePath) : 
   pub greater : Rises (suc path.number) behind high
 
 -- the numbers of paths that ascend from one number on and below another one are between them
-between : (low high : ℕ) (ps : List TreePath) → Rises low ps high → AllByRecursion (λ (p : TreePath). (low ≤ p.number) × (p.number < high)) ps
-between low high [] r = tt
-between low high (p ∷ ps) r =
+pub Rises-between : (low high : ℕ) (ps : List TreePath) → Rises low ps high → AllByRecursion (λ (p : TreePath). (low ≤ p.number) × (p.number < high)) ps
+Rises-between low high [] r = tt
+Rises-between low high (p ∷ ps) r =
     let from : low ≤ p.number = r.0 in
     let to : suc p.number ≤ high = rises_bound (suc p.number) high ps r.1 in (
       (from, omega arith),
-      each_weaker (λ (q : TreePath). (suc p.number ≤ q.number) × (q.number < high)) (λ (q : TreePath). (low ≤ q.number) × (q.number < high)) ps
+      AllByRecursion-weaker (λ (q : TreePath). (suc p.number ≤ q.number) × (q.number < high)) (λ (q : TreePath). (low ≤ q.number) × (q.number < high)) ps
           (λ q within. let above : suc p.number ≤ q.number = within.0 in (omega arith, within.1))
-          (between (suc p.number) high ps r.1),
+          (Rises-between (suc p.number) high ps r.1),
     )
 
 -- what passes each of some stays, and what passes none goes
@@ -48,28 +48,25 @@ filter_goes : (test : TreePath → Bool) (ps : List TreePath) → AllByRecursion
 filter_goes test [] all = refl
 filter_goes test (p ∷ ps) all = ap (λ (b : Bool). cond b (p ∷ filter test ps) (filter test ps)) all.0 ∙ filter_goes test ps all.1
 
-not_less : (a b : ℕ) → b ≤ a → nat_lt a b ≡ false
-not_less a b le = le-ltb a b le
-
 -- the one more is in its place
 pub with_path_gained : (low high : ℕ) (path : TreePath) (old new : List TreePath) → Gains low high path old new → new ≡ with_path old path
 with_path_gained low high path old new gain =
     let less : TreePath → Bool = λ other. nat_lt other.number path.number in
     let more : TreePath → Bool = λ other. nat_lt path.number other.number in
-    let below = between low path.number gain.before gain.lower in
-    let above = between (suc path.number) high gain.behind gain.greater in
+    let below = Rises-between low path.number gain.before gain.lower in
+    let above = Rises-between (suc path.number) high gain.behind gain.greater in
     let P : TreePath → Type 0 = λ p. (low ≤ p.number) × (p.number < path.number) in
     let Q : TreePath → Type 0 = λ p. (suc path.number ≤ p.number) × (p.number < high) in
     let first : filter less gain.before ≡ gain.before =
-    filter_stays less gain.before (each_weaker P (λ (p : TreePath). less p ≡ true) gain.before (λ p h. lt-ltb p.number path.number h.1) below) in
+    filter_stays less gain.before (AllByRecursion-weaker P (λ (p : TreePath). less p ≡ true) gain.before (λ p h. lt-ltb p.number path.number h.1) below) in
     let second : filter less gain.behind ≡ [] =
     filter_goes less gain.behind
-    (each_weaker Q (λ (p : TreePath). less p ≡ false) gain.behind (λ p h. let from : suc path.number ≤ p.number = h.0 in not_less p.number path.number (omega arith)) above) in
+    (AllByRecursion-weaker Q (λ (p : TreePath). less p ≡ false) gain.behind (λ p h. let from : suc path.number ≤ p.number = h.0 in le-ltb p.number path.number (omega arith)) above) in
     let third : filter more gain.before ≡ [] =
     filter_goes more gain.before
-    (each_weaker P (λ (p : TreePath). more p ≡ false) gain.before (λ p h. let to : p.number < path.number = h.1 in not_less path.number p.number (omega arith)) below) in
+    (AllByRecursion-weaker P (λ (p : TreePath). more p ≡ false) gain.before (λ p h. let to : p.number < path.number = h.1 in le-ltb path.number p.number (omega arith)) below) in
     let fourth : filter more gain.behind ≡ gain.behind =
-    filter_stays more gain.behind (each_weaker Q (λ (p : TreePath). more p ≡ true) gain.behind (λ p h. lt-ltb path.number p.number h.0) above) in
+    filter_stays more gain.behind (AllByRecursion-weaker Q (λ (p : TreePath). more p ≡ true) gain.behind (λ p h. lt-ltb path.number p.number h.0) above) in
     let lower : filter less old ≡ gain.before =
     ap (filter less) gain.was ∙ filter-append less gain.before gain.behind ∙ ap (λ (ps : List TreePath). ps ++ filter less gain.behind) first
     ∙ ap (λ (ps : List TreePath). gain.before ++ ps) second ∙ append-nil gain.before in
@@ -119,7 +116,7 @@ steps_around words blocks path digit low =
     let all : 256 ≡ digit + suc (255 - digit) = omega arith in
     let same : 0 + digit ≡ digit = omega arith in
     ap (λ (k : ℕ). steps_from words blocks path 0 k) all
-    ∙ ap (filter_map (step_by words blocks path)) (range-split 0 digit (suc (255 - digit)))
+    ∙ ap (filter_map (step_by words blocks path)) (range_with_len-add 0 digit (suc (255 - digit)))
     ∙ filter_map-append (step_by words blocks path) (range_with_len 0 digit) (range_with_len (0 + digit) (suc (255 - digit)))
     ∙ ap (λ (k : ℕ). steps_from words blocks path 0 digit ++ steps_from words blocks path k (suc (255 - digit))) same
 
@@ -179,7 +176,7 @@ unfolding steps
 steps_none file blocks path zeros = none_of_zeros (λ k. word_at file path.block k) blocks path 0 256 (λ digit low. zeros digit (omega arith))
 
 -- the path to a block of the same bytes goes on as before
-steps_same : (old new : List ℕ) (blocks : ℕ) (path : TreePath) → block_of new path.block ≡ block_of old path.block → steps new blocks path ≡ steps old blocks path
+pub steps_same : (old new : List ℕ) (blocks : ℕ) (path : TreePath) → block_of new path.block ≡ block_of old path.block → steps new blocks path ≡ steps old blocks path
 unfolding steps
 steps_same old new blocks path same = ap (λ (bytes : List ℕ). steps_from (word_in bytes) blocks path 0 256) same
 

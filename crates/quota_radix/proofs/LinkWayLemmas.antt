@@ -2,7 +2,7 @@
 use Rattle.std.proofs.Common.{◌≡◌, ◌≢◌, ℕ, zero, suc, ◌+◌, ◌-◌, ◌*◌, ◌/◌, ◌%◌, ◌^◌, ◌<◌, ◌≤◌, true, IsTrue, List, [], ◌∷◌, ◌++◌, length, map, take, drop, get_or, Option, Some, None, refl, sym, ap, subst, ◌∙◌, inl, inr, arith, length-append, length-take, length-drop}
 use Rattle.std.specs.List.{cons_option, filter_map, range_with_len}
 use Rattle.std.proofs.lemmas.Bool.{cases_lt}
-use Rattle.std.proofs.lemmas.List.{ext_get_or, get_or-append-add, get_or-drop, get_or-take, get_or_append_left, get_or_at, map-id, take_more}
+use Rattle.std.proofs.lemmas.List.{ext_get_or, get_or-append-add, get_or-drop, get_or-take, get_or_append_left, get_or_at, take_more}
 use Rattle.std.proofs.lemmas.List.FromFn.{get_or-map-range_with_len, length-map-range_with_len}
 use Rattle.quota_types.specs.Times.{StandsIn, times}
 use Rattle.quota_blocks.specs.Block.{leads}
@@ -11,18 +11,14 @@ use Rattle.quota_radix.specs.Link.{AreBuffered, AreDistinct, IsLinkable, LeadsAl
 use Rattle.quota_radix.specs.declared.tree_path.TreePath.{TreePath}
 use Rattle.quota_radix.specs.Tree.{tree_blocks}
 use Rattle.quota_radix.specs.Way.{block_on_way, blocks_on_way, digit_on_way}
-use Rattle.quota_types.proofs.TimesLemmas.{only_one, stands_cons, stands_either, times-append, times-cons-same}
+use Rattle.quota_types.proofs.TimesLemmas.{only_one, stands_cons, stands_either, times-append, times-cons-same, StandsIn-get_or}
 use Rattle.quota_pages.specs.Page.{Page, is_buffered}
 use Rattle.quota_pages.specs.Used.{HasWord, KeepsBlocksBut}
-use Rattle.quota_blocks.proofs.MarkedLemmas.{stands_mapped}
 use Rattle.quota_radix.proofs.AlongLemmas.{none_later}
 use Rattle.quota_radix.proofs.DescentLemmas.{option_cases}
 use Rattle.quota_radix.proofs.LinkPathLemmas.{IsLinked, front_of, last_in_tree}
 
--- the number at a place stands in a list, and what stands in it has a place
-pub stands_at : (xs : List ℕ) (k : ℕ) → k < length xs → StandsIn xs (get_or xs k 0)
-stands_at xs k low = subst (λ (ns : List ℕ). StandsIn ns (get_or xs k 0)) (map-id xs) (stands_mapped (λ (n : ℕ). n) xs k 0 low)
-
+-- what stands in a list has a place
 place_of : (xs : List ℕ) (n : ℕ) → StandsIn xs n → (k : ℕ) × (k < length xs) × (get_or xs k 0 ≡ n)
 place_of [] n stands = absurd (omega arith)
 place_of (x ∷ xs) n stands = elim (stands_cons x xs n stands) [
@@ -35,7 +31,7 @@ apart_at : (xs : List ℕ) → AreDistinct xs → (j k : ℕ) → j < k → k < 
 apart_at [] distinct j k lt low same = absurd (omega arith)
 apart_at (x ∷ xs) distinct j zero lt low same = absurd (omega arith)
 apart_at (x ∷ xs) distinct zero (suc k) lt low same =
-    let stands : StandsIn xs x = subst (λ (n : ℕ). StandsIn xs n) (sym same) (stands_at xs k (omega arith)) in
+    let stands : StandsIn xs x = subst (λ (n : ℕ). StandsIn xs n) (sym same) (StandsIn-get_or xs k (omega arith)) in
     omega (arith, stands, distinct x, times-cons-same x xs)
 apart_at (x ∷ xs) distinct (suc j) (suc k) lt low same =
     apart_at xs (λ n. omega (arith, distinct n, times-append (x ∷ []) xs n)) j k (omega arith) (omega arith) same
@@ -87,7 +83,7 @@ in_stretch way first count k within from to =
     let k_is : first + k' ≡ k = omega arith in
     let low : k' < count = omega arith in
     subst (λ (n : ℕ). StandsIn (stretch way first count) n) (stretch_at way first count k' low ∙ ap (λ (n : ℕ). get_or way n 0) k_is)
-    (stands_at (stretch way first count) k' (omega (arith, low, length-stretch way first count within)))
+    (StandsIn-get_or (stretch way first count) k' (omega (arith, low, length-stretch way first count within)))
 
 module _ (found fresh : List ℕ) (leaf_block gone : ℕ) (some : length found ≡ suc gone) (five : length found + length fresh ≡ 4) where
   pub length_way : length (whole_way found fresh leaf_block) ≡ 5
@@ -113,7 +109,7 @@ module _ (found fresh : List ℕ) (leaf_block gone : ℕ) (some : length found �
       let k : ℕ = digits - suc gone in
       let is : suc gone + k ≡ digits = omega arith in
       let low : k < length fresh = omega (arith, some, five) in
-      subst (λ (n : ℕ). StandsIn fresh n) (sym (ap (λ (n : ℕ). get_or (whole_way found fresh leaf_block) n 0) (sym is) ∙ way_fresh k low)) (stands_at fresh k low)
+      subst (λ (n : ℕ). StandsIn fresh n) (sym (ap (λ (n : ℕ). get_or (whole_way found fresh leaf_block) n 0) (sym is) ∙ way_fresh k low)) (StandsIn-get_or fresh k low)
 
   pub fresh_is : fresh ≡ map (λ (k : ℕ). get_or (whole_way found fresh leaf_block) k 0) (range_with_len (suc gone) (3 - gone))
   fresh_is =

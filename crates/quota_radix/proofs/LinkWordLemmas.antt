@@ -2,28 +2,14 @@
 use Rattle.std.proofs.Common.{◌≡◌, ◌≢◌, ℕ, suc, ◌+◌, ◌-◌, ◌*◌, ◌<◌, ◌≤◌, List, [], ◌∷◌, ◌++◌, length, take, drop, get_or, sym, ap, subst, ◌∙◌, inl, inr, arith, length-drop}
 use Rattle.std.proofs.lemmas.Bool.{cases_eq, cases_lt}
 use Rattle.std.proofs.lemmas.List.{get_or-drop, take_more}
-use Rattle.quota_types.specs.Bytes.{number_at}
 use Rattle.quota_types.specs.Times.{times}
 use Rattle.quota_blocks.specs.Block.{block_of}
-use Rattle.quota_blocks.specs.Span.{KeepsOutside}
 use Rattle.quota_pages.specs.Used.{HasWord, KeepsBlocksBut}
+use Rattle.quota_pages.proofs.UsedLemmas.{HasWord-earlier, HasWord-later}
 use Rattle.quota_radix.specs.Link.{AreDistinct}
 use Rattle.quota_radix.specs.Way.{digit_on_way}
 use Rattle.quota_types.proofs.TimesLemmas.{only_one}
 use Rattle.quota_radix.proofs.LinkWayLemmas.{not_in_stretch, stretch, stretch_apart}
-
--- a block that was as before has a number that was written then, and one that stays has it still
-word_from : (number at value : ℕ) (old between new : List ℕ) → block_of between number ≡ block_of old number → HasWord number at value between new → HasWord number at value old new
-word_from number at value old between new same set = record {
-  is = set.is;
-  others = subst (λ (block : List ℕ). KeepsOutside at (at + 4) block (block_of new number)) same set.others;
-}
-
-word_stays : (number at value : ℕ) (old between new : List ℕ) → block_of new number ≡ block_of between number → HasWord number at value old between → HasWord number at value old new
-word_stays number at value old between new same set = record {
-  is = ap (λ (block : List ℕ). number_at 4 block at) same ∙ set.is;
-  others = subst (λ (block : List ℕ). KeepsOutside at (at + 4) (block_of old number) block) (sym same) set.others;
-}
 
 not_alone : (x n : ℕ) → x ≢ n → times (x ∷ []) n ≡ 0
 not_alone x n ne = elim (cases_lt 0 (times (x ∷ []) n)) [
@@ -48,12 +34,11 @@ leads_more way first id place at value old between new five from few distinct ke
           subst (λ (k : ℕ). HasWord (get_or way k 0) (4 * digit_on_way id k) (get_or way (suc k) 0) old new) (sym same)
           (subst (λ (n : ℕ). HasWord (get_or way place 0) (4 * digit_on_way id place) n old new) value_is
           (subst (λ (n : ℕ). HasWord (get_or way place 0) n value old new) at_is
-          (word_from (get_or way place 0) at value old between new untouched set)))
+          (HasWord-earlier (get_or way place 0) at value old between new untouched set)))
       | inr other ↦
           let before : digits < place = omega arith in
-          word_stays (get_or way digits 0) (4 * digit_on_way id digits) (get_or way (suc digits) 0) old between new
+          HasWord-later (get_or way digits 0) (4 * digit_on_way id digits) (get_or way (suc digits) 0) old between new (so_far digits above before)
           (keeps.others (get_or way digits 0) (not_alone (get_or way place 0) (get_or way digits 0) (λ same. apart digits place above before (omega (arith, from, few)) (sym same))))
-          (so_far digits above before)
     ]
 
 -- a stretch of a way with one more block

@@ -1,7 +1,7 @@
--- Numbers that strictly ascend, and lists by their places.
-use Rattle.std.proofs.Common.{◌≡◌, ℕ, zero, suc, ◌+◌, ◌<◌, ◌≤◌, List, [], ◌∷◌, ◌++◌, length, get_or, refl, ap, subst, arith}
+-- Lists by their places, and paths whose numbers ascend.
+use Rattle.std.proofs.Common.{◌≡◌, ℕ, zero, suc, ◌<◌, ◌≤◌, List, [], ◌∷◌, ◌++◌, length, get_or, refl, ap, arith}
 use Rattle.std.specs.List.{AllByRecursion}
-use Rattle.std.specs.List.Sorted.{IsStrictlyIncreasing}
+use Rattle.quota_types.proofs.AscendsLemmas.{Ascends}
 use Rattle.quota_radix.specs.declared.tree_path.TreePath.{TreePath}
 use Rattle.quota_radix.specs.Tree.{numbers_of}
 use Rattle.quota_radix.proofs.PathLemmas.{Rises}
@@ -27,56 +27,6 @@ each_left P (x ∷ xs) ys all = (all.0, each_left P xs ys all.1)
 pub each_right : {X : Type 0} (P : X → Type 0) (xs ys : List X) → AllByRecursion P (xs ++ ys) → AllByRecursion P ys
 each_right P [] ys all = all
 each_right P (x ∷ xs) ys all = each_right P xs ys all.1
-
--- numbers strictly ascend, from one on
-abbrev pub Ascends : ℕ → List ℕ → Type 0
-Ascends low [] = Unit {0}
-Ascends low (x ∷ xs) = (low ≤ x) × Ascends (suc x) xs
-
-pub ascends_from : (x : ℕ) (xs : List ℕ) → IsStrictlyIncreasing (x ∷ xs) → Ascends x (x ∷ xs)
-ascends_from x [] rising = (omega arith, tt)
-ascends_from x (y ∷ ys) rising =
-    let next : x < y = rising 0 (omega arith) in
-    let rest : Ascends y (y ∷ ys) = ascends_from y ys (λ k lt.
-    let same : suc k + 1 ≡ suc (k + 1) = omega arith in
-    subst (λ (n : ℕ). get_or (y ∷ ys) k 0 < get_or (x ∷ y ∷ ys) n 0) same (rising (suc k) (omega arith))) in
-    (omega arith, (omega arith, rest.1))
-
-pub ascends_of : (xs : List ℕ) → IsStrictlyIncreasing xs → Ascends 0 xs
-ascends_of [] rising = tt
-ascends_of (x ∷ xs) rising = (omega arith, (ascends_from x xs rising).1)
-
-pub ascends_fewer : (low few : ℕ) (xs : List ℕ) → few ≤ low → Ascends low xs → Ascends few xs
-ascends_fewer low few [] le r = tt
-ascends_fewer low few (x ∷ xs) le r = let from : low ≤ x = r.0 in (omega arith, r.1)
-
-pub ascends_above : (low : ℕ) (xs : List ℕ) → Ascends low xs → (k : ℕ) → k < length xs → low ≤ get_or xs k 0
-ascends_above low [] r k lt = absurd (omega arith)
-ascends_above low (x ∷ xs) r zero lt = r.0
-ascends_above low (x ∷ xs) r (suc k) lt =
-    let from : low ≤ x = r.0 in
-    let rest : suc x ≤ get_or xs k 0 = ascends_above (suc x) xs r.1 k (omega arith) in
-    omega arith
-
-pub ascends_apart : (low : ℕ) (xs : List ℕ) → Ascends low xs → (j k : ℕ) → j < k → k < length xs → get_or xs j 0 < get_or xs k 0
-ascends_apart low [] r j k lt within = absurd (omega arith)
-ascends_apart low (x ∷ xs) r j zero lt within = absurd (omega arith)
-ascends_apart low (x ∷ xs) r zero (suc k) lt within = ascends_above (suc x) xs r.1 k (omega arith)
-ascends_apart low (x ∷ xs) r (suc j) (suc k) lt within = ascends_apart (suc x) xs r.1 j k (omega arith) (omega arith)
-
-pub increasing_of : (low : ℕ) (xs : List ℕ) → Ascends low xs → IsStrictlyIncreasing xs
-increasing_of low xs r = λ k lt. ascends_apart low xs r k (k + 1) (omega arith) lt
-
-pub ascends_left : (low : ℕ) (xs ys : List ℕ) → Ascends low (xs ++ ys) → Ascends low xs
-ascends_left low [] ys r = tt
-ascends_left low (x ∷ xs) ys r = (r.0, ascends_left (suc x) xs ys r.1)
-
--- what ascends behind a number ascends from above it
-pub ascends_right : (low : ℕ) (xs ys : List ℕ) → Ascends low (xs ++ ys) → Ascends low ys
-ascends_right low [] ys r = r
-ascends_right low (x ∷ xs) ys r =
-    let from : low ≤ x = r.0 in
-    ascends_fewer (suc x) low ys (omega arith) (ascends_right (suc x) xs ys r.1)
 
 pub length_numbers : (ps : List TreePath) → length (numbers_of ps) ≡ length ps
 length_numbers [] = refl

@@ -1,6 +1,6 @@
 -- The first leaf from a number on, read block by block: how far a path has gone, the numbers behind it, and what a refusal
 -- says of the block that was read.
-use Rattle.std.proofs.Common.{◌≡◌, ℕ, suc, ◌+◌, ◌*◌, ◌^◌, ◌<◌, ◌≤◌, Bool, true, cond, List, [], ◌∷◌, length, get_or, Option, Some, None, refl, sym, ap, subst, ◌∙◌, inl, inr, arith, pow-suc, mul-le-mul_left}
+use Rattle.std.proofs.Common.{◌≡◌, ℕ, suc, ◌+◌, ◌*◌, ◌^◌, ◌<◌, ◌≤◌, Bool, cond, List, ◌∷◌, length, get_or, Option, Some, None, refl, sym, ap, subst, ◌∙◌, inl, inr, arith, pow-suc, mul-le-mul_left}
 use Rattle.std.specs.List.{flat_map}
 use Rattle.std.specs.Option.{option_map, option_or}
 use Rattle.std.proofs.lemmas.Bool.{cases_eq}
@@ -8,7 +8,6 @@ use Rattle.quota_types.specs.Bytes.{number_at}
 use Rattle.quota_types.specs.declared.damage.Damage.{Damage}
 use Rattle.quota_types.specs.declared.damage.DamageKind.TheVariants.{RefOut, EmptyTree}
 use Rattle.quota_blocks.specs.Block.{block_of, leads, word_at}
-use Rattle.quota_pages.specs.Page.{Page, is_buffered}
 use Rattle.quota_radix.specs.declared.tree_path.TreePath.{TreePath}
 use Rattle.quota_radix.specs.Descent.{later_steps, leaf_from, path_from, paths_below, with_digits}
 use Rattle.quota_radix.specs.Digits.{id_of}
@@ -19,10 +18,9 @@ use Rattle.quota_radix.specs.TreeDefect.{IsEmpty}
 use Rattle.quota_radix.specs.Walk.{HasLeft}
 use Rattle.quota_radix.proofs.DescentLemmas.{leaves_below, none_from}
 use Rattle.quota_radix.proofs.FirstLemmas.{digits_below, first_of_first, least_below_step, none_of_none}
-use Rattle.quota_radix.proofs.FollowLemmas.{leads_on}
 use Rattle.quota_radix.proofs.PathLemmas.{Rises-paths}
+use Rattle.quota_radix.proofs.StepLemmas.{leads_on}
 use Rattle.quota_radix.proofs.WayLemmas.{empty_fault, first_later, first_on_way, out_fault, pow_small}
-use Rattle.quota_types.proofs.TimesLemmas.{times-cons-same}
 
 -- a path from which a digit is to go has three digits at most
 pub left_small : (to_go less : ℕ) (path : TreePath) → to_go ≡ suc less → HasLeft to_go path → path.number < 2 ^ 24
@@ -66,12 +64,12 @@ out_way file blocks to_go less path damage more way is out =
     out_fault file blocks way.gone path.block out.0 (word_at file path.block out.0) damage (omega (arith, way.four, more)) way.stands out.1 refl out.2 is
 
 -- the same of what was read
-pub out_read : (pages : List Page) (known : Type 0) (file : List ℕ) (blocks to_go less : ℕ) (path : TreePath) (damage : Damage) → to_go ≡ suc less
-    → (damage ≡ record { kind = RefOut; block = path.block; id = 0 }) × (is_buffered pages path.block ≡ true)
+pub out_read : (missing : ℕ → ℕ) (known : Type 0) (file : List ℕ) (blocks to_go less : ℕ) (path : TreePath) (damage : Damage) → to_go ≡ suc less
+    → (damage ≡ record { kind = RefOut; block = path.block; id = 0 }) × (missing path.block ≡ 0)
     × (known → (digit : ℕ) × (digit < 256) × (blocks ≤ word_at file path.block digit))
-    → (is_buffered pages damage.block ≡ true) × (known → IsOnWay file blocks to_go path → IsWayFault file blocks damage)
-out_read pages known file blocks to_go less path damage more out = (
-  subst (λ (d : Damage). is_buffered pages d.block ≡ true) (sym out.0) out.1,
+    → (missing damage.block ≡ 0) × (known → IsOnWay file blocks to_go path → IsWayFault file blocks damage)
+out_read missing known file blocks to_go less path damage more out = (
+  subst (λ (d : Damage). missing d.block ≡ 0) (sym out.0) out.1,
   λ told way. out_way file blocks to_go less path damage more way out.0 (out.2 told),
 )
 
@@ -94,15 +92,6 @@ pub empty_way : (file : List ℕ) (blocks to_go less : ℕ) (path : TreePath) (d
 empty_way file blocks to_go less path damage more below empty is =
     let few : to_go < 4 = below.0 in
     empty_fault file blocks less path damage (omega (arith, few, more)) (subst (λ (k : ℕ). IsOnWay file blocks k path) more below.1) empty is
-
--- the root is a path from which four digits are to go
-pub root_way : (file : List ℕ) (blocks : ℕ) → IsOnWay file blocks 4 (record { number = 0; block = 1 })
-root_way file blocks = record {
-  gone = 0;
-  four = refl;
-  stands = omega (arith, times-cons-same 1 []);
-  small = omega arith;
-}
 
 -- no leaf comes after the last identifier
 pub none_after_last : (file : List ℕ) (blocks : ℕ) (after : Option ℕ) → first_after after ≡ 2 ^ 32 → leaf_after file blocks after ≡ None
@@ -149,13 +138,13 @@ zeros_more words first digit zeros here k from to = elim (cases_eq k digit) [
 ]
 
 -- the first leaf below the root from the number that four digits make
-pub from_root : (file : List ℕ) (blocks from : ℕ) (after : Option ℕ) (digits : List ℕ) → length digits ≡ 4 → id_of digits ≡ from → from ≡ first_after after
-    → path_from (with_digits 0 digits) (paths_below file blocks (length digits) (record { number = 0; block = 1 })) ≡ leaf_from file blocks (first_after after)
-from_root file blocks from after digits four is first =
+pub from_root : (file : List ℕ) (blocks from : ℕ) (digits : List ℕ) → length digits ≡ 4 → id_of digits ≡ from
+    → path_from (with_digits 0 digits) (paths_below file blocks (length digits) (record { number = 0; block = 1 })) ≡ leaf_from file blocks from
+from_root file blocks from digits four is =
     let root : TreePath = record { number = 0; block = 1 } in
     ap (λ (k : ℕ). path_from (with_digits 0 digits) (paths_below file blocks k root)) four
-    ∙ ap (λ (n : ℕ). path_from n (paths_below file blocks 4 root)) (is ∙ first)
-    ∙ ap (path_from (first_after after)) (sym (leaves_below file blocks))
+    ∙ ap (λ (n : ℕ). path_from n (paths_below file blocks 4 root)) is
+    ∙ ap (path_from from) (sym (leaves_below file blocks))
 
 -- a way from which a digit is to go
 pub way_more : (file : List ℕ) (blocks to_go less : ℕ) (path : TreePath) → to_go ≡ suc less → IsOnWay file blocks to_go path → IsOnWay file blocks (suc less) path
@@ -180,7 +169,3 @@ pub least_past_none : (file : List ℕ) (blocks to_go digit from : ℕ) (path : 
 least_past_none file blocks to_go digit from path first same is none =
     sym (none_of_none (paths_below file blocks to_go) (later_steps file blocks path (digit + 1))
     (ap (λ (d : ℕ). path_from 0 (later_steps file blocks path (d + 1))) (sym same) ∙ sym is ∙ none))
-
--- the root, where the digits that are to go are four
-pub root_way_of : (file : List ℕ) (blocks to_go : ℕ) → to_go ≡ 4 → IsOnWay file blocks to_go (record { number = 0; block = 1 })
-root_way_of file blocks to_go four = subst (λ (k : ℕ). IsOnWay file blocks k (record { number = 0; block = 1 })) (sym four) (root_way file blocks)

@@ -9,15 +9,12 @@ use Rattle.quota_types.specs.Times.{StandsIn, times}
 use Rattle.quota_radix.specs.Tree.{data_blocks, ids_at, is_data, leaves, level, paths, step, steps}
 use Rattle.quota_blocks.proofs.LeadsLemmas.{leads_within}
 use Rattle.quota_types.proofs.TimesLemmas.{times-cons, times-cons-other, times-cons-same, times-filter-no, times-filter-yes, times-range-within, times_cases}
+use Rattle.quota_types.proofs.ListLemmas.{AllByRecursion-weaker}
 
 -- what holds of each element of two lists holds of each of the joined one
 pub each-append : {X : Type 0} (P : X → Type 0) (xs ys : List X) → AllByRecursion P xs → AllByRecursion P ys → AllByRecursion P (xs ++ ys)
 each-append P [] ys a b = b
 each-append P (x ∷ xs) ys a b = (a.0, each-append P xs ys a.1 b)
-
-pub each_weaker : {X : Type 0} (P Q : X → Type 0) (xs : List X) → ((x : X) → P x → Q x) → AllByRecursion P xs → AllByRecursion Q xs
-each_weaker P Q [] weaker all = tt
-each_weaker P Q (x ∷ xs) weaker all = (weaker x all.0, each_weaker P Q xs weaker all.1)
 
 -- a number that an element gives is given by one of which the same holds as of each
 pub one_with : {X : Type 0} (P : X → Type 0) (f : X → ℕ) (xs : List X) (n : ℕ) → AllByRecursion P xs → StandsIn (map f xs) n → (x : X) × P x × (f x ≡ n)
@@ -200,7 +197,7 @@ leads_itself [] = tt
 leads_itself (p ∷ ps) = (
   subst (λ (b : Bool). StandsIn (map (λ path. path.number) (cond b (p ∷ filter (λ path. path.block == p.block) ps) (filter (λ path. path.block == p.block) ps))) p.number) (sym (eq-eqb p.block p.block refl))
       (omega (arith, times-cons-same p.number (map (λ path. path.number) (filter (λ path. path.block == p.block) ps)))),
-  each_weaker (λ (leaf : TreePath). StandsIn (ids_at ps leaf.block) leaf.number) (λ (leaf : TreePath). StandsIn (ids_at (p ∷ ps) leaf.block) leaf.number) ps
+  AllByRecursion-weaker (λ (leaf : TreePath). StandsIn (ids_at ps leaf.block) leaf.number) (λ (leaf : TreePath). StandsIn (ids_at (p ∷ ps) leaf.block) leaf.number) ps
       (λ leaf stands. elim (p.block == leaf.block) as (λ (b : Bool). StandsIn (map (λ path. path.number) (cond b (p ∷ filter (λ path. path.block == leaf.block) ps) (filter (λ path. path.block == leaf.block) ps))) leaf.number) [
         | true ↦ omega (arith, stands, times-cons p.number (map (λ path. path.number) (filter (λ path. path.block == leaf.block) ps)) leaf.number)
         | false ↦ stands

@@ -7,6 +7,7 @@ use Rattle.std.proofs.lemmas.Bool.Decides.{nat_tests}
 use Rattle.quota_types.specs.Bytes.{number_at}
 use Rattle.quota_radix.specs.declared.tree_path.TreePath.{TreePath}
 use Rattle.quota_blocks.specs.Block.{block_of, leads}
+use Rattle.quota_blocks.proofs.LeadsLemmas.{leads_within}
 use Rattle.quota_radix.specs.Tree.{steps}
 
 -- the reference at a digit's place in a block of these bytes
@@ -66,8 +67,9 @@ step_cases words blocks path digit = elim (cases_Bool (leads blocks (words digit
 zero_of : (blocks word : ℕ) → leads blocks word ≡ false → word < blocks → word ≡ 0
 zero_of blocks word not_leading low = grind (arith, nat_tests)
 
-zero_no : (blocks word : ℕ) → word ≡ 0 → IsTrue (leads blocks word) → ⊥
-zero_no blocks word is_zero leading = grind (arith, nat_tests)
+-- a reference that leads
+pub leads_on : (blocks word : ℕ) → word < blocks → (word ≡ 0 → ⊥) → leads blocks word ≡ true
+leads_on blocks word inside some = grind (arith, nat_tests)
 
 -- where no path goes on, each word is 0
 pub none_by : (words : ℕ → ℕ) (blocks : ℕ) (path : TreePath) (first count : ℕ) → length (steps_from words blocks path first count) ≡ 0
@@ -91,7 +93,7 @@ pub none_of_zeros : (words : ℕ → ℕ) (blocks : ℕ) (path : TreePath) (firs
     → steps_from words blocks path first count ≡ []
 none_of_zeros words blocks path first zero zeros = refl
 none_of_zeros words blocks path first (suc count) zeros = elim (step_cases words blocks path first) [
-  | inl there ↦ absurd (zero_no blocks (words first) (zeros first (omega arith)) there.0)
+  | inl there ↦ absurd (omega (arith, leads_within blocks (words first) there.0, zeros first (omega arith)))
   | inr not_there ↦
       ap (λ (o : Option TreePath). cons_option o (steps_from words blocks path (first + 1) count)) not_there.1
       ∙ none_of_zeros words blocks path (first + 1) count (λ digit low. zeros digit (omega arith))

@@ -1,20 +1,15 @@
--- Walks over a buffer of pages: what is known after some of it was known before, and what a refusal says.
-use Rattle.std.proofs.Common.{ℕ, ◌≤◌, Bool, List, Option, Some, None, Result, Ok, Err, subst, arith}
-use Rattle.std.specs.Prelude.{IfErr, IfOk, IfSome}
+-- Walks over blocks that are lent: what is known after some of it was known before, and what a refusal says.
+use Rattle.std.proofs.Common.{◌≡◌, ℕ, ◌≤◌, List, Option, Some, None, Result, Ok, Err, subst, arith}
+use Rattle.std.specs.Prelude.{IfErr, IfNone, IfOk, IfSome}
 use Rattle.std.proofs.lemmas.Result.{IfErr-weaker}
 use Rattle.quota_types.specs.declared.damage.Damage.{Damage}
-use Rattle.quota_blocks.specs.Seen.{StoreSeen}
-use Rattle.quota_pages.specs.Used.{IsKnown, LooksAtSome, shown_over}
-use Rattle.quota_pages.specs.declared.page_buffer.Pages.{Pages}
-use Rattle.quota_pages.proofs.UsedLemmas.{shown_over-looks}
 use Rattle.quota_radix.specs.declared.walk_fault.WalkFault.{WalkFault}
 use Rattle.quota_radix.specs.declared.walk_fault.WalkFault.TheVariants.{Store, Damage as Damaged}
 use Rattle.quota_radix.specs.WalkFault.{IsWalkFault}
 
--- what is known once blocks were looked at was known before
-pub since : {tells : Bool} {count : ℕ} {before now : StoreSeen} {old new : Pages} → LooksAtSome tells count before now old new → (P : List ℕ → Type 0)
-    → (IsKnown tells now new → P (shown_over now new)) → IsKnown tells before old → P (shown_over before old)
-since looks P later known = subst P (shown_over-looks looks) (later (looks.known known))
+-- what is known once blocks were looked at was known before, where what is known and shown stays
+pub since : {known still : Type 0} {old new : List ℕ} → (known → still × (new ≡ old)) → (P : List ℕ → Type 0) → (still → P new) → known → P old
+since stays P later known = let now = stays known in subst P now.1 (later now.0)
 
 -- a refusal of a later call is one of an earlier call, which says as much of a damage
 pub walk_refused : (before between now : ℕ) (P Q : Damage → Type 0) → before ≤ between → ((damage : Damage) → P damage → Q damage) → (fault : WalkFault)
@@ -32,3 +27,9 @@ pub some_weaker : {X E : Type 0} (P Q : X → Type 0) (result : Result (Option X
 some_weaker P Q (Ok None) weaker holds = tt
 some_weaker P Q (Ok (Some x)) weaker holds = weaker x holds
 some_weaker P Q (Err e) weaker holds = tt
+
+-- and what is known where there is none
+pub none_weaker : {X E P Q : Type 0} (result : Result (Option X) E) → (P → Q) → IfOk result (λ found. IfNone found P) → IfOk result (λ found. IfNone found Q)
+none_weaker (Ok None) weaker holds = weaker holds
+none_weaker (Ok (Some x)) weaker holds = tt
+none_weaker (Err e) weaker holds = tt

@@ -11,7 +11,7 @@ use Rattle.quota_radix.specs.declared.tree_path.TreePath.{TreePath}
 use Rattle.quota_blocks.specs.Block.{word_at, leads}
 use Rattle.quota_types.specs.Times.{StandsIn, times}
 use Rattle.quota_radix.specs.Descent.{later_steps, path_from}
-use Rattle.quota_radix.specs.Lookup.{IsInTree, IsOnWay, IsWayFault}
+use Rattle.quota_radix.specs.Lookup.{IsOnWay, IsWayFault}
 use Rattle.quota_radix.specs.TreeDefect.{IsEmpty}
 use Rattle.quota_radix.specs.Tree.{level, lower_blocks, paths, step, steps}
 use Rattle.quota_types.proofs.TimesLemmas.{stands_cons, stands_left, stands_right, times-append, times-cons-same}
@@ -24,12 +24,6 @@ pow_small (suc zero) few = omega arith
 pow_small (suc (suc zero)) few = omega arith
 pow_small (suc (suc (suc zero))) few = omega arith
 pow_small (suc (suc (suc (suc gone)))) few = absurd (omega arith)
-
--- a path to a block of the tree has three digits at most
-pub small_number : (file : List ℕ) (blocks : ℕ) (path : TreePath) → IsInTree file blocks path → path.number < 2 ^ 24
-small_number file blocks path in_tree =
-    let way : IsOnWay file blocks (suc in_tree.0) path = in_tree.1 in
-    omega (arith, way.four, way.small, pow_small way.gone (omega (arith, way.four)))
 
 -- a reference past the last block is a damage
 pub out_fault : (file : List ℕ) (blocks gone block digit word : ℕ) (damage : Damage) → gone < 4 → StandsIn (level file blocks gone) block → digit < 256

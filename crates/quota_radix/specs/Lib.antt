@@ -1,6 +1,7 @@
 pub mod Descent
 pub mod Digits
 pub mod LeafAfter
+pub mod Lending
 pub mod Levels
 pub mod Link
 pub mod Lookup

@@ -1,6 +1,6 @@
 -- What a look-up in a tree file comes to on its way down the tree, and what may be wrong with what it reads. Source: the
 -- kernel's `fs/quota/quota_tree.c` (`find_tree_dqentry` and `find_next_id`).
-use Rattle.std.specs.Prelude.{◌≡◌, ℕ, suc, ◌+◌, ◌^◌, ◌<◌, List}
+use Rattle.std.specs.Prelude.{◌≡◌, ℕ, ◌+◌, ◌^◌, ◌<◌, List}
 use Rattle.quota_types.specs.declared.damage.Damage.{Damage}
 use Rattle.quota_types.specs.declared.damage.DamageKind.{DamageKind}
 use Rattle.quota_types.specs.declared.damage.DamageKind.TheVariants.{RefOut, EmptyTree}
@@ -15,10 +15,6 @@ pub record IsOnWay (file : List ℕ) (blocks to_go : ℕ) (path : TreePath) : Ty
   pub four : gone + to_go ≡ 4
   pub stands : StandsIn (level file blocks gone) path.block
   pub small : path.number < 256 ^ gone
-
--- a path is one to a block of the tree, from which some digits are to go
-abbrev pub IsInTree : List ℕ → ℕ → TreePath → Type 0
-IsInTree file blocks path = (to_go : ℕ) × IsOnWay file blocks (suc to_go) path
 
 -- a path through the tree that has gone below the root
 abbrev pub IsBelowRoot : List ℕ → ℕ → ℕ → TreePath → Type 0

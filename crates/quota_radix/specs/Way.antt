@@ -66,7 +66,7 @@ IsInsideBy file blocks to_go path least last =
 
 -- No reference of the block of a path is there from a digit on, up to that by which a path goes on, or up to all, where none
 -- does.
-abbrev pub IsClearTo : List ℕ → (blocks : ℕ) → TreePath → (first : ℕ) → (found : Option TreePath) → Type 0
+unfoldable pub IsClearTo : List ℕ → (blocks : ℕ) → TreePath → (first : ℕ) → (found : Option TreePath) → Type 0
 IsClearTo file blocks path first found =
     (digit : ℕ) → first ≤ digit → digit < 256 → IfSome found (λ next. 256 * path.number + digit < next.number) → (word_at file path.block digit ≡ 0) × (0 < blocks)
 

@@ -6,11 +6,12 @@
 //! and what is said to be wrong with a block of the tree is wrong with it.
 #![tactic(auto)]
 
-mod descent;
 mod finding;
 mod following;
+mod lending;
 mod levels;
 mod linking;
+mod loaded_blocks;
 mod path;
 mod places;
 mod reference;
@@ -18,10 +19,10 @@ mod tree;
 mod tree_path;
 mod walk_fault;
 
-pub use descent::{first_leaf, leaf_block};
 pub use finding::{find_path, leaf};
 pub use following::next_leaf;
 pub use linking::link;
+pub use loaded_blocks::{first_leaf, leaf_block};
 pub use path::Path;
 pub use places::digits;
 pub use reference::level_ref;

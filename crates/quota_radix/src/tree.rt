@@ -1,7 +1,6 @@
-ghost use Rattle.std.specs.Prelude.{◌≡◌, ◌≤◌, ◌+◌, ◌*◌, ◌^◌, ◌⊎◌, ◌++◌, ℕ, List, length, All, IsTrue, OnOk, IfOk, IfErr};
+ghost use Rattle.std.specs.Prelude.{◌≡◌, ◌≤◌, ◌+◌, ◌*◌, ◌^◌, ◌⊎◌, ◌++◌, ℕ, List, length, All, IsTrue, OnOk, IfOk, IfErr, is_ok};
 ghost use Rattle.std.specs.List.{flat_map};
 ghost use Rattle.quota_blocks.specs.Frame.{OnlyReads};
-ghost use Rattle.quota_blocks.specs.Unsynced.{AddsNone};
 ghost use Rattle.quota_blocks.specs.BlockSet.{AreFlagsOf};
 ghost use Rattle.quota_blocks.specs.CheckFault.{IsCheckFault, IsStepFault};
 ghost use Rattle.quota_blocks.specs.Block.{bytes_of};
@@ -43,8 +42,7 @@ pub fn find_leaves<S: Store>(
         (λ damage. IsTrue S.tells
         → (numbers : List ℕ) → AreFlagsOf blocks met.old.flags.items numbers
         → IsTreeFault (bytes_of ((S.seen store.old).files name.now)) blocks numbers damage)) }
-    ensures leaves { OnlyReads name.now (S.seen store.old) (S.seen store.new) }
-    ensures synced { OnOk result (AddsNone (S.seen store.old).unsynced (S.seen store.new).unsynced) }
+    ensures leaves { OnlyReads (is_ok result) name.now (S.seen store.old) (S.seen store.new) }
     ensures reads { OnOk result ((numbers : List ℕ) → AreFlagsOf blocks met.old.flags.items numbers
         → AreMarkedReads blocks met.new.flags.items numbers (S.seen store.old).reads (S.seen store.new).reads) }
     ensures few_reads { (numbers : List ℕ) → AreFlagsOf blocks met.old.flags.items numbers
@@ -83,8 +81,7 @@ fn go_down<S: Store>(
         → (numbers : List ℕ) → AreFlagsOf blocks met.old.flags.items numbers
         → (IsSecondRole (numbers ++ blocks_of level.now) damage
         ⊎ IsLevelDefect (bytes_of ((S.seen store.old).files name.now)) blocks (blocks_of level.now) damage))) }
-    ensures leaves { OnlyReads name.now (S.seen store.old) (S.seen store.new) }
-    ensures synced { OnOk result (AddsNone (S.seen store.old).unsynced (S.seen store.new).unsynced) }
+    ensures leaves { OnlyReads (is_ok result) name.now (S.seen store.old) (S.seen store.new) }
     ensures reads { (S.seen store.new).reads ≤ (S.seen store.old).reads + length level.now }
     ensures few_reads { (numbers : List ℕ) → AreFlagsOf blocks met.old.flags.items numbers
         → (S.seen store.new).reads + length numbers ≤ (S.seen store.old).reads + blocks }

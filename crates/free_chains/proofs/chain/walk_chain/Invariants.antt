@@ -1,6 +1,5 @@
-use Rattle.std.proofs.Common.{◌+◌, ◌-◌, ◌≤◌, vec_len, IsTrue}
+use Rattle.std.proofs.Common.{◌+◌, ◌-◌, ◌≤◌, vec_len, IsTrue, true}
 use Rattle.quota_blocks.specs.Frame.{OnlyReads}
-use Rattle.quota_blocks.specs.Unsynced.{AddsNone}
 use Rattle.quota_blocks.specs.Block.{bytes_of}
 use Rattle.free_chains.specs.Walk.{AreLinksTo, IsWalk}
 use Rattle.free_chains.proofs.chain.walk_chain.Given as goal
@@ -14,7 +13,6 @@ invariant-loop-at g l =
     record {
       is_walk : IsWalk l.blocks l.walk;
       links : IsTrue S.tells → AreLinksTo (bytes_of ((S.seen l.fn.store).files l.name)) l.head l.walk.links.items l.at;
-      leaves : OnlyReads l.name (S.seen l.fn.store) (S.seen l.store);
-      synced : AddsNone (S.seen l.fn.store).unsynced (S.seen l.store).unsynced;
+      leaves : OnlyReads true l.name (S.seen l.fn.store) (S.seen l.store);
       reads : (S.seen l.store).reads ≤ (S.seen l.fn.store).reads + vec_len l.walk.links;
     }

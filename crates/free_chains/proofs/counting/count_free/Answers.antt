@@ -1,10 +1,11 @@
 use Rattle.std.proofs.Common.{ℕ, ◌+◌, List, ap, arith, inl, inr, refl, sym, ◌∙◌}
 use Rattle.std.specs.Prelude.{◌==◌}
 use Rattle.std.specs.List.{list_any}
+use Rattle.quota_types.proofs.TimesLemmas.{StandsIn-list_any}
 use Rattle.quota_blocks.proofs.FrameLemmas.{adds_none-then}
 use Rattle.quota_pages.proofs.UsedLemmas.{looks_more, looks_then, missing-few, shown_over-looks}
 use Rattle.quota_pages.specs.Pages.{pages_of}
-use Rattle.free_chains.proofs.CountLemmas.{begun_step, counts_ended, counts_most, ends_before, found_stands}
+use Rattle.free_chains.proofs.CountLemmas.{begun_step, counts_ended, counts_most, ends_before}
 use Rattle.free_chains.proofs.counting.count_free.Goals as goal
 use Rattle.free_chains.proofs.counting.count_free.Goals.{then-at-eq0-via-then-at-eq0, then-at-eq0-via-else-at-eq0+then-contains}
 
@@ -21,7 +22,7 @@ returns-then-at-eq0-clause-count g c = λ known.
     elim c.then-at-eq0.branch [
       | then-at-eq0-via-then-at-eq0 w ↦ counts_ended _ c.args.heads.now c.args.most c.loop-count.count met c.loop-count.at (kept.begun known) (inl w.if-at-eq0.true) c.if-at-heads.false kept.long c.loop-count-test.true
       | then-at-eq0-via-else-at-eq0+then-contains w ↦ counts_ended _ c.args.heads.now c.args.most c.loop-count.count met c.loop-count.at (kept.begun known)
-          (inr (found_stands met c.loop-count.at (ap (λ (xs : List ℕ). list_any (λ (other : ℕ). other == c.loop-count.at) xs) (sym w.as_slice.ensures.value) ∙ sym w.contains.ensures.value ∙ w.if-contains.true))) c.if-at-heads.false kept.long c.loop-count-test.true
+          (inr (StandsIn-list_any met c.loop-count.at (ap (λ (xs : List ℕ). list_any (λ (other : ℕ). other == c.loop-count.at) xs) (sym w.as_slice.ensures.value) ∙ sym w.contains.ensures.value ∙ w.if-contains.true))) c.if-at-heads.false kept.long c.loop-count-test.true
     ]
 
 pub loop-count-preserved : goal.loop-count-preserved

@@ -1,15 +1,20 @@
-use Rattle.std.proofs.Common.{◌≡◌, ℕ, ◌+◌, ◌<◌, ◌≤◌, List, [], ◌∷◌, ◌++◌, get_or, length, ap, ◌∙◌, arith}
+use Rattle.std.proofs.Common.{◌≡◌, ℕ, Bool, ◌+◌, ◌≤◌, List, [], ◌∷◌, ◌++◌, get_or, length, ap, ◌∙◌, arith}
 use Rattle.std.specs.Prelude.{slice_get}
 use Rattle.std.proofs.lemmas.Result.{err_from_is_err_and}
 use Rattle.quota_types.specs.declared.damage.Damage.{Damage}
 use Rattle.quota_blocks.specs.Block.{word_at}
 use Rattle.quota_blocks.proofs.FrameLemmas.{adds_none-then}
+use Rattle.quota_blocks.specs.Seen.{StoreSeen}
 use Rattle.quota_pages.specs.Pages.{pages_of}
-use Rattle.quota_pages.proofs.UsedLemmas.{looks_more, looks_none, looks_then, missing-few, room-looks}
-use Rattle.quota_radix.specs.Digits.{digits_of}
-use Rattle.quota_radix.proofs.AlongLemmas.{along_all, along_all_inside, along_end, along_end_inside, along_more, along_out, along_start, fifth_is_leaf, root_first}
+use Rattle.quota_pages.specs.Used.{IsKnown, LooksAtSome, shown_over}
+use Rattle.quota_pages.specs.declared.page_buffer.Pages.{Pages}
+use Rattle.quota_pages.proofs.UsedLemmas.{looks_more, looks_none, looks_then, missing-few, shown_over-looks}
+use Rattle.quota_radix.proofs.AlongLemmas.{along_all, along_all_inside, along_end, along_end_inside, along_more, along_out, along_start, fifth_is_leaf, nth, root_first}
 use Rattle.quota_radix.proofs.WalkLemmas.{since, walk_refused}
 use Rattle.quota_radix.proofs.finding.find_path.Goals as goal
+
+pages_stay : {tells : Bool} {count : ℕ} {before now : StoreSeen} {old new : Pages} → LooksAtSome tells count before now old new → IsKnown tells before old → (IsKnown tells now new) × (shown_over now new ≡ shown_over before old)
+pages_stay looks known = (looks.known known, shown_over-looks looks)
 
 pub loop-digit-init : goal.loop-digit-init
 loop-digit-init g c =
@@ -25,8 +30,7 @@ loop-digit-init g c =
 
 pub reference_in-requires : goal.reference_in-requires
 reference_in-requires g c =
-    let low : c.loop-digit.digit-index < 4 = omega (arith, c.loop-digit-test.true, ap (λ (ds : List ℕ). length ds) c.digits-digit-items.ensures.digits) in
-    room-looks c.loop-digit.invariant.looked c.loop-digit.block (omega (arith, low))
+    λ missing. omega (arith, c.loop-digit-test.true, c.requires, c.loop-digit.invariant.looked.few)
 
 pub returns-in_err-block-clause-refused : goal.returns-in_err-block-clause-refused
 returns-in_err-block-clause-refused g c =
@@ -34,12 +38,11 @@ returns-in_err-block-clause-refused g c =
     let kept = c.loop-digit.invariant in
     let index : ℕ = c.loop-digit.digit-index in
     let digit : ℕ = get_or c.digits-digit-items.result index 0 in
-    let low : index < 4 = omega (arith, c.loop-digit-test.true, ap (λ (ds : List ℕ). length ds) c.digits-digit-items.ensures.digits) in
-    let digit_is : digit ≡ get_or (digits_of c.args.id) index 0 = ap (λ (ds : List ℕ). get_or ds index 0) c.digits-digit-items.ensures.digits in
+    let digit_is = nth c.digits-digit-items.result c.args.id index c.digits-digit-items.ensures.digits in
     rw (p.1, p.2) (walk_refused _ _ _ _ _ kept.looked.leaves.later (λ damage out. (
       ap (λ (d : Damage). d.kind) out.0,
-      λ known. along_out _ c.args.blocks c.args.id index c.loop-digit.block digit _ damage low digit_is (kept.along known) out.0
-          (since kept.looked (λ (file : List ℕ). c.args.blocks ≤ word_at file c.loop-digit.block digit) out.2 known),
+      λ known. along_out _ c.args.blocks c.args.id index c.loop-digit.block digit _ damage c.loop-digit-test.true digit_is (kept.along known) out.0
+          (since (pages_stay kept.looked) (λ (file : List ℕ). c.args.blocks ≤ word_at file c.loop-digit.block digit) out.2 known),
     )) _ c.in_err-block.ensures.refused)
 
 pub loop-digit-preserved : goal.loop-digit-preserved
@@ -48,14 +51,13 @@ loop-digit-preserved g c =
     let read = c.in_ok-block.ensures in
     let index : ℕ = c.loop-digit.digit-index in
     let digit : ℕ = get_or c.digits-digit-items.result index 0 in
-    let low : index < 4 = omega (arith, c.loop-digit-test.true, ap (λ (ds : List ℕ). length ds) c.digits-digit-items.ensures.digits) in
-    let digit_is : digit ≡ get_or (digits_of c.args.id) index 0 = ap (λ (ds : List ℕ). get_or ds index 0) c.digits-digit-items.ensures.digits in
+    let digit_is = nth c.digits-digit-items.result c.args.id index c.digits-digit-items.ensures.digits in
     record {
       root = root_first _ _ c.in_ok-block.block (omega (arith, kept.count)) c.push-in-loop-digit.ensures.items kept.root;
-      within = omega (arith, low);
+      within = omega (arith, c.loop-digit-test.true);
       count = omega (arith, c.push-in-loop-digit.ensures.len, kept.count);
-      along = λ known. along_more _ c.args.blocks c.args.id index c.loop-digit.block c.in_ok-block.block digit _ _ low digit_is (kept.along known)
-          (since kept.looked (λ (file : List ℕ). c.in_ok-block.block ≡ word_at file c.loop-digit.block digit) read.is known)
+      along = λ known. along_more _ c.args.blocks c.args.id index c.loop-digit.block c.in_ok-block.block digit _ _ c.loop-digit-test.true digit_is (kept.along known)
+          (since (pages_stay kept.looked) (λ (file : List ℕ). c.in_ok-block.block ≡ word_at file c.loop-digit.block digit) read.is known)
           read.inside c.if-block-eq0.false c.push-in-loop-digit.ensures.items;
       looked = looks_more (index + 1) (omega (arith, missing-few (pages_of c.loop-digit.pages) c.loop-digit.block)) (looks_then kept.looked read.looked);
       synced = adds_none-then _ _ _ kept.synced read.synced;
@@ -66,46 +68,29 @@ returns-then-block-eq0-clause-found g c = λ known.
     let kept = c.loop-digit.invariant in
     let index : ℕ = c.loop-digit.digit-index in
     let digit : ℕ = get_or c.digits-digit-items.result index 0 in
-    let low : index < 4 = omega (arith, c.loop-digit-test.true, ap (λ (ds : List ℕ). length ds) c.digits-digit-items.ensures.digits) in
-    let digit_is : digit ≡ get_or (digits_of c.args.id) index 0 = ap (λ (ds : List ℕ). get_or ds index 0) c.digits-digit-items.ensures.digits in
-    along_end _ c.args.blocks c.args.id index c.loop-digit.block c.in_ok-block.block digit _ low digit_is (kept.along known)
-    (since kept.looked (λ (file : List ℕ). c.in_ok-block.block ≡ word_at file c.loop-digit.block digit) c.in_ok-block.ensures.is known) c.if-block-eq0.true
+    let digit_is = nth c.digits-digit-items.result c.args.id index c.digits-digit-items.ensures.digits in
+    along_end _ c.args.blocks c.args.id index c.loop-digit.block c.in_ok-block.block digit _ c.loop-digit-test.true digit_is (kept.along known)
+    (since (pages_stay kept.looked) (λ (file : List ℕ). c.in_ok-block.block ≡ word_at file c.loop-digit.block digit) c.in_ok-block.ensures.is known) c.if-block-eq0.true
 
 pub returns-then-block-eq0-clause-leaf : goal.returns-then-block-eq0-clause-leaf
-returns-then-block-eq0-clause-leaf g c = λ known.
-    let kept = c.loop-digit.invariant in
-    let index : ℕ = c.loop-digit.digit-index in
-    let digit : ℕ = get_or c.digits-digit-items.result index 0 in
-    let low : index < 4 = omega (arith, c.loop-digit-test.true, ap (λ (ds : List ℕ). length ds) c.digits-digit-items.ensures.digits) in
-    let digit_is : digit ≡ get_or (digits_of c.args.id) index 0 = ap (λ (ds : List ℕ). get_or ds index 0) c.digits-digit-items.ensures.digits in
-    ap (λ (xs : List ℕ). slice_get xs 4)
-    (along_end _ c.args.blocks c.args.id index c.loop-digit.block c.in_ok-block.block digit _ low digit_is (kept.along known)
-    (since kept.looked (λ (file : List ℕ). c.in_ok-block.block ≡ word_at file c.loop-digit.block digit) c.in_ok-block.ensures.is known) c.if-block-eq0.true)
-    ∙ fifth_is_leaf _ c.args.blocks c.args.id
+returns-then-block-eq0-clause-leaf g c = λ known. ap (λ (xs : List ℕ). slice_get xs 4) (returns-then-block-eq0-clause-found g c known) ∙ fifth_is_leaf _ c.args.blocks c.args.id
 
 pub returns-then-block-eq0-clause-inside : goal.returns-then-block-eq0-clause-inside
 returns-then-block-eq0-clause-inside g c = λ known.
     let kept = c.loop-digit.invariant in
     let index : ℕ = c.loop-digit.digit-index in
     let digit : ℕ = get_or c.digits-digit-items.result index 0 in
-    let low : index < 4 = omega (arith, c.loop-digit-test.true, ap (λ (ds : List ℕ). length ds) c.digits-digit-items.ensures.digits) in
-    let digit_is : digit ≡ get_or (digits_of c.args.id) index 0 = ap (λ (ds : List ℕ). get_or ds index 0) c.digits-digit-items.ensures.digits in
-    along_end_inside _ c.args.blocks c.args.id index c.loop-digit.block c.in_ok-block.block digit _ low digit_is (kept.along known)
-    (since kept.looked (λ (file : List ℕ). c.in_ok-block.block ≡ word_at file c.loop-digit.block digit) c.in_ok-block.ensures.is known) c.in_ok-block.ensures.inside c.if-block-eq0.true
+    let digit_is = nth c.digits-digit-items.result c.args.id index c.digits-digit-items.ensures.digits in
+    along_end_inside _ c.args.blocks c.args.id index c.loop-digit.block c.in_ok-block.block digit _ c.loop-digit-test.true digit_is (kept.along known)
+    (since (pages_stay kept.looked) (λ (file : List ℕ). c.in_ok-block.block ≡ word_at file c.loop-digit.block digit) c.in_ok-block.ensures.is known) c.in_ok-block.ensures.inside c.if-block-eq0.true
 
 pub returns-clause-found : goal.returns-clause-found
 returns-clause-found g c = λ known.
-    let last : 4 ≤ c.loop-digit.digit-index = omega (arith, c.loop-digit-test.false, ap (λ (ds : List ℕ). length ds) c.digits-digit-items.ensures.digits) in
-    along_all _ c.args.blocks c.args.id c.loop-digit.digit-index c.loop-digit.block _ last (c.loop-digit.invariant.along known)
+    along_all _ c.args.blocks c.args.id c.loop-digit.digit-index c.loop-digit.block _ c.loop-digit-test.false (c.loop-digit.invariant.along known)
 
 pub returns-clause-leaf : goal.returns-clause-leaf
-returns-clause-leaf g c = λ known.
-    let last : 4 ≤ c.loop-digit.digit-index = omega (arith, c.loop-digit-test.false, ap (λ (ds : List ℕ). length ds) c.digits-digit-items.ensures.digits) in
-    ap (λ (xs : List ℕ). slice_get xs 4)
-    (along_all _ c.args.blocks c.args.id c.loop-digit.digit-index c.loop-digit.block _ last (c.loop-digit.invariant.along known))
-    ∙ fifth_is_leaf _ c.args.blocks c.args.id
+returns-clause-leaf g c = λ known. ap (λ (xs : List ℕ). slice_get xs 4) (returns-clause-found g c known) ∙ fifth_is_leaf _ c.args.blocks c.args.id
 
 pub returns-clause-inside : goal.returns-clause-inside
 returns-clause-inside g c = λ known.
-    let last : 4 ≤ c.loop-digit.digit-index = omega (arith, c.loop-digit-test.false, ap (λ (ds : List ℕ). length ds) c.digits-digit-items.ensures.digits) in
-    along_all_inside _ c.args.blocks c.args.id c.loop-digit.digit-index c.loop-digit.block _ last (c.loop-digit.invariant.along known)
+    along_all_inside _ c.args.blocks c.args.id c.loop-digit.digit-index c.loop-digit.block _ c.loop-digit-test.false (c.loop-digit.invariant.along known)

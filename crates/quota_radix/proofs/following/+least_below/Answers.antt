@@ -1,7 +1,5 @@
 use Rattle.std.proofs.Common.{◌≡◌, ℕ, suc, ◌-◌, List, Some, sym, ◌∙◌, refl, arith}
 use Rattle.std.proofs.lemmas.Result.{IfOk-weaker, err_from_is_err_and}
-use Rattle.quota_pages.specs.Pages.{pages_of}
-use Rattle.quota_pages.proofs.UsedLemmas.{missing-few}
 use Rattle.quota_radix.specs.Descent.{path_from, paths_below}
 use Rattle.quota_radix.specs.Lookup.{IsBelowRoot, IsWayFault}
 use Rattle.quota_radix.specs.Way.{IsInsideFrom}
@@ -22,7 +20,7 @@ returns-in_err-next-clause-refused g t c =
     let p = err_from_is_err_and c.from_residual.result c.from_residual.ensures.1 in
     let more : c.args.to_go ≡ suc (c.args.to_go - 1) = more_to_go c.args.to_go c.if-to_go-eq0.false in
     rw (p.1, p.2) (walk_refused _ _ _ _ _ (omega arith) (λ damage out.
-    let read = out_read _ _ _ c.args.blocks c.args.to_go (c.args.to_go - 1) c.args.path damage more out in
+    let read = out_read (g.B.LendsBlocks.missing c.first_step.new.file) _ _ c.args.blocks c.args.to_go (c.args.to_go - 1) c.args.path damage more out in
     (read.0, λ known below. read.1 known below.1)) _ c.in_err-next.ensures.refused)
 
 pub returns-in_default-clause-refused : goal.returns-in_default-clause-refused
@@ -44,10 +42,13 @@ least_below-requires g t c =
     λ lives fits. (
       omega (arith, more),
       (
-        fits,
+        fits.0,
         (
-          omega (arith, more, c.requires.room, c.in_ok-next.ensures.looked.few, missing-few (pages_of c.args.pages.now) c.args.path.block),
-          left_next c.args.to_go (c.args.to_go - 1) c.args.path c.in-Some.next more c.requires.left goes.most,
+          fits.1,
+          (
+            omega (arith, more, c.requires.room, g.met.B.LendsBlocks.laws.few c.in_ok-next.ensures.looked, g.met.B.LendsBlocks.laws.one c.args.file.now c.args.path.block),
+            left_next c.args.to_go (c.args.to_go - 1) c.args.path c.in-Some.next more c.requires.left goes.most,
+          ),
         ),
       ),
     )
@@ -57,7 +58,7 @@ returns-clause-found g t c =
     let more : c.args.to_go ≡ suc (c.args.to_go - 1) = more_to_go c.args.to_go c.if-to_go-eq0.false in
     IfOk-weaker c.least_below.result _ _ (λ leaf below known.
     least_found _ c.args.blocks c.args.to_go (c.args.to_go - 1) c.args.path c.in-Some.next leaf c.in_ok-next.field-0 more (c.in_ok-next.ensures.found known) c.in-Some.is
-    (since c.in_ok-next.ensures.looked (λ (file : List ℕ). path_from 0 (paths_below file c.args.blocks (c.args.to_go - 1) c.in-Some.next) ≡ Some leaf) below known))
+    (since (g.met.B.LendsBlocks.laws.stays c.in_ok-next.ensures.looked) (λ (file : List ℕ). path_from 0 (paths_below file c.args.blocks (c.args.to_go - 1) c.in-Some.next) ≡ Some leaf) below known))
     c.least_below.ensures.found
 
 pub returns-clause-least : goal.returns-clause-least
@@ -71,10 +72,10 @@ returns-clause-least g t c =
 pub returns-clause-refused : goal.returns-clause-refused
 returns-clause-refused g t c =
     let more : c.args.to_go ≡ suc (c.args.to_go - 1) = more_to_go c.args.to_go c.if-to_go-eq0.false in
-    walk_refused_at _ _ _ _ _ c.in_ok-next.ensures.looked.leaves.later (λ damage out. (
+    walk_refused_at _ _ _ _ _ (g.met.B.LendsBlocks.laws.later c.in_ok-next.ensures.looked) (λ damage out. (
       out.0,
       λ known below.
-          since c.in_ok-next.ensures.looked (λ (file : List ℕ). IsBelowRoot file c.args.blocks (c.args.to_go - 1) c.in-Some.next → IsWayFault file c.args.blocks damage) out.1 known
+          since (g.met.B.LendsBlocks.laws.stays c.in_ok-next.ensures.looked) (λ (file : List ℕ). IsBelowRoot file c.args.blocks (c.args.to_go - 1) c.in-Some.next → IsWayFault file c.args.blocks damage) out.1 known
           (below_onward _ c.args.blocks c.args.to_go (c.args.to_go - 1) 0 c.args.path c.in-Some.next more (omega arith) below (sym (c.in_ok-next.ensures.found known) ∙ c.in-Some.is)),
     )) c.least_below.result c.least_below.ensures.refused
 
@@ -87,6 +88,21 @@ returns-clause-between g t c =
     both_weaker c.least_below.result _ _ _ (λ leaf below inside known.
     from_first _ c.args.blocks c.args.to_go (c.args.to_go - 1) c.args.path (Some leaf.number) more
     (by_some _ c.args.blocks (c.args.to_go - 1) 0 c.args.path c.in-Some.next leaf c.in_ok-next.field-0 (c.in_ok-next.ensures.found known) c.in-Some.is (c.in_ok-next.ensures.clear known)
-    (since c.in_ok-next.ensures.looked (λ (file : List ℕ). path_from 0 (paths_below file c.args.blocks (c.args.to_go - 1) c.in-Some.next) ≡ Some leaf) below known)
-    (since c.in_ok-next.ensures.looked (λ (file : List ℕ). IsInsideFrom file c.args.blocks (c.args.to_go - 1) c.in-Some.next 0 (Some leaf.number)) inside known)))
+    (since (g.met.B.LendsBlocks.laws.stays c.in_ok-next.ensures.looked) (λ (file : List ℕ). path_from 0 (paths_below file c.args.blocks (c.args.to_go - 1) c.in-Some.next) ≡ Some leaf) below known)
+    (since (g.met.B.LendsBlocks.laws.stays c.in_ok-next.ensures.looked) (λ (file : List ℕ). IsInsideFrom file c.args.blocks (c.args.to_go - 1) c.in-Some.next 0 (Some leaf.number)) inside known)))
     c.least_below.ensures.found c.least_below.ensures.between
+
+pub returns-in_err-next-clause-looked : goal.returns-in_err-next-clause-looked
+returns-in_err-next-clause-looked g t c =
+    let B = g.met.B.LendsBlocks.laws in
+    B.then c.in_err-next.ensures.looked B.none (omega (arith, c.if-to_go-eq0.false, B.one c.args.file.now c.args.path.block))
+
+pub returns-in_default-clause-looked : goal.returns-in_default-clause-looked
+returns-in_default-clause-looked g t c =
+    let B = g.met.B.LendsBlocks.laws in
+    B.then c.in_ok-next.ensures.looked B.none (omega (arith, c.if-to_go-eq0.false, B.one c.args.file.now c.args.path.block))
+
+pub returns-clause-looked : goal.returns-clause-looked
+returns-clause-looked g t c =
+    let B = g.met.B.LendsBlocks.laws in
+    B.then c.in_ok-next.ensures.looked c.least_below.ensures.looked (omega (arith, c.if-to_go-eq0.false, B.one c.args.file.now c.args.path.block))

@@ -1,5 +1,6 @@
 use Rattle.std.proofs.Common.{sym, ◌∙◌, arith}
 use Rattle.quota_blocks.specs.Block.{word_at}
+use Rattle.quota_radix.specs.Way.{IsClearTo}
 use Rattle.quota_radix.proofs.PastLemmas.{later_none, later_some, word_read, zeros_more}
 use Rattle.quota_radix.proofs.WayLemmas.{none_later}
 use Rattle.quota_radix.proofs.following.first_in.Goals as goal
@@ -36,9 +37,11 @@ pub returns-clause-none : goal.returns-clause-none
 returns-clause-none c = λ file is digit from to. c.loop-digit.invariant.zeros file is digit from (omega arith)
 
 pub returns-then-reference-ne0-clause-clear : goal.returns-then-reference-ne0-clause-clear
+unfolding IsClearTo
 returns-then-reference-ne0-clause-clear c = λ file is digit from to before.
     (c.loop-digit.invariant.zeros file is digit from (omega (arith, before)), c.loop-digit.invariant.some (omega (arith, from, before)))
 
 pub returns-clause-clear : goal.returns-clause-clear
+unfolding IsClearTo
 returns-clause-clear c = λ file is digit from to before.
     (c.loop-digit.invariant.zeros file is digit from (omega (arith, to)), c.loop-digit.invariant.some (omega (arith, from, to)))

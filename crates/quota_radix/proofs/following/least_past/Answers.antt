@@ -20,7 +20,7 @@ first_step-requires-clause-small g c = left_small (suc c.args.to_go) c.args.to_g
 pub returns-in_err-next-clause-refused : goal.returns-in_err-next-clause-refused
 returns-in_err-next-clause-refused g c =
     let p = err_from_is_err_and c.from_residual.result c.from_residual.ensures.1 in
-    rw (p.1, p.2) (walk_refused _ _ _ _ _ (omega arith) (λ damage. out_read _ _ _ c.args.blocks (suc c.args.to_go) c.args.to_go c.args.path damage refl) _ c.in_err-next.ensures.refused)
+    rw (p.1, p.2) (walk_refused _ _ _ _ _ (omega arith) (λ damage. out_read (g.B.LendsBlocks.missing c.first_step.new.file) _ _ c.args.blocks (suc c.args.to_go) c.args.to_go c.args.path damage refl) _ c.in_err-next.ensures.refused)
 
 pub least_below-requires-clause-left : goal.least_below-requires-clause-left
 least_below-requires-clause-left g c =
@@ -30,10 +30,10 @@ least_below-requires-clause-left g c =
 pub returns-in_err-least_below-in-Some-clause-refused : goal.returns-in_err-least_below-in-Some-clause-refused
 returns-in_err-least_below-in-Some-clause-refused g c =
     let p = err_from_is_err_and c.from_residual-in_err-least_below-in-Some.result c.from_residual-in_err-least_below-in-Some.ensures.1 in
-    rw (p.1, p.2) (walk_refused _ _ _ _ _ c.in_ok-next.ensures.looked.leaves.later (λ damage out. (
+    rw (p.1, p.2) (walk_refused _ _ _ _ _ (g.met.B.LendsBlocks.laws.later c.in_ok-next.ensures.looked) (λ damage out. (
       out.0,
       λ known way.
-          since c.in_ok-next.ensures.looked (λ (file : List ℕ). IsBelowRoot file c.args.blocks c.args.to_go c.in-Some.next → IsWayFault file c.args.blocks damage) out.1 known
+          since (g.met.B.LendsBlocks.laws.stays c.in_ok-next.ensures.looked) (λ (file : List ℕ). IsBelowRoot file c.args.blocks c.args.to_go c.in-Some.next → IsWayFault file c.args.blocks damage) out.1 known
           (past_onward _ c.args.blocks c.args.to_go (c.from.result + 1) c.args.path c.in-Some.next (omega arith) way (sym (c.in_ok-next.ensures.found known) ∙ c.in-Some.is)),
     )) _ c.in_err-least_below-in-Some.ensures.refused)
 
@@ -41,7 +41,7 @@ pub returns-in_ok-least_below-in-Some-clause-found : goal.returns-in_ok-least_be
 returns-in_ok-least_below-in-Some-clause-found g c = λ known.
     least_past_some _ c.args.blocks c.args.to_go c.args.digit c.from.result c.args.path c.in-Some.next c.in_ok-least_below-in-Some.field-0 c.in_ok-next.field-0 c.from.ensures
     (c.in_ok-next.ensures.found known) c.in-Some.is
-    (since c.in_ok-next.ensures.looked (λ (file : List ℕ). path_from 0 (paths_below file c.args.blocks c.args.to_go c.in-Some.next) ≡ Some c.in_ok-least_below-in-Some.field-0)
+    (since (g.met.B.LendsBlocks.laws.stays c.in_ok-next.ensures.looked) (λ (file : List ℕ). path_from 0 (paths_below file c.args.blocks c.args.to_go c.in-Some.next) ≡ Some c.in_ok-least_below-in-Some.field-0)
     c.in_ok-least_below-in-Some.ensures.found known)
 
 pub returns-in-None-clause-found : goal.returns-in-None-clause-found
@@ -53,12 +53,20 @@ returns-in_ok-least_below-in-Some-clause-between g c = λ known.
     from_byte _ c.args.blocks c.args.to_go c.from.result c.args.digit c.args.path _ c.from.ensures
     (by_some _ c.args.blocks c.args.to_go (c.from.result + 1) c.args.path c.in-Some.next c.in_ok-least_below-in-Some.field-0 c.in_ok-next.field-0 (c.in_ok-next.ensures.found known) c.in-Some.is
     (c.in_ok-next.ensures.clear known)
-    (since c.in_ok-next.ensures.looked (λ (file : List ℕ). path_from 0 (paths_below file c.args.blocks c.args.to_go c.in-Some.next) ≡ Some c.in_ok-least_below-in-Some.field-0)
+    (since (g.met.B.LendsBlocks.laws.stays c.in_ok-next.ensures.looked) (λ (file : List ℕ). path_from 0 (paths_below file c.args.blocks c.args.to_go c.in-Some.next) ≡ Some c.in_ok-least_below-in-Some.field-0)
     c.in_ok-least_below-in-Some.ensures.found known)
-    (since c.in_ok-next.ensures.looked (λ (file : List ℕ). IsInsideFrom file c.args.blocks c.args.to_go c.in-Some.next 0 (Some c.in_ok-least_below-in-Some.field-0.number))
+    (since (g.met.B.LendsBlocks.laws.stays c.in_ok-next.ensures.looked) (λ (file : List ℕ). IsInsideFrom file c.args.blocks c.args.to_go c.in-Some.next 0 (Some c.in_ok-least_below-in-Some.field-0.number))
     c.in_ok-least_below-in-Some.ensures.between known))
 
 pub returns-in-None-clause-between : goal.returns-in-None-clause-between
 returns-in-None-clause-between g c = λ known.
     from_byte _ c.args.blocks c.args.to_go c.from.result c.args.digit c.args.path _ c.from.ensures
     (by_none _ c.args.blocks c.args.to_go (c.from.result + 1) c.args.path c.in_ok-next.field-0 None c.in-None.is (c.in_ok-next.ensures.clear known))
+
+pub returns-in-None-clause-looked : goal.returns-in-None-clause-looked
+returns-in-None-clause-looked g c =
+    let B = g.met.B.LendsBlocks.laws in
+    B.then c.in_ok-next.ensures.looked B.none (omega (arith, c.requires.buffered))
+
+pub returns-in_err-next-clause-looked : goal.returns-in_err-next-clause-looked
+returns-in_err-next-clause-looked g c = g.met.B.LendsBlocks.laws.then c.in_err-next.ensures.looked g.met.B.LendsBlocks.laws.none (omega (arith, c.requires.buffered))

@@ -1,7 +1,7 @@
 use Rattle.std.proofs.Common.{ℕ, List, arith}
 use Rattle.std.proofs.lemmas.Result.{err_from_is_err_and}
 use Rattle.std.proofs.lemmas.List.Elements.{All-more}
-use Rattle.quota_blocks.proofs.FrameLemmas.{adds_none-then, only_reads-then}
+use Rattle.quota_blocks.proofs.FrameLemmas.{only_reads-then}
 use Rattle.quota_radix.specs.declared.tree_path.TreePath.{TreePath}
 use Rattle.quota_blocks.specs.Block.{bytes_of}
 use Rattle.quota_radix.specs.Levels.{IsWhole}
@@ -29,6 +29,5 @@ loop-path-preserved g c =
           (adds.whole file (read_of_same c.args.name.now _ _ _ _ kept.leaves.files (read.bytes told)));
       within = λ bound within. adds.within bound (within c.loop-path.path-index _ c.loop-path-test.true).0 (kept.within bound within);
       leaves = only_reads-then _ _ _ _ kept.leaves read.leaves;
-      synced = adds_none-then _ _ _ kept.synced read.synced;
       reads = omega (arith, read.reads, kept.reads);
     }

@@ -1,8 +1,7 @@
-use Rattle.std.proofs.Common.{◌≡◌, ℕ, ◌+◌, ◌*◌, ◌≤◌, IsTrue, take}
+use Rattle.std.proofs.Common.{◌≡◌, ℕ, ◌+◌, ◌*◌, ◌≤◌, IsTrue, take, true}
 use Rattle.std.specs.Prelude.{All}
 use Rattle.std.specs.List.{flat_map}
 use Rattle.quota_blocks.specs.Frame.{OnlyReads}
-use Rattle.quota_blocks.specs.Unsynced.{AddsNone}
 use Rattle.quota_radix.specs.declared.tree_path.TreePath.{TreePath}
 use Rattle.quota_blocks.specs.Block.{bytes_of}
 use Rattle.quota_radix.specs.Levels.{AreWithin, IsWhole}
@@ -18,7 +17,6 @@ invariant-loop-path g l =
       whole : IsTrue S.tells
           → All (λ (path : TreePath). IsWhole (bytes_of ((S.seen l.fn.store).files l.name)) l.blocks path.block) (take l.path-index l.level);
       within : (bound : ℕ) → AreWithin l.blocks bound l.level → AreWithin l.blocks (256 * bound) l.next.items;
-      leaves : OnlyReads l.name (S.seen l.fn.store) (S.seen l.store);
-      synced : AddsNone (S.seen l.fn.store).unsynced (S.seen l.store).unsynced;
+      leaves : OnlyReads true l.name (S.seen l.fn.store) (S.seen l.store);
       reads : (S.seen l.store).reads ≤ (S.seen l.fn.store).reads + l.path-index;
     }

@@ -14,6 +14,5 @@ returns g c =
         reads = brought.reads;
         cause = tt;
         leaves = brought.leaves;
-        synced = brought.synced;
       },
     )
