@@ -12,8 +12,10 @@ use Rattle.quota_types.specs.Kept.{without_marker}
 use Rattle.quota_types.specs.declared.file_kind.Format.{Format}
 use Rattle.quota_types.specs.declared.file_kind.Format.TheVariants.{V1, V2R0, V2R1}
 use Rattle.quota_types.specs.declared.record.Entry.{Entry}
+use Rattle.quota_types.proofs.TimesLemmas.{range_with_len-add}
+use Rattle.quota_types.proofs.BytesLemmas.{number_at-zeros}
 use Rattle.entry_codec.specs.Entry.{IsEntry, entries_per_block, entry_size, is_unused, padding_of, stored_id}
-use Rattle.entry_codec.proofs.NumberLemmas.{number_at-zeros}
+use Rattle.entry_codec.proofs.SpellingLemmas.{is_unused-zeros}
 use Rattle.tree_build.specs.Entries.{entry_bytes, entry_of, has_unused, stored_record, used_entries}
 use Rattle.tree_build.specs.NewFile.{IsDataBlock}
 use Rattle.quota_blocks.proofs.WordLemmas.{number_same, same_part}
@@ -29,13 +31,6 @@ zero_part size at xs zeros k = elim (cases_lt k size) [
   | inl low ↦ get_or-take size (drop at xs) k 0 low ∙ get_or-drop at xs k 0 ∙ zeros (at + k) (omega arith)
   | inr high ↦ get_or_past (take size (drop at xs)) k 0 (omega (arith, high, length-take size (drop at xs)))
 ]
-
-all_zero : (xs : List ℕ) → ((k : ℕ) → get_or xs k 0 ≡ 0) → is_unused xs ≡ true
-all_zero [] h = refl
-all_zero (x ∷ xs) h =
-    let byte : x ≡ 0 = h 0 in
-    let rest = all_zero xs (λ k. h (suc k)) in
-    rw (byte, rest)
 
 pub zero_bytes : (at : ℕ) → byte_at (replicate 1024 0) at ≡ 0
 zero_bytes at = elim (cases_lt at 1024) [
@@ -98,16 +93,6 @@ filled_more format old new entries count long low spelled padding kept so_far =
     get_or_any (x ∷ xs) zero d e h = refl
     get_or_any (x ∷ xs) (suc k) d e h = get_or_any xs k d e (omega arith)
 
-pub range_parted : (low a b : ℕ) → range_with_len low (a + b) ≡ range_with_len low a ++ range_with_len (low + a) b
-range_parted low zero b =
-    let same : 0 + b ≡ b = omega arith in
-    let start : low ≡ low + 0 = omega arith in
-    ap (range_with_len low) same ∙ ap (λ (k : ℕ). range_with_len k b) start
-range_parted low (suc a) b =
-    let more : suc a + b ≡ suc (a + b) = omega arith in
-    let start : low + 1 + a ≡ low + suc a = omega arith in
-    ap (range_with_len low) more ∙ ap (λ (ns : List ℕ). low ∷ ns) (range_parted (low + 1) a b ∙ ap (λ (k : ℕ). range_with_len (low + 1) a ++ range_with_len k b) start)
-
 -- what is kept of numbers of which each gives one of a list
 pub all_found : {Y : Type 0} (f : ℕ → Option Y) (ys : List Y) (low : ℕ) → ((k : ℕ) (d : Y) → k < length ys → f (low + k) ≡ Some (get_or ys k d)) → filter_map f (range_with_len low (length ys)) ≡ ys
 all_found f [] low found = refl
@@ -141,7 +126,7 @@ any_left test first (suc left) count all each =
 padding_zero : (format : Format) (bytes : List ℕ) → ((k : ℕ) → get_or bytes k 0 ≡ 0) → padding_of format bytes ≡ 0
 padding_zero V1 bytes zeros = refl
 padding_zero V2R0 bytes zeros = refl
-padding_zero V2R1 bytes zeros = number_at-zeros 4 bytes 4 zeros
+padding_zero V2R1 bytes zeros = number_at-zeros 4 4 bytes (λ k from to. zeros k)
 
 -- a block that has all of its entries
 pub filled_all : (format : Format) (block : List ℕ) (entries : List Entry) (count : ℕ) → length entries ≤ entries_per_block format → length entries ≤ count → count ≤ length entries
@@ -160,9 +145,9 @@ filled_all format block entries count few over under so_far =
     zero_part size (16 + size * place) block (λ k behind. so_far.zeros k (omega arith)) in
     let used : (place : ℕ) (absent : Entry) → place < length entries → (free place ≡ false) × (read place ≡ Some (get_or entries place absent)) = λ place absent low.
     used_is format (entry_bytes format block place) (get_or entries place absent).id (get_or entries place absent).rec (so_far.entry place absent (omega arith)) in
-    let unused : (place : ℕ) → length entries ≤ place → free place ≡ true = λ place from. all_zero (entry_bytes format block place) (zeros place from) in
+    let unused : (place : ℕ) → length entries ≤ place → free place ≡ true = λ place from. is_unused-zeros (entry_bytes format block place) (λ k low. zeros place from k) in
     let parted : range_with_len 0 per ≡ range_with_len 0 (length entries) ++ range_with_len (length entries) left =
-    ap (range_with_len 0) (sym all) ∙ range_parted 0 (length entries) left ∙ ap (λ (k : ℕ). range_with_len 0 (length entries) ++ range_with_len k left) start in
+    ap (range_with_len 0) (sym all) ∙ range_with_len-add 0 (length entries) left ∙ ap (λ (k : ℕ). range_with_len 0 (length entries) ++ range_with_len k left) start in
     record {
       used = ap (filter_map read) parted
           ∙ filter_map-append read (range_with_len 0 (length entries)) (range_with_len (length entries) left)

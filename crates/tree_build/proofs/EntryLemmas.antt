@@ -1,5 +1,5 @@
 -- Numbers that stand in lists, as a loop over a list finds them.
-use Rattle.std.proofs.Common.{◌≡◌, ℕ, zero, suc, ◌+◌, ◌<◌, ◌≤◌, Bool, true, false, ◌||◌, ◌==◌, List, [], ◌∷◌, ◌++◌, length, map, take, get_or, Option, Some, None, refl, sym, ap, subst, ◌∙◌, inl, inr, arith, true≢false, add-one, ne_eqb, eq-eqb}
+use Rattle.std.proofs.Common.{◌≡◌, ℕ, ◌+◌, ◌<◌, ◌≤◌, Bool, ◌||◌, List, [], ◌∷◌, ◌++◌, length, map, take, get_or, Option, Some, None, refl, sym, ap, subst, ◌∙◌, inl, inr, arith, add-one}
 use Rattle.std.proofs.Math.Bool.{or-false}
 use Rattle.std.proofs.lemmas.Bool.{cases_lt}
 use Rattle.std.proofs.Math.Seq.{take-suc}
@@ -9,23 +9,7 @@ use Rattle.std.proofs.lemmas.List.Folds.{list_any-append}
 use Rattle.std.specs.List.{list_any, filter_map, range_with_len, cons_option}
 use Rattle.std.specs.Option.{option_to_list}
 use Rattle.quota_types.specs.Times.{StandsIn, times}
-use Rattle.quota_types.proofs.TimesLemmas.{times_cases, times-append, times-cons-same}
-
--- a list has a number where the test for it passes for some number
-pub stands_of_any : (others : List ℕ) (x : ℕ) → list_any (λ y. y == x) others ≡ true → StandsIn others x
-stands_of_any [] x e = absurd (true≢false (sym e))
-stands_of_any (y ∷ ys) x e = elim (times_cases y ys x) [
-  | inl same ↦ omega (arith, same.1)
-  | inr other ↦ omega (arith, other.1, stands_of_any ys x (sym (ap (λ (b : Bool). b || list_any (λ z. z == x) ys) (ne_eqb y x other.0)) ∙ e))
-]
-
--- and else it has not
-pub none_of_any : (others : List ℕ) (x : ℕ) → list_any (λ y. y == x) others ≡ false → times others x ≡ 0
-none_of_any [] x e = refl
-none_of_any (y ∷ ys) x e = elim (times_cases y ys x) [
-  | inl same ↦ absurd (true≢false (sym (ap (λ (b : Bool). b || list_any (λ z. z == x) ys) (eq-eqb y x same.0)) ∙ e))
-  | inr other ↦ other.1 ∙ none_of_any ys x (sym (ap (λ (b : Bool). b || list_any (λ z. z == x) ys) (ne_eqb y x other.0)) ∙ e)
-]
+use Rattle.quota_types.proofs.TimesLemmas.{times_cases, times-append, range_with_len-add}
 
 -- the numbers of a longer beginning
 pub stands_more : (P : ℕ → Type 0) (xs : List ℕ) (i : ℕ) → i < length xs → ((n : ℕ) → StandsIn (take i xs) n → P n) → P (get_or xs i 0)
@@ -56,21 +40,9 @@ ascends_more xs i least h before above n =
 pub stands_in_all : (xs : List ℕ) (i n : ℕ) → length xs ≤ i → StandsIn xs n → StandsIn (take i xs) n
 stands_in_all xs i n h stands = omega (arith, ap (λ (ys : List ℕ). times ys n) (take_all i xs h), stands)
 
--- a number stands in the list at whose place it is
-pub stands_at : (xs : List ℕ) (i : ℕ) → i < length xs → StandsIn xs (get_or xs i 0)
-stands_at [] i h = absurd (omega arith)
-stands_at (x ∷ xs) zero h = omega (arith, times-cons-same x xs)
-stands_at (x ∷ xs) (suc i) h =
-    let rest : StandsIn xs (get_or xs i 0) = stands_at xs i (omega arith) in
-    elim (times_cases x xs (get_or xs i 0)) [ inl same ↦ omega (arith, same.1) | inr other ↦ omega (arith, other.1, rest) ]
-
--- one more number from a start on
-range_more : (low count : ℕ) → range_with_len low (suc count) ≡ range_with_len low count ++ (low + count) ∷ []
-range_more low zero = ap (λ (n : ℕ). n ∷ []) (omega arith)
-range_more low (suc count) = ap (λ (ns : List ℕ). low ∷ ns) (range_more (low + 1) count ∙ ap (λ (n : ℕ). range_with_len (low + 1) count ++ n ∷ []) (omega arith))
-
+-- one more number from 0 on
 pub range-suc : (count : ℕ) → range_with_len 0 (count + 1) ≡ range_with_len 0 count ++ count ∷ []
-range-suc count = rw add-one (range_more 0 count ∙ ap (λ (n : ℕ). range_with_len 0 count ++ n ∷ []) (omega arith))
+range-suc count = range_with_len-add 0 count 1 ∙ ap (λ (n : ℕ). range_with_len 0 count ++ n ∷ []) (omega arith)
 
 one_kept : {Y : Type 0} (o : Option Y) → cons_option o [] ≡ option_to_list o
 one_kept None = refl

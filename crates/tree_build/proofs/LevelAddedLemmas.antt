@@ -5,6 +5,8 @@ use Rattle.std.proofs.lemmas.List.Concat.{flat_map-append}
 use Rattle.std.specs.Prelude.{All}
 use Rattle.std.specs.List.{AllByRecursion, flat_map, range_with_len}
 use Rattle.std.specs.List.Sorted.{IsStrictlyIncreasing}
+use Rattle.quota_types.proofs.AscendsLemmas.{Ascends, Ascends-left, Ascends-right, IsStrictlyIncreasing-of}
+use Rattle.quota_types.proofs.ListLemmas.{AllByRecursion-weaker}
 use Rattle.quota_radix.specs.declared.tree_path.TreePath.{TreePath}
 use Rattle.quota_blocks.specs.Block.{block_of, leads}
 use Rattle.quota_radix.specs.Tree.{blocks_of, numbers_of, steps}
@@ -14,15 +16,11 @@ use Rattle.tree_build.specs.Size.{each_once}
 use Rattle.quota_blocks.proofs.LeadsLemmas.{leads_below}
 use Rattle.tree_build.proofs.NewFileLemmas.{appended, kept_again, kept_append, kept_first}
 use Rattle.tree_build.proofs.OnceLemmas.{once_run}
-use Rattle.quota_radix.proofs.OrderLemmas.{Ascends, ascends_left, ascends_right, each_left, each_of_places, each_right, increasing_of, length_numbers}
-use Rattle.quota_radix.proofs.PathLemmas.{each-append, each_weaker}
+use Rattle.quota_radix.proofs.OrderLemmas.{each_left, each_of_places, each_right, length_numbers}
+use Rattle.quota_radix.proofs.PathLemmas.{each-append}
 use Rattle.quota_radix.proofs.StepLemmas.{none_of_zeros, range_push, steps_all, word_in}
+use Rattle.quota_radix.proofs.LinkStepLemmas.{steps_same}
 use Rattle.tree_build.proofs.TreeBlockLemmas.{no_path}
-
--- the steps from a block that is the same in two files
-pub steps_kept : (old new : List ℕ) (blocks : ℕ) (path : TreePath) → block_of new path.block ≡ block_of old path.block → steps new blocks path ≡ steps old blocks path
-steps_kept old new blocks path same =
-    sym (steps_all new (block_of new path.block) blocks path 256 refl refl) ∙ steps_all old (block_of new path.block) blocks path 256 refl same
 
 pub empty_kept : (old new : List ℕ) (block : ℕ) → block_of new block ≡ block_of old block → IsEmpty new block → IsEmpty old block
 empty_kept old new block same empty digit low = ap (λ (bytes : List ℕ). word_in bytes digit) (sym same) ∙ empty digit low
@@ -40,7 +38,7 @@ blocks_between (p ∷ ps) first (suc count) is =
     let this : p.block ≡ first = cc in
     let rest : blocks_of ps ≡ range_with_len (first + 1) count = cc in (
       (omega arith, omega arith),
-      each_weaker (λ (q : TreePath). (first + 1 ≤ q.block) × (q.block < first + 1 + count)) (λ (q : TreePath). (first ≤ q.block) × (q.block < first + suc count)) ps
+      AllByRecursion-weaker (λ (q : TreePath). (first + 1 ≤ q.block) × (q.block < first + 1 + count)) (λ (q : TreePath). (first ≤ q.block) × (q.block < first + suc count)) ps
           (λ q between. (omega (arith, between), omega (arith, between))) (blocks_between ps (first + 1) count rest),
     )
 
@@ -61,7 +59,7 @@ pub level_kept : (blocks : ℕ) (old new : List ℕ) (parents children : List Tr
     → IsLevel old blocks parents children → IsLevel new blocks parents children
 level_kept blocks old new parents children same level = record {
   onward = flat_map_same (steps new blocks) (steps old blocks) parents
-      (each_weaker (λ (p : TreePath). block_of new p.block ≡ block_of old p.block) (λ (p : TreePath). steps new blocks p ≡ steps old blocks p) parents (λ p is. steps_kept old new blocks p is) same)
+      (AllByRecursion-weaker (λ (p : TreePath). block_of new p.block ≡ block_of old p.block) (λ (p : TreePath). steps new blocks p ≡ steps old blocks p) parents (λ p is. steps_same old new blocks p is) same)
       ∙ level.onward;
   full = all_full_kept old new blocks parents same level.full;
 }
@@ -125,7 +123,7 @@ parted (p ∷ ps) (suc count) number some is rising same other =
     let joined : take count ps ++ drop count ps ≡ ps = take-append-drop count ps in
     let numbers : numbers_of ps ≡ numbers_of (take count ps) ++ numbers_of (drop count ps) = ap numbers_of (sym joined) ∙ numbers_append (take count ps) (drop count ps) in
     let whole : Ascends (suc p.number) (numbers_of (take count ps) ++ numbers_of (drop count ps)) = subst (Ascends (suc p.number)) numbers rising.1 in
-    let later_rising : Ascends (suc p.number) (numbers_of (drop count ps)) = ascends_right (suc p.number) (numbers_of (take count ps)) (numbers_of (drop count ps)) whole in
+    let later_rising : Ascends (suc p.number) (numbers_of (drop count ps)) = Ascends-right (suc p.number) (numbers_of (take count ps)) (numbers_of (drop count ps)) whole in
     let first_other : (absent : TreePath) → 0 < length (drop count ps) → (get_or (drop count ps) 0 absent).number / 256 ≢ number = λ absent there.
     let at : count + 0 ≡ count = omega arith in
     let is_there : get_or (drop count ps) 0 absent ≡ get_or ps count absent = get_or-drop count ps 0 absent ∙ ap (λ (k : ℕ). get_or ps k absent) at in
@@ -151,7 +149,7 @@ not_empty_of file blocks path siblings are some empty =
 
 all_between : (paths : List TreePath) (first count : ℕ) → blocks_of paths ≡ range_with_len first count → AllByRecursion (λ (p : TreePath). p.block < first + count) paths
 all_between paths first count is =
-    each_weaker (λ (p : TreePath). (first ≤ p.block) × (p.block < first + count)) (λ (p : TreePath). p.block < first + count) paths (λ p between. between.1) (blocks_between paths first count is)
+    AllByRecursion-weaker (λ (p : TreePath). (first ≤ p.block) × (p.block < first + count)) (λ (p : TreePath). p.block < first + count) paths (λ p between. between.1) (blocks_between paths first count is)
 
 pub level_more : (children : List TreePath) (first : ℕ) (old file new block : List ℕ) (parents more rest siblings later : List TreePath) (number blocks : ℕ)
     → length file ≡ 1024 * blocks → blocks ≡ first + length parents → length block ≡ 1024 → new ≡ file ++ block
@@ -167,7 +165,7 @@ level_more children first old file new block parents more rest siblings later nu
     let there : block_of new blocks ≡ block = ap (λ (bytes : List ℕ). block_of bytes blocks) grown ∙ appended file block blocks long size in
     let numbers : numbers_of rest ≡ numbers_of siblings ++ numbers_of later = ap numbers_of (sym is_parted.joined) ∙ numbers_append siblings later in
     let both : Ascends 0 (numbers_of siblings ++ numbers_of later) = subst (Ascends 0) numbers so_far.ascends in
-    let rising : IsStrictlyIncreasing (numbers_of siblings) = increasing_of 0 (numbers_of siblings) (ascends_left 0 (numbers_of siblings) (numbers_of later) both) in
+    let rising : IsStrictlyIncreasing (numbers_of siblings) = IsStrictlyIncreasing-of 0 (numbers_of siblings) (Ascends-left 0 (numbers_of siblings) (numbers_of later) both) in
     let below : AllByRecursion (λ (p : TreePath). p.block < blocks) parents = subst (λ (n : ℕ). AllByRecursion (λ (p : TreePath). p.block < n) parents) (sym place) (all_between parents first count so_far.blocks_are) in
     let leading : (all : ℕ) → AllLead all children → AllLead all siblings = λ all lead.
     let here : AllLead all (siblings ++ later) =
@@ -176,7 +174,7 @@ level_more children first old file new block parents more rest siblings later nu
     let on : (all : ℕ) → AllLead all children → steps new all parent ≡ siblings = λ all lead. filled new all parent there rising is_parted.siblings_are (leading all lead) in
     let same : (all : ℕ) → flat_map (steps new all) parents ≡ flat_map (steps file all) parents = λ all.
     flat_map_same (steps new all) (steps file all) parents
-    (each_weaker (λ (p : TreePath). p.block < blocks) (λ (p : TreePath). steps new all p ≡ steps file all p) parents (λ p low. steps_kept file new all p (kept p.block low)) below) in
+    (AllByRecursion-weaker (λ (p : TreePath). p.block < blocks) (λ (p : TreePath). steps new all p ≡ steps file all p) parents (λ p low. steps_same file new all p (kept p.block low)) below) in
     record {
       kept = kept_again first old file new so_far.kept (λ k low. kept k (omega arith));
       blocks_are = ap blocks_of pushed ∙ map-append (λ (p : TreePath). p.block) parents (parent ∷ [])
@@ -186,7 +184,7 @@ level_more children first old file new block parents more rest siblings later nu
           ∙ ap (λ (ns : List ℕ). ns ++ parents_of (numbers_of later)) (numbers_append parents (parent ∷ []))
           ∙ append_assoc (numbers_of parents) (number ∷ []) (parents_of (numbers_of later))
           ∙ ap (λ (ns : List ℕ). numbers_of parents ++ ns) (sym is_parted.numbers_are) ∙ so_far.numbers_are;
-      ascends = ascends_right 0 (numbers_of siblings) (numbers_of later) both;
+      ascends = Ascends-right 0 (numbers_of siblings) (numbers_of later) both;
       onward = λ all lead.
           ap (λ (ps : List TreePath). flat_map (steps new all) ps ++ later) pushed
           ∙ ap (λ (ps : List TreePath). ps ++ later) (flat_map-append (steps new all) parents (parent ∷ []))
@@ -199,7 +197,7 @@ level_more children first old file new block parents more rest siblings later nu
           let some : 1 ≤ all = lead_some all siblings is_parted.some (leading all lead) in
           subst (AllByRecursion (λ (p : TreePath). IsFullTreeBlock new all p.block)) (sym pushed)
           (each-append (λ (p : TreePath). IsFullTreeBlock new all p.block) parents (parent ∷ [])
-          (all_full_kept file new all parents (each_weaker (λ (p : TreePath). p.block < blocks) (λ (p : TreePath). block_of new p.block ≡ block_of file p.block) parents (λ p low. kept p.block low) below) (so_far.full all lead)) (
+          (all_full_kept file new all parents (AllByRecursion-weaker (λ (p : TreePath). p.block < blocks) (λ (p : TreePath). block_of new p.block ≡ block_of file p.block) parents (λ p low. kept p.block low) below) (so_far.full all lead)) (
             record {
               references = λ digit low. subst (λ (bytes : List ℕ). word_in bytes digit < all) (sym there) (inside all digit some (leading all lead));
               not_empty = not_empty_of new all parent siblings (on all lead) is_parted.some;

@@ -16,10 +16,11 @@ use Rattle.quota_types.specs.Times.{StandsIn}
 use Rattle.tree_build.specs.Needed.{HasMet}
 use Rattle.tree_build.specs.Size.{beginnings, each_once}
 use Rattle.quota_types.proofs.TimesLemmas.{times-append, times-cons-same, times_cases}
+use Rattle.quota_types.proofs.AscendsLemmas.{Ascends, Ascends-of, Ascends-right}
+use Rattle.quota_types.proofs.ListLemmas.{AllByRecursion-weaker}
 use Rattle.tree_build.proofs.DataBlockLemmas.{no_entry}
 use Rattle.tree_build.proofs.OnceLemmas.{filter-each_once, is_not}
-use Rattle.quota_radix.proofs.OrderLemmas.{Ascends, ascends_of, ascends_right}
-use Rattle.quota_radix.proofs.PathLemmas.{each-append, each_weaker}
+use Rattle.quota_radix.proofs.PathLemmas.{each-append}
 
 -- a number that is there already adds nothing
 once_known : (xs : List ℕ) (y : ℕ) → StandsIn xs y → each_once (xs ++ y ∷ []) ≡ each_once xs
@@ -57,7 +58,7 @@ each_of_stands P (x ∷ xs) n all stands = elim (times_cases x xs n) [
 
 ascends_before : (low : ℕ) (xs : List ℕ) (y : ℕ) (ys : List ℕ) → Ascends low (xs ++ y ∷ ys) → AllByRecursion (λ x. x < y) xs
 ascends_before low [] y ys r = tt
-ascends_before low (x ∷ xs) y ys r = ((ascends_right (suc x) xs (y ∷ ys) r.1).0, ascends_before (suc x) xs y ys r.1)
+ascends_before low (x ∷ xs) y ys r = ((Ascends-right (suc x) xs (y ∷ ys) r.1).0, ascends_before (suc x) xs y ys r.1)
 
 divided : (m n k : ℕ) → 0 < k → m < n → m / k ≤ n / k
 divided m n k some lt = le-div (m / k) n k some (omega (arith, div-mul-le_self m k))
@@ -93,7 +94,7 @@ beginnings_more left_out ids (Some before) id some last is =
           let one : ◌≡◌ {A = ℕ} (cond (before / d == id / d) 0 1) 1 = ap (λ (b : Bool). cond b 0 1) other.0 in
           let new : AllByRecursion (λ x. x ≢ id / d) begun =
           each_of_map (λ x. x ≢ id / d) (λ id. id / d) ids
-          (each_weaker (λ (n : ℕ). n ≤ before) (λ (n : ℕ). n / d ≢ id / d) ids (λ n le e. let low : n / d ≤ before / d = divided_le n before d some le in omega (arith, low, up, other.1, e)) last.1) in
+          (AllByRecursion-weaker (λ (n : ℕ). n ≤ before) (λ (n : ℕ). n / d ≢ id / d) ids (λ n le e. let low : n / d ≤ before / d = divided_le n before d some le in omega (arith, low, up, other.1, e)) last.1) in
           let more : length (each_once (begun ++ id / d ∷ [])) ≡ length (each_once begun) + 1 =
           ap (λ (xs : List ℕ). length xs) (once_new begun (id / d) new) ∙ length-append (each_once begun) (id / d ∷ []) in
           omega (arith, split, more, one)
@@ -113,7 +114,7 @@ last_more ids last id is after =
   where
     up_to : (last : Option ℕ) → IsLastOf last ids → IsAfter last id → AllByRecursion (λ n. n ≤ id) ids
     up_to None is after = subst (AllByRecursion (λ n. n ≤ id)) (sym is) tt
-    up_to (Some before) is after = each_weaker (λ (n : ℕ). n ≤ before) (λ (n : ℕ). n ≤ id) ids (λ n le. omega (arith, le, after)) is.1
+    up_to (Some before) is after = AllByRecursion-weaker (λ (n : ℕ). n ≤ before) (λ (n : ℕ). n ≤ id) ids (λ n le. omega (arith, le, after)) is.1
 
 -- one more identifier was met
 pub met_more : (ids : List ℕ) (old new : Needed) (id : ℕ) → IsAfter old.last id → HasMet ids old → new.entries ≡ old.entries + 1
@@ -138,7 +139,7 @@ after_met list place needed rising low met = go needed.last met.last
         ∙ ap (λ (es : List Entry). ids_of (take place list) ++ ids_of es) (drop_more list place no_entry low)
 
     before : AllByRecursion (λ x. x < (get_or list place no_entry).id) (ids_of (take place list))
-    before = ascends_before 0 (ids_of (take place list)) (get_or list place no_entry).id (ids_of (drop (place + 1) list)) (subst (Ascends 0) parted (ascends_of (ids_of list) rising))
+    before = ascends_before 0 (ids_of (take place list)) (get_or list place no_entry).id (ids_of (drop (place + 1) list)) (subst (Ascends 0) parted (Ascends-of (ids_of list) rising))
 
     go : (last : Option ℕ) → IsLastOf last (ids_of (take place list)) → IsAfter last (get_or list place no_entry).id
     go None is = tt

@@ -4,9 +4,9 @@ use Rattle.std.proofs.lemmas.Bool.{cases_Bool}
 use Rattle.std.proofs.lemmas.Bool.Decides.{eqb_tells}
 use Rattle.std.proofs.lemmas.List.Elements.{filter-append}
 use Rattle.std.specs.List.{AllByRecursion}
+use Rattle.quota_types.proofs.AscendsLemmas.{Ascends}
 use Rattle.tree_build.specs.NewFile.{parents_of}
 use Rattle.tree_build.specs.Size.{each_once}
-use Rattle.quota_radix.proofs.OrderLemmas.{Ascends}
 
 -- a number is not another one
 abbrev pub is_not : ℕ → ℕ → Bool

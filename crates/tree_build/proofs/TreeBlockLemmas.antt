@@ -4,17 +4,19 @@ use Rattle.std.proofs.lemmas.Bool.{cases_lt, cases_eq}
 use Rattle.std.proofs.lemmas.Bool.Decides.{nat_tests}
 use Rattle.std.specs.List.{AllByRecursion, cons_option}
 use Rattle.std.specs.List.Sorted.{IsStrictlyIncreasing}
+use Rattle.quota_types.proofs.AscendsLemmas.{Ascends, Ascends-apart, Ascends-of}
+use Rattle.quota_types.proofs.ListLemmas.{AllByRecursion-weaker}
+use Rattle.quota_types.proofs.BytesLemmas.{number_at-zeros}
 use Rattle.quota_blocks.specs.Span.{KeepsOutside}
-use Rattle.entry_codec.proofs.NumberLemmas.{number_at-zeros}
 use Rattle.quota_radix.specs.declared.tree_path.TreePath.{TreePath}
 use Rattle.quota_blocks.specs.Block.{block_of, leads}
 use Rattle.tree_build.specs.NewFile.{AllLead, AreSiblings}
 use Rattle.quota_radix.specs.Tree.{numbers_of, steps}
 use Rattle.quota_blocks.proofs.WordLemmas.{number_same}
 use Rattle.tree_build.proofs.DataBlockLemmas.{zero_bytes}
-use Rattle.quota_blocks.proofs.LeadsLemmas.{leads_below}
-use Rattle.quota_radix.proofs.OrderLemmas.{Ascends, ascends_apart, ascends_of, each_at, each_both, each_of_places, length_numbers, number_at_place, rises_bound, rises_of}
-use Rattle.quota_radix.proofs.PathLemmas.{Rises, each_weaker}
+use Rattle.quota_blocks.proofs.LeadsLemmas.{leads_below, leads_within}
+use Rattle.quota_radix.proofs.OrderLemmas.{each_at, each_both, each_of_places, length_numbers, number_at_place, rises_bound, rises_of}
+use Rattle.quota_radix.proofs.PathLemmas.{Rises}
 use Rattle.quota_radix.proofs.StepLemmas.{path_by, step_cases, steps_all, steps_from, word_in}
 
 -- a path in the place of one that is not there
@@ -38,8 +40,8 @@ pub record HasReferences (block : List ℕ) (paths : List TreePath) (count : ℕ
 pub references_none : (paths : List TreePath) → HasReferences (replicate 1024 0) paths 0
 references_none paths = record {
   written = λ apart place low. absurd (omega arith);
-  zeros = λ digit none. number_at-zeros 4 (replicate 1024 0) (4 * digit) zero_bytes;
-  known = λ digit. inl (number_at-zeros 4 (replicate 1024 0) (4 * digit) zero_bytes);
+  zeros = λ digit none. number_at-zeros 4 (4 * digit) (replicate 1024 0) (λ k from to. zero_bytes k);
+  known = λ digit. inl (number_at-zeros 4 (4 * digit) (replicate 1024 0) (λ k from to. zero_bytes k));
 }
 
 -- a write at one digit leaves the references at all others
@@ -92,9 +94,6 @@ behind number digit low high (p ∷ paths) r above below =
     let to : suc p.number ≤ high = rises_bound (suc p.number) high paths r.1 in
     ((λ e. omega (arith, e)), behind number digit (suc p.number) high paths r.1 (omega arith) below)
 
-zero_ends : (blocks word : ℕ) → word ≡ 0 → IsTrue (leads blocks word) → ⊥
-zero_ends blocks word is_zero leading = grind (arith, nat_tests)
-
 false_not : (b : Bool) → b ≡ false → IsTrue b → ⊥
 false_not b is_false is_true = grind (arith, nat_tests)
 
@@ -111,7 +110,7 @@ steps_are words blocks path low zero (p ∷ paths) few r reads zeros =
 steps_are words blocks path low (suc count) [] few r reads zeros =
     let none : words low ≡ 0 = zeros low (omega arith) (omega arith) tt in
     elim (step_cases words blocks path low) [
-      | inl there ↦ absurd (zero_ends blocks (words low) none there.0)
+      | inl there ↦ absurd (omega (arith, leads_within blocks (words low) there.0, none))
       | inr not_there ↦ ap (λ (o : Option TreePath). cons_option o (steps_from words blocks path (low + 1) count)) not_there.1
           ∙ steps_are words blocks path (low + 1) count [] (omega arith) (omega arith) tt (λ digit from to avoid. zeros digit (omega arith) (omega arith) avoid)
     ]
@@ -137,7 +136,7 @@ steps_are words blocks path low (suc count) (p ∷ paths) few r reads zeros =
           let later : Rises (256 * path.number + (low + 1)) (p ∷ paths) (256 * path.number + (low + 1 + count)) = (omega (arith, from, other), rest) in
           let none : words low ≡ 0 = zeros low (omega arith) (omega arith) (behind path.number low (256 * path.number + (low + 1)) (256 * path.number + (low + 1 + count)) (p ∷ paths) later (omega arith) (omega arith)) in
           elim (step_cases words blocks path low) [
-            | inl there ↦ absurd (zero_ends blocks (words low) none there.0)
+            | inl there ↦ absurd (omega (arith, leads_within blocks (words low) there.0, none))
             | inr not_there ↦ ap (λ (o : Option TreePath). cons_option o (steps_from words blocks path (low + 1) count)) not_there.1
                 ∙ steps_are words blocks path (low + 1) count (p ∷ paths) (omega arith) later reads (λ digit above below avoid. zeros digit (omega arith) (omega arith) avoid)
           ]
@@ -147,7 +146,7 @@ steps_are words blocks path low (suc count) (p ∷ paths) few r reads zeros =
 siblings_apart : (number : ℕ) (paths : List TreePath) → IsStrictlyIncreasing (numbers_of paths) → AreSiblings number paths → AreApart paths
 siblings_apart number paths rising siblings j k lt within same =
     let long = length_numbers paths in
-    let order : get_or (numbers_of paths) j 0 < get_or (numbers_of paths) k 0 = ascends_apart 0 (numbers_of paths) (ascends_of (numbers_of paths) rising) j k lt (omega arith) in
+    let order : get_or (numbers_of paths) j 0 < get_or (numbers_of paths) k 0 = Ascends-apart 0 (numbers_of paths) (Ascends-of (numbers_of paths) rising) j k lt (omega arith) in
     let j_is = number_at_place paths j no_path (omega arith) in
     let k_is = number_at_place paths k no_path within in
     let j_of : (get_or paths j no_path).number / 256 ≡ number = each_at (λ (p : TreePath). p.number / 256 ≡ number) no_path paths siblings j (omega arith) in
@@ -162,10 +161,10 @@ filled_steps file block blocks count path paths is over under rising siblings le
     let reads : AllByRecursion (λ (p : TreePath). word_in block (p.number % 256) ≡ p.block) paths =
     each_of_places (λ (p : TreePath). word_in block (p.number % 256) ≡ p.block) no_path paths (λ k lt. has.written apart k (omega arith)) in
     let below : AllByRecursion (λ (p : TreePath). p.number < 256 * number + (0 + 256)) paths =
-    each_weaker (λ (p : TreePath). p.number / 256 ≡ number) (λ (p : TreePath). p.number < 256 * number + (0 + 256)) paths (λ p of'. omega (arith, of')) siblings in
+    AllByRecursion-weaker (λ (p : TreePath). p.number / 256 ≡ number) (λ (p : TreePath). p.number < 256 * number + (0 + 256)) paths (λ p of'. omega (arith, of')) siblings in
     sym (steps_all file block blocks path 256 refl (sym is))
     ∙ steps_are (word_in block) blocks path 0 256 paths (omega arith)
-    (rises_of (256 * number + 0) (256 * number + (0 + 256)) paths (omega arith) (ascends_siblings number paths (ascends_of (numbers_of paths) rising) siblings) below)
+    (rises_of (256 * number + 0) (256 * number + (0 + 256)) paths (omega arith) (ascends_siblings number paths (Ascends-of (numbers_of paths) rising) siblings) below)
     (each_both (λ (p : TreePath). word_in block (p.number % 256) ≡ p.block) (λ (p : TreePath). IsTrue (leads blocks p.block)) paths reads leading)
     (λ digit from to avoid. has.zeros digit (λ place lt. each_at (λ (p : TreePath). p.number % 256 ≢ digit) no_path paths avoid place (omega arith)))
   where

@@ -1,5 +1,5 @@
 -- A sound tree file stands for the value whose records are those of its leaves.
-use Rattle.std.proofs.Common.{◌≡◌, ℕ, suc, ◌^◌, ◌<◌, ◌≤◌, Bool, true, false, cond, ◌&&◌, ◌==◌, T, List, [], ◌∷◌, length, map, find, Option, Some, option_and_then, option_map, refl, sym, ap, subst, ◌∙◌, inl, inr, arith, nat_cmp, eq-eqb, ne_eqb, ◌*◌}
+use Rattle.std.proofs.Common.{◌≡◌, ℕ, suc, ◌^◌, ◌<◌, ◌≤◌, Bool, true, false, cond, ◌&&◌, ◌==◌, T, List, [], ◌∷◌, length, map, find, Option, Some, option_and_then, option_map, refl, sym, ap, subst, ◌∙◌, inl, inr, arith, nat_cmp, eq-eqb, ne_eqb, ◌*◌, None}
 use Rattle.std.specs.List.{AllByRecursion}
 use Rattle.std.specs.Ordering.{is_lt}
 use Rattle.std.specs.declared.cmp.Ordering.TheVariants.{Less}
@@ -22,7 +22,8 @@ use Rattle.tree_build.specs.Size.{ids_in}
 use Rattle.tree_build.specs.Roles.{Filled, Chained, OneRole}
 use Rattle.tree_build.specs.TreeFile.{IsSound, TreeStandsFor, record_in}
 use Rattle.quota_types.proofs.TimesLemmas.{times_cases}
-use Rattle.quota_radix.proofs.PathLemmas.{Rises, Rises-paths, each_weaker, leaves_lead}
+use Rattle.quota_types.proofs.ListLemmas.{AllByRecursion-weaker}
+use Rattle.quota_radix.proofs.PathLemmas.{Rises, Rises-paths, leaves_lead}
 use Rattle.entry_codec.specs.declared.header.Header.{Header}
 
 -- an identifier that some entry has is found
@@ -42,9 +43,9 @@ found_entry (e ∷ entries) id stands =
 abbrev HasRecord : Format → List ℕ → TreePath → Type 0
 HasRecord format file leaf = (rec : Rec) × (record_in format (block_of file leaf.block) leaf.number ≡ Some rec)
 
-leaves_have_records : (file : List ℕ) (blocks : ℕ) (format : Format) → Filled format file blocks → AllByRecursion (HasRecord format file) (leaves file blocks)
+leaves_have_records : (file : List ℕ) (blocks : ℕ) (format : Format) → Filled None format file blocks → AllByRecursion (HasRecord format file) (leaves file blocks)
 leaves_have_records file blocks format filled =
-    each_weaker (λ (leaf : TreePath). StandsIn (ids_at (leaves file blocks) leaf.block) leaf.number) (HasRecord format file) (leaves file blocks)
+    AllByRecursion-weaker (λ (leaf : TreePath). StandsIn (ids_at (leaves file blocks) leaf.block) leaf.number) (HasRecord format file) (leaves file blocks)
     (λ leaf stands. found_entry (used_entries format (block_of file leaf.block)) leaf.number (omega (arith, filled.one_entry leaf.block leaf.number stands)))
     (leaves_lead file blocks)
 
@@ -146,12 +147,12 @@ sound_value_ids file kind format magic version sound =
     ∙ leaf_record_ids format file (leaves file (header_of file).blocks) all
 
 pub sound : (file : List ℕ) (header : Header) → AreOf header (header_of file) → 2 ≤ header.blocks → (2 < header.blocks → 1024 * header.blocks ≤ length file)
-    → OneRole file header.blocks header.free → Chained header.format file header.blocks header.first → Filled header.format file header.blocks
+    → OneRole None file header.blocks header.free → Chained None header.format file header.blocks header.first → Filled None header.format file header.blocks
     → IsSound header.format file (header_of file)
 sound file header are two long roles chained filled = record {
   two = subst (λ (b : ℕ). 2 ≤ b) (sym are.blocks) two;
   long = subst (λ (b : ℕ). 2 < b → 1024 * b ≤ length file) (sym are.blocks) long;
-  roles = subst (λ (b : ℕ). OneRole file b (header_of file).free) (sym are.blocks) (subst (λ (h : ℕ). OneRole file header.blocks h) (sym are.free) roles);
-  chained = subst (λ (b : ℕ). Chained header.format file b (header_of file).first) (sym are.blocks) (subst (λ (h : ℕ). Chained header.format file header.blocks h) (sym are.first) chained);
-  filled = subst (λ (b : ℕ). Filled header.format file b) (sym are.blocks) filled;
+  roles = subst (λ (b : ℕ). OneRole None file b (header_of file).free) (sym are.blocks) (subst (λ (h : ℕ). OneRole None file header.blocks h) (sym are.free) roles);
+  chained = subst (λ (b : ℕ). Chained None header.format file b (header_of file).first) (sym are.blocks) (subst (λ (h : ℕ). Chained None header.format file header.blocks h) (sym are.first) chained);
+  filled = subst (λ (b : ℕ). Filled None header.format file b) (sym are.blocks) filled;
 }

@@ -1,6 +1,5 @@
 -- A file that was written block by block, from what each step says of it.
-use Rattle.std.proofs.Common.{◌≡◌, ◌≢◌, ℕ, zero, suc, ◌+◌, ◌*◌, ◌/◌, ◌^◌, ◌<◌, ◌≤◌, Bool, cond, true, false, ◌==◌, IsTrue, List, [], ◌∷◌, length, map, filter, find, take, option_and_then, option_map, refl, sym, ap, subst, ◌∙◌, arith}
-use Rattle.std.proofs.lemmas.Bool.Decides.{nat_tests}
+use Rattle.std.proofs.Common.{◌≡◌, ◌≢◌, ℕ, zero, suc, ◌+◌, ◌*◌, ◌/◌, ◌^◌, ◌<◌, ◌≤◌, Bool, cond, true, false, ◌==◌, IsTrue, List, [], ◌∷◌, length, map, filter, find, take, option_and_then, option_map, refl, sym, ap, subst, ◌∙◌, arith, None}
 use Rattle.std.proofs.lemmas.List.{append-nil, get_or-take, length-map}
 use Rattle.std.specs.FinMap.{get}
 use Rattle.std.specs.List.{AllByRecursion, flat_map, range_with_len}
@@ -10,11 +9,14 @@ use Rattle.quota_types.proofs.BytesLemmas.{number_at-take}
 use Rattle.quota_types.specs.declared.file_kind.Format.{Format}
 use Rattle.quota_types.specs.declared.file_kind.Format.TheVariants.{V1, V2R0, V2R1}
 use Rattle.quota_types.specs.declared.record.Entry.{Entry}
+use Rattle.quota_types.proofs.AscendsLemmas.{Ascends, Ascends-of, IsStrictlyIncreasing-of}
+use Rattle.quota_types.proofs.ListLemmas.{AllByRecursion-weaker}
 use Rattle.entry_codec.specs.Header.{AreOf, format_of, header_of}
 use Rattle.entry_codec.specs.declared.header.Header.{Header}
 use Rattle.quota_radix.specs.declared.tree_path.TreePath.{TreePath}
 use Rattle.quota_blocks.specs.Block.{block_of, leads}
 use Rattle.quota_blocks.specs.Listed.{ids_of, records_of, value_of}
+use Rattle.quota_blocks.proofs.LeadsLemmas.{leads_from}
 use Rattle.tree_build.specs.Build.{HasNoPadding, HasOneRoom}
 use Rattle.tree_build.specs.Entries.{used_entries}
 use Rattle.quota_radix.specs.Tree.{blocks_of, numbers_of, leaves, paths, steps}
@@ -27,9 +29,8 @@ use Rattle.tree_build.proofs.ValueLemmas.{sound}
 use Rattle.tree_build.proofs.LevelAddedLemmas.{blocks_between, level_kept}
 use Rattle.tree_build.proofs.NewFileLemmas.{block_within, front_is, length-with_root, root_is, root_keeps, with_root}
 use Rattle.tree_build.proofs.OnceLemmas.{ascends-parents_of, each_once-map}
-use Rattle.quota_radix.proofs.OrderLemmas.{Ascends, ascends_of, increasing_of}
 use Rattle.tree_build.proofs.PartsLemmas.{all_parts, get_record, numbers_of_leaves, record_of_parts}
-use Rattle.quota_radix.proofs.PathLemmas.{each-append, each_weaker}
+use Rattle.quota_radix.proofs.PathLemmas.{each-append}
 
 map_again : (f g h : ℕ → ℕ) → ((n : ℕ) → g (f n) ≡ h n) → (ns : List ℕ) → map g (map f ns) ≡ map h ns
 map_again f g h same [] = refl
@@ -69,7 +70,7 @@ leaf_numbers format tree list first leaves are =
 
 -- the numbers of a level ascend
 pub rising_parents : (ids : List ℕ) → Ascends 0 ids → IsStrictlyIncreasing (parents_of ids)
-rising_parents ids rising = increasing_of 0 (parents_of ids) (ascends-parents_of ids rising)
+rising_parents ids rising = IsStrictlyIncreasing-of 0 (parents_of ids) (ascends-parents_of ids rising)
 
 all_filter : (P : ℕ → Type 0) (test : ℕ → Bool) (ns : List ℕ) → AllByRecursion P ns → AllByRecursion P (filter test ns)
 all_filter P test [] all = tt
@@ -96,9 +97,6 @@ children_of_root : (ps : List TreePath) → AllByRecursion (λ n. n < 256) (numb
 children_of_root [] all = tt
 children_of_root (p ∷ ps) all = let low : p.number < 256 = all.0 in (omega arith, children_of_root ps all.1)
 
-leads_there : (blocks n : ℕ) → 0 < n → n < blocks → IsTrue (leads blocks n)
-leads_there blocks n some low = grind (arith, nat_tests)
-
 lead_leaves : (blocks block : ℕ) (entries : List Entry) → IsTrue (leads blocks block) → AllLead blocks (leaves_in (record { block = block; entries = entries }))
 lead_leaves blocks block [] leading = tt
 lead_leaves blocks block (e ∷ es) leading = (leading, lead_leaves blocks block es leading)
@@ -107,7 +105,7 @@ lead_parts : (format : Format) (list : List Entry) (blocks low count : ℕ) → 
 lead_parts format list blocks low zero le = tt
 lead_parts format list blocks low (suc count) le =
     each-append (λ (p : TreePath). IsTrue (leads blocks p.block)) (leaves_in (part_of format list 2 low)) (flat_map leaves_in (map (part_of format list 2) (range_with_len (low + 1) count)))
-    (lead_leaves blocks (2 + low) (part_of format list 2 low).entries (leads_there blocks (2 + low) (omega arith) (omega arith))) (lead_parts format list blocks (low + 1) count (omega arith))
+    (lead_leaves blocks (2 + low) (part_of format list 2 low).entries (leads_from blocks (2 + low) (omega arith) (omega arith))) (lead_parts format list blocks (low + 1) count (omega arith))
 
 -- data blocks that are the same in another file
 parts_same : (format : Format) (old new : List ℕ) (list : List Entry) (low count : ℕ) → ((place : ℕ) → place < low + count → block_of new (2 + place) ≡ block_of old (2 + place))
@@ -200,14 +198,14 @@ module _ (header : Header) (list : List Entry) (zeroth data_file third_file seco
   -- the blocks of a level come behind the root and before the end
   leading : (low count : ℕ) (ps : List TreePath) → blocks_of ps ≡ range_with_len low count → 2 ≤ low → low + count ≤ header.blocks → AllLead header.blocks ps
   leading low count ps are two le =
-      each_weaker (λ (p : TreePath). (low ≤ p.block) × (p.block < low + count)) (λ (p : TreePath). IsTrue (leads header.blocks p.block)) ps
-      (λ p between. leads_there header.blocks p.block (omega (arith, between)) (omega (arith, between))) (blocks_between ps low count are)
+      AllByRecursion-weaker (λ (p : TreePath). (low ≤ p.block) × (p.block < low + count)) (λ (p : TreePath). IsTrue (leads header.blocks p.block)) ps
+      (λ p between. leads_from header.blocks p.block (omega (arith, between)) (omega (arith, between))) (blocks_between ps low count are)
 
   staying : (low count : ℕ) (ps : List TreePath) (old : List ℕ) → blocks_of ps ≡ range_with_len low count → 2 ≤ low
       → ((number : ℕ) → 2 ≤ number → number < low + count → block_of (with_root first_file root) number ≡ block_of old number)
       → AllByRecursion (λ (p : TreePath). block_of (with_root first_file root) p.block ≡ block_of old p.block) ps
   staying low count ps old are two same =
-      each_weaker (λ (p : TreePath). (low ≤ p.block) × (p.block < low + count)) (λ (p : TreePath). block_of (with_root first_file root) p.block ≡ block_of old p.block) ps
+      AllByRecursion-weaker (λ (p : TreePath). (low ≤ p.block) × (p.block < low + count)) (λ (p : TreePath). block_of (with_root first_file root) p.block ≡ block_of old p.block) ps
       (λ p between. same p.block (omega (arith, between)) between.1) (blocks_between ps low count are)
 
   leaves_lead : AllLead header.blocks leaves'
@@ -245,7 +243,7 @@ module _ (header : Header) (list : List Entry) (zeroth data_file third_file seco
   first_rising : IsStrictlyIncreasing (numbers_of first)
   first_rising =
       subst IsStrictlyIncreasing (sym first_ids)
-      (rising_parents (parents_of (parents_of (ids_of list))) (ascends-parents_of (parents_of (ids_of list)) (ascends-parents_of (ids_of list) (ascends_of (ids_of list) w.rising))))
+      (rising_parents (parents_of (parents_of (ids_of list))) (ascends-parents_of (parents_of (ids_of list)) (ascends-parents_of (ids_of list) (Ascends-of (ids_of list) w.rising))))
 
   first_paths : paths (with_root first_file root) header.blocks 1 ≡ first
   first_paths = append-nil _ ∙ w.root_steps (with_root first_file root) header.blocks (record { number = 0; block = 1 }) root_there first_rising first_siblings first_lead
@@ -315,7 +313,7 @@ module _ (header : Header) (list : List Entry) (zeroth data_file third_file seco
       let total = sum in
       let parts : List Part = parts_of header.format list 2 (parts_needed header.format list) in
       let used : AllByRecursion (λ (part : Part). used_entries header.format (block_of (with_root first_file root) part.block) ≡ part.entries) parts =
-      each_weaker (λ (part : Part). IsDataBlock header.format (block_of (with_root first_file root) part.block) part.entries)
+      AllByRecursion-weaker (λ (part : Part). IsDataBlock header.format (block_of (with_root first_file root) part.block) part.entries)
       (λ (part : Part). used_entries header.format (block_of (with_root first_file root) part.block) ≡ part.entries) parts (λ part is. is.used) built.parts in
       record {
         magic = are.magic;
@@ -324,8 +322,8 @@ module _ (header : Header) (list : List Entry) (zeroth data_file third_file seco
         inode_grace = sym are.inode_grace;
         flags = sym are.flags;
         sound = sound (with_root first_file root) header are (omega arith) (λ more. omega arith)
-            (subst (OneRole (with_root first_file root) header.blocks) (sym w.free) (one_role header.format (with_root first_file root) header.blocks list first second third built))
-            (subst (Chained header.format (with_root first_file root) header.blocks) (sym w.room) (chained header.format (with_root first_file root) header.blocks list first second third built))
+            (subst (OneRole None (with_root first_file root) header.blocks) (sym w.free) (one_role header.format (with_root first_file root) header.blocks list first second third built))
+            (subst (Chained None header.format (with_root first_file root) header.blocks) (sym w.room) (chained header.format (with_root first_file root) header.blocks list first second third built))
             (filled header.format (with_root first_file root) header.blocks list first second third built);
         records = λ id.
             subst (λ (b : ℕ). get (records_of list) id ≡ tree_record header.format (with_root first_file root) b id) (sym are.blocks) (

@@ -1,6 +1,6 @@
 -- What may be wrong with a tree file, kind by kind, with the block and the identifier that each kind names. Source: the
 -- rules of `fs/quota/quota_tree.c`, each turned round.
-use Rattle.std.specs.Prelude.{◌≡◌, ◌≢◌, ◌⊎◌, ℕ, ◌*◌, ◌/◌, ◌<◌, IsTrue, false, List, ◌∷◌, ◌++◌, length, Some, unwrap_or}
+use Rattle.std.specs.Prelude.{◌≡◌, ◌≢◌, ◌⊎◌, ℕ, ◌*◌, ◌/◌, ◌<◌, IsTrue, false, List, ◌∷◌, ◌++◌, length, Some, unwrap_or, None}
 use Rattle.std.specs.List.{last_or}
 use Rattle.quota_types.specs.Damage.{NamesItsId}
 use Rattle.quota_types.specs.declared.damage.Damage.{Damage}
@@ -28,7 +28,7 @@ pub record HasTwoRoles (file : List ℕ) (blocks free_head block : ℕ) : Type 0
   pub free : List ℕ
   pub end : ℕ
   pub is_free : IsChain file blocks free_head free end
-  pub twice : StandsTwiceIn (roles file blocks free) block
+  pub twice : StandsTwiceIn (roles None file blocks free) block
 
 -- a block has no role
 pub record HasNoRole (file : List ℕ) (blocks free_head block : ℕ) : Type 0 where
@@ -36,7 +36,7 @@ pub record HasNoRole (file : List ℕ) (blocks free_head block : ℕ) : Type 0 w
   pub end : ℕ
   pub is_free : IsChain file blocks free_head free end
   pub inside : block < blocks
-  pub none : times (roles file blocks free) block ≡ 0
+  pub none : times (roles None file blocks free) block ≡ 0
 
 -- the entry list has a block that is no data block with room
 pub record IsForeign (format : Format) (file : List ℕ) (blocks first block : ℕ) : Type 0 where
@@ -44,14 +44,14 @@ pub record IsForeign (format : Format) (file : List ℕ) (blocks first block : �
   pub end : ℕ
   pub is_chain : IsChain file blocks first chain end
   pub listed : StandsIn chain block
-  pub foreign : has_room format file blocks block ≡ false
+  pub foreign : has_room None format file blocks block ≡ false
 
 -- a data block with room is not in the entry list
 pub record IsMissing (format : Format) (file : List ℕ) (blocks first block : ℕ) : Type 0 where
   pub chain : List ℕ
   pub end : ℕ
   pub is_chain : IsChain file blocks first chain end
-  pub room : IsTrue (has_room format file blocks block)
+  pub room : IsTrue (has_room None format file blocks block)
   pub missing : times chain block ≡ 0
 
 -- a block of the entry list does not name the block before it, or 0 where it is the first

@@ -1,6 +1,6 @@
 -- What a tree file stands for. Source: vfsv0 and vfsv1, the version 2 quota files of the quota tools and the kernel
 -- (`fs/quota/quota_v2.c` and `fs/quota/quota_tree.c`).
-use Rattle.std.specs.Prelude.{◌≡◌, ℕ, ◌*◌, ◌<◌, ◌≤◌, ◌==◌, List, length, find, Option, Some}
+use Rattle.std.specs.Prelude.{◌≡◌, ℕ, ◌*◌, ◌<◌, ◌≤◌, ◌==◌, List, length, find, Option, Some, None}
 use Rattle.std.specs.FinMap.{get}
 use Rattle.std.specs.Option.{option_and_then, option_map}
 use Rattle.quota_types.specs.declared.file_kind.Format.{Format}
@@ -28,9 +28,9 @@ tree_record format file blocks id =
 pub record IsSound (format : Format) (file : List ℕ) (numbers : HeaderNumbers) : Type 0 where
   pub two : 2 ≤ numbers.blocks
   pub long : 2 < numbers.blocks → 1024 * numbers.blocks ≤ length file
-  pub roles : OneRole file numbers.blocks numbers.free
-  pub chained : Chained format file numbers.blocks numbers.first
-  pub filled : Filled format file numbers.blocks
+  pub roles : OneRole None file numbers.blocks numbers.free
+  pub chained : Chained None format file numbers.blocks numbers.first
+  pub filled : Filled None format file numbers.blocks
 
 -- A tree file stands for a value: its header has the kind, the format, the grace periods and the flags, it is sound, and
 -- its records are those of the identifiers that have a leaf.

@@ -1,6 +1,7 @@
 -- A whole check, from what its parts found.
-use Rattle.std.proofs.Common.{◌≡◌, ℕ, ◌*◌, ◌<◌, ◌≤◌, Bool, IsTrue, Result, Ok, Err, List, length, sym, ap, subst, ◌∙◌, arith}
-use Rattle.std.specs.Prelude.{IfErr, Some}
+use Rattle.std.proofs.Common.{◌≡◌, ℕ, ◌*◌, ◌<◌, ◌≤◌, Bool, IsTrue, Option, Some, None, Result, Ok, Err, List, Vec, Global, length, refl, sym, ap, subst, ◌∙◌, arith}
+use Rattle.std.specs.Prelude.{IfErr, IsSome}
+use Rattle.std.specs.Option.{option_map}
 use Rattle.entry_codec.specs.Header.{AreOf, header_of}
 use Rattle.entry_codec.specs.declared.header.Header.{Header}
 use Rattle.quota_blocks.specs.QuotaValue.{QuotaValue}
@@ -80,7 +81,7 @@ only_damaged before now tells file header (Err Memory) is = λ named same. absur
 
 -- a file whose length, roles and lists were checked
 pub is_checked : (file : List ℕ) (header : Header) (roles : Roles) → AreOf header (header_of file) → 2 ≤ header.blocks → (2 < header.blocks → 1024 * header.blocks ≤ length file)
-    → AreRoles file header.blocks header.free roles → Chained header.format file header.blocks header.first → Filled header.format file header.blocks
+    → AreRoles file header.blocks header.free roles → Chained None header.format file header.blocks header.first → Filled None header.format file header.blocks
     → IsChecked file (record { used = roles.used; free = roles.free })
 is_checked file header roles are two long found chained filled =
     let value = sound_value file header.kind header.format are.magic are.version (sound file header are two long found.one_role chained filled) in record {
@@ -92,3 +93,15 @@ is_checked file header roles are two long found chained filled =
           (subst (λ (h : ℕ). IsChain file header.blocks h found.one_role.free 0) (sym are.free) found.one_role.is_free);
       free_count = found.free;
     }
+
+-- a file is given back that is there
+pub is_given : (given : Option (Vec ℕ Global)) (bytes : List ℕ) → option_map (λ (file : Vec ℕ Global). file.items) given ≡ Some bytes → IsSome given
+is_given None bytes is = absurd cc
+is_given (Some file) bytes is = refl
+
+-- with its bytes
+pub same_given : (given : Option (Vec ℕ Global)) (file : Vec ℕ Global) (bytes : List ℕ) → given ≡ Some file
+    → option_map (λ (file : Vec ℕ Global). file.items) given ≡ Some bytes → file.items ≡ bytes
+same_given given file bytes here is =
+    let found : Some file.items ≡ Some bytes = ap (option_map (λ (file : Vec ℕ Global). file.items)) (sym here) ∙ is in
+    cc

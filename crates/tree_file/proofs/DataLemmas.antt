@@ -1,5 +1,5 @@
 -- The data blocks with room, and the list that is to have them.
-use Rattle.std.proofs.Common.{add-one, below_more, ◌==◌, MatchBool, true≢false, ◌≡◌, ◌≢◌, ℕ, zero, suc, ◌+◌, ◌<◌, ◌≤◌, Bool, true, false, cond, ◌&&◌, nat_le, List, [], ◌∷◌, ◌++◌, length, get_or, map, filter, take, drop, Some, unwrap_or, refl, sym, ap, subst, ◌∙◌, ◌⊎◌, inl, inr, arith, append-nil, length-take-le}
+use Rattle.std.proofs.Common.{add-one, below_more, ◌==◌, MatchBool, ◌≡◌, ◌≢◌, ℕ, zero, suc, ◌+◌, ◌<◌, ◌≤◌, Bool, true, false, cond, ◌&&◌, nat_le, List, [], ◌∷◌, ◌++◌, length, get_or, map, filter, take, drop, Some, unwrap_or, refl, sym, ap, subst, ◌∙◌, inl, inr, arith, length-take-le}
 use Rattle.std.proofs.lemmas.Bool.{cases_Bool, cases_lt}
 use Rattle.std.proofs.lemmas.Bool.Decides.{nat_tests}
 use Rattle.std.proofs.lemmas.List.{drop_more, get_or-map, length-map, map-append, map_more, take-append-drop, take_all, take_more}
@@ -73,13 +73,6 @@ in_order_more links i d before low is same so_far =
 pub before_more : (links : List Link) (i : ℕ) (d : Link) → i < length links → (get_or links i d).block ≡ get_or (0 ∷ linked_blocks links) (i + 1) 0
 before_more links i d low = rw add-one (sym (get_or-map (λ (l : Link). l.block) links i d 0 low))
 
--- all links name the block before them
-pub in_order_all : (links : List Link) (i : ℕ) → length links ≤ i → i ≤ length links → previous_in (take i links) ≡ take i (0 ∷ linked_blocks links)
-    → previous_in links ≡ take (length (linked_blocks links)) (0 ∷ linked_blocks links)
-in_order_all links i high low is =
-    let all : i ≡ length (linked_blocks links) = omega (arith, length-map links (λ (l : Link). l.block)) in
-    ap previous_in (sym (take_all i links high)) ∙ is ∙ ap (λ (n : ℕ). take n (0 ∷ linked_blocks links)) all
-
 -- the data blocks with room before a block do not have it
 pub not_before : (test : ℕ → Bool) (block : ℕ) → times (filter test (range_with_len 0 block)) block ≡ 0
 not_before test block = elim (cases_Bool (test block)) [
@@ -119,13 +112,6 @@ pub room_added : (blocks number : ℕ) (flags : List Bool) (numbers : List ℕ) 
 room_added blocks number flags numbers true some room s r new added =
     subst (λ (b : Bool). AreFlagsOf blocks flags (numbers ++ cond b (number ∷ []) [])) (sym (ap (λ (b : Bool). b && room) s ∙ r)) added.0
 room_added blocks number flags numbers false some room s r new added = absurd (omega (arith, new, added))
-
--- a block without room is not added
-pub no_room_added : (blocks number : ℕ) (flags : List Bool) (numbers : List ℕ) (some room : Bool) → (some ≡ false) ⊎ (room ≡ false)
-    → AreFlagsOf blocks flags numbers → AreFlagsOf blocks flags (numbers ++ cond (some && room) (number ∷ []) [])
-no_room_added blocks number flags numbers false room h are = subst (λ (ns : List ℕ). AreFlagsOf blocks flags ns) (sym (append-nil numbers)) are
-no_room_added blocks number flags numbers true false h are = subst (λ (ns : List ℕ). AreFlagsOf blocks flags ns) (sym (append-nil numbers)) are
-no_room_added blocks number flags numbers true true h are = elim h [ inl e ↦ absurd (true≢false e) | inr e ↦ absurd (true≢false e) ]
 
 -- the blocks that were compared, with one more
 pub entries_more : (format : Format) (file now : List ℕ) (groups : List (List ℕ)) (block : ℕ) (ids : List ℕ) → now ≡ file → leading_ids groups block ≡ ids

@@ -1,10 +1,11 @@
 -- A sound tree file has as many blocks as its identifiers need, or more.
-use Rattle.std.proofs.Common.{◌≡◌, ℕ, suc, ◌+◌, ◌*◌, ◌/◌, ◌^◌, ◌<◌, ◌≤◌, Bool, true, false, cond, not, ◌==◌, nat_lt, if◌then◌else◌, List, [], ◌∷◌, ◌++◌, length, map, Option, Some, None, refl, sym, ap, subst, ◌∙◌, inl, inr, arith, length-append}
+use Rattle.std.proofs.Common.{◌≡◌, ℕ, suc, ◌+◌, ◌*◌, ◌/◌, ◌^◌, ◌<◌, ◌≤◌, Bool, true, false, cond, not, ◌==◌, nat_lt, if◌then◌else◌, List, [], ◌∷◌, ◌++◌, length, map, refl, sym, ap, subst, ◌∙◌, inl, inr, arith, length-append, None}
 use Rattle.std.proofs.lemmas.List.{length-map}
 use Rattle.std.proofs.Math.Nat.{mul-suc}
 use Rattle.std.proofs.lemmas.Bool.{cases_lt}
 use Rattle.std.proofs.lemmas.Bool.Decides.{eqb_tells, nat_tests}
-use Rattle.std.specs.List.{AllByRecursion, cons_option, filter, filter_map, flat_map, range_with_len}
+use Rattle.std.specs.List.{AllByRecursion, filter, filter_map, flat_map, range_with_len}
+use Rattle.std.proofs.lemmas.List.FromFn.{length-range_with_len}
 use Rattle.quota_types.specs.declared.file_kind.Format.{Format}
 use Rattle.quota_types.specs.declared.file_kind.Format.TheVariants.{V1, V2R0, V2R1}
 use Rattle.quota_types.specs.declared.record.Entry.{Entry}
@@ -19,10 +20,12 @@ use Rattle.quota_radix.specs.Tree.{numbers_of, data_blocks, ids_at, leaves, leve
 use Rattle.tree_build.specs.Size.{ids_in, beginnings, blocks_needed, each_once}
 use Rattle.tree_build.specs.Roles.{Filled, OneRole, roles}
 use Rattle.tree_build.specs.TreeFile.{TreeStandsFor}
-use Rattle.quota_types.proofs.TimesLemmas.{length-range, length_of_times, length_same_times, stands_right, times-cons-same, times-filter-no, times-filter-yes, times-range-high, times-range-within, times_cases}
+use Rattle.quota_types.proofs.TimesLemmas.{length_of_times, length_same_times, stands_right, times-cons-same, times-filter-no, times-filter-yes, times-range-high, times-range-within, times_cases}
+use Rattle.quota_types.proofs.ListLemmas.{length-filter_map, AllByRecursion-weaker}
 use Rattle.tree_build.proofs.MeaningLemmas.{one_meaning}
-use Rattle.quota_radix.proofs.OrderLemmas.{length_numbers, rises_bound}
-use Rattle.quota_radix.proofs.PathLemmas.{Rises, Rises-steps, data_block_of_id, each-append, each_weaker, leaves_lead, one_with}
+use Rattle.quota_radix.proofs.OrderLemmas.{length_numbers}
+use Rattle.quota_radix.proofs.PathLemmas.{Rises-steps, data_block_of_id, each-append, leaves_lead, one_with}
+use Rattle.quota_radix.proofs.LinkStepLemmas.{Rises-between}
 use Rattle.tree_build.proofs.ValueLemmas.{sound_value, sound_value_ids}
 
 -- a number stands once at most among those of a list, each once, and only where it stands in the list
@@ -50,16 +53,6 @@ few_within xs ys within = length_of_times (each_once xs) ys (λ n. elim (cases_l
   | inr some ↦ omega (arith, (once xs n).0, within n ((once xs n).1 some))
 ])
 
-between : (low high : ℕ) (ps : List TreePath) → Rises low ps high → AllByRecursion (λ (p : TreePath). (low ≤ p.number) × (p.number < high)) ps
-between low high [] r = tt
-between low high (p ∷ ps) r =
-    let from : low ≤ p.number = r.0 in
-    let to : suc p.number ≤ high = rises_bound (suc p.number) high ps r.1 in (
-      (from, omega arith),
-      each_weaker (λ (q : TreePath). (suc p.number ≤ q.number) × (q.number < high)) (λ (q : TreePath). (low ≤ q.number) × (q.number < high)) ps
-          (λ q b. (omega (arith, from, b), b.1)) (between (suc p.number) high ps r.1),
-    )
-
 -- the beginning of each path of one digit more is that of a path
 beginnings_stand : (file : List ℕ) (blocks : ℕ) (all ps : List TreePath) → ((n : ℕ) → StandsIn (numbers_of ps) n → StandsIn (numbers_of all) n)
     → AllByRecursion (λ (q : TreePath). StandsIn (numbers_of all) (q.number / 256)) (flat_map (steps file blocks) ps)
@@ -67,9 +60,9 @@ beginnings_stand file blocks all [] within = tt
 beginnings_stand file blocks all (p ∷ ps) within =
     let here : StandsIn (numbers_of all) p.number = within p.number (omega (arith, times-cons-same p.number (numbers_of ps))) in
     each-append (λ (q : TreePath). StandsIn (numbers_of all) (q.number / 256)) (steps file blocks p) (flat_map (steps file blocks) ps)
-    (each_weaker (λ (q : TreePath). (256 * p.number ≤ q.number) × (q.number < 256 * suc p.number)) (λ (q : TreePath). StandsIn (numbers_of all) (q.number / 256)) (steps file blocks p)
+    (AllByRecursion-weaker (λ (q : TreePath). (256 * p.number ≤ q.number) × (q.number < 256 * suc p.number)) (λ (q : TreePath). StandsIn (numbers_of all) (q.number / 256)) (steps file blocks p)
     (λ q b. let same : p.number ≡ q.number / 256 = omega (arith, b) in subst (StandsIn (numbers_of all)) same here)
-    (between (256 * p.number) (256 * suc p.number) (steps file blocks p) (Rises-steps file blocks p)))
+    (Rises-between (256 * p.number) (256 * suc p.number) (steps file blocks p) (Rises-steps file blocks p)))
     (beginnings_stand file blocks all ps (λ n stands. within n (stands_right (p.number ∷ []) (numbers_of ps) n stands)))
 
 beginning_stands : (file : List ℕ) (blocks digits n : ℕ) → StandsIn (numbers_of (paths file blocks (suc digits))) n → StandsIn (numbers_of (paths file blocks digits)) (n / 256)
@@ -146,39 +139,32 @@ few_paths most (block ∷ bs) ps all few =
     let here : length (ids_at ps block) ≤ most = few block (omega (arith, times-cons-same block bs)) in
     omega (arith, mul-suc most (length bs), rest, here, split block ps)
 
--- a list of what is there of so many is no longer
-length-filter_map : {X Y : Type 0} (f : X → Option Y) (xs : List X) → length (filter_map f xs) ≤ length xs
-length-filter_map f [] = omega arith
-length-filter_map {X} {Y} f (x ∷ xs) =
-    let rest = length-filter_map f xs in
-    elim (f x) as (λ (o : Option Y). length (cons_option o (filter_map f xs)) ≤ suc (length xs)) [ None ↦ omega (arith, rest) | Some y ↦ omega (arith, rest) ]
-
 few_used : (format : Format) (block : List ℕ) → length (used_ids format block) ≤ entries_per_block format
 unfolding used_entries
 few_used format block =
     let count : ℕ = entries_per_block format in
     let few = length-filter_map (λ place. entry_of format (entry_bytes format block place)) (range_with_len 0 count) in
-    omega (arith, few, length-range 0 count, length-map (filter_map (λ place. entry_of format (entry_bytes format block place)) (range_with_len 0 count)) (λ (entry : Entry). entry.id))
+    omega (arith, few, length-range_with_len 0 count, length-map (filter_map (λ place. entry_of format (entry_bytes format block place)) (range_with_len 0 count)) (λ (entry : Entry). entry.id))
 
 -- the data blocks have room for all entries
-data_enough : (format : Format) (file : List ℕ) (blocks : ℕ) → Filled format file blocks → length (leaves file blocks) ≤ entries_per_block format * length (data_blocks file blocks)
+data_enough : (format : Format) (file : List ℕ) (blocks : ℕ) → Filled None format file blocks → length (leaves file blocks) ≤ entries_per_block format * length (data_blocks file blocks)
 data_enough format file blocks filled =
     few_paths (entries_per_block format) (data_blocks file blocks) (leaves file blocks)
-    (each_weaker (λ (leaf : TreePath). StandsIn (ids_at (leaves file blocks) leaf.block) leaf.number) (λ (leaf : TreePath). StandsIn (data_blocks file blocks) leaf.block) (leaves file blocks)
+    (AllByRecursion-weaker (λ (leaf : TreePath). StandsIn (ids_at (leaves file blocks) leaf.block) leaf.number) (λ (leaf : TreePath). StandsIn (data_blocks file blocks) leaf.block) (leaves file blocks)
     (λ leaf stands. data_block_of_id file blocks leaf.block leaf.number stands) (leaves_lead file blocks))
     (λ block stands. omega (arith, filled.counted block stands, few_used format (block_of file block)))
 
 -- the blocks of all roles are all
-all_roles : (file : List ℕ) (blocks free_head : ℕ) (role : OneRole file blocks free_head)
+all_roles : (file : List ℕ) (blocks free_head : ℕ) (role : OneRole None file blocks free_head)
     → 2 + length (level file blocks 1) + length (level file blocks 2) + length (level file blocks 3) + length (data_blocks file blocks) ≤ blocks
 all_roles file blocks free_head role =
-    let all : length (roles file blocks role.free) ≡ blocks =
-    length_same_times (roles file blocks role.free) (range_with_len 0 blocks)
+    let all : length (roles None file blocks role.free) ≡ blocks =
+    length_same_times (roles None file blocks role.free) (range_with_len 0 blocks)
     (λ n. role.once n ∙ elim (cases_lt n blocks) [
       | inl low ↦ let test : nat_lt n blocks ≡ true = grind (arith, nat_tests) in ap (λ (b : Bool). if b then 1 else 0) test ∙ sym (times-range-within 0 blocks n (omega arith) (omega (arith, low)))
       | inr high ↦ let test : nat_lt n blocks ≡ false = grind (arith, nat_tests) in ap (λ (b : Bool). if b then 1 else 0) test ∙ sym (times-range-high 0 blocks n (omega (arith, high)))
     ])
-    ∙ length-range 0 blocks in
+    ∙ length-range_with_len 0 blocks in
     omega (
       arith,
       all,

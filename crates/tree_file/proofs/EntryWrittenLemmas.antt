@@ -1,7 +1,8 @@
 -- An entry of some bytes that is written over the one of its identifier, in a file with a header.
-use Rattle.std.proofs.Common.{◌≡◌, ℕ, ◌+◌, ◌≤◌, List, length, take, drop, Some, sym, ap, subst, ◌∙◌, arith}
+use Rattle.std.proofs.Common.{◌≡◌, ℕ, ◌+◌, ◌*◌, ◌≤◌, List, length, take, drop, Some, refl, sym, ap, subst, ◌∙◌, arith}
 use Rattle.quota_types.specs.declared.file_kind.Format.{Format}
 use Rattle.quota_types.specs.declared.record.Rec.{Rec}
+use Rattle.quota_blocks.specs.FileChange.{Put}
 use Rattle.quota_blocks.specs.QuotaValue.{QuotaValue}
 use Rattle.quota_blocks.specs.Span.{KeepsOutside}
 use Rattle.quota_blocks.specs.World.{overwritten}
@@ -12,9 +13,11 @@ use Rattle.quota_radix.specs.Tree.{numbers_of, leaves}
 use Rattle.tree_build.specs.Size.{ids_in, blocks_needed}
 use Rattle.tree_file.specs.Overwritten.{HasEntryAt}
 use Rattle.tree_file.specs.Rebuilt.{value_changed}
+use Rattle.tree_file.specs.TreeChange.{IsChangedTree}
 use Rattle.tree_build.specs.TreeFile.{TreeStandsFor}
 use Rattle.tree_file.proofs.EnoughLemmas.{ids_of_value}
 use Rattle.tree_build.proofs.MeaningLemmas.{header_format}
+use Rattle.tree_file.proofs.MakesLemmas.{smallest_changed}
 use Rattle.tree_file.proofs.OverwrittenLemmas.{are_overwritten, stands_overwritten}
 use Rattle.tree_file.proofs.SpanLemmas.{keeps-overwritten, length-overwritten, span-overwritten}
 
@@ -43,12 +46,8 @@ module _ (file span : List ℕ) (header : Header) (id at : ℕ) (rec : Rec) (of 
       (subst (λ (bytes : List ℕ). IsEntry header.format bytes id rec)
       (sym (span-overwritten file at span within) ∙ ap (λ (n : ℕ). take n (drop at (overwritten file at span))) size) entry))
 
-  -- the file stands for the value with the record
-  pub written_stands : (value : QuotaValue) → TreeStandsFor file value → TreeStandsFor (overwritten file at span) (value_changed value id (Some rec))
-  written_stands value stands = (both value stands).0
-
   -- and needs as many blocks as before
-  pub written_needed : (value : QuotaValue) → TreeStandsFor file value → header.blocks ≡ blocks_needed value.format (ids_in value.records)
+  written_needed : (value : QuotaValue) → TreeStandsFor file value → header.blocks ≡ blocks_needed value.format (ids_in value.records)
       → header.blocks ≡ blocks_needed value.format (ids_in (value_changed value id (Some rec)).records)
   written_needed value stands least =
       let now : header.blocks ≡ (header_of (overwritten file at span)).blocks = sym written_of.blocks in
@@ -58,3 +57,10 @@ module _ (file span : List ℕ) (header : Header) (id at : ℕ) (rec : Rec) (of 
       ∙ ap numbers_of (both value stands).1
       ∙ sym (ids_of_value file value stands) in
       least ∙ ap (blocks_needed value.format) (sym same)
+
+  -- so it is the file that is built anew with the record, where it had as few blocks as it needs
+  pub written_changed : length file ≡ 1024 * header.blocks → ((value : QuotaValue) → TreeStandsFor file value → header.blocks ≡ blocks_needed value.format (ids_in value.records))
+      → IsChangedTree (Put id rec) file (overwritten file at span)
+  written_changed long least =
+      smallest_changed (Put id rec) file (overwritten file at span) header (λ before is. is) (λ value stands. refl) (λ value stands. (both value stands).0) written_of
+      (length-overwritten file at span within ∙ long) (λ value stands. written_needed value stands (least value stands))

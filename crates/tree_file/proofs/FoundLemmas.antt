@@ -1,5 +1,5 @@
 -- What the parts of a check find, as the damages of a file and as the parts of a sound one.
-use Rattle.std.proofs.Common.{IsTrue, true≢false, ◌≡◌, ℕ, ◌<◌, ◌≤◌, Bool, true, ◌&&◌, nat_le, if◌then◌else◌, List, [], ◌∷◌, ◌++◌, length, get_or, map, Option, refl, sym, ap, subst, ◌∙◌, ◌⊎◌, inl, inr, arith, zero-le}
+use Rattle.std.proofs.Common.{IsTrue, true≢false, ◌≡◌, ℕ, ◌<◌, ◌≤◌, Bool, true, ◌&&◌, nat_le, if◌then◌else◌, List, [], ◌∷◌, ◌++◌, length, get_or, map, Option, refl, sym, ap, subst, ◌∙◌, inl, inr, arith, zero-le, None}
 use Rattle.std.proofs.lemmas.Bool.{cases_Bool, cases_lt, le-leb, leb-true}
 use Rattle.std.proofs.lemmas.List.{get_or_past}
 use Rattle.std.proofs.lemmas.List.FromFn.{get_or-map-range_with_len, length-map-range_with_len}
@@ -19,14 +19,13 @@ use Rattle.quota_blocks.specs.CheckFault.{IsCheckFault}
 use Rattle.tree_build.specs.Compared.{AreEntriesOf, HasEntriesOf, IsDataDefect, IsEntryDefect, leading_ids, is_room, rooms}
 use Rattle.quota_types.specs.Times.{StandsIn, times}
 use Rattle.tree_build.specs.Defect.{IsDefectOf, IsTreeDefect}
-use Rattle.free_chains.specs.ChainDefect.{IsLoop, IsOut}
 use Rattle.quota_types.specs.Damage.{NamesItsId}
 use Rattle.tree_build.specs.Entries.{has_unused, used_ids}
 use Rattle.tree_file.specs.Found.{HasNoEmptyBlock, IsListedDefect}
 use Rattle.tree_file.specs.Groups.{AreGroupsOf}
 use Rattle.tree_build.specs.Roles.{Chained, Filled, has_room}
 use Rattle.quota_radix.specs.Tree.{data_blocks, ids_at, is_data, leaves, level}
-use Rattle.free_chains.specs.Walk.{AreLinksTo, IsWalkDefect, IsWalkDefectOf, linked_blocks, previous_in}
+use Rattle.free_chains.specs.Walk.{AreLinksTo, linked_blocks, previous_in}
 use Rattle.tree_file.specs.EntryList.{AreListed, IsListDefect, IsListDefectOf}
 use Rattle.quota_types.proofs.TimesLemmas.{length_same_times, times-filter-no, times-filter-yes, times-range-high, times-range-within}
 use Rattle.quota_radix.proofs.PathLemmas.{data_block_of_id, data_within, ids_distinct, times-data_blocks, length_ids}
@@ -52,13 +51,13 @@ data_stands : (file : List ℕ) (blocks block : ℕ) → is_data file blocks blo
 data_stands file blocks block is = omega (arith, times-data_blocks file blocks block, ap {B = ℕ} (λ (b : Bool). if b then 1 else 0) is)
 
 room_there : (format : Format) (file : List ℕ) (blocks : ℕ) (groups : List (List ℕ)) (block : ℕ) → AreGroupsOf blocks (leaves file blocks) groups → block < blocks
-    → is_room format file groups block ≡ has_room format file blocks block
+    → is_room format file groups block ≡ has_room None format file blocks block
 room_there format file blocks groups block are low =
     ap (λ (ids : List ℕ). nat_le 1 (length ids) && has_unused format (block_of file block)) (ids_there blocks (leaves file blocks) groups block are low)
     ∙ ap (λ (n : ℕ). nat_le 1 n && has_unused format (block_of file block)) (length_ids (leaves file blocks) block)
 
 -- a data block with room is a block
-room_within : (format : Format) (file : List ℕ) (blocks block : ℕ) → has_room format file blocks block ≡ true → block < blocks
+room_within : (format : Format) (file : List ℕ) (blocks block : ℕ) → has_room None format file blocks block ≡ true → block < blocks
 room_within format file blocks block room = elim (cases_Bool (is_data file blocks block)) [
   | inl is ↦ data_within file blocks block is
   | inr other ↦ absurd (true≢false (sym room ∙ ap (λ (b : Bool). b && has_unused format (block_of file block)) other))
@@ -66,7 +65,7 @@ room_within format file blocks block room = elim (cases_Bool (is_data file block
 
 -- the data blocks with room, as the check finds them
 times_rooms : (format : Format) (file : List ℕ) (blocks : ℕ) (groups : List (List ℕ)) (block : ℕ) → AreGroupsOf blocks (leaves file blocks) groups
-    → times (rooms format file groups blocks) block ≡ (if has_room format file blocks block then 1 else 0)
+    → times (rooms format file groups blocks) block ≡ (if has_room None format file blocks block then 1 else 0)
 times_rooms format file blocks groups block are = elim (cases_lt block blocks) [
   | inl low ↦
       let same = room_there format file blocks groups block are low in
@@ -82,7 +81,7 @@ times_rooms format file blocks groups block are = elim (cases_lt block blocks) [
         | inl room ↦ times-filter-yes (is_room format file groups) (range_with_len 0 blocks) block room ∙ times-range-high 0 blocks block (omega arith)
         | inr none ↦ times-filter-no (is_room format file groups) (range_with_len 0 blocks) block none
       ] in
-      gone ∙ elim (cases_Bool (has_room format file blocks block)) [
+      gone ∙ elim (cases_Bool (has_room None format file blocks block)) [
         | inl room ↦ absurd (let low = room_within format file blocks block room in omega arith)
         | inr none ↦ ap (λ (b : Bool). if b then 1 else 0) (sym none)
       ]
@@ -90,7 +89,7 @@ times_rooms format file blocks groups block are = elim (cases_lt block blocks) [
 
 pub chained : (format : Format) (file : List ℕ) (blocks first : ℕ) (groups : List (List ℕ)) (links : List Link) → AreGroupsOf blocks (leaves file blocks) groups
     → IsChain file blocks first (linked_blocks links) 0 → AreLinksTo file first links 0
-    → AreListed (rooms format file groups blocks) (linked_blocks links) (previous_in links) → Chained format file blocks first
+    → AreListed (rooms format file groups blocks) (linked_blocks links) (previous_in links) → Chained None format file blocks first
 chained format file blocks first groups links are is_chain linked listed = record {
   chain = linked_blocks links;
   is_chain = is_chain;
@@ -99,7 +98,7 @@ chained format file blocks first groups links are is_chain linked listed = recor
 }
 
 pub filled : (format : Format) (file : List ℕ) (blocks : ℕ) (groups : List (List ℕ)) → AreGroupsOf blocks (leaves file blocks) groups
-    → ((block : ℕ) → block < blocks → HasEntriesOf format file block (leading_ids groups block)) → HasNoEmptyBlock file blocks → Filled format file blocks
+    → ((block : ℕ) → block < blocks → HasEntriesOf format file block (leading_ids groups block)) → HasNoEmptyBlock file blocks → Filled None format file blocks
 filled format file blocks groups are entries not_empty =
     let here : (block : ℕ) → is_data file blocks block ≡ true → AreEntriesOf (stated_count file block) (used_ids format (block_of file block)) (ids_at (leaves file blocks) block) = λ block is.
     let low = data_within file blocks block is in
@@ -156,36 +155,6 @@ data_defect format file there numbers blocks groups damage same_file same are is
     data_defect_there format file numbers groups damage (subst (λ (b : ℕ). AreGroupsOf b (leaves file b) groups) (sym same) are)
     (subst (λ (f : List ℕ). IsDataDefect format f (leading_ids groups damage.block) damage.block damage) same_file is)
 
--- the damages of the two lists
-abbrev IsEither : List ℕ → HeaderNumbers → ℕ → Type 0
-IsEither file numbers head = (numbers.free ≡ head) ⊎ (numbers.first ≡ head)
-
-walk_defect_of : (format : Format) (file : List ℕ) (numbers : HeaderNumbers) (head block id : ℕ) (kind : DamageKind) → IsEither file numbers head → id ≡ 0
-    → IsWalkDefectOf file numbers.blocks head kind block → IsDefectOf format file numbers kind block id × NamesItsId kind id
-walk_defect_of format file numbers head block id ChainOut (inl e) no_id is = (inl (subst (λ (h : ℕ). IsOut file numbers.blocks h block) (sym e) is), no_id)
-walk_defect_of format file numbers head block id ChainOut (inr e) no_id is = (inr (subst (λ (h : ℕ). IsOut file numbers.blocks h block) (sym e) is), no_id)
-walk_defect_of format file numbers head block id ChainLoop (inl e) no_id is = (inl (subst (λ (h : ℕ). IsLoop file numbers.blocks h block) (sym e) is), no_id)
-walk_defect_of format file numbers head block id ChainLoop (inr e) no_id is = (inr (subst (λ (h : ℕ). IsLoop file numbers.blocks h block) (sym e) is), no_id)
-walk_defect_of format file numbers head block id Short e no_id is = absurd is
-walk_defect_of format file numbers head block id RefOut e no_id is = absurd is
-walk_defect_of format file numbers head block id TwoRoles e no_id is = absurd is
-walk_defect_of format file numbers head block id NoRole e no_id is = absurd is
-walk_defect_of format file numbers head block id EmptyTree e no_id is = absurd is
-walk_defect_of format file numbers head block id ForeignInChain e no_id is = absurd is
-walk_defect_of format file numbers head block id MissingInChain e no_id is = absurd is
-walk_defect_of format file numbers head block id BadPrev e no_id is = absurd is
-walk_defect_of format file numbers head block id BadCount e no_id is = absurd is
-walk_defect_of format file numbers head block id MissingEntry e no_id is = absurd is
-walk_defect_of format file numbers head block id StrayEntry e no_id is = absurd is
-walk_defect_of format file numbers head block id DoubleEntry e no_id is = absurd is
-walk_defect_of format file numbers head block id PartialRecord e no_id is = absurd is
-
-pub walk_defect : (format : Format) (file : List ℕ) (numbers : HeaderNumbers) (blocks head : ℕ) (damage : Damage) → numbers.blocks ≡ blocks
-    → (numbers.free ≡ head) ⊎ (numbers.first ≡ head) → IsWalkDefect file blocks head damage → IsTreeDefect format file numbers damage
-walk_defect format file numbers blocks head damage same either is =
-    walk_defect_of format file numbers head damage.block damage.id damage.kind either is.no_id
-    (subst (λ (b : ℕ). IsWalkDefectOf file b head damage.kind damage.block) (sym same) is.defect)
-
 index_map : (f : ℕ → ℕ) (before : List ℕ) (n : ℕ) (behind : List ℕ) → get_or (map f (before ++ n ∷ behind)) (length before) 0 ≡ f n
 index_map f [] n behind = refl
 index_map f (b ∷ before) n behind = index_map f before n behind
@@ -199,7 +168,7 @@ list_defect_of format file numbers groups chain previous block id ForeignInChain
     end = 0;
     is_chain = is_chain;
     listed = is.0;
-    foreign = elim (cases_Bool (has_room format file numbers.blocks block)) [
+    foreign = elim (cases_Bool (has_room None format file numbers.blocks block)) [
       | inl room ↦ absurd (omega (arith, is.1, times_rooms format file numbers.blocks groups block are, ap {B = ℕ} (λ (b : Bool). if b then 1 else 0) room))
       | inr none ↦ none
     ];
@@ -211,7 +180,7 @@ list_defect_of format file numbers groups chain previous block id MissingInChain
     chain = chain;
     end = 0;
     is_chain = is_chain;
-    room = elim (cases_Bool (has_room format file numbers.blocks block)) [
+    room = elim (cases_Bool (has_room None format file numbers.blocks block)) [
       | inl room ↦ room
       | inr none ↦ absurd (omega (arith, is.0, times_rooms format file numbers.blocks groups block are, ap {B = ℕ} (λ (b : Bool). if b then 1 else 0) none))
     ];

@@ -1,18 +1,18 @@
 -- A tree file of which the bytes of the two grace periods were written.
-use Rattle.std.proofs.Common.{◌≡◌, ℕ, zero, suc, ◌+◌, ◌*◌, ◌<◌, ◌≤◌, List, [], ◌++◌, length, take, drop, replicate, get_or, min, ◌-◌, refl, sym, ap, subst, ◌∙◌, arith, inl, inr, length-drop, length-take}
+use Rattle.std.proofs.Common.{◌≡◌, ℕ, zero, suc, ◌+◌, ◌*◌, ◌<◌, ◌≤◌, List, ◌++◌, length, take, drop, replicate, get_or, min, ◌-◌, refl, sym, ap, subst, ◌∙◌, arith, inl, inr, length-drop, length-take}
 use Rattle.std.proofs.lemmas.Bool.{cases_lt}
 use Rattle.std.proofs.lemmas.List.{ext_get_or, get_or-drop, get_or-take, get_or_append_left, get_or_past}
 use Rattle.std.proofs.Math.Seq.{get_or-append_right}
 use Rattle.quota_types.specs.Bytes.{byte_at, number_at}
 use Rattle.quota_types.specs.declared.record.Grace.{Grace}
-use Rattle.quota_blocks.specs.QuotaValue.{QuotaValue, with_grace}
+use Rattle.quota_blocks.specs.FileChange.{SetGrace}
 use Rattle.quota_blocks.specs.Span.{KeepsOutside}
 use Rattle.quota_blocks.specs.World.{overwritten}
-use Rattle.quota_types.proofs.BytesLemmas.{number_at-drop, number_at-take}
+use Rattle.quota_types.proofs.BytesLemmas.{number_at-drop, number_at-take, number_at-past}
 use Rattle.entry_codec.specs.declared.header.Header.{Header}
 use Rattle.entry_codec.specs.Header.{AreOf, format_of, header_of}
 use Rattle.quota_blocks.specs.Block.{block_of}
-use Rattle.tree_build.specs.TreeFile.{TreeStandsFor}
+use Rattle.tree_file.specs.TreeChange.{IsChangedTree}
 use Rattle.quota_blocks.proofs.WordLemmas.{number_same}
 use Rattle.tree_file.proofs.HeaderKeptLemmas.{KeepsHeader, stands_kept}
 use Rattle.tree_file.proofs.SpanLemmas.{keeps-overwritten, length-overwritten, span-overwritten}
@@ -42,61 +42,63 @@ graced_header old new keeps = record {
   first = behind old new 28 keeps (omega arith);
 }
 
-pub stands_graced : (old new : List ℕ) (value : QuotaValue) (grace : Grace) → TreeStandsFor old value → length new ≡ length old → KeepsOutside 8 16 old new
-    → number_at 4 new 8 ≡ grace.block → number_at 4 new 12 ≡ grace.inode → TreeStandsFor new (with_grace value grace)
-stands_graced old new value grace stands long keeps block inode =
-    stands_kept old new value grace stands (graced_header old new keeps) (λ number some low. graced_block old new number long keeps some)
-    (λ more. subst (λ (n : ℕ). 1024 * (header_of old).blocks ≤ n) (sym long) (stands.sound.long more)) (sym block) (sym inode)
-
-pub are_graced : (old new : List ℕ) (header : Header) (grace : Grace) → AreOf header (header_of old) → KeepsOutside 8 16 old new
-    → number_at 4 new 8 ≡ grace.block → number_at 4 new 12 ≡ grace.inode → AreOf (record header { grace = grace }) (header_of new)
-are_graced old new header grace are keeps block inode =
-    let kept : KeepsHeader (header_of old) (header_of new) = graced_header old new keeps in
-    record {
-      magic = kept.magic ∙ are.magic;
-      version = ap format_of kept.version ∙ are.version;
-      block_grace = block;
-      inode_grace = inode;
-      flags = kept.flags ∙ are.flags;
-      blocks = kept.blocks ∙ are.blocks;
-      free = kept.free ∙ are.free;
-      first = kept.first ∙ are.first;
-    }
-
--- the bytes of the two grace periods were written over those of a file
-pub record IsGracedSpan (grace : Grace) (file after : List ℕ) : Type 0 where
-  pub long : length after ≡ length file
-  pub others : KeepsOutside 8 16 file after
-  pub block : number_at 4 after 8 ≡ grace.block
-  pub inode : number_at 4 after 12 ≡ grace.inode
-
-pub graced_span : (file span : List ℕ) (grace : Grace) → 16 ≤ length file → length span ≡ 8 → number_at 4 span 0 ≡ grace.block → number_at 4 span 4 ≡ grace.inode
-    → IsGracedSpan grace file (overwritten file 8 span)
-graced_span file span grace room size block inode =
-    let within : 8 + length span ≤ length file = omega (arith, room, size) in
-    let after : List ℕ = overwritten file 8 span in
-    let part : take 8 (drop 8 after) ≡ span = ap (λ (n : ℕ). take n (drop 8 after)) (sym size) ∙ span-overwritten file 8 span within in
-    let read : (at : ℕ) → at + 4 ≤ 8 → number_at 4 after (8 + at) ≡ number_at 4 span at = λ at low.
-    sym (number_at-take 4 8 (drop 8 after) at low ∙ number_at-drop 4 8 after at) ∙ ap (λ (bytes : List ℕ). number_at 4 bytes at) part in
-    record {
-      long = length-overwritten file 8 span within;
-      others = subst (λ (n : ℕ). KeepsOutside 8 (8 + n) file after) size (keeps-overwritten file 8 span within);
-      block = read 0 (omega arith) ∙ block;
-      inode = read 4 (omega arith) ∙ inode;
-    }
-
-no_number : (at : ℕ) → number_at 4 [] at ≡ 0
-unfolding number_at
-no_number at = refl
-
 -- a file that has blocks has the bytes that say so
 pub has_blocks : (file : List ℕ) (header : Header) → AreOf header (header_of file) → 2 ≤ header.blocks → 20 < length file
 has_blocks file header are two = elim (cases_lt 20 (length file)) [
   | inl long ↦ long
-  | inr short ↦
-      let none : number_at 4 file 20 ≡ number_at 4 [] 20 = number_same 4 20 file [] (λ k from to. get_or_past file k 0 (omega (arith, short, from))) in
-      absurd (omega (arith, two, are.blocks, none ∙ no_number 20))
+  | inr short ↦ absurd (omega (arith, two, are.blocks, number_at-past 4 20 file short))
 ]
+
+module _ (file span : List ℕ) (header : Header) (grace : Grace) (are : AreOf header (header_of file)) (two : 2 ≤ header.blocks) (size : length span ≡ 8)
+    (first : number_at 4 span 0 ≡ grace.block) (second : number_at 4 span 4 ≡ grace.inode) where
+  abbrev after : List ℕ
+  after = overwritten file 8 span
+
+  within : 8 + length span ≤ length file
+  within = omega (arith, size, has_blocks file header are two)
+
+  keeps : KeepsOutside 8 16 file after
+  keeps = subst (λ (n : ℕ). KeepsOutside 8 (8 + n) file after) size (keeps-overwritten file 8 span within)
+
+  read : (at : ℕ) → at + 4 ≤ 8 → number_at 4 after (8 + at) ≡ number_at 4 span at
+  read at low =
+      sym (number_at-take 4 8 (drop 8 after) at low ∙ number_at-drop 4 8 after at)
+      ∙ ap (λ (bytes : List ℕ). number_at 4 bytes at) (ap (λ (n : ℕ). take n (drop 8 after)) (sym size) ∙ span-overwritten file 8 span within)
+
+  block : number_at 4 after 8 ≡ grace.block
+  block = read 0 (omega arith) ∙ first
+
+  inode : number_at 4 after 12 ≡ grace.inode
+  inode = read 4 (omega arith) ∙ second
+
+  -- once the bytes of the two periods were written over those of a file, its header has them
+  pub graced_of : AreOf (record header { grace = grace }) (header_of after)
+  graced_of =
+      let kept : KeepsHeader (header_of file) (header_of after) = graced_header file after keeps in
+      record {
+        magic = kept.magic ∙ are.magic;
+        version = ap format_of kept.version ∙ are.version;
+        block_grace = block;
+        inode_grace = inode;
+        flags = kept.flags ∙ are.flags;
+        blocks = kept.blocks ∙ are.blocks;
+        free = kept.free ∙ are.free;
+        first = kept.first ∙ are.first;
+      }
+
+  -- and it is what the change of the grace periods makes
+  pub graced_changed : IsChangedTree (SetGrace grace) file after
+  graced_changed = record {
+    busy = λ value stands. refl;
+    stands = λ value stands. stands_kept file after value grace stands (graced_header file after keeps) (λ number some low. graced_block file after number (length-overwritten file 8 span within) keeps some)
+        (λ more. subst (λ (n : ℕ). 1024 * (header_of file).blocks ≤ n) (sym (length-overwritten file 8 span within)) (stands.sound.long more)) (sym block) (sym inode);
+    made = λ value before stands same. record {
+      long = length-overwritten file 8 span within ∙ ap (λ (bytes : List ℕ). length bytes) (sym same);
+      others = subst (λ (bytes : List ℕ). KeepsOutside 8 16 bytes after) (sym same) keeps;
+      block_grace = block;
+      inode_grace = inode;
+    };
+  }
 
 -- two beginnings with the same bytes have the same header
 pub same_header : (one other : List ℕ) → ((k : ℕ) → k < 32 → byte_at one k ≡ byte_at other k) → header_of one ≡ header_of other

@@ -2,7 +2,7 @@
 use Rattle.std.proofs.Common.{◌≡◌, ◌≢◌, ℕ, suc, ◌+◌, ◌<◌, ◌≤◌, ◌==◌, cond, List, [], ◌∷◌, ◌++◌, length, get_or, set, map, take, filter, refl, sym, ap, subst, ◌∙◌, inl, inr, arith, length-set, get_or-set_same, get_or-set_other, nat_le}
 use Rattle.std.specs.Prelude.{Bool, true, false}
 use Rattle.std.specs.List.{range_with_len}
-use Rattle.std.proofs.lemmas.List.{append_assoc, append-nil, get_or-map, length-map, map-append, map-set, same_lists, take_all, take_more}
+use Rattle.std.proofs.lemmas.List.{append_assoc, append-nil, get_or-map, length-map, map-append, map-set, same_lists, take_more}
 use Rattle.std.proofs.lemmas.List.Elements.{filter-append}
 use Rattle.std.proofs.lemmas.List.FromFn.{get_or-map-range_with_len, length-map-range_with_len, map-range_with_len_more}
 use Rattle.std.proofs.lemmas.Bool.{cases_eq, eq-eqb, eqb-false, eqb-true, le-leb, lt-leb, ne_eqb}
@@ -63,11 +63,6 @@ groups_more blocks leaves i d groups ids low inside are is =
     ∙ set_made (ids_at first) (ids_at (first ++ leaf ∷ [])) blocks leaf.block (ids ++ leaf.number ∷ []) inside
     (ids_at_same first leaf ∙ ap (λ (ns : List ℕ). ns ++ leaf.number ∷ []) here) (λ k other. ids_at_other first leaf k other)
     ∙ ap (λ (ps : List TreePath). map (ids_at ps) (range_with_len 0 blocks)) (sym (take_more leaves i d low))
-
--- all leaves
-pub groups_all : (blocks : ℕ) (leaves : List TreePath) (i : ℕ) (groups : List (List ℕ)) → length leaves ≤ i → AreGroupsOf blocks (take i leaves) groups
-    → AreGroupsOf blocks leaves groups
-groups_all blocks leaves i groups all are = subst (λ (ps : List TreePath). AreGroupsOf blocks ps groups) (take_all i leaves all) are
 
 -- a block has as many identifiers as leaves name it
 pub count_ids : (leaves : List TreePath) (block : ℕ) → length (ids_at leaves block) ≡ times (blocks_of leaves) block

@@ -1,6 +1,6 @@
 -- A file whose header and blocks are those of another one, but maybe for the grace periods, stands for the same value with
 -- other grace periods.
-use Rattle.std.proofs.Common.{◌≡◌, ℕ, ◌*◌, ◌<◌, ◌≤◌, List, length, take, drop, sym, ap, subst, ◌∙◌, inl, inr, arith}
+use Rattle.std.proofs.Common.{◌≡◌, ℕ, ◌*◌, ◌<◌, ◌≤◌, List, length, take, drop, sym, ap, subst, ◌∙◌, inl, inr, arith, None}
 use Rattle.std.proofs.lemmas.Bool.{cases_lt}
 use Rattle.std.proofs.lemmas.List.{length-take-le, take_all, take-append-drop}
 use Rattle.quota_types.proofs.BytesLemmas.{number_at-take}
@@ -42,11 +42,11 @@ pub sound_kept : (format : Format) (old new : List ℕ) → IsSound format old (
 sound_kept format old new sound kept same long = record {
   two = subst (λ (n : ℕ). 2 ≤ n) (sym kept.blocks) sound.two;
   long = subst (λ (n : ℕ). 2 < n → 1024 * n ≤ length new) (sym kept.blocks) long;
-  roles = subst (λ (n : ℕ). OneRole new n (header_of new).free) (sym kept.blocks)
-      (subst (λ (n : ℕ). OneRole new (header_of old).blocks n) (sym kept.free) (one_role_same format old new (header_of old).blocks sound.two same (header_of old).free sound.roles));
-  chained = subst (λ (n : ℕ). Chained format new n (header_of new).first) (sym kept.blocks)
-      (subst (λ (n : ℕ). Chained format new (header_of old).blocks n) (sym kept.first) (chained_same format old new (header_of old).blocks sound.two same (header_of old).first sound.chained));
-  filled = subst (λ (n : ℕ). Filled format new n) (sym kept.blocks) (filled_same format old new (header_of old).blocks sound.two same sound.filled);
+  roles = subst (λ (n : ℕ). OneRole None new n (header_of new).free) (sym kept.blocks)
+      (subst (λ (n : ℕ). OneRole None new (header_of old).blocks n) (sym kept.free) (one_role_same format old new (header_of old).blocks sound.two same (header_of old).free sound.roles));
+  chained = subst (λ (n : ℕ). Chained None format new n (header_of new).first) (sym kept.blocks)
+      (subst (λ (n : ℕ). Chained None format new (header_of old).blocks n) (sym kept.first) (chained_same format old new (header_of old).blocks sound.two same (header_of old).first sound.chained));
+  filled = subst (λ (n : ℕ). Filled None format new n) (sym kept.blocks) (filled_same format old new (header_of old).blocks sound.two same sound.filled);
 }
 
 pub stands_kept : (old new : List ℕ) (value : QuotaValue) (grace : Grace) → TreeStandsFor old value → KeepsHeader (header_of old) (header_of new) → SameBlocks (header_of old).blocks old new

@@ -16,3 +16,4 @@ pub mod ReadLemmas
 pub mod RoleLemmas
 pub mod SameBlocksLemmas
 pub mod SpanLemmas
+pub mod WholeBlocksLemmas

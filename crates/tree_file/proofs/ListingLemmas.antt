@@ -1,5 +1,5 @@
 -- The entries of a tree file with one of them changed, one after another.
-use Rattle.std.proofs.Common.{◌≡◌, ◌≢◌, ℕ, suc, ◌-◌, ◌^◌, ◌<◌, ◌≤◌, Bool, cond, List, [], ◌∷◌, ◌++◌, map, Option, Some, None, refl, sym, ap, subst, ◌∙◌, inl, inr, arith, eq-eqb, ne_eqb, append_assoc, append-nil}
+use Rattle.std.proofs.Common.{◌≡◌, ◌≢◌, ℕ, suc, ◌<◌, ◌≤◌, Bool, cond, List, [], ◌∷◌, ◌++◌, map, Option, Some, None, refl, sym, ap, subst, ◌∙◌, inl, inr, arith, eq-eqb, ne_eqb, append_assoc, append-nil}
 use Rattle.std.specs.Prelude.{IfSome, IsSomeAnd}
 use Rattle.std.proofs.lemmas.Bool.{cases_lt}
 use Rattle.std.proofs.lemmas.Bool.Decides.{eqb_tells}
@@ -10,18 +10,20 @@ use Rattle.std.specs.List.{AllByRecursion}
 use Rattle.std.specs.Ordering.{nat_cmp}
 use Rattle.quota_types.specs.declared.record.Entry.{Entry}
 use Rattle.quota_types.specs.declared.record.Rec.{Rec}
+use Rattle.quota_types.proofs.AscendsLemmas.{Ascends}
+use Rattle.quota_types.proofs.ListLemmas.{AllByRecursion-weaker}
 use Rattle.quota_blocks.specs.QuotaValue.{Records, IsAfter, IsNextAfter, QuotaValue}
-use Rattle.quota_blocks.proofs.EntriesLemmas.{entries_after, entries_after-all, entries_after-next, entries_after-end}
+use Rattle.quota_blocks.proofs.EntriesLemmas.{entries_after, entries_after-all, entries_after-next, entries_after-end, IsAfter-more}
 use Rattle.entry_codec.specs.declared.header.Header.{Header}
 use Rattle.entry_codec.specs.Header.{AreOf, header_of}
 use Rattle.quota_blocks.specs.Listed.{ids_of, records_of, value_of}
+use Rattle.quota_blocks.proofs.ListedLemmas.{map-pairs_of, pairs_of}
 use Rattle.tree_file.specs.Listing.{IsListOf, with_change}
 use Rattle.tree_build.specs.Size.{ids_in}
 use Rattle.tree_file.specs.Rebuilt.{value_changed}
 use Rattle.tree_build.specs.TreeFile.{TreeStandsFor}
 use Rattle.tree_build.proofs.MeaningLemmas.{header_flags, header_format, header_grace, header_kind}
-use Rattle.quota_radix.proofs.OrderLemmas.{Ascends}
-use Rattle.quota_radix.proofs.PathLemmas.{each-append, each_weaker}
+use Rattle.quota_radix.proofs.PathLemmas.{each-append}
 
 -- the record of another identifier stays
 removed_other : (records : Records) (id k : ℕ) → k ≢ id → get (remove records id) k ≡ get records k
@@ -52,10 +54,6 @@ removed_none records id k none = elim (eqb_tells k id) [
   | inr other ↦ removed_other records id k other.1 ∙ none other.1
 ]
 
-after_more : (after : Option ℕ) (id more : ℕ) → IsAfter after id → id < more → IsAfter after more
-after_more None id more h lt = tt
-after_more (Some after) id more h lt = omega arith
-
 -- another entry that is next is next where one was taken out
 pub next_other : (records : Records) (after : Option ℕ) (id : ℕ) (found : Option Entry) → IsNextAfter after records found → IfSome found (λ entry. entry.id ≢ id)
     → IsNextAfter after (remove records id) found
@@ -78,7 +76,7 @@ next_behind records after entry id None next same behind = λ k later. none_befo
 next_behind records after entry id (Some other) next same behind =
     let from : IsAfter after id = subst (IsAfter after) same next.0 in
     let apart : other.id ≢ id = omega (arith, behind.0) in (
-      after_more after id other.id from behind.0,
+      IsAfter-more after id other.id from behind.0,
       removed_other records id other.id apart ∙ behind.1,
       λ k later less. none_before records after entry id k next same later (λ more. behind.2 k more less),
     )
@@ -104,19 +102,6 @@ next_still records after id rec (Some entry) next apart not_due = (
       let other : k ≢ id = λ same. let le : entry.id ≤ id = not_due (subst (IsAfter after) same later) in omega (arith, le, less, same) in
       inserted_other records id k rec other ∙ next.2 k later less,
 )
-
--- how many identifiers there may be after one
-abbrev pub ids_after : Option ℕ → ℕ
-ids_after None = 2 ^ 32
-ids_after (Some id) = 2 ^ 32 - 1 - id
-
-pub ids_after-falls : (after : Option ℕ) (id : ℕ) → IsAfter after id → id < 2 ^ 32 → ids_after (Some id) < ids_after after
-ids_after-falls None id is fits = omega arith
-ids_after-falls (Some after) id is fits = omega arith
-
--- entries as pairs
-abbrev pub pairs_of : List Entry → List (ℕ × Rec)
-pairs_of list = map (λ entry. (entry.id, entry.rec)) list
 
 -- the entries up to an identifier are listed, and those behind it are left
 abbrev pub IsListedUpTo : Records → Option ℕ → List Entry → Type 0
@@ -159,12 +144,12 @@ pub ascends_more : (after : Option ℕ) (list now : List Entry) (entry : Entry) 
 ascends_more after list now entry up is e =
     let ids : ids_of now ≡ ids_of list ++ entry.id ∷ [] = ap ids_of e ∙ map-append (λ (x : Entry). x.id) list (entry ∷ []) in
     let less : AllByRecursion (λ n. n < entry.id) (ids_of list) =
-    each_weaker (λ n. ¬ IsAfter after n) (λ n. n < entry.id) (ids_of list) (λ n not. less_than_after after n entry.id is not) up.below in
+    AllByRecursion-weaker (λ n. ¬ IsAfter after n) (λ n. n < entry.id) (ids_of list) (λ n not. less_than_after after n entry.id is not) up.below in
     record {
       ascends = subst (Ascends 0) (sym ids) (ascends_push 0 (ids_of list) entry.id (omega arith) up.ascends less);
       below = subst (AllByRecursion (λ n. ¬ IsAfter (Some entry.id) n)) (sym ids)
           (each-append (λ n. ¬ IsAfter (Some entry.id) n) (ids_of list) (entry.id ∷ [])
-          (each_weaker (λ n. n < entry.id) (λ n. ¬ IsAfter (Some entry.id) n) (ids_of list) (λ n lt after. omega (arith, lt, after)) less) (λ after. omega (arith, after), tt));
+          (AllByRecursion-weaker (λ n. n < entry.id) (λ n. ¬ IsAfter (Some entry.id) n) (ids_of list) (λ n lt after. omega (arith, lt, after)) less) (λ after. omega (arith, after), tt));
     }
 
 -- the records of a list are those whose entries it has
@@ -173,13 +158,9 @@ records_listed records list listed =
     same_map nat_cmp_total nat_cmp-IsAntisymmetric (records_of list) records
     (λ k. get-from_entries nat_cmp_total (pairs_of list) k ∙ ap (find nat_cmp k) listed ∙ sym (get-entries records k))
 
-ids_of_pairs : (list : List Entry) → map (λ (pair : ℕ × Rec). pair.0) (pairs_of list) ≡ ids_of list
-ids_of_pairs [] = refl
-ids_of_pairs (entry ∷ list) = ap (λ (ids : List ℕ). entry.id ∷ ids) (ids_of_pairs list)
-
 -- and its identifiers theirs
 pub ids_listed : (records : Records) (list : List Entry) → IsListOf records list → ids_of list ≡ ids_in records
-ids_listed records list listed = sym (ids_of_pairs list) ∙ ap (λ (ps : List (ℕ × Rec)). map (λ (pair : ℕ × Rec). pair.0) ps) listed
+ids_listed records list listed = sym (map-pairs_of list) ∙ ap (λ (ps : List (ℕ × Rec)). map (λ (pair : ℕ × Rec). pair.0) ps) listed
 
 -- the value of a list is the changed one, where the list has the changed entries and all else is the header's
 pub value_listed : (file : List ℕ) (header : Header) (value : QuotaValue) (id : ℕ) (rec : Option Rec) (list : List Entry) → AreOf header (header_of file) → TreeStandsFor file value

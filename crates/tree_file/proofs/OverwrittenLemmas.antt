@@ -1,10 +1,10 @@
 -- An entry that is overwritten where it stands changes the record of its identifier and nothing else.
-use Rattle.std.proofs.Common.{◌≡◌, ◌≢◌, ℕ, zero, suc, ◌+◌, ◌*◌, ◌<◌, ◌≤◌, Bool, true, false, cond, ◌||◌, ◌==◌, List, [], ◌∷◌, ◌++◌, length, map, find, take, drop, replicate, Option, Some, None, option_and_then, option_map, refl, sym, ap, subst, ◌∙◌, inl, inr, arith, ne_eqb, eq-eqb, if◌then◌else◌, length-take, length-drop, length-append}
+use Rattle.std.proofs.Common.{◌≡◌, ◌≢◌, ℕ, zero, suc, ◌+◌, ◌*◌, ◌<◌, ◌≤◌, Bool, true, false, cond, ◌||◌, ◌==◌, List, [], ◌∷◌, ◌++◌, length, map, find, take, drop, Option, Some, None, option_and_then, option_map, refl, sym, ap, subst, ◌∙◌, inl, inr, arith, ne_eqb, eq-eqb, if◌then◌else◌, length-take, length-drop}
 use Rattle.std.proofs.Math.Nat.{mul-le-mul_left}
 use Rattle.std.proofs.lemmas.Bool.{cases_Bool, cases_eq, cases_lt}
 use Rattle.std.proofs.lemmas.Bool.Decides.{eqb_tells}
 use Rattle.std.proofs.lemmas.Grind.{same_number_lists}
-use Rattle.std.proofs.lemmas.List.{get_or-drop, get_or-take, length-replicate}
+use Rattle.std.proofs.lemmas.List.{get_or-drop, get_or-take}
 use Rattle.std.specs.FinMap.{get, insert}
 use Rattle.std.specs.List.{cons_option, filter_map, list_any, range_with_len}
 use Rattle.std.specs.Option.{option_or}
@@ -29,7 +29,7 @@ use Rattle.tree_build.specs.Roles.{OneRole, roles}
 use Rattle.quota_radix.specs.Tree.{data_blocks, ids_at, leaves, level, lower_blocks, tree_blocks}
 use Rattle.tree_build.specs.TreeFile.{TreeStandsFor, record_in, tree_record}
 use Rattle.quota_types.proofs.TimesLemmas.{times-append, times-cons, times-cons-other, times-cons-same, stands_left, stands_right}
-use Rattle.quota_blocks.proofs.WordLemmas.{number_same, same_part, byte_in_block}
+use Rattle.quota_blocks.proofs.WordLemmas.{number_same, same_part, byte_at-block_of, length-block_of}
 use Rattle.tree_build.proofs.RecordLemmas.{used_is, found_or_later}
 use Rattle.tree_file.proofs.GracedLemmas.{same_header}
 use Rattle.tree_file.proofs.HeaderKeptLemmas.{KeepsHeader, same_numbers, sound_kept}
@@ -43,12 +43,6 @@ entry_fits : (format : Format) (place : ℕ) → place < entries_per_block forma
 entry_fits V1 place low = absurd (omega (arith, low))
 entry_fits V2R0 place low = omega (arith, low)
 entry_fits V2R1 place low = omega (arith, low)
-
--- a block has 1,024 bytes
-length_block : (file : List ℕ) (number : ℕ) → length (block_of file number) ≡ 1024
-unfolding block_of
-length_block file number =
-    omega (arith, length-take 1024 (drop (1024 * number) file ++ replicate 1024 0), length-append (drop (1024 * number) file) (replicate 1024 0), length-replicate {A = ℕ} 1024 0)
 
 -- the identifier of an entry, where there is one
 abbrev id_of : Option Entry → Option ℕ
@@ -169,17 +163,17 @@ module _ (format : Format) (old new : List ℕ) (block place : ℕ) (low : place
       → (1024 * block + (16 + entry_size format * place) ≤ 1024 * number + at → 1024 * block + (16 + entry_size format * place) + entry_size format ≤ 1024 * number + at)
       → byte_at (block_of new number) at ≡ byte_at (block_of old number) at
   other_byte number at within past =
-      byte_in_block new number at within
+      byte_at-block_of new number at within
       ∙ elim (cases_lt (1024 * number + at) (1024 * block + (16 + entry_size format * place))) [
         | inl less ↦ keeps.before (1024 * number + at) less
         | inr more ↦ keeps.behind (1024 * number + at) (past more)
       ]
-      ∙ sym (byte_in_block old number at within)
+      ∙ sym (byte_at-block_of old number at within)
 
   other_block : (number : ℕ) → number ≢ block → block_of new number ≡ block_of old number
   other_block number other =
-      same_number_lists (block_of new number) (block_of old number) (length_block new number ∙ sym (length_block old number))
-      (λ at lt. other_byte number at (omega (arith, lt, length_block new number)) (λ from. omega (arith, other, lt, length_block new number, from, fits)))
+      same_number_lists (block_of new number) (block_of old number) (length-block_of new number ∙ sym (length-block_of old number))
+      (λ at lt. other_byte number at (omega (arith, lt, length-block_of new number)) (λ from. omega (arith, other, lt, length-block_of new number, from, fits)))
 
   -- what stands before the entries of a block
   first_number : (width at number : ℕ) → at + width ≤ 16 → number_at width (block_of new number) at ≡ number_at width (block_of old number) at
@@ -191,7 +185,7 @@ module _ (format : Format) (old new : List ℕ) (block place : ℕ) (low : place
   other_entry : (at : ℕ) → at < entries_per_block format → at ≢ place → entry_bytes format (block_of new block) at ≡ entry_bytes format (block_of old block) at
   other_entry at few other =
       let size : ℕ = entry_size format in
-      same_part size (16 + size * at) (block_of new block) (block_of old block) (length_block new block ∙ sym (length_block old block))
+      same_part size (16 + size * at) (block_of new block) (block_of old block) (length-block_of new block ∙ sym (length-block_of old block))
       (λ k from to. other_byte block k (omega (arith, to, entry_fits format at few)) (λ above. elim (cases_lt at place) [
         | inl less ↦ let room : size * suc at ≤ size * place = mul-le-mul_left size less in absurd (omega (arith, room, above, to))
         | inr more ↦ let room : size * suc place ≤ size * at = mul-le-mul_left size (omega (arith, more, other)) in omega (arith, room, from)
@@ -205,13 +199,13 @@ module _ (format : Format) (old new : List ℕ) (block place : ℕ) (low : place
       let length_one : length (take size (drop (1024 * block + first) new)) ≡ size =
       omega (arith, length-take size (drop (1024 * block + first) new), length-drop (1024 * block + first) new, fits, long) in
       let length_other : length (take size (drop first (block_of new block))) ≡ size =
-      omega (arith, length-take size (drop first (block_of new block)), length-drop first (block_of new block), length_block new block, fits) in
+      omega (arith, length-take size (drop first (block_of new block)), length-drop first (block_of new block), length-block_of new block, fits) in
       same_number_lists (take size (drop (1024 * block + first) new)) (take size (drop first (block_of new block))) (length_one ∙ sym length_other)
       (λ k lt.
       let few : k < size = omega (arith, lt, length_one) in
       let same : 1024 * block + first + k ≡ 1024 * block + (first + k) = omega arith in
       get_or-take size (drop (1024 * block + first) new) k 0 few ∙ get_or-drop (1024 * block + first) new k 0
-      ∙ ap (byte_at new) same ∙ sym (byte_in_block new block (first + k) (omega (arith, few, fits)))
+      ∙ ap (byte_at new) same ∙ sym (byte_at-block_of new block (first + k) (omega (arith, few, fits)))
       ∙ sym (get_or-take size (drop first (block_of new block)) k 0 few ∙ get_or-drop first (block_of new block) k 0))
 
   -- one identifier used the entry before and uses it now
@@ -289,12 +283,12 @@ module _ (format : Format) (old new : List ℕ) (block place : ℕ) (low : place
     }
 
 -- a data block is none of the tree
-apart_from_tree : (file : List ℕ) (blocks head block : ℕ) → OneRole file blocks head → StandsIn (data_blocks file blocks) block → (number : ℕ) → StandsIn (tree_blocks file blocks) number → number ≢ block
+apart_from_tree : (file : List ℕ) (blocks head block : ℕ) → OneRole None file blocks head → StandsIn (data_blocks file blocks) block → (number : ℕ) → StandsIn (tree_blocks file blocks) number → number ≢ block
 apart_from_tree file blocks head block role data_stands number stands same =
     let tree : List ℕ = tree_blocks file blocks in
     let data_ones : List ℕ = data_blocks file blocks in
     let there : StandsIn tree block = subst (λ (n : ℕ). StandsIn tree n) same stands in
-    let most : times (roles file blocks role.free) block ≤ 1 = subst (λ (n : ℕ). n ≤ 1) (sym (role.once block)) (one_at_most (nat_lt block blocks)) in
+    let most : times (roles None file blocks role.free) block ≤ 1 = subst (λ (n : ℕ). n ≤ 1) (sym (role.once block)) (one_at_most (nat_lt block blocks)) in
     omega (arith, there, data_stands, most, times-cons 0 (tree ++ data_ones ++ role.free) block, times-append (tree ++ data_ones) role.free block, times-append tree data_ones block)
   where
     one_at_most : (b : Bool) → (if b then 1 else 0) ≤ 1

@@ -1,5 +1,5 @@
 -- The roles of a file's blocks, as a check finds them one after another.
-use Rattle.std.proofs.Common.{◌^◌, ◌≡◌, ◌≢◌, ℕ, ◌<◌, ◌≤◌, Bool, true, false, if◌then◌else◌, IsTrue, MatchBool, List, [], ◌∷◌, ◌++◌, length, refl, sym, ap, subst, ◌∙◌, inl, inr, arith, append_assoc}
+use Rattle.std.proofs.Common.{◌^◌, ◌≡◌, ◌≢◌, ℕ, ◌<◌, ◌≤◌, Bool, true, false, if◌then◌else◌, IsTrue, MatchBool, List, [], ◌∷◌, ◌++◌, length, refl, sym, ap, subst, ◌∙◌, inl, inr, arith, append_assoc, Vec, Global, map, Option, None}
 use Rattle.std.proofs.lemmas.Bool.{cases_lt, le-ltb, lt-ltb}
 use Rattle.std.proofs.lemmas.List.FromFn.{length-map-range_with_len}
 use Rattle.entry_codec.specs.Header.{HeaderNumbers}
@@ -17,24 +17,30 @@ use Rattle.quota_blocks.specs.CheckFault.{IsCheckFault, IsStepFault}
 use Rattle.quota_types.specs.Times.{StandsIn, times}
 use Rattle.tree_build.specs.Defect.{IsDefectOf, IsTreeDefect}
 use Rattle.quota_types.specs.Damage.{NamesItsId}
-use Rattle.tree_file.specs.Found.{HasNoEmptyBlock, IsRoleDefect}
+use Rattle.tree_file.specs.Found.{HasNoEmptyBlock, IsRoleDefect, AreRoles}
 use Rattle.tree_file.specs.Groups.{AreGroupsOf, named_blocks}
+use Rattle.tree_file.proofs.FoundLemmas.{same_bytes}
+use Rattle.tree_file.specs.declared.roles.Roles.{Roles}
 use Rattle.quota_radix.specs.Levels.{AreTreeBlocksWhole, AreWithin, IsSecondRole, IsTreeFault, IsTreeFaultOf}
 use Rattle.tree_build.specs.Roles.{OneRole, roles}
 use Rattle.quota_radix.specs.Tree.{data_blocks, ids_at, leaves, lower_blocks, tree_blocks}
-use Rattle.quota_blocks.specs.Block.{leads}
-use Rattle.free_chains.specs.Walk.{linked_blocks}
+use Rattle.quota_blocks.specs.Block.{leads, bytes_of}
+use Rattle.free_chains.specs.Walk.{linked_blocks, AreLinksTo, IsWalk}
 use Rattle.quota_blocks.proofs.LeadsLemmas.{leads_within}
 use Rattle.free_chains.proofs.ChainLemmas.{some_chain}
+use Rattle.free_chains.specs.declared.chain.Walk.{Walk}
+use Rattle.free_chains.proofs.WalkLemmas.{walked}
 use Rattle.quota_types.proofs.TimesLemmas.{times-append, times-cons-same, times-cons-other}
 
 -- the set that has the header's block
-pub header_marked : (blocks : ℕ) (flags : List Bool) (result : Bool) → MatchBool result (AreFlagsOf blocks flags (0 ∷ []) × (times [] 0 ≡ 0)) (1 ≤ times [] 0) → AreFlagsOf blocks flags (0 ∷ [])
-header_marked blocks flags true added = added.0
-header_marked blocks flags false added = absurd (omega (arith, added))
+pub header_marked : (blocks : ℕ) (flags now : List Bool) (result : Bool) → 2 ≤ blocks → AreFlagsOf blocks flags []
+    → ((all : ℕ) (numbers : List ℕ) → AreFlagsOf all flags numbers → 0 < all → MatchBool result (AreFlagsOf all now (numbers ++ 0 ∷ []) × (times numbers 0 ≡ 0)) (1 ≤ times numbers 0))
+    → AreFlagsOf blocks now (0 ∷ [])
+header_marked blocks flags now true two none added = (added blocks [] none (omega arith)).0
+header_marked blocks flags now false two none added = absurd (let twice = added blocks [] none (omega arith) in omega (arith, twice))
 
 second_role_of : (format : Format) (file : List ℕ) (numbers : HeaderNumbers) (free : List ℕ) (end : ℕ) (front rest : List ℕ) (damage : Damage)
-    → IsChain file numbers.blocks numbers.free free end → front ++ rest ≡ roles file numbers.blocks free → IsSecondRole front damage → IsTreeDefect format file numbers damage
+    → IsChain file numbers.blocks numbers.free free end → front ++ rest ≡ roles None file numbers.blocks free → IsSecondRole front damage → IsTreeDefect format file numbers damage
 second_role_of format file numbers free end front rest damage is_free all is =
     subst (λ (kind : DamageKind). IsDefectOf format file numbers kind damage.block damage.id × NamesItsId kind damage.id) (sym is.kind) (
       record {
@@ -48,11 +54,11 @@ second_role_of format file numbers free end front rest damage is_free all is =
 
 -- a second role among those that were found so far is one of the file
 pub second_role : (file : List ℕ) (blocks free_head : ℕ) (free : List ℕ) (end : ℕ) (front rest : List ℕ) (damage : Damage)
-    → IsChain file blocks free_head free end → front ++ rest ≡ roles file blocks free → IsSecondRole front damage → IsRoleDefect file blocks free_head damage
+    → IsChain file blocks free_head free end → front ++ rest ≡ roles None file blocks free → IsSecondRole front damage → IsRoleDefect file blocks free_head damage
 second_role file blocks free_head free end front rest damage is_free all is format numbers same same_free =
     second_role_of format file numbers free end front rest damage
     (subst (λ (b : ℕ). IsChain file b numbers.free free end) (sym same) (subst (λ (h : ℕ). IsChain file blocks h free end) (sym same_free) is_free))
-    (subst (λ (b : ℕ). front ++ rest ≡ roles file b free) (sym same) all) is
+    (subst (λ (b : ℕ). front ++ rest ≡ roles None file b free) (sym same) all) is
 
 -- the damages of the tree
 tree_fault_of : (format : Format) (file : List ℕ) (numbers : HeaderNumbers) (block id : ℕ) (kind : DamageKind) → id ≡ 0 → IsTreeFaultOf file numbers.blocks (0 ∷ []) kind block
@@ -102,59 +108,43 @@ tree_refused before now tells file blocks free_head flags (Damaged damage) are i
 )
 tree_refused before now tells file blocks free_head flags Memory are is = tt
 
--- what the marking of the data blocks was refused for
-pub data_marked_refused : (before now : ℕ) (tells : Bool) (file : List ℕ) (blocks free_head : ℕ) (flags : List Bool) (found : List TreePath) (groups : List (List ℕ)) (fault : CheckFault)
-    → (IsTrue tells → found ≡ leaves file blocks) → (IsTrue tells → AreFlagsOf blocks flags (0 ∷ tree_blocks file blocks)) → AreGroupsOf blocks found groups
-    → IsStepFault (λ damage. (all : ℕ) → (leaves : List TreePath) → (numbers : List ℕ) → AreGroupsOf all leaves groups → AreFlagsOf all flags numbers
-    → IsSecondRole (numbers ++ named_blocks all leaves) damage) fault
-    → IsCheckFault before now (λ damage. IsTrue tells → IsRoleDefect file blocks free_head damage) fault
-data_marked_refused before now tells file blocks free_head flags found groups Store are_leaves marked are is = absurd is
-data_marked_refused before now tells file blocks free_head flags found groups (Damaged damage) are_leaves marked are is = (
-  is.0,
-  λ told.
-      let chain = some_chain file blocks free_head in
-      second_role file blocks free_head chain.0 chain.1 ((0 ∷ tree_blocks file blocks) ++ data_blocks file blocks) chain.0 damage chain.2 refl
-      (is.1 blocks (leaves file blocks) (0 ∷ tree_blocks file blocks) (subst (λ (ps : List TreePath). AreGroupsOf blocks ps groups) (are_leaves told) are) (marked told)),
-)
-data_marked_refused before now tells file blocks free_head flags found groups Memory are_leaves marked are is = tt
-
 -- a block without a role
 no_role_of : (format : Format) (file : List ℕ) (numbers : HeaderNumbers) (free : List ℕ) (end block : ℕ) → IsChain file numbers.blocks numbers.free free end
-    → block < numbers.blocks → times (roles file numbers.blocks free) block ≡ 0 → IsTreeDefect format file numbers (record { kind = NoRole; block = block; id = 0 })
+    → block < numbers.blocks → times (roles None file numbers.blocks free) block ≡ 0 → IsTreeDefect format file numbers (record { kind = NoRole; block = block; id = 0 })
 no_role_of format file numbers free end block is_free low none = (record { free = free; end = end; is_free = is_free; inside = low; none = none }, refl)
 
-pub no_role : (file : List ℕ) (blocks free_head : ℕ) (free : List ℕ) (end block : ℕ) → IsChain file blocks free_head free end → block < blocks → times (roles file blocks free) block ≡ 0
+pub no_role : (file : List ℕ) (blocks free_head : ℕ) (free : List ℕ) (end block : ℕ) → IsChain file blocks free_head free end → block < blocks → times (roles None file blocks free) block ≡ 0
     → IsRoleDefect file blocks free_head (record { kind = NoRole; block = block; id = 0 })
 no_role file blocks free_head free end block is_free low none format numbers same same_free =
     no_role_of format file numbers free end block
     (subst (λ (b : ℕ). IsChain file b numbers.free free end) (sym same) (subst (λ (h : ℕ). IsChain file blocks h free end) (sym same_free) is_free))
     (subst (λ (b : ℕ). block < b) (sym same) low)
-    (subst (λ (b : ℕ). times (roles file b free) block ≡ 0) (sym same) none)
+    (subst (λ (b : ℕ). times (roles None file b free) block ≡ 0) (sym same) none)
 
 -- each block has one role
-pub one_role : (file : List ℕ) (blocks free_head : ℕ) (free : List ℕ) (flags : List Bool) → AreTreeBlocksWhole file blocks → IsChain file blocks free_head free 0
-    → AreFlagsOf blocks flags (roles file blocks free) → ((n : ℕ) → n < blocks → StandsIn (roles file blocks free) n) → OneRole file blocks free_head
+one_role : (file : List ℕ) (blocks free_head : ℕ) (free : List ℕ) (flags : List Bool) → AreTreeBlocksWhole file blocks → IsChain file blocks free_head free 0
+    → AreFlagsOf blocks flags (roles None file blocks free) → ((n : ℕ) → n < blocks → StandsIn (roles None file blocks free) n) → OneRole None file blocks free_head
 one_role file blocks free_head free flags whole is_free are each = record {
   references = whole.references;
   free = free;
   is_free = is_free;
   once = λ block. elim (cases_lt block blocks) [
     | inl low ↦ omega (arith, each block low, are.distinct block, ap {B = ℕ} (λ (b : Bool). if b then 1 else 0) (lt-ltb block blocks low))
-    | inr high ↦ elim (cases_lt 0 (times (roles file blocks free) block)) [
+    | inr high ↦ elim (cases_lt 0 (times (roles None file blocks free) block)) [
       | inl some ↦ absurd (omega (arith, are.inside block some, high))
       | inr none ↦ omega (arith, none, ap {B = ℕ} (λ (b : Bool). if b then 1 else 0) (le-ltb block blocks high))
     ]
   ];
 }
 
-pub one_role-free : (file : List ℕ) (blocks free_head : ℕ) (free : List ℕ) (flags : List Bool) (whole : AreTreeBlocksWhole file blocks) (is_free : IsChain file blocks free_head free 0)
-    (are : AreFlagsOf blocks flags (roles file blocks free)) (each : (n : ℕ) → n < blocks → StandsIn (roles file blocks free) n)
+one_role-free : (file : List ℕ) (blocks free_head : ℕ) (free : List ℕ) (flags : List Bool) (whole : AreTreeBlocksWhole file blocks) (is_free : IsChain file blocks free_head free 0)
+    (are : AreFlagsOf blocks flags (roles None file blocks free)) (each : (n : ℕ) → n < blocks → StandsIn (roles None file blocks free) n)
     → length (one_role file blocks free_head free flags whole is_free are each).free ≡ length free
 unfolding one_role
 one_role-free file blocks free_head free flags whole is_free are each = refl
 
 -- the root is no block below it
-pub none_empty : (file : List ℕ) (blocks : ℕ) (free : List ℕ) (flags : List Bool) → AreTreeBlocksWhole file blocks → AreFlagsOf blocks flags (roles file blocks free) → HasNoEmptyBlock file blocks
+none_empty : (file : List ℕ) (blocks : ℕ) (free : List ℕ) (flags : List Bool) → AreTreeBlocksWhole file blocks → AreFlagsOf blocks flags (roles None file blocks free) → HasNoEmptyBlock file blocks
 none_empty file blocks free flags whole are block lower =
     let not_root : block ≢ 1 = λ e.
     let again : StandsIn (lower_blocks file blocks) 1 = subst (λ (b : ℕ). StandsIn (lower_blocks file blocks) b) e lower in
@@ -169,6 +159,18 @@ none_empty file blocks free flags whole are block lower =
     ) in
     whole.not_empty block lower not_root
 
+-- the roles that a check answers are those of the file
+pub are_roles : (file : List ℕ) (blocks free_head : ℕ) (free : List ℕ) (flags : List Bool) (found : List TreePath) (checked : Roles) → found ≡ leaves file blocks
+    → AreTreeBlocksWhole file blocks → IsChain file blocks free_head free 0 → AreFlagsOf blocks flags (roles None file blocks free) → ((n : ℕ) → n < blocks → StandsIn (roles None file blocks free) n)
+    → AreGroupsOf blocks found (map (λ ids. ids.items) checked.groups.items) → checked.used ≡ length found → checked.free ≡ length free → AreRoles file blocks free_head checked
+are_roles file blocks free_head free flags found checked are_leaves whole is_free are each groups used count = record {
+  one_role = one_role file blocks free_head free flags whole is_free are each;
+  not_empty = none_empty file blocks free flags whole are;
+  groups = subst (λ (ps : List TreePath). AreGroupsOf blocks ps (map (λ ids. ids.items) checked.groups.items)) are_leaves groups;
+  used = used ∙ ap length are_leaves;
+  free = count ∙ sym (one_role-free file blocks free_head free flags whole is_free are each);
+}
+
 -- how many blocks there are groups of
 pub length_groups : (blocks : ℕ) (found : List TreePath) (groups : List (List ℕ)) → AreGroupsOf blocks found groups → length groups ≡ blocks
 length_groups blocks found groups are = ap length are ∙ length-map-range_with_len (ids_at found) 0 blocks
@@ -179,13 +181,39 @@ pub groups_are : (blocks : ℕ) (found given : List TreePath) (groups : List (Li
 groups_are blocks found given groups same within are =
     subst (λ (ps : List TreePath). AreGroupsOf blocks ps groups) same (are (2 ^ 32) (subst (λ (ps : List TreePath). AreWithin blocks (2 ^ 32) ps) (sym same) within))
 
--- the blocks that have a role, once the data blocks are marked
-pub data_marked : (file : List ℕ) (blocks : ℕ) (flags now : List Bool) (found : List TreePath) (groups : List (List ℕ)) → found ≡ leaves file blocks
-    → AreFlagsOf blocks flags (0 ∷ tree_blocks file blocks) → AreGroupsOf blocks found groups
-    → ((all : ℕ) (leaves : List TreePath) (numbers : List ℕ) → AreGroupsOf all leaves groups → AreFlagsOf all flags numbers → AreFlagsOf all now (numbers ++ named_blocks all leaves))
-    → AreFlagsOf blocks now ((0 ∷ tree_blocks file blocks) ++ data_blocks file blocks)
-data_marked file blocks flags now found groups are_leaves marked are more =
-    more blocks (leaves file blocks) (0 ∷ tree_blocks file blocks) (subst (λ (ps : List TreePath). AreGroupsOf blocks ps groups) are_leaves are) marked
+-- the leaves that a search has found, the groups of their identifiers, and the set of the blocks of the header and the tree
+pub record AreFound (tells : Bool) (file : List ℕ) (blocks : ℕ) (flags : List Bool) (found : List TreePath) (ids : List (List ℕ)) : Type 0 where
+  pub groups : AreGroupsOf blocks found ids
+  pub are_leaves : IsTrue tells → found ≡ leaves file blocks
+  pub marked : IsTrue tells → AreFlagsOf blocks flags (0 ∷ tree_blocks file blocks)
+
+-- they are so by what the calls answered: the search, the grouping of its leaves, and the groups as a slice
+pub are_found : (tells : Bool) (file : List ℕ) (blocks : ℕ) (header flags : List Bool) (found given : List TreePath) (groups slice : List (Vec ℕ Global))
+    → AreFlagsOf blocks header (0 ∷ []) → (IsTrue tells → found ≡ leaves file blocks)
+    → (IsTrue tells → (numbers : List ℕ) → AreFlagsOf blocks header numbers → AreFlagsOf blocks flags (numbers ++ tree_blocks file blocks))
+    → AreWithin blocks (2 ^ 32) found → given ≡ found → ((bound : ℕ) → AreWithin blocks bound given → AreGroupsOf blocks given (map (λ ids. ids.items) groups)) → slice ≡ groups
+    → AreFound tells file blocks flags found (map (λ ids. ids.items) slice)
+are_found tells file blocks header flags found given groups slice marked are_leaves more within same are as_slice = record {
+  groups = subst (λ (all : List (Vec ℕ Global)). AreGroupsOf blocks found (map (λ ids. ids.items) all)) (sym as_slice) (groups_are blocks found given (map (λ ids. ids.items) groups) same within are);
+  are_leaves = are_leaves;
+  marked = λ told. more told (0 ∷ []) marked;
+}
+
+-- what the marking of the data blocks was refused for
+pub data_marked_refused : (before now : ℕ) (tells : Bool) (file : List ℕ) (blocks free_head : ℕ) (flags : List Bool) (found : List TreePath) (groups : List (List ℕ)) (fault : CheckFault)
+    → AreFound tells file blocks flags found groups
+    → IsStepFault (λ damage. (all : ℕ) → (leaves : List TreePath) → (numbers : List ℕ) → AreGroupsOf all leaves groups → AreFlagsOf all flags numbers
+    → IsSecondRole (numbers ++ named_blocks all leaves) damage) fault
+    → IsCheckFault before now (λ damage. IsTrue tells → IsRoleDefect file blocks free_head damage) fault
+data_marked_refused before now tells file blocks free_head flags found groups Store are is = absurd is
+data_marked_refused before now tells file blocks free_head flags found groups (Damaged damage) are is = (
+  is.0,
+  λ told.
+      let chain = some_chain file blocks free_head in
+      second_role file blocks free_head chain.0 chain.1 ((0 ∷ tree_blocks file blocks) ++ data_blocks file blocks) chain.0 damage chain.2 refl
+      (is.1 blocks (leaves file blocks) (0 ∷ tree_blocks file blocks) (subst (λ (ps : List TreePath). AreGroupsOf blocks ps groups) (are.are_leaves told) are.groups) (are.marked told)),
+)
+data_marked_refused before now tells file blocks free_head flags found groups Memory are is = tt
 
 -- what follows of the blocks of a list once they are marked, or are not
 pub links_marked : (R : ℕ → List ℕ → Type 0) (blocks : ℕ) (flags : List Bool) (numbers : List ℕ) (links given : List Link) → given ≡ links
@@ -195,3 +223,22 @@ pub links_marked : (R : ℕ → List ℕ → Type 0) (blocks : ℕ) (flags : Lis
 links_marked R blocks flags numbers links given same inside are marks =
     subst (λ (ls : List Link). R blocks (numbers ++ linked_blocks ls)) same
     (marks blocks numbers are (λ n stands. (leads_within blocks n (inside n (subst (λ (ls : List Link). StandsIn (linked_blocks ls) n) same stands))).1))
+
+-- what follows of all roles once the data blocks and the blocks of the free list are marked, or are not
+pub roles_marked : (R : ℕ → List ℕ → Type 0) (tells : Bool) (file : List ℕ) (blocks : ℕ) (flags now : List Bool) (found : List TreePath) (groups : List (List ℕ)) (links given : List Link)
+    → AreFound tells file blocks flags found groups → IsTrue tells
+    → ((all : ℕ) (leaves : List TreePath) (numbers : List ℕ) → AreGroupsOf all leaves groups → AreFlagsOf all flags numbers → AreFlagsOf all now (numbers ++ named_blocks all leaves))
+    → given ≡ links → ((n : ℕ) → StandsIn (linked_blocks links) n → IsTrue (leads blocks n))
+    → ((all : ℕ) (ns : List ℕ) → AreFlagsOf all now ns → ((n : ℕ) → StandsIn (linked_blocks given) n → n < all) → R all (ns ++ linked_blocks given))
+    → R blocks (roles None file blocks (linked_blocks links))
+roles_marked R tells file blocks flags now found groups links given are told more same inside marks =
+    let led : AreFlagsOf blocks now ((0 ∷ tree_blocks file blocks) ++ data_blocks file blocks) =
+    more blocks (leaves file blocks) (0 ∷ tree_blocks file blocks) (subst (λ (ps : List TreePath). AreGroupsOf blocks ps groups) (are.are_leaves told) are.groups) (are.marked told) in
+    links_marked R blocks now ((0 ∷ tree_blocks file blocks) ++ data_blocks file blocks) links given same inside led marks
+
+-- the free list, by a walk along it in a file that stayed
+pub walk_is_free : (files now : List ℕ → Option (List ℕ)) (name : List ℕ) (blocks free_head : ℕ) (walk : Walk) → now ≡ files → IsWalk blocks walk → AreLinksTo (bytes_of (now name)) free_head walk.links.items 0
+    → IsChain (bytes_of (files name)) blocks free_head (linked_blocks walk.links.items) 0
+walk_is_free files now name blocks free_head walk stayed is links =
+    walked (bytes_of (files name)) blocks free_head walk.links.items
+    (subst (λ (file : List ℕ). AreLinksTo file free_head walk.links.items 0) (same_bytes files now name stayed) links) is.marked.distinct is.inside

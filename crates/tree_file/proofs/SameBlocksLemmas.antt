@@ -1,6 +1,6 @@
 -- Two files with the same blocks, but maybe for the header's, have the same tree, the same lists and the same records. So
 -- have two files that differ in records only, but for those.
-use Rattle.std.proofs.Common.{◌≡◌, ℕ, zero, suc, ◌*◌, ◌<◌, ◌≤◌, Bool, true, false, cond, ◌&&◌, ◌==◌, nat_le, IsTrue, List, [], ◌∷◌, ◌++◌, length, map, find, Some, option_and_then, refl, sym, ap, subst, ◌∙◌, inl, inr, arith, leb-true, if◌then◌else◌}
+use Rattle.std.proofs.Common.{◌≡◌, ℕ, zero, suc, ◌*◌, ◌<◌, ◌≤◌, Bool, true, false, cond, ◌&&◌, ◌==◌, nat_le, IsTrue, List, [], ◌∷◌, ◌++◌, length, map, find, Some, option_and_then, refl, sym, ap, subst, ◌∙◌, inl, inr, arith, leb-true, if◌then◌else◌, None}
 use Rattle.std.proofs.lemmas.Bool.{cases_Bool}
 use Rattle.std.specs.List.{AllByRecursion, filter, flat_map, range_with_len}
 use Rattle.quota_types.specs.Bytes.{number_at}
@@ -14,9 +14,12 @@ use Rattle.tree_build.specs.Roles.{Chained, Filled, OneRole, has_room}
 use Rattle.quota_radix.specs.Tree.{data_blocks, ids_at, is_data, leaves, level, lower_blocks, paths, steps, tree_blocks}
 use Rattle.tree_build.specs.TreeFile.{record_in, tree_record}
 use Rattle.quota_blocks.proofs.LeadsLemmas.{leads_within}
-use Rattle.quota_types.proofs.TimesLemmas.{stands_either, stands_left, stands_right, times-cons-same, only_one}
-use Rattle.tree_build.proofs.LevelAddedLemmas.{empty_kept, flat_map_same, steps_kept}
-use Rattle.quota_radix.proofs.PathLemmas.{data_block_of_id, each_weaker, level_leads, paths_lead, times-data_blocks}
+use Rattle.quota_types.proofs.TimesLemmas.{stands_either, stands_right, times-cons-same, only_one}
+use Rattle.quota_types.proofs.ListLemmas.{AllByRecursion-weaker}
+use Rattle.tree_build.proofs.LevelAddedLemmas.{empty_kept, flat_map_same}
+use Rattle.quota_radix.proofs.PathLemmas.{data_block_of_id, level_leads, paths_lead, times-data_blocks}
+use Rattle.quota_radix.proofs.LinkPathLemmas.{level_in_tree}
+use Rattle.quota_radix.proofs.LinkStepLemmas.{steps_same}
 
 -- the blocks behind the header are the same
 abbrev pub SameBlocks : ℕ → List ℕ → List ℕ → Type 0
@@ -33,7 +36,7 @@ IsInside blocks block = (0 < block) × (block < blocks)
 paths_inside : (file : List ℕ) (blocks digits : ℕ) → 2 ≤ blocks → AllByRecursion (λ (path : TreePath). IsInside blocks path.block) (paths file blocks digits)
 paths_inside file blocks zero two = ((omega arith, omega arith), tt)
 paths_inside file blocks (suc digits) two =
-    each_weaker (λ (path : TreePath). IsTrue (leads blocks path.block)) (λ (path : TreePath). IsInside blocks path.block) (paths file blocks (suc digits))
+    AllByRecursion-weaker (λ (path : TreePath). IsTrue (leads blocks path.block)) (λ (path : TreePath). IsInside blocks path.block) (paths file blocks (suc digits))
     (λ path goes. leads_within blocks path.block goes) (paths_lead file blocks digits)
 
 level_inside : (file : List ℕ) (blocks digits block : ℕ) → StandsIn (level file blocks (suc digits)) block → IsInside blocks block
@@ -88,31 +91,18 @@ same_tree format blocks old new two same = record {
   room = λ block some low. ap (has_unused format) (same block some low);
 }
 
--- the blocks to which the paths of less than four digits come are those of the tree
-level_in_tree : (file : List ℕ) (blocks digits block : ℕ) → digits < 4 → StandsIn (level file blocks digits) block → StandsIn (tree_blocks file blocks) block
-level_in_tree file blocks zero block low stands = stands_left (level file blocks 0) (lower_blocks file blocks) block stands
-level_in_tree file blocks (suc zero) block low stands =
-    stands_right (level file blocks 0) (lower_blocks file blocks) block
-    (stands_left (level file blocks 1 ++ level file blocks 2) (level file blocks 3) block (stands_left (level file blocks 1) (level file blocks 2) block stands))
-level_in_tree file blocks (suc (suc zero)) block low stands =
-    stands_right (level file blocks 0) (lower_blocks file blocks) block
-    (stands_left (level file blocks 1 ++ level file blocks 2) (level file blocks 3) block (stands_right (level file blocks 1) (level file blocks 2) block stands))
-level_in_tree file blocks (suc (suc (suc zero))) block low stands =
-    stands_right (level file blocks 0) (lower_blocks file blocks) block (stands_right (level file blocks 1 ++ level file blocks 2) (level file blocks 3) block stands)
-level_in_tree file blocks (suc (suc (suc (suc digits)))) block low stands = absurd (omega (arith, low))
-
 -- each path's block is one of those to which the paths come
 each_stands : (ps : List TreePath) → AllByRecursion (λ (p : TreePath). StandsIn (map (λ path. path.block) ps) p.block) ps
 each_stands [] = tt
 each_stands (p ∷ ps) = (
   omega (arith, times-cons-same p.block (map (λ path. path.block) ps)),
-  each_weaker (λ (q : TreePath). StandsIn (map (λ path. path.block) ps) q.block) (λ (q : TreePath). StandsIn (map (λ path. path.block) (p ∷ ps)) q.block) ps
+  AllByRecursion-weaker (λ (q : TreePath). StandsIn (map (λ path. path.block) ps) q.block) (λ (q : TreePath). StandsIn (map (λ path. path.block) (p ∷ ps)) q.block) ps
       (λ q stands. stands_right (p.block ∷ []) (map (λ path. path.block) ps) q.block stands) (each_stands ps),
 )
 
 module _ (format : Format) (old new : List ℕ) (blocks : ℕ) (two : 2 ≤ blocks) (kept : KeepsTree format blocks old new) where
   -- a chain is one of both files
-  chain_same : (head : ℕ) (chain : List ℕ) (end : ℕ) → IsChain old blocks head chain end → IsChain new blocks head chain end
+  pub chain_same : (head : ℕ) (chain : List ℕ) (end : ℕ) → IsChain old blocks head chain end → IsChain new blocks head chain end
   chain_same head chain end c = record {
     linked = c.linked ∙ ap (λ (links : List ℕ). head ∷ links) (map_same (next_of old) (next_of new) chain
         (λ n stands. let inside : IsInside blocks n = leads_within blocks n (c.inside n stands) in sym (kept.next n inside.0 inside.1)));
@@ -127,26 +117,26 @@ module _ (format : Format) (old new : List ℕ) (blocks : ℕ) (two : 2 ≤ bloc
   paths_same (suc digits) low =
       ap (flat_map (steps new blocks)) (paths_same digits (omega (arith, low)))
       ∙ flat_map_same (steps new blocks) (steps old blocks) (paths old blocks digits)
-      (each_weaker (λ (path : TreePath). StandsIn (level old blocks digits) path.block) (λ (path : TreePath). steps new blocks path ≡ steps old blocks path) (paths old blocks digits)
-      (λ path stands. steps_kept old new blocks path (kept.tree path.block (level_in_tree old blocks digits path.block (omega (arith, low)) stands))) (each_stands (paths old blocks digits)))
+      (AllByRecursion-weaker (λ (path : TreePath). StandsIn (level old blocks digits) path.block) (λ (path : TreePath). steps new blocks path ≡ steps old blocks path) (paths old blocks digits)
+      (λ path stands. steps_same old new blocks path (kept.tree path.block (level_in_tree old blocks digits path.block (omega (arith, low)) stands))) (each_stands (paths old blocks digits)))
 
   level_same : (digits : ℕ) → digits ≤ 4 → level new blocks digits ≡ level old blocks digits
   level_same digits low = ap (λ (ps : List TreePath). map (λ path. path.block) ps) (paths_same digits low)
 
-  lower_same : lower_blocks new blocks ≡ lower_blocks old blocks
+  pub lower_same : lower_blocks new blocks ≡ lower_blocks old blocks
   lower_same = λ i. level_same 1 (omega arith) i ++ level_same 2 (omega arith) i ++ level_same 3 (omega arith) i
 
-  tree_same : tree_blocks new blocks ≡ tree_blocks old blocks
+  pub tree_same : tree_blocks new blocks ≡ tree_blocks old blocks
   tree_same = λ i. level_same 0 (omega arith) i ++ lower_same i
 
-  data_same : data_blocks new blocks ≡ data_blocks old blocks
+  pub data_same : data_blocks new blocks ≡ data_blocks old blocks
   data_same = ap (λ (leaf_blocks : List ℕ). filter (λ block. nat_le 1 (times leaf_blocks block)) (range_with_len 0 blocks)) (level_same 4 (omega arith))
 
   is_data_same : (block : ℕ) → is_data new blocks block ≡ is_data old blocks block
   is_data_same block = ap (λ (leaf_blocks : List ℕ). nat_le 1 (times leaf_blocks block)) (level_same 4 (omega arith))
 
   -- each block has one role in both files
-  pub one_role_same : (head : ℕ) → OneRole old blocks head → OneRole new blocks head
+  pub one_role_same : (head : ℕ) → OneRole None old blocks head → OneRole None new blocks head
   one_role_same head role = record {
     references = λ block stands digit low.
         let there : StandsIn (tree_blocks old blocks) block = subst (λ (xs : List ℕ). StandsIn xs block) tree_same stands in
@@ -156,7 +146,7 @@ module _ (format : Format) (old new : List ℕ) (blocks : ℕ) (two : 2 ≤ bloc
     once = λ block. (λ i. times (0 ∷ tree_same i ++ data_same i ++ role.free) block) ∙ role.once block;
   }
 
-  has_room_same : (block : ℕ) → has_room format new blocks block ≡ has_room format old blocks block
+  pub has_room_same : (block : ℕ) → has_room None format new blocks block ≡ has_room None format old blocks block
   has_room_same block =
       ap (λ (b : Bool). b && has_unused format (block_of new block)) (is_data_same block)
       ∙ elim (is_data old blocks block) as (λ b. is_data old blocks block ≡ b → (b && has_unused format (block_of new block)) ≡ (b && has_unused format (block_of old block))) [
@@ -165,7 +155,7 @@ module _ (format : Format) (old new : List ℕ) (blocks : ℕ) (two : 2 ≤ bloc
       ] refl
 
   -- the entry list is one of both files
-  pub chained_same : (first : ℕ) → Chained format old blocks first → Chained format new blocks first
+  pub chained_same : (first : ℕ) → Chained None format old blocks first → Chained None format new blocks first
   chained_same first c = record {
     chain = c.chain;
     is_chain = chain_same first c.chain 0 c.is_chain;
@@ -175,11 +165,11 @@ module _ (format : Format) (old new : List ℕ) (blocks : ℕ) (two : 2 ≤ bloc
         ∙ c.previous;
   }
 
-  ids_same : (block : ℕ) → ids_at (leaves new blocks) block ≡ ids_at (leaves old blocks) block
+  pub ids_same : (block : ℕ) → ids_at (leaves new blocks) block ≡ ids_at (leaves old blocks) block
   ids_same block = ap (λ (ps : List TreePath). ids_at ps block) (paths_same 4 (omega arith))
 
   -- the tree and the data blocks are filled in both files
-  pub filled_same : Filled format old blocks → Filled format new blocks
+  pub filled_same : Filled None format old blocks → Filled None format new blocks
   filled_same filled = record {
     not_empty = λ block stands empty.
         let there : StandsIn (lower_blocks old blocks) block = subst (λ (xs : List ℕ). StandsIn xs block) lower_same stands in

@@ -1,5 +1,5 @@
 -- What the parts of a check find of a file.
-use Rattle.std.specs.Prelude.{◌≡◌, ℕ, List, length, map}
+use Rattle.std.specs.Prelude.{◌≡◌, ℕ, List, length, map, None}
 use Rattle.entry_codec.specs.Header.{HeaderNumbers}
 use Rattle.quota_types.specs.declared.damage.Damage.{Damage}
 use Rattle.quota_types.specs.declared.file_kind.Format.{Format}
@@ -18,7 +18,7 @@ HasNoEmptyBlock file blocks = (block : ℕ) → StandsIn (lower_blocks file bloc
 -- each block of a file has one role, no tree block below the root is empty, and these are the identifiers that lead to
 -- each block, their number, and that of the free blocks
 pub record AreRoles (file : List ℕ) (blocks free_head : ℕ) (roles : Roles) : Type 0 where
-  pub one_role : OneRole file blocks free_head
+  pub one_role : OneRole None file blocks free_head
   pub not_empty : HasNoEmptyBlock file blocks
   pub groups : AreGroupsOf blocks (leaves file blocks) (map (λ ids. ids.items) roles.groups.items)
   pub used : roles.used ≡ length (leaves file blocks)

@@ -1,6 +1,5 @@
 -- What an opened tree file holds, and what is seen of it.
 use Rattle.std.specs.Prelude.{◌≡◌, ℕ, ◌*◌, ◌<◌, ◌≤◌, Bool, IsTrue, List, take, Option, Some, ⊤}
-use Rattle.quota_types.specs.declared.file_kind.Format.{Format}
 use Rattle.quota_blocks.specs.QuotaFile.{FileSeen}
 use Rattle.quota_blocks.specs.QuotaValue.{QuotaValue}
 use Rattle.quota_blocks.specs.declared.quota_file.FileFault.{FileFault}
@@ -23,10 +22,6 @@ pub record HoldsTree (tells : Bool) (named : Option (List ℕ)) (loaded : List �
   pub stands : TreeStandsFor file value
   pub few : (header_of file).blocks ≤ limit
   pub same : whole_blocks file ≡ loaded
-
--- what is seen of one
-abbrev pub tree_seen : (name : List ℕ) (format : Format) (usable : Bool) (limit refusals : ℕ) → FileSeen
-tree_seen name format usable limit refusals = record { name = name; format = format; usable = usable; limit = limit; refusals = refusals }
 
 -- A file that is written whole has no room for a value: it needs so many blocks and may have only so many.
 pub record LacksRoom (seen : FileSeen) (value : QuotaValue) (blocks limit : ℕ) : Type 0 where

@@ -1,13 +1,12 @@
-ghost use Rattle.std.specs.Prelude.{◌≡◌, ◌≢◌, ◌+◌, ◌*◌, ◌<◌, ◌≤◌, length, IsTrue, IfOk, IfErr, OnOk};
+ghost use Rattle.std.specs.Prelude.{◌≡◌, ◌≢◌, ◌+◌, ◌*◌, ◌<◌, ◌≤◌, ℕ, [], length, Some, IsTrue, IfOk, IfErr, OnOk, is_ok};
 ghost use Rattle.entry_codec.specs.Header.{AreOf, header_of};
 ghost use Rattle.quota_types.specs.declared.damage.Damage.{Damage};
 ghost use Rattle.quota_types.specs.declared.file_kind.Format.TheVariants.{V1};
 ghost use Rattle.quota_blocks.specs.Frame.{OnlyReads};
 ghost use Rattle.quota_blocks.specs.QuotaValue.{QuotaValue};
-ghost use Rattle.quota_blocks.specs.Unsynced.{AddsNone};
-ghost use Rattle.quota_blocks.specs.declared.check_fault.CheckFault.TheVariants.{Damage as Damaged};
-ghost use Rattle.tree_file.specs.Check.{IsChecked};
-ghost use Rattle.quota_blocks.specs.CheckFault.{IsCheckFault};
+ghost use Rattle.quota_blocks.specs.declared.check_fault.CheckFault.TheVariants.{Damage as Damaged, Memory};
+ghost use Rattle.tree_file.specs.Check.{IsChecked, without_store};
+ghost use Rattle.quota_blocks.specs.CheckFault.{IsCheckFault, IsStepFault};
 ghost use Rattle.quota_blocks.specs.Block.{bytes_of};
 ghost use Rattle.tree_build.specs.Defect.{IsTreeDefect};
 ghost use Rattle.tree_file.specs.Found.{IsLengthDefect};
@@ -17,9 +16,12 @@ use crate::checked::Checked;
 use crate::lists::check_lists;
 use crate::roles::check_roles;
 use entry_codec::Header;
-use quota_blocks::{CheckFault, Store};
+use quota_blocks::{CheckFault, MemStore, Store};
 use quota_types::{DamageKind, damage_at};
 use std::alloc::Global;
+
+/// The name of the one file of a store that has what was loaded.
+const LOADED: &str = "";
 
 /// Checks a tree file whose header is this one, and tells how many records it has and how many blocks are free.
 ///
@@ -49,8 +51,7 @@ pub fn check<S: Store>(
     ensures only_damaged { IfErr result (λ fault. (damage : Damage) → fault ≡ Damaged damage → IsTrue S.tells
         → AreOf header.now (header_of (bytes_of ((S.seen store.old).files name.now)))
         → (value : QuotaValue) → ¬ TreeStandsFor (bytes_of ((S.seen store.old).files name.now)) value) }
-    ensures leaves { OnlyReads name.now (S.seen store.old) (S.seen store.new) }
-    ensures synced { OnOk result (AddsNone (S.seen store.old).unsynced (S.seen store.new).unsynced) }
+    ensures leaves { OnlyReads (is_ok result) name.now (S.seen store.old) (S.seen store.new) }
     ensures reads { (S.seen store.new).reads ≤ (S.seen store.old).reads + 2 * header.now.blocks }
 {
     check_length(store, name, header.blocks)?;
@@ -63,15 +64,63 @@ pub fn check<S: Store>(
     })
 }
 
+/// Checks the bytes of a tree file whose header is this one, and gives them back. They are not copied.
+///
+/// # Errors
+///
+/// `Damage` where they are damaged, and `Memory` where there was not enough memory.
+pub(crate) fn check_loaded(
+    alloc: Global,
+    bytes: Vec<u8>,
+    header: &Header,
+) -> Result<Vec<u8>, CheckFault>
+    requires tree { header.now.format ≢ V1 }
+    requires two { 2 ≤ header.now.blocks }
+    ensures same { IfOk result (λ checked. checked.items ≡ bytes.items) }
+    ensures stands { OnOk result (AreOf header.now (header_of bytes.items)
+        → (value : QuotaValue) × TreeStandsFor bytes.items value) }
+    ensures refused { IfErr result (IsStepFault (λ damage. AreOf header.now (header_of bytes.items)
+        → IsTreeDefect header.now.format bytes.items (header_of bytes.items) damage)) }
+{
+    let mut store = store_of(alloc, bytes)?;
+    if let Err(fault) = check(alloc, &mut store, LOADED, header) {
+        return Err(without_store(fault));
+    }
+    Ok(store.into_file(LOADED).unwrap())
+}
+
+/// A store of one file of these bytes.
+fn store_of(alloc: Global, bytes: Vec<u8>) -> Result<MemStore, CheckFault>
+    ensures seen { IfOk result (λ store. (⟦<MemStore as Store>⟧.seen store).files [] ≡ Some bytes.items) }
+    ensures refused { IfErr result (λ fault. fault ≡ Memory) }
+{
+    let mut files = Vec::new(alloc);
+    files.push((String::new(alloc), bytes))?;
+    Ok(MemStore::new(files, Vec::new(alloc)))
+}
+
+/// Why a check is refused that was refused over a store in memory, which fails only where it gets no memory.
+fn without_store(fault: CheckFault) -> CheckFault
+    ensures { result ≡ without_store fault }
+{
+    match fault {
+        CheckFault::Damage(damage) => CheckFault::Damage(damage),
+        CheckFault::Store | CheckFault::Memory => CheckFault::Memory,
+    }
+}
+
 /// Checks that a file of more blocks than header and root is as long as they.
-fn check_length<S: Store>(store: &mut S, name: &str, blocks: u32) -> Result<(), CheckFault>
+pub(crate) fn check_length<S: Store>(
+    store: &mut S,
+    name: &str,
+    blocks: u32,
+) -> Result<(), CheckFault>
     ensures long { OnOk result (IsTrue S.tells → 2 < blocks
         → 1024 * blocks ≤ length (bytes_of ((S.seen store.old).files name.now))) }
     ensures refused { IfErr result (IsCheckFault (S.seen store.old).faults (S.seen store.new).faults
         (λ damage. IsTrue S.tells
         → IsLengthDefect (bytes_of ((S.seen store.old).files name.now)) blocks damage)) }
-    ensures leaves { OnlyReads name.now (S.seen store.old) (S.seen store.new) }
-    ensures synced { OnOk result (AddsNone (S.seen store.old).unsynced (S.seen store.new).unsynced) }
+    ensures leaves { OnlyReads (is_ok result) name.now (S.seen store.old) (S.seen store.new) }
     ensures reads { (S.seen store.new).reads ≡ (S.seen store.old).reads }
 {
     let size = store.size(name)?.unwrap_or(0);

@@ -1,6 +1,5 @@
-ghost use Rattle.std.specs.Prelude.{◌≡◌, ◌≢◌, ℕ, List, ◌+◌, ◌<◌, ◌≤◌, ◌++◌, ◌∷◌, [], ◌&&◌, nat_le, if◌then◌else◌, map, take, length, IsTrue, IfOk, OnOk, IfErr, MatchOption};
+ghost use Rattle.std.specs.Prelude.{◌≡◌, ◌≢◌, ℕ, List, ◌+◌, ◌<◌, ◌≤◌, ◌++◌, ◌∷◌, [], ◌&&◌, nat_le, if◌then◌else◌, map, take, length, IsTrue, IfOk, OnOk, IfErr, MatchOption, is_ok};
 ghost use Rattle.quota_blocks.specs.Frame.{OnlyReads};
-ghost use Rattle.quota_blocks.specs.Unsynced.{AddsNone};
 ghost use Rattle.quota_blocks.specs.Block.{block_of, stated_count, bytes_of};
 ghost use Rattle.quota_blocks.specs.BlockSet.{AreFlagsOf};
 ghost use Rattle.quota_blocks.specs.CheckFault.{IsCheckFault};
@@ -36,8 +35,7 @@ fn check_block<S: Store>(
         (λ damage. IsTrue S.tells
         → IsEntryDefectAt number (stated_count (bytes_of ((S.seen store.old).files name.now)) number)
         (used_ids format (block_of (bytes_of ((S.seen store.old).files name.now)) number)) ids.now damage)) }
-    ensures leaves { OnlyReads name.now (S.seen store.old) (S.seen store.new) }
-    ensures synced { OnOk result (AddsNone (S.seen store.old).unsynced (S.seen store.new).unsynced) }
+    ensures leaves { OnlyReads (is_ok result) name.now (S.seen store.old) (S.seen store.new) }
     ensures reads { (S.seen store.new).reads ≤ (S.seen store.old).reads + 1 }
 {
     let mut block = [0; 1024];
@@ -66,8 +64,7 @@ pub(crate) fn check_data<S: Store>(
         (λ damage. IsTrue S.tells
         → IsDataDefect format (bytes_of ((S.seen store.old).files name.now))
         (leading_ids (map (λ ids. ids.items) groups.now) damage.block) damage.block damage)) }
-    ensures leaves { OnlyReads name.now (S.seen store.old) (S.seen store.new) }
-    ensures synced { OnOk result (AddsNone (S.seen store.old).unsynced (S.seen store.new).unsynced) }
+    ensures leaves { OnlyReads (is_ok result) name.now (S.seen store.old) (S.seen store.new) }
     ensures reads { (S.seen store.new).reads ≤ (S.seen store.old).reads + led_blocks (map (λ ids. ids.items) groups.now) }
 {
     let mut room = BlockSet::new(alloc, blocks)?;
@@ -100,8 +97,7 @@ fn check_group<S: Store>(
     ensures refused { IfErr result (IsCheckFault (S.seen store.old).faults (S.seen store.new).faults
         (λ damage. IsTrue S.tells
         → IsDataDefect format (bytes_of ((S.seen store.old).files name.now)) ids.now number damage)) }
-    ensures leaves { OnlyReads name.now (S.seen store.old) (S.seen store.new) }
-    ensures synced { OnOk result (AddsNone (S.seen store.old).unsynced (S.seen store.new).unsynced) }
+    ensures leaves { OnlyReads (is_ok result) name.now (S.seen store.old) (S.seen store.new) }
     ensures reads { (S.seen store.new).reads ≤ (S.seen store.old).reads + (if nat_le 1 (length ids.now) then 1 else 0) }
 {
     if ids.is_empty() {

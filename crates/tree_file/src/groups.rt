@@ -28,13 +28,13 @@ pub(crate) fn group(
     Ok(groups)
 }
 
-/// Adds an identifier to those of a block. The first one takes memory for 16 at once, as a block of vfsv1 has 14 entries
-/// and one of vfsv0 has 21.
+/// Adds an identifier to those of a block. The first one takes memory for 14 at once, as many as a block of vfsv1 has
+/// entries; one of vfsv0 has 21.
 fn add_to(ids: &mut Vec<u32>, number: u32) -> Result<(), AllocError>
     ensures added { OnOk result (ids.new.items ≡ ids.old.items ++ number ∷ []) }
 {
     if ids.is_empty() {
-        ids.reserve_exact(16)?;
+        ids.reserve_exact(14)?;
     }
     ids.push(number)?;
     Ok(())

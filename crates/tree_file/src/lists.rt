@@ -1,7 +1,6 @@
-ghost use Rattle.std.specs.Prelude.{◌≡◌, ◌≢◌, ◌+◌, ◌≤◌, length, map, IsTrue, OnOk, IfErr};
+ghost use Rattle.std.specs.Prelude.{◌≡◌, ◌≢◌, ◌+◌, ◌≤◌, length, map, IsTrue, OnOk, IfErr, is_ok, None};
 ghost use Rattle.quota_types.specs.declared.file_kind.Format.TheVariants.{V1};
 ghost use Rattle.quota_blocks.specs.Frame.{OnlyReads};
-ghost use Rattle.quota_blocks.specs.Unsynced.{AddsNone};
 ghost use Rattle.quota_blocks.specs.CheckFault.{IsCheckFault};
 ghost use Rattle.quota_blocks.specs.Block.{bytes_of};
 ghost use Rattle.tree_file.specs.Found.{HasNoEmptyBlock, IsListedDefect};
@@ -29,20 +28,19 @@ pub(crate) fn check_lists<S: Store>(
     ensures chained { OnOk result (IsTrue S.tells
         → AreGroupsOf header.now.blocks (leaves (bytes_of ((S.seen store.old).files name.now)) header.now.blocks)
         (map (λ ids. ids.items) groups.now)
-        → Chained header.now.format (bytes_of ((S.seen store.old).files name.now)) header.now.blocks header.now.first) }
+        → Chained None header.now.format (bytes_of ((S.seen store.old).files name.now)) header.now.blocks header.now.first) }
     ensures filled { OnOk result (IsTrue S.tells
         → AreGroupsOf header.now.blocks (leaves (bytes_of ((S.seen store.old).files name.now)) header.now.blocks)
         (map (λ ids. ids.items) groups.now)
         → HasNoEmptyBlock (bytes_of ((S.seen store.old).files name.now)) header.now.blocks
-        → Filled header.now.format (bytes_of ((S.seen store.old).files name.now)) header.now.blocks) }
+        → Filled None header.now.format (bytes_of ((S.seen store.old).files name.now)) header.now.blocks) }
     ensures refused { IfErr result (IsCheckFault (S.seen store.old).faults (S.seen store.new).faults
         (λ damage. IsTrue S.tells
         → AreGroupsOf header.now.blocks (leaves (bytes_of ((S.seen store.old).files name.now)) header.now.blocks)
         (map (λ ids. ids.items) groups.now)
         → IsListedDefect header.now.format (bytes_of ((S.seen store.old).files name.now)) header.now.blocks
         header.now.first damage)) }
-    ensures leaves { OnlyReads name.now (S.seen store.old) (S.seen store.new) }
-    ensures synced { OnOk result (AddsNone (S.seen store.old).unsynced (S.seen store.new).unsynced) }
+    ensures leaves { OnlyReads (is_ok result) name.now (S.seen store.old) (S.seen store.new) }
     ensures reads { (S.seen store.new).reads ≤ (S.seen store.old).reads + header.now.blocks
         + led_blocks (map (λ ids. ids.items) groups.now) }
 {

@@ -1,6 +1,5 @@
-ghost use Rattle.std.specs.Prelude.{◌≡◌, ◌+◌, ◌*◌, ◌<◌, ◌≤◌, take, vec_len, IsTrue, IfErr, OnOk};
+ghost use Rattle.std.specs.Prelude.{◌≡◌, ◌+◌, ◌*◌, ◌<◌, ◌≤◌, take, vec_len, IsTrue, IfErr, OnOk, is_ok};
 ghost use Rattle.quota_blocks.specs.Frame.{OnlyReads};
-ghost use Rattle.quota_blocks.specs.Unsynced.{AddsNone};
 ghost use Rattle.quota_blocks.specs.CheckFault.{IsCheckFault};
 ghost use Rattle.quota_blocks.specs.Block.{bytes_of};
 
@@ -21,8 +20,7 @@ pub(crate) fn append_block<S: Store>(
     ensures within { OnOk result (vec_len bytes.new ≤ 1024 * (block + 1)) }
     ensures front { OnOk result (0 < block → take 1024 bytes.new.items ≡ take 1024 bytes.old.items) }
     ensures refused { IfErr result (IsCheckFault (S.seen store.old).faults (S.seen store.new).faults (λ _. ⊥)) }
-    ensures leaves { OnlyReads name.now (S.seen store.old) (S.seen store.new) }
-    ensures synced { OnOk result (AddsNone (S.seen store.old).unsynced (S.seen store.new).unsynced) }
+    ensures leaves { OnlyReads (is_ok result) name.now (S.seen store.old) (S.seen store.new) }
     ensures reads { OnOk result ((S.seen store.new).reads ≤ (S.seen store.old).reads + 1) }
 {
     if bytes.len() < BLOCK * block as usize {
@@ -50,8 +48,7 @@ pub(crate) fn load_rest<S: Store>(
     ensures within { OnOk result (vec_len bytes.new ≤ 1024 * blocks) }
     ensures front { OnOk result (take 1024 bytes.new.items ≡ bytes.old.items) }
     ensures refused { IfErr result (IsCheckFault (S.seen store.old).faults (S.seen store.new).faults (λ _. ⊥)) }
-    ensures leaves { OnlyReads name.now (S.seen store.old) (S.seen store.new) }
-    ensures synced { OnOk result (AddsNone (S.seen store.old).unsynced (S.seen store.new).unsynced) }
+    ensures leaves { OnlyReads (is_ok result) name.now (S.seen store.old) (S.seen store.new) }
     ensures reads { OnOk result ((S.seen store.new).reads + 1 ≤ (S.seen store.old).reads + blocks) }
 {
     bytes.reserve_exact(BLOCK * blocks as usize - bytes.len())?;

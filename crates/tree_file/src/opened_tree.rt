@@ -1,24 +1,20 @@
-ghost use Rattle.std.specs.Prelude.{◌≡◌, ◌+◌, ◌*◌, ◌^◌, ◌<◌, ◌≤◌, ℕ, Bool, List, Option, length, not, None, vec_len, IsTrue, IfErr, IfSome, OnOk, OnErr};
-ghost use Rattle.std.specs.String.{string_bytes};
+ghost use Rattle.std.specs.Prelude.{◌≡◌, ◌+◌, ◌*◌, ◌^◌, ◌<◌, ◌≤◌, ℕ, Bool, false, List, Option, length, None, vec_len, IsTrue, IfSome};
 ghost use Rattle.quota_types.specs.Kept.{IsKept};
 ghost use Rattle.quota_types.specs.Range.{grace_unfit};
-ghost use Rattle.quota_blocks.specs.FileChange.{IsLeft};
-ghost use Rattle.quota_blocks.specs.Frame.{IsSynced, OnlyReads, ReplacesOne};
-ghost use Rattle.quota_blocks.specs.QuotaFile.{CountsRefusal, IfFull, IsChangeFault, OnStore, UnlessStoreFailed, is_store_fault};
+ghost use Rattle.quota_blocks.specs.Changes.{Changes};
+ghost use Rattle.quota_blocks.specs.FileChange.{FileChange, has_nothing_to_do};
 ghost use Rattle.quota_blocks.specs.QuotaValue.{QuotaValue};
-ghost use Rattle.quota_blocks.specs.Replace.{replaced_files, replacement_name};
-ghost use Rattle.quota_blocks.specs.World.{KeepsOthers, overwritten};
+ghost use Rattle.quota_blocks.specs.World.{overwritten};
 ghost use Rattle.entry_codec.specs.Header.{AreOf, header_of};
-ghost use Rattle.tree_file.specs.Opened.{HoldsTree, LacksRoom, MayRefuse, tree_seen};
-ghost use Rattle.tree_file.specs.Rebuilt.{value_changed};
-ghost use Rattle.tree_file.specs.TreeChange.{IsBuiltAnew, IsRewriteFault, WritesWhole};
+ghost use Rattle.tree_file.specs.Opened.{HoldsTree};
+ghost use Rattle.tree_file.specs.TreeChange.{IsChangedTree, record_change, tree_at, tree_laws};
 ghost use Rattle.tree_build.specs.TreeFile.{TreeStandsFor};
 
 use crate::changed_tree::{GRACE_AT, grace_bytes, rebuilt};
 use crate::loaded::LoadedTree;
 use crate::overwriting::place_to_overwrite;
 use entry_codec::{entry_size, write_entry};
-use quota_blocks::{FileFault, QuotaFile, Store, replace};
+use quota_blocks::{FileFault, FileUse, QuotaFile, Store};
 use quota_types::{Damage, Entry, Format, Grace, Rec};
 
 /// An opened tree file, which keeps the file's name and its blocks.
@@ -30,11 +26,9 @@ use quota_types::{Damage, Entry, Format, Grace, Rec};
 /// is held.
 #[derive(Debug, Drop)]
 pub struct TreeFile {
-    pub(crate) name: String,
+    pub(crate) opened: FileUse,
     pub(crate) tree: LoadedTree,
     pub(crate) limit: u32,
-    pub(crate) usable: bool,
-    pub(crate) refusals: u64,
     ghost grace: { grace_unfit tree.header.format tree.header.grace ≡ None },
     ghost two: { 2 ≤ tree.header.blocks },
     ghost narrow: { tree.header.blocks < 2 ^ 32 },
@@ -51,65 +45,23 @@ impl TreeFile {
         self.tree.header.flags
     }
 
-    /// Counts a refused call, and answers its fault. After one of the store the file is not used again.
-    fn refused(&mut self, fault: FileFault) -> FileFault
-        ensures same { result ≡ fault }
-        ensures bytes { self.new.tree.bytes.items ≡ self.old.tree.bytes.items }
-        ensures limit { self.new.limit ≡ self.old.limit }
-        ensures counted { CountsRefusal (not (is_store_fault fault))
-            (tree_seen (string_bytes self.old.name) self.old.tree.header.format self.old.usable self.old.limit
-            self.old.refusals)
-            (tree_seen (string_bytes self.new.name) self.new.tree.header.format self.new.usable self.new.limit
-            self.new.refusals) }
-    {
-        self.usable = fault != FileFault::Store;
-        self.refusals = self.refusals.saturating_add(1);
-        fault
-    }
-
     /// Puts a file of these blocks in the place of the named one, and keeps them.
     fn rewrite<S: Store>(&mut self, store: &mut S, tree: LoadedTree) -> Result<(), FileFault>
-        requires usable { IsTrue self.old.usable }
+        requires usable { IsTrue self.old.opened.usable }
         requires grace { grace_unfit tree.header.format tree.header.grace ≡ None }
         requires two { 2 ≤ tree.header.blocks }
         requires few { tree.header.blocks ≤ self.old.limit }
         requires limited { vec_len tree.bytes ≤ 1024 * tree.header.blocks }
         requires format { tree.header.format ≡ self.old.tree.header.format }
-        ensures ok { OnOk result (IsTrue S.tells → (S.seen store.new).files
-            ≡ replaced_files (S.seen store.old).files (string_bytes self.old.name) tree.bytes.items) }
-        ensures holds { OnOk result ((value value' : QuotaValue)
-            → (TreeStandsFor self.old.tree.bytes.items value → TreeStandsFor tree.bytes.items value')
-            → HoldsTree S.tells ((S.seen store.old).files (string_bytes self.old.name)) self.old.tree.bytes.items
-            self.old.limit value
-            → HoldsTree S.tells ((S.seen store.new).files (string_bytes self.new.name)) self.new.tree.bytes.items
-            self.new.limit value') }
-        ensures unloaded { OnErr result (self.new.tree.bytes.items ≡ self.old.tree.bytes.items) }
-        ensures unchanged { OnErr result (KeepsOthers (replacement_name (string_bytes self.old.name))
-            (S.seen store.old).files (S.seen store.new).files) }
-        ensures refused { IfErr result (IsRewriteFault (S.seen store.old).faults (S.seen store.new).faults) }
-        ensures unwritten { IfErr result (λ fault. UnlessStoreFailed fault
-            (OnlyReads (string_bytes self.old.name) (S.seen store.old) (S.seen store.new))) }
-        ensures leaves { ReplacesOne (string_bytes self.old.name) (S.seen store.old) (S.seen store.new) }
-        ensures synced { OnOk result (IsTrue S.tells
-            → IsSynced (string_bytes self.old.name) (S.seen store.old) (S.seen store.new)) }
-        ensures same { OnOk result (tree_seen (string_bytes self.new.name) self.new.tree.header.format self.new.usable
-            self.new.limit self.new.refusals
-            ≡ tree_seen (string_bytes self.old.name) self.old.tree.header.format self.old.usable self.old.limit
-            self.old.refusals) }
-        ensures counted { IfErr result (λ fault. CountsRefusal (not (is_store_fault fault))
-            (tree_seen (string_bytes self.old.name) self.old.tree.header.format self.old.usable self.old.limit
-            self.old.refusals)
-            (tree_seen (string_bytes self.new.name) self.new.tree.header.format self.new.usable self.new.limit
-            self.new.refusals)) }
+        ensures { (change : FileChange) → IsChangedTree change self.old.tree.bytes.items tree.bytes.items
+            → Changes change (tree_laws S.tells)
+            (tree_at S.tells self.old.opened self.old.tree self.old.limit (S.seen store.old))
+            (tree_at S.tells self.new.opened self.new.tree self.new.limit (S.seen store.new)) result }
     {
         let alloc = *self.tree.bytes.allocator();
-        match replace(alloc, store, self.name.as_str(), tree.bytes.as_slice()) {
-            Ok(()) => {
-                self.tree = tree;
-                Ok(())
-            }
-            Err(fault) => Err(self.refused(FileFault::from(fault))),
-        }
+        self.opened.replace(alloc, store, tree.bytes.as_slice())?;
+        self.tree = tree;
+        Ok(())
     }
 
     /// Puts a file in the place of the named one that has its blocks, but for a span that begins at a place and has these
@@ -121,47 +73,26 @@ impl TreeFile {
         span: &mut [u8],
         grace: Grace,
     ) -> Result<(), FileFault>
-        requires usable { IsTrue self.old.usable }
+        requires usable { IsTrue self.old.opened.usable }
         requires inside { at + length span.old ≤ vec_len self.old.tree.bytes }
         requires grace { grace_unfit self.old.tree.header.format grace ≡ None }
         requires of { AreOf (record self.old.tree.header { grace = grace })
             (header_of (overwritten self.old.tree.bytes.items at span.old)) }
-        ensures ok { OnOk result (IsTrue S.tells → (S.seen store.new).files
-            ≡ replaced_files (S.seen store.old).files (string_bytes self.old.name)
-            (overwritten self.old.tree.bytes.items at span.old)) }
-        ensures holds { OnOk result ((value value' : QuotaValue)
-            → (TreeStandsFor self.old.tree.bytes.items value → TreeStandsFor (overwritten self.old.tree.bytes.items at span.old) value')
-            → HoldsTree S.tells ((S.seen store.old).files (string_bytes self.old.name)) self.old.tree.bytes.items
-            self.old.limit value
-            → HoldsTree S.tells ((S.seen store.new).files (string_bytes self.new.name)) self.new.tree.bytes.items
-            self.new.limit value') }
-        ensures unloaded { OnErr result (self.new.tree.bytes.items ≡ self.old.tree.bytes.items) }
-        ensures unchanged { OnErr result (KeepsOthers (replacement_name (string_bytes self.old.name))
-            (S.seen store.old).files (S.seen store.new).files) }
-        ensures refused { IfErr result (IsRewriteFault (S.seen store.old).faults (S.seen store.new).faults) }
-        ensures unwritten { IfErr result (λ fault. UnlessStoreFailed fault
-            (OnlyReads (string_bytes self.old.name) (S.seen store.old) (S.seen store.new))) }
-        ensures leaves { ReplacesOne (string_bytes self.old.name) (S.seen store.old) (S.seen store.new) }
-        ensures synced { OnOk result (IsTrue S.tells
-            → IsSynced (string_bytes self.old.name) (S.seen store.old) (S.seen store.new)) }
-        ensures same { OnOk result (tree_seen (string_bytes self.new.name) self.new.tree.header.format self.new.usable
-            self.new.limit self.new.refusals
-            ≡ tree_seen (string_bytes self.old.name) self.old.tree.header.format self.old.usable self.old.limit
-            self.old.refusals) }
-        ensures counted { IfErr result (λ fault. CountsRefusal (not (is_store_fault fault))
-            (tree_seen (string_bytes self.old.name) self.old.tree.header.format self.old.usable self.old.limit
-            self.old.refusals)
-            (tree_seen (string_bytes self.new.name) self.new.tree.header.format self.new.usable self.new.limit
-            self.new.refusals)) }
+        ensures { (change : FileChange)
+            → IsChangedTree change self.old.tree.bytes.items (overwritten self.old.tree.bytes.items at span.old)
+            → Changes change (tree_laws S.tells)
+            (tree_at S.tells self.old.opened self.old.tree self.old.limit (S.seen store.old))
+            (tree_at S.tells self.new.opened self.new.tree self.new.limit (S.seen store.new)) result }
     {
         let mut grace = grace;
         self.tree.exchange(at, span, &mut grace);
         let alloc = *self.tree.bytes.allocator();
-        match replace(alloc, store, self.name.as_str(), self.tree.bytes.as_slice()) {
+        let bytes = self.tree.bytes.as_slice();
+        match self.opened.replace(alloc, store, bytes) {
             Ok(()) => Ok(()),
             Err(fault) => {
                 self.tree.exchange(at, span, &mut grace);
-                Err(self.refused(FileFault::from(fault)))
+                Err(fault)
             }
         }
     }
@@ -174,63 +105,13 @@ impl TreeFile {
         id: u32,
         rec: Option<Rec>,
     ) -> Result<(), FileFault>
-        requires usable { IsTrue self.old.usable }
+        requires usable { IsTrue self.old.opened.usable }
         requires kept { IfSome rec (IsKept self.old.tree.header.format id) }
-        ensures changed { OnOk result ((value : QuotaValue)
-            → HoldsTree S.tells ((S.seen store.old).files (string_bytes self.old.name)) self.old.tree.bytes.items
-            self.old.limit value
-            → HoldsTree S.tells ((S.seen store.new).files (string_bytes self.new.name)) self.new.tree.bytes.items
-            self.new.limit (value_changed value id rec)) }
-        ensures makes { OnOk result ((value : QuotaValue)
-            → HoldsTree S.tells ((S.seen store.old).files (string_bytes self.old.name)) self.old.tree.bytes.items
-            self.old.limit value
-            → WritesWhole IsBuiltAnew (string_bytes self.old.name) (S.seen store.old).files (S.seen store.new).files) }
-        ensures room { OnOk result ((value : QuotaValue) (blocks limit : ℕ)
-            → HoldsTree S.tells ((S.seen store.old).files (string_bytes self.old.name)) self.old.tree.bytes.items
-            self.old.limit value
-            → ¬ (LacksRoom (tree_seen (string_bytes self.old.name) self.old.tree.header.format self.old.usable
-            self.old.limit self.old.refusals) (value_changed value id rec) blocks limit)) }
-        ensures full { (value : QuotaValue) (blocks limit : ℕ)
-            → HoldsTree S.tells ((S.seen store.old).files (string_bytes self.old.name)) self.old.tree.bytes.items
-            self.old.limit value
-            → LacksRoom (tree_seen (string_bytes self.old.name) self.old.tree.header.format self.old.usable
-            self.old.limit self.old.refusals) (value_changed value id rec) blocks limit
-            → OnlyReads (string_bytes self.old.name) (S.seen store.old) (S.seen store.new) }
-        ensures may { IfErr result MayRefuse }
-        ensures passes { IfErr result (λ fault. IfFull fault (λ blocks limit. limit < blocks)) }
-        ensures refused { IfErr result (IsChangeFault (S.seen store.old).faults (S.seen store.new).faults
-            (HoldsTree S.tells ((S.seen store.old).files (string_bytes self.old.name)) self.old.tree.bytes.items
-            self.old.limit) (λ blocks limit. (value : QuotaValue)
-            → HoldsTree S.tells ((S.seen store.old).files (string_bytes self.old.name)) self.old.tree.bytes.items
-            self.old.limit value
-            → LacksRoom (tree_seen (string_bytes self.old.name) self.old.tree.header.format self.old.usable
-            self.old.limit self.old.refusals) (value_changed value id rec) blocks limit)) }
-        ensures stays { IfErr result (λ fault. UnlessStoreFailed fault ((value : QuotaValue)
-            → HoldsTree S.tells ((S.seen store.old).files (string_bytes self.old.name)) self.old.tree.bytes.items
-            self.old.limit value
-            → HoldsTree S.tells ((S.seen store.new).files (string_bytes self.new.name)) self.new.tree.bytes.items
-            self.new.limit value)) }
-        ensures unwritten { IfErr result (λ fault. UnlessStoreFailed fault
-            (OnlyReads (string_bytes self.old.name) (S.seen store.old) (S.seen store.new))) }
-        ensures left { IfErr result (λ fault. OnStore fault ((value : QuotaValue)
-            → HoldsTree S.tells ((S.seen store.old).files (string_bytes self.old.name)) self.old.tree.bytes.items
-            self.old.limit value
-            → IsLeft (WritesWhole IsBuiltAnew (string_bytes self.old.name)) (λ old _ left. left ≡ old)
-            (string_bytes self.old.name) (S.seen store.old).files (S.seen store.new).files)) }
-        ensures unchanged { OnErr result (KeepsOthers (replacement_name (string_bytes self.old.name))
-            (S.seen store.old).files (S.seen store.new).files) }
-        ensures leaves { ReplacesOne (string_bytes self.old.name) (S.seen store.old) (S.seen store.new) }
-        ensures synced { OnOk result (IsTrue S.tells
-            → IsSynced (string_bytes self.old.name) (S.seen store.old) (S.seen store.new)) }
-        ensures same { OnOk result (tree_seen (string_bytes self.new.name) self.new.tree.header.format self.new.usable
-            self.new.limit self.new.refusals
-            ≡ tree_seen (string_bytes self.old.name) self.old.tree.header.format self.old.usable self.old.limit
-            self.old.refusals) }
-        ensures counted { IfErr result (λ fault. CountsRefusal (not (is_store_fault fault))
-            (tree_seen (string_bytes self.old.name) self.old.tree.header.format self.old.usable self.old.limit
-            self.old.refusals)
-            (tree_seen (string_bytes self.new.name) self.new.tree.header.format self.new.usable self.new.limit
-            self.new.refusals)) }
+        requires busy { (value : QuotaValue) → TreeStandsFor self.old.tree.bytes.items value
+            → has_nothing_to_do (record_change id rec) value ≡ false }
+        ensures { Changes (record_change id rec) (tree_laws S.tells)
+            (tree_at S.tells self.old.opened self.old.tree self.old.limit (S.seen store.old))
+            (tree_at S.tells self.new.opened self.new.tree self.new.limit (S.seen store.new)) result }
     {
         if let Some(rec) = &rec {
             if let Some(at) = place_to_overwrite(&self.tree, id) {
@@ -244,34 +125,38 @@ impl TreeFile {
         let alloc = *self.tree.bytes.allocator();
         match rebuilt(alloc, &self.tree, self.limit, id, rec) {
             Ok(tree) => self.rewrite(store, tree),
-            Err(fault) => Err(self.refused(fault)),
+            Err(fault) => Err(self.opened.refused(fault)),
         }
     }
 }
 
 impl<S: Store> QuotaFile<S> for TreeFile {
     ghost use Rattle.std.specs.String.{string_bytes};
-    ghost use Rattle.tree_file.specs.Opened.{HoldsTree, LacksRoom, MayRefuse, tree_seen};
+    ghost use Rattle.quota_blocks.specs.FileUse.{seen_in};
+    ghost use Rattle.tree_file.specs.Opened.{HoldsTree, LacksRoom, MayRefuse};
     ghost use Rattle.tree_file.specs.Rests.{rests_on_named};
     ghost use Rattle.tree_file.specs.TreeChange.{TreeMakes};
 
-    ghost holds = { λ file store value. HoldsTree S.tells ((S.seen store).files (string_bytes file.name))
+    ghost holds = { λ file store value. HoldsTree S.tells ((S.seen store).files (string_bytes file.opened.name))
         file.tree.bytes.items file.limit value };
 
-    ghost seen = { λ file. tree_seen (string_bytes file.name) file.tree.header.format file.usable file.limit
-        file.refusals };
+    ghost seen = { λ file. seen_in file.opened file.tree.header.format file.limit };
 
     ghost may_refuse = { λ _ fault. MayRefuse fault };
 
     ghost lacks_room = { λ seen _ value blocks limit. LacksRoom seen value blocks limit };
 
-    ghost makes = { TreeMakes };
+    ghost makes = { λ _ change. TreeMakes change };
 
     ghost may_leave = { λ _ old _ left. left ≡ old };
 
     ghost get_reads = { λ _. 0 };
 
     ghost next_reads = { λ _ _. 0 };
+
+    ghost change_reads = { λ _. 0 };
+
+    ghost change_writes = { λ seen. seen.limit };
 
     ghost rests_on_named = { λ file one other value named held.
         rests_on_named _ _ _ file.tree.bytes.items file.limit value named held };
@@ -281,7 +166,7 @@ impl<S: Store> QuotaFile<S> for TreeFile {
     }
 
     fn usable(&self) -> bool {
-        self.usable
+        self.opened.is_usable()
     }
 
     fn grace(&self) -> Grace {
@@ -291,7 +176,7 @@ impl<S: Store> QuotaFile<S> for TreeFile {
     fn get(&mut self, _store: &mut S, id: u32) -> Result<Option<Rec>, FileFault> {
         match self.tree.record_of(id) {
             Ok(found) => Ok(found),
-            Err(damage) => Err(self.refused(FileFault::Damage(damage))),
+            Err(damage) => Err(self.opened.refused(FileFault::Damage(damage))),
         }
     }
 
@@ -302,7 +187,7 @@ impl<S: Store> QuotaFile<S> for TreeFile {
     ) -> Result<Option<Entry>, FileFault> {
         match self.tree.next_record(after) {
             Ok(found) => Ok(found),
-            Err(damage) => Err(self.refused(FileFault::Damage(damage))),
+            Err(damage) => Err(self.opened.refused(FileFault::Damage(damage))),
         }
     }
 
@@ -314,7 +199,7 @@ impl<S: Store> QuotaFile<S> for TreeFile {
         match self.tree.record_of(id) {
             Ok(Some(_)) => self.rebuild(store, id, None),
             Ok(None) => Ok(()),
-            Err(damage) => Err(self.refused(FileFault::Damage(damage))),
+            Err(damage) => Err(self.opened.refused(FileFault::Damage(damage))),
         }
     }
 

@@ -1,4 +1,4 @@
-ghost use Rattle.std.specs.Prelude.{◌≡◌, ◌≢◌, ◌+◌, ◌*◌, ◌<◌, ◌≤◌, ℕ, List, Option, take, true, vec_len, None, Ok, Some, IsTrue, IfErr, IfOk, IsSome, IsSomeAnd, OnOk};
+ghost use Rattle.std.specs.Prelude.{◌≡◌, ◌≢◌, ◌+◌, ◌*◌, ◌<◌, ◌≤◌, ℕ, List, Option, take, true, vec_len, None, Ok, Some, IsTrue, IfErr, IfOk, IsSome, IsSomeAnd, OnOk, is_ok};
 ghost use Rattle.entry_codec.specs.Header.{AreOf, header_of};
 ghost use Rattle.quota_types.specs.Range.{grace_unfit};
 ghost use Rattle.quota_types.specs.declared.damage.Damage.{Damage};
@@ -6,28 +6,27 @@ ghost use Rattle.quota_types.specs.declared.file_kind.Format.{Format};
 ghost use Rattle.quota_types.specs.declared.file_kind.Kind.{Kind};
 ghost use Rattle.quota_blocks.specs.Frame.{OnlyReads};
 ghost use Rattle.quota_blocks.specs.QuotaValue.{QuotaValue};
-ghost use Rattle.quota_blocks.specs.Unsynced.{AddsNone};
 ghost use Rattle.std.specs.Bool.{OnFalse, OnTrue};
 ghost use Rattle.quota_blocks.specs.CheckFault.{IsCheckFault};
 ghost use Rattle.quota_blocks.specs.Block.{bytes_of};
 ghost use Rattle.tree_build.specs.Defect.{IsTreeDefect};
-ghost use Rattle.tree_file.specs.Opened.{tree_seen};
 ghost use Rattle.tree_build.specs.TreeFile.{TreeStandsFor};
 ghost use Rattle.tree_file.specs.View.{FitsRequest, HasHeader, IsAsAsked, IsRefusedHeader, IsTreeFault, IsTreeView};
 
+use crate::TreeFile;
+use crate::checking::{check_length, check_loaded};
 use crate::file_header::header_in;
 use crate::loaded::LoadedTree;
 use crate::loading::{append_block, load_rest};
-use crate::{TreeFile, check};
 use entry_codec::{Header, HeaderFault};
-use quota_blocks::{CheckFault, OpenFault, QuotaFile, Store};
+use quota_blocks::{CheckFault, FileUse, OpenFault, QuotaFile, Store};
 use quota_types::{Format, Kind};
 use std::alloc::Global;
 
-/// Opens a tree file, which is checked, and whose blocks are then loaded. Bytes behind the last block are left out.
+/// Opens a tree file, whose blocks are loaded and then checked. Bytes behind the last block are left out.
 ///
-/// It has one of the kind, of the format that is asked for, where one is, and at most `limit` blocks. The header is read
-/// once, each block at most twice for the check and once to load it.
+/// It has one of the kind, of the format that is asked for, where one is, and at most `limit` blocks. Each block is read at
+/// most once.
 ///
 /// # Errors
 ///
@@ -48,16 +47,20 @@ pub fn open_tree<S: Store>(
     ensures held { IfOk result (λ file. IsTrue S.tells → (value : QuotaValue)
         → IsTreeView ((S.seen store.old).files name.now) kind format limit (Ok value)
         → ⟦<TreeFile as QuotaFile<S>>⟧.holds file store.new value) }
-    ensures fresh { IfOk result (λ file. ⟦<TreeFile as QuotaFile<S>>⟧.seen file
-        ≡ tree_seen name.now (⟦<TreeFile as QuotaFile<S>>⟧.seen file).format true limit 0) }
+    ensures fresh { IfOk result (λ file. ⟦<TreeFile as QuotaFile<S>>⟧.seen file ≡ record {
+      name = name.now;
+      format = (⟦<TreeFile as QuotaFile<S>>⟧.seen file).format;
+      usable = true;
+      limit = limit;
+      refusals = 0;
+    }) }
     ensures tree { IfOk result (λ file. (⟦<TreeFile as QuotaFile<S>>⟧.seen file).format ≢ Format.V1) }
     ensures as_asked { IfOk result (λ file. IsAsAsked format (⟦<TreeFile as QuotaFile<S>>⟧.seen file).format) }
     ensures refused { IfErr result (IsTreeFault (S.seen store.old).faults (S.seen store.new).faults S.tells
         ((S.seen store.old).files name.now) kind format limit) }
-    ensures leaves { OnlyReads name.now (S.seen store.old) (S.seen store.new) }
-    ensures synced { OnOk result (AddsNone (S.seen store.old).unsynced (S.seen store.new).unsynced) }
+    ensures leaves { OnlyReads (is_ok result) name.now (S.seen store.old) (S.seen store.new) }
     ensures reads { OnOk result (IsTrue S.tells → (S.seen store.new).reads
-        ≤ (S.seen store.old).reads + 3 * (header_of (bytes_of ((S.seen store.old).files name.now))).blocks) }
+        ≤ (S.seen store.old).reads + (header_of (bytes_of ((S.seen store.old).files name.now))).blocks) }
 {
     let own_name = match String::from_str(alloc, name) {
         Ok(own_name) => own_name,
@@ -67,11 +70,9 @@ pub fn open_tree<S: Store>(
     let header = accepted_header(first.as_slice(), kind, format, limit)?;
     let tree = checked_tree(alloc, store, name, first, header)?;
     Ok(TreeFile {
-        name: own_name,
+        opened: FileUse::new(own_name),
         tree,
         limit,
-        usable: true,
-        refusals: 0,
     })
 }
 
@@ -84,8 +85,7 @@ fn first_block<S: Store>(alloc: Global, store: &mut S, name: &str) -> Result<Vec
     ensures refused { IfErr result (λ fault. (kind : Kind) (asked : Option Format) (limit : ℕ)
         → IsTreeFault (S.seen store.old).faults (S.seen store.new).faults S.tells
         ((S.seen store.old).files name.now) kind asked limit fault) }
-    ensures leaves { OnlyReads name.now (S.seen store.old) (S.seen store.new) }
-    ensures synced { OnOk result (AddsNone (S.seen store.old).unsynced (S.seen store.new).unsynced) }
+    ensures leaves { OnlyReads (is_ok result) name.now (S.seen store.old) (S.seen store.new) }
     ensures reads { OnOk result ((S.seen store.new).reads ≤ (S.seen store.old).reads + 1) }
 {
     match store.size(name) {
@@ -149,7 +149,8 @@ fn is_other(asked: Option<Format>, format: Format) -> bool
     }
 }
 
-/// The blocks of a file, of which the first one was loaded and begins with this header, once they were checked.
+/// The blocks of a file, of which the first one was loaded and begins with this header, once they were checked. That the
+/// file is long enough is checked before memory is taken for them.
 fn checked_tree<S: Store>(
     alloc: Global,
     store: &mut S,
@@ -163,7 +164,7 @@ fn checked_tree<S: Store>(
     requires within { vec_len first ≤ 1024 }
     ensures header { IfOk result (λ tree. tree.header ≡ header) }
     ensures stands { OnOk result (IsTrue S.tells
-        → AreOf header (header_of (bytes_of ((S.seen store.old).files name.now)))
+        → first.items ≡ take 1024 (bytes_of ((S.seen store.old).files name.now))
         → (value : QuotaValue) × TreeStandsFor (bytes_of ((S.seen store.old).files name.now)) value) }
     ensures loaded { IfOk result (λ tree. IsTrue S.tells
         → first.items ≡ take 1024 (bytes_of ((S.seen store.old).files name.now))
@@ -171,15 +172,15 @@ fn checked_tree<S: Store>(
     ensures few { IfOk result (λ tree. vec_len tree.bytes ≤ 1024 * header.blocks) }
     ensures refused { IfErr result (IsCheckFault (S.seen store.old).faults (S.seen store.new).faults
         (λ damage. IsTrue S.tells
-        → AreOf header (header_of (bytes_of ((S.seen store.old).files name.now)))
+        → first.items ≡ take 1024 (bytes_of ((S.seen store.old).files name.now))
         → IsTreeDefect header.format (bytes_of ((S.seen store.old).files name.now))
         (header_of (bytes_of ((S.seen store.old).files name.now))) damage)) }
-    ensures leaves { OnlyReads name.now (S.seen store.old) (S.seen store.new) }
-    ensures synced { OnOk result (AddsNone (S.seen store.old).unsynced (S.seen store.new).unsynced) }
-    ensures reads { OnOk result ((S.seen store.new).reads + 1 ≤ (S.seen store.old).reads + 3 * header.blocks) }
+    ensures leaves { OnlyReads (is_ok result) name.now (S.seen store.old) (S.seen store.new) }
+    ensures reads { OnOk result ((S.seen store.new).reads + 1 ≤ (S.seen store.old).reads + header.blocks) }
 {
-    check(alloc, store, name, &header)?;
+    check_length(store, name, header.blocks)?;
     let mut bytes = first;
     load_rest(store, name, header.blocks, &mut bytes)?;
+    let bytes = check_loaded(alloc, bytes, &header)?;
     Ok(LoadedTree { bytes, header })
 }

@@ -1,6 +1,5 @@
-ghost use Rattle.std.specs.Prelude.{◌≡◌, ◌+◌, ◌*◌, ◌≤◌, map, IsTrue, IfOk, IfErr, vec_len, OnOk};
+ghost use Rattle.std.specs.Prelude.{◌≡◌, ◌+◌, ◌*◌, ◌≤◌, map, IsTrue, IfOk, IfErr, vec_len, is_ok};
 ghost use Rattle.quota_blocks.specs.Frame.{OnlyReads};
-ghost use Rattle.quota_blocks.specs.Unsynced.{AddsNone};
 ghost use Rattle.quota_blocks.specs.CheckFault.{IsCheckFault};
 ghost use Rattle.quota_blocks.specs.Block.{bytes_of};
 ghost use Rattle.tree_file.specs.Found.{AreRoles, IsRoleDefect};
@@ -43,8 +42,7 @@ pub(crate) fn check_roles<S: Store>(
     ensures refused { IfErr result (IsCheckFault (S.seen store.old).faults (S.seen store.new).faults
         (λ damage. IsTrue S.tells
         → IsRoleDefect (bytes_of ((S.seen store.old).files name.now)) blocks free_head damage)) }
-    ensures leaves { OnlyReads name.now (S.seen store.old) (S.seen store.new) }
-    ensures synced { OnOk result (AddsNone (S.seen store.old).unsynced (S.seen store.new).unsynced) }
+    ensures leaves { OnlyReads (is_ok result) name.now (S.seen store.old) (S.seen store.new) }
     ensures reads { IfOk result (λ roles. (S.seen store.new).reads
         + led_blocks (map (λ ids. ids.items) roles.groups.items) ≤ (S.seen store.old).reads + blocks) }
     ensures few_reads { (S.seen store.new).reads ≤ (S.seen store.old).reads + 2 * blocks }

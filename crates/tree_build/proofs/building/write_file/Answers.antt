@@ -1,6 +1,7 @@
 use Rattle.std.proofs.Common.{◌≡◌, ℕ, ◌+◌, ◌^◌, List, length, sym, ap, subst, ◌∙◌, arith}
 use Rattle.std.specs.List.{flat_map, range_with_len}
 use Rattle.std.specs.List.Sorted.{IsStrictlyIncreasing}
+use Rattle.quota_types.proofs.AscendsLemmas.{Ascends-of}
 use Rattle.entry_codec.specs.Header.{header_of}
 use Rattle.quota_radix.specs.declared.tree_path.TreePath.{TreePath}
 use Rattle.quota_blocks.specs.Listed.{ids_of, value_of}
@@ -11,7 +12,6 @@ use Rattle.tree_build.specs.Size.{blocks_needed}
 use Rattle.tree_build.specs.TreeFile.{TreeStandsFor}
 use Rattle.tree_build.proofs.NewFileLemmas.{with_root}
 use Rattle.tree_build.proofs.OnceLemmas.{ascends-parents_of}
-use Rattle.quota_radix.proofs.OrderLemmas.{ascends_of}
 use Rattle.tree_build.proofs.WrittenLemmas.{IsWritten, are, has_no_padding, has_one_room, leaf_numbers, long, needed_by_levels, rising_parents, stands}
 use Rattle.tree_build.proofs.building.write_file.Goals as goal
 
@@ -38,7 +38,7 @@ add_level-requires-2-clause-ascending c =
     let n0 : numbers_of c.as_slice.result.now ≡ ids_of c.args.list.now =
     ap numbers_of c.as_slice.ensures.value ∙ leaf_numbers c.args.header.now.format c.requires.tree c.args.list.now c.in_ok-file.file.blocks c.in_ok-leaves.leaves.items c.in_ok-leaves.ensures.leaves in
     let n1 : numbers_of c.as_slice-2.result.now ≡ parents_of (ids_of c.args.list.now) = ap numbers_of c.as_slice-2.ensures.value ∙ c.in_ok-third.ensures.numbers ∙ ap parents_of n0 in
-    subst IsStrictlyIncreasing (sym n1) (rising_parents (ids_of c.args.list.now) (ascends_of (ids_of c.args.list.now) c.requires.ascending))
+    subst IsStrictlyIncreasing (sym n1) (rising_parents (ids_of c.args.list.now) (Ascends-of (ids_of c.args.list.now) c.requires.ascending))
 
 pub add_level-requires-2-clause-room : goal.add_level-requires-2-clause-room
 add_level-requires-2-clause-room c =
@@ -64,7 +64,7 @@ add_level-requires-3-clause-ascending c =
     let n1 : numbers_of c.as_slice-2.result.now ≡ parents_of (ids_of c.args.list.now) = ap numbers_of c.as_slice-2.ensures.value ∙ c.in_ok-third.ensures.numbers ∙ ap parents_of n0 in
     let n2 : numbers_of c.as_slice-3.result.now ≡ parents_of (parents_of (ids_of c.args.list.now)) = ap numbers_of c.as_slice-3.ensures.value ∙ c.in_ok-second.ensures.numbers ∙ ap parents_of n1 in
     subst IsStrictlyIncreasing (sym n2)
-    (rising_parents (parents_of (ids_of c.args.list.now)) (ascends-parents_of (ids_of c.args.list.now) (ascends_of (ids_of c.args.list.now) c.requires.ascending)))
+    (rising_parents (parents_of (ids_of c.args.list.now)) (ascends-parents_of (ids_of c.args.list.now) (Ascends-of (ids_of c.args.list.now) c.requires.ascending)))
 
 pub add_level-requires-3-clause-room : goal.add_level-requires-3-clause-room
 add_level-requires-3-clause-room c =

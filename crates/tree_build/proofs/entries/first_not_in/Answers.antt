@@ -1,16 +1,17 @@
 use Rattle.std.proofs.Common.{ℕ, arith}
 use Rattle.quota_types.specs.Times.{StandsIn}
-use Rattle.tree_build.proofs.EntryLemmas.{none_of_any, stands_at, stands_in_all, stands_more, stands_of_any}
+use Rattle.quota_types.proofs.TimesLemmas.{StandsIn-get_or, StandsIn-list_any, times-list_any}
+use Rattle.tree_build.proofs.EntryLemmas.{stands_in_all, stands_more}
 use Rattle.tree_build.proofs.entries.first_not_in.Goals as goal
 
 pub returns-then-not-contains : goal.returns-then-not-contains
 returns-then-not-contains c =
-    (stands_at c.args.numbers.now c.loop-number.number-index (omega arith), none_of_any c.args.others.now _ cc)
+    (StandsIn-get_or c.args.numbers.now c.loop-number.number-index (omega arith), times-list_any c.args.others.now _ cc)
 
 pub loop-number-preserved : goal.loop-number-preserved
 loop-number-preserved c =
     stands_more (λ (n : ℕ). StandsIn c.args.others.now n) c.args.numbers.now c.loop-number.number-index (omega arith) c.loop-number.invariant
-    (stands_of_any c.args.others.now _ cc)
+    (StandsIn-list_any c.args.others.now _ cc)
 
 pub returns : goal.returns
 returns c = λ number stands. c.loop-number.invariant number (stands_in_all c.args.numbers.now c.loop-number.number-index number (omega arith) stands)

@@ -1,9 +1,9 @@
 use Rattle.std.proofs.Common.{◌≡◌, ◌/◌, ◌++◌, ◌∙◌, [], ◌∷◌, length, take, drop, List, ℕ, sym, ap, subst, arith}
 use Rattle.std.proofs.lemmas.List.{append-nil}
+use Rattle.quota_types.proofs.AscendsLemmas.{Ascends-of}
 use Rattle.quota_radix.specs.declared.tree_path.TreePath.{TreePath}
 use Rattle.quota_radix.specs.Tree.{numbers_of}
 use Rattle.tree_build.proofs.LevelAddedLemmas.{AreParted, HasLevel, level_all, level_more, level_none, parted}
-use Rattle.quota_radix.proofs.OrderLemmas.{ascends_of}
 use Rattle.tree_build.proofs.TreeBlockLemmas.{no_path}
 use Rattle.tree_build.proofs.new_tree.add_level.Goals as goal
 
@@ -12,7 +12,7 @@ loop-first-init c = record {
   blocks = omega (arith, ap length c.new-parents.ensures.items);
   level = subst (λ (ps : List TreePath). HasLevel c.args.children.now c.args.file.now.blocks c.args.file.now.bytes.items c.args.file.now.bytes.items ps c.args.children.now)
       (sym c.new-parents.ensures.items)
-      (level_none c.args.children.now c.args.file.now.blocks c.args.file.now.bytes.items (ascends_of (numbers_of c.args.children.now) c.requires.ascending));
+      (level_none c.args.children.now c.args.file.now.blocks c.args.file.now.bytes.items (Ascends-of (numbers_of c.args.children.now) c.requires.ascending));
 }
 
 pub loop-first-preserved : goal.loop-first-preserved

@@ -4,11 +4,11 @@ use Rattle.std.proofs.lemmas.List.Elements.{All-push}
 use Rattle.quota_types.specs.Kept.{IsKept, kept_of}
 use Rattle.quota_types.specs.Range.{unfit}
 use Rattle.quota_types.specs.declared.record.Entry.{Entry}
+use Rattle.quota_types.proofs.AscendsLemmas.{IsStrictlyIncreasing-of}
 use Rattle.quota_blocks.specs.QuotaValue.{IsAfter, IsNextAfter}
 use Rattle.quota_blocks.specs.Listed.{ids_of}
 use Rattle.tree_file.specs.Listing.{with_change}
 use Rattle.tree_file.proofs.ListingLemmas.{AscendsUpTo, IsListedUpTo, ascends_more, ascends_none, listed_all, listed_more, listed_none}
-use Rattle.quota_radix.proofs.OrderLemmas.{increasing_of}
 use Rattle.tree_file.proofs.changed_list.changed_entries.Goals as goal
 
 pub loop-list-init : goal.loop-list-init
@@ -43,4 +43,4 @@ returns-clause-entries c = λ value stands.
     listed_all (with_change c.args.id c.args.rec value.records) c.loop-list.after c.loop-list.list.items (c.loop-list.invariant.listed value stands) end
 
 pub returns-clause-ascending : goal.returns-clause-ascending
-returns-clause-ascending c = increasing_of 0 (ids_of c.loop-list.list.items) c.loop-list.invariant.ascends.ascends
+returns-clause-ascending c = IsStrictlyIncreasing-of 0 (ids_of c.loop-list.list.items) c.loop-list.invariant.ascends.ascends

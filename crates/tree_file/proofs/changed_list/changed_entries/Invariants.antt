@@ -5,9 +5,10 @@ use Rattle.quota_types.specs.Range.{unfit}
 use Rattle.quota_types.specs.declared.record.Entry.{Entry}
 use Rattle.quota_blocks.specs.QuotaValue.{QuotaValue}
 use Rattle.quota_blocks.specs.Listed.{ids_of}
+use Rattle.quota_blocks.proofs.EntriesLemmas.{ids_after}
 use Rattle.tree_file.specs.Listing.{with_change}
 use Rattle.tree_build.specs.TreeFile.{TreeStandsFor}
-use Rattle.tree_file.proofs.ListingLemmas.{AscendsUpTo, IsListedUpTo, ids_after}
+use Rattle.tree_file.proofs.ListingLemmas.{AscendsUpTo, IsListedUpTo}
 use Rattle.tree_file.proofs.changed_list.changed_entries.Given as goal
 
 abbrev pub invariant-loop-list : goal.invariant-loop-list

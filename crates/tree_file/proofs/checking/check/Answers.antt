@@ -1,4 +1,4 @@
-use Rattle.std.proofs.Common.{ℕ, ◌∙◌, List, Vec, Global, map, sym, subst, arith}
+use Rattle.std.proofs.Common.{ℕ, ◌∙◌, List, Vec, Global, map, sym, subst, arith, None}
 use Rattle.std.proofs.lemmas.Result.{err_from_is_err_and}
 use Rattle.quota_blocks.specs.Block.{bytes_of}
 use Rattle.tree_file.specs.Found.{AreRoles, HasNoEmptyBlock}
@@ -73,9 +73,9 @@ returns-clause-checked g c = λ told are.
     subst (λ (all : List (Vec ℕ Global)). AreGroupsOf header.blocks (leaves file header.blocks) (map (λ (ids : Vec ℕ Global). ids.items) all))
     (sym c.as_slice-groups.ensures.value) found.groups in
     let same = same_bytes ((g.S.Store.seen c.args.store.now).files) _ c.args.name.now (roles.leaves.files ∙ length.leaves.files) in
-    let chained : Chained header.format file header.blocks header.first =
-    subst (λ (f : List ℕ). AreGroupsOf header.blocks (leaves f header.blocks) groups → Chained header.format f header.blocks header.first) same (lists.chained told) grouped in
-    let filled : Filled header.format file header.blocks =
-    subst (λ (f : List ℕ). AreGroupsOf header.blocks (leaves f header.blocks) groups → HasNoEmptyBlock f header.blocks → Filled header.format f header.blocks) same
+    let chained : Chained None header.format file header.blocks header.first =
+    subst (λ (f : List ℕ). AreGroupsOf header.blocks (leaves f header.blocks) groups → Chained None header.format f header.blocks header.first) same (lists.chained told) grouped in
+    let filled : Filled None header.format file header.blocks =
+    subst (λ (f : List ℕ). AreGroupsOf header.blocks (leaves f header.blocks) groups → HasNoEmptyBlock f header.blocks → Filled None header.format f header.blocks) same
     (lists.filled told) grouped found.not_empty in
     is_checked file header c.in_ok-roles.roles are c.requires.two (length.long told) found chained filled

@@ -1,6 +1,6 @@
 use Rattle.std.proofs.Common.{◌≡◌, ℕ, ◌+◌, cond, nat_le, List, [], length, Vec, Global, Option, map, sym, ap, subst, ◌∙◌, arith}
 use Rattle.std.proofs.lemmas.List.{get_or-map, length-map}
-use Rattle.quota_blocks.proofs.FrameLemmas.{adds_none-then, only_reads-then}
+use Rattle.quota_blocks.proofs.FrameLemmas.{only_reads-then}
 use Rattle.quota_blocks.specs.BlockSet.{AreFlagsOf}
 use Rattle.quota_blocks.specs.Block.{bytes_of}
 use Rattle.tree_build.specs.Compared.{leading_ids, rooms}
@@ -23,7 +23,6 @@ loop-block-preserved g c =
       entries = λ told. entries_more c.args.format _ _ groups block c.as_slice.result.now same group (kept.entries told) (found.entries told);
       room = λ told. room_more c.args.format _ _ groups block c.args.blocks c.as_slice.result.now _ _ same group (omega (arith, c.requires.groups)) (kept.room told) (found.room told);
       leaves = only_reads-then _ _ _ _ kept.leaves found.leaves;
-      synced = adds_none-then _ _ _ kept.synced found.synced;
       reads = omega (
         arith,
         kept.reads,

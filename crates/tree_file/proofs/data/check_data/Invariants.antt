@@ -1,6 +1,5 @@
-use Rattle.std.proofs.Common.{ℕ, ◌+◌, ◌<◌, ◌≤◌, map, take, IsTrue}
+use Rattle.std.proofs.Common.{ℕ, ◌+◌, ◌<◌, ◌≤◌, map, take, IsTrue, true}
 use Rattle.quota_blocks.specs.Frame.{OnlyReads}
-use Rattle.quota_blocks.specs.Unsynced.{AddsNone}
 use Rattle.quota_blocks.specs.BlockSet.{AreFlagsOf}
 use Rattle.quota_blocks.specs.Block.{bytes_of}
 use Rattle.tree_build.specs.Compared.{HasEntriesOf, leading_ids, rooms}
@@ -15,7 +14,6 @@ invariant-loop-block g l =
           → HasEntriesOf l.format (bytes_of ((S.seen l.fn.store).files l.name)) block (leading_ids (map (λ ids. ids.items) l.groups) block);
       room : IsTrue S.tells
           → AreFlagsOf l.blocks l.room.flags.items (rooms l.format (bytes_of ((S.seen l.fn.store).files l.name)) (map (λ ids. ids.items) l.groups) l.block);
-      leaves : OnlyReads l.name (S.seen l.fn.store) (S.seen l.store);
-      synced : AddsNone (S.seen l.fn.store).unsynced (S.seen l.store).unsynced;
+      leaves : OnlyReads true l.name (S.seen l.fn.store) (S.seen l.store);
       reads : (S.seen l.store).reads ≤ (S.seen l.fn.store).reads + led_blocks (take l.block (map (λ ids. ids.items) l.groups));
     }

@@ -11,6 +11,5 @@ loop-block-init g c =
       within = omega (arith, c.requires.first, c.in_ok-reserve_exact.ensures.len);
       front = rw kept (take_all 1024 c.args.bytes.now.items few);
       leaves = only_reads-none _ _;
-      synced = λ name is. is;
       reads = omega arith;
     }

@@ -1,6 +1,5 @@
-use Rattle.std.proofs.Common.{◌≡◌, ◌+◌, ◌*◌, ◌≤◌, IsTrue, take, vec_len}
+use Rattle.std.proofs.Common.{◌≡◌, ◌+◌, ◌*◌, ◌≤◌, IsTrue, take, vec_len, true}
 use Rattle.quota_blocks.specs.Frame.{OnlyReads}
-use Rattle.quota_blocks.specs.Unsynced.{AddsNone}
 use Rattle.quota_blocks.specs.Block.{bytes_of}
 use Rattle.tree_file.proofs.loading.load_rest.Given as goal
 
@@ -12,7 +11,6 @@ invariant-loop-block g l =
           → l.bytes.items ≡ take (1024 * l.block) (bytes_of ((S.seen l.fn.store).files l.name));
       within : vec_len l.bytes ≤ 1024 * l.block;
       front : take 1024 l.bytes.items ≡ l.fn.bytes.items;
-      leaves : OnlyReads l.name (S.seen l.fn.store) (S.seen l.store);
-      synced : AddsNone (S.seen l.fn.store).unsynced (S.seen l.store).unsynced;
+      leaves : OnlyReads true l.name (S.seen l.fn.store) (S.seen l.store);
       reads : (S.seen l.store).reads + 1 ≤ (S.seen l.fn.store).reads + l.block;
     }

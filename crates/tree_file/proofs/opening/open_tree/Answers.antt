@@ -1,5 +1,6 @@
 use Rattle.std.proofs.Common.{◌∙◌, ap, arith}
 use Rattle.std.proofs.lemmas.Result.{err_from_is_err_and}
+use Rattle.quota_blocks.specs.QuotaFile.{FileSeen}
 use Rattle.quota_blocks.specs.World.{World}
 use Rattle.quota_blocks.specs.Block.{bytes_of}
 use Rattle.tree_file.proofs.OpenLemmas.{Begins, are_seen, checked_refused, header_refused, opened_holds, value_seen}
@@ -60,9 +61,14 @@ returns-clause-held g c = λ told value view.
       few = c.in_ok-header.ensures.few;
     } in
     let same = ap (λ (files : World). files c.args.name.now) c.in_ok-first.ensures.leaves.files in
-    rw c.in-Ok.ensures.ok
+    rw (ap (λ (seen : FileSeen). seen.name) (c.new.ensures c.in_ok-header.header.format c.args.limit) ∙ c.in-Ok.ensures.ok)
     (opened_holds g.S.Store.tells _ _ _ c.args.kind c.args.format c.args.limit c.in_ok-first.first.items c.in_ok-tree.tree.bytes.items c.in_ok-header.header value begins same
     (ap (λ (files : World). files c.args.name.now) (c.in_ok-tree.ensures.leaves.files ∙ c.in_ok-first.ensures.leaves.files)) told (c.in_ok-tree.ensures.loaded told) view)
+
+pub returns-clause-fresh : goal.returns-clause-fresh
+returns-clause-fresh g c =
+    let fresh = c.new.ensures c.in_ok-tree.tree.header.format c.args.limit in
+    rw c.in-Ok.ensures.ok at fresh
 
 pub returns-clause-reads : goal.returns-clause-reads
 returns-clause-reads g c = λ told.

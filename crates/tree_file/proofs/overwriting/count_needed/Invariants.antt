@@ -2,9 +2,10 @@ use Rattle.std.proofs.Common.{◌≡◌, List, ℕ}
 use Rattle.quota_types.specs.declared.record.Entry.{Entry}
 use Rattle.quota_blocks.specs.QuotaValue.{QuotaValue}
 use Rattle.quota_blocks.specs.Listed.{ids_of}
+use Rattle.quota_blocks.proofs.EntriesLemmas.{ids_after}
 use Rattle.tree_build.specs.Needed.{HasMet}
 use Rattle.tree_build.specs.TreeFile.{TreeStandsFor}
-use Rattle.tree_file.proofs.ListingLemmas.{IsListedUpTo, ids_after}
+use Rattle.tree_file.proofs.ListingLemmas.{IsListedUpTo}
 use Rattle.tree_file.proofs.overwriting.count_needed.Given as goal
 
 abbrev pub invariant-ids : goal.invariant-ids
