@@ -2,3 +2,4 @@ pub mod ReadingLemmas
 pub mod AnyLemmas
 pub mod ViewLemmas
 pub mod SeenLemmas
+pub mod ReplacedLemmas

@@ -1,5 +1,5 @@
 -- The records that have been read, in order.
-use Rattle.std.proofs.Common.{◌≡◌, ℕ, ◌+◌, ◌-◌, ◌^◌, ◌<◌, ◌≤◌, List, [], ◌∷◌, ◌++◌, map, length, get_or, Option, Some, None, sym, ap, subst, ◌∙◌, inl, inr, arith}
+use Rattle.std.proofs.Common.{◌≡◌, ℕ, ◌+◌, ◌-◌, ◌^◌, ◌<◌, ◌≤◌, List, [], ◌∷◌, ◌++◌, map, length, get_or, Option, Some, None, sym, ap, subst, ◌∙◌, inl, inr, arith, Bool}
 use Rattle.std.proofs.Math.Seq.{get_or-append_seam}
 use Rattle.std.proofs.lemmas.Bool.{cases_lt}
 use Rattle.std.proofs.lemmas.List.{append-nil, append_assoc, get_or_append_left, length-append, map-append}
@@ -15,19 +15,7 @@ use Rattle.quota_blocks.specs.QuotaFile.{FileSeen}
 use Rattle.quota_blocks.specs.QuotaValue.{IsAfter, IsNextAfter, Records}
 use Rattle.quota_blocks.specs.Seen.{StoreSeen}
 use Rattle.quota_blocks.proofs.EntriesLemmas.{entries_after, entries_after-all, entries_after-end, entries_after-next}
-
--- how many identifiers may come after one, or after none
-abbrev pub ids_after : Option ℕ → ℕ
-ids_after None = 2 ^ 32
-ids_after (Some id) = 2 ^ 32 - 1 - id
-
-pub ids_after-falls : (after : Option ℕ) (id : ℕ) → IsAfter after id → id < 2 ^ 32 → ids_after (Some id) < ids_after after
-ids_after-falls None id is fits = omega arith
-ids_after-falls (Some after) id is fits = omega arith
-
--- entries as pairs
-abbrev pub pairs_of : List Entry → List (ℕ × Rec)
-pairs_of list = map (λ (entry : Entry). (entry.id, entry.rec)) list
+use Rattle.quota_blocks.proofs.ListedLemmas.{pairs_of}
 
 -- the entries that were read, and those that come after, are all
 pub record IsReadUpTo (records : Records) (after : Option ℕ) (list : List Entry) : Type 0 where
@@ -93,5 +81,5 @@ ascend_more after ids next to is =
     }
 
 -- a call on a file of the same name only reads it
-pub only_reads-of : (one other : FileSeen) (old new : StoreSeen) → one ≡ other → OnlyReads one.name old new → OnlyReads other.name old new
-only_reads-of one other old new same only = subst (λ (seen : FileSeen). OnlyReads seen.name old new) same only
+pub only_reads-of : {done : Bool} (one other : FileSeen) (old new : StoreSeen) → one ≡ other → OnlyReads done one.name old new → OnlyReads done other.name old new
+only_reads-of {done} one other old new same only = subst (λ (seen : FileSeen). OnlyReads done seen.name old new) same only

@@ -178,8 +178,8 @@ pub any_held_seen : (tells : Bool) (files : World) (file : AnyFile) (value : Quo
     → IsView (files name) value.kind (Some value.format) (Ok value)
 any_held_seen tells files (FlatFile file) value name format seen held =
     subst (λ (n : List ℕ). IsView (files n) value.kind (Some value.format) (Ok value)) (ap (λ (s : FileSeen). s.name) seen)
-    (flat_held_seen tells (files (string_bytes file.name)) file.bytes.items value held)
+    (flat_held_seen tells (files (string_bytes file.opened.name)) file.bytes.items value held)
 any_held_seen tells files (TreeFile file) value name format seen held =
     subst (λ (n : List ℕ). IsView (files n) value.kind (Some value.format) (Ok value)) (ap (λ (s : FileSeen). s.name) seen)
-    (tree_held_seen tells (files (string_bytes file.name)) file.tree.bytes.items file.limit value
-    (tree_limit tells (files (string_bytes file.name)) file.tree.bytes.items file.limit value format (ap (λ (s : FileSeen). s.limit) seen) held) held)
+    (tree_held_seen tells (files (string_bytes file.opened.name)) file.tree.bytes.items file.limit value
+    (tree_limit tells (files (string_bytes file.opened.name)) file.tree.bytes.items file.limit value format (ap (λ (s : FileSeen). s.limit) seen) held) held)

@@ -8,7 +8,9 @@ pub use Rattle.quota_types.specs.Kept
 pub use Rattle.quota_types.specs.Range
 pub use Rattle.quota_types.specs.Rec
 pub use Rattle.quota_blocks.specs.Count
+pub use Rattle.quota_blocks.specs.Changes
 pub use Rattle.quota_blocks.specs.FileChange
+pub use Rattle.quota_blocks.specs.FileUse
 pub use Rattle.quota_blocks.specs.Frame
 pub use Rattle.quota_blocks.specs.Listed
 pub use Rattle.quota_blocks.specs.QuotaFile

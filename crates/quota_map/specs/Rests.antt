@@ -12,6 +12,6 @@ use Rattle.quota_map.specs.AnyFile.{HoldsAny, any_seen}
 -- another store with the same named file
 pub rests_on_named : (tells : Bool) (files files' : World) (file : AnyFile) (value : QuotaValue) → files' (any_seen file).name ≡ files (any_seen file).name
     → HoldsAny tells files file value → HoldsAny tells files' file value
-rests_on_named tells files files' (V1 file) value named held = flat_rests tells (files (string_bytes file.name)) (files' (string_bytes file.name)) file.bytes.items value named held
+rests_on_named tells files files' (V1 file) value named held = flat_rests tells (files (string_bytes file.opened.name)) (files' (string_bytes file.opened.name)) file.bytes.items value named held
 rests_on_named tells files files' (Tree file) value named held =
-    tree_rests tells (files (string_bytes file.name)) (files' (string_bytes file.name)) file.tree.bytes.items file.limit value named held
+    tree_rests tells (files (string_bytes file.opened.name)) (files' (string_bytes file.opened.name)) file.tree.bytes.items file.limit value named held

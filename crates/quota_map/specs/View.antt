@@ -1,11 +1,13 @@
 -- What is seen of a quota file by whoever opens it: as a flat file exactly where that format is asked for, and else as a tree
 -- file. Source: quotaon(8) and setquota(8) on formats, of which only vfsold has no magic number.
-use Rattle.std.specs.Prelude.{◌≡◌, ℕ, Bool, true, List, Option, Some, None, Result}
+use Rattle.std.specs.Prelude.{◌≡◌, ℕ, Bool, true, List, length, Option, Some, None, Result}
 use Rattle.quota_types.specs.declared.file_kind.Format.{Format}
 use Rattle.quota_types.specs.declared.file_kind.Format.TheVariants.{V1, V2R0, V2R1}
 use Rattle.quota_types.specs.declared.file_kind.Kind.{Kind}
+use Rattle.entry_codec.specs.Header.{header_of}
 use Rattle.quota_blocks.specs.QuotaFile.{FileSeen}
 use Rattle.quota_blocks.specs.QuotaValue.{QuotaValue}
+use Rattle.quota_blocks.specs.Replace.{pieces_of}
 use Rattle.quota_blocks.specs.declared.quota_file.OpenFault.{OpenFault}
 use Rattle.tree_file.specs.View.{IsTreeFault, IsTreeView}
 use Rattle.quota_v1.specs.View.{IsFlatFault, IsFlatView}
@@ -42,3 +44,9 @@ fresh_seen name format = record { name = name; format = format; usable = true; l
 abbrev pub IsOpenedAs : Option Format → Format → Type 0
 IsOpenedAs None format = ¬ (format ≡ V1)
 IsOpenedAs (Some wanted) format = format ≡ wanted
+
+-- how many calls of `read` the opening of a file of these bytes makes at most, by its format
+abbrev pub opening_reads : Format → List ℕ → ℕ
+opening_reads V1 bytes = pieces_of (length bytes)
+opening_reads V2R0 bytes = (header_of bytes).blocks
+opening_reads V2R1 bytes = (header_of bytes).blocks

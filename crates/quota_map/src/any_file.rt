@@ -33,7 +33,7 @@ impl AnyFile {
 
 impl<S: Store> QuotaFile<S> for AnyFile {
     ghost use Rattle.tree_file.specs.Opened.{LacksRoom};
-    ghost use Rattle.quota_map.specs.AnyFile.{AnyMakes, HoldsAny, MayRefuse, any_seen};
+    ghost use Rattle.quota_map.specs.AnyFile.{AnyLeaves, AnyMakes, HoldsAny, MayRefuse, any_seen, most_writes};
     ghost use Rattle.quota_map.specs.Rests.{rests_on_named};
 
     ghost holds = { λ file store value. HoldsAny S.tells (S.seen store).files file value };
@@ -46,11 +46,15 @@ impl<S: Store> QuotaFile<S> for AnyFile {
 
     ghost makes = { AnyMakes };
 
-    ghost may_leave = { λ _ old _ left. left ≡ old };
+    ghost may_leave = { AnyLeaves };
 
     ghost get_reads = { λ _. 0 };
 
     ghost next_reads = { λ _ _. 0 };
+
+    ghost change_reads = { λ _. 0 };
+
+    ghost change_writes = { λ seen. most_writes seen.format seen.limit };
 
     ghost rests_on_named = { λ file one other value named held.
         rests_on_named S.tells (S.seen one).files (S.seen other).files file value named held };

@@ -1,10 +1,8 @@
-ghost use Rattle.std.specs.Prelude.{◌≡◌, ◌≢◌, ◌+◌, ◌*◌, ◌≤◌, Ok, Some, IsTrue, IfOk, IfErr, OnOk};
-ghost use Rattle.entry_codec.specs.Header.{header_of};
+ghost use Rattle.std.specs.Prelude.{◌≡◌, ◌+◌, ◌≤◌, Ok, IsTrue, IfOk, IfErr, OnOk, is_ok};
 ghost use Rattle.quota_blocks.specs.Frame.{OnlyReads};
 ghost use Rattle.quota_blocks.specs.QuotaValue.{QuotaValue};
-ghost use Rattle.quota_blocks.specs.Unsynced.{AddsNone};
 ghost use Rattle.quota_blocks.specs.Block.{bytes_of};
-ghost use Rattle.quota_map.specs.View.{IsOpenFault, IsOpenedAs, IsView, fresh_seen};
+ghost use Rattle.quota_map.specs.View.{IsOpenFault, IsOpenedAs, IsView, fresh_seen, opening_reads};
 
 use crate::AnyFile;
 use quota_blocks::{OpenFault, QuotaFile, Store};
@@ -39,10 +37,9 @@ pub fn open_file<S: Store>(
     ensures as_asked { IfOk result (λ file. IsOpenedAs format (⟦<AnyFile as QuotaFile<S>>⟧.seen file).format) }
     ensures refused { IfErr result (IsOpenFault (S.seen store.old).faults (S.seen store.new).faults S.tells
         ((S.seen store.old).files name.now) kind format) }
-    ensures leaves { OnlyReads name.now (S.seen store.old) (S.seen store.new) }
-    ensures synced { OnOk result (AddsNone (S.seen store.old).unsynced (S.seen store.new).unsynced) }
-    ensures reads { OnOk result (format ≢ Some Format.V1 → IsTrue S.tells → (S.seen store.new).reads
-        ≤ (S.seen store.old).reads + 3 * (header_of (bytes_of ((S.seen store.old).files name.now))).blocks) }
+    ensures leaves { OnlyReads (is_ok result) name.now (S.seen store.old) (S.seen store.new) }
+    ensures reads { IfOk result (λ file. IsTrue S.tells → (S.seen store.new).reads ≤ (S.seen store.old).reads
+        + opening_reads (⟦<AnyFile as QuotaFile<S>>⟧.seen file).format (bytes_of ((S.seen store.old).files name.now))) }
 {
     if format == Some(Format::V1) {
         return Ok(AnyFile::V1(open_v1(alloc, store, name)?));

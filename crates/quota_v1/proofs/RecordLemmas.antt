@@ -12,12 +12,12 @@ use Rattle.quota_types.specs.Bytes.{byte_at, number_at}
 use Rattle.quota_types.specs.Kept.{kept_of}
 use Rattle.quota_types.specs.Range.{grace_unfit}
 use Rattle.quota_types.specs.Rec.{IsNull, is_zeros, kib_of}
+use Rattle.quota_types.proofs.BytesLemmas.{number_at-past}
 use Rattle.quota_blocks.specs.QuotaValue.{QuotaValue, with_record, without_record, with_grace}
 use Rattle.quota_blocks.specs.Span.{KeepsOutside}
 use Rattle.quota_v1.specs.Opened.{HoldsFlat}
 use Rattle.quota_v1.specs.FlatFile.{FlatStandsFor, flat_record, flat_grace, or_week, stored_record, timed_record, unless_zeros}
 use Rattle.quota_v1.proofs.ChangeLemmas.{number_at-same, number_before, number_behind}
-use Rattle.quota_v1.proofs.NumberLemmas.{number_at-past}
 
 -- an identifier above 0 has timers
 timed_record-other : (file : List ℕ) (id : ℕ) → (id == 0) ≡ false → timed_record file id ≡ stored_record file id

@@ -1,16 +1,16 @@
--- What a change of a flat file makes of it, and why it is refused.
-use Rattle.std.specs.Prelude.{◌≡◌, ℕ, ◌+◌, ◌*◌, max, List, length, None, Some, IsSomeAnd, ⊤}
+-- What a change of a flat file makes of it, and why a call on it may be refused.
+use Rattle.std.specs.Prelude.{◌≡◌, ℕ, ◌+◌, ◌*◌, max, List, length, None, Some, ⊤}
 use Rattle.quota_types.specs.declared.record.Grace.{Grace}
 use Rattle.quota_types.specs.declared.record.Rec.{Rec}
 use Rattle.quota_types.specs.Bytes.{number_at}
-use Rattle.quota_blocks.specs.Count.{Rose}
-use Rattle.quota_blocks.specs.FileChange.{FileChange, Put, Remove, SetGrace}
-use Rattle.quota_blocks.specs.Replace.{replacement_name}
+use Rattle.quota_blocks.specs.FileChange.{FileChange, Put, Remove, SetGrace, changed_value}
+use Rattle.quota_blocks.specs.QuotaValue.{QuotaValue}
+use Rattle.quota_blocks.specs.Replace.{WritesAnew}
 use Rattle.quota_blocks.specs.Span.{KeepsOutside}
 use Rattle.quota_blocks.specs.World.{World}
 use Rattle.quota_blocks.specs.declared.quota_file.FileFault.{FileFault}
 use Rattle.quota_blocks.specs.declared.quota_file.FileFault.TheVariants.{Store, Damage, Full, Memory}
-use Rattle.quota_v1.specs.FlatFile.{flat_record}
+use Rattle.quota_v1.specs.FlatFile.{FlatStandsFor, flat_record}
 
 -- A record was put: the file is lengthened with zeros up to the end of the record, and all bytes outside of the record
 -- stay. The two times of record 0, which are the grace periods, stay too.
@@ -37,28 +37,20 @@ pub record FlatGraced (grace : Grace) (before after : List ℕ) : Type 0 where
   pub block_time : number_at 8 after 24 ≡ grace.block
   pub inode_time : number_at 8 after 32 ≡ grace.inode
 
--- the file of this name is there before and after, with bytes that are related so
-abbrev pub ChangesBytes : (List ℕ → List ℕ → Type 0) → List ℕ → World → World → Type 0
-ChangesBytes so name old new = IsSomeAnd (old name) (λ before. IsSomeAnd (new name) (so before))
+-- what a change makes of the bytes of a flat file
+abbrev pub FlatChanged : FileChange → List ℕ → List ℕ → Type 0
+FlatChanged (Put id rec) = FlatPut id rec
+FlatChanged (Remove id) = FlatRemoved id
+FlatChanged (SetGrace grace) = FlatGraced grace
 
--- the named file has bytes that are related so, and no file is left under the name that the new one was written under
-pub record WritesAnew (so : List ℕ → List ℕ → Type 0) (name : List ℕ) (old new : World) : Type 0 where
-  pub named : ChangesBytes so name old new
-  pub cleared : new (replacement_name name) ≡ None
+-- Bytes are what a change makes of others: of each value that those stand for they stand for the changed one.
+pub record IsFlatChange (change : FileChange) (before after : List ℕ) : Type 0 where
+  pub changed : FlatChanged change before after
+  pub stands : (value : QuotaValue) → FlatStandsFor before value → FlatStandsFor after (changed_value change value)
 
--- What a change makes of the named file. One that takes a record away may write nothing, where there is none.
+-- what a change that was not idle makes of the named file, which is written anew
 abbrev pub FlatMakes : FileChange → List ℕ → World → World → Type 0
-FlatMakes (Put id rec) = WritesAnew (FlatPut id rec)
-FlatMakes (Remove id) = ChangesBytes (FlatRemoved id)
-FlatMakes (SetGrace grace) = WritesAnew (FlatGraced grace)
-
--- A file that was written anew was refused where the store's count of faults rose, or where memory was wanting. It is
--- never damaged nor full.
-abbrev pub IsRewriteFault : ℕ → ℕ → FileFault → Type 0
-IsRewriteFault before now Store = Rose before now
-IsRewriteFault before now (Damage _) = ⊥
-IsRewriteFault before now (Full _ _) = ⊥
-IsRewriteFault before now Memory = ⊤
+FlatMakes change = WritesAnew (FlatChanged change)
 
 -- The faults that a call on an opened flat file may answer, whatever the store tells. It is never damaged, which is seen
 -- where it is opened, nor full.

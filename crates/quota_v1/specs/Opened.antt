@@ -1,8 +1,15 @@
--- What an opened flat file holds, and what is seen of it.
+-- What an opened flat file holds, what is seen of it, and what is said of all its calls.
 use Rattle.std.specs.Prelude.{◌≡◌, ℕ, ◌≤◌, Bool, IsTrue, List, length, Option, Some}
+use Rattle.std.specs.String.{string_bytes}
 use Rattle.quota_types.specs.declared.file_kind.Format.TheVariants.{V1}
+use Rattle.quota_blocks.specs.Changes.{FileAt, FileLaws, file_at, laws_of}
+use Rattle.quota_blocks.specs.FileUse.{seen_in}
 use Rattle.quota_blocks.specs.QuotaFile.{FileSeen}
 use Rattle.quota_blocks.specs.QuotaValue.{QuotaValue}
+use Rattle.quota_blocks.specs.Replace.{pieces_of}
+use Rattle.quota_blocks.specs.Seen.{StoreSeen}
+use Rattle.quota_blocks.specs.declared.file_use.FileUse.{FileUse}
+use Rattle.quota_v1.specs.Change.{FlatMakes, MayRefuse}
 use Rattle.quota_v1.specs.FlatFile.{FlatStandsFor}
 use Rattle.quota_v1.specs.View.{flat_limit}
 
@@ -14,6 +21,20 @@ pub record HoldsFlat (tells : Bool) (named : Option (List ℕ)) (loaded : List �
   pub few : length loaded ≤ flat_limit
   pub stands : FlatStandsFor loaded value
 
--- what is seen of one with this name, which has no number of blocks
-abbrev pub flat_seen : (name : List ℕ) (usable : Bool) (refusals : ℕ) → FileSeen
-flat_seen name usable refusals = record { name = name; format = V1; usable = usable; limit = 0; refusals = refusals }
+-- what is seen of one, which has no number of blocks
+abbrev pub flat_seen : FileUse → FileSeen
+flat_seen opened = seen_in opened V1 0
+
+-- an opened flat file of this use and these bytes, with what is seen of its store, which tells its files or does not
+abbrev pub flat_at : (tells : Bool) → StoreSeen → FileUse → (bytes : List ℕ) → FileAt
+flat_at tells store opened bytes =
+    file_at (HoldsFlat tells (store.files (string_bytes opened.name)) bytes) (flat_seen opened) store
+
+-- how many calls of `write` a change makes at most, which writes the whole file
+abbrev pub most_pieces : ℕ
+most_pieces = pieces_of flat_limit
+
+-- what is said of all calls on one: a change writes it anew, so that one that failed leaves it as it was, and it is never full
+abbrev pub flat_laws : (tells : Bool) → FileLaws
+flat_laws tells = laws_of tells (λ _ change. FlatMakes change) (λ _ old _ left. left ≡ old) (λ _ _ _ _ _. ⊥) (λ _ fault. MayRefuse fault)
+    (λ _. 0) (λ _. most_pieces)

@@ -1,80 +1,54 @@
-ghost use Rattle.std.specs.Prelude.{◌≡◌, ◌%◌, ◌≤◌, not, vec_len, IsTrue, IfErr, OnOk, OnErr};
-ghost use Rattle.std.specs.String.{string_bytes};
-ghost use Rattle.quota_blocks.specs.Frame.{IsSynced, OnlyReads, ReplacesOne};
-ghost use Rattle.quota_blocks.specs.QuotaFile.{CountsRefusal, UnlessStoreFailed, is_store_fault};
+ghost use Rattle.std.specs.Prelude.{◌≡◌, ◌%◌, ◌≤◌, vec_len, false, IfOk, IsTrue};
+ghost use Rattle.quota_blocks.specs.Changes.{Changes};
+ghost use Rattle.quota_blocks.specs.FileChange.{FileChange, has_nothing_to_do};
 ghost use Rattle.quota_blocks.specs.QuotaValue.{QuotaValue};
-ghost use Rattle.quota_blocks.specs.Replace.{replaced_files, replacement_name};
-ghost use Rattle.quota_blocks.specs.World.{KeepsOthers};
-ghost use Rattle.quota_v1.specs.Change.{IsRewriteFault};
+ghost use Rattle.quota_v1.specs.Change.{IsFlatChange};
 ghost use Rattle.quota_v1.specs.FlatFile.{FlatStandsFor};
-ghost use Rattle.quota_v1.specs.Opened.{HoldsFlat, flat_seen};
+ghost use Rattle.quota_v1.specs.Opened.{flat_at, flat_laws};
 ghost use Rattle.quota_v1.specs.View.{flat_limit};
 
 use crate::flat_change::{with_grace, with_record};
 use crate::flat_record::{grace_of, next_record, record_of};
-use quota_blocks::{FileFault, QuotaFile, Store, replace};
+use quota_blocks::{FileFault, FileUse, QuotaFile, Store};
 use quota_types::{Entry, Format, Grace, Rec};
+use std::alloc::AllocError;
 
-/// An opened flat file, which keeps the file's name and its bytes.
+/// An opened flat file, which keeps its bytes.
 ///
 /// A change writes the whole file anew and renames it, so that a fault leaves the named file as it was. A look-up reads
 /// nothing of the store.
 #[derive(Debug, Drop)]
 pub struct V1File {
-    pub(crate) name: String,
+    pub(crate) opened: FileUse,
     pub(crate) bytes: Vec<u8>,
-    pub(crate) usable: bool,
-    pub(crate) refusals: u64,
     ghost whole: { vec_len bytes % 40 ≡ 0 },
     ghost limited: { vec_len bytes ≤ flat_limit },
 }
 
 impl V1File {
-    /// Counts a refused call, and answers its fault. After one of the store the file is not used again.
-    fn refused(&mut self, fault: FileFault) -> FileFault
-        ensures same { result ≡ fault }
-        ensures bytes { self.new.bytes.items ≡ self.old.bytes.items }
-        ensures counted { CountsRefusal (not (is_store_fault fault))
-            (flat_seen (string_bytes self.old.name) self.old.usable self.old.refusals)
-            (flat_seen (string_bytes self.new.name) self.new.usable self.new.refusals) }
+    /// Puts a file of these bytes, which a change with something to do makes of the old ones, in the place of the named one,
+    /// and keeps them. Where there was no memory for them the change is refused.
+    fn rewrite<S: Store>(
+        &mut self,
+        store: &mut S,
+        bytes: Result<Vec<u8>, AllocError>,
+    ) -> Result<(), FileFault>
+        requires usable { IsTrue self.old.opened.usable }
+        requires whole { IfOk bytes (λ bytes. vec_len bytes % 40 ≡ 0) }
+        requires limited { IfOk bytes (λ bytes. vec_len bytes ≤ flat_limit) }
+        ensures changes { (change : FileChange)
+            → ((value : QuotaValue) → FlatStandsFor self.old.bytes.items value → has_nothing_to_do change value ≡ false)
+            → IfOk bytes (λ bytes. IsFlatChange change self.old.bytes.items bytes.items)
+            → Changes change (flat_laws S.tells) (flat_at S.tells (S.seen store.old) self.old.opened self.old.bytes.items)
+            (flat_at S.tells (S.seen store.new) self.new.opened self.new.bytes.items) result }
     {
-        self.usable = fault != FileFault::Store;
-        self.refusals = self.refusals.saturating_add(1);
-        fault
-    }
-
-    /// Puts a file of these bytes in the place of the named one, and keeps them.
-    fn rewrite<S: Store>(&mut self, store: &mut S, bytes: Vec<u8>) -> Result<(), FileFault>
-        requires usable { IsTrue self.old.usable }
-        requires whole { vec_len bytes % 40 ≡ 0 }
-        requires limited { vec_len bytes ≤ flat_limit }
-        ensures ok { OnOk result (IsTrue S.tells → (S.seen store.new).files
-            ≡ replaced_files (S.seen store.old).files (string_bytes self.old.name) bytes.items) }
-        ensures holds { OnOk result ((value value' : QuotaValue)
-            → (FlatStandsFor self.old.bytes.items value → FlatStandsFor bytes.items value')
-            → HoldsFlat S.tells ((S.seen store.old).files (string_bytes self.old.name)) self.old.bytes.items value
-            → HoldsFlat S.tells ((S.seen store.new).files (string_bytes self.new.name)) self.new.bytes.items value') }
-        ensures unloaded { OnErr result (self.new.bytes.items ≡ self.old.bytes.items) }
-        ensures unchanged { OnErr result (KeepsOthers (replacement_name (string_bytes self.old.name))
-            (S.seen store.old).files (S.seen store.new).files) }
-        ensures refused { IfErr result (IsRewriteFault (S.seen store.old).faults (S.seen store.new).faults) }
-        ensures unwritten { IfErr result (λ fault. UnlessStoreFailed fault
-            (OnlyReads (string_bytes self.old.name) (S.seen store.old) (S.seen store.new))) }
-        ensures leaves { ReplacesOne (string_bytes self.old.name) (S.seen store.old) (S.seen store.new) }
-        ensures synced { OnOk result (IsTrue S.tells
-            → IsSynced (string_bytes self.old.name) (S.seen store.old) (S.seen store.new)) }
-        ensures same { OnOk result (flat_seen (string_bytes self.new.name) self.new.usable self.new.refusals
-            ≡ flat_seen (string_bytes self.old.name) self.old.usable self.old.refusals) }
-        ensures counted { IfErr result (λ fault. CountsRefusal (not (is_store_fault fault))
-            (flat_seen (string_bytes self.old.name) self.old.usable self.old.refusals)
-            (flat_seen (string_bytes self.new.name) self.new.usable self.new.refusals)) }
-    {
-        match replace(*self.bytes.allocator(), store, self.name.as_str(), &bytes) {
-            Ok(()) => {
+        match bytes {
+            Ok(bytes) => {
+                self.opened.replace(*self.bytes.allocator(), store, &bytes)?;
                 self.bytes = bytes;
                 Ok(())
             }
-            Err(fault) => Err(self.refused(FileFault::from(fault))),
+            Err(_) => Err(self.opened.refused(FileFault::Memory)),
         }
     }
 }
@@ -82,25 +56,29 @@ impl V1File {
 impl<S: Store> QuotaFile<S> for V1File {
     ghost use Rattle.std.specs.String.{string_bytes};
     ghost use Rattle.quota_v1.specs.Change.{FlatMakes, MayRefuse};
-    ghost use Rattle.quota_v1.specs.Opened.{HoldsFlat, flat_seen};
+    ghost use Rattle.quota_v1.specs.Opened.{HoldsFlat, flat_seen, most_pieces};
     ghost use Rattle.quota_v1.specs.Rests.{rests_on_named};
 
-    ghost holds = { λ file store value. HoldsFlat S.tells ((S.seen store).files (string_bytes file.name))
+    ghost holds = { λ file store value. HoldsFlat S.tells ((S.seen store).files (string_bytes file.opened.name))
         file.bytes.items value };
 
-    ghost seen = { λ file. flat_seen (string_bytes file.name) file.usable file.refusals };
+    ghost seen = { λ file. flat_seen file.opened };
 
     ghost may_refuse = { λ _ fault. MayRefuse fault };
 
     ghost lacks_room = { λ _ _ _ _ _. ⊥ };
 
-    ghost makes = { FlatMakes };
+    ghost makes = { λ _ change. FlatMakes change };
 
     ghost may_leave = { λ _ old _ left. left ≡ old };
 
     ghost get_reads = { λ _. 0 };
 
     ghost next_reads = { λ _ _. 0 };
+
+    ghost change_reads = { λ _. 0 };
+
+    ghost change_writes = { λ _. most_pieces };
 
     ghost rests_on_named = { λ file one other value named held. rests_on_named _ _ _ file.bytes.items value named held };
 
@@ -109,7 +87,7 @@ impl<S: Store> QuotaFile<S> for V1File {
     }
 
     fn usable(&self) -> bool {
-        self.usable
+        self.opened.is_usable()
     }
 
     fn grace(&self) -> Grace {
@@ -129,26 +107,20 @@ impl<S: Store> QuotaFile<S> for V1File {
     }
 
     fn put(&mut self, store: &mut S, id: u32, rec: Rec) -> Result<(), FileFault> {
-        match with_record(*self.bytes.allocator(), &self.bytes, id, &rec) {
-            Ok(bytes) => self.rewrite(store, bytes),
-            Err(_) => Err(self.refused(FileFault::Memory)),
-        }
+        let bytes = with_record(*self.bytes.allocator(), &self.bytes, id, &rec);
+        self.rewrite(store, bytes)
     }
 
     fn remove(&mut self, store: &mut S, id: u32) -> Result<(), FileFault> {
         if record_of(&self.bytes, id).is_none() {
             return Ok(());
         }
-        match with_record(*self.bytes.allocator(), &self.bytes, id, &Rec::default()) {
-            Ok(bytes) => self.rewrite(store, bytes),
-            Err(_) => Err(self.refused(FileFault::Memory)),
-        }
+        let bytes = with_record(*self.bytes.allocator(), &self.bytes, id, &Rec::default());
+        self.rewrite(store, bytes)
     }
 
     fn set_grace(&mut self, store: &mut S, grace: Grace) -> Result<(), FileFault> {
-        match with_grace(*self.bytes.allocator(), &self.bytes, grace) {
-            Ok(bytes) => self.rewrite(store, bytes),
-            Err(_) => Err(self.refused(FileFault::Memory)),
-        }
+        let bytes = with_grace(*self.bytes.allocator(), &self.bytes, grace);
+        self.rewrite(store, bytes)
     }
 }

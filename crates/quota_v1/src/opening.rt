@@ -1,21 +1,24 @@
-ghost use Rattle.std.specs.Prelude.{◌≡◌, ◌%◌, ◌<◌, ◌≤◌, true, Ok, Err, Some, IsTrue, IfOk, IfErr, OnOk, IsSomeAnd, length, vec_len};
+ghost use Rattle.std.specs.Prelude.{◌≡◌, ◌+◌, ◌%◌, ◌<◌, ◌≤◌, true, Ok, Err, Some, IsTrue, IfOk, IfErr, OnOk, IsSomeAnd, length, vec_len, is_ok, false};
+ghost use Rattle.std.specs.String.{string_bytes};
 ghost use Rattle.quota_types.specs.declared.file_kind.Kind.{Kind};
 ghost use Rattle.quota_types.specs.declared.file_kind.Format.TheVariants.{V1};
 ghost use Rattle.quota_blocks.specs.Frame.{OnlyReads};
 ghost use Rattle.quota_blocks.specs.QuotaValue.{QuotaValue};
-ghost use Rattle.quota_blocks.specs.Unsynced.{AddsNone};
+ghost use Rattle.quota_blocks.specs.Block.{bytes_of};
+ghost use Rattle.quota_blocks.specs.Replace.{pieces_of};
+ghost use Rattle.quota_v1.specs.Opened.{flat_seen};
 ghost use Rattle.quota_v1.specs.View.{IsFlatView, IsFlatFault, flat_limit};
 
 use crate::V1File;
 use crate::flat_record::RECORD;
-use quota_blocks::{LoadFault, OpenFault, QuotaFile, Store, load};
+use quota_blocks::{FileUse, LoadFault, OpenFault, QuotaFile, Store, load};
 use quota_types::{Damage, DamageKind};
 use std::alloc::Global;
 
 /// How many bytes a flat file may have: a record for each identifier below 1,048,576.
 pub(crate) const LIMIT: u64 = 41_943_040;
 
-/// Opens a flat file, which is loaded whole.
+/// Opens a flat file, which is loaded whole, by one call of `read` for each 1,024 bytes.
 ///
 /// # Errors
 ///
@@ -31,8 +34,9 @@ pub fn open_v1<S: Store>(alloc: Global, store: &mut S, name: &str) -> Result<V1F
         ≡ record { name = name.now; format = V1; usable = true; limit = 0; refusals = 0 }) }
     ensures refused { IfErr result (IsFlatFault (S.seen store.old).faults (S.seen store.new).faults S.tells
         ((S.seen store.old).files name.now)) }
-    ensures leaves { OnlyReads name.now (S.seen store.old) (S.seen store.new) }
-    ensures synced { OnOk result (AddsNone (S.seen store.old).unsynced (S.seen store.new).unsynced) }
+    ensures leaves { OnlyReads (is_ok result) name.now (S.seen store.old) (S.seen store.new) }
+    ensures reads { OnOk result (IsTrue S.tells → (S.seen store.new).reads
+        ≤ (S.seen store.old).reads + pieces_of (length (bytes_of ((S.seen store.old).files name.now)))) }
 {
     let own_name = match String::from_str(alloc, name) {
         Ok(own_name) => own_name,
@@ -50,9 +54,9 @@ pub fn open_v1<S: Store>(alloc: Global, store: &mut S, name: &str) -> Result<V1F
 /// The file that was loaded, where it consists of whole records.
 fn opened(name: String, bytes: Vec<u8>) -> Result<V1File, OpenFault>
     requires { vec_len bytes ≤ flat_limit }
-    ensures ok { IfOk result (λ file. (file.name ≡ name) × (file.bytes ≡ bytes)) }
-    ensures usable { IfOk result (λ file. file.usable ≡ true) }
-    ensures refusals { IfOk result (λ file. file.refusals ≡ 0) }
+    ensures bytes { IfOk result (λ file. file.bytes ≡ bytes) }
+    ensures fresh { IfOk result (λ file. flat_seen file.opened
+        ≡ record { name = string_bytes name; format = V1; usable = true; limit = 0; refusals = 0 }) }
     ensures whole { OnOk result (length bytes.items % 40 ≡ 0) }
     ensures refused { IfErr result (λ fault. (kind : Kind) → IsFlatView (Some bytes.items) kind (Err fault)) }
 {
@@ -63,12 +67,8 @@ fn opened(name: String, bytes: Vec<u8>) -> Result<V1File, OpenFault>
             id: 0,
         }));
     }
-    Ok(V1File {
-        name,
-        bytes,
-        usable: true,
-        refusals: 0,
-    })
+    let opened = FileUse::new(name);
+    Ok(V1File { opened, bytes })
 }
 
 /// Why a file is refused that was found to have too many bytes, with their number.
@@ -76,7 +76,7 @@ fn too_large<S: Store>(store: &mut S, name: &str) -> OpenFault
     requires { IsTrue S.tells → IsSomeAnd ((S.seen store.old).files name.now) (λ bytes. flat_limit < length bytes) }
     ensures refused { IsFlatFault (S.seen store.old).faults (S.seen store.new).faults S.tells
         ((S.seen store.old).files name.now) result }
-    ensures leaves { OnlyReads name.now (S.seen store.old) (S.seen store.new) }
+    ensures leaves { OnlyReads false name.now (S.seen store.old) (S.seen store.new) }
 {
     match store.size(name) {
         Ok(Some(number)) => OpenFault::TooLarge {

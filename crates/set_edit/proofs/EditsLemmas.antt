@@ -1,205 +1,128 @@
--- An edit of one identifier's record, from the record that is put or taken away.
-use Rattle.std.proofs.Common.{◌≡◌, ℕ, ◌<◌, Bool, true, false, Option, None, Some, unwrap_or, Ok, Err, refl, sym, ap, subst, ◌∙◌}
-use Rattle.std.specs.Prelude.{◌&&◌, IsTrue, is_none, not, if◌then◌else◌}
+-- An edit of one identifier's record, from what was looked up of it and the record that is put or taken away.
+use Rattle.std.proofs.Common.{◌≡◌, ℕ, Bool, true, false, Option, None, Some, unwrap_or, Result, Ok, refl, sym, ap, subst, ◌∙◌}
+use Rattle.std.specs.Prelude.{◌&&◌, is_none, if◌then◌else◌}
 use Rattle.std.specs.FinMap.{get}
-use Rattle.std.proofs.lemmas.Bool.{and_parts}
 use Rattle.quota_types.specs.Kept.{kept_of}
 use Rattle.quota_types.specs.Range.{unfit}
-use Rattle.quota_types.specs.Rec.{IsNull, is_null_of, zero_record}
+use Rattle.quota_types.specs.Rec.{is_null_of, zero_record}
 use Rattle.quota_types.specs.Timers.{timers_of}
 use Rattle.quota_types.specs.declared.field.Field.{Field}
 use Rattle.quota_types.specs.declared.file_kind.Format.{Format}
 use Rattle.quota_types.specs.declared.record.Grace.{Grace}
 use Rattle.quota_types.specs.declared.record.Rec.{Rec}
-use Rattle.quota_blocks.specs.FileChange.{IsLeft}
-use Rattle.quota_blocks.specs.Frame.{IsSynced, OnlyReads, ReplacesOne}
-use Rattle.quota_blocks.specs.QuotaFile.{CountsRefusal, IfFull, IsChangeFault, OnStore, UnlessStoreFailed, is_store_fault}
+use Rattle.quota_types.proofs.KeptLemmas.{kept_null}
+use Rattle.quota_blocks.specs.Changes.{Changes, FileAt, FileLaws}
+use Rattle.quota_blocks.specs.FileChange.{FileChange, Put, Remove, changed_value, edit_by, has_nothing_to_do, may_lack_room}
 use Rattle.quota_blocks.specs.QuotaValue.{QuotaValue}
 use Rattle.quota_blocks.specs.declared.quota_file.FileFault.{FileFault}
-use Rattle.quota_blocks.specs.declared.quota_file.FileFault.TheVariants.{Store, Damage, Full, Memory}
-use Rattle.set_edit.specs.declared.fault.EditFault.TheVariants.{File}
+use Rattle.quota_blocks.proofs.LookupLemmas.{IsLookedUp, IsSameAt}
 use Rattle.set_edit.specs.declared.limits.Limits.{Limits}
+use Rattle.set_edit.specs.declared.skipped.Skipped.{Skipped}
 use Rattle.set_edit.specs.declared.time_word.TimeWord.{TimeWord}
-use Rattle.set_edit.specs.EditFault.{LeavesOld}
-use Rattle.set_edit.specs.Edited.{change_to, unless_unfit, wanted_limits, with_kept, with_limits, with_or_without}
-use Rattle.set_edit.specs.Editing.{Edit, Edits, FileAt, FileLaws, LacksRoom}
+use Rattle.set_edit.specs.Edited.{change_to, edited, kept_change, unless_unfit, wanted_limits, with_kept, with_limits, with_or_without}
+use Rattle.set_edit.specs.Editing.{Edit, Edits, value_edit}
 use Rattle.set_edit.specs.Edits.{limits_edit, times_edit}
-use Rattle.set_edit.specs.Times.{found_or_zeros, skips_both, skips_both_of, times_set, times_skipped, with_times}
-use Rattle.set_edit.proofs.EditedLemmas.{change_fault-map, change_to-is, edited-fits, limits_set-fits}
-use Rattle.set_edit.proofs.EditingLemmas.{IsSameAt, edits-change_refused}
+use Rattle.set_edit.specs.Times.{found_or_zeros, skips_both, times_skipped, wanted_times, with_times}
+use Rattle.set_edit.proofs.EditingLemmas.{edit_answer, edits-changed}
 
--- a record of an identifier is put, or taken away where it is null
-abbrev pub record_edit : ℕ → Rec → Edit
-record_edit id rec = record {
-  edited = λ value. Ok (with_or_without value id rec);
-  change = λ value. change_to id rec;
-  is_idle = λ value. is_none (get value.records id) && is_null_of rec;
-  needs_room = true;
-  id = id;
-  may_lack = λ format out. ⊥;
-}
+-- the change to what the format keeps is the one that is made of it
+pub change_to-is : (format : Format) (id : ℕ) (rec next : Rec) → next ≡ kept_of format id rec → kept_change format id rec ≡ change_to id next
+change_to-is format id rec next kept =
+    let P : Rec → Type 0 = λ r. kept_change format id rec ≡ change_to id r in
+    subst P (sym kept)
+    (ap (λ (b : Bool). if b then Remove id else Put id (kept_of format id rec)) (sym (kept_null format id rec)))
 
-none_of : {A : Type 0} (found : Option A) → is_none found ≡ true → found ≡ None
-none_of None is = refl
-none_of (Some a) is = absurd (cc)
+pub edited-fits : (value : QuotaValue) (id : ℕ) (rec next : Rec) → unfit value.format id rec ≡ None
+    → next ≡ kept_of value.format id rec → edited value id rec ≡ Ok (with_or_without value id next)
+edited-fits value id rec next fits kept =
+    ap (λ (o : Option (Field × ℕ)). unless_unfit o (with_kept value id rec)) fits
+    ∙ ap (λ (change : FileChange). let r : Result QuotaValue (Field × ℕ) = Ok (changed_value change value) in r)
+    (change_to-is value.format id rec next kept)
 
--- where nothing is to be done, the identifier has no record and the wanted one is null
-idle_read : {R : Type 0} (found : Option Rec) (rec : Rec) → (found ≡ None → IsNull rec → R) → IsTrue (is_none found && is_null_of rec) → R
-idle_read found rec absent idle =
-    let parts = and_parts (is_none found) (is_null_of rec) idle in
-    absent (none_of found parts.0) parts.1
+-- What was looked up of an identifier, as far as an edit of its record goes on from there: its record, and the format.
+pub record HasFound (id : ℕ) (old mid : FileAt) (found : Option Rec) (format : Format) : Type 0 where
+  pub up : IsLookedUp old mid
+  pub looked : (value : QuotaValue) → old.holds value → found ≡ get value.records id
+  pub value : (value : QuotaValue) → mid.holds value → format ≡ value.format
 
--- where the file is full, the identifier has a record or the wanted one is not null
-idle_full : (found : Option Rec) (null : Bool) → (found ≡ None → ¬ (null ≡ true)) → (is_none found && null) ≡ false
-idle_full None true present = absurd (present refl refl)
-idle_full None false present = refl
-idle_full (Some rec) null present = refl
+-- a fact of what was looked up is one of the value
+fact_of : (id : ℕ) (old mid : FileAt) (found : Option Rec) (format : Format) → HasFound id old mid found format
+    → (P : QuotaValue → Format → Option Rec → Type 0) → ((value : QuotaValue) → mid.holds value → P value format found)
+    → (value : QuotaValue) → old.holds value → P value value.format (get value.records id)
+fact_of id old mid found format seen P fact value holds =
+    let held = seen.up.stays value holds in
+    subst (λ (f : Format). P value f (get value.records id)) (seen.value value held)
+    (subst (λ (f : Option Rec). P value format f) (seen.looked value holds) (fact value held))
 
-full-map : (fault : FileFault) (P Q : Type 0) → (P → Q) → IfFull fault (λ _ _. P) → IfFull fault (λ _ _. Q)
-full-map Store P Q map fact = tt
-full-map (Damage at) P Q map fact = tt
-full-map (Full blocks limit) P Q map fact = map fact
-full-map Memory P Q map fact = tt
+idle_by : (id : ℕ) (next : Rec) (value : QuotaValue) (null none : Bool) → is_none (get value.records id) ≡ none
+    → has_nothing_to_do (if null then Remove id else Put id next) value ≡ (none && null)
+idle_by id next value true true is = is
+idle_by id next value true false is = is
+idle_by id next value false true is = refl
+idle_by id next value false false is = refl
 
--- the record was put, or taken away
-pub edits-recorded : {T : Type 0} (id : ℕ) (rec : Rec) (laws : FileLaws) (old new : FileAt) (told : T)
-    → ((value : QuotaValue) → old.holds value → new.holds (with_or_without value id rec))
-    → ((value : QuotaValue) → old.holds value → laws.makes (change_to id rec) old.seen.name old.store.files new.store.files)
-    → ((value : QuotaValue) (blocks limit : ℕ) → old.holds value → ¬ (LacksRoom laws old (with_or_without value id rec) blocks limit))
-    → ((value : QuotaValue) (blocks limit : ℕ) → old.holds value → LacksRoom laws old (with_or_without value id rec) blocks limit → OnlyReads old.seen.name old.store new.store)
-    → ((value : QuotaValue) → old.holds value → get value.records id ≡ None → IsNull rec → OnlyReads old.seen.name old.store new.store)
-    → ReplacesOne old.seen.name old.store new.store
-    → (IsTrue laws.tells → IsSynced old.seen.name old.store new.store)
-    → new.seen ≡ old.seen
-    → Edits (record_edit id rec) laws old new (Ok told)
-edits-recorded id rec laws old new told put makes room full absent leaves synced same = record {
-  done = record {
-    set = put;
-    makes = λ value holds busy. makes value holds;
-    room = λ needs value blocks limit holds busy. room value blocks limit holds;
-    synced = synced;
-    same = same;
-  };
-  cause = tt;
-  left = tt;
-  idle = λ value holds idle. idle_read (get value.records id) rec (absent value holds) idle;
-  full = λ needs. full;
-  leaves = leaves;
-}
+room_by : (id : ℕ) (next : Rec) (null : Bool) → true ≡ may_lack_room (if null then Remove id else Put id next)
+room_by id next true = refl
+room_by id next false = refl
 
--- that was refused
-pub edits-record_refused : {T : Type 0} (id : ℕ) (rec : Rec) (laws : FileLaws) (old new : FileAt) (fault : FileFault) → IsTrue old.seen.usable
-    → ((value : QuotaValue) (blocks limit : ℕ) → old.holds value → LacksRoom laws old (with_or_without value id rec) blocks limit → OnlyReads old.seen.name old.store new.store)
-    → ((value : QuotaValue) → old.holds value → get value.records id ≡ None → IsNull rec → OnlyReads old.seen.name old.store new.store)
-    → IsChangeFault old.store.faults new.store.faults old.holds (λ blocks limit. (value : QuotaValue) → old.holds value → LacksRoom laws old (with_or_without value id rec) blocks limit) fault
-    → IfFull fault (λ _ _. (value : QuotaValue) → old.holds value → get value.records id ≡ None → ¬ (IsNull rec))
-    → laws.may_refuse old.seen.format fault
-    → IfFull fault (λ blocks limit. limit < blocks)
-    → UnlessStoreFailed fault ((value : QuotaValue) → old.holds value → new.holds value)
-    → UnlessStoreFailed fault (OnlyReads old.seen.name old.store new.store)
-    → OnStore fault ((value : QuotaValue) → old.holds value → IsLeft (laws.makes (change_to id rec) old.seen.name) (laws.may_leave old.seen.format) old.seen.name old.store.files new.store.files)
-    → (LeavesOld (laws.may_leave old.seen.format) → IsTrue laws.tells → new.store.files old.seen.name ≡ old.store.files old.seen.name)
-    → ReplacesOne old.seen.name old.store new.store
-    → CountsRefusal (not (is_store_fault fault)) old.seen new.seen
-    → Edits {T = T} (record_edit id rec) laws old new (Err (File fault))
-edits-record_refused id rec laws old new fault usable full absent refused present may passes stays unwritten left unchanged leaves counted =
-    edits-change_refused (record_edit id rec) laws old new fault usable
-    (change_fault-map old.store.faults new.store.faults old.holds _ _ fault (λ blocks limit lacks. (refl, lacks)) refused)
-    (full-map fault _ _ (λ present value holds. idle_full (get value.records id) (is_null_of rec) (present value holds)) present)
-    may passes stays unwritten (λ value holds. refl) left unchanged counted
-    (λ value holds idle. idle_read (get value.records id) rec (absent value holds) idle)
-    (λ needs. full)
-    leaves
-
--- What is put is what an edit wants of the value: both make one value, by one change, and idle at the same values.
-pub record IsWanted (edit : Edit) (id : ℕ) (next : Rec) (value : QuotaValue) : Type 0 where
-  pub edited : Ok (with_or_without value id next) ≡ edit.edited value
-  pub change : change_to id next ≡ edit.change value
-  pub idle : (is_none (get value.records id) && is_null_of next) ≡ edit.is_idle value
-
--- an edit that needs room, and what is put for it
-pub same_at : (edit : Edit) (id : ℕ) (next : Rec) (at : FileAt) → true ≡ edit.needs_room → id ≡ edit.id
-    → ((value : QuotaValue) → at.holds value → IsWanted edit id next value) → IsSameAt edit (record_edit id next) at
-same_at edit id next at room same wanted = record {
-  edited = λ value holds. (wanted value holds).edited;
-  change = λ value holds. (wanted value holds).change;
-  idle = λ value holds. (wanted value holds).idle;
-  room = room;
-  id = same;
-  may = λ out none. absurd none;
+-- What is put is what an edit wants of the values that the file holds: the format keeps it of a record for which it has room,
+-- and both idle at the same values.
+same_at : (edit : Edit) (id : ℕ) (next : Rec) (at : FileAt) → edit.needs_room ≡ true
+    → ((value : QuotaValue) → at.holds value → edit.edited value ≡ Ok (with_or_without value id next))
+    → ((value : QuotaValue) → at.holds value → edit.change value ≡ change_to id next)
+    → ((value : QuotaValue) → at.holds value → edit.is_idle value ≡ (is_none (get value.records id) && is_null_of next))
+    → IsSameAt (value_edit edit) (edit_by (change_to id next)) at
+same_at edit id next at room edited change idle = record {
+  edited = edited;
+  change = change;
+  idle = λ value holds. idle value holds ∙ sym (idle_by id next value (is_null_of next) (is_none (get value.records id)) refl);
+  room = room ∙ room_by id next (is_null_of next);
 }
 
 null_same : (found : Option Rec) (limits : Limits) (grace : Grace) (now : ℕ) (null : Bool) → null ≡ is_null_of (wanted_limits found limits grace now)
-    → (is_none found && null) ≡ (is_none found && is_null_of (wanted_limits None limits grace now))
-null_same None limits grace now null is = is
+    → (is_none found && is_null_of (wanted_limits None limits grace now)) ≡ (is_none found && null)
+null_same None limits grace now null is = sym is
 null_same (Some rec) limits grace now null is = refl
 
--- what is put is what setting the limits wants, where all that it was made of was looked up in the value
-pub limits_wanted : (value : QuotaValue) (id : ℕ) (limits : Limits) (now : ℕ)
-    (old : Option Rec) (format : Format) (grace : Grace) (rec next : Rec)
-    → old ≡ get value.records id → format ≡ value.format → grace ≡ value.grace
-    → rec ≡ with_limits (unwrap_or old zero_record) limits
-    → unfit format id (timers_of rec grace now) ≡ None → next ≡ kept_of format id (timers_of rec grace now)
-    → is_null_of next ≡ is_null_of rec
-    → IsWanted (limits_edit id limits now) id next value
-limits_wanted value id limits now old format grace rec next found same_format same_grace limited fits kept null =
-    let R : Option Rec → Rec = λ o. with_limits (unwrap_or o zero_record) limits in
-    let wanted : rec ≡ R (get value.records id) = limited ∙ ap R found in
-    let P : Format → Grace → Rec → Type 0 = λ f g r. next ≡ kept_of f id (timers_of r g now) in
-    let r = R (get value.records id) in
-    record {
-      edited = sym (limits_set-fits value id limits now old format grace rec next found same_format same_grace limited fits kept);
-      change = sym (change_to-is value.format id (timers_of r value.grace now) next
-          (subst (λ (f : Format). P f value.grace r) same_format (subst (λ (g : Grace). P format g r) same_grace (subst (λ (s : Rec). P format grace s) wanted kept))));
-      idle = null_same (get value.records id) limits value.grace now (is_null_of next) (null ∙ ap is_null_of wanted);
-    }
-
--- what the looked up record tells of the one that the value has
-skips_same : (value : QuotaValue) (id : ℕ) (old : Option Rec) (rec : Rec) (skips : Bool) → old ≡ get value.records id → rec ≡ found_or_zeros old
-    → skips_both (times_skipped rec) ≡ skips → skips_both_of value id ≡ skips
-skips_same value id old rec skips found zeros is =
-    subst (λ (s : Rec). skips_both (times_skipped s) ≡ skips) (zeros ∙ ap found_or_zeros found) is
-
--- both times are skipped, and the identifier fits
-pub times_idle : (value : QuotaValue) (id : ℕ) (block inode : TimeWord) (now : ℕ) (old : Option Rec) (format : Format) (rec : Rec)
-    → old ≡ get value.records id → format ≡ value.format → rec ≡ found_or_zeros old
-    → unfit format id (with_times rec block inode now) ≡ None → skips_both (times_skipped rec) ≡ true
-    → (times_set value id block inode now ≡ Ok value) × (skips_both_of value id ≡ true)
-times_idle value id block inode now old format rec found same_format zeros fits skips =
-    let W : Rec → Rec = λ r. with_times r block inode now in
-    let P : Format → Rec → Type 0 = λ f r. unfit f id (W r) ≡ None in
-    let r = found_or_zeros (get value.records id) in
-    let fits_so : P value.format r = subst (λ (f : Format). P f r) same_format (subst (λ (s : Rec). P format s) (zeros ∙ ap found_or_zeros found) fits) in
-    let skips_so = skips_same value id old rec true found zeros skips in (
-      ap (λ (b : Bool). unless_unfit (unfit value.format id (W r)) (if b then value else with_kept value id (W r))) skips_so
-          ∙ ap (λ (o : Option (Field × ℕ)). unless_unfit o value) fits_so,
-      skips_so,
-    )
+-- four limits are set by the change to what the format keeps of the wanted record, where all that it is made of was looked up
+pub limits-edits : (id : ℕ) (limits : Limits) (now : ℕ) (laws : FileLaws) (old mid new : FileAt) (result : Result (Unit {0}) FileFault)
+    (found : Option Rec) (format : Format) (grace : Grace) (rec next : Rec)
+    → Changes (change_to id next) laws mid new result → HasFound id old mid found format
+    → ((value : QuotaValue) → mid.holds value → grace ≡ value.grace) → rec ≡ with_limits (unwrap_or found zero_record) limits
+    → unfit format id (timers_of rec grace now) ≡ None → next ≡ kept_of format id (timers_of rec grace now) → is_null_of next ≡ is_null_of rec
+    → Edits (limits_edit id limits now) laws old new (edit_answer (tt {0}) result)
+limits-edits id limits now laws old mid new result found format grace rec next changes seen periods limited fits kept null =
+    let P : Format → Option Rec → Rec → Type 0 = λ f o r. (unfit f id r ≡ None) × (next ≡ kept_of f id r) × (is_null_of next ≡ is_null_of r) in
+    let is = fact_of id old mid found format seen (λ value f o. P f o (wanted_limits o limits value.grace now))
+    (λ value holds. subst (λ (g : Grace). P format found (wanted_limits found limits g now)) (periods value holds)
+    (subst (λ (r : Rec). P format found (timers_of r grace now)) limited (fits, kept, null))) in
+    edits-changed (limits_edit id limits now) (change_to id next) laws old mid new (tt {0}) result changes seen.up
+    (same_at (limits_edit id limits now) id next old refl
+    (λ value holds. edited-fits value id _ next (is value holds).0 (is value holds).1)
+    (λ value holds. change_to-is value.format id _ next (is value holds).1)
+    (λ value holds. null_same (get value.records id) limits value.grace now (is_null_of next) (is value holds).2))
 
 busy_same : (found : Option Rec) (null : Bool) → skips_both (times_skipped (found_or_zeros found)) ≡ false
-    → (is_none found && null) ≡ skips_both (times_skipped (found_or_zeros found))
+    → skips_both (times_skipped (found_or_zeros found)) ≡ (is_none found && null)
 busy_same None null busy = absurd (cc)
-busy_same (Some rec) null busy = sym busy
+busy_same (Some rec) null busy = busy
 
--- what is put is what setting the times wants, where they are not both skipped
-pub times_wanted : (value : QuotaValue) (id : ℕ) (block inode : TimeWord) (now : ℕ)
-    (old : Option Rec) (format : Format) (rec next : Rec)
-    → old ≡ get value.records id → format ≡ value.format → rec ≡ found_or_zeros old
+-- the times are set by the change to what the format keeps of the wanted record, where they are not both skipped
+pub times-edits : (id : ℕ) (block inode : TimeWord) (now : ℕ) (laws : FileLaws) (old mid new : FileAt) (told : Skipped) (result : Result (Unit {0}) FileFault)
+    (found : Option Rec) (format : Format) (rec next : Rec)
+    → Changes (change_to id next) laws mid new result → HasFound id old mid found format → rec ≡ found_or_zeros found
     → unfit format id (with_times rec block inode now) ≡ None → next ≡ kept_of format id (with_times rec block inode now)
     → skips_both (times_skipped rec) ≡ false
-    → IsWanted (times_edit id block inode now) id next value
-times_wanted value id block inode now old format rec next found same_format zeros fits kept busy =
-    let same : rec ≡ found_or_zeros (get value.records id) = zeros ∙ ap found_or_zeros found in
+    → Edits (times_edit id block inode now) laws old new (edit_answer told result)
+times-edits id block inode now laws old mid new told result found format rec next changes seen zeros fits kept busy =
     let W : Rec → Rec = λ r. with_times r block inode now in
-    let P : Format → Rec → Type 0 = λ f r. unfit f id (W r) ≡ None in
-    let Q : Format → Rec → Type 0 = λ f r. next ≡ kept_of f id (W r) in
-    let r = found_or_zeros (get value.records id) in
-    let fits_so : P value.format r = subst (λ (f : Format). P f r) same_format (subst (λ (s : Rec). P format s) same fits) in
-    let kept_so : Q value.format r = subst (λ (f : Format). Q f r) same_format (subst (λ (s : Rec). Q format s) same kept) in
-    let busy_so = skips_same value id old rec false found zeros busy in
-    record {
-      edited = sym (ap (λ (b : Bool). unless_unfit (unfit value.format id (W r)) (if b then value else with_kept value id (W r))) busy_so
-          ∙ edited-fits value id (W r) next fits_so kept_so);
-      change = sym (change_to-is value.format id (W r) next kept_so);
-      idle = busy_same (get value.records id) (is_null_of next) busy_so;
-    }
+    let P : Format → Rec → Type 0 = λ f r. (unfit f id (W r) ≡ None) × (next ≡ kept_of f id (W r)) × (skips_both (times_skipped r) ≡ false) in
+    let is = fact_of id old mid found format seen (λ value f o. P f (found_or_zeros o)) (λ value holds. subst (λ (r : Rec). P format r) zeros (fits, kept, busy)) in
+    edits-changed (times_edit id block inode now) (change_to id next) laws old mid new told result changes seen.up
+    (same_at (times_edit id block inode now) id next old refl
+    (λ value holds.
+    ap (λ (b : Bool). let wanted = wanted_times value id block inode now in
+    unless_unfit (unfit value.format id wanted) (if b then value else with_kept value id wanted)) (is value holds).2
+    ∙ edited-fits value id _ next (is value holds).0 (is value holds).1)
+    (λ value holds. change_to-is value.format id _ next (is value holds).1)
+    (λ value holds. busy_same (get value.records id) (is_null_of next) (is value holds).2))

@@ -1,4 +1,3 @@
-pub mod EditedLemmas
 pub mod EditingLemmas
 pub mod EditsLemmas
 pub mod LimitLemmas

@@ -6,7 +6,9 @@ pub mod Form
 pub mod FormReading
 pub mod Number
 pub mod Times
+pub use Rattle.quota_blocks.specs.Changes
 pub use Rattle.quota_blocks.specs.FileChange
+pub use Rattle.quota_blocks.specs.FileUse
 pub use Rattle.quota_blocks.specs.Frame
 pub use Rattle.quota_blocks.specs.Numeral
 pub use Rattle.quota_blocks.specs.QuotaFile

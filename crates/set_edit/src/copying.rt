@@ -1,5 +1,6 @@
 ghost use Rattle.std.specs.Prelude.{◌≡◌, IsTrue};
-ghost use Rattle.set_edit.specs.Editing.{Edits, file_at, laws_of};
+ghost use Rattle.quota_blocks.specs.Changes.{file_at, laws_of};
+ghost use Rattle.set_edit.specs.Editing.{Edits};
 ghost use Rattle.set_edit.specs.Edits.{copy_edit, limits_of};
 
 use crate::{EditFault, Limits, set_limits};
@@ -22,7 +23,7 @@ pub fn copy_limits<S: Store, F: QuotaFile<S>>(
 ) -> Result<(), EditFault>
     requires { IsTrue (F.seen file.old).usable }
     ensures edits { Edits (copy_edit from to now)
-        (laws_of S.tells F.makes F.may_leave F.lacks_room F.may_refuse)
+        (laws_of S.tells F.makes F.may_leave F.lacks_room F.may_refuse F.change_reads F.change_writes)
         (file_at (F.holds file.old store.old) (F.seen file.old) (S.seen store.old))
         (file_at (F.holds file.new store.new) (F.seen file.new) (S.seen store.new)) result }
 {

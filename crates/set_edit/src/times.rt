@@ -1,11 +1,12 @@
-ghost use Rattle.std.specs.Prelude.{◌≡◌, ◌≤◌, ◌^◌, Option, None, Some, IsTrue, IfOk, IfErr, IfSome, OnOk, if◌then◌else◌};
+ghost use Rattle.std.specs.Prelude.{◌≡◌, ◌≤◌, ◌^◌, Option, None, Some, true, IsTrue, IfOk, IfErr, IfSome, OnOk, if◌then◌else◌};
 ghost use Rattle.std.specs.FinMap.{get};
 ghost use Rattle.quota_types.specs.Kept.{IsKept, kept_of};
 ghost use Rattle.quota_types.specs.Range.{unfit};
 ghost use Rattle.quota_types.specs.declared.record.Rec.{Rec};
 ghost use Rattle.quota_blocks.specs.Frame.{OnlyReads};
 ghost use Rattle.quota_blocks.specs.QuotaValue.{QuotaValue};
-ghost use Rattle.set_edit.specs.Editing.{Edits, file_at, laws_of};
+ghost use Rattle.quota_blocks.specs.Changes.{file_at, laws_of};
+ghost use Rattle.set_edit.specs.Editing.{Edits};
 ghost use Rattle.set_edit.specs.Edits.{times_edit};
 ghost use Rattle.set_edit.specs.Times.{found_or_zeros, record_in, skips_both, time_of, times_skipped, with_times};
 
@@ -34,7 +35,7 @@ pub fn set_times<S: Store, F: QuotaFile<S>>(
 ) -> Result<Skipped, EditFault>
     requires { IsTrue (F.seen file.old).usable }
     ensures edits { Edits (times_edit id block inode now)
-        (laws_of S.tells F.makes F.may_leave F.lacks_room F.may_refuse)
+        (laws_of S.tells F.makes F.may_leave F.lacks_room F.may_refuse F.change_reads F.change_writes)
         (file_at (F.holds file.old store.old) (F.seen file.old) (S.seen store.old))
         (file_at (F.holds file.new store.new) (F.seen file.new) (S.seen store.new)) result }
     ensures skipped { IfOk result (λ skipped. (value : QuotaValue) → F.holds file.old store.old value
@@ -44,7 +45,7 @@ pub fn set_times<S: Store, F: QuotaFile<S>>(
         × (skipped ≡ times_skipped (found_or_zeros old))) }
     // Whatever the store tells, nothing is written where both are told as skipped.
     ensures unwritten { IfOk result (λ skipped. IsTrue (skips_both skipped)
-        → OnlyReads (F.seen file.old).name (S.seen store.old) (S.seen store.new)) }
+        → OnlyReads true (F.seen file.old).name (S.seen store.old) (S.seen store.new)) }
 {
     let rec = found_or_zeros(file.get(store, id)?);
     let skipped = skipped_times(&rec);

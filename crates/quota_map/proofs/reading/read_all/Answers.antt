@@ -8,7 +8,8 @@ use Rattle.quota_types.specs.declared.record.Entry.{Entry}
 use Rattle.quota_blocks.specs.Listed.{ids_of}
 use Rattle.quota_blocks.specs.QuotaFile.{FileSeen}
 use Rattle.quota_blocks.specs.QuotaValue.{IsAfter, IsNextAfter}
-use Rattle.quota_blocks.proofs.FrameLemmas.{adds_none-then, only_reads-none, only_reads-then}
+use Rattle.quota_blocks.proofs.FrameLemmas.{only_reads-none, only_reads-then}
+use Rattle.quota_map.specs.AnyFile.{any_seen}
 use Rattle.quota_map.proofs.ReadingLemmas.{AscendTo, IsReadUpTo, ascend_more, ascend_none, only_reads-of, read_more, read_none, read_whole}
 use Rattle.quota_map.proofs.reading.read_all.Goals as goal
 
@@ -24,7 +25,6 @@ loop-list-init g c =
       same = refl;
       usable = c.requires;
       leaves = only_reads-none _ _;
-      synced = λ name is. is;
     }
 
 pub loop-list-preserved : goal.loop-list-preserved
@@ -35,10 +35,10 @@ loop-list-preserved g c =
     let pushed : c.push.new.self.items ≡ c.loop-list.list.items ++ entry ∷ [] = search rules in
     let is_after : IsAfter c.loop-list.after entry.id = subst (λ (o : Option Entry). IfSome o (λ e. IsAfter c.loop-list.after e.id)) c.in-Some.is found.ascends in
     let is_narrow : entry.id < 2 ^ 32 = subst (λ (o : Option Entry). IfSome o (λ e. e.id < 2 ^ 32)) c.in-Some.is found.narrow in
-    let format : (g.F.QuotaFile.seen c.loop-list.file).format ≡ (g.F.QuotaFile.seen c.args.file.now).format = ap (λ (seen : FileSeen). seen.format) so_far.same in
-    let is_kept : IsKept (g.F.QuotaFile.seen c.args.file.now).format entry.id entry.rec =
+    let format : (any_seen c.loop-list.file).format ≡ (any_seen c.args.file.now).format = ap (λ (seen : FileSeen). seen.format) so_far.same in
+    let is_kept : IsKept (any_seen c.args.file.now).format entry.id entry.rec =
     subst (λ (f : Format). IsKept f entry.id entry.rec) format
-    (subst (λ (o : Option Entry). IfSome o (λ e. IsKept (g.F.QuotaFile.seen c.loop-list.file).format e.id e.rec)) c.in-Some.is found.kept) in
+    (subst (λ (o : Option Entry). IfSome o (λ e. IsKept (any_seen c.loop-list.file).format e.id e.rec)) c.in-Some.is found.kept) in
     record {
       read = λ value holds.
           let next : IsNextAfter c.loop-list.after value.records (Some entry) =
@@ -48,13 +48,12 @@ loop-list-preserved g c =
           (ascend_more c.loop-list.after (ids_of c.loop-list.list.items) entry.id so_far.ascends is_after);
       narrow = subst (All (λ (e : Entry). e.id < 2 ^ 32)) (sym pushed) (All-push (λ (e : Entry). e.id < 2 ^ 32) c.loop-list.list.items entry so_far.narrow is_narrow);
       kept =
-          let P : Entry → Type 0 = λ e. IsKept (g.F.QuotaFile.seen c.args.file.now).format e.id e.rec in
+          let P : Entry → Type 0 = λ e. IsKept (any_seen c.args.file.now).format e.id e.rec in
           subst (All P) (sym pushed) (All-push P c.loop-list.list.items entry so_far.kept is_kept);
       stays = λ value holds. found.stays value (so_far.stays value holds);
       same = found.same ∙ so_far.same;
       usable = subst (λ (seen : FileSeen). IsTrue seen.usable) (sym found.same) so_far.usable;
       leaves = only_reads-then _ _ _ _ so_far.leaves (only_reads-of _ _ _ _ so_far.same found.leaves);
-      synced = adds_none-then _ _ _ so_far.synced found.synced;
     }
 
 pub returns-clause-records : goal.returns-clause-records

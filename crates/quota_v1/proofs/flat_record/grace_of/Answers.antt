@@ -1,5 +1,5 @@
 use Rattle.std.proofs.Common.{◌≤◌, length, arith}
-use Rattle.quota_v1.proofs.NumberLemmas.{number_at-past}
+use Rattle.quota_types.proofs.BytesLemmas.{number_at-past}
 use Rattle.quota_v1.proofs.flat_record.grace_of.Goals as goal
 
 pub returns-then-bytes-lt-RECORD : goal.returns-then-bytes-lt-RECORD

@@ -1,47 +1,13 @@
-use Rattle.std.proofs.Common.{◌≡◌, ◌%◌, length, refl, arith}
-use Rattle.std.proofs.lemmas.Result.{on_ok_weaker}
-use Rattle.std.specs.String.{string_bytes}
-use Rattle.quota_v1.specs.Change.{FlatGraced}
-use Rattle.quota_blocks.specs.Replace.{replaced_files}
-use Rattle.quota_v1.proofs.MakesLemmas.{anew_rewritten, left_as_before, left_between, on_store_fault}
-use Rattle.quota_v1.proofs.RecordLemmas.{stands_graced}
+use Rattle.std.proofs.Common.{refl, arith}
+use Rattle.quota_v1.proofs.MakesLemmas.{flat_graced, if_ok-four}
 use Rattle.quota_v1.proofs.flat_file.V1FileQuotaFile.set_grace.Goals as goal
 
-pub returns-in-Ok-clause-set : goal.returns-in-Ok-clause-set
-returns-in-Ok-clause-set g c =
-    let whole : length c.in-Ok.bytes.items % 40 ≡ 0 = omega (arith, rw c.deref.ensures.value at c.in-Ok.ensures.long, c.args.self.now.bytes.ok.0) in
-    on_ok_weaker c.rewrite.result
-    (λ holds value. holds value _ (λ stands. stands_graced c.args.self.now.bytes.items _ value c.args.grace stands whole c.in-Ok.ensures.block c.in-Ok.ensures.inode
-    (rw c.deref.ensures.value at c.in-Ok.ensures.others) c.requires.fits))
-    c.rewrite.ensures.holds
-
-pub returns-in-Ok-clause-makes : goal.returns-in-Ok-clause-makes
-returns-in-Ok-clause-makes g c =
-    let graced : FlatGraced c.args.grace c.args.self.now.bytes.items c.in-Ok.bytes.items =
-    record {
-      long = rw c.deref.ensures.value at c.in-Ok.ensures.long;
-      others = rw c.deref.ensures.value at c.in-Ok.ensures.others;
-      block_time = c.in-Ok.ensures.block;
-      inode_time = c.in-Ok.ensures.inode;
-    } in
-    on_ok_weaker c.rewrite.result
-    (λ wrote value held. anew_rewritten (FlatGraced c.args.grace) _ _ _ _ _ held.same (wrote held.told) graced)
-    c.rewrite.ensures.ok
-
-pub returns-in-Ok-clause-left : goal.returns-in-Ok-clause-left
-returns-in-Ok-clause-left g c =
-    let files = (g.S.Store.seen c.args.store.now).files in
-    let after = replaced_files files (string_bytes c.args.self.now.name) c.in-Ok.bytes.items in
-    let graced : FlatGraced c.args.grace c.args.self.now.bytes.items c.in-Ok.bytes.items =
-    record {
-      long = rw c.deref.ensures.value at c.in-Ok.ensures.long;
-      others = rw c.deref.ensures.value at c.in-Ok.ensures.others;
-      block_time = c.in-Ok.ensures.block;
-      inode_time = c.in-Ok.ensures.inode;
-    } in
-    on_store_fault c.rewrite.result
-    (λ kept value held. left_as_before _ files _ after _ (anew_rewritten (FlatGraced c.args.grace) files after _ _ _ held.same refl graced) kept)
-    c.rewrite.ensures.unchanged
-
-pub returns-in-Ok-clause-between : goal.returns-in-Ok-clause-between
-returns-in-Ok-clause-between g c = left_between c.rewrite.result _ _ _ (string_bytes c.args.self.now.name) c.rewrite.ensures.unchanged
+pub returns : goal.returns
+returns g c = record {
+  changes = c.rewrite.ensures.changes _ (λ value stands. refl)
+      (if_ok-four c.with_grace-bytes.result
+      (λ bytes long block inode others.
+      flat_graced _ _ c.args.grace (omega (arith, long, c.args.self.now.bytes.ok.0)) long block inode others c.requires.fits)
+      (rw c.deref.ensures.value at c.with_grace-bytes.ensures.long) c.with_grace-bytes.ensures.block c.with_grace-bytes.ensures.inode
+      (rw c.deref.ensures.value at c.with_grace-bytes.ensures.others));
+}
