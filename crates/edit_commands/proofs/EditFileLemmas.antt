@@ -1,6 +1,6 @@
 -- From what an edit says of an opened file of any format to what a command says of the file.
-use Rattle.std.proofs.Common.{◌⊎◌, inl, inr, ◌≡◌, ◌≢◌, ℕ, Bool, true, false, IsTrue, List, Option, Ok, Err, Result, if◌then◌else◌, refl, sym, ap, subst, ◌∙◌, arith}
-use Rattle.std.specs.Prelude.{◌&&◌, ◌<◌, nat_lt, IfOk, IfSome, IsOk, IsOkAnd}
+use Rattle.std.proofs.Common.{◌⊎◌, inl, inr, ◌≡◌, ◌≢◌, ℕ, Bool, true, false, IsTrue, List, Option, Some, Ok, Err, Result, if◌then◌else◌, refl, sym, ap, subst, ◌∙◌, arith}
+use Rattle.std.specs.Prelude.{◌&&◌, ◌<◌, nat_lt, IfOk, IsOk, IsOkAnd}
 use Rattle.std.proofs.lemmas.Bool.{false≢true}
 use Rattle.std.proofs.lemmas.Bool.Decides.{nat_tests}
 use Rattle.std.specs.String.{string_bytes}
@@ -10,21 +10,22 @@ use Rattle.quota_types.specs.declared.field.Field.{Field}
 use Rattle.quota_types.specs.declared.file_kind.Format.{Format}
 use Rattle.quota_types.specs.declared.file_kind.Format.TheVariants.{V1}
 use Rattle.quota_types.specs.declared.record.Rec.{Rec}
-use Rattle.quota_blocks.specs.QuotaFile.{FileSeen, IsChangeFault}
+use Rattle.quota_blocks.specs.QuotaFile.{FileSeen, is_store_fault}
 use Rattle.quota_blocks.specs.QuotaValue.{QuotaValue}
 use Rattle.quota_blocks.specs.Seen.{StoreSeen}
 use Rattle.quota_blocks.specs.World.{World}
-use Rattle.quota_blocks.specs.declared.quota_file.FileFault.TheVariants.{Store, Full}
+use Rattle.quota_blocks.specs.declared.quota_file.FileFault.{FileFault}
+use Rattle.quota_blocks.specs.declared.quota_file.FileFault.TheVariants.{Store, Damage, Full, Memory}
+use Rattle.quota_blocks.proofs.LookupLemmas.{change_fault-after}
 use Rattle.tree_file.specs.Opened.{LacksRoom}
 use Rattle.tree_build.specs.Size.{blocks_needed, ids_in}
-use Rattle.quota_map.specs.AnyFile.{AnyMakes, HoldsAny, MayRefuse, any_seen}
+use Rattle.quota_map.specs.AnyFile.{HoldsAny, MayRefuse, any_at, any_laws, any_seen}
 use Rattle.quota_map.specs.declared.any_file.AnyFile.{AnyFile}
 use Rattle.quota_map.specs.declared.any_file.AnyFile.TheVariants.{V1 as FlatFile, Tree as TreeFile}
-use Rattle.quota_map.specs.View.{fresh_seen, most_blocks}
+use Rattle.quota_map.specs.View.{IsOpenedAs, blocks_allowed, fresh_seen, most_blocks}
 use Rattle.quota_map.proofs.SeenLemmas.{any_held_seen, tree_limit}
-use Rattle.set_edit.specs.EditFault.{OnBroken, OnUnchanged, file_fault}
 use Rattle.set_edit.specs.Edited.{with_kept}
-use Rattle.set_edit.specs.Editing.{Edit, Edits, FileLaws, HasCause, file_at, laws_of}
+use Rattle.set_edit.specs.Editing.{Edit, Edits}
 use Rattle.set_edit.specs.Times.{skips_both_of, wanted_times}
 use Rattle.set_edit.specs.declared.fault.EditFault.{EditFault}
 use Rattle.set_edit.specs.declared.fault.EditFault.TheVariants.{File, NoRoom as Unfit}
@@ -33,12 +34,13 @@ use Rattle.edit_commands.specs.declared.edit.FileEdit.TheVariants.{Limits, Copy,
 use Rattle.refusals.specs.Status.{status_of}
 use Rattle.set_edit.specs.declared.skipped.Skipped.{Skipped}
 use Rattle.refusals.specs.declared.cause.Cause.{Cause}
-use Rattle.run_steps.specs.Opening.{MayRefuseOpening}
+use Rattle.run_steps.specs.Opening.{MayRefuseOpening, asks_tree}
 use Rattle.edit_commands.specs.Edits.{ChangeMayRefuse, FileEditMayRefuse, edit_cause, is_too_large, unskipped}
 use Rattle.run_steps.specs.Changing.{blocks_of}
 use Rattle.edit_commands.specs.EditWords.{MaySkip, edit_meant, edit_warns, skips_none}
 use Rattle.edit_commands.proofs.EditLemmas.{EditedSeen, IsMade}
-use Rattle.edit_commands.proofs.RefusedEditLemmas.{HasEditCause, IsLacking, IsRefusedAt}
+use Rattle.run_steps.proofs.ShowingLemmas.{damage_may}
+use Rattle.edit_commands.proofs.RefusedEditLemmas.{HasEditCause, IsLacking, IsRefusedAt, refused_read}
 use Rattle.edit_commands.proofs.LimitsLemmas.{fits_field, kept_field, set_format}
 
 -- An edit keeps the format.
@@ -71,7 +73,7 @@ lacking : (tells : Bool) (files : World) (file : AnyFile) (value new : QuotaValu
     → HoldsAny tells files file value → new.format ≡ value.format → LacksRoom (any_seen file) new blocks limit → IsLacking new blocks limit
 lacking tells files (FlatFile file) value new name format blocks limit seen held same lacks = absurd (omega (arith, lacks.passes, lacks.needs, flat_blocks new value.format same held.stands.format))
 lacking tells files (TreeFile file) value new name format blocks limit seen held same lacks =
-    let most = lacks.may ∙ tree_limit tells (files (string_bytes file.name)) file.tree.bytes.items file.limit value format (ap (λ (s : FileSeen). s.limit) seen) held in
+    let most = lacks.may ∙ tree_limit tells (files (string_bytes file.opened.name)) file.tree.bytes.items file.limit value format (ap (λ (s : FileSeen). s.limit) seen) held in
     (lacks.needs, most, subst (λ (l : ℕ). l < blocks) most lacks.passes)
 
 -- an opened file has no room for a value that needs more than the most blocks
@@ -80,7 +82,7 @@ lacks_most : (tells : Bool) (files : World) (file : AnyFile) (value new : QuotaV
 lacks_most tells files (FlatFile file) value new name format seen held same more = absurd (omega (arith, more, flat_blocks new value.format same held.stands.format))
 lacks_most tells files (TreeFile file) value new name format seen held same more = record {
   needs = refl;
-  may = sym (tree_limit tells (files (string_bytes file.name)) file.tree.bytes.items file.limit value format (ap (λ (s : FileSeen). s.limit) seen) held);
+  may = sym (tree_limit tells (files (string_bytes file.opened.name)) file.tree.bytes.items file.limit value format (ap (λ (s : FileSeen). s.limit) seen) held);
   passes = more;
 }
 
@@ -99,59 +101,62 @@ not_so false never = refl
 
 -- What an edit of an opened file says.
 
--- the laws of opened files of any format
-abbrev pub any_laws : Bool → FileLaws
-any_laws tells = laws_of tells AnyMakes (λ _ old _ left. left ≡ old) (λ seen _ value blocks limit. LacksRoom seen value blocks limit) MayRefuse
-
 -- an edit was made of an opened file of any format
 abbrev pub AnyEdits : {T : Type 0} → Edit → Bool → (opened file : AnyFile) (before after : StoreSeen) → Result T EditFault → Type 0
-AnyEdits edit tells opened file before after result =
-    Edits edit (any_laws tells) (file_at (HoldsAny tells before.files opened) (any_seen opened) before) (file_at (HoldsAny tells after.files file) (any_seen file) after) result
+AnyEdits edit tells opened file before after result = Edits edit (any_laws tells) (any_at tells before opened) (any_at tells after file) result
 
 -- an edited value that the opened file holds is seen of the file, which is not too large
 edited_seen : (tells : Bool) (edit : Edit) (opened file : AnyFile) (before after : StoreSeen) (name : List ℕ) (format : Format) (value : QuotaValue) (edited : Result QuotaValue (Field × ℕ))
     → edit.edited value ≡ edited → KeepsFormat edit → any_seen opened ≡ fresh_seen name format → any_seen file ≡ fresh_seen name format → HoldsAny tells before.files opened value
     → IsOkAnd edited (λ (new : QuotaValue). HoldsAny tells after.files file new)
     → (IsTrue edit.needs_room → (blocks limit : ℕ) → edit.is_idle value ≡ false → IfOk edited (λ (new : QuotaValue). ¬ LacksRoom (any_seen opened) new blocks limit))
-    → EditedSeen name after edit value edited
+    → EditedSeen name (before.files name) after edit value edited
 edited_seen tells edit opened file before after name format value (Ok new) set keeps was is held holds room = (
   any_held_seen tells after.files file new name format is holds,
-  λ some. not_so (is_too_large edit new) (λ large.
+  λ some. not_so (is_too_large edit (before.files name) new) (λ large.
       let both = both_of edit.needs_room (nat_lt most_blocks (blocks_of new)) large in
       room both.0 (blocks_of new) most_blocks some
       (lacks_most tells before.files opened value new name format was held (keeps value new set) (less_of most_blocks (blocks_of new) both.1))),
 )
 edited_seen tells edit opened file before after name format value (Err out) set keeps was is held holds room = absurd holds
 
-pub any_made : {T : Type 0} (tells : Bool) (edit : Edit) (opened file : AnyFile) (before after : StoreSeen) (name : List ℕ) (format : Format) (value : QuotaValue) (done : T) → KeepsFormat edit
-    → any_seen opened ≡ fresh_seen name format → (IsTrue tells → HoldsAny tells before.files opened value) → AnyEdits edit tells opened file before after (Ok done)
+pub any_made : {T : Type 0} (tells : Bool) (edit : Edit) (opened file : AnyFile) (before after : StoreSeen) (name : List ℕ) (format : Format) (value : QuotaValue) (told : T) → KeepsFormat edit
+    → any_seen opened ≡ fresh_seen name format → (IsTrue tells → HoldsAny tells before.files opened value) → AnyEdits edit tells opened file before after (Ok told)
     → IsMade name edit value (IsTrue tells) before after
-any_made tells edit opened file before after name format value done keeps was held edits =
+any_made tells edit opened file before after name format value told keeps was held edits =
+    let done = edits.value.done in
     let named : (any_seen opened).name ≡ name = ap (λ (s : FileSeen). s.name) was in
     record {
-      idle = λ told is. rw named at (edits.idle value (held told) is);
-      set = λ told. edited_seen tells edit opened file before after name format value (edit.edited value) refl keeps was (edits.done.same ∙ was) (held told) (edits.done.set value (held told))
-          (λ needs blocks limit some. edits.done.room needs value blocks limit (held told) some);
-      leaves = rw named at edits.leaves;
+      idle = λ told is. rw named at (edits.value.idle value (held told) is);
+      set = λ told. edited_seen tells edit opened file before after name format value (edit.edited value) refl keeps was (done.same ∙ was) (held told) (done.set value (held told))
+          (λ needs blocks limit some. done.room needs value blocks limit (held told) some);
+      leaves = rw named at edits.value.leaves;
     }
 
 -- Refused edits.
 
--- what an edit leaves that was refused, but for a fault of the store
-whole_unless_fault : (usable : Bool) (same : Type 0) (fault : EditFault) → OnUnchanged fault usable same → status_of (edit_cause fault) ≢ 4 → same
-whole_unless_fault usable same (File Store) kept other = absurd (other refl)
-whole_unless_fault usable same _ kept other = kept
+-- the named file is as it was, where an edit was refused
+pub any_unchanged : {T : Type 0} (edit : Edit) (tells : Bool) (opened file : AnyFile) (before after : StoreSeen) (fault : EditFault)
+    → AnyEdits {T = T} edit tells opened file before after (Err fault) → IsTrue tells → after.files (any_seen opened).name ≡ before.files (any_seen opened).name
+any_unchanged edit tells opened file before after (File fault) edits told = elim (edits.value.refused.between told) [
+  | inl same ↦ same
+  | inr both ↦ both.1
+]
+any_unchanged edit tells opened file before after (Unfit out) edits told = ap (λ (files : World). files (any_seen opened).name) edits.no_room.unwritten.files
 
-no_err : (edited : Result QuotaValue (Field × ℕ)) (out : Field × ℕ) → IsOk edited → edited ≡ Err out → ⊥
-no_err (Ok new) out ok is = absurd (cc)
-no_err (Err other) out ok is = absurd (cc)
+-- but for a fault of the store the file may still be used
+whole_unless_fault : (fault : FileFault) (same : Type 0) → (is_store_fault fault ≡ false → same) → status_of (edit_cause (File fault)) ≢ 4 → same
+whole_unless_fault Store same kept other = absurd (other refl)
+whole_unless_fault (Damage damage) same kept other = kept refl
+whole_unless_fault (Full blocks limit) same kept other = kept refl
+whole_unless_fault Memory same kept other = kept refl
 
 -- where the value does not fit nothing was written
-same_where_unfit : (usable : Bool) (same : Type 0) (fault : EditFault) (edited : Result QuotaValue (Field × ℕ)) (out : Field × ℕ)
-    → OnUnchanged fault usable same → OnBroken fault usable (IsOk edited) → edited ≡ Err out → same
-same_where_unfit true same (File Store) edited out kept broken is = kept refl
-same_where_unfit false same (File Store) edited out kept broken is = absurd (no_err edited out (broken refl) is)
-same_where_unfit usable same _ edited out kept broken is = kept
+same_where_unfit : (usable : Bool) (same : Type 0) (edited : Result QuotaValue (Field × ℕ)) (out : Field × ℕ)
+    → (IsTrue usable → same) → (usable ≡ false → IsOk edited) → edited ≡ Err out → same
+same_where_unfit true same edited out kept ended is = kept refl
+same_where_unfit false same (Ok new) out kept ended is = absurd (cc)
+same_where_unfit false same (Err other) out kept ended is = absurd (false≢true (ended refl))
 
 -- where there is no room for the value nothing was written
 same_where_full : (same : Type 0) (edited : Result QuotaValue (Field × ℕ)) (lacks : QuotaValue → Type 0) (new : QuotaValue)
@@ -159,31 +164,27 @@ same_where_full : (same : Type 0) (edited : Result QuotaValue (Field × ℕ)) (l
 same_where_full same (Ok value) lacks new full is lacks_it = full (subst (λ (v : QuotaValue). lacks v) (cc) lacks_it)
 same_where_full same (Err out) lacks new full is lacks_it = absurd (cc)
 
--- what holds where an opened file is no longer used, for one value that it holds
-broken_at : (fault : EditFault) (usable : Bool) (holds : QuotaValue → Type 0) (fact : QuotaValue → Type 0) (value : QuotaValue)
-    → OnBroken fault usable ((v : QuotaValue) → holds v → fact v) → holds value → OnBroken fault usable (fact value)
-broken_at (File Store) usable holds fact value broken held = λ no. broken no value held
-broken_at _ usable holds fact value broken held = tt
-
 pub any_refused : {T : Type 0} (name : List ℕ) (edit : Edit) (tells : Bool) (opened file : AnyFile) (before after : StoreSeen) (format : Format) (value : QuotaValue) (fault : EditFault)
     → KeepsFormat edit → any_seen opened ≡ fresh_seen name format → (IsTrue tells → HoldsAny tells before.files opened value) → AnyEdits {T = T} edit tells opened file before after (Err fault)
     → IsRefusedAt name edit value (IsTrue tells) before after (edit_cause fault)
-any_refused name edit tells opened file before after format value fault keeps was held edits =
+any_refused name edit tells opened file before after format value (File fault) keeps was held edits =
     let named : (any_seen opened).name ≡ name = ap (λ (s : FileSeen). s.name) was in
-    let left = edits.left in
+    let refused = edits.value.refused in
     record {
-      whole = λ other. rw named at (whole_unless_fault _ _ fault left.unwritten other);
-      idle = λ told is. rw named at (edits.idle value (held told) is);
-      named = λ told. rw named at (left.unchanged (λ b a l same. same) told);
-      unfit = λ told out is. rw named at (same_where_unfit _ _ fault _ out left.unwritten
-          (broken_at fault _ _ (λ (v : QuotaValue). IsOk (edit.edited v)) value left.fits (held told)) is);
+      whole = λ other. rw named at (whole_unless_fault fault _ (λ not_store. refused.unwritten (refused.usable not_store)) other);
+      idle = λ told is. rw named at (edits.value.idle value (held told) is);
+      named = λ told. rw named at (any_unchanged edit tells opened file before after (File fault) edits told);
+      unfit = λ told out is. rw named at (same_where_unfit _ _ _ out refused.unwritten (λ ended. refused.fits ended value (held told)) is);
       full = λ told new is large.
           let both = both_of edit.needs_room (nat_lt most_blocks (blocks_of new)) large in
           rw named at (same_where_full _ (edit.edited value) (λ (v : QuotaValue). LacksRoom (any_seen opened) v (blocks_of new) most_blocks) new
-          (edits.full both.0 value (blocks_of new) most_blocks (held told)) is
+          (edits.value.full both.0 value (blocks_of new) most_blocks (held told)) is
           (lacks_most tells before.files opened value new name format was (held told) (keeps value new is) (less_of most_blocks (blocks_of new) both.1)));
-      leaves = rw named at edits.leaves;
+      leaves = rw named at edits.value.leaves;
     }
+any_refused name edit tells opened file before after format value (Unfit out) keeps was held edits =
+    let named : (any_seen opened).name ≡ name = ap (λ (s : FileSeen). s.name) was in
+    refused_read name edit value (IsTrue tells) before after (edit_cause (Unfit out)) (rw named at edits.no_room.unwritten)
 
 -- an edited value that is lacking
 set_lacking : (tells : Bool) (files : World) (opened : AnyFile) (name : List ℕ) (format : Format) (value : QuotaValue) (edit : Edit) (edited : Result QuotaValue (Field × ℕ)) (blocks limit : ℕ)
@@ -192,31 +193,56 @@ set_lacking : (tells : Bool) (files : World) (opened : AnyFile) (name : List ℕ
 set_lacking tells files opened name format value edit (Ok new) blocks limit set keeps was held lacks = lacking tells files opened value new name format blocks limit was held (keeps value new set) lacks
 set_lacking tells files opened name format value edit (Err out) blocks limit set keeps was held lacks = lacks
 
--- what is said of the room of an opened file, where a call on it was refused
-fault_lacking : (before now : ℕ) (holds : QuotaValue → Type 0) (lacks says : ℕ → ℕ → Type 0) (fault : EditFault) → ((blocks limit : ℕ) → lacks blocks limit → says blocks limit)
-    → IfSome (file_fault fault) (IsChangeFault before now holds lacks) → IfSome (file_fault fault) (IsChangeFault before now holds says)
-fault_lacking before now holds lacks says (File (Full blocks limit)) so cause = so blocks limit cause
-fault_lacking before now holds lacks says (File _) so cause = cause
-fault_lacking before now holds lacks says (Unfit out) so cause = cause
-
-pub any_cause : (tells : Bool) (edit : Edit) (opened file : AnyFile) (before after : StoreSeen) (name : List ℕ) (format : Format) (fault : EditFault) → KeepsFormat edit → any_seen opened ≡ fresh_seen name format
-    → HasCause edit (any_laws tells) (file_at (HoldsAny tells before.files opened) (any_seen opened) before) (file_at (HoldsAny tells after.files file) (any_seen file) after) fault
+pub any_cause : {T : Type 0} (tells : Bool) (edit : Edit) (opened file : AnyFile) (before after : StoreSeen) (name : List ℕ) (format : Format) (fault : EditFault) → KeepsFormat edit
+    → any_seen opened ≡ fresh_seen name format → AnyEdits {T = T} edit tells opened file before after (Err fault)
     → HasEditCause edit before.faults after.faults (HoldsAny tells before.files opened) fault
-any_cause tells edit opened file before after name format fault keeps was cause = record {
-  no_room = cause.no_room;
-  id = cause.id;
-  refused = fault_lacking _ _ _ _ _ fault (λ blocks limit lacks. (
-    lacks.0,
-    λ value holds. set_lacking tells before.files opened name format value edit (edit.edited value) blocks limit refl keeps was holds (lacks.1 value holds),
-  )) cause.refused;
-  wanted = cause.present;
+any_cause tells edit opened file before after name format (File fault) keeps was edits = record {
+  no_room = tt;
+  id = tt;
+  refused = change_fault-after before.faults before.faults after.faults (HoldsAny tells before.files opened) (HoldsAny tells before.files opened) _ _ fault (omega arith) (λ value holds. holds)
+      (λ blocks limit lacks. (
+        lacks.0,
+        λ value holds. set_lacking tells before.files opened name format value edit (edit.edited value) blocks limit refl keeps was holds (lacks.1 value holds),
+      )) edits.value.refused.cause;
+  wanted = edits.value.refused.busy;
 }
+any_cause tells edit opened file before after name format (Unfit out) keeps was edits =
+    record { no_room = edits.no_room.refused; id = edits.no_room.id; refused = tt; wanted = tt }
+
+-- a file that is full is a tree file, which may have the most blocks
+full_asked : (asked : Option Format) (format : Format) (blocks limit : ℕ) → IsOpenedAs asked format → MayRefuse format (Full blocks limit)
+    → IsTrue (asks_tree asked) × (blocks_allowed format ≡ most_blocks)
+full_asked asked V1 blocks limit asks may = absurd (may.flat refl)
+full_asked (Some V1) format blocks limit asks may = absurd (may.flat asks)
+full_asked asked format blocks limit asks may = (refl, refl)
+
+-- for what an edit may be refused, whatever is told
+pub edit_may : {T : Type 0} (asked : Option Format) (name : List ℕ) (edit : Edit) (tells : Bool) (opened file : AnyFile) (before after : StoreSeen) (format : Format) (fault : EditFault)
+    → any_seen opened ≡ fresh_seen name format → IsOpenedAs asked format → AnyEdits {T = T} edit tells opened file before after (Err fault)
+    → ChangeMayRefuse asked edit name (edit_cause fault) name ⊎ MayRefuseOpening asked name (edit_cause fault) name
+edit_may asked name edit tells opened file before after format (File Store) was asks edits = inr tt
+edit_may asked name edit tells opened file before after format (File (Damage damage)) was asks edits =
+    let formats : (any_seen opened).format ≡ format = ap (λ (s : FileSeen). s.format) was in
+    inr (damage_may asked format damage asks (rw formats at edits.value.refused.may), refl)
+edit_may asked name edit tells opened file before after format (File (Full blocks limit)) was asks edits =
+    let formats : (any_seen opened).format ≡ format = ap (λ (s : FileSeen). s.format) was in
+    let refused = edits.value.refused in
+    let full = full_asked asked format blocks limit asks (rw formats at refused.may) in
+    inl (refused.cause.0, full.0, refused.passes.0 ∙ ap (λ (s : FileSeen). s.limit) was ∙ full.1, refused.passes.1, refl)
+edit_may asked name edit tells opened file before after format (File Memory) was asks edits = inr tt
+edit_may asked name edit tells opened file before after format (Unfit out) was asks edits =
+    let formats : (any_seen opened).format ≡ format = ap (λ (s : FileSeen). s.format) was in
+    inl (refl, edits.no_room.id, (format, asks, rw formats at edits.no_room.may))
 
 -- an edit that skips no time says the same of its answer
 pub edits_unskipped : (edit : Edit) (tells : Bool) (opened file : AnyFile) (before after : StoreSeen) (done : Result (Unit {0}) EditFault) → AnyEdits edit tells opened file before after done
     → AnyEdits edit tells opened file before after (unskipped done)
-edits_unskipped edit tells opened file before after (Ok done) edits = record { done = edits.done; cause = tt; left = tt; idle = edits.idle; full = edits.full; leaves = edits.leaves }
-edits_unskipped edit tells opened file before after (Err fault) edits = record { done = tt; cause = edits.cause; left = edits.left; idle = edits.idle; full = edits.full; leaves = edits.leaves }
+edits_unskipped edit tells opened file before after (Ok done) edits =
+    let value = edits.value in
+    record { value = record { done = value.done; refused = tt; idle = value.idle; full = value.full; leaves = value.leaves }; no_room = tt }
+edits_unskipped edit tells opened file before after (Err fault) edits =
+    let value = edits.value in
+    record { value = record { done = tt; refused = value.refused; idle = value.idle; full = value.full; leaves = value.leaves }; no_room = edits.no_room }
 
 -- Times that are skipped.
 

@@ -1,5 +1,5 @@
 -- From an edit of an opened file to what a command does that edits it.
-use Rattle.std.proofs.Common.{◌≡◌, ℕ, ◌≤◌, Bool, true, false, IsTrue, List, [], ◌∷◌, ◌++◌, take, None, Some, Ok, Err, Result, inr, if◌then◌else◌, refl, sym, ap, subst, ◌∙◌, arith, append-nil, append_assoc}
+use Rattle.std.proofs.Common.{◌≡◌, ℕ, ◌≤◌, Bool, true, false, IsTrue, List, [], ◌∷◌, ◌++◌, take, Option, None, Some, Ok, Err, Result, inr, if◌then◌else◌, refl, sym, ap, subst, ◌∙◌, arith, append-nil, append_assoc}
 use Rattle.std.specs.Prelude.{IsOkAnd}
 use Rattle.std.specs.List.{concat}
 use Rattle.std.proofs.lemmas.Bool.{false≢true}
@@ -104,16 +104,16 @@ unsaid_case acts lines tells old store err false is are part = said_up_to acts l
 abbrev pub change_acts : List ℕ → QuotaValue → Bool → List Act
 change_acts name new idle = if idle then [] else Change name new ∷ []
 
--- an edited value is seen of the file, which is not too large where something was to be done
-abbrev pub EditedSeen : List ℕ → StoreSeen → Edit → QuotaValue → Result QuotaValue (Field × ℕ) → Type 0
-EditedSeen name store edit value edited =
-    IsOkAnd edited (λ (new : QuotaValue). IsView (store.files name) new.kind (Some new.format) (Ok new) × (edit.is_idle value ≡ false → is_too_large edit new ≡ false))
+-- an edited value is seen of the file, in which, as it was, there was room for it where something was to be done
+abbrev pub EditedSeen : List ℕ → Option (List ℕ) → StoreSeen → Edit → QuotaValue → Result QuotaValue (Field × ℕ) → Type 0
+EditedSeen name file store edit value edited =
+    IsOkAnd edited (λ (new : QuotaValue). IsView (store.files name) new.kind (Some new.format) (Ok new) × (edit.is_idle value ≡ false → is_too_large edit file new ≡ false))
 
 -- What an edit of a value leaves that was made: where so much is told nothing is written where nothing is to be done, and the file
 -- is seen as the edited value; and all files stay but the named one and the one with `.new` added to its name.
 pub record IsMade (name : List ℕ) (edit : Edit) (value : QuotaValue) (told : Type 0) (old new : StoreSeen) : Type 0 where
-  pub idle : told → IsTrue (edit.is_idle value) → OnlyReads name old new
-  pub set : told → EditedSeen name new edit value (edit.edited value)
+  pub idle : told → IsTrue (edit.is_idle value) → OnlyReads true name old new
+  pub set : told → EditedSeen name (old.files name) new edit value (edit.edited value)
   pub leaves : ReplacesOne name old new
 
 -- where there is room, a change passes with its acts
@@ -123,12 +123,12 @@ written_passes name new false true room = let no = room refl in absurd (cc)
 written_passes name new false false room = refl
 
 -- the step of an edit that was made passes with its acts
-step_passes : (name : List ℕ) (edit : Edit) (value : QuotaValue) (edited : Result QuotaValue (Field × ℕ)) (store : StoreSeen) → EditedSeen name store edit value edited
-    → changed name edit value edited ≡ Passed (change_acts name (value_left edited value) (edit.is_idle value))
-step_passes name edit value (Ok new) store seen = written_passes name new (edit.is_idle value) (is_too_large edit new) seen.1
-step_passes name edit value (Err out) store seen = absurd seen
+step_passes : (name : List ℕ) (edit : Edit) (file : Option (List ℕ)) (value : QuotaValue) (edited : Result QuotaValue (Field × ℕ)) (store : StoreSeen) → EditedSeen name file store edit value edited
+    → changed name edit file value edited ≡ Passed (change_acts name (value_left edited value) (edit.is_idle value))
+step_passes name edit file value (Ok new) store seen = written_passes name new (edit.is_idle value) (is_too_large edit file new) seen.1
+step_passes name edit file value (Err out) store seen = absurd seen
 
-change_written : (name : List ℕ) (new : QuotaValue) (idle : Bool) (old store : StoreSeen) → (IsTrue idle → OnlyReads name old store)
+change_written : {done : Bool} (name : List ℕ) (new : QuotaValue) (idle : Bool) (old store : StoreSeen) → (IsTrue idle → OnlyReads done name old store)
     → IsView (store.files name) new.kind (Some new.format) (Ok new) → ReplacesOne name old store → AreWritten (change_acts name new idle) old store
 change_written name new true old store same view leaves = written_none name old store (same refl)
 change_written name new false old store same view leaves = record {
@@ -139,8 +139,8 @@ change_written name new false old store same view leaves = record {
   answered = refl;
 }
 
-edited_written : (name : List ℕ) (edit : Edit) (value : QuotaValue) (edited : Result QuotaValue (Field × ℕ)) (old store : StoreSeen)
-    → (IsTrue (edit.is_idle value) → OnlyReads name old store) → EditedSeen name store edit value edited → ReplacesOne name old store
+edited_written : {done : Bool} (name : List ℕ) (edit : Edit) (value : QuotaValue) (edited : Result QuotaValue (Field × ℕ)) (old store : StoreSeen)
+    → (IsTrue (edit.is_idle value) → OnlyReads done name old store) → EditedSeen name (old.files name) store edit value edited → ReplacesOne name old store
     → AreWritten (change_acts name (value_left edited value) (edit.is_idle value)) old store
 edited_written name edit value (Ok new) old store same seen leaves = change_written name new (edit.is_idle value) old store same seen.0 leaves
 edited_written name edit value (Err out) old store same seen leaves = absurd seen
@@ -149,8 +149,8 @@ edited_written name edit value (Err out) old store same seen leaves = absurd see
 abbrev pub acts_of : List ℕ → Edit → QuotaValue → List Act
 acts_of name edit value = change_acts name (value_left (edit.edited value) value) (edit.is_idle value)
 
-pub step_made : (name : List ℕ) (edit : Edit) (value : QuotaValue) (told : Type 0) (old store : StoreSeen) → IsMade name edit value told old store → told → edit_step name edit value ≡ Passed (acts_of name edit value)
-step_made name edit value told old store made is = step_passes name edit value (edit.edited value) store (made.set is)
+pub step_made : (name : List ℕ) (edit : Edit) (value : QuotaValue) (told : Type 0) (old store : StoreSeen) → IsMade name edit value told old store → told → edit_step name edit (old.files name) value ≡ Passed (acts_of name edit value)
+step_made name edit value told old store made is = step_passes name edit (old.files name) value (edit.edited value) store (made.set is)
 
 -- its acts were done
 pub acts_written : (name : List ℕ) (edit : Edit) (value : QuotaValue) (told : Type 0) (old store : StoreSeen) → IsMade name edit value told old store → told → AreWritten (acts_of name edit value) old store
@@ -162,7 +162,7 @@ Saying outcome lines = Then outcome (λ (acts : List Act). DoingAll (acts ++ sai
 
 -- an edit of a value was made, and all that is to be said was said
 made_steps : (name : List ℕ) (edit : Edit) (value : QuotaValue) (lines : List (List ℕ)) (tells : RunTells) (old : RunSeen) (store : StoreSeen) (err : SinkSeen) → IsMade name edit value (IsTrue tells.store) old.store store
-    → (IsTrue tells.err → err.written ≡ old.err.written ++ concat lines) → IsTrue tells.store → HasSteps (Saying (edit_step name edit value) lines) tells None old (with_said old store err)
+    → (IsTrue tells.err → err.written ≡ old.err.written ++ concat lines) → IsTrue tells.store → HasSteps (Saying (edit_step name edit (old.store.files name) value) lines) tells None old (with_said old store err)
 made_steps name edit value lines tells old store err made said told =
     subst (λ (o : Outcome (List Act)). HasSteps (Saying o lines) tells None old (with_said old store err)) (sym (step_made name edit value _ old.store store made told))
     (done_steps (acts_of name edit value ++ said_acts lines) None tells old (with_said old store err) refl refl
@@ -171,9 +171,9 @@ made_steps name edit value lines tells old store err made said told =
 pub edit_made : (name : List ℕ) (edit : Edit) (value : QuotaValue) (lines : List (List ℕ)) (warns : Bool) (may : Cause → List ℕ → Type 0) (tells : RunTells) (old : RunSeen) (store : StoreSeen) (err : SinkSeen)
     → IsMade name edit value (IsTrue tells.store) old.store store → (IsTrue tells.store → IsTrue tells.err → err.written ≡ old.err.written ++ concat lines)
     → (warns ≡ false → err ≡ old.err) → old.err.faults ≤ err.faults
-    → CarriesOut (Saying (edit_step name edit value) lines) (edit_uses warns) may tells old (with_said old store err) (Ok tt)
+    → CarriesOut (Saying (edit_step name edit (old.store.files name) value) lines) (edit_uses warns) may tells old (with_said old store err) (Ok tt)
 edit_made name edit value lines warns may tells old store err made said quiet later =
-    carried_whole (Saying (edit_step name edit value) lines) (edit_uses warns) may tells old (with_said old store err) tt
+    carried_whole (Saying (edit_step name edit (old.store.files name) value) lines) (edit_uses warns) may tells old (with_said old store err) tt
     (λ told. made_steps name edit value lines tells old store err made (said told.store) told.store)
     (λ only. absurd (false≢true (sym only))) quiet
     (record { store = made.leaves.later; input = omega arith; out = omega arith; err = later; link = omega arith })
@@ -182,7 +182,7 @@ edit_made name edit value lines warns may tells old store err made said quiet la
 pub edit_unsaid : (name : List ℕ) (edit : Edit) (value : QuotaValue) (lines : List (List ℕ)) (warns : Bool) (may : Cause → List ℕ → Type 0) (tells : RunTells) (old : RunSeen) (store : StoreSeen) (err : SinkSeen)
     → IsMade name edit value (IsTrue tells.store) old.store store → (IsTrue tells.store → IsTrue tells.err → IsSaidInPart lines old.err.written err.written)
     → IsTrue warns → Rose old.err.faults err.faults → old.err.faults ≤ err.faults → may SinkFault name
-    → CarriesOut (Saying (edit_step name edit value) lines) (edit_uses warns) may tells old (with_said old store err) (Err (refusal_of SinkFault name))
+    → CarriesOut (Saying (edit_step name edit (old.store.files name) value) lines) (edit_uses warns) may tells old (with_said old store err) (Err (refusal_of SinkFault name))
 edit_unsaid name edit value lines warns may tells old store err made said warning rose later allowed = record {
   done = tt;
   refused = inr (warning, rose);

@@ -34,13 +34,13 @@ use Rattle.run_steps.specs.Meaning.{EndsBy}
 use Rattle.run_steps.specs.Naming.{most_names, names_of_file, names_seen, unless_bad}
 use Rattle.run_steps.specs.Numbers.{identifier_of}
 use Rattle.run_steps.specs.Opening.{opening_cause}
-use Rattle.run_steps.specs.Steps.{AreDoneThen, Opening, Steps, Then}
+use Rattle.run_steps.specs.Steps.{AreDoneThen, DoingAll, Opening, Steps, Then}
 use Rattle.run_steps.specs.Taking.{Taking, file_said, input_name, input_said}
 use Rattle.run_steps.specs.declared.invocation.Invocation.{Invocation}
 use Rattle.run_steps.proofs.DoingLemmas.{doing_ends}
 use Rattle.run_steps.proofs.SeenAgainLemmas.{seen_again}
 use Rattle.edit_commands.specs.Apply.{ApplySteps, FormSteps, form_outcome, form_step}
-use Rattle.edit_commands.specs.Batch.{Applied, Applying, Asked, BatchSteps, IsOfLine, LineMayRefuse, ReadSteps, applied, asks_then, batch_step, does_then, edit_of, first_of, is_to_end, line_asks, lines_ask, met_at, value_left}
+use Rattle.edit_commands.specs.Batch.{Applying, Asked, BatchSteps, EditsThen, IsOfLine, LineMayRefuse, ReadSteps, asks_then, batch_step, edit_of, is_to_end, line_asks, lines_ask, met_at, value_left}
 use Rattle.edit_commands.specs.Edits.{EditSteps, FileEditSteps, changed, is_too_large, said_acts, warnings}
 use Rattle.edit_commands.specs.EditWords.{edit_meant, edit_read, names_wanted, skipped_by}
 use Rattle.edit_commands.specs.Room.{IsFullFor, IsFullForForm, IsFullForLine, IsFullForOne, IsFullForWords}
@@ -161,7 +161,7 @@ taking_passed (Some name) is_whole read next old acts new refusal blocks limit i
 
 -- what is said of a value for which there is no room
 full_for : (kind : Kind) (asked : Option Format) (file : List ℕ) (edit : Edit) (value new : QuotaValue) (files : World) (refusal said : Refusal) (blocks limit : ℕ) → IsView (files file) kind asked (Ok value)
-    → edit.edited value ≡ Ok new → edit.is_idle value ≡ false → is_too_large edit new ≡ true → refusal.cause ≡ Full blocks limit → Some refusal ≡ Some said → said.cause ≡ Full (blocks_of new) most_blocks → said.name ≡ file
+    → edit.edited value ≡ Ok new → edit.is_idle value ≡ false → is_too_large edit (files file) new ≡ true → refusal.cause ≡ Full blocks limit → Some refusal ≡ Some said → said.cause ≡ Full (blocks_of new) most_blocks → said.name ≡ file
     → (refusal.name ≡ file) × IsFullFor kind asked edit (files file) blocks limit
 full_for kind asked file edit value new files refusal said blocks limit view set idle large is same cause name =
     let one : refusal ≡ said = cc in
@@ -190,7 +190,7 @@ never_done acts old done new refusal ends = absurd (none-some refusal (sym (doin
 
 written_full : (kind : Kind) (asked : Option Format) (file : List ℕ) (edit : Edit) (value new : QuotaValue) (lines : List (List ℕ)) (old : Outside) (acts : List Act) (to : Outside) (refusal : Refusal) (blocks limit : ℕ)
     → refusal.cause ≡ Full blocks limit → IsView (old.files file) kind asked (Ok value) → edit.edited value ≡ Ok new
-    → (idle : Bool) → edit.is_idle value ≡ idle → (large : Bool) → is_too_large edit new ≡ large → EndsBy (Saying (written file new idle large) lines) old acts to (Some refusal)
+    → (idle : Bool) → edit.is_idle value ≡ idle → (large : Bool) → is_too_large edit (old.files file) new ≡ large → EndsBy (Saying (written file new idle large) lines) old acts to (Some refusal)
     → (refusal.name ≡ file) × IsFullFor kind asked edit (to.files file) blocks limit
 written_full kind asked file edit value new lines old acts to refusal blocks limit is view set true idle large more ends = never_done (said_acts lines) old acts to refusal ends
 written_full kind asked file edit value new lines old acts to refusal blocks limit is view set false idle true more ends =
@@ -199,10 +199,10 @@ written_full kind asked file edit value new lines old acts to refusal blocks lim
 
 step_full : (kind : Kind) (asked : Option Format) (file : List ℕ) (edit : Edit) (value : QuotaValue) (lines : List (List ℕ)) (old : Outside) (acts : List Act) (to : Outside) (refusal : Refusal) (blocks limit : ℕ)
     → refusal.cause ≡ Full blocks limit → IsView (old.files file) kind asked (Ok value)
-    → (edited : Result QuotaValue (Field × ℕ)) → edit.edited value ≡ edited → EndsBy (Saying (changed file edit value edited) lines) old acts to (Some refusal)
+    → (edited : Result QuotaValue (Field × ℕ)) → edit.edited value ≡ edited → EndsBy (Saying (changed file edit (old.files file) value edited) lines) old acts to (Some refusal)
     → (refusal.name ≡ file) × IsFullFor kind asked edit (to.files file) blocks limit
 step_full kind asked file edit value lines old acts to refusal blocks limit is view (Ok new) set ends =
-    written_full kind asked file edit value new lines old acts to refusal blocks limit is view set (edit.is_idle value) refl (is_too_large edit new) refl ends
+    written_full kind asked file edit value new lines old acts to refusal blocks limit is view set (edit.is_idle value) refl (is_too_large edit (old.files file) new) refl ends
 step_full kind asked file edit value lines old acts to refusal blocks limit is view (Err out) set ends = other_refusal refusal _ blocks limit is ends.ends refl
 
 file_full : (kind : Kind) (asked : Option Format) (edit : FileEdit) (file : List ℕ) (invocation : Invocation) (old : Outside) (acts : List Act) (new : Outside) (refusal : Refusal) (blocks limit : ℕ)
@@ -252,21 +252,17 @@ one_more kind asked now line lines file blocks limit one = record {
   full = one.full;
 }
 
--- what ends edits that were applied, and what comes behind them
-abbrev Ending : Applied → Option Refusal → Steps
-Ending all more = AreDoneThen all.acts (first_of all.refusal more)
-
 -- the lines behind one of which the edit left this value end so that one of them has no room
 abbrev RestFull : Kind → Option Format → List ℕ → ℕ → List LineEdit → Option Refusal → Outside → Refusal → (blocks limit : ℕ) → Type 0
 RestFull kind asked file now lines more to refusal blocks limit =
-    (value : QuotaValue) (old : Outside) (acts : List Act) → IsView (old.files file) kind asked (Ok value) → EndsBy (Ending (applied file now lines value) more) old acts to (Some refusal)
+    (value : QuotaValue) (old : Outside) (acts : List Act) → IsView (old.files file) kind asked (Ok value) → EndsBy (EditsThen file now lines value more) old acts to (Some refusal)
     → (refusal.name ≡ file) × IsFullForOne kind asked now lines (to.files file) blocks limit
 
 line_written : (kind : Kind) (asked : Option Format) (file : List ℕ) (now : ℕ) (line : LineEdit) (lines : List LineEdit) (more : Option Refusal) (value new : QuotaValue) (old : Outside) (acts : List Act) (to : Outside)
     (refusal : Refusal) (blocks limit : ℕ) → refusal.cause ≡ Full blocks limit → RestFull kind asked file now lines more to refusal blocks limit
     → IsView (old.files file) kind asked (Ok value) → (edit_of line now).edited value ≡ Ok new
-    → (idle : Bool) → (edit_of line now).is_idle value ≡ idle → (large : Bool) → is_too_large (edit_of line now) new ≡ large
-    → EndsBy (Ending (does_then (met_at line.number (written file new idle large)) (applied file now lines new)) more) old acts to (Some refusal)
+    → (idle : Bool) → (edit_of line now).is_idle value ≡ idle → (large : Bool) → is_too_large (edit_of line now) (old.files file) new ≡ large
+    → EndsBy (Then (met_at line.number (written file new idle large)) (λ (done : List Act). DoingAll done (EditsThen file now lines new more))) old acts to (Some refusal)
     → (refusal.name ≡ file) × IsFullForOne kind asked now (line ∷ lines) (to.files file) blocks limit
 line_written kind asked file now line lines more value new old acts to refusal blocks limit is rest view set true idle large over ends =
     let same = idle_same value new line.id line.limits now idle set in
@@ -284,10 +280,10 @@ line_written kind asked file now line lines more value new old acts to refusal b
 line_full : (kind : Kind) (asked : Option Format) (file : List ℕ) (now : ℕ) (line : LineEdit) (lines : List LineEdit) (more : Option Refusal) (value : QuotaValue) (old : Outside) (acts : List Act) (to : Outside)
     (refusal : Refusal) (blocks limit : ℕ) → refusal.cause ≡ Full blocks limit → RestFull kind asked file now lines more to refusal blocks limit
     → IsView (old.files file) kind asked (Ok value) → (edited : Result QuotaValue (Field × ℕ)) → (edit_of line now).edited value ≡ edited
-    → EndsBy (Ending (does_then (met_at line.number (changed file (edit_of line now) value edited)) (applied file now lines (value_left edited value))) more) old acts to (Some refusal)
+    → EndsBy (Then (met_at line.number (changed file (edit_of line now) (old.files file) value edited)) (λ (done : List Act). DoingAll done (EditsThen file now lines (value_left edited value) more))) old acts to (Some refusal)
     → (refusal.name ≡ file) × IsFullForOne kind asked now (line ∷ lines) (to.files file) blocks limit
 line_full kind asked file now line lines more value old acts to refusal blocks limit is rest view (Ok new) set ends =
-    line_written kind asked file now line lines more value new old acts to refusal blocks limit is rest view set ((edit_of line now).is_idle value) refl (is_too_large (edit_of line now) new) refl ends
+    line_written kind asked file now line lines more value new old acts to refusal blocks limit is rest view set ((edit_of line now).is_idle value) refl (is_too_large (edit_of line now) (old.files file) new) refl ends
 line_full kind asked file now line lines more value old acts to refusal blocks limit is rest view (Err out) set ends = other_refusal refusal _ blocks limit is ends.ends refl
 
 -- a refusal for another cause is none of these

@@ -1,3 +1,4 @@
+pub mod AppliedLemmas
 pub mod BatchInputLemmas
 pub mod BatchLemmas
 pub mod EditFileLemmas

@@ -1,5 +1,5 @@
 -- What the commands of this crate look at: that their looks at the files are alike in two worlds, and which file they come to open.
-use Rattle.std.proofs.Common.{◌≡◌, ℕ, true, List, ◌++◌, Option, None}
+use Rattle.std.proofs.Common.{◌≡◌, ℕ, true, List, [], ◌∷◌, ◌++◌, Option, None, ap}
 use Rattle.quota_types.specs.declared.file_kind.Kind.{Kind}
 use Rattle.quota_types.specs.declared.file_kind.Format.{Format}
 use Rattle.quota_blocks.specs.QuotaValue.{QuotaValue}
@@ -11,25 +11,37 @@ use Rattle.run_steps.specs.Done.{Outside}
 use Rattle.run_steps.specs.Numbers.{identifier_of}
 use Rattle.run_steps.specs.SameViews.{FileAsked, IsSameFile, LooksAlike, Opens}
 use Rattle.run_steps.specs.Showing.{ShowingSteps}
-use Rattle.run_steps.specs.Steps.{Doing, DoingAll, Finish, Opening, Steps, Then}
+use Rattle.run_steps.specs.Steps.{Doing, DoingAll, Finish, Looking, Opening, Steps, Then}
 use Rattle.run_steps.specs.declared.invocation.Invocation.{Invocation}
 use Rattle.run_steps.proofs.LookLemmas.{alike_done, alike_naming, alike_taking, alike_then, opens_done, opens_naming, opens_opening, opens_taking, opens_then}
+use Rattle.run_steps.proofs.LookingLemmas.{alike_doing, only_opens}
+use Rattle.refusals.specs.declared.reason.Refusal.{Refusal}
+use Rattle.refusals.specs.Outcome.{Outcome}
+use Rattle.edit_commands.specs.declared.batch_line.LineEdit.{LineEdit}
 use Rattle.edit_commands.specs.declared.edit.EditWords.{EditWords}
 use Rattle.edit_commands.specs.declared.edit.FileEdit.{FileEdit}
 use Rattle.edit_commands.specs.declared.edit.FileEdit.TheVariants.{Limits}
 use Rattle.edit_commands.specs.Apply.{ApplySteps, FormSteps, form_step}
-use Rattle.edit_commands.specs.Batch.{Applying, Asked, BatchSteps, ReadSteps, applied, batch_step, first_of, is_to_end}
+use Rattle.edit_commands.specs.Batch.{Applying, Asked, BatchSteps, EditsThen, ReadSteps, batch_step, edit_of, is_to_end, met_at, value_left}
 use Rattle.edit_commands.specs.Edits.{EditSteps, FileEditSteps, edit_step, said_acts, warnings}
 use Rattle.edit_commands.specs.EditWords.{edit_meant, edit_read, names_wanted, skipped_by}
 use Rattle.edit_commands.specs.Print.{PrintSteps, form_on}
 use Rattle.set_edit.specs.declared.limits.Limits.{Limits as FourLimits}
+use Rattle.edit_commands.proofs.AppliedLemmas.{lines_only, step_same}
+
+-- what comes of an edit
+abbrev Edited : FileEdit → List ℕ → Invocation → QuotaValue → List Act → Steps
+Edited edit file invocation value acts = DoingAll (acts ++ said_acts (warnings invocation.line (skipped_by edit value))) Finish
 
 -- Their looks are alike.
 
 file_edit_alike : (one other : World) (kind : Kind) (asked : Option Format) (edit : FileEdit) (file : List ℕ) (invocation : Invocation) → LooksAlike one other (FileEditSteps kind asked edit file invocation)
 file_edit_alike one other kind asked edit file invocation = λ value.
-    alike_then one other (edit_step file (edit_meant edit invocation.now) value) _
-    (λ acts. alike_done one other (acts ++ said_acts (warnings invocation.line (skipped_by edit value))) None)
+    let meant = edit_meant edit invocation.now in (
+      ap (λ (o : Outcome (List Act)). Then o (Edited edit file invocation value)) (step_same file meant (one file) (other file) value),
+      alike_then one other (edit_step file meant (one file) value) (Edited edit file invocation value)
+          (λ acts. alike_done one other (acts ++ said_acts (warnings invocation.line (skipped_by edit value))) None),
+    )
 
 pub edit_alike : (one other : World) (common : Common) (words : EditWords) (file : List ℕ) (invocation : Invocation) → IsSameFile one other (names_wanted words common.names)
     → LooksAlike one other (EditSteps common words file invocation)
@@ -46,11 +58,21 @@ apply_alike one other common from word file invocation names input = alike_namin
     alike_then one other (identifier_of lines word) _ (λ id.
     alike_taking one other from (λ limits. true) (form_step common.kind lines file id from) _ input (λ limits. file_edit_alike one other common.kind common.format (Limits id limits) file invocation)))
 
+lines_alike : (one other : World) (file : List ℕ) (now : ℕ) (lines : List LineEdit) (value : QuotaValue) (behind : Option Refusal) → LooksAlike one other (EditsThen file now lines value behind)
+lines_alike one other file now [] value behind = tt
+lines_alike one other file now (line ∷ lines) value behind =
+    let edit = edit_of line now in
+    let rest = EditsThen file now lines (value_left (edit.edited value) value) behind in
+    let next = λ (acts : List Act). DoingAll acts rest in (
+      ap (λ (o : Outcome (List Act)). Then (met_at line.number o) next) (step_same file edit (one file) (other file) value),
+      alike_then one other (met_at line.number (edit_step file edit (one file) value)) next
+          (λ acts. alike_doing one other acts rest (lines_alike one other file now lines (value_left (edit.edited value) value) behind)),
+    )
+
 pub batch_alike : (one other : World) (common : Common) (from : Option (List ℕ)) (file : List ℕ) (invocation : Invocation) → IsSameFile one other common.names → IsSameFile one other from
     → LooksAlike one other (BatchSteps common from file invocation)
 batch_alike one other common from file invocation names input = alike_naming one other common.kind common.names _ names (λ lines value.
-    alike_taking one other from is_to_end (batch_step lines from) _ input (λ asked.
-    let done = applied file invocation.now asked.edits value in alike_done one other done.acts (first_of done.refusal asked.refusal)))
+    alike_taking one other from is_to_end (batch_step lines from) _ input (λ asked. lines_alike one other file invocation.now asked.edits value asked.refusal))
 
 -- The file that they open.
 
@@ -58,16 +80,13 @@ batch_alike one other common from file invocation names input = alike_naming one
 abbrev pub IsFileOf : Common → List ℕ → FileAsked → Type 0
 IsFileOf common file opened = opened ≡ record { kind = common.kind; asked = common.format; name = file }
 
--- what comes of an edit
-abbrev Edited : FileEdit → List ℕ → Invocation → QuotaValue → List Act → Steps
-Edited edit file invocation value acts = DoingAll (acts ++ said_acts (warnings invocation.line (skipped_by edit value))) Finish
-
 file_edit_opens : (common : Common) (edit : FileEdit) (file : List ℕ) (invocation : Invocation) (old : Outside) (opened : FileAsked) → Opens (FileEditSteps common.kind common.format edit file invocation) old opened
     → IsFileOf common file opened
 file_edit_opens common edit file invocation old opened opens =
     let is = IsFileOf common file opened in
-    let edited = λ (value : QuotaValue). edit_step file (edit_meant edit invocation.now) value in
-    opens_opening is common.kind common.format file (λ (value : QuotaValue). Then (edited value) (Edited edit file invocation value)) old opened (λ same. same) (λ value.
+    let seen = λ (files : World) (value : QuotaValue). edit_step file (edit_meant edit invocation.now) (files file) value in
+    let edited = seen old.files in
+    opens_opening is common.kind common.format file (λ (value : QuotaValue). Looking (λ (files : World). Then (seen files value) (Edited edit file invocation value))) old opened (λ same. same) (λ value.
     opens_then is (edited value) (Edited edit file invocation value) old opened (λ acts.
     opens_done is (acts ++ said_acts (warnings invocation.line (skipped_by edit value))) None old opened)) opens
 
@@ -98,7 +117,7 @@ apply_opens common from word file invocation old opened opens =
 
 applying_opens : (holds : Type 0) (file : List ℕ) (now : ℕ) (value : QuotaValue) (asked : Asked) (old : Outside) (opened : FileAsked) → Opens (Applying file now value asked) old opened → holds
 applying_opens holds file now value asked old opened opens =
-    let done = applied file now asked.edits value in opens_done holds done.acts (first_of done.refusal asked.refusal) old opened opens
+    only_opens holds _ _ (Applying file now value asked) old opened (lines_only file now asked.edits value asked.refusal) opens
 
 pub batch_opens : (common : Common) (from : Option (List ℕ)) (file : List ℕ) (invocation : Invocation) (old : Outside) (opened : FileAsked) → Opens (BatchSteps common from file invocation) old opened → IsFileOf common file opened
 batch_opens common from file invocation old opened opens =

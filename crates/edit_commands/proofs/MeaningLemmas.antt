@@ -6,6 +6,7 @@ use Rattle.quota_types.specs.declared.file_kind.Kind.{Kind}
 use Rattle.quota_types.specs.declared.file_kind.Format.{Format}
 use Rattle.quota_types.specs.declared.field.Field.{Field}
 use Rattle.quota_blocks.specs.QuotaValue.{QuotaValue}
+use Rattle.quota_blocks.specs.World.{World}
 use Rattle.quota_map.specs.View.{IsView}
 use Rattle.id_names.specs.NamesFile.{NameLine}
 use Rattle.set_edit.specs.Editing.{Edit}
@@ -21,20 +22,22 @@ use Rattle.run_steps.specs.Naming.{names_seen}
 use Rattle.run_steps.specs.Numbers.{identifier_of}
 use Rattle.run_steps.specs.OneCommand.{LooksFirst, ReadsToEnd}
 use Rattle.run_steps.specs.Showing.{ShowingSteps}
-use Rattle.run_steps.specs.Steps.{AreDoneThen, Doing, DoingAll, Finish, Opening, Then}
+use Rattle.run_steps.specs.Steps.{Doing, DoingAll, Finish, Looking, Opening, Steps, Then}
 use Rattle.run_steps.specs.Taking.{input_said}
 use Rattle.run_steps.specs.declared.invocation.Invocation.{Invocation}
-use Rattle.run_steps.proofs.OneCommandLemmas.{looks_done, looks_naming, looks_taking, looks_then, reads_stopped, reads_taking, reads_then, sure_done, sure_naming, sure_opening, sure_taking, sure_then}
+use Rattle.run_steps.proofs.OneCommandLemmas.{looks_done, looks_naming, looks_taking, looks_then, reads_taking, reads_then, sure_done, sure_naming, sure_opening, sure_taking, sure_then}
 use Rattle.edit_commands.specs.declared.batch_line.LineEdit.{LineEdit}
 use Rattle.edit_commands.specs.declared.edit.EditWords.{EditWords}
 use Rattle.edit_commands.specs.declared.edit.FileEdit.{FileEdit}
 use Rattle.edit_commands.specs.declared.edit.FileEdit.TheVariants.{Limits}
 use Rattle.edit_commands.specs.Apply.{ApplySteps, FormSteps, form_step}
-use Rattle.edit_commands.specs.Batch.{Applying, Asked, BatchSteps, ReadSteps, applied, batch_step, does_then, edit_of, first_of, is_to_end, met_at, value_left}
+use Rattle.edit_commands.specs.Batch.{Applying, Asked, BatchSteps, EditsThen, LineSteps, ReadSteps, batch_step, edit_of, is_to_end, met_at, value_left}
 use Rattle.edit_commands.specs.Edits.{EditSteps, FileEditSteps, changed, edit_step, is_too_large, said_acts, warnings}
 use Rattle.edit_commands.specs.Room.{AllFit, Fits}
 use Rattle.edit_commands.specs.EditWords.{edit_meant, edit_read, names_wanted, skipped_by}
 use Rattle.edit_commands.specs.Print.{PrintSteps, form_on}
+use Rattle.run_steps.proofs.LookingLemmas.{DoOnly, looks_doing, only_stopped, sure_doing}
+use Rattle.edit_commands.proofs.AppliedLemmas.{applied, first_of, lines_only, step_same}
 use Rattle.edit_commands.proofs.EditLemmas.{Saying, change_acts, written_passes}
 
 -- They look first.
@@ -42,8 +45,11 @@ use Rattle.edit_commands.proofs.EditLemmas.{Saying, change_acts, written_passes}
 file_edit_looks : (takes : Bool) (kind : Kind) (asked : Option Format) (edit : FileEdit) (file : List ℕ) (invocation : Invocation) → LooksFirst true takes (FileEditSteps kind asked edit file invocation)
 file_edit_looks takes kind asked edit file invocation = (
   refl,
-  λ value. looks_then true takes (edit_step file (edit_meant edit invocation.now) value) _
-      (λ acts. looks_done true takes (acts ++ said_acts (warnings invocation.line (skipped_by edit value))) None),
+  λ value. (
+    inl refl,
+    λ files. looks_then true takes (edit_step file (edit_meant edit invocation.now) (files file) value) _
+        (λ acts. looks_done true takes (acts ++ said_acts (warnings invocation.line (skipped_by edit value))) None),
+  ),
 )
 
 pub edit_looks : (common : Common) (words : EditWords) (file : List ℕ) (invocation : Invocation) → LooksFirst true true (EditSteps common words file invocation)
@@ -59,15 +65,24 @@ apply_looks common from word file invocation = looks_naming true common.kind com
     looks_then true true (identifier_of names word) _ (λ id.
     looks_taking from (λ limits. true) (form_step common.kind names file id from) _ (λ takes limits. file_edit_looks takes common.kind common.format (Limits id limits) file invocation)))
 
-applying_looks : (takes : Bool) (file : List ℕ) (now : ℕ) (value : QuotaValue) (asked : Asked) → LooksFirst true takes (Applying file now value asked)
-applying_looks takes file now value asked =
-    let done = applied file now asked.edits value in looks_done true takes done.acts (first_of done.refusal asked.refusal)
+-- what comes of the looks of lines rests on no file
+lines_look : (looks takes : Bool) (file : List ℕ) (now : ℕ) (lines : List LineEdit) (value : QuotaValue) (behind : Option Refusal) → LooksFirst looks takes (EditsThen file now lines value behind)
+lines_look looks takes file now [] value behind = tt
+lines_look looks takes file now (line ∷ lines) value behind =
+    let edit = edit_of line now in
+    let left = value_left (edit.edited value) value in
+    let rest = EditsThen file now lines left behind in
+    let next = λ (acts : List Act). DoingAll acts rest in (
+      inr (λ one other. ap (λ (o : Outcome (List Act)). Then (met_at line.number o) next) (step_same file edit (one file) (other file) value)),
+      λ files. looks_then looks takes (met_at line.number (edit_step file edit (files file) value)) next
+          (λ acts. looks_doing looks takes acts rest (λ may. lines_look may takes file now lines left behind)),
+    )
 
 pub batch_looks : (common : Common) (from : Option (List ℕ)) (file : List ℕ) (invocation : Invocation) → LooksFirst true true (BatchSteps common from file invocation)
 batch_looks common from file invocation = looks_naming true common.kind common.names _ (λ names. (
   refl,
   λ value.
-      looks_taking from is_to_end (batch_step names from) _ (λ takes asked. applying_looks takes file invocation.now value asked),
+      looks_taking from is_to_end (batch_step names from) _ (λ takes asked. lines_look true takes file invocation.now asked.edits value asked.refusal),
 ))
 
 -- They read the standard input to its end.
@@ -78,41 +93,43 @@ apply_reads common word file invocation = λ files.
     reads_then (identifier_of names word) _ (λ id.
     reads_taking (λ limits. true) (form_step common.kind names file id None) _ (λ limits. inl refl)))
 
-stopped_reads : (acts : List Act) (one : Option Refusal) (refusal : Refusal) → ReadsToEnd (AreDoneThen acts (first_of one (Some refusal)))
-stopped_reads acts None refusal = reads_stopped acts refusal
-stopped_reads acts (Some one) refusal = reads_stopped acts one
+stopped_reads : (acts : List Act) (one : Option Refusal) (refusal : Refusal) (steps : Steps) → DoOnly acts (first_of one (Some refusal)) steps → ReadsToEnd steps
+stopped_reads acts None refusal steps only = only_stopped acts refusal steps only
+stopped_reads acts (Some one) refusal steps only = only_stopped acts one steps only
 
 -- edits are done behind an input that was read to its end, or end with the refusal of a line
-ended_or_stopped : (acts : List Act) (one other : Option Refusal) → IsTrue (is_none other) ⊎ ReadsToEnd (AreDoneThen acts (first_of one other))
-ended_or_stopped acts one None = inl refl
-ended_or_stopped acts one (Some refusal) = inr (stopped_reads acts one refusal)
+ended_or_stopped : (acts : List Act) (one other : Option Refusal) (steps : Steps) → DoOnly acts (first_of one other) steps → IsTrue (is_none other) ⊎ ReadsToEnd steps
+ended_or_stopped acts one None steps only = inl refl
+ended_or_stopped acts one (Some refusal) steps only = inr (stopped_reads acts one refusal steps only)
 
 pub batch_reads : (common : Common) (file : List ℕ) (invocation : Invocation) → ReadsToEnd (BatchSteps common None file invocation)
 batch_reads common file invocation = λ files.
     reads_then (names_seen common.kind common.names files) _ (λ names value.
     reads_taking is_to_end (batch_step names None) (Applying file invocation.now value) (λ asked.
-    let done = applied file invocation.now asked.edits value in ended_or_stopped done.acts done.refusal asked.refusal))
+    let done = applied file invocation.now asked.edits value in
+    ended_or_stopped done.acts done.refusal asked.refusal (Applying file invocation.now value asked) (lines_only file invocation.now asked.edits value asked.refusal)))
 
 -- They are sure.
 
 -- the step of an edit that fits passes
-step_fits : (file : List ℕ) (edit : Edit) (value new : QuotaValue) → Fits edit value new → edit_step file edit value ≡ Passed (change_acts file new (edit.is_idle value))
-step_fits file edit value new fits =
-    ap (λ (r : Result QuotaValue (Field × ℕ)). changed file edit value r) fits.0 ∙ written_passes file new (edit.is_idle value) (is_too_large edit new) fits.1
+step_fits : (name : List ℕ) (edit : Edit) (file : Option (List ℕ)) (value new : QuotaValue) → Fits edit file value new → edit_step name edit file value ≡ Passed (change_acts name new (edit.is_idle value))
+step_fits name edit file value new fits =
+    ap (λ (r : Result QuotaValue (Field × ℕ)). changed name edit file value r) fits.0 ∙ written_passes name new (edit.is_idle value) (is_too_large edit file new) fits.1
 
 file_edit_sure : (kind : Kind) (asked : Option Format) (edit : FileEdit) (file : List ℕ) (invocation : Invocation) (value new : QuotaValue) (old : Outside)
-    → IsView (old.files file) kind asked (Ok value) → Fits (edit_meant edit invocation.now) value new → IsSure (FileEditSteps kind asked edit file invocation) old
+    → IsView (old.files file) kind asked (Ok value) → Fits (edit_meant edit invocation.now) (old.files file) value new → IsSure (FileEditSteps kind asked edit file invocation) old
 file_edit_sure kind asked edit file invocation value new old view fits =
     let meant = edit_meant edit invocation.now in
     let lines = λ (v : QuotaValue). warnings invocation.line (skipped_by edit v) in
-    sure_opening kind asked file (λ v. Saying (edit_step file meant v) (lines v)) value old view
-    (sure_then (edit_step file meant value) (λ acts. DoingAll (acts ++ said_acts (lines value)) Finish) (change_acts file new (meant.is_idle value)) old (step_fits file meant value new fits)
+    sure_opening kind asked file (λ v. Looking (λ (files : World). Saying (edit_step file meant (files file) v) (lines v))) value old view
+    (sure_then (edit_step file meant (old.files file) value) (λ acts. DoingAll (acts ++ said_acts (lines value)) Finish) (change_acts file new (meant.is_idle value)) old
+    (step_fits file meant (old.files file) value new fits)
     (sure_done (change_acts file new (meant.is_idle value) ++ said_acts (lines value)) old))
 
 -- The names are known, the words well formed, the file is accepted, and the edit fits.
 pub edit_sure : (common : Common) (words : EditWords) (file : List ℕ) (invocation : Invocation) (names : List NameLine) (edit : FileEdit) (value new : QuotaValue) (old : Outside)
     → names_seen common.kind (names_wanted words common.names) old.files ≡ Passed names → edit_read names words ≡ Passed edit
-    → IsView (old.files file) common.kind common.format (Ok value) → Fits (edit_meant edit invocation.now) value new
+    → IsView (old.files file) common.kind common.format (Ok value) → Fits (edit_meant edit invocation.now) (old.files file) value new
     → IsSure (EditSteps common words file invocation) old
 edit_sure common words file invocation names edit value new old seen read view fits =
     let next = λ (e : FileEdit). FileEditSteps common.kind common.format e file invocation in
@@ -133,7 +150,7 @@ print_sure common word file invocation names id value old seen read view =
 pub apply_sure : (common : Common) (from : Option (List ℕ)) (word file : List ℕ) (invocation : Invocation) (names : List NameLine) (id : ℕ) (limits : FourLimits) (value new : QuotaValue) (old : Outside)
     → names_seen common.kind common.names old.files ≡ Passed names → identifier_of names word ≡ Passed id
     → input_said from (form_step common.kind names file id from) old.files old.input ≡ Passed limits
-    → IsView (old.files file) common.kind common.format (Ok value) → Fits (limits_edit id limits invocation.now) value new
+    → IsView (old.files file) common.kind common.format (Ok value) → Fits (limits_edit id limits invocation.now) (old.files file) value new
     → IsSure (ApplySteps common from word file invocation) old
 apply_sure common from word file invocation names id limits value new old seen read said view fits =
     let next = λ (n : List NameLine) (i : ℕ). FormSteps common.kind common.format n from i file invocation in
@@ -143,24 +160,28 @@ apply_sure common from word file invocation names id limits value new old seen r
     (λ left. file_edit_sure common.kind common.format (Limits id limits) file invocation value new (record old { input = left }) view fits)))
 
 -- edits of lines that fit are not refused
-all_fit : (file : List ℕ) (now : ℕ) (lines : List LineEdit) (value : QuotaValue) → AllFit now lines value → (applied file now lines value).refusal ≡ None
-all_fit file now [] value fit = refl
-all_fit file now (line ∷ lines) value fit =
-    ap (λ (o : Outcome (List Act)). (does_then (met_at line.number o) (applied file now lines (value_left ((edit_of line now).edited value) value))).refusal)
-    (step_fits file (edit_of line now) value fit.0 fit.1)
-    ∙ ap (λ (r : Result QuotaValue (Field × ℕ)). (applied file now lines (value_left r value)).refusal) fit.1.0
-    ∙ all_fit file now lines fit.0 fit.2
+lines_sure : (file : List ℕ) (now : ℕ) (lines : List LineEdit) (value : QuotaValue) (old : Outside) → AllFit file now lines old.files value → IsSure (LineSteps file now lines value) old
+lines_sure file now [] value old fit = refl
+lines_sure file now (line ∷ lines) value old fit =
+    let edit = edit_of line now in
+    let acts = change_acts file fit.0 (edit.is_idle value) in
+    let step = step_fits file edit (old.files file) value fit.0 fit.1 in
+    let left : fit.0 ≡ value_left (edit.edited value) value = sym (ap (λ (r : Result QuotaValue (Field × ℕ)). value_left r value) fit.1.0) in
+    let rest = LineSteps file now lines (value_left (edit.edited value) value) in
+    sure_then (met_at line.number (edit_step file edit (old.files file) value)) (λ (a : List Act). DoingAll a rest) acts old (ap (met_at line.number) step)
+    (sure_doing acts rest old (λ files follows.
+    subst (λ (v : QuotaValue). IsSure (LineSteps file now lines v) (record old { files = files })) left
+    (lines_sure file now lines fit.0 (record old { files = files }) (fit.2 acts files step follows))))
 
 -- The file is accepted, the input is there, each of its lines has the stated form and is of names that are known, and the edits
 -- fit.
 pub batch_sure : (common : Common) (from : Option (List ℕ)) (file : List ℕ) (invocation : Invocation) (names : List NameLine) (value : QuotaValue) (asked : Asked) (old : Outside)
     → names_seen common.kind common.names old.files ≡ Passed names → IsView (old.files file) common.kind common.format (Ok value)
     → input_said from (batch_step names from) old.files old.input ≡ Passed asked → asked.refusal ≡ None
-    → AllFit invocation.now asked.edits value → IsSure (BatchSteps common from file invocation) old
+    → AllFit file invocation.now asked.edits old.files value → IsSure (BatchSteps common from file invocation) old
 batch_sure common from file invocation names value asked old seen view said none fit =
-    let done = applied file invocation.now asked.edits value in
-    let end : None ≡ first_of done.refusal asked.refusal = sym (ap (λ (r : Option Refusal). first_of r asked.refusal) (all_fit file invocation.now asked.edits value fit) ∙ none) in
     sure_naming common.kind common.names (λ n. Opening common.kind common.format file (ReadSteps n from file invocation.now)) names old seen
     (sure_opening common.kind common.format file (ReadSteps names from file invocation.now) value old view
     (sure_taking from is_to_end (batch_step names from) (Applying file invocation.now value) asked old said
-    (λ left. subst (λ (r : Option Refusal). IsSure (AreDoneThen done.acts r) (record old { input = left })) end (sure_done done.acts (record old { input = left })))))
+    (λ left. subst (λ (r : Option Refusal). IsSure (EditsThen file invocation.now asked.edits value r) (record old { input = left })) (sym none)
+    (lines_sure file invocation.now asked.edits value (record old { input = left }) fit))))

@@ -1,6 +1,6 @@
 -- `setquota -b`: new limits of many identifiers, a line of an input each. Source: the manual page of setquota; what stands in
 -- a line, and that the edits of the lines before a refused one stay, is this project's own.
-use Rattle.std.specs.Prelude.{◌≡◌, ◌⊎◌, ℕ, ◌+◌, Bool, true, false, if◌then◌else◌, List, [], ◌∷◌, ◌++◌, Option, Some, None, is_none, Result, Ok, Err}
+use Rattle.std.specs.Prelude.{◌≡◌, ◌⊎◌, ℕ, ◌+◌, Bool, true, false, if◌then◌else◌, List, [], ◌∷◌, Option, Some, None, is_none, Result, Ok, Err}
 use Rattle.std.specs.List.{list_all}
 use Rattle.std.specs.Str.{is_utf8}
 use Rattle.id_names.specs.NamesFile.{NameLine}
@@ -9,6 +9,7 @@ use Rattle.quota_types.specs.declared.file_kind.Format.{Format}
 use Rattle.quota_blocks.specs.InputLines.{InputLines, NoLine, LineThen, LongNext, PastNext, input_lines}
 use Rattle.quota_blocks.specs.QuotaValue.{QuotaValue}
 use Rattle.quota_blocks.specs.Words.{words_of}
+use Rattle.quota_blocks.specs.World.{World}
 use Rattle.set_edit.specs.Editing.{Edit}
 use Rattle.set_edit.specs.Edits.{limits_edit}
 use Rattle.set_edit.specs.declared.limits.Limits.{Limits as FourLimits}
@@ -29,7 +30,7 @@ use Rattle.run_steps.specs.Naming.{MayBeNames, NamesMayRefuse}
 use Rattle.run_steps.specs.Opening.{MayRefuseOpening}
 use Rattle.refusals.specs.Outcome.{Outcome, Passed, Refused, and_then}
 use Rattle.run_steps.specs.Run.{Uses}
-use Rattle.run_steps.specs.Steps.{AreDoneThen, Naming, Opening, Steps}
+use Rattle.run_steps.specs.Steps.{DoingAll, Ending, Looking, Naming, Opening, Steps, Then}
 use Rattle.run_steps.specs.Taking.{InputMayRefuse, Lines, Taking, input_name, reading}
 use Rattle.edit_commands.specs.Edits.{ChangeMayRefuse, edit_step}
 use Rattle.refusals.specs.Refusals.{refusal_of, stands_in_line}
@@ -145,11 +146,6 @@ input_cause NoMemory failed = Memory
 
 -- What edits do.
 
--- the acts of edits, one after another, and the refusal that ends them, if there is one
-pub record Applied : Type 0 where
-  pub acts : List Act
-  pub refusal : Option Refusal
-
 -- the edit that a line asks for, at a moment
 abbrev pub edit_of : LineEdit → ℕ → Edit
 edit_of line now = limits_edit line.id line.limits now
@@ -159,31 +155,22 @@ abbrev pub value_left : Result QuotaValue (Field × ℕ) → QuotaValue → Quot
 value_left (Ok new) old = new
 value_left (Err out) old = old
 
--- what an edit does, and the edits behind it
-abbrev pub does_then : Outcome (List Act) → Applied → Applied
-does_then (Passed acts) more = record { acts = acts ++ more.acts; refusal = more.refusal }
-does_then (Refused refusal) more = record { acts = []; refusal = Some refusal }
-
--- what edits do to the value of a file, at this moment, each to the value that the one before left
-abbrev pub applied : List ℕ → ℕ → List LineEdit → QuotaValue → Applied
-applied file now [] value = record { acts = []; refusal = None }
-applied file now (line ∷ lines) value =
-    does_then (met_at line.number (edit_step file (edit_of line now) value))
-    (applied file now lines (value_left ((edit_of line now).edited value) value))
-
--- the first of two refusals
-abbrev pub first_of : Option Refusal → Option Refusal → Option Refusal
-first_of (Some refusal) other = Some refusal
-first_of None other = other
+-- Edits are done, each in the file as the ones before it left it, up to one that is refused; and behind the last one comes this
+-- refusal, if there is one.
+abbrev pub EditsThen : List ℕ → ℕ → List LineEdit → QuotaValue → Option Refusal → Steps
+EditsThen name now [] value behind = Ending behind
+EditsThen name now (line ∷ lines) value behind =
+    Looking (λ (files : World).
+    Then (met_at line.number (edit_step name (edit_of line now) (files name) value)) (λ (acts : List Act).
+    DoingAll acts (EditsThen name now lines (value_left ((edit_of line now).edited value) value) behind)))
 
 -- edits are done, up to one that is refused
 abbrev pub LineSteps : List ℕ → ℕ → List LineEdit → QuotaValue → Steps
-LineSteps file now edits value = AreDoneThen (applied file now edits value).acts (applied file now edits value).refusal
+LineSteps file now edits value = EditsThen file now edits value None
 
 -- edits are done, up to one that is refused, and then comes the refusal of the line behind them
 abbrev pub Applying : List ℕ → ℕ → QuotaValue → Asked → Steps
-Applying file now value asked =
-    AreDoneThen (applied file now asked.edits value).acts (first_of (applied file now asked.edits value).refusal asked.refusal)
+Applying file now value asked = EditsThen file now asked.edits value asked.refusal
 
 -- the lines are read, and their edits done
 abbrev pub ReadSteps : List NameLine → Option (List ℕ) → List ℕ → ℕ → QuotaValue → Steps

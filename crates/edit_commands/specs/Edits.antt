@@ -6,6 +6,7 @@ use Rattle.id_names.specs.NamesFile.{NameLine}
 use Rattle.quota_types.specs.declared.field.Field.{Field}
 use Rattle.quota_blocks.specs.QuotaValue.{QuotaValue}
 use Rattle.quota_blocks.specs.Text.{AppendsPrefix}
+use Rattle.quota_blocks.specs.World.{World}
 use Rattle.quota_map.specs.View.{IsOpenedAs, most_blocks}
 use Rattle.set_edit.specs.Editing.{Edit}
 use Rattle.set_edit.specs.declared.fault.EditFault.{EditFault}
@@ -26,24 +27,25 @@ use Rattle.refusals.specs.Outcome.{Outcome, Passed, Refused, refusal_in}
 use Rattle.refusals.specs.Line.{front_of}
 use Rattle.refusals.specs.Refusals.{refusal_of}
 use Rattle.run_steps.specs.Changing.{blocks_of, written}
-use Rattle.run_steps.specs.Steps.{DoingAll, Finish, Naming, Opening, Steps, Then}
+use Rattle.run_steps.specs.Steps.{DoingAll, Finish, Looking, Naming, Opening, Steps, Then}
 use Rattle.run_steps.specs.declared.invocation.Invocation.{Invocation}
 use Rattle.edit_commands.specs.EditWords.{edit_meant, edit_read, edit_warns, names_wanted, skipped_by, skips_none}
 
 -- The edit.
 
--- there is no room for the value in a file
-abbrev pub is_too_large : Edit → QuotaValue → Bool
-is_too_large edit new = edit.needs_room && nat_lt most_blocks (blocks_of new)
+-- There is no room for the value in this file, as it is. So far that does not rest on the file, since each file that is edited is
+-- written anew: there is none for a value that needs more blocks than a file may have.
+abbrev pub is_too_large : Edit → Option (List ℕ) → QuotaValue → Bool
+is_too_large edit file new = edit.needs_room && nat_lt most_blocks (blocks_of new)
 
--- a value was edited, or the format has no room for a field
-abbrev pub changed : List ℕ → Edit → QuotaValue → Result QuotaValue (Field × ℕ) → Outcome (List Act)
-changed name edit value (Ok new) = written name new (edit.is_idle value) (is_too_large edit new)
-changed name edit value (Err out) = Refused (refusal_of (NoRoom (record { id = edit.id; field = out.0; value = out.1 })) name)
+-- the value of this file was edited, or the format has no room for a field
+abbrev pub changed : List ℕ → Edit → Option (List ℕ) → QuotaValue → Result QuotaValue (Field × ℕ) → Outcome (List Act)
+changed name edit file value (Ok new) = written name new (edit.is_idle value) (is_too_large edit file new)
+changed name edit file value (Err out) = Refused (refusal_of (NoRoom (record { id = edit.id; field = out.0; value = out.1 })) name)
 
--- the value of the file of this name is edited
-abbrev pub edit_step : List ℕ → Edit → QuotaValue → Outcome (List Act)
-edit_step name edit value = changed name edit value (edit.edited value)
+-- the value of the file of this name, which is this one, is edited
+abbrev pub edit_step : List ℕ → Edit → Option (List ℕ) → QuotaValue → Outcome (List Act)
+edit_step name edit file value = changed name edit file value (edit.edited value)
 
 -- The warnings.
 
@@ -77,12 +79,13 @@ pub record IsSaidInPart (lines : List (List ℕ)) (old new : List ℕ) : Type 0 
 
 -- The steps.
 
--- the file is opened and edited, and what was skipped is warned of
+-- the file is opened and edited as it is then, and what was skipped is warned of
 abbrev pub FileEditSteps : Kind → Option Format → FileEdit → List ℕ → Invocation → Steps
 FileEditSteps kind asked edit file invocation =
     Opening kind asked file (λ (value : QuotaValue).
-    Then (edit_step file (edit_meant edit invocation.now) value) (λ (acts : List Act).
-    DoingAll (acts ++ said_acts (warnings invocation.line (skipped_by edit value))) Finish))
+    Looking (λ (files : World).
+    Then (edit_step file (edit_meant edit invocation.now) (files file) value) (λ (acts : List Act).
+    DoingAll (acts ++ said_acts (warnings invocation.line (skipped_by edit value))) Finish)))
 
 -- the names are read, and then the words, and then the file is edited
 abbrev pub EditSteps : Common → EditWords → List ℕ → Invocation → Steps
@@ -101,13 +104,13 @@ edit_cause (File fault) = file_cause fault
 edit_cause (Unfit out) = NoRoom out
 
 -- the causes for which the change of an opened file may be refused, whatever is told: a field of its format for which there
--- may be no room, or blocks of a tree file
+-- may be no room, or the blocks of a tree file, which may have as many as the program allows
 abbrev pub ChangeMayRefuse : Option Format → Edit → List ℕ → Cause → List ℕ → Type 0
 ChangeMayRefuse asked edit file (NoRoom out) name =
     (name ≡ file) × (out.id ≡ edit.id)
     × ((format : Format) × IsOpenedAs asked format × edit.may_lack format (out.field, out.value))
 ChangeMayRefuse asked edit file (Full blocks limit) name =
-    IsTrue edit.needs_room × IsTrue (asks_tree asked) × (limit < blocks) × (name ≡ file)
+    IsTrue edit.needs_room × IsTrue (asks_tree asked) × (limit ≡ most_blocks) × (limit < blocks) × (name ≡ file)
 ChangeMayRefuse asked edit file _ name = ⊥
 
 -- the causes for which the edit of a file may be refused, whatever is told

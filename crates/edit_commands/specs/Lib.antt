@@ -4,6 +4,7 @@ pub mod EditWords
 pub mod Edits
 pub mod Print
 pub mod Room
+pub use Rattle.quota_blocks.specs.Frame
 pub use Rattle.quota_blocks.specs.Seen
 pub use Rattle.quota_blocks.specs.Unsynced
 pub use Rattle.run_steps.specs.Changing

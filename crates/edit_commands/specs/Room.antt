@@ -12,6 +12,7 @@ use Rattle.set_edit.specs.Edits.{limits_edit}
 use Rattle.set_edit.specs.declared.limits.Limits.{Limits as FourLimits}
 use Rattle.refusals.specs.Outcome.{Passed}
 use Rattle.command_words.specs.declared.command.Common.{Common}
+use Rattle.run_steps.specs.Act.{Act, Follows}
 use Rattle.run_steps.specs.Changing.{blocks_of}
 use Rattle.run_steps.specs.Done.{Outside}
 use Rattle.run_steps.specs.Naming.{names_seen}
@@ -20,27 +21,31 @@ use Rattle.run_steps.specs.Taking.{input_said}
 use Rattle.edit_commands.specs.Apply.{form_step}
 use Rattle.edit_commands.specs.Batch.{Asked, batch_step, edit_of}
 use Rattle.edit_commands.specs.EditWords.{edit_meant, edit_read, names_wanted}
-use Rattle.edit_commands.specs.Edits.{is_too_large}
+use Rattle.edit_commands.specs.Edits.{edit_step, is_too_large}
 use Rattle.edit_commands.specs.declared.batch_line.LineEdit.{LineEdit}
 use Rattle.edit_commands.specs.declared.edit.EditWords.{EditWords}
 use Rattle.edit_commands.specs.declared.edit.FileEdit.{FileEdit}
 
 -- Edits that fit.
 
--- an edit of a value fits, and leaves another one: the format has room for its fields, and, where something is to be done, a file
--- has blocks for it
-abbrev pub Fits : Edit → (value new : QuotaValue) → Type 0
-Fits edit value new = (edit.edited value ≡ Ok new) × (edit.is_idle value ≡ false → is_too_large edit new ≡ false)
+-- an edit of the value of this file fits, and leaves another value: the format has room for its fields, and, where something is
+-- to be done, the file has room for it
+abbrev pub Fits : Edit → Option (List ℕ) → (value new : QuotaValue) → Type 0
+Fits edit file value new = (edit.edited value ≡ Ok new) × (edit.is_idle value ≡ false → is_too_large edit file new ≡ false)
 
--- edits of lines fit, each in the value that the one before left
-abbrev pub AllFit : ℕ → List LineEdit → QuotaValue → Type 0
-AllFit now [] value = ⊤
-AllFit now (line ∷ lines) value = (new : QuotaValue) × Fits (edit_of line now) value new × AllFit now lines new
+-- edits of lines of the file of this name fit, each in the value, and in the file, whichever it is, that the ones before it left
+abbrev pub AllFit : List ℕ → ℕ → List LineEdit → World → QuotaValue → Type 0
+AllFit name now [] files value = ⊤
+AllFit name now (line ∷ lines) files value =
+    (new : QuotaValue) × Fits (edit_of line now) (files name) value new
+    × ((acts : List Act) (left : World) → edit_step name (edit_of line now) (files name) value ≡ Passed acts → Follows acts files left
+    → AllFit name now lines left new)
 
 -- A file that is full.
 
 -- A file has no room for an edit: whoever opens it as one of the kind and the format that was asked for sees a value, of which the
 -- edit makes another one; something is to be done, and a file of that other value would need so many blocks, more than it may have.
+-- Of the file itself only its value counts so far, since each file that is edited is written anew.
 pub record IsFullFor (kind : Kind) (asked : Option Format) (edit : Edit) (file : Option (List ℕ)) (blocks limit : ℕ) : Type 0 where
   pub value : QuotaValue
   pub new : QuotaValue

@@ -1,6 +1,6 @@
 ghost use Rattle.std.specs.Prelude.{ℕ, Option, ◌≡◌, Bool, false, Err, IsSome, IsTrue, OnErr, OnOk, Some};
+ghost use Rattle.quota_blocks.specs.Frame.{AreSynced};
 ghost use Rattle.quota_blocks.specs.Seen.{LinkSeen, SinkSeen};
-ghost use Rattle.quota_blocks.specs.Unsynced.{AddsNone};
 ghost use Rattle.refusals.specs.declared.reason.Refusal.{Refusal};
 ghost use Rattle.run_steps.specs.Done.{seen_of, tells_of};
 ghost use Rattle.refusals.specs.Outcome.{refusal_in};
@@ -49,8 +49,7 @@ pub fn apply_by_word<S: Store, I: Source, E: Sink>(
     // Where it was refused, for whichever cause, the file is as it was.
     ensures named { OnErr result (IsTrue S.tells → (S.seen store.new).files file ≡ (S.seen store.old).files file) }
     // Where it was done, what was written has been synced.
-    ensures synced { OnOk result (IsTrue S.tells
-        → AddsNone (S.seen store.old).unsynced (S.seen store.new).unsynced) }
+    ensures synced { OnOk result (IsTrue S.tells → AreSynced (S.seen store.old) (S.seen store.new)) }
     ensures untouched { IsSome from → input.new ≡ input.old }
     ensures keeps { I.keeps false input.old input.new }
     ensures quiet { err.new ≡ err.old }
@@ -91,8 +90,7 @@ fn apply_named<S: Store, I: Source, E: Sink>(
     ensures word { (refusal : Refusal) → refusal_in (identifier_of names.now word) ≡ Some refusal → result ≡ Err refusal }
     ensures store { (refusal : Refusal) → refusal_in (identifier_of names.now word) ≡ Some refusal → store.new ≡ store.old }
     ensures named { OnErr result (IsTrue S.tells → (S.seen store.new).files file ≡ (S.seen store.old).files file) }
-    ensures synced { OnOk result (IsTrue S.tells
-        → AddsNone (S.seen store.old).unsynced (S.seen store.new).unsynced) }
+    ensures synced { OnOk result (IsTrue S.tells → AreSynced (S.seen store.old) (S.seen store.new)) }
     ensures untouched { IsSome from → input.new ≡ input.old }
     ensures keeps { I.keeps false input.old input.new }
     ensures quiet { err.new ≡ err.old }
@@ -125,8 +123,7 @@ fn apply_form<S: Store, I: Source, E: Sink>(
         (seen_of (S.seen store.old) (I.seen input.old) out (E.seen err.old) link)
         (seen_of (S.seen store.new) (I.seen input.new) out (E.seen err.new) link) result }
     ensures named { OnErr result (IsTrue S.tells → (S.seen store.new).files file ≡ (S.seen store.old).files file) }
-    ensures synced { OnOk result (IsTrue S.tells
-        → AddsNone (S.seen store.old).unsynced (S.seen store.new).unsynced) }
+    ensures synced { OnOk result (IsTrue S.tells → AreSynced (S.seen store.old) (S.seen store.new)) }
     ensures untouched { IsSome from → input.new ≡ input.old }
     ensures keeps { I.keeps false input.old input.new }
     ensures quiet { err.new ≡ err.old }

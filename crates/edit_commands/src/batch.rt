@@ -1,8 +1,8 @@
 ghost use Rattle.std.specs.Prelude.{ℕ, Option, ◌≡◌, Bool, false, IsSome, IsTrue, OnOk};
 ghost use Rattle.quota_types.specs.declared.file_kind.Format.{Format as FormatOf};
+ghost use Rattle.quota_blocks.specs.Frame.{AreSynced};
 ghost use Rattle.quota_blocks.specs.QuotaValue.{QuotaValue};
 ghost use Rattle.quota_blocks.specs.Seen.{LinkSeen, SinkSeen, SourceSeen};
-ghost use Rattle.quota_blocks.specs.Unsynced.{AddsNone};
 ghost use Rattle.quota_map.specs.View.{IsOpenedAs, fresh_seen};
 ghost use Rattle.run_steps.specs.Done.{seen_of, tells_of};
 ghost use Rattle.run_steps.specs.Run.{CarriesOut};
@@ -43,8 +43,7 @@ pub fn apply_lines<S: Store, I: Source>(
         (seen_of (S.seen store.old) (I.seen input.old) out err link)
         (seen_of (S.seen store.new) (I.seen input.new) out err link) result }
     // Where it was done, what was written has been synced.
-    ensures synced { OnOk result (IsTrue S.tells
-        → AddsNone (S.seen store.old).unsynced (S.seen store.new).unsynced) }
+    ensures synced { OnOk result (IsTrue S.tells → AreSynced (S.seen store.old) (S.seen store.new)) }
     ensures untouched { IsSome from → input.new ≡ input.old }
     ensures keeps { I.keeps false input.old input.new }
 {
@@ -77,8 +76,7 @@ fn apply_named<S: Store, I: Source>(
         (tells_of S.tells I.tells out_tells err_tells link_tells)
         (seen_of (S.seen store.old) (I.seen input.old) out err link)
         (seen_of (S.seen store.new) (I.seen input.new) out err link) result }
-    ensures synced { OnOk result (IsTrue S.tells
-        → AddsNone (S.seen store.old).unsynced (S.seen store.new).unsynced) }
+    ensures synced { OnOk result (IsTrue S.tells → AreSynced (S.seen store.old) (S.seen store.new)) }
     ensures untouched { IsSome from → input.new ≡ input.old }
     ensures keeps { I.keeps false input.old input.new }
 {
@@ -107,8 +105,7 @@ fn apply_opened<S: Store, I: Source>(
         (tells_of S.tells I.tells out_tells err_tells link_tells)
         (seen_of (S.seen store.old) (I.seen input.old) out err link)
         (seen_of (S.seen store.new) (I.seen input.new) out err link) result }
-    ensures synced { OnOk result (IsTrue S.tells
-        → AddsNone (S.seen store.old).unsynced (S.seen store.new).unsynced) }
+    ensures synced { OnOk result (IsTrue S.tells → AreSynced (S.seen store.old) (S.seen store.new)) }
     ensures untouched { IsSome from → input.new ≡ input.old }
     ensures keeps { I.keeps false input.old input.new }
 {
@@ -143,8 +140,7 @@ fn edit_all<S: Store>(
         (tells_of S.tells input_tells out_tells err_tells link_tells)
         (seen_of (S.seen store.old) input out err link)
         (seen_of (S.seen store.new) input out err link) result }
-    ensures synced { OnOk result (IsTrue S.tells
-        → AddsNone (S.seen store.old).unsynced (S.seen store.new).unsynced) }
+    ensures synced { OnOk result (IsTrue S.tells → AreSynced (S.seen store.old) (S.seen store.new)) }
 {
     for line in lines {
         match set_limits(opened, store, line.id, &line.limits, now) {

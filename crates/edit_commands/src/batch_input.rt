@@ -68,7 +68,7 @@ pub fn take_batch<S: Store, I: Source>(
         (input_said from (batch_step names.now from) (S.seen store.old).files (I.seen input.old).left) refusal refusal.cause) }
     ensures may { IfErr result (λ refusal. InputMayRefuse Lines from refusal.cause refusal.name) }
     ensures placed { IfErr result (λ refusal. refusal.place ≡ nowhere) }
-    ensures leaves { OnlyReads (unwrap_or from []) (S.seen store.old) (S.seen store.new) }
+    ensures leaves { OnlyReads false (unwrap_or from []) (S.seen store.old) (S.seen store.new) }
     ensures synced { IfOk result (λ batch. batch.refusal ≡ None → AddsNone (S.seen store.old).unsynced (S.seen store.new).unsynced) }
     ensures later { (I.seen input.old).faults ≤ (I.seen input.new).faults }
     ensures keeps { I.keeps false input.old input.new }
@@ -115,7 +115,7 @@ fn take_file<S: Store>(
         (file_said name (batch_step names.now (Some name)) ((S.seen store.old).files name)) refusal refusal.cause) }
     ensures may { IfErr result (λ refusal. InputMayRefuse Lines (Some name) refusal.cause refusal.name) }
     ensures placed { IfErr result (λ refusal. refusal.place ≡ nowhere) }
-    ensures leaves { OnlyReads name (S.seen store.old) (S.seen store.new) }
+    ensures leaves { OnlyReads false name (S.seen store.old) (S.seen store.new) }
     ensures synced { IfOk result (λ batch. batch.refusal ≡ None → AddsNone (S.seen store.old).unsynced (S.seen store.new).unsynced) }
 {
     match store.size(name.as_str()) {
@@ -140,7 +140,7 @@ fn take_there<S: Store>(
         (batch_step names.now (Some name) (left_from ((S.seen store.old).files name) 0)) refusal refusal.cause) }
     ensures may { IfErr result (λ refusal. InputMayRefuse Lines (Some name) refusal.cause refusal.name) }
     ensures placed { IfErr result (λ refusal. refusal.place ≡ nowhere) }
-    ensures leaves { OnlyReads name (S.seen store.old) (S.seen store.new) }
+    ensures leaves { OnlyReads false name (S.seen store.old) (S.seen store.new) }
     ensures synced { IfOk result (λ batch. batch.refusal ≡ None → AddsNone (S.seen store.old).unsynced (S.seen store.new).unsynced) }
 {
     let Ok(place) = Word::copy_of(alloc, name.as_str()) else {

@@ -1,9 +1,9 @@
-ghost use Rattle.std.specs.Prelude.{ℕ, Option, ◌≡◌, Bool, Err, IfOk, IsTrue, None, OnErr, OnOk, Some, false};
-ghost use Rattle.id_names.specs.NamesFile.{NameLine};
+ghost use Rattle.std.specs.Prelude.{Option, ◌≡◌, Bool, Err, IfOk, IsTrue, OnErr, OnOk, Some, false};
+ghost use Rattle.quota_blocks.specs.Frame.{AreSynced};
 ghost use Rattle.quota_blocks.specs.QuotaValue.{QuotaValue};
 ghost use Rattle.quota_blocks.specs.Seen.{LinkSeen, SinkSeen, SourceSeen};
-ghost use Rattle.quota_blocks.specs.Unsynced.{AddsNone};
-ghost use Rattle.set_edit.specs.Editing.{Edits, file_at, laws_of};
+ghost use Rattle.quota_map.specs.AnyFile.{any_at, any_laws};
+ghost use Rattle.set_edit.specs.Editing.{Edits};
 ghost use Rattle.refusals.specs.declared.reason.Refusal.{Refusal};
 ghost use Rattle.run_steps.specs.Done.{seen_of, tells_of};
 ghost use Rattle.refusals.specs.Outcome.{refusal_in};
@@ -56,8 +56,7 @@ pub fn edit_by_words<S: Store, E: Sink>(
     ensures named { words_warn words ≡ false → OnErr result (IsTrue S.tells
         → (S.seen store.new).files file ≡ (S.seen store.old).files file) }
     // Where it was done, what was written has been synced.
-    ensures synced { OnOk result (IsTrue S.tells
-        → AddsNone (S.seen store.old).unsynced (S.seen store.new).unsynced) }
+    ensures synced { OnOk result (IsTrue S.tells → AreSynced (S.seen store.old) (S.seen store.new)) }
     ensures quiet { words_warn words ≡ false → err.new ≡ err.old }
 {
     let Common {
@@ -97,8 +96,7 @@ fn edit_named<S: Store, E: Sink>(
     ensures silent { (refusal : Refusal) → refusal_in (edit_read names.now words) ≡ Some refusal → err.new ≡ err.old }
     ensures named { words_warn words ≡ false → OnErr result (IsTrue S.tells
         → (S.seen store.new).files file ≡ (S.seen store.old).files file) }
-    ensures synced { OnOk result (IsTrue S.tells
-        → AddsNone (S.seen store.old).unsynced (S.seen store.new).unsynced) }
+    ensures synced { OnOk result (IsTrue S.tells → AreSynced (S.seen store.old) (S.seen store.new)) }
     ensures quiet { words_warn words ≡ false → err.new ≡ err.old }
 {
     match read_edit(alloc, names, words) {
@@ -129,8 +127,7 @@ pub fn edit_file<S: Store, E: Sink>(
         (seen_of (S.seen store.new) input out (E.seen err.new) link) result }
     ensures named { edit_warns edit.now ≡ false → OnErr result (IsTrue S.tells
         → (S.seen store.new).files file ≡ (S.seen store.old).files file) }
-    ensures synced { OnOk result (IsTrue S.tells
-        → AddsNone (S.seen store.old).unsynced (S.seen store.new).unsynced) }
+    ensures synced { OnOk result (IsTrue S.tells → AreSynced (S.seen store.old) (S.seen store.new)) }
     ensures quiet { edit_warns edit.now ≡ false → err.new ≡ err.old }
 {
     match open_file(alloc, store, file.as_str(), kind, format) {
@@ -153,12 +150,8 @@ fn make_edit<S: Store>(
     now: u64,
 ) -> Result<Skipped, EditFault>
     requires { IsTrue (⟦<AnyFile as QuotaFile<S>>⟧.seen opened.old).usable }
-    ensures edits { Edits (edit_meant edit.now now)
-        (laws_of S.tells ⟦<AnyFile as QuotaFile<S>>⟧.makes ⟦<AnyFile as QuotaFile<S>>⟧.may_leave
-        ⟦<AnyFile as QuotaFile<S>>⟧.lacks_room ⟦<AnyFile as QuotaFile<S>>⟧.may_refuse)
-        (file_at (⟦<AnyFile as QuotaFile<S>>⟧.holds opened.old store.old) (⟦<AnyFile as QuotaFile<S>>⟧.seen opened.old) (S.seen store.old))
-        (file_at (⟦<AnyFile as QuotaFile<S>>⟧.holds opened.new store.new) (⟦<AnyFile as QuotaFile<S>>⟧.seen opened.new) (S.seen store.new))
-        result }
+    ensures edits { Edits (edit_meant edit.now now) (any_laws S.tells)
+        (any_at S.tells (S.seen store.old) opened.old) (any_at S.tells (S.seen store.new) opened.new) result }
     ensures skipped { IfOk result (λ skipped. (value : QuotaValue)
         → ⟦<AnyFile as QuotaFile<S>>⟧.holds opened.old store.old value → skipped ≡ skipped_by edit.now value) }
     ensures skips { IfOk result (MaySkip edit.now) }

@@ -4,7 +4,6 @@ ghost use Rattle.quota_blocks.specs.Behind.{IsBehind};
 ghost use Rattle.quota_blocks.specs.Count.{Rose};
 ghost use Rattle.quota_blocks.specs.Frame.{OnlyReads};
 ghost use Rattle.quota_blocks.specs.StoreInput.{left_from};
-ghost use Rattle.quota_blocks.specs.Unsynced.{AddsNone};
 ghost use Rattle.report_text.specs.Report.{shown_name};
 ghost use Rattle.set_edit.specs.FormReading.{IsFormFault, form_read};
 ghost use Rattle.refusals.specs.Outcome.{Passed};
@@ -47,8 +46,7 @@ pub fn take_form<S: Store, I: Source>(
         (input_said from (form_step kind names.now file.now id from) (S.seen store.old).files (I.seen input.old).left) refusal refusal.cause) }
     ensures may { IfErr result (λ refusal. FormMayRefuse from refusal.cause refusal.name) }
     ensures placed { IfErr result (λ refusal. refusal.place ≡ nowhere) }
-    ensures leaves { OnlyReads (unwrap_or from []) (S.seen store.old) (S.seen store.new) }
-    ensures synced { OnOk result (AddsNone (S.seen store.old).unsynced (S.seen store.new).unsynced) }
+    ensures leaves { OnlyReads (is_ok result) (unwrap_or from []) (S.seen store.old) (S.seen store.new) }
     ensures later { (I.seen input.old).faults ≤ (I.seen input.new).faults }
     ensures keeps { I.keeps false input.old input.new }
 {
@@ -101,8 +99,7 @@ fn read_form_file<S: Store>(
         (file_said name (form_step kind names.now file.now id (Some name)) ((S.seen store.old).files name)) refusal refusal.cause) }
     ensures may { IfErr result (λ refusal. FormMayRefuse (Some name) refusal.cause refusal.name) }
     ensures placed { IfErr result (λ refusal. refusal.place ≡ nowhere) }
-    ensures leaves { OnlyReads name (S.seen store.old) (S.seen store.new) }
-    ensures synced { OnOk result (AddsNone (S.seen store.old).unsynced (S.seen store.new).unsynced) }
+    ensures leaves { OnlyReads (is_ok result) name (S.seen store.old) (S.seen store.new) }
 {
     match store.size(name.as_str()) {
         Ok(Some(_)) => read_form_there(names, kind, id, file, name, store),
@@ -127,8 +124,7 @@ fn read_form_there<S: Store>(
         (form_step kind names.now file.now id (Some name) (left_from ((S.seen store.old).files name) 0)) refusal refusal.cause) }
     ensures may { IfErr result (λ refusal. FormMayRefuse (Some name) refusal.cause refusal.name) }
     ensures placed { IfErr result (λ refusal. refusal.place ≡ nowhere) }
-    ensures leaves { OnlyReads name (S.seen store.old) (S.seen store.new) }
-    ensures synced { OnOk result (AddsNone (S.seen store.old).unsynced (S.seen store.new).unsynced) }
+    ensures leaves { OnlyReads (is_ok result) name (S.seen store.old) (S.seen store.new) }
 {
     let mut source = StoreSource {
         name: name.into_string(),

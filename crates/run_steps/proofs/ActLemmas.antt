@@ -1,11 +1,11 @@
 -- Acts in a row, and acts that were done in part.
-use Rattle.std.proofs.Common.{◌≡◌, ℕ, Bool, IsTrue, List, [], ◌∷◌, ◌++◌, take, Option, None, Some, refl, sym, ap, subst, ◌∙◌, append_assoc, append-nil}
+use Rattle.std.proofs.Common.{◌≡◌, ℕ, Bool, IsTrue, List, [], ◌∷◌, ◌++◌, take, Option, None, Some, inl, refl, sym, ap, subst, ◌∙◌, append_assoc, append-nil}
 use Rattle.quota_blocks.specs.Seen.{SinkSeen}
 use Rattle.quota_blocks.specs.Text.{AppendsPrefix}
 use Rattle.quota_blocks.specs.World.{World}
 use Rattle.refusals.specs.declared.reason.Refusal.{Refusal}
 use Rattle.refusals.specs.Line.{closing_line, error_line}
-use Rattle.run_steps.specs.Act.{Act, ToOut, ToErr, Answer, Change, ChangesNone, Follows, FollowsInPart, answers, err_bytes, out_bytes}
+use Rattle.run_steps.specs.Act.{Act, ToOut, ToErr, Answer, Change, Replace, ChangesNone, Follows, FollowsInPart, answers, err_bytes, out_bytes}
 use Rattle.run_steps.specs.Done.{AreDone, AreDoneInPart, RunSeen, RunTells}
 use Rattle.run_steps.specs.Meaning.{closing}
 
@@ -28,6 +28,7 @@ answers-append (_ ∷ acts) more = answers-append acts more
 pub changes_none_before : (acts more : List Act) → ChangesNone (acts ++ more) → ChangesNone acts
 changes_none_before [] more none = tt
 changes_none_before (Change name value ∷ acts) more none = none
+changes_none_before (Replace name value ∷ acts) more none = none
 changes_none_before (_ ∷ acts) more none = changes_none_before acts more none
 
 -- files that follow an act and then others
@@ -54,7 +55,8 @@ answers-closing (Some refusal) = refl
 
 -- files that are as they were follow any acts of which none was begun
 pub none_in_part : (acts : List Act) (old new : World) → new ≡ old → FollowsInPart acts old new
-none_in_part (Change name value ∷ acts) old new same = (ap (λ (w : World). w name) same, λ other differ differs. ap (λ (w : World). w other) same)
+none_in_part (Change name value ∷ acts) old new same = (inl (ap (λ (w : World). w name) same), λ other differ differs. ap (λ (w : World). w other) same)
+none_in_part (Replace name value ∷ acts) old new same = (ap (λ (w : World). w name) same, λ other differ differs. ap (λ (w : World). w other) same)
 none_in_part _ old new same = same
 
 -- nothing is a prefix of all bytes
@@ -65,6 +67,7 @@ appends_nothing old new bytes same = record { done = []; rest = bytes; appended 
 more_in_part : (rest more : List Act) (middle new : World) → FollowsInPart rest middle new → FollowsInPart (rest ++ more) middle new
 more_in_part [] more middle new same = none_in_part more middle new same
 more_in_part (Change name value ∷ rest) more middle new kept = kept
+more_in_part (Replace name value ∷ rest) more middle new kept = kept
 more_in_part (_ ∷ rest) more middle new same = same
 
 -- what is nothing together is nothing

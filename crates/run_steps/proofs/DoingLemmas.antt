@@ -1,10 +1,10 @@
 -- Acts that are done in order, and then a refusal, if there is one; and acts that only change files.
-use Rattle.std.proofs.Common.{◌≡◌, ℕ, List, [], ◌∷◌, ◌++◌, take, Option, inl, inr, refl, sym, ap, subst, ◌∙◌, append-nil}
+use Rattle.std.proofs.Common.{◌≡◌, ℕ, List, [], ◌∷◌, ◌++◌, take, Option, inl, inr, refl, sym, ap, subst, ◌∙◌, append-nil, Bool}
 use Rattle.quota_blocks.specs.Frame.{OnlyReads}
 use Rattle.quota_blocks.specs.Seen.{StoreSeen}
 use Rattle.quota_blocks.specs.World.{World}
 use Rattle.refusals.specs.declared.reason.Refusal.{Refusal}
-use Rattle.run_steps.specs.Act.{Act, Change, ChangesNone, Follows, FollowsInPart, answers, err_bytes, out_bytes}
+use Rattle.run_steps.specs.Act.{Act, Change, Replace, ChangesNone, Follows, FollowsInPart, answers, err_bytes, out_bytes}
 use Rattle.run_steps.specs.Done.{AreDone, AreDoneInPart, Outside, RunSeen, RunTells, outside_of}
 use Rattle.run_steps.specs.Meaning.{EndsBy, HasBegun}
 use Rattle.run_steps.specs.Run.{HasSteps}
@@ -56,12 +56,13 @@ pub record AreWritten (acts : List Act) (old new : StoreSeen) : Type 0 where
   pub err : err_bytes acts ≡ []
   pub answered : answers acts ≡ []
 
-pub written_none : (name : List ℕ) (old new : StoreSeen) → OnlyReads name old new → AreWritten [] old new
+pub written_none : {done : Bool} (name : List ℕ) (old new : StoreSeen) → OnlyReads done name old new → AreWritten [] old new
 written_none name old new reads = record { files = reads.files; writes = λ none. reads.writes; out = refl; err = refl; answered = refl }
 
 pub changes_none_behind : (acts more : List Act) → ChangesNone (acts ++ more) → ChangesNone more
 changes_none_behind [] more none = none
 changes_none_behind (Change name value ∷ acts) more none = absurd none
+changes_none_behind (Replace name value ∷ acts) more none = absurd none
 changes_none_behind (_ ∷ acts) more none = changes_none_behind acts more none
 
 pub written_both : (acts more : List Act) (old middle new : StoreSeen) → AreWritten acts old middle → AreWritten more middle new → AreWritten (acts ++ more) old new

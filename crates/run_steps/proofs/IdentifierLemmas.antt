@@ -1,24 +1,21 @@
 -- The identifier that a word names, digit by digit from the left.
-use Rattle.std.proofs.Common.{◌≡◌, ℕ, ◌+◌, ◌-◌, ◌*◌, ◌^◌, ◌<◌, ◌≤◌, true, false, List, length, take, get_or, inl, inr, sym, ap, ◌∙◌, subst, arith, rules}
+use Rattle.std.proofs.Common.{◌≡◌, ℕ, ◌+◌, ◌*◌, ◌^◌, ◌<◌, ◌≤◌, true, false, List, length, take, get_or, inl, inr, sym, ap, ◌∙◌, subst, arith}
 use Rattle.std.specs.Char.{digit_value, is_ascii_digit}
 use Rattle.std.specs.Str.{all_ascii_digits}
 use Rattle.std.specs.Str.Parse.{AllDigits, digits_value}
-use Rattle.std.proofs.lemmas.Bool.{cases_lt, false_from_ne_true}
+use Rattle.std.proofs.lemmas.Bool.{cases_lt}
 use Rattle.std.proofs.lemmas.Bool.Decides.{nat_tests}
 use Rattle.std.proofs.lemmas.List.{take_all}
-use Rattle.std.proofs.lemmas.Str.Parse.{IsNumeralModel, numerals_by_weight, tells_all_ascii_digits, digit_at}
 use Rattle.std.proofs.lemmas.Int.Digits.{digits_value_more, digits_more}
+use Rattle.quota_types.proofs.DigitsLemmas.{all_ascii_digits-spoilt}
 use Rattle.quota_blocks.specs.Numeral.{value_of}
+use Rattle.quota_blocks.proofs.NumeralLemmas.{IsNumeralModel-value_of}
 use Rattle.refusals.specs.declared.cause.Cause.TheVariants.{BadNumber}
 use Rattle.id_names.specs.FirstMatch.{first_id}
 use Rattle.id_names.specs.NamesFile.{NameLine}
 use Rattle.run_steps.specs.Numbers.{identifier_of, known}
 use Rattle.refusals.specs.Outcome.{Passed, Refused}
 use Rattle.refusals.specs.Refusals.{refusal_of}
-
--- `value_of` is the value of decimal digits as std has it
-own : IsNumeralModel (λ ds. all_ascii_digits ds ≡ true) value_of
-own = numerals_by_weight (λ ds. all_ascii_digits ds ≡ true) tells_all_ascii_digits value_of (search rules)
 
 -- a number in place of a value, which is 2^32 where that is no identifier
 pub data IsUpTo (value number : ℕ) : Type 0 where
@@ -29,10 +26,6 @@ pub data IsUpTo (value number : ℕ) : Type 0 where
 pub record IsReadUpTo (word : List ℕ) (at number : ℕ) : Type 0 where
   pub digits : AllDigits 10 (take at word)
   pub value : IsUpTo (digits_value 10 (take at word)) number
-
--- what a digit counts
-pub digit_value-below : (byte : ℕ) → is_ascii_digit byte ≡ true → digit_value byte ≡ byte - 48
-digit_value-below byte digit = grind (arith, nat_tests)
 
 value_more : (value number digit value' more : ℕ) → IsUpTo value number → value' ≡ value * 10 + digit
     → (number * 10 + digit < 2 ^ 32 → more ≡ number * 10 + digit) → (2 ^ 32 ≤ number * 10 + digit → more ≡ 2 ^ 32) → IsUpTo value' more
@@ -64,15 +57,10 @@ value_past : (value number : ℕ) → IsUpTo value number → 2 ^ 32 ≤ number 
 value_past value number (Below is low) past = absurd (omega arith)
 value_past value number (Past is high) past = high
 
-not_digits : (word : List ℕ) (at : ℕ) → at < length word → is_ascii_digit (get_or word at 0) ≡ false → all_ascii_digits word ≡ true → ⊥
-not_digits word at in_word other all =
-    let digit = digit_at word at (own.to word all) in_word in
-    grind (arith, nat_tests)
-
 -- a byte that is no digit makes the word a name
 pub identifier_of-spoilt : (names : List NameLine) (word : List ℕ) (at : ℕ) → at < length word → is_ascii_digit (get_or word at 0) ≡ false → identifier_of names word ≡ known (first_id names word) word
 identifier_of-spoilt names word at in_word other =
-    let no : all_ascii_digits word ≡ false = false_from_ne_true _ (not_digits word at in_word other) in
+    let no = all_ascii_digits-spoilt word at in_word other in
     grind arith
 
 -- the empty word is a name
@@ -84,7 +72,7 @@ read_all : (word : List ℕ) (number : ℕ) → IsReadUpTo word (length word) nu
 read_all word number read =
     let whole = take_all (length word) word (omega arith) in
     let digits : AllDigits 10 word = subst (AllDigits 10) whole read.digits in
-    (own.from word digits, subst (λ (v : ℕ). IsUpTo v number) (ap (digits_value 10) whole ∙ sym (own.same word digits)) read.value)
+    (IsNumeralModel-value_of.from word digits, subst (λ (v : ℕ). IsUpTo v number) (ap (digits_value 10) whole ∙ sym (IsNumeralModel-value_of.same word digits)) read.value)
 
 -- all is read, and is an identifier
 pub identifier_of-read : (names : List NameLine) (word : List ℕ) (number : ℕ) → IsReadUpTo word (length word) number → 0 < length word → number < 2 ^ 32 → identifier_of names word ≡ Passed number

@@ -4,6 +4,7 @@ pub mod DoingLemmas
 pub mod IdentifierLemmas
 pub mod InARowLemmas
 pub mod LookLemmas
+pub mod LookingLemmas
 pub mod MeaningLemmas
 pub mod OneCommandLemmas
 pub mod OneViewLemmas

@@ -12,10 +12,10 @@ use Rattle.quota_map.specs.View.{IsView}
 use Rattle.quota_map.proofs.SeenLemmas.{view_or_refused}
 use Rattle.refusals.specs.declared.reason.Refusal.{Refusal}
 use Rattle.refusals.specs.Refusals.{in_line}
-use Rattle.run_steps.specs.Act.{Act, Change, Follows, FollowsAct}
+use Rattle.run_steps.specs.Act.{Act, Change, Replace, Follows, FollowsAct}
 use Rattle.run_steps.specs.Done.{Outside}
 use Rattle.run_steps.specs.Meaning.{EndsBy, HasBegun, IsSure}
-use Rattle.run_steps.specs.OneCommand.{AreReceived, IsFirstPart, LooksFirst, ReadsToEnd, Receives, leaves_files}
+use Rattle.run_steps.specs.OneCommand.{AreReceived, IsFirstPart, LooksFirst, ReadsToEnd, Receives, RestsOnNone, leaves_files}
 use Rattle.run_steps.specs.Steps.{Steps, Ending, Doing, Looking, Opening, Reading, Receiving, Before, InLine}
 use Rattle.run_steps.proofs.ActLemmas.{follows-append}
 use Rattle.run_steps.proofs.SeenOnceLemmas.{seen_once}
@@ -120,6 +120,7 @@ same_after : (looks : Bool) (act : Act) (one other one' other' : World) → (IsT
     → IsTrue (looks && leaves_files act) → one' ≡ other'
 same_after false act one other one' other' same first second is = absurd (false≢true is)
 same_after true (Change name value) one other one' other' same first second is = absurd (false≢true is)
+same_after true (Replace name value) one other one' other' same first second is = absurd (false≢true is)
 same_after true _ one other one' other' same first second is = first ∙ same refl ∙ sym second
 
 -- what is outside is the same as far as steps may still look at it
@@ -152,6 +153,11 @@ seen_both : (kind : Kind) (asked : Option Format) (name : List ℕ) (one other :
 seen_both kind asked name one other value value' same view view' =
     seen_once (other name) kind asked value value' (subst (λ (w : World). IsView (w name) kind asked (Ok value)) same view) view'
 
+-- the same steps come of a look at files that are the same, and of one that rests on none
+pub same_looked : (looks : Bool) (next : World → Steps) (one other : World) → IsTrue looks ⊎ RestsOnNone next → (IsTrue looks → one ≡ other) → next one ≡ next other
+same_looked looks next one other (inl may) same = ap next (same may)
+same_looked looks next one other (inr rests) same = rests one other
+
 -- what has begun is a first part of every end of the same steps
 pub first_part : (looks takes : Bool) (steps : Steps) (one other : Outside) (done hand acts : List Act) (now new : Outside) (refusal : Option Refusal)
     → LooksFirst looks takes steps → LooksSame looks takes one other → HasBegun steps one done hand now → EndsBy steps other acts new refusal → IsFirstPart done hand acts
@@ -171,7 +177,7 @@ first_part looks takes (Doing act next) one other done hand acts now new refusal
     }
 first_part looks takes (Looking next) one other done hand acts now new refusal first same begun ends =
     first_part looks takes (next other.files) one other done hand acts now new refusal (first.1 other.files) same
-    (subst (λ (w : World). HasBegun (next w) one done hand now) (same.files first.0) begun) ends
+    (subst (λ (s : Steps). HasBegun s one done hand now) (same_looked looks next one.files other.files first.0 same.files) begun) ends
 first_part looks takes (Opening kind asked name next) one other done hand acts now new refusal first same (inl is) ends = first_none done hand acts is.done_none is.at_hand
 first_part looks takes (Opening kind asked name next) one other done hand acts now new refusal first same (inr by) (inl seen) =
     first_part looks takes (next seen.0) one other done hand acts now new refusal (first.1 seen.0) same
@@ -205,7 +211,8 @@ passed_sure looks takes (Doing act next) one other acts new first same ends = λ
     passed_sure (looks && leaves_files act) takes next (record one { files = ends.1 }) (record other { files = middle }) ends.0 new first
     (same_done looks takes act one other ends.1 middle same ends.3 follows) ends.4
 passed_sure looks takes (Looking next) one other acts new first same ends =
-    passed_sure looks takes (next other.files) one other acts new (first.1 other.files) same (subst (λ (w : World). EndsBy (next w) one acts new None) (same.files first.0) ends)
+    passed_sure looks takes (next other.files) one other acts new (first.1 other.files) same
+    (subst (λ (s : Steps). EndsBy s one acts new None) (same_looked looks next one.files other.files first.0 same.files) ends)
 passed_sure looks takes (Opening kind asked name next) one other acts new first same (inl seen) = (
   λ fault view. view_or_refused (other.files name) kind asked seen.0 fault (subst (λ (w : World). IsView (w name) kind asked (Ok seen.0)) (same.files first.0) seen.1) view,
   λ value view. passed_sure looks takes (next value) one other acts new (first.1 value) same

@@ -1,5 +1,5 @@
 -- Steps of single commands, form by form: that they look first, that they read to the end, and that they are sure.
-use Rattle.std.proofs.Common.{◌≡◌, ◌⊎◌, inr, ℕ, Bool, true, false, IsTrue, List, [], ◌∷◌, Option, None, Some, Ok, refl, sym, subst}
+use Rattle.std.proofs.Common.{◌≡◌, ◌⊎◌, inl, inr, ℕ, Bool, true, false, IsTrue, List, [], ◌∷◌, Option, None, Some, Ok, refl, sym, subst}
 use Rattle.std.specs.Prelude.{◌&&◌}
 use Rattle.quota_types.specs.declared.file_kind.Kind.{Kind}
 use Rattle.quota_types.specs.declared.file_kind.Format.{Format}
@@ -29,12 +29,12 @@ looks_done looks takes [] end = tt
 looks_done looks takes (act ∷ acts) end = looks_done (looks && leaves_files act) takes acts end
 
 pub looks_naming : (takes : Bool) (kind : Kind) (names : Option (List ℕ)) (next : List NameLine → Steps) → ((lines : List NameLine) → LooksFirst true takes (next lines)) → LooksFirst true takes (Naming kind names next)
-looks_naming takes kind names next each = (refl, λ files. looks_then true takes (names_seen kind names files) next each)
+looks_naming takes kind names next each = (inl refl, λ files. looks_then true takes (names_seen kind names files) next each)
 
 pub looks_taking : {V : Type 0} (from : Option (List ℕ)) (is_whole : V → Bool) (read : List ℕ → Outcome V) (next : V → Steps) → ((takes : Bool) (value : V) → LooksFirst true takes (next value))
     → LooksFirst true true (Taking from is_whole read next)
 looks_taking None is_whole read next each = (refl, λ bytes. looks_then true false (read bytes) next (each false))
-looks_taking (Some name) is_whole read next each = (refl, λ files. looks_then true true (file_said name read (files name)) next (each true))
+looks_taking (Some name) is_whole read next each = (inl refl, λ files. looks_then true true (file_said name read (files name)) next (each true))
 
 -- They read the standard input to its end.
 

@@ -46,11 +46,11 @@ pub outside_same : (seen : RunSeen) (store : StoreSeen) → store.files ≡ seen
 outside_same seen store same = ap (λ (files : World). outside_with seen files) same
 
 -- a call that only read wrote nothing
-pub unwritten : (name : List ℕ) (old new : StoreSeen) → OnlyReads name old new → IsUnwritten old new
+pub unwritten : {done : Bool} (name : List ℕ) (old new : StoreSeen) → OnlyReads done name old new → IsUnwritten old new
 unwritten name old new reads = record { files = reads.files; writes = reads.writes }
 
 -- nothing was done where the store was only read
-pub nothing_read : (steps : Steps) (name : List ℕ) (tells : RunTells) (old : RunSeen) (store : StoreSeen) → OnlyReads name old.store store → IsDoneInPart steps tells old (with_store old store)
+pub nothing_read : {done : Bool} (steps : Steps) (name : List ℕ) (tells : RunTells) (old : RunSeen) (store : StoreSeen) → OnlyReads done name old.store store → IsDoneInPart steps tells old (with_store old store)
 nothing_read steps name tells old store reads =
     nothing_begun steps tells old (with_store old store) reads.files (λ told. refl) (λ told. refl) refl refl reads.writes
 
@@ -66,7 +66,7 @@ none_done tells old store input same = record {
 }
 
 -- no act, and a refusal
-pub refused_steps : (name : List ℕ) (steps : Steps) (tells : RunTells) (old : RunSeen) (store : StoreSeen) (refusal : Refusal) → OnlyReads name old.store store
+pub refused_steps : {done : Bool} (name : List ℕ) (steps : Steps) (tells : RunTells) (old : RunSeen) (store : StoreSeen) (refusal : Refusal) → OnlyReads done name old.store store
     → ((new : Outside) → new ≡ outside_of old → EndsBy steps (outside_of old) [] new (Some refusal)) → HasSteps steps tells (Some refusal) old (with_store old store)
 refused_steps name steps tells old store refusal reads by = record {
   acts = [];
@@ -97,8 +97,8 @@ refused_so steps uses may tells old new refusal same quiet later part reason all
 }
 
 -- a command was refused where the store was only read
-pub refused_reads : (name : List ℕ) (steps : Steps) (uses : Uses) (may : Cause → List ℕ → Type 0) (tells : RunTells)
-    (old : RunSeen) (store : StoreSeen) (refusal : Refusal) → OnlyReads name old.store store
+pub refused_reads : {done : Bool} (name : List ℕ) (steps : Steps) (uses : Uses) (may : Cause → List ℕ → Type 0) (tells : RunTells)
+    (old : RunSeen) (store : StoreSeen) (refusal : Refusal) → OnlyReads done name old.store store
     → HasReason uses old (with_store old store) (IsWorldTold tells → HasSteps steps tells (Some refusal) old (with_store old store))
     refusal.cause → may refusal.cause refusal.name → IsPlacedBy uses refusal
     → CarriesOut steps uses may tells old (with_store old store) (Err refusal)
@@ -108,16 +108,16 @@ refused_reads name steps uses may tells old store refusal reads reason allowed p
     (λ told. nothing_read steps name tells old store reads) reason allowed placed
 
 -- a refusal that is seen of the file
-seen_steps : (name : List ℕ) (kind : Kind) (asked : Option Format) (next : QuotaValue → Steps) (tells : RunTells) (old : RunSeen) (store : StoreSeen) (fault : OpenFault)
-    → OnlyReads name old.store store → IsOpenFault old.store.faults store.faults tells.store (old.store.files name) kind asked fault → (IsOfCall fault → ⊥) → IsWorldTold tells
+seen_steps : {done : Bool} (name : List ℕ) (kind : Kind) (asked : Option Format) (next : QuotaValue → Steps) (tells : RunTells) (old : RunSeen) (store : StoreSeen) (fault : OpenFault)
+    → OnlyReads done name old.store store → IsOpenFault old.store.faults store.faults tells.store (old.store.files name) kind asked fault → (IsOfCall fault → ⊥) → IsWorldTold tells
     → HasSteps (Opening kind asked name next) tells (Some (refusal_of (opening_cause fault) name)) old (with_store old store)
 seen_steps name kind asked next tells old store fault reads cause own told =
     refused_steps name (Opening kind asked name next) tells old store _ reads
     (λ new same. inr (fault, fault_seen _ _ _ _ kind asked fault cause told.store own, record { acts_none = refl; same = same; ends = refl }))
 
 -- the reason for which a file was not opened
-open_reason : (uses : Uses) (name : List ℕ) (kind : Kind) (asked : Option Format) (next : QuotaValue → Steps) (tells : RunTells) (old : RunSeen) (store : StoreSeen) (fault : OpenFault)
-    → OnlyReads name old.store store → IsOpenFault old.store.faults store.faults tells.store (old.store.files name) kind asked fault
+open_reason : {done : Bool} (uses : Uses) (name : List ℕ) (kind : Kind) (asked : Option Format) (next : QuotaValue → Steps) (tells : RunTells) (old : RunSeen) (store : StoreSeen) (fault : OpenFault)
+    → OnlyReads done name old.store store → IsOpenFault old.store.faults store.faults tells.store (old.store.files name) kind asked fault
     → HasReason uses old (with_store old store)
     (IsWorldTold tells → HasSteps (Opening kind asked name next) tells (Some (refusal_of (opening_cause fault) name)) old (with_store old store)) (opening_cause fault)
 open_reason uses name kind asked next tells old store Store reads cause = store_rose _ _ _ _ kind asked cause
@@ -156,8 +156,8 @@ open_may name before now tells named kind (Some V2R0) fault cause = tree_may (So
 open_may name before now tells named kind (Some V2R1) fault cause = tree_may (Some V2R1) name before now tells named kind fault refl (λ damage names. names) cause
 
 -- A command that opens a file was carried out where that file was not opened.
-pub not_opened : (kind : Kind) (asked : Option Format) (name : List ℕ) (next : QuotaValue → Steps) (uses : Uses) (may : Cause → List ℕ → Type 0) (tells : RunTells) (old : RunSeen) (store : StoreSeen) (fault : OpenFault)
-    → IsOpenFault old.store.faults store.faults tells.store (old.store.files name) kind asked fault → OnlyReads name old.store store
+pub not_opened : {done : Bool} (kind : Kind) (asked : Option Format) (name : List ℕ) (next : QuotaValue → Steps) (uses : Uses) (may : Cause → List ℕ → Type 0) (tells : RunTells) (old : RunSeen) (store : StoreSeen) (fault : OpenFault)
+    → IsOpenFault old.store.faults store.faults tells.store (old.store.files name) kind asked fault → OnlyReads done name old.store store
     → ((cause : Cause) → MayRefuseOpening asked name cause name → may cause name)
     → CarriesOut (Opening kind asked name next) uses may tells old (with_store old store) (Err (refusal_of (opening_cause fault) name))
 not_opened kind asked name next uses may tells old store fault cause reads allowed =

@@ -6,7 +6,7 @@ use Rattle.quota_blocks.specs.Text.{AppendsPrefix}
 use Rattle.quota_blocks.specs.World.{World}
 use Rattle.refusals.specs.declared.cause.Cause.{Cause}
 use Rattle.refusals.specs.declared.reason.Refusal.{Refusal}
-use Rattle.run_steps.specs.Act.{Act, Change, ChangesNone, Follows, FollowsInPart, out_bytes, err_bytes}
+use Rattle.run_steps.specs.Act.{Act, Change, Replace, ChangesNone, Follows, FollowsInPart, out_bytes, err_bytes}
 use Rattle.run_steps.specs.Done.{AreDoneInPart, IsLater, IsUnwritten, IsWorldTold, Outside, RunSeen, RunTells, outside_of}
 use Rattle.run_steps.specs.Meaning.{EndsBy, HasBegun}
 use Rattle.run_steps.specs.OneCommand.{LooksFirst}
@@ -94,11 +94,13 @@ acts_begun (act ∷ done) rest end from files follows = inr (done, follows.0, re
 -- of acts that follow in part only the first counts
 first_in_part : (rest : List Act) (old new : World) → FollowsInPart rest old new → FollowsInPart (take 1 rest) old new
 first_in_part (Change name value ∷ rest) old new follows = follows
+first_in_part (Replace name value ∷ rest) old new follows = follows
 first_in_part [] old new follows = follows
 first_in_part (_ ∷ rest) old new follows = follows
 
 all_in_part : (rest : List Act) (old new : World) → FollowsInPart (take 1 rest) old new → FollowsInPart rest old new
 all_in_part (Change name value ∷ rest) old new follows = follows
+all_in_part (Replace name value ∷ rest) old new follows = follows
 all_in_part [] old new follows = follows
 all_in_part (_ ∷ rest) old new follows = follows
 

@@ -38,12 +38,12 @@ pub nothing_carried : (steps : Steps) (uses : Uses) (may : Cause → List ℕ �
     → HasReason uses old old (IsWorldTold tells → HasSteps steps tells (Some refusal) old old) refusal.cause
     → may refusal.cause refusal.name → IsPlacedBy uses refusal → CarriesOut steps uses may tells old old (Err refusal)
 nothing_carried steps uses may tells old refusal reason allowed outside =
-    refused_reads [] steps uses may tells old old.store refusal (only_reads-none [] old.store) reason allowed outside
+    refused_reads [] steps uses may tells old old.store refusal (only_reads-none {done = true} [] old.store) reason allowed outside
 
 -- a step that is refused at once
 stop_steps : (tells : RunTells) (old : RunSeen) (refusal : Refusal) → HasSteps (Stop refusal) tells (Some refusal) old old
 stop_steps tells old refusal =
-    refused_steps [] (Stop refusal) tells old old.store refusal (only_reads-none [] old.store)
+    refused_steps [] (Stop refusal) tells old old.store refusal (only_reads-none {done = true} [] old.store)
     (λ new same. record { acts_none = refl; same = same; ends = refl })
 
 -- a refusal of words is no fault
@@ -93,7 +93,7 @@ pub outside_taken : (old : RunSeen) (store : StoreSeen) (input : SourceSeen) →
 outside_taken old store input same = outside_same (with_input old input) store same
 
 -- the next steps were done, and so were the steps
-steps_on : (name : List ℕ) (next steps : Steps) (tells : RunTells) (refusal : Option Refusal) (old : RunSeen) (store : StoreSeen) (input : SourceSeen) (new : RunSeen) → OnlyReads name old.store store
+steps_on : {done : Bool} (name : List ℕ) (next steps : Steps) (tells : RunTells) (refusal : Option Refusal) (old : RunSeen) (store : StoreSeen) (input : SourceSeen) (new : RunSeen) → OnlyReads done name old.store store
     → LeadsTo next (record (outside_of old) { input = input.left }) steps (outside_of old) → HasSteps next tells refusal (with_input (with_store old store) input) new → HasSteps steps tells refusal old new
 steps_on name next steps tells refusal old store input new reads leads has = record {
   acts = has.acts;
@@ -109,20 +109,20 @@ steps_on name next steps tells refusal old store input new reads leads has = rec
 }
 
 -- they were done in part
-part_on : (name : List ℕ) (next steps : Steps) (tells : RunTells) (old : RunSeen) (store : StoreSeen) (input : SourceSeen) (new : RunSeen) → OnlyReads name old.store store
+part_on : {done : Bool} (name : List ℕ) (next steps : Steps) (tells : RunTells) (old : RunSeen) (store : StoreSeen) (input : SourceSeen) (new : RunSeen) → OnlyReads done name old.store store
     → LeadsTo next (record (outside_of old) { input = input.left }) steps (outside_of old) → IsDoneInPart next tells (with_input (with_store old store) input) new → IsDoneInPart steps tells old new
 part_on name next steps tells old store input new reads leads part =
     part_from next steps tells old store input new reads.writes
     (λ done hand now by. leads.begun done hand now (subst (λ (o : Outside). HasBegun next o done hand now)
     (outside_taken old store input reads.files) by)) part
 
-unwritten_on : (name : List ℕ) (old store new : StoreSeen) → OnlyReads name old store → IsUnwritten store new → IsUnwritten old new
+unwritten_on : {done : Bool} (name : List ℕ) (old store new : StoreSeen) → OnlyReads done name old store → IsUnwritten store new → IsUnwritten old new
 unwritten_on name old store new reads same = record { files = same.files ∙ reads.files; writes = same.writes ∙ reads.writes }
 
 -- A phase passed, and what came next was carried out. The command uses the input besides where the phase does.
-pub carries_since : (name : List ℕ) (next steps : Steps) (uses : Uses) (takes : Bool) (may more : Cause → List ℕ → Type 0) (tells : RunTells) (old : RunSeen) (store : StoreSeen) (input : SourceSeen) (new : RunSeen)
+pub carries_since : {done : Bool} (name : List ℕ) (next steps : Steps) (uses : Uses) (takes : Bool) (may more : Cause → List ℕ → Type 0) (tells : RunTells) (old : RunSeen) (store : StoreSeen) (input : SourceSeen) (new : RunSeen)
     (result : Result (Unit {0}) Refusal)
-    → OnlyReads name old.store store → old.input.faults ≤ input.faults → (IsWorldTold tells → LeadsTo next (record (outside_of old) { input = input.left }) steps (outside_of old))
+    → OnlyReads done name old.store store → old.input.faults ≤ input.faults → (IsWorldTold tells → LeadsTo next (record (outside_of old) { input = input.left }) steps (outside_of old))
     → ((cause : Cause) (said : List ℕ) → may cause said → more cause said)
     → CarriesOut next uses may tells (with_input (with_store old store) input) new result → CarriesOut steps (record uses { input = takes }) more tells old new result
 carries_since name next steps uses takes may more tells old store input new result reads le leads allows carries = record {
@@ -145,23 +145,23 @@ carries_since name next steps uses takes may more tells old store input new resu
 }
 
 -- a phase only read the store and passed
-pub carries_on : (name : List ℕ) (next steps : Steps) (uses : Uses) (may more : Cause → List ℕ → Type 0) (tells : RunTells) (old : RunSeen) (store : StoreSeen) (new : RunSeen) (result : Result (Unit {0}) Refusal)
-    → OnlyReads name old.store store → (IsWorldTold tells → LeadsTo next (outside_of old) steps (outside_of old)) → ((cause : Cause) (said : List ℕ) → may cause said → more cause said)
+pub carries_on : {done : Bool} (name : List ℕ) (next steps : Steps) (uses : Uses) (may more : Cause → List ℕ → Type 0) (tells : RunTells) (old : RunSeen) (store : StoreSeen) (new : RunSeen) (result : Result (Unit {0}) Refusal)
+    → OnlyReads done name old.store store → (IsWorldTold tells → LeadsTo next (outside_of old) steps (outside_of old)) → ((cause : Cause) (said : List ℕ) → may cause said → more cause said)
     → CarriesOut next uses may tells (with_store old store) new result → CarriesOut steps uses more tells old new result
 carries_on name next steps uses may more tells old store new result reads leads allows carries =
     carries_since name next steps uses uses.input may more tells old store old.input new result reads (omega arith) leads allows carries
 
 -- the names were read, and what came next was carried out
-pub carries_naming : (name : List ℕ) (kind : Kind) (names : Option (List ℕ)) (lines : List NameLine) (next : List NameLine → Steps) (uses : Uses) (may more : Cause → List ℕ → Type 0) (tells : RunTells)
+pub carries_naming : {done : Bool} (name : List ℕ) (kind : Kind) (names : Option (List ℕ)) (lines : List NameLine) (next : List NameLine → Steps) (uses : Uses) (may more : Cause → List ℕ → Type 0) (tells : RunTells)
     (old : RunSeen) (store : StoreSeen) (new : RunSeen) (result : Result (Unit {0}) Refusal)
-    → OnlyReads name old.store store → (IsTrue tells.store → names_seen kind names old.store.files ≡ Passed lines) → ((cause : Cause) (said : List ℕ) → may cause said → more cause said)
+    → OnlyReads done name old.store store → (IsTrue tells.store → names_seen kind names old.store.files ≡ Passed lines) → ((cause : Cause) (said : List ℕ) → may cause said → more cause said)
     → CarriesOut (next lines) uses may tells (with_store old store) new result → CarriesOut (Naming kind names next) uses more tells old new result
 carries_naming name kind names lines next uses may more tells old store new result reads seen allows carries =
     carries_on name (next lines) (Naming kind names next) uses may more tells old store new result reads
     (λ told. leads_looking (next lines) _ (outside_of old) (ap (λ (o : Outcome (List NameLine)). Then o next) (sym (seen told.store)))) allows carries
 
 -- a step that was refused, once the store was only read
-pub refused_reading : {V : Type 0} (name : List ℕ) (outcome : Outcome V) (next : V → Steps) (steps : Steps) (tells : RunTells) (old : RunSeen) (store : StoreSeen) (refusal : Refusal) → OnlyReads name old.store store
+pub refused_reading : {done : Bool} {V : Type 0} (name : List ℕ) (outcome : Outcome V) (next : V → Steps) (steps : Steps) (tells : RunTells) (old : RunSeen) (store : StoreSeen) (refusal : Refusal) → OnlyReads done name old.store store
     → LeadsTo (Then outcome next) (outside_of old) steps (outside_of old) → outcome ≡ Refused refusal
     → HasSteps steps tells (Some refusal) old (with_store old store)
 refused_reading name outcome next steps tells old store refusal reads leads is =
@@ -180,8 +180,8 @@ names_reason uses file tells old store seen refusal stated Memory said fault may
 names_reason uses file tells old store seen refusal stated _ said fault may so = λ told. so told.store (fault told.store)
 
 -- the file of names was refused
-names_refused : (kind : Kind) (file : List ℕ) (next : List NameLine → Steps) (uses : Uses) (more : Cause → List ℕ → Type 0) (tells : RunTells) (old : RunSeen) (store : StoreSeen) (refusal : Refusal)
-    → OnlyReads file old.store store → IsNamesFault old.store.faults store.faults tells.store (names_seen kind (Some file) old.store.files) refusal refusal.cause
+names_refused : {done : Bool} (kind : Kind) (file : List ℕ) (next : List NameLine → Steps) (uses : Uses) (more : Cause → List ℕ → Type 0) (tells : RunTells) (old : RunSeen) (store : StoreSeen) (refusal : Refusal)
+    → OnlyReads done file old.store store → IsNamesFault old.store.faults store.faults tells.store (names_seen kind (Some file) old.store.files) refusal refusal.cause
     → FileOfNamesMayRefuse file refusal.cause refusal.name → more refusal.cause refusal.name → IsPlacedBy uses refusal
     → CarriesOut (Naming kind (Some file) next) uses more tells old (with_store old store) (Err refusal)
 names_refused kind file next uses more tells old store refusal reads fault may allowed placed =
@@ -196,8 +196,8 @@ pub placed_nowhere : (uses : Uses) (refusal : Refusal) → refusal.place ≡ now
 placed_nowhere uses refusal is = record { line = λ no. ap (λ (p : Place). p.line) is; input_line = λ no. ap (λ (p : Place). p.input_line) is }
 
 -- the names were not read
-pub naming_refused : (kind : Kind) (names : Option (List ℕ)) (next : List NameLine → Steps) (uses : Uses) (more : Cause → List ℕ → Type 0) (tells : RunTells) (old : RunSeen) (store : StoreSeen) (refusal : Refusal)
-    → OnlyReads (unwrap_or names []) old.store store → IsNamesFault old.store.faults store.faults tells.store (names_seen kind names old.store.files) refusal refusal.cause
+pub naming_refused : {done : Bool} (kind : Kind) (names : Option (List ℕ)) (next : List NameLine → Steps) (uses : Uses) (more : Cause → List ℕ → Type 0) (tells : RunTells) (old : RunSeen) (store : StoreSeen) (refusal : Refusal)
+    → OnlyReads done (unwrap_or names []) old.store store → IsNamesFault old.store.faults store.faults tells.store (names_seen kind names old.store.files) refusal refusal.cause
     → NamesMayRefuse names refusal.cause refusal.name → (NamesMayRefuse names refusal.cause refusal.name → more refusal.cause refusal.name) → refusal.place ≡ nowhere
     → CarriesOut (Naming kind names next) uses more tells old (with_store old store) (Err refusal)
 naming_refused kind None next uses more tells old store refusal reads fault may allows placed = absurd may
@@ -216,8 +216,8 @@ some_value true sees seen = let one = seen refl in (one.0, λ told. one.1)
 some_value false sees seen = (nothing_value, λ told. absurd (false≢true told))
 
 -- a file was opened, and the next steps were carried out over each value that may be seen of it
-pub carries_opening : (name : List ℕ) (kind : Kind) (asked : Option Format) (next : QuotaValue → Steps) (uses : Uses) (may more : Cause → List ℕ → Type 0) (tells : RunTells) (old : RunSeen) (store : StoreSeen) (new : RunSeen) (result : Result (Unit {0}) Refusal)
-    → OnlyReads name old.store store → (IsTrue tells.store → (value : QuotaValue) × IsView (old.store.files name) kind asked (Ok value)) → ((cause : Cause) (said : List ℕ) → may cause said → more cause said)
+pub carries_opening : {done : Bool} (name : List ℕ) (kind : Kind) (asked : Option Format) (next : QuotaValue → Steps) (uses : Uses) (may more : Cause → List ℕ → Type 0) (tells : RunTells) (old : RunSeen) (store : StoreSeen) (new : RunSeen) (result : Result (Unit {0}) Refusal)
+    → OnlyReads done name old.store store → (IsTrue tells.store → (value : QuotaValue) × IsView (old.store.files name) kind asked (Ok value)) → ((cause : Cause) (said : List ℕ) → may cause said → more cause said)
     → ((value : QuotaValue) → (IsTrue tells.store → IsView (old.store.files name) kind asked (Ok value)) → CarriesOut (next value) uses may tells (with_store old store) new result)
     → CarriesOut (Opening kind asked name next) uses more tells old new result
 carries_opening name kind asked next uses may more tells old store new result reads seen allows each =
@@ -229,7 +229,7 @@ carries_opening name kind asked next uses may more tells old store new result re
 pub carries_more : (steps : Steps) (uses : Uses) (may more : Cause → List ℕ → Type 0) (tells : RunTells) (old new : RunSeen) (result : Result (Unit {0}) Refusal)
     → ((cause : Cause) (name : List ℕ) → may cause name → more cause name) → CarriesOut steps uses may tells old new result → CarriesOut steps uses more tells old new result
 carries_more steps uses may more tells old new result allows carries =
-    carries_on [] steps steps uses may more tells old old.store new result (only_reads-none [] old.store)
+    carries_on [] steps steps uses may more tells old old.store new result (only_reads-none {done = true} [] old.store)
     (λ told. leads_same steps steps (outside_of old) refl) allows carries
 
 -- the same steps were carried out

@@ -12,13 +12,14 @@ use Rattle.quota_blocks.proofs.WorldLemmas.{bytes_eq-ne, bytes_eq-same}
 use Rattle.quota_map.specs.View.{IsView}
 use Rattle.refusals.specs.declared.reason.Refusal.{Refusal}
 use Rattle.refusals.specs.Refusals.{in_line, refusal_of}
-use Rattle.run_steps.specs.Act.{Act, Change, FollowsAct}
+use Rattle.run_steps.specs.Act.{Act, Change, Replace, FollowsAct, StandsFor}
 use Rattle.run_steps.specs.Done.{Outside}
 use Rattle.run_steps.specs.Meaning.{EndsBy}
 use Rattle.run_steps.specs.OneCommand.{LooksFirst, leaves_files}
 use Rattle.run_steps.specs.Opening.{opening_cause}
 use Rattle.run_steps.specs.SameViews.{FileAsked, IsFileAlike, IsSeenAlike, LooksAlike, MeetsSame, Opens}
 use Rattle.run_steps.specs.Steps.{Steps, Ending, Doing, Looking, Opening, Reading, Receiving, Before, InLine}
+use Rattle.run_steps.proofs.MeaningLemmas.{same_looked}
 use Rattle.run_steps.proofs.OneViewLemmas.{one_view}
 
 -- Files that are seen alike.
@@ -98,6 +99,7 @@ record GoesOn (looks takes : Bool) (one : Outside) (other : World) (here there :
 left_by : (looks : Bool) (act : Act) (world old new : World) → (IsTrue looks → old ≡ world) → FollowsAct act old new → IsTrue (looks && leaves_files act) → new ≡ world
 left_by false act world old new same follows is = absurd (false≢true is)
 left_by true (Change name value) world old new same follows is = absurd (false≢true is)
+left_by true (Replace name value) world old new same follows is = absurd (false≢true is)
 left_by true _ world old new same follows is = follows ∙ same refl
 
 done_on : (looks takes : Bool) (one : Outside) (other : World) (here there : Outside) (act : Act) (in_one in_other : World) → GoesOn looks takes one other here there
@@ -146,8 +148,8 @@ same_acts looks takes one other (Doing act next) here there acts new refusal mor
     (ends.2 ∙ ap (λ (a : List Act). act ∷ a) rest.0 ∙ sym also.2, rest.1)
 same_acts looks takes one other (Looking next) here there acts new refusal more to stop first sees on ends also =
     same_acts looks takes one other (next one.files) here there acts new refusal more to stop (first.1 one.files) sees.1 on
-    (subst (λ (w : World). EndsBy (next w) here acts new refusal) (on.in_one first.0) ends)
-    (subst (λ (s : Steps). EndsBy s there more to stop) (sym sees.0) (subst (λ (w : World). EndsBy (next w) there more to stop) (on.in_other first.0) also))
+    (subst (λ (s : Steps). EndsBy s here acts new refusal) (same_looked looks next here.files one.files first.0 on.in_one) ends)
+    (subst (λ (s : Steps). EndsBy s there more to stop) (same_looked looks next there.files other first.0 on.in_other ∙ sym sees.0) also)
 same_acts looks takes one other (Opening kind asked name next) here there acts new refusal more to stop first sees on (inl seen) (inl also) =
     let view = subst (λ (w : World). IsView (w name) kind asked (Ok seen.0)) (on.in_one first.0) seen.1 in
     let same = seen_same kind asked (one.files name) (other name) (Ok seen.0) (Ok also.0) sees.0 view (subst (λ (w : World). IsView (w name) kind asked (Ok also.0)) (on.in_other first.0) also.1) in
@@ -182,15 +184,20 @@ same_acts looks takes one other (InLine line steps) here there acts new refusal 
 
 -- As they end in one world, they may end in the other.
 
--- files that follow an act in one world may follow it in the other: a file that is changed there gets the same bytes
-follow_too : (act : Act) (old new from : World) → FollowsAct act old new → (to : World) × FollowsAct act from to
-follow_too (Change name value) old new from follows = (
+-- a file that stands for a value in one world may stand for it in the other: it gets the same bytes
+stands_too : (name : List ℕ) (value : QuotaValue) (old new from : World) → StandsFor name value old new → (to : World) × StandsFor name value from to
+stands_too name value old new from stands = (
   with_file from name (new name),
   (
-    subst (λ (f : Option (List ℕ)). IsView f value.kind (Some value.format) (Ok value)) (sym (ap (λ (b : Bool). if b then new name else from name) (bytes_eq-same name))) follows.0,
+    subst (λ (f : Option (List ℕ)). IsView f value.kind (Some value.format) (Ok value)) (sym (ap (λ (b : Bool). if b then new name else from name) (bytes_eq-same name))) stands.0,
     λ other differ differs. ap (λ (b : Bool). if b then new name else from other) (bytes_eq-ne name other (λ is. differ (sym is))),
   ),
 )
+
+-- files that follow an act in one world may follow it in the other
+follow_too : (act : Act) (old new from : World) → FollowsAct act old new → (to : World) × FollowsAct act from to
+follow_too (Change name value) old new from follows = stands_too name value old new from follows
+follow_too (Replace name value) old new from follows = stands_too name value old new from follows
 follow_too _ old new from follows = (from, refl)
 
 ends_too : (looks takes : Bool) (one : Outside) (other : World) (steps : Steps) (here there : Outside) (acts : List Act) (new : Outside) (refusal : Option Refusal)
@@ -204,9 +211,9 @@ ends_too looks takes one other (Doing act next) here there acts new refusal firs
     (rest.0, (ends.0, follows.0, ends.2, follows.1, rest.1))
 ends_too looks takes one other (Looking next) here there acts new refusal first sees on ends =
     let rest = ends_too looks takes one other (next one.files) here there acts new refusal (first.1 one.files) sees.1 on
-    (subst (λ (w : World). EndsBy (next w) here acts new refusal) (on.in_one first.0) ends) in (
+    (subst (λ (s : Steps). EndsBy s here acts new refusal) (same_looked looks next here.files one.files first.0 on.in_one) ends) in (
       rest.0,
-      subst (λ (w : World). EndsBy (next w) there acts rest.0 refusal) (sym (on.in_other first.0)) (subst (λ (s : Steps). EndsBy s there acts rest.0 refusal) sees.0 rest.1),
+      subst (λ (s : Steps). EndsBy s there acts rest.0 refusal) (sees.0 ∙ sym (same_looked looks next there.files other first.0 on.in_other)) rest.1,
     )
 ends_too looks takes one other (Opening kind asked name next) here there acts new refusal first sees on (inl seen) =
     let view = subst (λ (w : World). IsView (w name) kind asked (Ok seen.0)) (on.in_one first.0) seen.1 in

@@ -1,5 +1,5 @@
 -- From a text about an opened file to what a command does that shows it.
-use Rattle.std.proofs.Common.{None, Some, ◌≡◌, ℕ, ◌≤◌, IsTrue, List, [], ◌∷◌, ◌++◌, Option, Ok, Err, inl, inr, refl, sym, ap, subst, ◌∙◌, arith, append-nil}
+use Rattle.std.proofs.Common.{None, Some, ◌≡◌, ℕ, ◌≤◌, IsTrue, List, [], ◌∷◌, ◌++◌, Option, Ok, Err, inl, inr, refl, sym, ap, subst, ◌∙◌, arith, append-nil, false}
 use Rattle.quota_types.specs.declared.damage.Damage.{Damage}
 use Rattle.quota_types.specs.declared.file_kind.Kind.{Kind}
 use Rattle.quota_types.specs.declared.file_kind.Format.{Format}
@@ -29,7 +29,7 @@ use Rattle.run_steps.proofs.PartLemmas.{carried_whole, part_from}
 -- is seen as, or a prefix of it.
 pub record IsShowing (kind : Kind) (asked : Option Format) (name : List ℕ) (text : QuotaValue → List ℕ) (tells : RunTells) (old : RunSeen) (store : StoreSeen) (out : SinkSeen) : Type 0 where
   pub seen : IsTrue tells.store → (value : QuotaValue) × IsView (old.store.files name) kind asked (Ok value)
-  pub reads : OnlyReads name old.store store
+  pub reads : OnlyReads false name old.store store
   pub prefix : IsTrue tells.store → IsTrue tells.out → (value : QuotaValue) → IsView (old.store.files name) kind asked (Ok value)
       → AppendsPrefix old.out.written out.written (text value)
   pub later : old.out.faults ≤ out.faults

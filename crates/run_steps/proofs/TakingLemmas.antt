@@ -52,9 +52,9 @@ leads_taking (Some name) is_whole read next outcome old left said same =
     (leads_looking (Then outcome next) (λ files. Then (file_said name read (files name)) next) old (ap (λ (o : Outcome _). Then o next) (sym said)))
 
 -- the input was read, where the store was only read meanwhile, and the next steps were carried out
-pub carries_taking : {V : Type 0} (name : List ℕ) (from : Option (List ℕ)) (is_whole : V → Bool) (read : List ℕ → Outcome V) (next : V → Steps) (value : V) (uses : Uses) (may more : Cause → List ℕ → Type 0) (tells : RunTells)
+pub carries_taking : {done : Bool} {V : Type 0} (name : List ℕ) (from : Option (List ℕ)) (is_whole : V → Bool) (read : List ℕ → Outcome V) (next : V → Steps) (value : V) (uses : Uses) (may more : Cause → List ℕ → Type 0) (tells : RunTells)
     (old : RunSeen) (store : StoreSeen) (input : SourceSeen) (new : RunSeen) (result : Result (Unit {0}) Refusal)
-    → OnlyReads name old.store store → old.input.faults ≤ input.faults → (IsWorldTold tells → input_said from read old.store.files old.input.left ≡ Passed value)
+    → OnlyReads done name old.store store → old.input.faults ≤ input.faults → (IsWorldTold tells → input_said from read old.store.files old.input.left ≡ Passed value)
     → (IsWorldTold tells → HasTaken from (is_whole value) old.input.left input.left)
     → ((cause : Cause) (said : List ℕ) → may cause said → more cause said)
     → CarriesOut (next value) uses may tells (with_input (with_store old store) input) new result → CarriesOut (Taking from is_whole read next) (reading from uses) more tells old new result
@@ -64,8 +64,8 @@ carries_taking name from is_whole read next value uses may more tells old store 
 
 -- The input was not read.
 
-refused_taking : {V : Type 0} (name : List ℕ) (from : Option (List ℕ)) (is_whole : V → Bool) (read : List ℕ → Outcome V) (next : V → Steps) (tells : RunTells) (old : RunSeen) (store : StoreSeen) (input : SourceSeen) (refusal : Refusal)
-    → OnlyReads name old.store store → input_said from read old.store.files old.input.left ≡ Refused refusal → HasTaken from false old.input.left input.left
+refused_taking : {done : Bool} {V : Type 0} (name : List ℕ) (from : Option (List ℕ)) (is_whole : V → Bool) (read : List ℕ → Outcome V) (next : V → Steps) (tells : RunTells) (old : RunSeen) (store : StoreSeen) (input : SourceSeen) (refusal : Refusal)
+    → OnlyReads done name old.store store → input_said from read old.store.files old.input.left ≡ Refused refusal → HasTaken from false old.input.left input.left
     → HasSteps (Taking from is_whole read next) tells (Some refusal) old (with_input (with_store old store) input)
 refused_taking name from is_whole read next tells old store input refusal reads said taken = record {
   acts = [];
@@ -86,9 +86,9 @@ input_reason uses what from tells old store input said refusal stated Memory nam
 input_reason uses what from tells old store input said refusal stated _ name fault may so = λ told. so told (fault told)
 
 -- the input was not read
-pub input_refused : {V : Type 0} (name : List ℕ) (what : InputKind) (from : Option (List ℕ)) (is_whole : V → Bool) (read : List ℕ → Outcome V) (next : V → Steps) (uses : Uses) (more : Cause → List ℕ → Type 0) (tells : RunTells)
+pub input_refused : {done : Bool} {V : Type 0} (name : List ℕ) (what : InputKind) (from : Option (List ℕ)) (is_whole : V → Bool) (read : List ℕ → Outcome V) (next : V → Steps) (uses : Uses) (more : Cause → List ℕ → Type 0) (tells : RunTells)
     (old : RunSeen) (store : StoreSeen) (input : SourceSeen) (refusal : Refusal)
-    → OnlyReads name old.store store → old.input.faults ≤ input.faults
+    → OnlyReads done name old.store store → old.input.faults ≤ input.faults
     → IsInputFault (Rose old.store.faults store.faults) (Rose old.input.faults input.faults) (IsWorldTold tells) (input_said from read old.store.files old.input.left) refusal refusal.cause
     → (IsWorldTold tells → HasTaken from false old.input.left input.left)
     → InputMayRefuse what from refusal.cause refusal.name → more refusal.cause refusal.name → IsPlacedBy uses refusal

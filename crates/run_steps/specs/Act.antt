@@ -1,17 +1,20 @@
 -- What a command does to what is outside, act by act, and how the files follow.
-use Rattle.std.specs.Prelude.{◌≡◌, ℕ, List, [], ◌∷◌, ◌++◌, Some, Ok, ⊤}
+use Rattle.std.specs.Prelude.{◌≡◌, ◌⊎◌, ℕ, List, [], ◌∷◌, ◌++◌, Option, Some, Ok, ⊤}
 use Rattle.quota_blocks.specs.Replace.{ReplacesOnly}
 use Rattle.quota_blocks.specs.World.{World}
 use Rattle.quota_blocks.specs.QuotaValue.{QuotaValue}
+use Rattle.quota_map.specs.AnyFile.{AnyLeaves}
 use Rattle.quota_map.specs.View.{IsView}
+use Rattle.quota_types.specs.declared.file_kind.Format.{Format}
 
 -- One act: bytes to the output, bytes to the error output, an answer to a datagram, or a file that from then on stands
--- for another value.
+-- for another value: an opened one that is edited, or one that is replaced as a whole.
 pub data Act : Type 0 where
   ToOut : List ℕ → Act
   ToErr : List ℕ → Act
   Answer : List ℕ → Act
   Change : List ℕ → QuotaValue → Act
+  Replace : List ℕ → QuotaValue → Act
 
 -- the bytes that go to the output, joined
 abbrev pub out_bytes : List Act → List ℕ
@@ -35,14 +38,20 @@ answers (_ ∷ acts) = answers acts
 abbrev pub ChangesNone : List Act → Type 0
 ChangesNone [] = ⊤
 ChangesNone (Change name value ∷ acts) = ⊥
+ChangesNone (Replace name value ∷ acts) = ⊥
 ChangesNone (_ ∷ acts) = ChangesNone acts
 
--- Files follow one act. After a change the named file is seen as the new value, and all other files are the same but
--- for the one with `.new` added to the name. The other acts leave all files.
-abbrev pub FollowsAct : Act → World → World → Type 0
-FollowsAct (Change name value) old new =
+-- The named file is seen as the value, and all other files are the same but for the one with `.new` added to the name.
+abbrev pub StandsFor : List ℕ → QuotaValue → World → World → Type 0
+StandsFor name value old new =
     IsView (new name) value.kind (Some value.format) (Ok value)
     × ReplacesOnly name old new
+
+-- Files follow one act. After an edit and after a replacement the named file stands for the new value. The other acts leave
+-- all files.
+abbrev pub FollowsAct : Act → World → World → Type 0
+FollowsAct (Change name value) old new = StandsFor name value old new
+FollowsAct (Replace name value) old new = StandsFor name value old new
 FollowsAct _ old new = new ≡ old
 
 -- files follow acts, one after another
@@ -50,9 +59,14 @@ abbrev pub Follows : List Act → World → World → Type 0
 Follows [] old new = new ≡ old
 Follows (act ∷ acts) old new = (middle : World) × FollowsAct act old middle × Follows acts middle new
 
--- Files after acts of which at most the first was begun. A change leaves the named file as it was, since each file is
--- written anew so far, and all other files but the one with `.new` added to the name.
+-- What an edit that failed may leave of an opened file of this format: what was there, or what a change of it may leave.
+abbrev pub MayBeLeft : Format → (old left : Option (List ℕ)) → Type 0
+MayBeLeft format old left = (left ≡ old) ⊎ ((after : Option (List ℕ)) × AnyLeaves format old after left)
+
+-- Files after acts of which at most the first was begun. A replacement leaves the named file as it was, and an edit leaves
+-- what an edit that failed may leave; both leave all other files but the one with `.new` added to the name.
 abbrev pub FollowsInPart : List Act → World → World → Type 0
 FollowsInPart [] old new = new ≡ old
-FollowsInPart (Change name value ∷ _) old new = (new name ≡ old name) × ReplacesOnly name old new
+FollowsInPart (Change name value ∷ _) old new = MayBeLeft value.format (old name) (new name) × ReplacesOnly name old new
+FollowsInPart (Replace name value ∷ _) old new = (new name ≡ old name) × ReplacesOnly name old new
 FollowsInPart (_ ∷ _) old new = new ≡ old

@@ -13,12 +13,15 @@ use Rattle.refusals.specs.Refusals.{refusal_of}
 abbrev pub blocks_of : QuotaValue → ℕ
 blocks_of value = blocks_needed value.format (ids_in value.records)
 
--- a file of this name stands for the value from then on, where it has room for it and something is to be done
+-- this act makes a file of this name stand for the value, where the file has room for it
+abbrev pub if_room : List ℕ → QuotaValue → (too_large : Bool) → Act → Outcome (List Act)
+if_room name new too_large act =
+    if too_large then Refused (refusal_of (Full (blocks_of new) most_blocks) name)
+    else Passed (act ∷ [])
+
+-- a file of this name is edited and stands for the value from then on, where it has room for it and something is to be done
 abbrev pub written : List ℕ → QuotaValue → (idle too_large : Bool) → Outcome (List Act)
-written name new idle too_large =
-    if idle then Passed []
-    else if too_large then Refused (refusal_of (Full (blocks_of new) most_blocks) name)
-    else Passed (Change name new ∷ [])
+written name new idle too_large = if idle then Passed [] else if_room name new too_large (Change name new)
 
 -- a change of a file changes the store, and where it is refused it has written nothing, unless something outside failed
 abbrev pub edit_uses : (warns : Bool) → Uses

@@ -77,8 +77,8 @@ pub record AreDone (tells : RunTells) (acts : List Act) (old new : RunSeen) : Ty
   pub answered : new.link.answers ≡ old.link.answers ++ answers acts
   pub writes : ChangesNone acts → new.store.writes ≡ old.store.writes
 
--- Acts were done up to one that may have been done in part: bytes by a prefix of them, a change as a fault of the store
--- may leave it, and an answer not at all.
+-- Acts were done up to one that may have been done in part: bytes by a prefix of them, an edit as one that failed may leave
+-- the file, and a replacement and an answer not at all.
 pub record AreDoneInPart (tells : RunTells) (acts : List Act) (old new : RunSeen) : Type 0 where
   pub done : List Act
   pub rest : List Act

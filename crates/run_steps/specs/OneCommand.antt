@@ -4,21 +4,26 @@ use Rattle.std.specs.Prelude.{◌≡◌, ◌⊎◌, ℕ, suc, ◌+◌, Bool, tru
 use Rattle.quota_blocks.specs.QuotaValue.{QuotaValue}
 use Rattle.quota_blocks.specs.Seen.{Datagram}
 use Rattle.quota_blocks.specs.World.{World}
-use Rattle.run_steps.specs.Act.{Act, Change}
+use Rattle.run_steps.specs.Act.{Act, Change, Replace}
 use Rattle.run_steps.specs.Steps.{Steps, Ending, Doing, Looking, Opening, Reading, Receiving, Before, InLine}
 
 -- an act leaves the files
 abbrev pub leaves_files : Act → Bool
 leaves_files (Change name value) = false
+leaves_files (Replace name value) = false
 leaves_files _ = true
 
--- No file is looked at once one was changed, and the standard input is taken once at most: whether a file may still be looked at,
--- and the input be taken. Such steps have the same acts whatever bytes are chosen for a changed file, and commands after one
--- another are none.
+-- what comes of a look at the files is the same whatever files are seen
+abbrev pub RestsOnNone : (World → Steps) → Type 0
+RestsOnNone next = (one other : World) → next one ≡ next other
+
+-- No file is looked at once one was changed, but by looks of which the same comes whatever they see, and the standard input is taken
+-- once at most: whether a file may still be looked at, and the input be taken. Such steps have the same acts whatever bytes are
+-- chosen for a changed file, and commands after one another are none.
 abbrev pub LooksFirst : (looks takes : Bool) → Steps → Type 0
 LooksFirst looks takes (Ending stated) = ⊤
 LooksFirst looks takes (Doing act next) = LooksFirst (looks && leaves_files act) takes next
-LooksFirst looks takes (Looking next) = IsTrue looks × ((files : World) → LooksFirst looks takes (next files))
+LooksFirst looks takes (Looking next) = (IsTrue looks ⊎ RestsOnNone next) × ((files : World) → LooksFirst looks takes (next files))
 LooksFirst looks takes (Opening kind asked name next) = IsTrue looks × ((value : QuotaValue) → LooksFirst looks takes (next value))
 LooksFirst looks takes (Reading whole next) = IsTrue takes × ((bytes : List ℕ) → LooksFirst looks false (next bytes))
 LooksFirst looks takes (Receiving next) = (datagram : Datagram) → LooksFirst looks takes (next datagram)

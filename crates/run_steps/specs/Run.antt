@@ -56,8 +56,8 @@ pub record HasSteps (steps : Steps) (tells : RunTells) (refusal : Option Refusal
   pub done : AreDone tells acts old new
 
 -- Steps were done in part: they have begun, and the act that is at hand, if there is one, may have been done in part: bytes by
--- a prefix of them, a change as a fault of the store may leave it, and an answer not at all. Nothing else was done. What is left
--- of the input is not said.
+-- a prefix of them, an edit as one that failed may leave the file, and a replacement and an answer not at all. Nothing else was
+-- done. What is left of the input is not said.
 pub record IsDoneInPart (steps : Steps) (tells : RunTells) (old new : RunSeen) : Type 0 where
   pub done : List Act
   pub hand : List Act

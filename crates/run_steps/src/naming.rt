@@ -1,6 +1,5 @@
-ghost use Rattle.std.specs.Prelude.{◌≡◌, [], IfErr, IfOk, IsTrue, None, OnOk, unwrap_or};
+ghost use Rattle.std.specs.Prelude.{◌≡◌, [], IfErr, IfOk, IsTrue, None, unwrap_or, is_ok};
 ghost use Rattle.quota_blocks.specs.Frame.{OnlyReads};
-ghost use Rattle.quota_blocks.specs.Unsynced.{AddsNone};
 ghost use Rattle.run_steps.specs.Naming.{FileOfNamesMayRefuse, IsNamesFault, MayBeNames, NamesMayRefuse, load_cause, names_cause, names_of_file, names_seen};
 ghost use Rattle.refusals.specs.Outcome.{Passed};
 ghost use Rattle.refusals.specs.Refusals.{nowhere};
@@ -32,8 +31,7 @@ pub fn read_names<S: Store>(
         (names_seen kind names (S.seen store.old).files) refusal refusal.cause) }
     ensures may { IfErr result (λ refusal. NamesMayRefuse names refusal.cause refusal.name) }
     ensures placed { IfErr result (λ refusal. refusal.place ≡ nowhere) }
-    ensures leaves { OnlyReads (unwrap_or names []) (S.seen store.old) (S.seen store.new) }
-    ensures synced { OnOk result (AddsNone (S.seen store.old).unsynced (S.seen store.new).unsynced) }
+    ensures leaves { OnlyReads (is_ok result) (unwrap_or names []) (S.seen store.old) (S.seen store.new) }
     ensures untouched { names ≡ None → store.new ≡ store.old }
 {
     match names {
@@ -54,8 +52,7 @@ fn read_names_file<S: Store>(
         (names_of_file kind name ((S.seen store.old).files name)) refusal refusal.cause) }
     ensures may { IfErr result (λ refusal. FileOfNamesMayRefuse name refusal.cause refusal.name) }
     ensures placed { IfErr result (λ refusal. refusal.place ≡ nowhere) }
-    ensures leaves { OnlyReads name (S.seen store.old) (S.seen store.new) }
-    ensures synced { OnOk result (AddsNone (S.seen store.old).unsynced (S.seen store.new).unsynced) }
+    ensures leaves { OnlyReads (is_ok result) name (S.seen store.old) (S.seen store.new) }
 {
     match load(alloc, store, name.as_str(), MOST_NAMES) {
         Ok(bytes) => match Names::read(alloc, &bytes, kind) {

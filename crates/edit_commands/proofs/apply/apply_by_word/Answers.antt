@@ -1,4 +1,6 @@
 use Rattle.std.proofs.Common.{inl, inr, ◌∙◌}
+use Rattle.std.proofs.lemmas.Result.{on_ok_weaker}
+use Rattle.quota_blocks.proofs.FrameLemmas.{are_synced-read, are_synced-then}
 use Rattle.run_steps.proofs.PhaseLemmas.{carries_naming, naming_refused}
 use Rattle.edit_commands.proofs.WordLemmas.{faulty_word_given, faulty_word_none}
 use Rattle.edit_commands.proofs.apply.apply_by_word.Goals as goal
@@ -18,6 +20,10 @@ pub returns-in-Ok-clause-store : goal.returns-in-Ok-clause-store
 returns-in-Ok-clause-store g c = λ refusal faulty.
     c.apply_named.ensures.store refusal (faulty_word_given c.args.word c.args.common.names c.in-Ok.names refusal c.in-Ok.ensures.given faulty)
     ∙ c.in-Ok.ensures.untouched (faulty_word_none c.args.word c.args.common.names refusal faulty)
+
+pub returns-in-Ok-clause-synced : goal.returns-in-Ok-clause-synced
+returns-in-Ok-clause-synced g c =
+    on_ok_weaker c.apply_named.result (λ synced told. are_synced-then _ _ _ (are_synced-read _ _ _ c.in-Ok.ensures.leaves) (synced told)) c.apply_named.ensures.synced
 
 pub returns-in-Err-clause-carries : goal.returns-in-Err-clause-carries
 returns-in-Err-clause-carries g c = λ out link out_tells link_tells.

@@ -1,5 +1,7 @@
 use Rattle.std.proofs.Common.{false, true, inl, inr, ap}
 use Rattle.std.proofs.lemmas.Bool.{false≢true}
+use Rattle.std.proofs.lemmas.Result.{on_ok_weaker}
+use Rattle.quota_blocks.proofs.FrameLemmas.{are_synced-read, are_synced-then}
 use Rattle.run_steps.specs.Changing.{edit_uses}
 use Rattle.run_steps.specs.Taking.{AForm}
 use Rattle.run_steps.proofs.PhaseLemmas.{placed_nowhere}
@@ -15,6 +17,10 @@ returns-in-Ok-clause-carries g c = λ out link out_tells link_tells.
     (λ told. has_taken c.args.from true _ _ (took.behind told.input) (λ all none. took.ended none told.input) (λ some. ap (λ i. (I.seen i).left) (took.untouched some)))
     (λ cause said may. inr (c.in-Ok.limits, may)) (c.edit_file.ensures.carries (I.seen c.take_form.new.input) out link I.tells out_tells
     link_tells)
+
+pub returns-in-Ok-clause-synced : goal.returns-in-Ok-clause-synced
+returns-in-Ok-clause-synced g c =
+    on_ok_weaker c.edit_file.result (λ synced told. are_synced-then _ _ _ (are_synced-read _ _ _ c.in-Ok.ensures.leaves) (synced told)) c.edit_file.ensures.synced
 
 pub returns-in-Err-clause-carries : goal.returns-in-Err-clause-carries
 returns-in-Err-clause-carries g c = λ out link out_tells link_tells.

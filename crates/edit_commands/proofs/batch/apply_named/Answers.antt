@@ -1,4 +1,6 @@
 use Rattle.std.proofs.Common.{inl, inr, sym}
+use Rattle.std.proofs.lemmas.Result.{on_ok_weaker}
+use Rattle.quota_blocks.proofs.FrameLemmas.{are_synced-read, are_synced-then}
 use Rattle.run_steps.proofs.OpeningLemmas.{not_opened}
 use Rattle.run_steps.proofs.PhaseLemmas.{carries_opening}
 use Rattle.edit_commands.proofs.batch.apply_named.Goals as goal
@@ -11,6 +13,10 @@ returns-in-Ok-clause-carries g c = λ out err link out_tells err_tells link_tell
     (λ told. rw file at (opened.seen told)) (λ cause said may. may)
     (λ value view. c.apply_opened.ensures.carries c.args.format opened.as_asked value (λ told. opened.held told value (rw (sym file) at (view told)))
     out err link out_tells err_tells link_tells)
+
+pub returns-in-Ok-clause-synced : goal.returns-in-Ok-clause-synced
+returns-in-Ok-clause-synced g c =
+    on_ok_weaker c.apply_opened.result (λ synced told. are_synced-then _ _ _ (are_synced-read _ _ _ c.in-Ok.ensures.leaves) (synced told)) c.apply_opened.ensures.synced
 
 pub returns-in-Err-clause-carries : goal.returns-in-Err-clause-carries
 returns-in-Err-clause-carries g c = λ out err link out_tells err_tells link_tells.

@@ -2,6 +2,7 @@ use Rattle.std.proofs.Common.{false, Option, inl, inr, sym, ap, subst}
 use Rattle.std.specs.Prelude.{IfSome}
 use Rattle.std.proofs.lemmas.Bool.{false≢true}
 use Rattle.quota_blocks.specs.World.{World}
+use Rattle.quota_blocks.proofs.FrameLemmas.{are_synced-then}
 use Rattle.quota_map.specs.AnyFile.{HoldsAny}
 use Rattle.refusals.specs.declared.reason.Refusal.{Refusal}
 use Rattle.run_steps.specs.Taking.{Lines, input_name}
@@ -40,6 +41,13 @@ returns-in-Ok-edit_all-clause-carries g c = λ format as_asked value held out er
     (rw c.as_slice.ensures.value at (c.in-Ok-edit_all.ensures.carries format as_asked value
     (λ told. subst (λ (files : World). HoldsAny g.S.Store.tells files c.args.opened value) (sym took.leaves.files) (held told))
     (g.I.Source.seen c.take_batch.new.input) out err link g.I.Source.tells out_tells err_tells link_tells)))
+
+pub returns-in-Ok-edit_all-clause-synced : goal.returns-in-Ok-edit_all-clause-synced
+returns-in-Ok-edit_all-clause-synced g c = λ told.
+    let took = c.in-Ok.ensures in
+    are_synced-then _ _ _
+    (record { none = took.synced c.in-None.is; changed = λ name. inr (ap (λ (files : World). files name) took.leaves.files) })
+    (c.in-Ok-edit_all.ensures.synced told)
 
 pub returns-in-Ok-clause-carries : goal.returns-in-Ok-clause-carries
 returns-in-Ok-clause-carries g c = λ format as_asked value held out err link out_tells err_tells link_tells.

@@ -1,8 +1,8 @@
-use Rattle.std.proofs.Common.{◌≡◌, ◌+◌, IsTrue, List, [], drop, refl, ap, subst, ◌∙◌, arith}
+use Rattle.std.proofs.Common.{◌≡◌, ◌+◌, IsTrue, List, [], drop, refl, ap, subst, ◌∙◌, arith, true}
 use Rattle.std.proofs.lemmas.List.{drop_all, drop_more}
 use Rattle.quota_blocks.specs.Frame.{ReplacesOne}
 use Rattle.quota_blocks.specs.QuotaFile.{FileSeen}
-use Rattle.quota_blocks.proofs.FrameLemmas.{adds_none-then, only_reads-none, replaces_one-none, replaces_one-then}
+use Rattle.quota_blocks.proofs.FrameLemmas.{are_synced, are_synced-none, are_synced-then, only_reads-none, replaces_one-none, replaces_one-then}
 use Rattle.quota_map.specs.AnyFile.{HoldsAny, any_seen}
 use Rattle.quota_map.specs.View.{fresh_seen}
 use Rattle.edit_commands.specs.declared.batch_line.LineEdit.{LineEdit}
@@ -14,10 +14,10 @@ use Rattle.edit_commands.proofs.batch.edit_all.Goals as goal
 
 pub loop-line-init : goal.loop-line-init
 loop-line-init g c = record {
-  made = λ told start held. made_none c.args.file c.args.now c.args.lines.now start [] (g.S.Store.seen c.args.store.now) (g.S.Store.seen c.args.store.now) _ (only_reads-none _ _) held;
+  made = λ told start held. made_none c.args.file c.args.now c.args.lines.now start [] (g.S.Store.seen c.args.store.now) (g.S.Store.seen c.args.store.now) _ (only_reads-none {done = true} _ _) held;
   same = refl;
   leaves = replaces_one-none _ _;
-  synced = λ told name is. is;
+  synced = λ told. are_synced-none _;
 }
 
 pub loop-line-preserved : goal.loop-line-preserved
@@ -25,14 +25,14 @@ loop-line-preserved g c =
     let S = g.S.Store in
     let kept = c.loop-line.invariant in
     let edits = c.set_limits.ensures.edits in
-    let done = c.in-Ok.ensures.edits.done in
+    let done = c.in-Ok.ensures.edits.value.done in
     let file = c.args.file in
     let before = S.seen c.loop-line.store in
     let after = S.seen c.set_limits.new.store in
     let format = (any_seen c.args.opened.now).format in
     let was : any_seen c.loop-line.opened ≡ fresh_seen file format = kept.same ∙ c.requires in
     let named : (any_seen c.loop-line.opened).name ≡ file = ap (λ (s : FileSeen). s.name) was in
-    let leaves : ReplacesOne file before after = rw named at edits.leaves in
+    let leaves : ReplacesOne file before after = rw named at edits.value.leaves in
     record {
       made = λ told start held.
           let are = subst (λ (l : List LineEdit). AreMade file c.args.now c.args.lines.now l start (S.seen c.args.store.now) before (HoldsAny S.tells before.files c.loop-line.opened))
@@ -42,7 +42,7 @@ loop-line-preserved g c =
           (done.set are.value are.held);
       same = done.same ∙ kept.same;
       leaves = replaces_one-then _ _ _ _ kept.leaves leaves;
-      synced = λ told. adds_none-then _ _ _ (kept.synced told) (done.synced told).none;
+      synced = λ told. are_synced-then _ _ _ (kept.synced told) (are_synced _ _ _ (done.synced told));
     }
 
 pub returns-clause-carries : goal.returns-clause-carries
@@ -67,7 +67,7 @@ returns-in-Err-clause-carries g c = λ asked as_asked value held input out err l
     let format = (any_seen c.args.opened.now).format in
     let was : any_seen c.loop-line.opened ≡ fresh_seen file format = kept.same ∙ c.requires in
     let named : (any_seen c.loop-line.opened).name ≡ file = ap (λ (s : FileSeen). s.name) was in
-    let leaves : ReplacesOne file before after = rw named at edits.leaves in
+    let leaves : ReplacesOne file before after = rw named at edits.value.leaves in
     let tells = tells_of S.tells input_tells out_tells err_tells link_tells in
     let keeps = keeps_format (Limits _ _) c.args.now in
     rw (c.at_line.ensures, c.of.ensures, c.edit_cause.ensures)
@@ -76,6 +76,6 @@ returns-in-Err-clause-carries g c = λ asked as_asked value held input out err l
     (λ told. subst (λ (l : List LineEdit). AreMade file c.args.now c.args.lines.now l value (S.seen c.args.store.now) before (HoldsAny S.tells before.files c.loop-line.opened))
     (drop_more c.args.lines.now c.loop-line.line-index _ c.loop-line-test.true) (kept.made told value (held told)))
     (λ v holds. any_refused file _ S.tells c.loop-line.opened c.set_limits.new.file before after format v fault keeps was (λ is. holds) refused)
-    (any_cause S.tells _ c.loop-line.opened c.set_limits.new.file before after file format fault keeps was refused.cause)
+    (any_cause S.tells _ c.loop-line.opened c.set_limits.new.file before after file format fault keeps was refused)
     kept.leaves leaves
-    (line_may_fail asked file _ _ c.args.now S.tells c.loop-line.opened c.set_limits.new.file before after format fault was as_asked refused.cause))
+    (line_may_fail asked file _ _ c.args.now S.tells c.loop-line.opened c.set_limits.new.file before after format fault was as_asked refused))

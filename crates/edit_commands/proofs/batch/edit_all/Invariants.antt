@@ -1,7 +1,6 @@
 use Rattle.std.proofs.Common.{◌≡◌, IsTrue, drop}
-use Rattle.quota_blocks.specs.Frame.{ReplacesOne}
+use Rattle.quota_blocks.specs.Frame.{AreSynced, ReplacesOne}
 use Rattle.quota_blocks.specs.QuotaValue.{QuotaValue}
-use Rattle.quota_blocks.specs.Unsynced.{AddsNone}
 use Rattle.quota_map.specs.AnyFile.{HoldsAny, any_seen}
 use Rattle.edit_commands.proofs.BatchLemmas.{AreMade}
 use Rattle.edit_commands.proofs.batch.edit_all.Given as goal
@@ -14,5 +13,5 @@ invariant-loop-line g l =
           → AreMade l.file l.now l.lines (drop l.line-index l.lines) start (S.seen l.fn.store) (S.seen l.store) (HoldsAny S.tells (S.seen l.store).files l.opened);
       same : any_seen l.opened ≡ any_seen l.fn.opened;
       leaves : ReplacesOne l.file (S.seen l.fn.store) (S.seen l.store);
-      synced : IsTrue S.tells → AddsNone (S.seen l.fn.store).unsynced (S.seen l.store).unsynced;
+      synced : IsTrue S.tells → AreSynced (S.seen l.fn.store) (S.seen l.store);
     }

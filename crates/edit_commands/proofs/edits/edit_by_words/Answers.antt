@@ -1,6 +1,7 @@
 use Rattle.std.proofs.Common.{inl, inr, ap, ◌∙◌}
-use Rattle.std.proofs.lemmas.Result.{on_err_weaker}
+use Rattle.std.proofs.lemmas.Result.{on_err_weaker, on_ok_weaker}
 use Rattle.quota_blocks.specs.World.{World}
+use Rattle.quota_blocks.proofs.FrameLemmas.{are_synced-read, are_synced-then}
 use Rattle.edit_commands.specs.EditWords.{names_wanted}
 use Rattle.run_steps.proofs.PhaseLemmas.{carries_naming, naming_refused}
 use Rattle.edit_commands.proofs.WordLemmas.{faulty_given, faulty_none}
@@ -32,6 +33,10 @@ returns-in-Ok-clause-silent g c = λ refusal faulty.
 pub returns-in-Ok-clause-named : goal.returns-in-Ok-clause-named
 returns-in-Ok-clause-named g c = λ no.
     on_err_weaker c.edit_named.result (λ same told. same told ∙ ap (λ (w : World). w c.args.file) c.in-Ok.ensures.leaves.files) (c.edit_named.ensures.named no)
+
+pub returns-in-Ok-clause-synced : goal.returns-in-Ok-clause-synced
+returns-in-Ok-clause-synced g c =
+    on_ok_weaker c.edit_named.result (λ synced told. are_synced-then _ _ _ (are_synced-read _ _ _ c.in-Ok.ensures.leaves) (synced told)) c.edit_named.ensures.synced
 
 pub returns-in-Err-clause-carries : goal.returns-in-Err-clause-carries
 returns-in-Err-clause-carries g c = λ input out link input_tells out_tells link_tells.

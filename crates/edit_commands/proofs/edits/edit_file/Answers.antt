@@ -2,14 +2,15 @@ use Rattle.std.proofs.Common.{◌≡◌, ℕ, IsTrue, List, inl, inr, refl, sym,
 use Rattle.std.proofs.lemmas.Bool.{false≢true}
 use Rattle.quota_blocks.specs.QuotaFile.{FileSeen}
 use Rattle.quota_blocks.specs.World.{World}
-use Rattle.quota_blocks.proofs.FrameLemmas.{adds_none-then}
+use Rattle.quota_blocks.proofs.FrameLemmas.{are_synced, are_synced-read, are_synced-then}
 use Rattle.quota_map.specs.AnyFile.{any_seen}
 use Rattle.quota_map.specs.View.{fresh_seen}
 use Rattle.edit_commands.specs.Edits.{edit_cause, warnings}
 use Rattle.edit_commands.specs.EditWords.{edit_meant, skipped_by}
-use Rattle.edit_commands.proofs.EditFileLemmas.{any_cause, any_made, any_refused, file_edit_may, keeps_format, skips_quiet, skips_warn}
+use Rattle.edit_commands.proofs.EditFileLemmas.{any_cause, any_made, any_refused, any_unchanged, edit_may, file_edit_may, keeps_format, skips_quiet, skips_warn}
 use Rattle.edit_commands.proofs.EditLemmas.{edit_made, edit_unsaid}
-use Rattle.edit_commands.proofs.RefusedEditLemmas.{edit_may, edit_unmade}
+use Rattle.edit_commands.proofs.RefusedEditLemmas.{edit_unmade}
+use Rattle.run_steps.proofs.LookingLemmas.{carries_looking}
 use Rattle.run_steps.proofs.OpeningLemmas.{not_opened}
 use Rattle.run_steps.proofs.PhaseLemmas.{carries_opening}
 use Rattle.edit_commands.proofs.edits.edit_file.Goals as goal
@@ -24,11 +25,11 @@ returns-in-Ok-write_warnings-clause-carries g c = λ input out link input_tells 
     carries_opening c.args.file c.args.kind c.args.format _ _ _ _ _ _ (g.S.Store.seen c.open_file.new.store) _ _
     (rw name at opened.leaves) (λ told. rw name at (opened.seen told)) (λ cause may allowed. allowed) (λ value view.
     let held = λ (told : IsTrue g.S.Store.tells). opened.held told value (rw (sym name) at (view told)) in
-    edit_made c.args.file (edit_meant c.args.edit.now c.args.invocation.now) value
+    carries_looking _ _ _ _ _ _ _ (edit_made c.args.file (edit_meant c.args.edit.now c.args.invocation.now) value
     (warnings c.args.invocation.line (skipped_by c.args.edit.now value)) _ _ _ _ _ _
     (any_made _ _ _ _ _ _ _ _ value c.in-Ok-make_edit.skipped (keeps_format c.args.edit.now c.args.invocation.now) was held made.edits)
     (λ told err_told. rw (made.skipped value (held told)) at (said.ok err_told))
-    (λ no. ap (λ e. g.E.Sink.seen e) (said.quiet (skips_quiet c.args.edit.now c.in-Ok-make_edit.skipped made.skips no))) said.later)
+    (λ no. ap (λ e. g.E.Sink.seen e) (said.quiet (skips_quiet c.args.edit.now c.in-Ok-make_edit.skipped made.skips no))) said.later))
 
 pub returns-in-Err-write_warnings-clause-carries : goal.returns-in-Err-write_warnings-clause-carries
 returns-in-Err-write_warnings-clause-carries g c = λ input out link input_tells out_tells link_tells.
@@ -42,10 +43,10 @@ returns-in-Err-write_warnings-clause-carries g c = λ input out link input_tells
     (carries_opening c.args.file c.args.kind c.args.format _ _ _ _ _ _ (g.S.Store.seen c.open_file.new.store) _ _
     (rw name at opened.leaves) (λ told. rw name at (opened.seen told)) (λ cause may allowed. allowed) (λ value view.
     let held = λ (told : IsTrue g.S.Store.tells). opened.held told value (rw (sym name) at (view told)) in
-    edit_unsaid c.args.file (edit_meant c.args.edit.now c.args.invocation.now) value
+    carries_looking _ _ _ _ _ _ _ (edit_unsaid c.args.file (edit_meant c.args.edit.now c.args.invocation.now) value
     (warnings c.args.invocation.line (skipped_by c.args.edit.now value)) _ _ _ _ _ _
     (any_made _ _ _ _ _ _ _ _ value c.in-Ok-make_edit.skipped (keeps_format c.args.edit.now c.args.invocation.now) was held made.edits)
-    (λ told err_told. rw (made.skipped value (held told)) at (said.fault err_told)) warns said.cause said.later (inr (inr (warns, refl)))))
+    (λ told err_told. rw (made.skipped value (held told)) at (said.fault err_told)) warns said.cause said.later (inr (inr (warns, refl))))))
 
 pub returns-in-Err-make_edit-clause-carries : goal.returns-in-Err-make_edit-clause-carries
 returns-in-Err-make_edit-clause-carries g c = λ input out link input_tells out_tells link_tells.
@@ -53,19 +54,17 @@ returns-in-Err-make_edit-clause-carries g c = λ input out link input_tells out_
     let name = c.as_str.ensures in
     let was = opened.fresh ∙ ap (λ (n : List ℕ). fresh_seen n (any_seen c.in-Ok.opened).format) name in
     let made = c.in-Err-make_edit.ensures in
-    let cause = made.edits.cause in
     let keeps = keeps_format c.args.edit.now c.args.invocation.now in
     rw (c.of-in-Err-make_edit.ensures, c.edit_cause.ensures)
     (carries_opening c.args.file c.args.kind c.args.format _ _ _ _ _ _ (g.S.Store.seen c.open_file.new.store) _ _
     (rw name at opened.leaves) (λ told. rw name at (opened.seen told)) (λ cause may allowed. allowed) (λ value view.
     let held = λ (told : IsTrue g.S.Store.tells). opened.held told value (rw (sym name) at (view told)) in
-    edit_unmade c.args.file (edit_meant c.args.edit.now c.args.invocation.now) value
+    carries_looking _ _ _ _ _ _ _ (edit_unmade c.args.file (edit_meant c.args.edit.now c.args.invocation.now) value
     (warnings c.args.invocation.line (skipped_by c.args.edit.now value)) _ _ _ _ _ _ c.in-Err-make_edit.fault held
     (any_refused c.args.file _ _ _ _ _ _ _ value c.in-Err-make_edit.fault keeps was held made.edits)
-    (any_cause _ _ _ _ _ _ c.args.file _ c.in-Err-make_edit.fault keeps was cause)
+    (any_cause _ _ _ _ _ _ c.args.file _ c.in-Err-make_edit.fault keeps was made.edits)
     (file_edit_may c.args.format c.args.edit.now c.args.file c.args.invocation.now (edit_cause c.in-Err-make_edit.fault) c.args.file
-    (edit_may c.args.format c.args.file (edit_meant c.args.edit.now c.args.invocation.now) (any_seen c.in-Ok.opened).format _ _ _ _
-    c.in-Err-make_edit.fault opened.as_asked cause.may cause.passes cause.id cause.field cause.refused))))
+    (edit_may c.args.format c.args.file _ _ _ _ _ _ (any_seen c.in-Ok.opened).format c.in-Err-make_edit.fault was opened.as_asked made.edits)))))
 
 pub returns-in-Err-clause-carries : goal.returns-in-Err-clause-carries
 returns-in-Err-clause-carries g c = λ input out link input_tells out_tells link_tells.
@@ -82,10 +81,11 @@ returns-in-Err-make_edit-clause-named g c = λ no told.
     let opened = c.in-Ok.ensures in
     let file = c.as_str.ensures in
     let named : (any_seen c.in-Ok.opened).name ≡ c.args.file = ap (λ (s : FileSeen). s.name) opened.fresh ∙ file in
-    rw named at (c.in-Err-make_edit.ensures.edits.left.unchanged (λ before after left same. same) told) ∙ ap (λ (w : World). w c.args.file) opened.leaves.files
+    rw named at (any_unchanged _ _ _ _ _ _ c.in-Err-make_edit.fault c.in-Err-make_edit.ensures.edits told) ∙ ap (λ (w : World). w c.args.file) opened.leaves.files
 
 pub returns-in-Ok-write_warnings-clause-synced : goal.returns-in-Ok-write_warnings-clause-synced
-returns-in-Ok-write_warnings-clause-synced g c = λ told. adds_none-then _ _ _ c.in-Ok.ensures.synced (c.in-Ok-make_edit.ensures.edits.done.synced told).none
+returns-in-Ok-write_warnings-clause-synced g c = λ told.
+    are_synced-then _ _ _ (are_synced-read _ _ _ c.in-Ok.ensures.leaves) (are_synced _ _ _ (c.in-Ok-make_edit.ensures.edits.value.done.synced told))
 
 pub returns-in-Ok-write_warnings-clause-quiet : goal.returns-in-Ok-write_warnings-clause-quiet
 returns-in-Ok-write_warnings-clause-quiet g c = λ no.

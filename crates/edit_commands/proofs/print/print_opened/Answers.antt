@@ -1,7 +1,7 @@
 use Rattle.std.proofs.Common.{Ok, inl, inr, refl, sym, ap, ◌∙◌, arith, IsTrue}
 use Rattle.quota_blocks.specs.QuotaFile.{FileSeen}
 use Rattle.quota_blocks.specs.QuotaValue.{QuotaValue}
-use Rattle.quota_blocks.proofs.FrameLemmas.{only_reads-then}
+use Rattle.quota_blocks.proofs.FrameLemmas.{only_reads-any}
 use Rattle.quota_map.specs.AnyFile.{any_seen}
 use Rattle.quota_map.specs.View.{IsView}
 use Rattle.refusals.specs.declared.cause.Cause.TheVariants.{SinkFault}
@@ -27,7 +27,7 @@ returns-in-Ok-write_form-clause-carries g c = λ input err link input_tells err_
     shown_whole _ _ _ (form_on c.args.kind c.args.names.now c.args.file c.args.id) _ _ _ _ _
     (record {
       seen = λ told. rw file at (opened.seen told);
-      reads = only_reads-then c.args.file _ _ _ (rw file at opened.leaves)
+      reads = only_reads-any c.args.file _ _ _ (rw file at opened.leaves)
           (rw (ap (λ (s : FileSeen). s.name) opened.fresh ∙ file) at got.leaves);
       prefix = λ told out_told value view. appends_whole _ _ _ (written told out_told value view);
       later = wrote.later;
@@ -45,7 +45,7 @@ returns-in-Err-write_form-clause-carries g c = λ input err link input_tells err
     (shown_in_part c.args.kind c.args.format c.args.file (form_on c.args.kind c.args.names.now c.args.file c.args.id) _ old _ _ SinkFault
     (record {
       seen = λ told. rw file at (opened.seen told);
-      reads = only_reads-then c.args.file _ _ _ (rw file at opened.leaves)
+      reads = only_reads-any c.args.file _ _ _ (rw file at opened.leaves)
           (rw (ap (λ (s : FileSeen). s.name) opened.fresh ∙ file) at got.leaves);
       prefix = λ told out_told value view.
           rw (got.found value (opened.held told value (rw (sym file) at view))) at rw c.as_str-in-Ok-get.ensures at (wrote.fault out_told);
@@ -65,7 +65,7 @@ returns-in-Err-get-clause-carries g c = λ input err link input_tells err_tells 
     (file_cause c.in-Err-get.fault)
     (record {
       seen = λ told. rw file at (opened.seen told);
-      reads = only_reads-then c.args.file _ _ _ (rw file at opened.leaves)
+      reads = only_reads-any c.args.file _ _ _ (rw file at opened.leaves)
           (rw (ap (λ (s : FileSeen). s.name) opened.fresh ∙ file) at got.leaves);
       prefix = λ told out_told value view. appends_nothing _ _ _ refl;
       later = omega arith;
