@@ -1,12 +1,15 @@
 -- Commands whose words are refused, and what all commands share.
-use Rattle.std.proofs.Common.{◌≡◌, ◌≢◌, ◌∙◌, ℕ, Bool, true, false, IsTrue, List, [], ◌∷◌, Option, None, Some, Ok, Err, Result, inl, inr, refl, sym, subst, arith}
+use Rattle.std.proofs.Common.{◌≡◌, ◌≢◌, ◌∙◌, ℕ, Bool, true, false, IsTrue, List, [], ◌∷◌, Option, None, Some, Ok, Err, Result, inl, inr, refl, sym, ap, subst, arith}
 use Rattle.std.specs.Prelude.{IfErr, IfSome, IsErr, IsErrAnd, OnErr, OnOk, ◌↔◌}
 use Rattle.std.proofs.lemmas.Bool.{false≢true}
+use Rattle.std.proofs.lemmas.Result.{on_ok_weaker}
+use Rattle.quota_blocks.specs.Frame.{AreSynced}
 use Rattle.quota_blocks.specs.Unsynced.{AddsNone}
-use Rattle.run_steps.specs.Run.{CarriesOut}
+use Rattle.run_steps.specs.Run.{CarriesOut, Uses}
 use Rattle.quota_types.specs.declared.file_kind.Format.{Format}
 use Rattle.quota_types.specs.declared.file_kind.Kind.{Kind}
 use Rattle.quota_blocks.specs.QuotaValue.{QuotaValue}
+use Rattle.quota_blocks.specs.World.{World}
 use Rattle.refusals.specs.declared.cause.Cause.{Cause}
 use Rattle.refusals.specs.declared.cause.Cause.TheVariants.{Usage}
 use Rattle.refusals.specs.declared.cause.UsageKind.{UsageKind}
@@ -26,6 +29,7 @@ use Rattle.command_words.proofs.NameLemmas.{never_new}
 use Rattle.run_steps.specs.Done.{RunSeen, RunTells}
 use Rattle.run_steps.specs.Naming.{NamesMayRefuse}
 use Rattle.run_steps.specs.Showing.{ShowingMayRefuse}
+use Rattle.run_steps.specs.Steps.{Steps}
 use Rattle.run_steps.specs.declared.invocation.Invocation.{Invocation}
 use Rattle.run_steps.proofs.PhaseLemmas.{carries_more, nothing_carried, stop_carried}
 use Rattle.edit_commands.specs.Apply.{ApplyMayRefuse}
@@ -45,7 +49,7 @@ use Rattle.option_words.specs.declared.export.Export.{Export}
 use Rattle.serve_command.specs.Serve.{ExportingMayRefuse, ServeMayRefuse}
 use Rattle.serve_command.specs.Words.{CanServe}
 use Rattle.serve_command.proofs.WordLemmas.{asked_serves}
-use Rattle.command_table.specs.Description.{Description, IsCarriedOut}
+use Rattle.command_table.specs.Description.{Description, IsCarriedOut, IsLeftByEdit}
 use Rattle.command_table.specs.Table.{asked_by, described, not_here, refused, unknown_command}
 
 -- No command that was read is refused for its words.
@@ -151,6 +155,7 @@ read_carried table command asked invocation tells old new result is carried =
     subst (λ (a : Result Command Refusal). IsCarriedOut (asked_by table a) invocation tells old new result) (sym is) (record {
       carries = carries_more _ _ _ _ tells old new result (λ cause said may. inr may) carried.carries;
       named = carried.named;
+      edited = carried.edited;
       synced = carried.synced;
       unfinished = carried.unfinished;
       untaken = carried.untaken;
@@ -179,6 +184,7 @@ not_read table (Ok command) invocation tells old (UsageOf kind word) is = absurd
 not_read table (Ok command) invocation tells old NoMemory is = record {
   carries = nothing_carried ((table command).steps invocation) _ _ tells old (usage_refusal NoMemory) tt (inl refl) (record { line = λ no. refl; input_line = λ no. refl });
   named = holds_of_one (table command).replaces _ (λ file told. refl);
+  edited = holds_of_one (table command).edits _ (λ file told other. inl refl);
   synced = tt;
   unfinished = λ link. absurd (cc);
   untaken = λ one five. refl;
@@ -190,6 +196,7 @@ not_read table (Err refusal) invocation tells old (UsageOf kind word) is =
     subst (λ (r : Refusal). IsCarriedOut (refused r) invocation tells old old (Err (usage_refusal (UsageOf kind word)))) (sym same) (record {
       carries = stop_carried _ (refused (usage_refusal (UsageOf kind word))).may tells old (usage_refusal (UsageOf kind word)) (λ stated fact. fact) refl (record { line = λ no. refl; input_line = λ no. refl });
       named = tt;
+      edited = tt;
       synced = tt;
       unfinished = λ link. tt;
       untaken = λ one five. refl;
@@ -203,6 +210,7 @@ pub not_here_carried : (invocation : Invocation) (tells : RunTells) (old : RunSe
 not_here_carried invocation tells old = record {
   carries = stop_carried not_here.uses not_here.may tells old unknown_command (λ stated fact. fact) refl (record { line = λ no. refl; input_line = λ no. refl });
   named = tt;
+  edited = tt;
   synced = tt;
   unfinished = λ link. tt;
   untaken = λ one five. refl;
@@ -243,21 +251,35 @@ pub of_refusal : (result : Result (Unit {0}) Refusal) (holds : Refusal → Type 
 of_refusal (Ok value) holds all = tt
 of_refusal (Err refusal) holds all = all refusal
 
+-- a command that changes no file has only read, and what it read is as synced as it was
+pub read_synced : (steps : Steps) (uses : Uses) (may : Cause → List ℕ → Type 0) (tells : RunTells) (old new : RunSeen) (result : Result (Unit {0}) Refusal) → uses.changes ≡ false
+    → CarriesOut steps uses may tells old new result → OnOk result (AddsNone old.store.unsynced new.store.unsynced) → OnOk result (IsTrue tells.store → AreSynced old.store new.store)
+read_synced steps uses may tells old new result reads carries none =
+    on_ok_weaker result (λ added told. record { none = added; changed = λ name. inr (ap (λ (files : World). files name) (carries.only_reads reads).files) }) none
+
 -- a command that uses no link and reads no commands was carried out
 pub carried_alone : (d : Description) (invocation : Invocation) (tells : RunTells) (old new : RunSeen) (result : Result (Unit {0}) Refusal)
     → d.unfinished invocation tells old new → d.uses.reads_commands ≡ false → new.link ≡ old.link → CarriesOut (d.steps invocation) d.uses
     d.may tells old new result
     → IfSome d.replaces (λ (file : List ℕ). OnErr result (IsTrue tells.store → new.store.files file ≡ old.store.files file))
-    → OnOk result (IsTrue tells.store → AddsNone old.store.unsynced new.store.unsynced) → IsCarriedOut d invocation tells old new result
-carried_alone d invocation tells old new result finished one same carries named synced = record {
+    → IfSome d.edits (λ (file : List ℕ). IfErr result (λ (refusal : Refusal). IsTrue tells.store
+    → IsLeftByEdit (status_of refusal.cause) old.store.files new.store.files file))
+    → OnOk result (IsTrue tells.store → AreSynced old.store new.store) → IsCarriedOut d invocation tells old new result
+carried_alone d invocation tells old new result finished one same carries named edited synced = record {
   carries = carries;
   named = named;
+  edited = edited;
   synced = synced;
   unfinished = of_refusal result _ (λ refusal failed. finished);
   untaken = λ _. of_refusal result _ (λ refusal five. same);
   unlinked = λ told no. same;
   unbegun = λ reads. absurd (false≢true (sym one ∙ reads));
 }
+
+-- what follows from a fact of every refusal holds of the one that was answered
+pub of_every_refusal : (result : Result (Unit {0}) Refusal) {fact : Type 0} {holds : Refusal → Type 0} → ((refusal : Refusal) → fact → holds refusal) → OnErr result fact → IfErr result holds
+of_every_refusal (Ok value) so is = tt
+of_every_refusal (Err refusal) so is = so refusal is
 
 -- what follows from a fact of a refusal holds of the one that was answered
 pub of_refusal_weaker : (result : Result (Unit {0}) Refusal) (one other : Refusal → Type 0) → ((refusal : Refusal) → one refusal → other refusal) → IfErr result one → IfErr result other

@@ -38,12 +38,12 @@ CanPrint common word file old =
     (names : List NameLine) × (id : ℕ) × (value : QuotaValue) × (names_seen common.kind common.names old.files ≡ Passed names)
     × (identifier_of names word ≡ Passed id) × IsView (old.files file) common.kind common.format (Ok value)
 
--- an edit: the words are known and well formed, the file is accepted, and the edit fits
+-- an edit: the words are known and well formed, the file is accepted, and the edit fits in it
 abbrev pub CanEdit : Common → EditWords → List ℕ → Invocation → Outside → Type 0
 CanEdit common words file invocation old =
     (names : List NameLine) × (edit : FileEdit) × (value : QuotaValue) × (new : QuotaValue)
     × (names_seen common.kind (names_wanted words common.names) old.files ≡ Passed names) × (edit_read names words ≡ Passed edit)
-    × IsView (old.files file) common.kind common.format (Ok value) × Fits (edit_meant edit invocation.now) value new
+    × IsView (old.files file) common.kind common.format (Ok value) × Fits (edit_meant edit invocation.now) (old.files file) value new
 
 -- a form that is applied: the word is known, the form is that of the identifier, the file is accepted, and its limits fit
 abbrev pub CanApply : Common → Option (List ℕ) → (word file : List ℕ) → Invocation → Outside → Type 0
@@ -51,7 +51,7 @@ CanApply common from word file invocation old =
     (names : List NameLine) × (id : ℕ) × (limits : FourLimits) × (value : QuotaValue) × (new : QuotaValue)
     × (names_seen common.kind common.names old.files ≡ Passed names) × (identifier_of names word ≡ Passed id)
     × (input_said from (form_step common.kind names file id from) old.files old.input ≡ Passed limits)
-    × IsView (old.files file) common.kind common.format (Ok value) × Fits (limits_edit id limits invocation.now) value new
+    × IsView (old.files file) common.kind common.format (Ok value) × Fits (limits_edit id limits invocation.now) (old.files file) value new
 
 -- edits of lines: the file is accepted, the lines are of the stated form and of names that are known, and the edits fit
 abbrev pub CanEditLines : Common → Option (List ℕ) → List ℕ → Invocation → Outside → Type 0
@@ -59,7 +59,7 @@ CanEditLines common from file invocation old =
     (names : List NameLine) × (value : QuotaValue) × (asked : Asked)
     × (names_seen common.kind common.names old.files ≡ Passed names) × IsView (old.files file) common.kind common.format (Ok value)
     × (input_said from (batch_step names from) old.files old.input ≡ Passed asked) × (asked.refusal ≡ None)
-    × AllFit invocation.now asked.edits value
+    × AllFit file invocation.now asked.edits old.files value
 
 -- a check: the file is accepted or new, the listing is of the stated form, and its usage fits and has room
 abbrev pub CanCheck : Common → (fresh : Bool) → (device : Option ℕ) → Option (List ℕ) → List ℕ → Invocation → Outside → Type 0

@@ -1,12 +1,14 @@
 -- What is said of a command, and what all that carry one out keep to.
-use Rattle.std.specs.Prelude.{◌≡◌, ◌⊎◌, ℕ, Bool, false, None, IsTrue, IfErr, IfSome, OnErr, OnOk, List, Option, Result}
+use Rattle.std.specs.Prelude.{◌≡◌, ◌≢◌, ◌⊎◌, ℕ, Bool, false, None, IsTrue, IfErr, IfSome, OnErr, OnOk, List, Option, Result}
 use Rattle.std.specs.Result.{result_err}
-use Rattle.quota_blocks.specs.Unsynced.{AddsNone}
+use Rattle.quota_types.specs.declared.file_kind.Format.{Format}
+use Rattle.quota_blocks.specs.Frame.{AreSynced}
 use Rattle.quota_blocks.specs.World.{World}
 use Rattle.refusals.specs.declared.cause.Cause.{Cause}
 use Rattle.refusals.specs.declared.cause.Cause.TheVariants.{LinkFault}
 use Rattle.refusals.specs.declared.reason.Refusal.{Refusal}
 use Rattle.refusals.specs.Status.{status_of}
+use Rattle.run_steps.specs.Act.{MayBeLeft}
 use Rattle.run_steps.specs.Done.{Outside, RunSeen, RunTells}
 use Rattle.run_steps.specs.Run.{CarriesOut, Uses}
 use Rattle.run_steps.specs.Steps.{Steps}
@@ -29,6 +31,8 @@ pub record Description : Type 1 where
   pub faulty : Option Refusal
   -- the file that it replaces as a whole, which stays as it was where the command was refused
   pub replaces : Option (List ℕ)
+  -- the file that it edits, which stays as it was where the command was refused, but for what an edit that failed may leave of it
+  pub edits : Option (List ℕ)
   -- what is known of its words, wherever words ask for it
   pub known : Type 0
   -- what stands where it is said that the link failed: not all that was to be done with the link was done
@@ -52,14 +56,23 @@ pub record IsOnlyRead (old new : RunSeen) : Type 0 where
 abbrev pub StopsIt : Cause → Type 0
 StopsIt cause = (status_of cause ≡ 4) ⊎ (status_of cause ≡ 5)
 
+-- What stands of a file that is edited, by the status at the end. With status 0 this says nothing. With any other one the file is as it
+-- was, or, where that is 4 and something outside failed, what an edit that failed may leave of a file of some format.
+abbrev pub IsLeftByEdit : (status : ℕ) (old new : World) → List ℕ → Type 0
+IsLeftByEdit status old new file =
+    status ≢ 0 → (new file ≡ old file) ⊎ ((status ≡ 4) × ((format : Format) × MayBeLeft format (old file) (new file)))
+
 -- A command was carried out but for its error line. Where it was refused, for whichever cause, a file that it replaces as a whole
--- is as it was, and where it was done, what was written has been synced. The link is said to have failed only where not all was done
+-- is as it was, and one that it edits is as an edit leaves it by the status of that cause; and where it was done, what was written has
+-- been synced. The link is said to have failed only where not all was done
 -- with it; where memory was wanting for a command that reads no commands nothing was; and what came to no use of it left it as it was. Where
 -- commands were to be read, and what stopped that names no line, nothing was done but that the input was read.
 pub record IsCarriedOut (command : Description) (invocation : Invocation) (tells : RunTells) (old new : RunSeen) (result : Result (Unit {0}) Refusal) : Type 0 where
   pub carries : CarriesOut (command.steps invocation) command.uses command.may tells old new result
   pub named : IfSome command.replaces (λ (file : List ℕ). OnErr result (IsTrue tells.store → new.store.files file ≡ old.store.files file))
-  pub synced : OnOk result (IsTrue tells.store → AddsNone old.store.unsynced new.store.unsynced)
+  pub edited : IfSome command.edits (λ (file : List ℕ). IfErr result (λ (refusal : Refusal). IsTrue tells.store
+      → IsLeftByEdit (status_of refusal.cause) old.store.files new.store.files file))
+  pub synced : OnOk result (IsTrue tells.store → AreSynced old.store new.store)
   pub unfinished : IfErr result (λ (refusal : Refusal). refusal.cause ≡ LinkFault → command.unfinished invocation tells old new)
   pub untaken : command.uses.reads_commands ≡ false → IfErr result (λ (refusal : Refusal). status_of refusal.cause ≡ 5 → new.link ≡ old.link)
   pub unbegun : IsTrue command.uses.reads_commands → IfErr result (λ (refusal : Refusal). StopsIt refusal.cause → refusal.place.line ≡ None → IsOnlyRead old new)

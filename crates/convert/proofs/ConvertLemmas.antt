@@ -21,6 +21,7 @@ use Rattle.quota_blocks.specs.declared.quota_file.OpenFault.{OpenFault}
 use Rattle.quota_blocks.specs.declared.quota_file.OpenFault.TheVariants.{Store, NoFile, TooLarge, Memory, NotQuota, WrongKind, UnknownVersion, BadBlockCount, FormatMismatch, Damage}
 use Rattle.quota_blocks.specs.declared.replacement.ReplaceFault.{ReplaceFault}
 use Rattle.quota_blocks.specs.declared.replacement.ReplaceFault.TheVariants.{Store as MakingFailed, Full as NoBlocks, Memory as NoMemoryToMake}
+use Rattle.quota_blocks.proofs.CountLemmas.{Rose-since}
 use Rattle.tree_build.specs.Size.{blocks_needed, ids_in}
 use Rattle.tree_file.specs.View.{IsTreeFault}
 use Rattle.quota_v1.specs.View.{IsFlatFault}
@@ -36,12 +37,9 @@ use Rattle.convert.proofs.ValueLemmas.{converted_listed, ids_listed, refused_lis
 
 -- Counts that rose later.
 
-rose_since : (before between now : ℕ) → before ≤ between → Rose between now → Rose before now
-rose_since before between now later rose = omega (arith, later, rose)
-
 tree_since : (before between now : ℕ) (tells : Bool) (named : Option (List ℕ)) (kind : Kind) (asked : Option Format) (limit : ℕ) (fault : OpenFault) → before ≤ between
     → IsTreeFault between now tells named kind asked limit fault → IsTreeFault before now tells named kind asked limit fault
-tree_since before between now tells named kind asked limit Store later cause = rose_since before between now later cause
+tree_since before between now tells named kind asked limit Store later cause = Rose-since before between now later cause
 tree_since before between now tells named kind asked limit NoFile later cause = cause
 tree_since before between now tells named kind asked limit (TooLarge number most) later cause = cause
 tree_since before between now tells named kind asked limit Memory later cause = cause
@@ -53,7 +51,7 @@ tree_since before between now tells named kind asked limit (FormatMismatch found
 tree_since before between now tells named kind asked limit (Damage damage) later cause = cause
 
 flat_since : (before between now : ℕ) (tells : Bool) (named : Option (List ℕ)) (fault : OpenFault) → before ≤ between → IsFlatFault between now tells named fault → IsFlatFault before now tells named fault
-flat_since before between now tells named Store later cause = rose_since before between now later cause
+flat_since before between now tells named Store later cause = Rose-since before between now later cause
 flat_since before between now tells named NoFile later cause = cause
 flat_since before between now tells named (TooLarge number most) later cause = cause
 flat_since before between now tells named Memory later cause = cause
@@ -71,7 +69,7 @@ open_since before between now tells named kind V2R0 fault later cause = tree_sin
 open_since before between now tells named kind V2R1 fault later cause = tree_since before between now tells named kind (Some V2R1) most_blocks fault later cause
 
 reading_since : (before between now : ℕ) (tells : Bool) (format : Format) (fault : FileFault) → before ≤ between → IsReadingFault between now tells format fault → IsReadingFault before now tells format fault
-reading_since before between now tells format CallFailed later cause = rose_since before between now later cause
+reading_since before between now tells format CallFailed later cause = Rose-since before between now later cause
 reading_since before between now tells format (Damaged damage) later cause = cause
 reading_since before between now tells format (Full blocks limit) later cause = cause
 reading_since before between now tells format NoMemory later cause = cause
@@ -109,7 +107,7 @@ source_refused tells asked old between new (Replace fault) free same later cause
 
 -- the new file was not made
 replace_since : (before between now needed limit : ℕ) (fault : ReplaceFault) → before ≤ between → IsReplaceFileFault between now needed limit fault → IsReplaceFileFault before now needed limit fault
-replace_since before between now needed limit MakingFailed later cause = (rose_since before between now later cause.0, cause.1)
+replace_since before between now needed limit MakingFailed later cause = (Rose-since before between now later cause.0, cause.1)
 replace_since before between now needed limit (NoBlocks blocks most) later cause = cause
 replace_since before between now needed limit NoMemoryToMake later cause = cause
 

@@ -18,41 +18,13 @@ use Rattle.quota_types.specs.declared.record.Grace.{Grace}
 use Rattle.quota_types.specs.declared.record.Rec.{Rec}
 use Rattle.quota_types.specs.Kept.{IsKept, kept_of}
 use Rattle.quota_types.specs.Rec.{is_null_of}
+use Rattle.quota_types.proofs.AscendsLemmas.{Ascends, Ascends-of, Ascends-fewer, IsStrictlyIncreasing-of}
 use Rattle.quota_blocks.specs.Listed.{ids_of, records_of, value_of}
+use Rattle.quota_blocks.proofs.ListedLemmas.{map-pairs_of, pairs_of}
 use Rattle.convert.specs.Conversion.{all_without_room, converted, converted_value, grace_no_room, lasting, lasting_kept, record_no_room, unless}
 use Rattle.convert.specs.Listing.{kept_entry, kept_list, lasting_entries, list_without_room}
 
 -- Lists whose identifiers ascend.
-
--- numbers strictly ascend, from one on
-abbrev Ascends : ℕ → List ℕ → Type 0
-Ascends low [] = Unit {0}
-Ascends low (x ∷ xs) = (low ≤ x) × Ascends (suc x) xs
-
-ascends_from : (x : ℕ) (xs : List ℕ) → IsStrictlyIncreasing (x ∷ xs) → Ascends x (x ∷ xs)
-ascends_from x [] rising = (omega arith, tt)
-ascends_from x (y ∷ ys) rising =
-    let next : x < y = rising 0 (omega arith) in
-    let rest : Ascends y (y ∷ ys) = ascends_from y ys (λ k lt.
-    let same : suc k + 1 ≡ suc (k + 1) = omega arith in
-    subst (λ (n : ℕ). get_or (y ∷ ys) k 0 < get_or (x ∷ y ∷ ys) n 0) same (rising (suc k) (omega arith))) in
-    (omega arith, (omega arith, rest.1))
-
-ascends_of : (xs : List ℕ) → IsStrictlyIncreasing xs → Ascends 0 xs
-ascends_of [] rising = tt
-ascends_of (x ∷ xs) rising = (omega arith, (ascends_from x xs rising).1)
-
-ascends_fewer : (low few : ℕ) (xs : List ℕ) → few ≤ low → Ascends low xs → Ascends few xs
-ascends_fewer low few [] le ascends = tt
-ascends_fewer low few (x ∷ xs) le ascends = (omega (arith, ascends.0), ascends.1)
-
-increasing_of : (low : ℕ) (xs : List ℕ) → Ascends low xs → IsStrictlyIncreasing xs
-increasing_of low [] ascends k lt = absurd (omega arith)
-increasing_of low (x ∷ []) ascends k lt = absurd (omega arith)
-increasing_of low (x ∷ y ∷ ys) ascends zero lt = let next : suc x ≤ y = ascends.1.0 in omega arith
-increasing_of low (x ∷ y ∷ ys) ascends (suc k) lt =
-    let same : suc (k + 1) ≡ suc k + 1 = omega arith in
-    subst (λ (n : ℕ). get_or (y ∷ ys) k 0 < get_or (x ∷ y ∷ ys) n 0) same (increasing_of (suc x) (y ∷ ys) ascends.1 k (omega arith))
 
 -- those that limit or count something ascend too
 lasting_ascends : (low : ℕ) (list : List Entry) → Ascends low (ids_of list) → Ascends low (ids_of (lasting_entries list))
@@ -61,7 +33,7 @@ lasting_ascends low (entry ∷ list) ascends = by (lasting_ascends (suc entry.id
   where
     by : Ascends (suc entry.id) (ids_of (lasting_entries list)) → (b : Bool) → Ascends low (ids_of (cond b (entry ∷ lasting_entries list) (lasting_entries list)))
     by rest true = (ascends.0, rest)
-    by rest false = ascends_fewer (suc entry.id) low (ids_of (lasting_entries list)) (omega (arith, ascends.0)) rest
+    by rest false = Ascends-fewer (suc entry.id) low (ids_of (lasting_entries list)) (omega (arith, ascends.0)) rest
 
 same_ids : (format : Format) (list : List Entry) → ids_of (map (kept_entry format) list) ≡ ids_of list
 same_ids format [] = refl
@@ -70,13 +42,9 @@ same_ids format (entry ∷ list) = ap (λ (ids : List ℕ). entry.id ∷ ids) (s
 pub kept_ascends : (format : Format) (list : List Entry) → IsStrictlyIncreasing (ids_of list) → IsStrictlyIncreasing (ids_of (kept_list format list))
 kept_ascends format list rising =
     subst IsStrictlyIncreasing (sym (same_ids format (lasting_entries list)))
-    (increasing_of 0 (ids_of (lasting_entries list)) (lasting_ascends 0 list (ascends_of (ids_of list) rising)))
+    (IsStrictlyIncreasing-of 0 (ids_of (lasting_entries list)) (lasting_ascends 0 list (Ascends-of (ids_of list) rising)))
 
 -- Lists and the maps of their records.
-
--- entries as pairs
-abbrev pairs_of : List Entry → List (ℕ × Rec)
-pairs_of list = map (λ entry. (entry.id, entry.rec)) list
 
 both : (a b : Bool) → T a → T b → T (a && b)
 both true b p q = q
@@ -99,16 +67,12 @@ sorted_pairs low (entry ∷ list) ascends =
 pub pairs_listed : (list : List Entry) → IsStrictlyIncreasing (ids_of list) → entries (records_of list) ≡ pairs_of list
 pairs_listed list ascends =
     same_entries nat_cmp nat_cmp_total nat_cmp-IsAntisymmetric (entries (records_of list)) (pairs_of list) (entries_sorted (records_of list))
-    (sorted_pairs 0 list (ascends_of (ids_of list) ascends))
+    (sorted_pairs 0 list (Ascends-of (ids_of list) ascends))
     (λ id. sym (get-entries (records_of list) id) ∙ get-from_entries nat_cmp_total (pairs_of list) id)
-
-ids_of_pairs : (list : List Entry) → map (λ (pair : ℕ × Rec). pair.0) (pairs_of list) ≡ ids_of list
-ids_of_pairs [] = refl
-ids_of_pairs (entry ∷ list) = ap (λ (ids : List ℕ). entry.id ∷ ids) (ids_of_pairs list)
 
 -- the identifiers of its records are those of the list
 pub ids_listed : (list : List Entry) → IsStrictlyIncreasing (ids_of list) → map (λ (pair : ℕ × Rec). pair.0) (entries (records_of list)) ≡ ids_of list
-ids_listed list ascends = ap (λ (pairs : List (ℕ × Rec)). map (λ (pair : ℕ × Rec). pair.0) pairs) (pairs_listed list ascends) ∙ ids_of_pairs list
+ids_listed list ascends = ap (λ (pairs : List (ℕ × Rec)). map (λ (pair : ℕ × Rec). pair.0) pairs) (pairs_listed list ascends) ∙ map-pairs_of list
 
 found_kept : (format : Format) (list : List Entry) (id : ℕ) → All (λ (entry : Entry). IsKept format entry.id entry.rec) list → IfSome (find nat_cmp id (pairs_of list)) (IsKept format id)
 found_kept format [] id all = tt

@@ -1,5 +1,5 @@
 -- What a conversion leaves of a store.
-use Rattle.std.specs.Prelude.{◌≡◌, ◌≢◌, ◌≤◌, ℕ, false, List}
+use Rattle.std.specs.Prelude.{◌≡◌, ◌≢◌, ◌≤◌, ◌⊎◌, ℕ, false, List}
 use Rattle.quota_blocks.specs.Replace.{ReplacesOnly, replacement_name}
 use Rattle.quota_blocks.specs.Seen.{StoreSeen}
 use Rattle.quota_blocks.specs.Unsynced.{AddsNone}
@@ -20,7 +20,9 @@ pub record LeavesOthers (from to : List ℕ) (old new : StoreSeen) : Type 0 wher
   pub unsynced : (other : List ℕ) → other ≢ from → other ≢ to → other ≢ replacement_name to → new.unsynced other ≡ old.unsynced other
   pub later : old.faults ≤ new.faults
 
--- what was made has been kept safe: the new file is synced, and no other name is unsynced that was not
+-- what was made has been kept safe: the new file is synced, no other name is unsynced that was not, and that of each file
+-- that has changed is not
 pub record IsKeptSafe (to : List ℕ) (old new : StoreSeen) : Type 0 where
   pub none : AddsNone old.unsynced new.unsynced
+  pub changed : (name : List ℕ) → (new.unsynced name ≡ false) ⊎ (new.files name ≡ old.files name)
   pub named : new.unsynced to ≡ false

@@ -1,8 +1,7 @@
-ghost use Rattle.std.specs.Prelude.{ℕ, IfErr, IfOk, OnOk};
+ghost use Rattle.std.specs.Prelude.{ℕ, IfErr, IfOk, is_ok};
 ghost use Rattle.std.specs.List.Sorted.{IsStrictlyIncreasing};
 ghost use Rattle.quota_blocks.specs.Frame.{OnlyReads};
 ghost use Rattle.quota_blocks.specs.Listed.{ids_of, value_of};
-ghost use Rattle.quota_blocks.specs.Unsynced.{AddsNone};
 ghost use Rattle.convert.specs.Source.{HasRead, IsSourceFault};
 
 use crate::ConvertFault;
@@ -37,8 +36,7 @@ pub(crate) fn read_source<S: Store>(
     ensures ascends { IfOk result (λ carried. IsStrictlyIncreasing (ids_of carried.entries.items)) }
     ensures refused { IfErr result (IsSourceFault (S.seen store.old).faults (S.seen store.new).faults S.tells
         ((S.seen store.old).files name.now) kind format) }
-    ensures leaves { OnlyReads name.now (S.seen store.old) (S.seen store.new) }
-    ensures synced { OnOk result (AddsNone (S.seen store.old).unsynced (S.seen store.new).unsynced) }
+    ensures leaves { OnlyReads (is_ok result) name.now (S.seen store.old) (S.seen store.new) }
 {
     let mut opened = match open_file(alloc, store, name, kind, Some(format)) {
         Ok(opened) => opened,

@@ -182,9 +182,9 @@ read_may asked name format before now holds (NoBlocks blocks limit) asks cause m
 read_may asked name format before now holds NoMemory asks cause may = tt
 
 -- a file was opened, and its records were not read
-pub not_read_whole : (kind : Kind) (asked : Option Format) (name : List ℕ) (next : QuotaValue → Steps) (uses : Uses) (may : Cause → List ℕ → Type 0) (tells : RunTells) (old : RunSeen) (store : StoreSeen)
+pub not_read_whole : {done : Bool} (kind : Kind) (asked : Option Format) (name : List ℕ) (next : QuotaValue → Steps) (uses : Uses) (may : Cause → List ℕ → Type 0) (tells : RunTells) (old : RunSeen) (store : StoreSeen)
     (format : Format) (before : ℕ) (holds : QuotaValue → Type 0) (fault : FileFault)
-    → IsOpenedAs asked format → OnlyReads name old.store store → old.store.faults ≤ before → (IsTrue tells.store → ((value : QuotaValue) → holds value → ⊥) → ⊥)
+    → IsOpenedAs asked format → OnlyReads done name old.store store → old.store.faults ≤ before → (IsTrue tells.store → ((value : QuotaValue) → holds value → ⊥) → ⊥)
     → IsReadFault before store.faults holds fault → UnlessMemory fault (MayRefuse format fault) → ((cause : Cause) → MayRefuseOpening asked name cause name → may cause name)
     → CarriesOut (Opening kind asked name next) uses may tells old (with_store old store) (Err (refusal_of (file_cause fault) name))
 not_read_whole kind asked name next uses may tells old store format before holds fault asks reads le seen cause may_be allowed =
@@ -199,7 +199,7 @@ not_read_whole kind asked name next uses may tells old store format before holds
 pub carries_same : (name : List ℕ) (next : QuotaValue → Steps) (one other : QuotaValue) (uses : Uses) (may : Cause → List ℕ → Type 0) (tells : RunTells) (old new : RunSeen) (result : Result (Unit {0}) Refusal)
     → (IsTrue tells.store → one ≡ other) → CarriesOut (next one) uses may tells old new result → CarriesOut (next other) uses may tells old new result
 carries_same name next one other uses may tells old new result same carries =
-    carries_on name (next one) (next other) uses may may tells old old.store new result (only_reads-none name old.store)
+    carries_on name (next one) (next other) uses may may tells old old.store new result (only_reads-none {done = true} name old.store)
     (λ told. leads_same (next one) (next other) (outside_of old) (ap next (same told.store))) (λ cause said may. may) carries
 
 -- the value of a new file has no flags that its format does not have
@@ -216,7 +216,7 @@ apply_refused name value usage now ApplyWantsMemory tells old is =
     replace_wanting name (checked value usage now) (ReplacingMayRefuse value name) tells old old.store refl (inr tt)
 
 -- a file is made anew, also after calls that only read
-pub anew_since : (kind other : Kind) (IsFormat IsOther : Format → Type 0) (read name : List ℕ) (old store new : StoreSeen) → OnlyReads read old store → kind ≡ other
+pub anew_since : {done : Bool} (kind other : Kind) (IsFormat IsOther : Format → Type 0) (read name : List ℕ) (old store new : StoreSeen) → OnlyReads done read old store → kind ≡ other
     → ((format : Format) → IsFormat format → IsOther format) → IsMadeAnew kind IsFormat name store.files new.files → IsMadeAnew other IsOther name old.files new.files
 anew_since kind other IsFormat IsOther read name old store new reads same so anew = record {
   value = anew.value;

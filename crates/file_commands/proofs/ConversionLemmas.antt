@@ -1,5 +1,5 @@
 -- Conversions: what was done where a new file was made, and where it was refused.
-use Rattle.std.proofs.Common.{◌≡◌, ◌≢◌, ℕ, Bool, false, IsTrue, List, [], Option, None, Some, Ok, Err, Result, inr, refl, sym, ap, subst, ◌∙◌, arith, if◌then◌else◌}
+use Rattle.std.proofs.Common.{◌≡◌, ◌≢◌, ℕ, Bool, false, IsTrue, List, [], Option, None, Some, Ok, Err, Result, inr, refl, sym, ap, subst, ◌∙◌, arith, if◌then◌else◌, true}
 use Rattle.std.specs.Prelude.{IsSome}
 use Rattle.std.specs.Str.{bytes_eq}
 use Rattle.std.specs.List.{slice_get}
@@ -126,7 +126,7 @@ module _ (kind : Kind) (before after : Format) (source target : List ℕ) (invoc
       → CarriesOut (ConvertSteps kind before after source target invocation) (edit_uses false) May tells old new result
   carries_targeting differ none carries =
       let next = Opening kind (Some before) source Converting in
-      carries_on source next (ConvertSteps kind before after source target invocation) (edit_uses false) May May tells old old.store new result (only_reads-none source old.store)
+      carries_on source next (ConvertSteps kind before after source target invocation) (edit_uses false) May May tells old old.store new result (only_reads-none {done = true} source old.store)
       (λ told. leads_looking next _ (outside_of old) (ap (λ (o : Outcome (Unit {0})). Then o (λ (_ : Unit {0}). next)) (sym (targets_free source target old.store.files differ (none told.store)))))
       (λ cause said may. may) carries
 
@@ -135,7 +135,7 @@ module _ (kind : Kind) (before after : Format) (source target : List ℕ) (invoc
       → CarriesOut (ConvertSteps kind before after source target invocation) (edit_uses false) May tells old new result
   carries_read value differ none read carries =
       carries_targeting differ none
-      (carries_opening source kind (Some before) Converting (edit_uses false) May May tells old old.store new result (only_reads-none source old.store)
+      (carries_opening source kind (Some before) Converting (edit_uses false) May May tells old old.store new result (only_reads-none {done = true} source old.store)
       (λ told. (value, read.seen told)) (λ cause said may. may)
       (λ other view. carries_same source Converting value other (edit_uses false) May tells old new result (λ told. sym (read.alone told other (view told))) carries))
 
@@ -234,8 +234,8 @@ module _ (kind : Kind) (before after : Format) (source target : List ℕ) (invoc
   open_says : (fault : OpenFault) → IsNotOpened tells.store asked old.store store fault → OnlyLooks source target old.store store → Says (opening_cause fault) source
   open_says fault is looks =
       let before_it = with_store old (record old.store { unsynced = store.unsynced }) in
-      (not_opened kind (Some before) source (λ (value : QuotaValue). MakingSteps source target (converted after value)) (edit_uses false) Says tells before_it store fault is.cause
-      (record { files = looks.files; unsynced = λ other differ. refl; later = looks.later; writes = looks.writes }) (λ cause may. opening_may kind before after source target cause may)).may_refuse
+      (not_opened {done = true} kind (Some before) source (λ (value : QuotaValue). MakingSteps source target (converted after value)) (edit_uses false) Says tells before_it store fault is.cause
+      (record { files = looks.files; unsynced = λ other differ. refl; later = looks.later; writes = looks.writes; synced = λ done other is. is }) (λ cause may. opening_may kind before after source target cause may)).may_refuse
 
   open_refused : (fault : OpenFault) → IsNotOpened tells.store asked old.store store fault → OnlyLooks source target old.store store
       → Carried steps (Err (refusal_of (opening_cause fault) source))
@@ -272,7 +272,7 @@ module _ (kind : Kind) (before after : Format) (source target : List ℕ) (invoc
       → Carried steps (Err refusal)
   names_refused refusal is looks own allowed placed =
       carries_on source (Then (targeted source target old.store.files) (λ (_ : Unit {0}). next)) steps (edit_uses false) Says Says tells old old.store (with_store old store) (Err refusal)
-      (only_reads-none source old.store) (λ told. leads_looking (Then (targeted source target old.store.files) (λ (_ : Unit {0}). next)) _ (outside_of old) refl) (λ cause said may. may)
+      (only_reads-none {done = true} source old.store) (λ told. leads_looking (Then (targeted source target old.store.files) (λ (_ : Unit {0}). next)) _ (outside_of old) refl) (λ cause said may. may)
       (looked_refused source target Says tells old store looks (targeted source target old.store.files) (λ (_ : Unit {0}). next) refusal is own allowed placed)
 
   pub not_converted : (fault : ConvertFault) → IsConvertFault tells.store asked old.store store fault → UnlessMaking fault (OnlyLooks source target old.store store)

@@ -21,7 +21,7 @@ use Rattle.refusals.specs.declared.cause.Cause.{Cause}
 use Rattle.refusals.specs.declared.cause.Cause.TheVariants.{StoreFault, SourceFault, SinkFault, LinkFault, Memory}
 use Rattle.refusals.specs.declared.reason.Refusal.{Refusal}
 use Rattle.refusals.specs.Refusals.{nowhere, refusal_of}
-use Rattle.run_steps.specs.Act.{Act, Change, FollowsAct, ToOut, out_bytes}
+use Rattle.run_steps.specs.Act.{Act, Replace, FollowsAct, ToOut, out_bytes}
 use Rattle.run_steps.specs.Done.{IsUnwritten, IsWorldTold, RunSeen, RunTells}
 use Rattle.run_steps.specs.Run.{CarriesOut, HasReason, HasSteps, IsDoneInPart, Uses}
 use Rattle.run_steps.specs.Showing.{ShowingMayRefuse, ShowingSteps, showing_uses}
@@ -39,9 +39,9 @@ use Rattle.file_commands.specs.Generate.{GenerateMayRefuse, IsUnreported, gather
 -- A change, and then more steps.
 
 changed_steps : (name : List ℕ) (new : QuotaValue) (next : Steps) (tells : RunTells) (refusal : Option Refusal) (old : RunSeen) (store : StoreSeen) (to : RunSeen)
-    → FollowsAct (Change name new) old.store.files store.files → HasSteps next tells refusal (with_store old store) to → HasSteps (Doing (Change name new) next) tells refusal old to
+    → FollowsAct (Replace name new) old.store.files store.files → HasSteps next tells refusal (with_store old store) to → HasSteps (Doing (Replace name new) next) tells refusal old to
 changed_steps name new next tells refusal old store to follows has = record {
-  acts = Change name new ∷ has.acts;
+  acts = Replace name new ∷ has.acts;
   by_steps = (has.acts, store.files, refl, follows, has.by_steps);
   done = record {
     files = (store.files, follows, has.done.files);
@@ -53,9 +53,9 @@ changed_steps name new next tells refusal old store to follows has = record {
 }
 
 changed_part : (name : List ℕ) (new : QuotaValue) (next : Steps) (tells : RunTells) (old : RunSeen) (store : StoreSeen) (to : RunSeen)
-    → FollowsAct (Change name new) old.store.files store.files → IsDoneInPart next tells (with_store old store) to → IsDoneInPart (Doing (Change name new) next) tells old to
+    → FollowsAct (Replace name new) old.store.files store.files → IsDoneInPart next tells (with_store old store) to → IsDoneInPart (Doing (Replace name new) next) tells old to
 changed_part name new next tells old store to follows part = record {
-  done = Change name new ∷ part.done;
+  done = Replace name new ∷ part.done;
   hand = part.hand;
   now = part.now;
   begun = inr (part.done, store.files, refl, follows, part.begun);
@@ -70,9 +70,9 @@ changed_part name new next tells old store to follows part = record {
 -- a file was changed, and the next steps were carried out
 pub carries_changed : (name : List ℕ) (new : QuotaValue) (next : Steps) (uses : Uses) (may : Cause → List ℕ → Type 0) (tells : RunTells) (old : RunSeen) (store : StoreSeen) (to : RunSeen)
     (result : Result (Unit {0}) Refusal)
-    → (IsTrue tells.store → FollowsAct (Change name new) old.store.files store.files) → old.store.faults ≤ store.faults
+    → (IsTrue tells.store → FollowsAct (Replace name new) old.store.files store.files) → old.store.faults ≤ store.faults
     → CarriesOut next uses may tells (with_store old store) to result
-    → CarriesOut (Doing (Change name new) next) (record uses { changes = true; all_or_nothing = false }) may tells old to result
+    → CarriesOut (Doing (Replace name new) next) (record uses { changes = true; all_or_nothing = false }) may tells old to result
 carries_changed name new next uses may tells old store to result follows le carries = record {
   done = on_ok_weaker result (λ has told. changed_steps name new next tells None old store to (follows told.store) (has told)) carries.done;
   refused = IfErr-weaker result _ _ (λ refusal reason. reason_since uses old to store old.input _ _ refusal.cause le (omega arith)
@@ -95,9 +95,9 @@ carries_changed name new next uses may tells old store to result follows le carr
 -- the store failed before the file was changed
 pub change_failed : (name text : List ℕ) (new : QuotaValue) (tells : RunTells) (old : RunSeen) (store : StoreSeen)
     → Rose old.store.faults store.faults → store.files name ≡ old.store.files name → ReplacesOnly name old.store.files store.files → old.store.faults ≤ store.faults
-    → CarriesOut (Doing (Change name new) (Doing (ToOut text) Finish)) generate_uses (GenerateMayRefuse name) tells old (with_store old store) (Err (refusal_of StoreFault name))
+    → CarriesOut (Doing (Replace name new) (Doing (ToOut text) Finish)) generate_uses (GenerateMayRefuse name) tells old (with_store old store) (Err (refusal_of StoreFault name))
 change_failed name text new tells old store rose same leaves later =
-    let acts = Change name new ∷ ToOut text ∷ [] in
+    let acts = Replace name new ∷ ToOut text ∷ [] in
     record {
       done = tt;
       refused = rose;
@@ -210,9 +210,9 @@ view_any named kind format value is_kind is_format view =
 -- the file was not made, though there would have been room
 pub put_refused : (name text : List ℕ) (new : QuotaValue) (tells : RunTells) (old : RunSeen) (store : StoreSeen) (needed : ℕ) (fault : ReplaceFault) → needed ≤ most_blocks
     → IsReplaceFileFault old.store.faults store.faults needed most_blocks fault → UnlessStore fault (store ≡ old.store) → store.files name ≡ old.store.files name → ReplacesOne name old.store store
-    → CarriesOut (Doing (Change name new) (Doing (ToOut text) Finish)) generate_uses (GenerateMayRefuse name) tells old (with_store old store) (Err (refusal_of (replace_cause fault) name))
+    → CarriesOut (Doing (Replace name new) (Doing (ToOut text) Finish)) generate_uses (GenerateMayRefuse name) tells old (with_store old store) (Err (refusal_of (replace_cause fault) name))
 put_refused name text new tells old store needed PutFailed few cause unwritten same leaves = change_failed name text new tells old store cause.0 same leaves.files leaves.later
 put_refused name text new tells old store needed (NoBlocks blocks limit) few cause unwritten same leaves = absurd (omega (arith, cause.0, few))
 put_refused name text new tells old store needed NoMemory few cause unwritten same leaves =
-    subst (λ (s : StoreSeen). CarriesOut (Doing (Change name new) (Doing (ToOut text) Finish)) generate_uses (GenerateMayRefuse name) tells old (with_store old s) (Err (refusal_of Memory name))) (sym unwritten)
-    (nothing_carried (Doing (Change name new) (Doing (ToOut text) Finish)) generate_uses (GenerateMayRefuse name) tells old (refusal_of Memory name) tt (inr tt) (record { line = λ no. refl; input_line = λ no. refl }))
+    subst (λ (s : StoreSeen). CarriesOut (Doing (Replace name new) (Doing (ToOut text) Finish)) generate_uses (GenerateMayRefuse name) tells old (with_store old s) (Err (refusal_of Memory name))) (sym unwritten)
+    (nothing_carried (Doing (Replace name new) (Doing (ToOut text) Finish)) generate_uses (GenerateMayRefuse name) tells old (refusal_of Memory name) tt (inr tt) (record { line = λ no. refl; input_line = λ no. refl }))

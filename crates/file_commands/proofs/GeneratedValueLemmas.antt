@@ -18,6 +18,7 @@ use Rattle.quota_types.specs.declared.file_kind.Format.TheVariants.{V2R1}
 use Rattle.quota_types.specs.declared.file_kind.Kind.TheVariants.{User}
 use Rattle.quota_types.specs.declared.record.Grace.{Grace}
 use Rattle.quota_types.specs.declared.record.Rec.{Rec}
+use Rattle.quota_types.proofs.ListLemmas.{AllByRecursion-weaker}
 use Rattle.quota_blocks.specs.QuotaValue.{QuotaValue, Records}
 use Rattle.quota_map.specs.View.{most_blocks}
 use Rattle.tree_build.specs.Size.{beginnings, blocks_needed, each_once, ids_in}
@@ -26,7 +27,6 @@ use Rattle.inode_scan.specs.Faults.{unless}
 use Rattle.inode_scan.specs.Usage.{UsageMap}
 use Rattle.inode_scan.specs.declared.used.Used.{Used}
 use Rattle.inode_scan.proofs.ApplyLemmas.{wanted_at}
-use Rattle.inode_scan.proofs.ListLemmas.{each_weaker}
 use Rattle.inode_scan.proofs.MadeListingLemmas.{generated_usage}
 use Rattle.inode_scan.proofs.MadeUsageLemmas.{IsSmallUser, generated_small}
 use Rattle.run_steps.specs.Changing.{blocks_of}
@@ -97,7 +97,7 @@ each_some : (pairs : List (ℕ × Rec)) → AllByRecursion (λ pair. IsSome (fin
 each_some [] = tt
 each_some (pair ∷ pairs) = (
   subst (λ (o : Option Rec). IsSome o) (sym (found_here pair pairs)) refl,
-  each_weaker (λ (p : ℕ × Rec). IsSome (find nat_cmp p.0 pairs)) (λ (p : ℕ × Rec). IsSome (find nat_cmp p.0 (pair ∷ pairs))) pairs
+  AllByRecursion-weaker (λ (p : ℕ × Rec). IsSome (find nat_cmp p.0 pairs)) (λ (p : ℕ × Rec). IsSome (find nat_cmp p.0 (pair ∷ pairs))) pairs
       (λ p some. behind (find nat_cmp p.0 pairs) some (eq_by_cmp nat_cmp p.0 pair.0)) (each_some pairs),
 )
   where
@@ -168,7 +168,7 @@ few_users : (now : ℕ) (usage : UsageMap) → AreSmall usage → length (entrie
 few_users now usage small =
     let records : Records = kept_records V2R1 (wanted week now empty usage) in
     sorted_few 1000 (entries records) (entries_sorted records)
-    (each_weaker (λ (p : ℕ × Rec). IsSome (find nat_cmp p.0 (entries records))) (Within 1000) (entries records)
+    (AllByRecursion-weaker (λ (p : ℕ × Rec). IsSome (find nat_cmp p.0 (entries records))) (Within 1000) (entries records)
     (λ p some. users_only now usage small p.0 (subst (λ (o : Option Rec). IsSome o) (sym (get-entries records p.0)) some)) (each_some (entries records)))
 
 few_once : (numbers : List ℕ) → length (each_once numbers) ≤ length numbers

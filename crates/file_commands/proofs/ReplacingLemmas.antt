@@ -1,7 +1,6 @@
 -- Commands that put a file of another value in the place of one: what was done where it was replaced, and where it was not.
 use Rattle.std.proofs.Common.{◌≡◌, ℕ, ◌<◌, ◌≤◌, Bool, true, false, IsTrue, nat_lt, List, [], ◌∷◌, None, Some, Ok, Err, Result, refl, sym, ap, subst, ◌∙◌, arith}
-use Rattle.std.proofs.lemmas.Bool.{false≢true}
-use Rattle.std.proofs.lemmas.Bool.Decides.{nat_tests}
+use Rattle.std.proofs.lemmas.Bool.{false≢true, le-ltb, lt-ltb}
 use Rattle.quota_types.specs.declared.field.NoRoom.{NoRoom}
 use Rattle.quota_types.specs.declared.file_kind.Format.{Format}
 use Rattle.quota_types.specs.declared.file_kind.Format.TheVariants.{V1}
@@ -22,12 +21,12 @@ use Rattle.file_commands.specs.declared.file_value.FileValue.{FileValue}
 use Rattle.refusals.specs.declared.cause.Cause.{Cause}
 use Rattle.refusals.specs.declared.cause.Cause.TheVariants.{StoreFault, Full, Memory}
 use Rattle.refusals.specs.declared.reason.Refusal.{Refusal}
-use Rattle.run_steps.specs.Act.{Act, Change}
+use Rattle.run_steps.specs.Act.{Act, Replace}
 use Rattle.run_steps.specs.Done.{RunSeen, RunTells}
 use Rattle.run_steps.specs.Run.{CarriesOut}
 use Rattle.run_steps.specs.Steps.{AreDoneThen, DoingAll, Finish, Then}
 use Rattle.file_commands.specs.Check.{ReplaceSteps, replaced}
-use Rattle.run_steps.specs.Changing.{blocks_of, edit_uses, written}
+use Rattle.run_steps.specs.Changing.{blocks_of, edit_uses, if_room}
 use Rattle.file_commands.specs.FileValue.{IsInOrder, IsMadeAnew, WritingMayRefuse, replace_cause, value_in}
 use Rattle.refusals.specs.Outcome.{Outcome, Passed, Refused}
 use Rattle.refusals.specs.Refusals.{refusal_of}
@@ -42,21 +41,15 @@ needed_of value order = ap (λ (ids : List ℕ). blocks_needed value.format ids)
 
 -- The steps.
 
-not_large : (most needed : ℕ) → needed ≤ most → nat_lt most needed ≡ false
-not_large most needed few = grind (arith, nat_tests)
-
-is_large : (most needed : ℕ) → most < needed → nat_lt most needed ≡ true
-is_large most needed passes = grind (arith, nat_tests)
-
 -- where there is room, the one act is the change
-pub room_for : (name : List ℕ) (new : QuotaValue) → blocks_of new ≤ most_blocks → replaced name (Ok new) ≡ Passed (Change name new ∷ [])
-room_for name new few = ap (λ (large : Bool). written name new false large) (not_large most_blocks (blocks_of new) few)
+pub room_for : (name : List ℕ) (new : QuotaValue) → blocks_of new ≤ most_blocks → replaced name (Ok new) ≡ Passed (Replace name new ∷ [])
+room_for name new few = ap (λ (large : Bool). if_room name new large (Replace name new)) (le-ltb most_blocks (blocks_of new) few)
 
 -- and else the value is refused
 pub no_room_for : (name : List ℕ) (new : QuotaValue) (blocks limit : ℕ) → most_blocks < blocks_of new → blocks ≡ blocks_of new → limit ≡ most_blocks
     → replaced name (Ok new) ≡ Refused (refusal_of (Full blocks limit) name)
 no_room_for name new blocks limit passes needs is =
-    ap (λ (large : Bool). written name new false large) (is_large most_blocks (blocks_of new) passes)
+    ap (λ (large : Bool). if_room name new large (Replace name new)) (lt-ltb most_blocks (blocks_of new) passes)
     ∙ ap (λ (b : ℕ). Refused (refusal_of (Full b most_blocks) name)) (sym needs) ∙ ap (λ (l : ℕ). Refused (refusal_of (Full blocks l) name)) (sym is)
 
 -- what was carried out is known by the outcome of the step
@@ -66,7 +59,7 @@ by_outcome name new outcome may tells old to result is carries =
     subst (λ (o : Outcome (List Act)). CarriesOut (Then o (λ (acts : List Act). DoingAll acts Finish)) (edit_uses false) may tells old to result) (sym is) carries
 
 -- the change of one file was written
-change_written : (name : List ℕ) (new : QuotaValue) (old store : StoreSeen) → IsView (store.files name) new.kind (Some new.format) (Ok new) → ReplacesOnly name old.files store.files → AreWritten (Change name new ∷ []) old store
+change_written : (name : List ℕ) (new : QuotaValue) (old store : StoreSeen) → IsView (store.files name) new.kind (Some new.format) (Ok new) → ReplacesOnly name old.files store.files → AreWritten (Replace name new ∷ []) old store
 change_written name new old store view leaves = record { files = (store.files, (view, leaves), refl); writes = λ none. absurd none; out = refl; err = refl; answered = refl }
 
 -- the file was replaced
@@ -74,7 +67,7 @@ pub replace_made : (name : List ℕ) (new : QuotaValue) (may : Cause → List �
     → (IsTrue tells.store → IsView (store.files name) new.kind (Some new.format) (Ok new)) → ReplacesOnly name old.store.files store.files → old.store.faults ≤ store.faults → blocks_of new ≤ most_blocks
     → CarriesOut (ReplaceSteps name (Ok new)) (edit_uses false) may tells old (with_store old store) (Ok tt)
 replace_made name new may tells old store seen leaves later few =
-    let acts = Change name new ∷ [] in
+    let acts = Replace name new ∷ [] in
     by_outcome name new (Passed acts) may tells old (with_store old store) (Ok tt) (room_for name new few)
     (carried_whole (AreDoneThen acts None) (edit_uses false) may tells old (with_store old store) tt
     (λ told. done_steps acts None tells old (with_store old store) refl refl
@@ -86,7 +79,7 @@ pub replace_failed : (name : List ℕ) (new : QuotaValue) (may : Cause → List 
     → Rose old.store.faults store.faults → store.files name ≡ old.store.files name → ReplacesOnly name old.store.files store.files → old.store.faults ≤ store.faults → blocks_of new ≤ most_blocks → may StoreFault name
     → CarriesOut (ReplaceSteps name (Ok new)) (edit_uses false) may tells old (with_store old store) (Err (refusal_of StoreFault name))
 replace_failed name new may tells old store rose same leaves later few allowed =
-    let acts = Change name new ∷ [] in
+    let acts = Replace name new ∷ [] in
     by_outcome name new (Passed acts) may tells old (with_store old store) (Err (refusal_of StoreFault name)) (room_for name new few) (record {
       done = tt;
       refused = rose;

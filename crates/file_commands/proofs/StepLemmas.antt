@@ -10,7 +10,7 @@ use Rattle.inode_scan.specs.Usage.{UsageMap}
 use Rattle.report_text.specs.declared.options.Options.{Options}
 use Rattle.refusals.specs.Outcome.{Outcome, Passed}
 use Rattle.command_words.specs.declared.command.Common.{Common}
-use Rattle.run_steps.specs.Act.{Act, Change, ToOut}
+use Rattle.run_steps.specs.Act.{Act, Replace, ToOut}
 use Rattle.run_steps.specs.Changing.{blocks_of}
 use Rattle.run_steps.specs.Done.{Outside}
 use Rattle.run_steps.specs.Meaning.{IsSure}
@@ -55,7 +55,7 @@ usage_sure : (common : Common) (device : Option ℕ) (from : Option (List ℕ)) 
     → IsSure (UsageSteps common.kind device from file now value) old
 usage_sure common device from file now value usage new old said fits few =
     sure_taking from (λ usage. true) (scan_step common.kind device from) (λ (u : UsageMap). ReplaceSteps file (checked value u now)) usage old said
-    (λ left. acts_sure (replaced file (checked value usage now)) (Change file new ∷ []) (record old { input = left }) (ap (replaced file) fits ∙ room_for file new few))
+    (λ left. acts_sure (replaced file (checked value usage now)) (Replace file new ∷ []) (record old { input = left }) (ap (replaced file) fits ∙ room_for file new few))
 
 usage_looks : (common : Common) (device : Option ℕ) (from : Option (List ℕ)) (file : List ℕ) (now : ℕ) (value : QuotaValue) → LooksFirst true true (UsageSteps common.kind device from file now value)
 usage_looks common device from file now value = looks_taking from (λ usage. true) (scan_step common.kind device from) _ (λ takes usage. acts_look takes (replaced file (checked value usage now)))
@@ -81,7 +81,7 @@ check_sure common false device from file invocation value usage new old is said 
 
 pub convert_looks : (kind : Kind) (before after : Format) (source target : List ℕ) (invocation : Invocation) → LooksFirst true true (ConvertSteps kind before after source target invocation)
 convert_looks kind before after source target invocation =
-    (refl, λ files. looks_then true true (targeted source target files) _ (λ apart. (refl, λ value. acts_look true (made source target (converted after value)))))
+    (inl refl, λ files. looks_then true true (targeted source target files) _ (λ apart. (refl, λ value. acts_look true (made source target (converted after value)))))
 
 -- the names are two, there is no file of the second one, the first one is accepted, and its values fit and have room
 pub convert_sure : (kind : Kind) (before after : Format) (source target : List ℕ) (invocation : Invocation) (value new : QuotaValue) (old : Outside)
@@ -91,4 +91,4 @@ convert_sure kind before after source target invocation value new old differ non
     let next = λ (v : QuotaValue). MakingSteps source target (converted after v) in
     sure_then (targeted source target old.files) (λ (_ : Unit {0}). Opening kind (Some before) source next) tt old (targets_free source target old.files differ none)
     (sure_opening kind (Some before) source next value old view
-    (acts_sure (made source target (converted after value)) (Change target new ∷ []) old (ap (made source target) fits ∙ room_for target new few)))
+    (acts_sure (made source target (converted after value)) (Replace target new ∷ []) old (ap (made source target) fits ∙ room_for target new few)))

@@ -7,12 +7,9 @@ use Rattle.std.proofs.lemmas.List.Sums.{sum_by-cons}
 use Rattle.quota_types.specs.declared.record.Entry.{Entry}
 use Rattle.quota_types.specs.declared.record.Rec.{Rec}
 use Rattle.quota_blocks.specs.Listed.{ids_of, records_of}
+use Rattle.quota_blocks.proofs.ListedLemmas.{pairs_of}
 use Rattle.convert.proofs.ValueLemmas.{pairs_listed}
 use Rattle.file_commands.specs.Generate.{sum_over}
-
--- entries as pairs
-abbrev pairs_of : List Entry → List (ℕ × Rec)
-pairs_of list = map (λ entry. (entry.id, entry.rec)) list
 
 sum_pairs : (count : Rec → ℕ) (list : List Entry) → sum_by (λ (pair : ℕ × Rec). count pair.1) (pairs_of list) ≡ sum_by (λ (entry : Entry). count entry.rec) list
 sum_pairs count [] = refl

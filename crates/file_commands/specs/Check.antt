@@ -23,14 +23,14 @@ use Rattle.refusals.specs.declared.cause.Cause.{Cause}
 use Rattle.refusals.specs.declared.cause.Cause.TheVariants.{SourceFault, Memory, TooLarge, BadLine, LongLine, Conflict, NoRoom}
 use Rattle.command_words.specs.declared.command.Common.{Common}
 use Rattle.run_steps.specs.declared.invocation.Invocation.{Invocation}
-use Rattle.run_steps.specs.Act.{Act}
+use Rattle.run_steps.specs.Act.{Act, Replace}
 use Rattle.run_steps.specs.Opening.{MayRefuseOpening}
 use Rattle.refusals.specs.Outcome.{Outcome, Passed, Refused}
 use Rattle.run_steps.specs.Run.{Uses}
 use Rattle.run_steps.specs.Steps.{DoingAll, Finish, Opening, Steps, Then}
 use Rattle.run_steps.specs.Taking.{AListing, InputMayRefuse, Taking, input_name, reading}
 use Rattle.refusals.specs.Refusals.{refusal_of}
-use Rattle.run_steps.specs.Changing.{blocks_of, edit_uses, written}
+use Rattle.run_steps.specs.Changing.{blocks_of, edit_uses, if_room}
 use Rattle.file_commands.specs.FileValue.{WritingMayRefuse}
 
 -- The listing.
@@ -66,7 +66,7 @@ checked value usage now = with_applied value (applied value.format value.grace n
 
 -- a file of this name stands for a value from then on, where it has room for it
 abbrev pub replaced : List ℕ → Result QuotaValue NoRoomFor → Outcome (List Act)
-replaced name (Ok new) = written name new false (nat_lt most_blocks (blocks_of new))
+replaced name (Ok new) = if_room name new (nat_lt most_blocks (blocks_of new)) (Replace name new)
 replaced name (Err out) = Refused (refusal_of (NoRoom out) name)
 
 -- a file is replaced

@@ -1,6 +1,6 @@
 -- `convertquota`. Source: the manual page of convertquota; that both files are named, that neither is in use, and that no file is
 -- written over is this project's own.
-use Rattle.std.specs.Prelude.{◌≡◌, ◌≢◌, ℕ, false, nat_lt, if◌then◌else◌, IfSome, List, Option, Some, None, Result, Ok, Err, ⊤}
+use Rattle.std.specs.Prelude.{◌≡◌, ◌≢◌, ℕ, nat_lt, if◌then◌else◌, IfSome, List, Option, Some, None, Result, Ok, Err, ⊤}
 use Rattle.std.specs.FinMap.{get}
 use Rattle.std.specs.Str.{bytes_eq}
 use Rattle.quota_types.specs.Kept.{IsKept}
@@ -19,8 +19,8 @@ use Rattle.refusals.specs.declared.cause.Cause.TheVariants.{StoreFault, Memory, 
 use Rattle.refusals.specs.declared.reason.Refusal.{Refusal}
 use Rattle.refusals.specs.Outcome.{Outcome, Passed, Refused, and_then}
 use Rattle.refusals.specs.Refusals.{refusal_of}
-use Rattle.run_steps.specs.Act.{Act}
-use Rattle.run_steps.specs.Changing.{blocks_of, written}
+use Rattle.run_steps.specs.Act.{Act, Replace}
+use Rattle.run_steps.specs.Changing.{blocks_of, if_room}
 use Rattle.run_steps.specs.Opening.{MayRefuseOpening, file_cause, opening_cause}
 use Rattle.run_steps.specs.Steps.{DoingAll, Finish, Looking, Opening, Steps, Then}
 use Rattle.run_steps.specs.declared.invocation.Invocation.{Invocation}
@@ -48,7 +48,7 @@ Targeting source target next = Looking (λ (files : World). Then (targeted sourc
 -- A file of the new name stands for the converted value from then on, where it has room for it. A value for which the new
 -- format has no room is said to be one of the file that is converted.
 abbrev pub made : (source target : List ℕ) → Result QuotaValue NoRoomFor → Outcome (List Act)
-made source target (Ok new) = written target new false (nat_lt most_blocks (blocks_of new))
+made source target (Ok new) = if_room target new (nat_lt most_blocks (blocks_of new)) (Replace target new)
 made source target (Err out) = Refused (refusal_of (NoRoom out) source)
 
 -- the new file is made

@@ -14,7 +14,7 @@ use Rattle.report_text.specs.declared.options.Options.{Options}
 use Rattle.refusals.specs.declared.cause.Cause.{Cause}
 use Rattle.refusals.specs.declared.cause.Cause.TheVariants.{StoreFault, SourceFault, SinkFault, LinkFault, Memory, NoRoom}
 use Rattle.refusals.specs.Refusals.{refusal_of}
-use Rattle.run_steps.specs.Act.{Act, Change, ToOut}
+use Rattle.run_steps.specs.Act.{Act, Replace, ToOut}
 use Rattle.run_steps.specs.Run.{Uses}
 use Rattle.run_steps.specs.Showing.{ShowingMayRefuse}
 use Rattle.run_steps.specs.Steps.{Doing, DoingAll, Finish, Steps, Stop, Then}
@@ -66,7 +66,7 @@ GenerateSteps seed count file now =
 
 -- the file of a value is made, and then the line on it is written
 abbrev pub WrittenSteps : (lines : ℕ) → List ℕ → (now : ℕ) → QuotaValue → Steps
-WrittenSteps lines file now new = Doing (Change file new) (Doing (ToOut (summary lines file now new)) Finish)
+WrittenSteps lines file now new = Doing (Replace file new) (Doing (ToOut (summary lines file now new)) Finish)
 
 -- the store is changed and the output written; the file stays where the line on it is not written
 abbrev pub generate_uses : Uses

@@ -3,6 +3,7 @@ pub mod Conversion
 pub mod FileValue
 pub mod Generate
 pub mod Report
+pub use Rattle.quota_blocks.specs.Frame
 pub use Rattle.quota_blocks.specs.Seen
 pub use Rattle.quota_blocks.specs.Unsynced
 pub use Rattle.run_steps.specs.Done

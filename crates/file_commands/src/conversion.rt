@@ -1,7 +1,7 @@
 ghost use Rattle.std.specs.Prelude.{◌≡◌, ◌≢◌, Bool, IsTrue, OnErr, OnOk, false};
+ghost use Rattle.quota_blocks.specs.Frame.{AreSynced};
 ghost use Rattle.quota_blocks.specs.Replace.{replacement_name};
 ghost use Rattle.quota_blocks.specs.Seen.{LinkSeen, SinkSeen, SourceSeen};
-ghost use Rattle.quota_blocks.specs.Unsynced.{AddsNone};
 ghost use Rattle.run_steps.specs.Changing.{edit_uses};
 ghost use Rattle.run_steps.specs.Done.{seen_of, tells_of};
 ghost use Rattle.run_steps.specs.Run.{CarriesOut};
@@ -47,8 +47,7 @@ pub fn convert_file<S: Store>(
     // The file that is converted is as it was in every case.
     ensures source { (S.seen store.new).files source ≡ (S.seen store.old).files source }
     // Where it was done, what was written has been synced.
-    ensures synced { OnOk result (IsTrue S.tells
-        → AddsNone (S.seen store.old).unsynced (S.seen store.new).unsynced) }
+    ensures synced { OnOk result (IsTrue S.tells → AreSynced (S.seen store.old) (S.seen store.new)) }
 {
     match convert(
         alloc,

@@ -1,12 +1,8 @@
-ghost use Rattle.std.specs.Prelude.{◌≡◌, Bool, IfErr, IfOk, IsTrue, Ok, OnErr, OnOk, false};
-ghost use Rattle.quota_types.specs.Kept.{IsKept};
-ghost use Rattle.quota_types.specs.declared.file_kind.Format.{Format as FormatOf};
-ghost use Rattle.quota_blocks.specs.Frame.{OnlyReads};
+ghost use Rattle.std.specs.Prelude.{◌≡◌, Bool, IfErr, IfOk, IsTrue, Ok, OnErr, OnOk, false, is_ok};
+ghost use Rattle.quota_blocks.specs.Frame.{AreSynced, OnlyReads};
 ghost use Rattle.quota_blocks.specs.QuotaValue.{QuotaValue};
 ghost use Rattle.quota_blocks.specs.Seen.{LinkSeen, SinkSeen, SourceSeen};
-ghost use Rattle.quota_blocks.specs.Unsynced.{AddsNone};
 ghost use Rattle.quota_map.specs.Reading.{IsReadFault, UnlessMemory};
-ghost use Rattle.quota_map.specs.View.{fresh_seen};
 ghost use Rattle.run_steps.specs.Done.{seen_of, tells_of};
 ghost use Rattle.run_steps.specs.Run.{CarriesOut};
 ghost use Rattle.file_commands.specs.Check.{HasKept, ReplaceSteps, new_format, new_value};
@@ -80,8 +76,7 @@ pub fn read_value<S: Store>(
         (⟦<AnyFile as QuotaFile<S>>⟧.holds opened store.old)) }
     ensures may { IfErr result (λ fault. UnlessMemory fault
         (⟦<AnyFile as QuotaFile<S>>⟧.may_refuse (⟦<AnyFile as QuotaFile<S>>⟧.seen opened).format fault)) }
-    ensures leaves { OnlyReads (⟦<AnyFile as QuotaFile<S>>⟧.seen opened).name (S.seen store.old) (S.seen store.new) }
-    ensures synced { OnOk result (AddsNone (S.seen store.old).unsynced (S.seen store.new).unsynced) }
+    ensures leaves { OnlyReads (is_ok result) (⟦<AnyFile as QuotaFile<S>>⟧.seen opened).name (S.seen store.old) (S.seen store.new) }
 {
     let format = QuotaFile::<S>::format(&opened);
     let grace = QuotaFile::<S>::grace(&opened);
@@ -117,8 +112,7 @@ pub fn write_value<S: Store>(
     ensures anew { OnOk result (IsTrue S.tells → IsMadeAnew value.now.kind (λ format. format ≡ value.now.format) file
         (S.seen store.old).files (S.seen store.new).files) }
     ensures named { OnErr result ((S.seen store.new).files file ≡ (S.seen store.old).files file) }
-    ensures synced { OnOk result (IsTrue S.tells
-        → AddsNone (S.seen store.old).unsynced (S.seen store.new).unsynced) }
+    ensures synced { OnOk result (IsTrue S.tells → AreSynced (S.seen store.old) (S.seen store.new)) }
 {
     match replace_file(
         alloc,

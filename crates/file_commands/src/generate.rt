@@ -4,6 +4,7 @@ ghost use Rattle.quota_types.specs.Rec.{kib_of};
 ghost use Rattle.quota_types.specs.declared.file_kind.Format.TheVariants.{V2R1};
 ghost use Rattle.quota_types.specs.declared.file_kind.Kind.TheVariants.{User};
 ghost use Rattle.quota_blocks.specs.Count.{Rose};
+ghost use Rattle.quota_blocks.specs.Frame.{AreSynced};
 ghost use Rattle.quota_blocks.specs.Listed.{ids_of, records_of};
 ghost use Rattle.quota_blocks.specs.QuotaValue.{QuotaValue};
 ghost use Rattle.quota_blocks.specs.Seen.{LinkSeen, SinkSeen, SourceSeen};
@@ -60,8 +61,7 @@ pub fn generate_file<S: Store, O: Sink>(
         (seen_of (S.seen store.old) input (O.seen out.old) err link)
         (seen_of (S.seen store.new) input (O.seen out.new) err link) result }
     // Where it was done, what was written has been synced.
-    ensures synced { OnOk result (IsTrue S.tells
-        → AddsNone (S.seen store.old).unsynced (S.seen store.new).unsynced) }
+    ensures synced { OnOk result (IsTrue S.tells → AreSynced (S.seen store.old) (S.seen store.new)) }
 {
     match generated_value(alloc, seed, count, now) {
         Ok(value) => write_made(alloc, &value, count, file, store, out, now),
@@ -118,8 +118,7 @@ fn write_made<S: Store, O: Sink>(
         (tells_of S.tells input_tells O.tells err_tells link_tells)
         (seen_of (S.seen store.old) input (O.seen out.old) err link)
         (seen_of (S.seen store.new) input (O.seen out.new) err link) result }
-    ensures synced { OnOk result (IsTrue S.tells
-        → AddsNone (S.seen store.old).unsynced (S.seen store.new).unsynced) }
+    ensures synced { OnOk result (IsTrue S.tells → AreSynced (S.seen store.old) (S.seen store.new)) }
 {
     match replace_file(
         alloc,
@@ -155,7 +154,7 @@ fn tell_made<S: Store, O: Sink>(
         (tells_of S.tells input_tells O.tells err_tells link_tells)
         (seen_of (S.seen store.old) input (O.seen out.old) err link)
         (seen_of (S.seen store.new) input (O.seen out.new) err link) result }
-    ensures synced { OnOk result (AddsNone (S.seen store.old).unsynced (S.seen store.new).unsynced) }
+    ensures synced { OnOk result (AreSynced (S.seen store.old) (S.seen store.new)) }
 {
     let Ok(name) = Word::copy_of(alloc, file.as_str()) else {
         return Err(Refusal::of(Cause::Memory, file));

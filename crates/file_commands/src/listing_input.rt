@@ -1,9 +1,8 @@
-ghost use Rattle.std.specs.Prelude.{◌≡◌, ◌≤◌, [], false, IfErr, IfOk, IsSome, IsTrue, None, OnOk, Some, unwrap_or};
+ghost use Rattle.std.specs.Prelude.{◌≡◌, ◌≤◌, [], false, IfErr, IfOk, IsSome, IsTrue, None, OnOk, Some, unwrap_or, is_ok};
 ghost use Rattle.quota_blocks.specs.Behind.{IsBehind};
 ghost use Rattle.quota_blocks.specs.Count.{Rose};
 ghost use Rattle.quota_blocks.specs.Frame.{OnlyReads};
 ghost use Rattle.quota_blocks.specs.StoreInput.{left_from};
-ghost use Rattle.quota_blocks.specs.Unsynced.{AddsNone};
 ghost use Rattle.refusals.specs.Outcome.{Passed};
 ghost use Rattle.run_steps.specs.Taking.{AListing, InputMayRefuse, IsInputFault, file_said, input_said};
 ghost use Rattle.file_commands.specs.Check.{scan_cause, scan_step};
@@ -41,8 +40,7 @@ pub fn take_usage<S: Store, I: Source>(
         (input_said from (scan_step kind device from) (S.seen store.old).files (I.seen input.old).left) refusal refusal.cause) }
     ensures may { IfErr result (λ refusal. InputMayRefuse AListing from refusal.cause refusal.name) }
     ensures placed { IfErr result (λ refusal. refusal.place ≡ nowhere) }
-    ensures leaves { OnlyReads (unwrap_or from []) (S.seen store.old) (S.seen store.new) }
-    ensures synced { OnOk result (AddsNone (S.seen store.old).unsynced (S.seen store.new).unsynced) }
+    ensures leaves { OnlyReads (is_ok result) (unwrap_or from []) (S.seen store.old) (S.seen store.new) }
     ensures later { (I.seen input.old).faults ≤ (I.seen input.new).faults }
     ensures keeps { I.keeps false input.old input.new }
 {
@@ -91,8 +89,7 @@ fn scan_file<S: Store>(
         (file_said name (scan_step kind device (Some name)) ((S.seen store.old).files name)) refusal refusal.cause) }
     ensures may { IfErr result (λ refusal. InputMayRefuse AListing (Some name) refusal.cause refusal.name) }
     ensures placed { IfErr result (λ refusal. refusal.place ≡ nowhere) }
-    ensures leaves { OnlyReads name (S.seen store.old) (S.seen store.new) }
-    ensures synced { OnOk result (AddsNone (S.seen store.old).unsynced (S.seen store.new).unsynced) }
+    ensures leaves { OnlyReads (is_ok result) name (S.seen store.old) (S.seen store.new) }
 {
     match store.size(name.as_str()) {
         Ok(Some(_)) => scan_there(alloc, kind, device, name, store),
@@ -116,8 +113,7 @@ fn scan_there<S: Store>(
         (scan_step kind device (Some name) (left_from ((S.seen store.old).files name) 0)) refusal refusal.cause) }
     ensures may { IfErr result (λ refusal. InputMayRefuse AListing (Some name) refusal.cause refusal.name) }
     ensures placed { IfErr result (λ refusal. refusal.place ≡ nowhere) }
-    ensures leaves { OnlyReads name (S.seen store.old) (S.seen store.new) }
-    ensures synced { OnOk result (AddsNone (S.seen store.old).unsynced (S.seen store.new).unsynced) }
+    ensures leaves { OnlyReads (is_ok result) name (S.seen store.old) (S.seen store.new) }
 {
     let mut source = StoreSource {
         name: name.into_string(),

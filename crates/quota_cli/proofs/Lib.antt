@@ -1,5 +1,6 @@
 mod AskedLemmas
 mod EffectLemmas
 mod RunLemmas
+mod RowLemmas
 mod ScriptFullLemmas
 mod ScriptLemmas

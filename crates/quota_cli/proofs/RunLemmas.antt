@@ -4,8 +4,9 @@ use Rattle.std.specs.Prelude.{⊤, ◌↔◌, IfErr, IfSome, IsErr, IsErrAnd, On
 use Rattle.std.specs.Result.{result_err}
 use Rattle.std.proofs.lemmas.Option.{none-some}
 use Rattle.quota_blocks.specs.Count.{Rose}
+use Rattle.quota_blocks.specs.Frame.{AreSynced}
 use Rattle.quota_blocks.specs.Seen.{SinkSeen}
-use Rattle.quota_blocks.specs.Unsynced.{AddsNone}
+use Rattle.quota_blocks.proofs.CountLemmas.{Rose-since}
 use Rattle.refusals.specs.declared.cause.Cause.{Cause}
 use Rattle.refusals.specs.declared.cause.Cause.TheVariants.{StoreFault, SourceFault, SinkFault, LinkFault, Memory}
 use Rattle.refusals.specs.declared.reason.Refusal.{Refusal}
@@ -20,7 +21,7 @@ use Rattle.run_steps.specs.Run.{CarriesOut, HasFailed, HasReason, HasSteps, IsDo
 use Rattle.quota_cli.specs.Headline.{HasEffect, HasEffectUpToErr, HasSaid, IsRefusedWord, IsStopped, Keeps, Setting, asked, steps_asked, uses_asked}
 use Rattle.quota_cli.specs.Script.{StandsInScript}
 use Rattle.command_words.specs.Asked.{command_of}
-use Rattle.command_table.specs.Description.{IsOnlyRead, StopsIt, IsCarriedOut}
+use Rattle.command_table.specs.Description.{IsLeftByEdit, IsOnlyRead, StopsIt, IsCarriedOut}
 use Rattle.run_steps.proofs.ActLemmas.{done_and_said, more_err, nothing_before}
 use Rattle.run_steps.proofs.MeaningLemmas.{received, sure_ends, to_end}
 use Rattle.run_steps.proofs.PartLemmas.{part_but_err}
@@ -53,10 +54,6 @@ nothing_said new said written =
 
 zero_not_2 : (status : ℕ) → status ≡ 0 → status ≡ 2 → ⊥
 zero_not_2 status is two = omega (arith, is, two)
-
--- a count that rose since a later moment rose since an earlier one
-rose_before : (old before now : ℕ) → old ≤ before → Rose before now → Rose old now
-rose_before old before now later rose = omega (arith, later, rose)
 
 -- a fault of an object outside needs a count that rose
 no_reason : (warns link : Bool) (old new : RunSeen) (said : SinkSeen) (cause : Cause) → new.err.faults ≤ said.faults → HasFailed warns link old new cause → NoFault old (once_said new said) → ⊥
@@ -124,7 +121,7 @@ whole_effect : (setting : Setting) (tells : RunTells) (old new : RunSeen) (statu
 whole_effect setting tells old new status has later told none reads =
     let own = has.has.acts in
     let bytes = closing_line has.refusal in
-    let wrote : new.err.written ≡ has.before.written ++ bytes = (has.line told).whole (λ rose. none (rose_before old.err.faults has.before.faults new.err.faults later rose)) in
+    let wrote : new.err.written ≡ has.before.written ++ bytes = (has.line told).whole (λ rose. none (Rose-since old.err.faults has.before.faults new.err.faults later rose)) in
     let said : new.err.written ≡ old.err.written ++ err_bytes (own ++ closing has.refusal) =
     wrote
     ∙ ap (λ (b : List ℕ). b ++ bytes) (has.has.done.err told)
@@ -285,6 +282,14 @@ run_named None same result status is kept = tt
 run_named (Some file) same (Ok value) status is kept = λ other. absurd (other is)
 run_named (Some file) same (Err refusal) status is kept = λ other. kept
 
+-- a file that is edited is left so by the status with which the run ends
+run_edited : (edited : Option (List ℕ)) (left : ℕ → List ℕ → Type 0) (result : Result (Unit {0}) Refusal) (status : ℕ) → status ≡ end_status (result_err result)
+    → ((file : List ℕ) → left 0 file) → IfSome edited (λ (file : List ℕ). IfErr result (λ (refusal : Refusal). left (status_of refusal.cause) file))
+    → IfSome edited (left status)
+run_edited None left result status is done kept = tt
+run_edited (Some file) left (Ok value) status is done kept = subst (λ (s : ℕ). left s file) (sym is) (done file)
+run_edited (Some file) left (Err refusal) status is done kept = subst (λ (s : ℕ). left s file) (sym is) kept
+
 -- what was written has been synced with status 0
 run_synced : (synced : Type 0) (result : Result (Unit {0}) Refusal) (status : ℕ) → status ≡ end_status (result_err result) → OnOk result synced → status ≡ 0 → synced
 run_synced synced (Ok value) status is done = λ zero. done
@@ -317,7 +322,9 @@ run_keeps setting tells old new said result status carried stands finished usage
   says = run_says setting tells old new said result status carried.carries stands finished;
   writes = run_writes setting tells old new said result status carried.carries finished;
   named = run_named (asked setting).replaces (λ (file : List ℕ). IsTrue tells.store → new.store.files file ≡ old.store.files file) result status finished.status_is carried.named;
-  synced = run_synced (IsTrue tells.store → AddsNone old.store.unsynced new.store.unsynced) result status finished.status_is carried.synced;
+  edited = run_edited (asked setting).edits (λ (s : ℕ) (file : List ℕ). IsTrue tells.store → IsLeftByEdit s old.store.files new.store.files file) result status finished.status_is
+      (λ file told other. absurd (other refl)) carried.edited;
+  synced = run_synced (IsTrue tells.store → AreSynced old.store new.store) result status finished.status_is carried.synced;
   untaken = λ one. run_untaken (new.link ≡ old.link) result status finished.status_is (carried.untaken one);
   unlinked = record {
     refusal = result_err result;

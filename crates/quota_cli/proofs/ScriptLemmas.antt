@@ -1,9 +1,9 @@
 -- Lines of a script that were carried out, one after another, and the script that they stand in.
 use Rattle.std.proofs.Common.{◌≡◌, ◌≤◌, ◌<◌, ◌+◌, ◌⊎◌, ℕ, Bool, true, false, cond, IsTrue, List, [], ◌∷◌, Option, None, Some, Ok, Err, Result, inl, inr, refl, sym, ap, subst, ◌∙◌, arith}
-use Rattle.std.specs.Prelude.{map, ⊤, ◌&&◌, ◌||◌, IfErr, IfSome, IsSome, OnOk, is_none}
+use Rattle.std.specs.Prelude.{⊤, ◌&&◌, ◌||◌, IfErr, IfSome, IsSome, OnOk, is_none}
 use Rattle.std.specs.Result.{result_err}
 use Rattle.std.specs.Str.{is_utf8}
-use Rattle.std.proofs.lemmas.Bool.{false≢true, le-leb}
+use Rattle.std.proofs.lemmas.Bool.{false≢true, le-leb, or_parts}
 use Rattle.std.proofs.lemmas.Option.{none-some}
 use Rattle.std.proofs.lemmas.Result.{IfErr-weaker, on_ok_weaker}
 use Rattle.quota_blocks.specs.Behind.{IsBehind}
@@ -11,7 +11,7 @@ use Rattle.quota_blocks.specs.Count.{Rose}
 use Rattle.quota_blocks.specs.InputLines.{InputLines, NoLine, LineThen, LongNext, PastNext, input_lines}
 use Rattle.quota_blocks.specs.Seen.{SourceSeen}
 use Rattle.quota_blocks.specs.Words.{words_of}
-use Rattle.quota_blocks.proofs.FrameLemmas.{adds_none-then, only_reads-none}
+use Rattle.quota_blocks.proofs.FrameLemmas.{are_synced-none, are_synced-then, only_reads-none}
 use Rattle.refusals.specs.declared.cause.Cause.{Cause}
 use Rattle.refusals.specs.declared.cause.Cause.TheVariants.{LinkFault, SourceFault, TooLarge, LongLine, BadLine, Memory}
 use Rattle.refusals.specs.declared.reason.Place.{Place}
@@ -22,7 +22,7 @@ use Rattle.run_steps.specs.Done.{Outside, RunSeen, RunTells, outside_of}
 use Rattle.run_steps.specs.Meaning.{IsSure, IsTaken}
 use Rattle.run_steps.specs.OneCommand.{ReadsToEnd}
 use Rattle.run_steps.specs.Run.{HasReason, Uses}
-use Rattle.run_steps.specs.Steps.{Before, InARow, Steps}
+use Rattle.run_steps.specs.Steps.{Before, Steps}
 use Rattle.run_steps.specs.declared.invocation.Invocation.{Invocation}
 use Rattle.run_steps.proofs.CarryingLemmas.{MayUseAll, carried_before, carried_in_line, carried_stopped, finish_carried, lined}
 use Rattle.run_steps.proofs.OpeningLemmas.{with_input}
@@ -90,10 +90,6 @@ own_number : (place : Option ℕ) (number : ℕ) → place ≡ Some number → i
 own_number None number is = absurd (cc)
 own_number (Some last) number is = let same : last ≡ number = cc in le-leb number last (omega (arith, same))
 
-first_false : (a b : Bool) → (a || b) ≡ false → (a ≡ false) × (b ≡ false)
-first_false true b is = absurd (cc)
-first_false false b is = (refl, is)
-
 second_false : (a b : Bool) → a ≡ true → (a && b) ≡ false → b ≡ false
 second_false true b is none = none
 second_false false b is none = absurd (cc)
@@ -109,7 +105,7 @@ lines_stopped now line lines ended tells old new refusal carried = record {
   own = λ none. absurd (none-some line.number (sym none ∙ carried.of_line.named));
   within = λ some. inl carried.of_line;
   unlinked = λ least ascends none.
-      carried.unlinked (second_false _ _ (own_number refusal.place.line line.number carried.of_line.named) (first_false _ _ none).0);
+      carried.unlinked (second_false _ _ (own_number refusal.place.line line.number carried.of_line.named) (or_parts _ _ none).0);
 }
 
 -- a line was carried out, and then the ones behind it
@@ -117,11 +113,11 @@ pub lines_passed : (now : ℕ) (line : LineSaid) (lines : List LineSaid) (ended 
     → IsLineCarried now line tells old middle (Ok passed) → AreCarried now lines ended tells middle new result → AreCarried now (line ∷ lines) ended tells old new result
 lines_passed now line lines ended tells old middle new passed result first then = record {
   carries = carried_before (LineSteps now line) (LinesSteps now lines ended) script_uses RunningMayRefuse tells old middle new passed result refl first.carries then.carries;
-  synced = on_ok_weaker result (λ added told. adds_none-then old.store.unsynced middle.store.unsynced new.store.unsynced (first.synced told) (added told)) then.synced;
+  synced = on_ok_weaker result (λ synced told. are_synced-then old.store middle.store new.store (first.synced told) (synced told)) then.synced;
   own = then.own;
   within = IfErr-weaker result _ _ (λ refusal one some. inr (middle, record { done = first.carries.done; unlinked = first.unlinked; later = first.carries.later }, one some)) then.within;
   unlinked = λ least ascends none.
-      let parts = first_false (is_come_to (result_err result) line && (asked_in_script line.text).uses.link) (comes_to_link lines (result_err result)) none in
+      let parts = or_parts (is_come_to (result_err result) line && (asked_in_script line.text).uses.link) (comes_to_link lines (result_err result)) none in
       then.unlinked line.number ascends.1 parts.1
       ∙ first.unlinked (second_false (is_come_to (result_err result) line) _ (come_to now line lines tells middle new result ascends.1 then.within) parts.0);
 }
@@ -130,7 +126,7 @@ lines_passed now line lines ended tells old middle new passed result first then 
 pub lines_done : (now : ℕ) (tells : RunTells) (old : RunSeen) (passed : Unit {0}) → AreCarried now [] None tells old old (Ok passed)
 lines_done now tells old passed = record {
   carries = finish_carried script_uses RunningMayRefuse tells old passed;
-  synced = λ told name is. is;
+  synced = λ told. are_synced-none old.store;
   own = tt;
   within = tt;
   unlinked = λ least ascends none. refl;
@@ -217,6 +213,7 @@ pub text_carried : (text : List ℕ) (invocation : Invocation) (tells : RunTells
 text_carried text invocation tells old new result carried = record {
   carries = carries_more _ _ _ (asked_in_script text).may tells old new result (λ cause name may. inr may) carried.carries;
   named = carried.named;
+  edited = carried.edited;
   synced = carried.synced;
   unfinished = carried.unfinished;
   untaken = carried.untaken;
@@ -235,6 +232,7 @@ text_wanting text invocation tells old =
     record {
       carries = nothing_carried (asked.steps invocation) asked.uses asked.may tells old (refusal_of Memory []) tt (inl refl) (placed_nowhere asked.uses (refusal_of Memory []) refl);
       named = every_file asked.replaces _ (λ file told. refl);
+      edited = every_file asked.edits _ (λ file told other. inl refl);
       synced = tt;
       unfinished = λ failed. absurd (cc);
       untaken = λ one five. refl;
@@ -290,10 +288,11 @@ pub script_carried : (invocation : Invocation) (tells : RunTells) (old : RunSeen
     → old.input.faults ≤ input.faults → (IsTrue tells.input → script_said old.input.left ≡ said) → (IsTrue tells.input → IsBehind old.input.left input.left)
     → (said.refusal ≡ None → IsTrue tells.input → input.left ≡ []) → AreCarried invocation.now said.lines said.refusal tells (with_input old input) new result → IsCarriedOut scripting invocation tells old new result
 script_carried invocation tells old input new result said later is behind ended carried = record {
-  carries = carries_since [] (LinesSteps invocation.now said.lines said.refusal) (ScriptSteps invocation) script_uses true RunningMayRefuse RunningMayRefuse tells old old.store input new result
+  carries = carries_since {done = true} [] (LinesSteps invocation.now said.lines said.refusal) (ScriptSteps invocation) script_uses true RunningMayRefuse RunningMayRefuse tells old old.store input new result
       (only_reads-none [] old.store) later (λ told. lines_lead invocation old input said (is told.input)
       (script_taken said.refusal old.input.left input.left (behind told.input) (λ none. ended none told.input))) (λ cause name may. may) carried.carries;
   named = tt;
+  edited = tt;
   synced = carried.synced;
   unfinished = IfErr-weaker result _ _ (λ refusal left failed told. (
     input,
@@ -367,6 +366,7 @@ script_unread invocation tells old input fault later rose = record {
     later = record { store = omega arith; input = later; out = omega arith; err = omega arith; link = omega arith };
   };
   named = tt;
+  edited = tt;
   synced = tt;
   unfinished = λ failed. absurd (unread_unlinked fault failed);
   untaken = λ one five. refl;
@@ -400,8 +400,3 @@ script_sure invocation old can = λ left taken.
     let none : left ≡ [] = taken.all (subst (λ (r : Option Refusal). IsTrue (is_none r)) (sym can.0) refl) in
     subst (λ (r : Option Refusal). IsSure (LinesSteps invocation.now said.lines r) (record old { input = left })) (sym can.0)
     (subst (λ (l : List ℕ). IsSure (LinesSteps invocation.now said.lines None) (record old { input = l })) (sym none) (lines_are_sure invocation.now said.lines (record old { input = [] }) can.1))
-
--- lines of a script that is not refused itself are commands in a row
-pub lines_in_a_row : (now : ℕ) (lines : List LineSaid) → LinesSteps now lines None ≡ InARow (map (LineSteps now) lines)
-lines_in_a_row now [] = refl
-lines_in_a_row now (line ∷ lines) = ap (λ (others : Steps). Before (LineSteps now line) others) (lines_in_a_row now lines)

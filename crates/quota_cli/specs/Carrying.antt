@@ -1,7 +1,7 @@
 -- Lines of a script that were carried out, but for an error line.
 use Rattle.std.specs.Prelude.{◌≡◌, ◌<◌, ℕ, ⊤, false, IfErr, IsSome, IsTrue, OnOk, List, [], ◌∷◌, Option, None, Result}
 use Rattle.std.specs.Result.{result_err}
-use Rattle.quota_blocks.specs.Unsynced.{AddsNone}
+use Rattle.quota_blocks.specs.Frame.{AreSynced}
 use Rattle.refusals.specs.declared.cause.Cause.{Cause}
 use Rattle.refusals.specs.declared.cause.Cause.TheVariants.{Memory, SourceFault}
 use Rattle.refusals.specs.declared.reason.Refusal.{Refusal}
@@ -16,7 +16,7 @@ use Rattle.quota_cli.specs.Script.{IsOfLine, IsOfLines, LineSteps, LinesSteps, R
 -- line; and it left the link as it was where it does not use it.
 pub record IsLineCarried (now : ℕ) (line : LineSaid) (tells : RunTells) (old new : RunSeen) (result : Result (Unit {0}) Refusal) : Type 0 where
   pub carries : CarriesOut (LineSteps now line) script_uses RunningMayRefuse tells old new result
-  pub synced : OnOk result (IsTrue tells.store → AddsNone old.store.unsynced new.store.unsynced)
+  pub synced : OnOk result (IsTrue tells.store → AreSynced old.store new.store)
   pub unlinked : (asked_in_script line.text).uses.link ≡ false → new.link ≡ old.link
   pub of_line : IfErr result (IsOfLine now line tells old new)
 
@@ -30,7 +30,7 @@ Ascends least (line ∷ lines) = (least < line.number) × Ascends line.number li
 -- where no line that was come to uses it.
 pub record AreCarried (now : ℕ) (lines : List LineSaid) (refusal : Option Refusal) (tells : RunTells) (old new : RunSeen) (result : Result (Unit {0}) Refusal) : Type 0 where
   pub carries : CarriesOut (LinesSteps now lines refusal) script_uses RunningMayRefuse tells old new result
-  pub synced : OnOk result (IsTrue tells.store → AddsNone old.store.unsynced new.store.unsynced)
+  pub synced : OnOk result (IsTrue tells.store → AreSynced old.store new.store)
   pub own : IfErr result (λ (said : Refusal). said.place.line ≡ None → ScriptMayRefuse said.cause said.name)
   pub within : IfErr result (λ (said : Refusal). IsSome said.place.line → IsOfLines now lines tells old new said)
   pub unlinked : (least : ℕ) → Ascends least lines → comes_to_link lines (result_err result) ≡ false → new.link ≡ old.link

@@ -1,8 +1,8 @@
 -- What a run of the program does to what is outside.
 use Rattle.std.specs.Prelude.{◌≡◌, ◌≢◌, ◌≤◌, ◌⊎◌, ◌↔◌, ℕ, false, IsTrue, IfSome, IsErr, List, [], Option, Some, None, ⊤}
 use Rattle.quota_blocks.specs.Count.{Rose}
+use Rattle.quota_blocks.specs.Frame.{AreSynced}
 use Rattle.quota_blocks.specs.Seen.{SinkSeen}
-use Rattle.quota_blocks.specs.Unsynced.{AddsNone}
 use Rattle.refusals.specs.declared.cause.Cause.TheVariants.{Full, LinkFault}
 use Rattle.refusals.specs.declared.reason.Refusal.{Refusal}
 use Rattle.refusals.specs.Line.{closing_line, error_line}
@@ -15,7 +15,7 @@ use Rattle.run_steps.specs.Run.{HasReason, HasSteps, IsDoneInPart, IsPlacedBy, U
 use Rattle.run_steps.specs.Steps.{Steps}
 use Rattle.run_steps.specs.declared.invocation.Invocation.{Invocation}
 use Rattle.command_words.specs.Asked.{command_of}
-use Rattle.command_table.specs.Description.{Description, IsOnlyRead}
+use Rattle.command_table.specs.Description.{Description, IsLeftByEdit, IsOnlyRead}
 use Rattle.command_table.specs.Table.{asked_by}
 use Rattle.quota_cli.specs.Script.{StandsInScript, commanded}
 
@@ -155,8 +155,13 @@ pub record Keeps (setting : Setting) (tells : RunTells) (old new : RunSeen) (sta
   -- With any status but 0 a file that the command replaces as a whole is as it was, after a fault of the store too.
   pub named : IfSome (asked setting).replaces (λ (file : List ℕ). status ≢ 0 → IsTrue tells.store
       → new.store.files file ≡ old.store.files file)
-  -- With status 0 what was written has been synced: no name is unsynced that was not.
-  pub synced : status ≡ 0 → IsTrue tells.store → AddsNone old.store.unsynced new.store.unsynced
+  -- With status 1, 2, 3 or 5 a file that the command edits is as it was; with status 4 it is as it was, or as an edit that failed may
+  -- leave it. With status 0 nothing is said here.
+  pub edited : IfSome (asked setting).edits (λ (file : List ℕ). IsTrue tells.store
+      → IsLeftByEdit status old.store.files new.store.files file)
+  -- With status 0 what was written has been synced: no name is unsynced that was not, and that of each file that has
+  -- changed is not.
+  pub synced : status ≡ 0 → IsTrue tells.store → AreSynced old.store new.store
   -- With status 5 nothing was done with the link: no datagram was taken. This is said of words that ask for no commands to be read.
   pub untaken : (uses_asked setting).reads_commands ≡ false → status ≡ 5 → new.link ≡ old.link
   -- The link is as it was where nothing that was come to uses it, up to the refusal that was said.

@@ -150,6 +150,7 @@ scripting = record {
   may = RunningMayRefuse;
   faulty = None;
   replaces = None;
+  edits = None;
   known = ⊤;
   unfinished = λ (invocation : Invocation) (tells : RunTells) (old new : RunSeen). IsTrue tells.input
       → (input : SourceSeen) × IsLeftUnfinished invocation.now (script_said old.input.left).lines tells (record old { input = input }) new;

@@ -6,7 +6,7 @@ use Rattle.std.proofs.lemmas.List.Elements.{All-cons, All-get_or, All-nil, All-p
 use Rattle.std.proofs.lemmas.List.Folds.{list_any-append}
 use Rattle.std.proofs.lemmas.List.Quantifiers.{position-Some}
 use Rattle.std.proofs.lemmas.Option.{get_or_from_slice_get, slice_get-get_or, slice_get-map, slice_get_within}
-use Rattle.std.proofs.lemmas.Bool.{true≢false}
+use Rattle.std.proofs.lemmas.Bool.{true≢false, and_parts, or_parts}
 use Rattle.std.proofs.lemmas.Bool.Decides.{nat_tests}
 use Rattle.std.proofs.lemmas.Slice.Eq.{bytes_eq-Decides}
 use Rattle.std.specs.List.{All, list_any, position, position_or_len, slice_get}
@@ -45,7 +45,7 @@ looks-then seen old between new first second = record {
 }
 
 -- one file was read
-pub looks-one : (seen : List ExportSeen) (place : ℕ) (export : ExportSeen) (old new : StoreSeen) → slice_get seen place ≡ Some export → OnlyReads export.file.name old new → new.reads ≤ old.reads
+pub looks-one : {done : Bool} (seen : List ExportSeen) (place : ℕ) (export : ExportSeen) (old new : StoreSeen) → slice_get seen place ≡ Some export → OnlyReads done export.file.name old new → new.reads ≤ old.reads
     → OnlyLooksUp seen old new
 looks-one seen place export old new at leaves few = record {
   files = leaves.files;
@@ -57,22 +57,6 @@ looks-one seen place export old new at leaves few = record {
 
 -- Names.
 
-and-left : (a b : Bool) → (a && b) ≡ true → a ≡ true
-and-left true b is = refl
-and-left false b is = is
-
-and-right : (a b : Bool) → (a && b) ≡ true → b ≡ true
-and-right true b is = is
-and-right false b is = absurd (cc)
-
-or-left : (a b : Bool) → (a || b) ≡ false → a ≡ false
-or-left true b is = is
-or-left false b is = refl
-
-or-right : (a b : Bool) → (a || b) ≡ false → b ≡ false
-or-right true b is = absurd (cc)
-or-right false b is = is
-
 kind-is : (one other : Kind) → kinds_eq one other ≡ true → one ≡ other
 kind-is User User is = refl
 kind-is User Group is = absurd (cc)
@@ -80,14 +64,14 @@ kind-is Group User is = absurd (cc)
 kind-is Group Group is = refl
 
 path-is : (path : List ℕ) (kind : Kind) (path' : List ℕ) (kind' : Kind) → names_eq path kind path' kind' ≡ true → path ≡ path'
-path-is path kind path' kind' is = (bytes_eq-Decides path path').0 (and-left (bytes_eq path path') (kinds_eq kind kind') is)
+path-is path kind path' kind' is = (bytes_eq-Decides path path').0 (and_parts (bytes_eq path path') (kinds_eq kind kind') is).0
 
 -- what is exported under one name is exported under an equal one
 pub under-same : {T : Type 0} (exported : List ℕ → Kind → T) (path : List ℕ) (kind : Kind) (path' : List ℕ) (kind' : Kind) → names_eq path kind path' kind' ≡ true
     → exported path kind ≡ exported path' kind'
 under-same exported path kind path' kind' is =
     ap (λ (p : List ℕ). exported p kind) (path-is path kind path' kind' is)
-    ∙ ap (exported path') (kind-is kind kind' (and-right (bytes_eq path path') (kinds_eq kind kind') is))
+    ∙ ap (exported path') (kind-is kind kind' (and_parts (bytes_eq path path') (kinds_eq kind kind') is).1)
 
 -- a name and what is under it
 abbrev key : Export → List ℕ × Kind
@@ -183,8 +167,8 @@ none-named path kind (export ∷ list) none =
     let here : Bool = names_eq (string_bytes export.path) export.kind path kind in
     let rest : Bool = is_exported (map export_seen list) path kind in
     All-cons (λ (e : Export). names_eq path kind (string_bytes e.path) e.kind ≡ false) export list
-    (names-flip (string_bytes export.path) export.kind path kind (or-left here rest none))
-    (none-named path kind list (or-right here rest none))
+    (names-flip (string_bytes export.path) export.kind path kind (or_parts here rest none).0)
+    (none-named path kind list (or_parts here rest none).1)
 
 served-beside : (tells : Bool) (files files' : World) (exported : Exported) (path : List ℕ) (kind : Kind) (value : QuotaValue) (export : Export) → files' ≡ files
     → names_eq path kind (string_bytes export.path) export.kind ≡ false → IsServed tells files exported export → IsServed tells files' (with_export exported path kind value) export
@@ -215,9 +199,9 @@ serves-push tells files files' old new exported path kind value export is same s
   others = λ path' kind' no.
       let all : is_exported (map export_seen (kept_in old ++ export ∷ [])) path' kind' ≡ false = ap (λ (l : List Export). is_exported (map export_seen l) path' kind') (sym is) ∙ no in
       let parted = sym (ap (list_any (is_named path' kind')) (map-append export_seen (kept_in old) (export ∷ [])) ∙ list_any-append (is_named path' kind') (map export_seen (kept_in old)) (export_seen export ∷ [])) ∙ all in
-      let last = or-left (is_named path' kind' (export_seen export)) false (or-right (is_exported (exports_seen old) path' kind') (list_any (is_named path' kind') (export_seen export ∷ [])) parted) in
+      let last = (or_parts (is_named path' kind' (export_seen export)) false (or_parts (is_exported (exports_seen old) path' kind') (list_any (is_named path' kind') (export_seen export ∷ [])) parted).1).0 in
       let named : names_eq path kind path' kind' ≡ false = sym (ap (λ (p : List ℕ). names_eq p export.kind path' kind') same_path ∙ ap (λ (k : Kind). names_eq path k path' kind') same_kind) ∙ last in
-      value-under exported path kind path' kind' value named ∙ serves.others path' kind' (or-left (is_exported (exports_seen old) path' kind') (list_any (is_named path' kind') (export_seen export ∷ [])) parted);
+      value-under exported path kind path' kind' value named ∙ serves.others path' kind' (or_parts (is_exported (exports_seen old) path' kind') (list_any (is_named path' kind') (export_seen export ∷ [])) parted).0;
 }
 
 -- what is seen of one more
@@ -255,7 +239,7 @@ found-at tells files exports exported place seen export path kind id rec there n
     ∙ sym (ap (option_map (record_of id)) (sym (under-same exported (string_bytes export.path) export.kind path kind (named-at exports place seen export path kind there named at)) ∙ served.there))
 
 -- one look-up
-pub looks-at : (exports : Exports) (place : ℕ) (export : Export) (old new : StoreSeen) → slice_get (kept_in exports) place ≡ Some export → OnlyReads (any_seen export.file).name old new → new.reads ≤ old.reads
+pub looks-at : {done : Bool} (exports : Exports) (place : ℕ) (export : Export) (old new : StoreSeen) → slice_get (kept_in exports) place ≡ Some export → OnlyReads done (any_seen export.file).name old new → new.reads ≤ old.reads
     → OnlyLooksUp (exports_seen exports) old new
 looks-at exports place export old new at leaves few = looks-one (exports_seen exports) place (export_seen export) old new (seen-at exports place export at) leaves few
 

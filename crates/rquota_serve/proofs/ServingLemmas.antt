@@ -7,6 +7,7 @@ use Rattle.std.specs.Option.{option_to_list}
 use Rattle.quota_blocks.specs.Count.{Rose}
 use Rattle.quota_blocks.specs.Seen.{Datagram, LinkSeen}
 use Rattle.quota_blocks.specs.declared.quota_file.FileFault.TheVariants.{Store as CallFailed, Damage as Damaged, Full, Memory as NoMemory}
+use Rattle.quota_blocks.proofs.CountLemmas.{Rose-since}
 use Rattle.rquota_xdr.specs.Reply.{spelling_of}
 use Rattle.rquota_xdr.specs.declared.reply.Reply.{Reply}
 use Rattle.rquota_serve.specs.Exported.{Exported}
@@ -14,9 +15,6 @@ use Rattle.rquota_serve.specs.Refusal.{IsServeFault}
 use Rattle.rquota_serve.specs.declared.fault.ServeFault.{ServeFault}
 use Rattle.rquota_serve.specs.declared.fault.ServeFault.TheVariants.{Link as LinkFailed, File as FileFailed}
 use Rattle.rquota_serve.specs.Serving.{HasReply, Served, Stopped, answers_of, datagram_reply}
-
-rose-since : (before between now : ℕ) → before ≤ between → Rose between now → Rose before now
-rose-since before between now later rose = omega (arith, later, rose)
 
 -- no datagrams have no answers
 answers-none : (exported : Exported) → answers_of exported [] ≡ []
@@ -133,8 +131,8 @@ served-one serves datagram reply old new left sent is = record {
 -- a cause of a later step is one of all
 pub refused-since : (before after : Exported → Type 0) (store between now : ℕ) (link link_between link_now : ℕ) (fault : ServeFault) → store ≤ between → link ≤ link_between
     → ((exported : Exported) → before exported → after exported) → IsServeFault between now link_between link_now after fault → IsServeFault store now link link_now before fault
-refused-since before after store between now link link_between link_now LinkFailed later link_later stays cause = rose-since link link_between link_now link_later cause
-refused-since before after store between now link link_between link_now (FileFailed CallFailed) later link_later stays cause = rose-since store between now later cause
+refused-since before after store between now link link_between link_now LinkFailed later link_later stays cause = Rose-since link link_between link_now link_later cause
+refused-since before after store between now link link_between link_now (FileFailed CallFailed) later link_later stays cause = Rose-since store between now later cause
 refused-since before after store between now link link_between link_now (FileFailed (Damaged damage)) later link_later stays cause = λ exported is. cause exported (stays exported is)
 refused-since before after store between now link link_between link_now (FileFailed (Full blocks limit)) later link_later stays cause = cause
 refused-since before after store between now link link_between link_now (FileFailed NoMemory) later link_later stays cause = cause

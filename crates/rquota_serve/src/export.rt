@@ -1,4 +1,4 @@
-ghost use Rattle.std.specs.Prelude.{IsTrue};
+ghost use Rattle.std.specs.Prelude.{IsTrue, is_ok};
 ghost use Rattle.quota_map.specs.AnyFile.{any_seen};
 
 use quota_blocks::{FileFault, OpenFault, QuotaFile, Store};
@@ -24,7 +24,6 @@ impl Export {
     ghost use Rattle.quota_blocks.specs.Frame.{OnlyReads};
     ghost use Rattle.quota_blocks.specs.QuotaFile.{CountsRefusal, IsLookupFault};
     ghost use Rattle.quota_blocks.specs.QuotaValue.{QuotaValue};
-    ghost use Rattle.quota_blocks.specs.Unsynced.{AddsNone};
     ghost use Rattle.quota_map.specs.AnyFile.{HoldsAny, MayRefuse};
     ghost use Rattle.quota_map.specs.View.{IsOpenFault, IsOpenedAs, IsView};
     ghost use Rattle.quota_blocks.specs.Block.{bytes_of};
@@ -53,8 +52,7 @@ impl Export {
             → HoldsAny S.tells (S.seen store.new).files export.file value) }
         ensures refused { IfErr result (IsOpenFault (S.seen store.old).faults (S.seen store.new).faults S.tells
             ((S.seen store.old).files file.now) kind format) }
-        ensures leaves { OnlyReads file.now (S.seen store.old) (S.seen store.new) }
-        ensures synced { OnOk result (AddsNone (S.seen store.old).unsynced (S.seen store.new).unsynced) }
+        ensures leaves { OnlyReads (is_ok result) file.now (S.seen store.old) (S.seen store.new) }
         ensures reads { OnOk result (format ≢ Some Format.V1 → IsTrue S.tells → (S.seen store.new).reads
             ≤ (S.seen store.old).reads + 3 * (header_of (bytes_of ((S.seen store.old).files file.now))).blocks) }
     {
@@ -85,8 +83,7 @@ impl Export {
         ensures may { IfErr result (MayRefuse (any_seen self.old.file).format) }
         ensures stays { (value : QuotaValue) → HoldsAny S.tells (S.seen store.old).files self.old.file value
             → HoldsAny S.tells (S.seen store.new).files self.new.file value }
-        ensures leaves { OnlyReads (any_seen self.old.file).name (S.seen store.old) (S.seen store.new) }
-        ensures synced { OnOk result (AddsNone (S.seen store.old).unsynced (S.seen store.new).unsynced) }
+        ensures leaves { OnlyReads (is_ok result) (any_seen self.old.file).name (S.seen store.old) (S.seen store.new) }
         ensures reads { (S.seen store.new).reads ≤ (S.seen store.old).reads }
         ensures path { string_bytes self.new.path ≡ string_bytes self.old.path }
         ensures kind { self.new.kind ≡ self.old.kind }

@@ -13,7 +13,7 @@ pub struct Exports {
 }
 
 impl Exports {
-    ghost use Rattle.std.specs.Prelude.{Bool, ◌≡◌, ◌≢◌, ◌+◌, ◌*◌, ◌≤◌, ◌∷◌, ◌++◌, [], Ok, Option, None, Some, IsTrue, IfOk, IfErr, IfSome, IfNone, OnErr, OnOk, is_some, position, slice_get};
+    ghost use Rattle.std.specs.Prelude.{Bool, ◌≡◌, ◌≢◌, ◌+◌, ◌*◌, ◌≤◌, ◌∷◌, ◌++◌, [], Ok, Option, None, Some, IsTrue, IfOk, IfErr, IfSome, IfNone, OnErr, OnOk, is_some, position, slice_get, is_ok};
     ghost use Rattle.quota_types.specs.declared.file_kind.Format.{Format};
     ghost use Rattle.entry_codec.specs.Header.{header_of};
     ghost use Rattle.quota_blocks.specs.Frame.{OnlyReads};
@@ -71,8 +71,7 @@ impl Exports {
         ensures refused { IfErr result (IsOpenFault (S.seen store.old).faults (S.seen store.new).faults S.tells
             ((S.seen store.old).files file.now) kind format) }
         ensures unchanged { OnErr result (kept_in self.new ≡ kept_in self.old) }
-        ensures leaves { OnlyReads file.now (S.seen store.old) (S.seen store.new) }
-        ensures synced { OnOk result (AddsNone (S.seen store.old).unsynced (S.seen store.new).unsynced) }
+        ensures leaves { OnlyReads (is_ok result) file.now (S.seen store.old) (S.seen store.new) }
         ensures reads { OnOk result (format ≢ Some Format.V1 → IsTrue S.tells → (S.seen store.new).reads
             ≤ (S.seen store.old).reads + 3 * (header_of (bytes_of ((S.seen store.old).files file.now))).blocks) }
     {

@@ -65,8 +65,8 @@ some_value true sees seen = let one = seen refl in (one.0, λ told. one.1)
 some_value false sees seen = (nothing_value, λ told. absurd (false≢true told))
 
 -- the first file was exported, and so were the others
-pub opened_more : (format : Option Format) (export : Export) (behind list : List Export) (tells : Bool) (old store new : StoreSeen) (middle_serves serves : Exported → Type 0) (before : Exported)
-    → list ≡ export ∷ behind → OnlyReads export.file old store → (IsTrue tells → (value : QuotaValue) × IsView (old.files export.file) export.kind format (Ok value))
+pub opened_more : {done : Bool} (format : Option Format) (export : Export) (behind list : List Export) (tells : Bool) (old store new : StoreSeen) (middle_serves serves : Exported → Type 0) (before : Exported)
+    → list ≡ export ∷ behind → OnlyReads done export.file old store → (IsTrue tells → (value : QuotaValue) × IsView (old.files export.file) export.kind format (Ok value))
     → (IsTrue tells → (value : QuotaValue) → IsView (old.files export.file) export.kind format (Ok value) → middle_serves (with_export before export.path export.kind value))
     → ((middle : Exported) → (IsTrue tells → middle_serves middle) → IsOpened format behind tells store new serves middle)
     → IsOpened format list tells old new serves before
@@ -87,9 +87,9 @@ opened_more format export behind list tells old store new middle_serves serves b
     )
 
 -- the first file was exported, and one behind it was not
-pub unopened_more : (format : Option Format) (export : Export) (behind list : List Export) (old store new : StoreSeen) (middle_serves : Exported → Type 0) (before : Exported) (next : Exported → Steps)
+pub unopened_more : {done : Bool} (format : Option Format) (export : Export) (behind list : List Export) (old store new : StoreSeen) (middle_serves : Exported → Type 0) (before : Exported) (next : Exported → Steps)
     (input : SourceSeen) (out err : SinkSeen) (link : LinkSeen) (tells input_tells out_tells err_tells link_tells : Bool) (result : Result (Unit {0}) Refusal)
-    → list ≡ export ∷ behind → OnlyReads export.file old store → (IsTrue tells → (value : QuotaValue) × IsView (old.files export.file) export.kind format (Ok value))
+    → list ≡ export ∷ behind → OnlyReads done export.file old store → (IsTrue tells → (value : QuotaValue) × IsView (old.files export.file) export.kind format (Ok value))
     → (IsTrue tells → (value : QuotaValue) → IsView (old.files export.file) export.kind format (Ok value) → middle_serves (with_export before export.path export.kind value))
     → ((middle : Exported) → (IsTrue tells → middle_serves middle) → CarriesOut (OpeningAll format behind middle next) serve_uses (ExportingMayRefuse format behind)
     (tells_of tells input_tells out_tells err_tells link_tells) (seen_of store input out err link) (seen_of new input out err link) result)
@@ -123,9 +123,9 @@ refused_carried steps may tells old new stated said (inr is) allowed carries =
     subst (λ (r : Refusal). CarriesOut steps serve_uses may tells old new (Err r)) (sym is) (unnamed steps may tells old new stated allowed carries)
 
 -- the first file was not exported
-pub unopened_first : (format : Option Format) (export : Export) (behind list : List Export) (old store : StoreSeen) (before : Exported) (next : Exported → Steps)
+pub unopened_first : {done : Bool} (format : Option Format) (export : Export) (behind list : List Export) (old store : StoreSeen) (before : Exported) (next : Exported → Steps)
     (input : SourceSeen) (out err : SinkSeen) (link : LinkSeen) (tells input_tells out_tells err_tells link_tells : Bool) (fault : OpenFault) (said : Refusal)
-    → list ≡ export ∷ behind → IsOpenFault old.faults store.faults tells (old.files export.file) export.kind format fault → OnlyReads export.file old store
+    → list ≡ export ∷ behind → IsOpenFault old.faults store.faults tells (old.files export.file) export.kind format fault → OnlyReads done export.file old store
     → (said ≡ refusal_of (opening_cause fault) export.file) ⊎ (said ≡ refusal_of Memory [])
     → CarriesOut (OpeningAll format list before next) serve_uses (ExportingMayRefuse format list) (tells_of tells input_tells out_tells err_tells link_tells) (seen_of old input out err link) (seen_of store input out err link) (Err said)
 unopened_first format export behind list old store before next input out err link tells input_tells out_tells err_tells link_tells fault said is cause reads says =

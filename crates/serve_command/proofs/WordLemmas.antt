@@ -6,6 +6,7 @@ use Rattle.std.specs.Option.{option_and_then, option_map}
 use Rattle.std.specs.Str.{bytes_eq}
 use Rattle.std.proofs.lemmas.Bool.Decides.{nat_tests}
 use Rattle.std.proofs.lemmas.List.Folds.{list_any-append}
+use Rattle.std.proofs.lemmas.Bool.{or_from, or_parts}
 use Rattle.quota_types.specs.declared.file_kind.Kind.{Kind}
 use Rattle.quota_types.specs.declared.file_kind.Kind.TheVariants.{User, Group}
 use Rattle.quota_blocks.specs.Numeral.{number_of}
@@ -34,19 +35,6 @@ use Rattle.serve_command.specs.Words.{CanServe}
 
 -- Exports behind exports.
 
-or-right : (a b : Bool) → (a || b) ≡ false → b ≡ false
-or-right true b is = absurd (cc)
-or-right false b is = is
-
-or-left : (a b : Bool) → (a || b) ≡ false → a ≡ false
-or-left true b is = is
-or-left false b is = refl
-
-both : (a b : Bool) → a ≡ false → b ≡ false → (a || b) ≡ false
-both false false one two = refl
-both true b one two = absurd (cc)
-both false true one two = absurd (cc)
-
 may-now : (few free : Bool) → few ≡ true → free ≡ false → IsTrue (few && not free)
 may-now true false one two = refl
 may-now false free one two = absurd (cc)
@@ -66,9 +54,9 @@ may_behind before (first ∷ list) export may few free others = (
   may.0,
   λ (file : FileSeen).
       let seen : ExportSeen = record { path = first.path; kind = first.kind; file = file } in
-      let mine : names_eq first.path first.kind export.path export.kind ≡ false = or-left _ _ others in
+      let mine : names_eq first.path first.kind export.path export.kind ≡ false = (or_parts _ _ others).0 in
       may_behind (before ++ seen ∷ []) list export (may.1 file) (omega (arith, few, length-append before (seen ∷ [])))
-      (list_any-append (is_named export.path export.kind) before (seen ∷ []) ∙ both _ _ free (both _ _ mine refl)) (or-right _ _ others),
+      (list_any-append (is_named export.path export.kind) before (seen ∷ []) ∙ or_from _ _ free (or_from _ _ mine refl)) (or_parts _ _ others).1,
 )
 
 -- The words of kinds.

@@ -1,52 +1,54 @@
-use Rattle.std.proofs.Common.{ap, refl}
-use Rattle.std.proofs.lemmas.Result.{on_err_weaker, on_ok_weaker}
-use Rattle.command_table.proofs.CommandLemmas.{carried_alone, not_here_carried, of_refusal_weaker}
+use Rattle.std.proofs.Common.{ap, inl, refl}
+use Rattle.std.proofs.lemmas.Result.{on_err_weaker}
+use Rattle.command_table.proofs.CommandLemmas.{carried_alone, not_here_carried, of_every_refusal, of_refusal_weaker, read_synced}
 use Rattle.command_table.proofs.commands.carry_out.Goals as goal
 
 pub returns-in-Report-clause-carries : goal.returns-in-Report-clause-carries
 returns-in-Report-clause-carries g c =
-    rw c.in-Report.is (carried_alone _ _ _ _ _ _ tt refl refl (c.report_file.ensures.carries _ _ _ _ _ _ c.args.invocation.line)
-    tt (on_ok_weaker c.report_file.result (λ added told. added) c.report_file.ensures.synced))
+    let carries = c.report_file.ensures.carries _ _ _ _ _ _ c.args.invocation.line in
+    rw c.in-Report.is (carried_alone _ _ _ _ _ _ tt refl refl carries tt tt
+    (read_synced _ _ _ _ _ _ c.report_file.result refl carries c.report_file.ensures.synced))
 
 pub returns-in-SetLimits-clause-carries : goal.returns-in-SetLimits-clause-carries
 returns-in-SetLimits-clause-carries g c =
     rw c.in-SetLimits.is (carried_alone _ _ _ _ _ _ tt refl refl (c.edit_by_words.ensures.carries _ _ _ _ _ _)
-    (c.edit_by_words.ensures.named refl) c.edit_by_words.ensures.synced)
+    tt (of_every_refusal c.edit_by_words.result (λ refusal same told other. inl (same told)) (c.edit_by_words.ensures.named refl)) c.edit_by_words.ensures.synced)
 
 pub returns-in-CopyLimits-clause-carries : goal.returns-in-CopyLimits-clause-carries
 returns-in-CopyLimits-clause-carries g c =
     rw c.in-CopyLimits.is (carried_alone _ _ _ _ _ _ tt refl refl (c.edit_by_words-in-CopyLimits.ensures.carries _ _ _ _ _ _)
-    (c.edit_by_words-in-CopyLimits.ensures.named refl) c.edit_by_words-in-CopyLimits.ensures.synced)
+    tt (of_every_refusal c.edit_by_words-in-CopyLimits.result (λ refusal same told other. inl (same told)) (c.edit_by_words-in-CopyLimits.ensures.named refl)) c.edit_by_words-in-CopyLimits.ensures.synced)
 
 pub returns-in-SetGrace-clause-carries : goal.returns-in-SetGrace-clause-carries
 returns-in-SetGrace-clause-carries g c =
     rw c.in-SetGrace.is (carried_alone _ _ _ _ _ _ tt refl refl (c.edit_by_words-in-SetGrace.ensures.carries _ _ _ _ _ _)
-    (c.edit_by_words-in-SetGrace.ensures.named refl) c.edit_by_words-in-SetGrace.ensures.synced)
+    tt (of_every_refusal c.edit_by_words-in-SetGrace.result (λ refusal same told other. inl (same told)) (c.edit_by_words-in-SetGrace.ensures.named refl)) c.edit_by_words-in-SetGrace.ensures.synced)
 
 pub returns-in-SetTimes-clause-carries : goal.returns-in-SetTimes-clause-carries
 returns-in-SetTimes-clause-carries g c =
     rw c.in-SetTimes.is (carried_alone _ _ _ _ _ _ tt refl refl (c.edit_by_words-in-SetTimes.ensures.carries _ _ _ _ _ _)
-    tt c.edit_by_words-in-SetTimes.ensures.synced)
+    tt tt c.edit_by_words-in-SetTimes.ensures.synced)
 
 pub returns-in-PrintForm-clause-carries : goal.returns-in-PrintForm-clause-carries
 returns-in-PrintForm-clause-carries g c =
-    rw c.in-PrintForm.is (carried_alone _ _ _ _ _ _ tt refl refl (c.print_by_word.ensures.carries _ _ _ _ _ _ c.args.invocation.now c.args.invocation.line)
-    tt (on_ok_weaker c.print_by_word.result (λ added told. added) c.print_by_word.ensures.synced))
+    let carries = c.print_by_word.ensures.carries _ _ _ _ _ _ c.args.invocation.now c.args.invocation.line in
+    rw c.in-PrintForm.is (carried_alone _ _ _ _ _ _ tt refl refl carries tt tt
+    (read_synced _ _ _ _ _ _ c.print_by_word.result refl carries c.print_by_word.ensures.synced))
 
 pub returns-in-Batch-clause-carries : goal.returns-in-Batch-clause-carries
 returns-in-Batch-clause-carries g c =
     rw c.in-Batch.is (carried_alone _ _ _ _ _ _ tt refl refl (c.apply_lines.ensures.carries _ _ _ _ _ _ c.args.invocation.line)
-    tt c.apply_lines.ensures.synced)
+    tt tt c.apply_lines.ensures.synced)
 
 pub returns-in-ApplyForm-clause-carries : goal.returns-in-ApplyForm-clause-carries
 returns-in-ApplyForm-clause-carries g c =
     rw c.in-ApplyForm.is (carried_alone _ _ _ _ _ _ tt refl refl (c.apply_by_word.ensures.carries _ _ _ _)
-    c.apply_by_word.ensures.named c.apply_by_word.ensures.synced)
+    tt (of_every_refusal c.apply_by_word.result (λ refusal same told other. inl (same told)) c.apply_by_word.ensures.named) c.apply_by_word.ensures.synced)
 
 pub returns-in-Check-clause-carries : goal.returns-in-Check-clause-carries
 returns-in-Check-clause-carries g c =
     rw c.in-Check.is (carried_alone _ _ _ _ _ _ tt refl refl (c.check_file.ensures.carries _ _ _ _ _ _ c.args.invocation.line)
-    (on_err_weaker c.check_file.result (λ same told. same) c.check_file.ensures.named) c.check_file.ensures.synced)
+    (on_err_weaker c.check_file.result (λ same told. same) c.check_file.ensures.named) tt c.check_file.ensures.synced)
 
 pub convert_file-requires : goal.convert_file-requires
 convert_file-requires g c = rw c.in-Convert.is at c.requires.known
@@ -54,7 +56,7 @@ convert_file-requires g c = rw c.in-Convert.is at c.requires.known
 pub returns-in-Convert-clause-carries : goal.returns-in-Convert-clause-carries
 returns-in-Convert-clause-carries g c =
     rw c.in-Convert.is (carried_alone _ _ _ _ _ _ tt refl refl (c.convert_file.ensures.carries _ _ _ _ _ _ _ _ c.args.invocation)
-    (on_err_weaker c.convert_file.result (λ same told. same) c.convert_file.ensures.named) c.convert_file.ensures.synced)
+    (on_err_weaker c.convert_file.result (λ same told. same) c.convert_file.ensures.named) tt c.convert_file.ensures.synced)
 
 pub serve_files-requires-clause-some : goal.serve_files-requires-clause-some
 serve_files-requires-clause-some g c = (rw c.in-Serve.is at c.requires.known).0
@@ -63,15 +65,18 @@ pub serve_files-requires-clause-apart : goal.serve_files-requires-clause-apart
 serve_files-requires-clause-apart g c = (rw c.in-Serve.is at c.requires.known).1
 
 pub returns-in-Serve-clause-carries : goal.returns-in-Serve-clause-carries
-returns-in-Serve-clause-carries g c = rw c.in-Serve.is (record {
-  carries = c.serve_files.ensures.carries (g.I.Source.seen c.args.input.now) (g.O.Sink.seen c.args.out.now) (g.E.Sink.seen c.args.err.now) g.I.Source.tells g.O.Sink.tells g.E.Sink.tells c.args.invocation;
-  named = tt;
-  synced = on_ok_weaker c.serve_files.result (λ added told. added) c.serve_files.ensures.synced;
-  unfinished = c.serve_files.ensures.stopped;
-  untaken = λ one. of_refusal_weaker c.serve_files.result _ _ (λ refusal same five. ap g.L.Link.seen (same five)) c.serve_files.ensures.untaken;
-  unlinked = λ told no. absurd (cc);
-  unbegun = λ reads. absurd (cc);
-})
+returns-in-Serve-clause-carries g c =
+    let carries = c.serve_files.ensures.carries (g.I.Source.seen c.args.input.now) (g.O.Sink.seen c.args.out.now) (g.E.Sink.seen c.args.err.now) g.I.Source.tells g.O.Sink.tells g.E.Sink.tells c.args.invocation in
+    rw c.in-Serve.is (record {
+      carries = carries;
+      named = tt;
+      edited = tt;
+      synced = read_synced _ _ _ _ _ _ c.serve_files.result refl carries c.serve_files.ensures.synced;
+      unfinished = c.serve_files.ensures.stopped;
+      untaken = λ one. of_refusal_weaker c.serve_files.result _ _ (λ refusal same five. ap g.L.Link.seen (same five)) c.serve_files.ensures.untaken;
+      unlinked = λ told no. absurd (cc);
+      unbegun = λ reads. absurd (cc);
+    })
 
 pub returns-in-Script-clause-carries : goal.returns-in-Script-clause-carries
 returns-in-Script-clause-carries g c = rw (c.in-Script.is, c.unknown_command.ensures) (not_here_carried c.args.invocation _ _)
@@ -79,4 +84,4 @@ returns-in-Script-clause-carries g c = rw (c.in-Script.is, c.unknown_command.ens
 pub returns-in-Generate-clause-carries : goal.returns-in-Generate-clause-carries
 returns-in-Generate-clause-carries g c =
     rw c.in-Generate.is (carried_alone _ _ _ _ _ _ tt refl refl (c.generate_file.ensures.carries _ _ _ _ _ _)
-    tt c.generate_file.ensures.synced)
+    tt tt c.generate_file.ensures.synced)

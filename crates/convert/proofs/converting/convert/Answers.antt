@@ -2,6 +2,9 @@ use Rattle.std.proofs.Common.{◌≡◌, ◌≢◌, List, None, rules, sym, subs
 use Rattle.std.specs.List.Sorted.{IsStrictlyIncreasing}
 use Rattle.quota_types.specs.declared.record.Entry.{Entry}
 use Rattle.quota_blocks.specs.Listed.{ids_of}
+use Rattle.quota_blocks.proofs.FrameLemmas.{are_synced-read, are_synced-then}
+use Rattle.quota_blocks.proofs.UnsyncedLemmas.{replaced-named}
+use Rattle.quota_map.proofs.ReplacedLemmas.{replaced-synced}
 use Rattle.convert.specs.Convert.{Asked, HasNoTarget, asked_for}
 use Rattle.convert.specs.Listing.{kept_list}
 use Rattle.convert.proofs.ConvertLemmas.{absent_of, converted_of, made_of, not_made_of, source_refused, unfit_of}
@@ -56,6 +59,13 @@ returns-in-Ok-replace_file-clause-made g c =
     (converted_of S.tells asked old (S.seen c.size.new.self) c.in-Ok.carried.grace read.read.0 list looked.leaves.files read.read.1 read.ascends entries kept.fits is)
     (subst (λ (l : List Entry). IsStrictlyIncreasing (ids_of l)) (sym is) (kept_ascends c.args.new list read.ascends))
     (read.leaves.files ∙ looked.leaves.files) done.few done.replaced done.seen
+
+pub returns-in-Ok-replace_file-clause-synced : goal.returns-in-Ok-replace_file-clause-synced
+returns-in-Ok-replace_file-clause-synced g c = λ told.
+    let done = c.in-Ok-replace_file.ensures in
+    let looked = are_synced-then _ _ _ (are_synced-read _ _ _ c.in-Ok-None.ensures.leaves) (are_synced-read _ _ _ c.in-Ok.ensures.leaves) in
+    let synced = are_synced-then _ _ _ looked (replaced-synced c.args.to.now _ _ (done.synced told) done.leaves) in
+    record { none = synced.none; changed = synced.changed; named = replaced-named _ _ c.args.to.now (done.synced told) }
 
 pub returns-clause-refused : goal.returns-clause-refused
 returns-clause-refused g c =

@@ -1,4 +1,4 @@
-use Rattle.std.proofs.Common.{◌≡◌, [], subst, ◌∙◌}
+use Rattle.std.proofs.Common.{◌≡◌, [], subst, ◌∙◌, true}
 use Rattle.std.proofs.lemmas.Result.{on_ok_weaker}
 use Rattle.quota_types.specs.declared.file_kind.Format.{Format}
 use Rattle.quota_blocks.proofs.FrameLemmas.{only_reads-none}
@@ -35,7 +35,7 @@ returns-then-fresh-clause-anew g c =
     let is = c.new-value.ensures in
     rw c.if-fresh.true (on_ok_weaker c.check_value.result
     (λ anew told. anew_since c.new-value.result.kind c.args.common.kind (λ (f : Format). f ≡ c.new-value.result.format) (λ (f : Format). f ≡ new_format c.args.common.format)
-    [] c.args.file _ _ (g.S.Store.seen c.check_value.new.store) (only_reads-none [] (g.S.Store.seen c.args.store.now)) is.kind (λ f same. same ∙ is.format) (anew told))
+    [] c.args.file _ _ (g.S.Store.seen c.check_value.new.store) (only_reads-none {done = true} [] (g.S.Store.seen c.args.store.now)) is.kind (λ f same. same ∙ is.format) (anew told))
     c.check_value.ensures.anew)
 
 pub returns-clause-anew : goal.returns-clause-anew

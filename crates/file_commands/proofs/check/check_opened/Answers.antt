@@ -3,7 +3,7 @@ use Rattle.std.proofs.lemmas.Result.{on_ok_weaker}
 use Rattle.quota_types.specs.declared.file_kind.Format.{Format}
 use Rattle.quota_types.specs.declared.file_kind.Kind.{Kind}
 use Rattle.quota_blocks.specs.QuotaFile.{FileSeen}
-use Rattle.quota_blocks.proofs.FrameLemmas.{adds_none-then, only_reads-then}
+use Rattle.quota_blocks.proofs.FrameLemmas.{are_synced-read, are_synced-then, only_reads-then}
 use Rattle.quota_map.specs.AnyFile.{any_seen}
 use Rattle.quota_map.specs.View.{IsOpenedAs}
 use Rattle.quota_map.proofs.SeenLemmas.{view_kind}
@@ -37,7 +37,7 @@ returns-in-Ok-read_value-clause-carries g c = λ out err link out_tells err_tell
 pub returns-in-Ok-read_value-clause-synced : goal.returns-in-Ok-read_value-clause-synced
 returns-in-Ok-read_value-clause-synced g c =
     on_ok_weaker c.check_value.result
-    (λ synced told. adds_none-then _ _ _ c.in-Ok.ensures.synced (adds_none-then _ _ _ c.in-Ok-read_value.ensures.synced (synced told)))
+    (λ synced told. are_synced-then _ _ _ (are_synced-read _ _ _ c.in-Ok.ensures.leaves) (are_synced-then _ _ _ (are_synced-read _ _ _ c.in-Ok-read_value.ensures.leaves) (synced told)))
     c.check_value.ensures.synced
 
 pub returns-in-Err-read_value-clause-carries : goal.returns-in-Err-read_value-clause-carries

@@ -1,7 +1,7 @@
 use Rattle.std.proofs.Common.{◌≡◌, true, false, inl, inr, refl, ap}
 use Rattle.std.proofs.lemmas.Bool.{false≢true}
 use Rattle.std.proofs.lemmas.Result.{on_ok_weaker}
-use Rattle.quota_blocks.proofs.FrameLemmas.{adds_none-then}
+use Rattle.quota_blocks.proofs.FrameLemmas.{are_synced-read, are_synced-then}
 use Rattle.inode_scan.specs.Usage.{UsageMap}
 use Rattle.run_steps.specs.Taking.{AListing}
 use Rattle.file_commands.specs.Check.{ReplaceSteps, check_uses, checked}
@@ -34,7 +34,7 @@ returns-in-Err-clause-carries g c = λ out err link out_tells err_tells link_tel
 
 pub returns-in-Ok-clause-synced : goal.returns-in-Ok-clause-synced
 returns-in-Ok-clause-synced g c =
-    on_ok_weaker c.replace_usage.result (λ synced told. adds_none-then _ _ _ c.in-Ok.ensures.synced (synced told)) c.replace_usage.ensures.synced
+    on_ok_weaker c.replace_usage.result (λ synced told. are_synced-then _ _ _ (are_synced-read _ _ _ c.in-Ok.ensures.leaves) (synced told)) c.replace_usage.ensures.synced
 
 pub returns-in-Ok-clause-anew : goal.returns-in-Ok-clause-anew
 returns-in-Ok-clause-anew g c =

@@ -13,6 +13,11 @@ returns-in-Ok-clause-anew g c =
     converted_anew c.args.kind c.args.old c.args.new c.args.source c.args.target _ _ _
     (rw (c.as_str.ensures, c.as_str-2.ensures) at c.in-Ok.ensures.made)
 
+pub returns-in-Ok-clause-synced : goal.returns-in-Ok-clause-synced
+returns-in-Ok-clause-synced g c = λ told.
+    let kept = c.in-Ok.ensures.synced told in
+    record { none = kept.none; changed = kept.changed }
+
 pub returns-in-Err-clause-carries : goal.returns-in-Err-clause-carries
 returns-in-Err-clause-carries g c = λ input out err link input_tells out_tells err_tells link_tells invocation.
     rw c.convert_refusal.ensures

@@ -4,6 +4,7 @@ use Rattle.quota_blocks.specs.Listed.{value_of}
 use Rattle.quota_blocks.proofs.ReplaceLemmas.{replacement_name-ne}
 use Rattle.quota_map.specs.Replacing.{flags_in}
 use Rattle.quota_map.specs.View.{IsView}
+use Rattle.quota_map.proofs.ReplacedLemmas.{replaced-synced}
 use Rattle.file_commands.specs.FileValue.{value_in}
 use Rattle.file_commands.proofs.ReplacingLemmas.{made_anew, needed_of, replace_made, replace_refused}
 use Rattle.file_commands.proofs.file_value.write_value.Goals as goal
@@ -39,3 +40,6 @@ returns-in-Err-clause-carries g c = λ input out err link input_tells out_tells 
 pub returns-in-Ok-clause-anew : goal.returns-in-Ok-clause-anew
 returns-in-Ok-clause-anew g c = λ told.
     made_anew c.args.file c.args.value.now _ _ c.requires.in_order (rw c.as_slice.ensures.value at rw c.as_str.ensures at c.in-Ok.ensures.replaced told)
+
+pub returns-in-Ok-clause-synced : goal.returns-in-Ok-clause-synced
+returns-in-Ok-clause-synced g c = λ told. replaced-synced c.as_str.result.now _ _ (c.in-Ok.ensures.synced told) c.in-Ok.ensures.leaves

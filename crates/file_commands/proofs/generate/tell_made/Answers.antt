@@ -1,6 +1,7 @@
 use Rattle.std.proofs.Common.{◌≡◌, List, inr, refl, ap, ◌∙◌, arith}
 use Rattle.quota_types.specs.declared.record.Entry.{Entry}
 use Rattle.quota_blocks.specs.Listed.{records_of}
+use Rattle.quota_blocks.specs.World.{World}
 use Rattle.refusals.specs.declared.cause.Cause.TheVariants.{Memory}
 use Rattle.refusals.specs.Refusals.{refusal_of}
 use Rattle.run_steps.specs.Done.{seen_of}
@@ -25,6 +26,11 @@ returns-in-Ok-write-clause-carries g c = λ input err link input_tells err_tells
     told_whole _ _ c.as_slice-in-Ok-report_length.result.now _ _ _ _ reported.unwritten reported.later c.in-Ok-write.ensures.later
     (λ told. said ∙ ap (summary_line c.args.count (records_of c.args.value.now.entries.items))
     ((rw named at reported.bytes) told _ (seen told))) c.in-Ok-write.ensures.ok
+
+pub returns-in-Ok-write-clause-synced : goal.returns-in-Ok-write-clause-synced
+returns-in-Ok-write-clause-synced g c =
+    let reported = c.in-Ok-report_length.ensures in
+    record { none = reported.synced; changed = λ name. inr (ap (λ (files : World). files name) reported.unwritten.files) }
 
 pub returns-in-Err-write-clause-carries : goal.returns-in-Err-write-clause-carries
 returns-in-Err-write-clause-carries g c = λ input err link input_tells err_tells link_tells seen.

@@ -2,11 +2,11 @@ use Rattle.std.proofs.Common.{ℕ, List, Some, Ok, IsTrue, sym, subst, arith}
 use Rattle.std.proofs.lemmas.Result.{on_ok_weaker}
 use Rattle.quota_types.specs.declared.record.Entry.{Entry}
 use Rattle.quota_blocks.specs.Listed.{ids_of, value_of}
-use Rattle.quota_blocks.proofs.FrameLemmas.{adds_none-then}
+use Rattle.quota_blocks.proofs.FrameLemmas.{are_synced-then}
 use Rattle.quota_blocks.proofs.ReplaceLemmas.{replacement_name-ne}
-use Rattle.quota_blocks.proofs.UnsyncedLemmas.{replaced-adds_none}
 use Rattle.quota_map.specs.Replacing.{flags_in}
 use Rattle.quota_map.specs.View.{IsView}
+use Rattle.quota_map.proofs.ReplacedLemmas.{replaced-synced}
 use Rattle.tree_build.specs.Size.{blocks_needed}
 use Rattle.run_steps.specs.Showing.{showing_uses}
 use Rattle.file_commands.specs.FileValue.{value_in}
@@ -33,7 +33,8 @@ returns-in-Ok-clause-carries g c = λ input err link input_tells err_tells link_
 pub returns-in-Ok-clause-synced : goal.returns-in-Ok-clause-synced
 returns-in-Ok-clause-synced g c =
     on_ok_weaker c.tell_made.result
-    (λ synced told. adds_none-then _ _ _ (replaced-adds_none _ _ c.as_str.result.now (c.in-Ok.ensures.synced told)) synced) c.tell_made.ensures.synced
+    (λ synced told. are_synced-then _ _ _ (replaced-synced c.as_str.result.now _ _ (c.in-Ok.ensures.synced told) c.in-Ok.ensures.leaves) synced)
+    c.tell_made.ensures.synced
 
 pub returns-in-Err-clause-carries : goal.returns-in-Err-clause-carries
 returns-in-Err-clause-carries g c = λ input err link input_tells err_tells link_tells.

@@ -1,7 +1,7 @@
 use Rattle.std.proofs.Common.{Ok, inr, sym, ap, ◌∙◌, IsTrue}
 use Rattle.quota_blocks.specs.QuotaFile.{FileSeen}
 use Rattle.quota_blocks.specs.QuotaValue.{QuotaValue}
-use Rattle.quota_blocks.proofs.FrameLemmas.{only_reads-then}
+use Rattle.quota_blocks.proofs.FrameLemmas.{only_reads-any}
 use Rattle.quota_map.specs.AnyFile.{any_seen}
 use Rattle.quota_map.specs.View.{IsView}
 use Rattle.quota_map.proofs.SeenLemmas.{view_kind}
@@ -25,7 +25,7 @@ returns-in-Ok-report-clause-carries g c = λ input err link input_tells err_tell
     shown_whole _ _ _ (report_on c.args.names.now c.args.file c.args.now c.args.options.now) _ _ _ _ _
     (record {
       seen = λ told. rw file at (opened.seen told);
-      reads = only_reads-then c.args.file _ _ _ (rw file at opened.leaves)
+      reads = only_reads-any c.args.file _ _ _ (rw file at opened.leaves)
           (rw (ap (λ (s : FileSeen). s.name) opened.fresh ∙ file) at reported.leaves);
       prefix = λ told out_told value view. appends_whole _ _ _ (written told out_told value view);
       later = reported.sink_later;
@@ -45,7 +45,7 @@ returns-in-Err-report-clause-carries g c = λ input err link input_tells err_tel
     _ old after out (report_cause c.in-Err-report.fault)
     (record {
       seen = λ told. rw file at (opened.seen told);
-      reads = only_reads-then c.args.file _ _ _ (rw file at opened.leaves)
+      reads = only_reads-any c.args.file _ _ _ (rw file at opened.leaves)
           (rw (ap (λ (s : FileSeen). s.name) opened.fresh ∙ file) at reported.leaves);
       prefix = λ told out_told value view.
           rw c.as_str-in-Ok.ensures at (reported.fault out_told value (opened.held told value (rw (sym file) at view))
