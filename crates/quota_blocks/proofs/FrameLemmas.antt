@@ -1,7 +1,7 @@
 -- What calls on a store leave, for no call and for two in a row.
-use Rattle.std.proofs.Common.{◌≡◌, inl, inr, ℕ, Bool, true, false, IsTrue, List, refl, sym, subst, ◌∙◌, arith, ◌⊎◌, ap}
+use Rattle.std.proofs.Common.{◌≡◌, inl, inr, ℕ, Bool, true, false, List, refl, sym, ◌∙◌, arith, ◌⊎◌, ap}
 use Rattle.std.proofs.lemmas.Bool.{cases_Bool, false≢true}
-use Rattle.quota_blocks.specs.Frame.{AreSynced, ChangesOne, ChangesTwo, IsSynced, OnlyReads, ReplacesOne}
+use Rattle.quota_blocks.specs.Frame.{AreSynced, ChangesOne, IsSynced, OnlyReads, ReplacesOne}
 use Rattle.quota_blocks.specs.Replace.{replacement_name}
 use Rattle.quota_blocks.specs.Seen.{StoreSeen}
 use Rattle.quota_blocks.specs.Unsynced.{AddsNone, Names}
@@ -61,31 +61,6 @@ changes_one-then name old between new first second = record {
   reads = second.reads ∙ first.reads;
 }
 
--- a call that only reads or syncs one name, after a change of it
-pub changes_one-synced : {done : Bool} (name : List ℕ) (old between new : StoreSeen) → ChangesOne name old between → OnlyReads done name between new → new.reads ≡ between.reads → ChangesOne name old new
-changes_one-synced name old between new first second reads = record {
-  files = keeps_others-then name _ _ _ first.files (keeps_others-same name _ _ second.files);
-  unsynced = keeps_others-then name _ _ _ first.unsynced second.unsynced;
-  later = omega (arith, first.later, second.later);
-  reads = reads ∙ first.reads;
-}
-
-pub changes_two-none : (one two : List ℕ) (seen : StoreSeen) → ChangesTwo one two seen seen
-changes_two-none one two seen = record {
-  files = λ other differ differs. refl;
-  unsynced = λ other differ differs. refl;
-  later = omega arith;
-  reads = refl;
-}
-
-pub changes_two-then : (one two : List ℕ) (old between new : StoreSeen) → ChangesTwo one two old between → ChangesTwo one two between new → ChangesTwo one two old new
-changes_two-then one two old between new first second = record {
-  files = keeps_other_two-then one two _ _ _ first.files second.files;
-  unsynced = keeps_other_two-then one two _ _ _ first.unsynced second.unsynced;
-  later = omega (arith, first.later, second.later);
-  reads = second.reads ∙ first.reads;
-}
-
 pub replaces_one-none : (name : List ℕ) (seen : StoreSeen) → ReplacesOne name seen seen
 replaces_one-none name seen = record { files = λ other differ differs. refl; unsynced = λ other differ differs. refl; later = omega arith }
 
@@ -109,27 +84,6 @@ pub replaces_one-after_read : {done : Bool} (name : List ℕ) (old between new :
 replaces_one-after_read name old between new first second =
     replaces_one-then name old between new (replaces_one-read name old between first) second
 
--- a change of the file that is written under the added name alone
-pub replaces_one-new : (name new_name : List ℕ) (old new : StoreSeen) → new_name ≡ replacement_name name → ChangesOne new_name old new → ReplacesOne name old new
-replaces_one-new name new_name old new is changed = record {
-  files = λ other differ differs. changed.files other (λ same. differs (same ∙ is));
-  unsynced = λ other differ differs. changed.unsynced other (λ same. differs (same ∙ is));
-  later = changed.later;
-}
-
--- that file is written, and takes the place of the named one
-pub replaces_one-renamed : (name new_name : List ℕ) (old between new : StoreSeen) → new_name ≡ replacement_name name → ChangesOne new_name old between → ChangesTwo new_name name between new → ReplacesOne name old new
-replaces_one-renamed name new_name old between new is changed renamed =
-    replaces_one-then name old between new (replaces_one-new name new_name old between is changed) record {
-      files = λ other differ differs. renamed.files other (λ same. differs (same ∙ is)) differ;
-      unsynced = λ other differ differs. renamed.unsynced other (λ same. differs (same ∙ is)) differ;
-      later = renamed.later;
-    }
-
--- names that are the same add none
-pub adds_none-same : (old new : Names) → new ≡ old → AddsNone old new
-adds_none-same old new same name is = subst (λ (n : Names). IsTrue (n name)) same is
-
 pub adds_none-then : (old between new : Names) → AddsNone old between → AddsNone between new → AddsNone old new
 adds_none-then old between new first second name is = first name (second name is)
 
@@ -140,9 +94,6 @@ still_synced name old new adds was =
       | inl is ↦ absurd (false≢true (sym was ∙ adds name is))
       | inr is ↦ is
     ]
-
-pub is_synced-none : (name : List ℕ) (seen : StoreSeen) → IsSynced name seen seen
-is_synced-none name seen = record { none = λ other is. is; changed = λ other. inr refl; named = inr (refl, refl) }
 
 -- a call that only read has nothing to sync
 pub is_synced-read : (name : List ℕ) (old new : StoreSeen) → OnlyReads true name old new → IsSynced name old new

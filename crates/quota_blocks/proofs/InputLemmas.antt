@@ -1,7 +1,7 @@
 -- What is left of a file once bytes were taken from its front.
-use Rattle.std.proofs.Common.{◌≡◌, ℕ, ◌+◌, ◌-◌, ◌^◌, ◌≤◌, List, [], ◌++◌, length, take, drop, Option, Some, None, sym, ap, ◌∙◌, arith, length-take}
+use Rattle.std.proofs.Common.{◌≡◌, ℕ, ◌+◌, ◌-◌, ◌^◌, ◌≤◌, List, [], ◌++◌, length, take, drop, Option, sym, ap, ◌∙◌, arith, length-take}
 use Rattle.std.proofs.Math.Seq.{take-add}
-use Rattle.std.proofs.lemmas.List.{drop-drop, drop_all, take-append-le, take_all}
+use Rattle.std.proofs.lemmas.List.{drop-drop, take-append-le}
 use Rattle.std.specs.Option.{unwrap_or}
 use Rattle.quota_blocks.specs.StoreInput.{left_from}
 use Rattle.quota_blocks.specs.World.{World, bytes_from}
@@ -35,11 +35,3 @@ left_moved_of files files_now name name_now at at_now want count buf rest same s
     ∙ ap (λ (n : ℕ). take count (buf ++ rest) ++ left_from (files name) n) (sym moved)
     ∙ ap (λ (f : World). take count (buf ++ rest) ++ left_from (f name) at_now) (sym same)
     ∙ ap (λ (n : List ℕ). take count (buf ++ rest) ++ left_from (files_now n) at_now) (sym same_name)
-
--- a file that is shorter than 2^64 bytes is left whole from its beginning on
-pub left_from-whole : (file : List ℕ) → length file ≤ 2 ^ 64 - 1 → left_from (Some file) 0 ≡ file
-left_from-whole file within = take_all (2 ^ 64 - 1) file within
-
--- of no file nothing is left
-pub left_from-none : (at : ℕ) → left_from None at ≡ []
-left_from-none at = ap (λ (bytes : List ℕ). take (2 ^ 64 - 1 - at) bytes) (drop_all at [] (omega arith)) ∙ take_all (2 ^ 64 - 1 - at) [] (omega arith)

@@ -1,5 +1,5 @@
 -- The next line of an input, from the place of its first newline, and step by step as pieces of the input are taken.
-use Rattle.std.proofs.Common.{◌≡◌, ℕ, zero, suc, ◌+◌, ◌-◌, ◌<◌, ◌≤◌, min, ◌==◌, ◌&&◌, ◌||◌, ◌⊎◌, inl, inr, Bool, true, false, not, cond, nat_lt, IsTrue, List, [], ◌∷◌, ◌++◌, length, take, drop, None, refl, sym, ap, subst, ◌∙◌, arith, length-take, length-append, length-drop}
+use Rattle.std.proofs.Common.{◌≡◌, ℕ, zero, suc, ◌+◌, ◌-◌, ◌<◌, ◌≤◌, min, ◌==◌, ◌&&◌, ◌||◌, ◌⊎◌, inl, inr, Bool, true, false, not, cond, nat_lt, IsTrue, List, [], ◌∷◌, ◌++◌, length, take, drop, None, refl, sym, ap, subst, ◌∙◌, arith, length-take, length-append}
 use Rattle.std.specs.List.{list_any, position, position_or_len, prefix_len, slice_range}
 use Rattle.std.proofs.lemmas.Bool.{cases_Bool, cond-true, cond-false, lt-ltb, le-ltb, ltb-true, ltb-false, ne_eqb}
 use Rattle.std.proofs.lemmas.Bool.Decides.{nat_tests}
@@ -284,22 +284,6 @@ line_picked true past empty line is = absurd is
 line_picked false true empty line is = absurd is
 line_picked false false true line is = absurd is
 line_picked false false false line is = refl
-
-picked_behind : (long any past empty : Bool) (front back bytes behind : List ℕ) → picked long any past empty (Line front back) ≡ Line bytes behind → back ≡ behind
-picked_behind long any past empty front back bytes behind is =
-    let line : IsLine (picked long any past empty (Line front back)) = subst (λ (next : NextLine). IsLine next) (sym is) tt in
-    ap behind_of (sym (line_picked long (not any && past) empty (Line front back) line) ∙ is)
-
-end≢line : {bytes behind : List ℕ} → AtEnd ≡ Line bytes behind → ⊥
-end≢line {bytes} {behind} is = subst (λ (next : NextLine). IsLine next) (sym is) tt
-
--- a line leaves fewer bytes behind it than there were
-pub next_line-shorter : (most room : ℕ) (rest bytes behind : List ℕ) → next_line_of most room rest ≡ Line bytes behind → length behind < length rest
-next_line-shorter most room [] bytes behind is = absurd (end≢line (sym (next-end most room) ∙ is))
-next_line-shorter most room (byte ∷ more) bytes behind is =
-    let rest : List ℕ = byte ∷ more in
-    let same : behind_line rest ≡ behind = picked_behind (nat_lt most (min room (newline_at rest))) (nat_lt (min room (newline_at rest)) (min room (length rest))) (nat_lt room (length rest)) (length rest == 0) (line_front rest) (behind_line rest) bytes behind (sym (next_picked most room rest) ∙ is) in
-    omega (arith, sym (ap (λ (xs : List ℕ). length xs) same) ∙ length-drop (newline_at rest + 1) rest)
 
 -- the input ended, and what stands in the line is all that was left
 pub last_line : (most room : ℕ) (start rest line now behind : List ℕ) (more : Bool) → line ++ rest ≡ start → now ≡ rest → now ≡ [] → behind ≡ now → list_any is_newline line ≡ false

@@ -1,7 +1,6 @@
 -- A file that is read block by block.
-use Rattle.std.proofs.Common.{◌≡◌, ℕ, zero, suc, ◌+◌, ◌-◌, ◌<◌, ◌≤◌, min, List, [], ◌∷◌, ◌++◌, length, take, drop, Option, Some, None, refl, sym, ap, subst, ◌∙◌, arith, length-append, length-take, length-drop}
+use Rattle.std.proofs.Common.{◌≡◌, ℕ, zero, suc, ◌+◌, ◌-◌, ◌≤◌, min, List, [], ◌∷◌, ◌++◌, length, take, drop, Option, Some, None, refl, sym, ap, subst, ◌∙◌, arith, length-append, length-take, length-drop}
 use Rattle.std.proofs.Math.Seq.{take-add}
-use Rattle.std.proofs.lemmas.List.{take_all}
 use Rattle.std.proofs.lemmas.Option.{same_Some, none-some}
 use Rattle.std.specs.Option.{option_map, unwrap_or}
 use Rattle.quota_blocks.specs.World.{bytes_from}
@@ -42,18 +41,6 @@ begun_more file size bytes wanted got b e =
       long = b.long;
       front = subst (λ (t : List ℕ). take (length (bytes ++ t)) b.whole ≡ bytes ++ t) (sym is) (more_of b.whole bytes wanted b.front);
     }
-
--- all was read
-pub begun_all : (file : Option (List ℕ)) (size : ℕ) (bytes : List ℕ) → IsBegun file size bytes → size ≤ length bytes → file ≡ Some bytes
-begun_all file size bytes b le =
-    let all : take (length bytes) b.whole ≡ b.whole = take_all (length bytes) b.whole (omega (arith, b.long)) in
-    b.there ∙ ap (λ (w : List ℕ). Some w) (sym all ∙ b.front)
-
--- a read that answers nothing though it wants something comes at the end
-pub begun_end : (file : Option (List ℕ)) (size : ℕ) (bytes : List ℕ) (wanted : ℕ) → IsBegun file size bytes → 0 ≡ length (bytes_from file (length bytes) wanted) → 0 < wanted → size ≤ length bytes
-begun_end file size bytes wanted b n some =
-    let none : 0 ≡ length (take wanted (drop (length bytes) b.whole)) = n ∙ ap (λ (f : Option (List ℕ)). length (take wanted (drop (length bytes) (unwrap_or f [])))) b.there in
-    omega (arith, none ∙ length-take wanted (drop (length bytes) b.whole), length-drop (length bytes) b.whole, b.long)
 
 -- one more read of a store whose files stay
 pub begun_step : (file now : Option (List ℕ)) (size : ℕ) (bytes more : List ℕ) (at wanted : ℕ) → IsBegun file size bytes → now ≡ file → at ≡ length bytes → more ≡ bytes ++ bytes_from now at wanted → IsBegun file size more

@@ -41,7 +41,3 @@ overwritten-filled_up old at bytes =
     let more = end - length old in
     ap (λ (front : List ℕ). front ++ bytes ++ drop end (old ++ replicate more 0)) (take-padded old more at (omega arith))
     ∙ ap (λ (rest : List ℕ). take at old ++ replicate (at - length old) 0 ++ bytes ++ rest) (drop-padded old end)
-
--- a file that was filled up with zeros reaches far enough
-pub length-filled_up : (old : List ℕ) (end : ℕ) → end ≤ length (old ++ replicate (end - length old) 0)
-length-filled_up old end = omega (arith, length-append old (replicate (end - length old) 0), length-replicate {A = ℕ} (end - length old) 0)

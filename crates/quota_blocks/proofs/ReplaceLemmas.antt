@@ -7,9 +7,8 @@ use Rattle.std.proofs.lemmas.Bool.{cases_lt}
 use Rattle.quota_blocks.specs.Count.{counted}
 use Rattle.std.proofs.lemmas.List.{take_all, drop_all}
 use Rattle.quota_blocks.specs.Replace.{WritesAnew, pieces_of, replaced_files, replacement_name}
-use Rattle.quota_blocks.specs.World.{World, KeepsOthers, overwritten, with_bytes, with_file, with_new_name}
-use Rattle.quota_blocks.proofs.FrameLemmas.{keeps_others-then}
-use Rattle.quota_blocks.proofs.WorldLemmas.{bytes_eq-ne, with_file-at, with_file-again, KeepsOthers-with_file}
+use Rattle.quota_blocks.specs.World.{World, overwritten, with_bytes, with_file, with_new_name}
+use Rattle.quota_blocks.proofs.WorldLemmas.{bytes_eq-ne, with_file-at, with_file-again}
 
 -- a piece written behind the pieces before it
 overwritten-piece : (bytes : List ℕ) (at end : ℕ) → at ≤ end → end ≤ length bytes → overwritten (take at bytes) at (take (end - at) (drop at bytes)) ≡ take end bytes
@@ -34,15 +33,6 @@ with_bytes-piece files now name bytes at end before within is =
     ∙ ap (λ (file : Option (List ℕ)). with_file (with_file files name (Some (take at bytes))) name (Some (overwritten (unwrap_or file []) at piece))) (with_file-at files name (Some (take at bytes)))
     ∙ with_file-again files name (Some (take at bytes)) (Some (overwritten (take at bytes) at piece))
     ∙ ap (λ (b : List ℕ). with_file files name (Some b)) (overwritten-piece bytes at end before within)
-
--- all files but one stay where that one was changed
-pub KeepsOthers-changed : (files now : World) (name : List ℕ) (file : Option (List ℕ)) → now ≡ with_file files name file → KeepsOthers name files now
-KeepsOthers-changed files now name file is = subst (λ (f : World). KeepsOthers name files f) (sym is) (KeepsOthers-with_file files name file)
-
--- all files but one stay where a call may have changed that one
-pub KeepsOthers-either : (files now new : World) (name : List ℕ) (file : Option (List ℕ)) → (new ≡ now) ⊎ (new ≡ with_file now name file) → KeepsOthers name files now → KeepsOthers name files new
-KeepsOthers-either files now new name file (inl same) kept = subst (λ (f : World). KeepsOthers name files f) (sym same) kept
-KeepsOthers-either files now new name file (inr changed) kept = keeps_others-then name files now new kept (KeepsOthers-changed now new name file changed)
 
 -- the added part makes another name
 pub replacement_name-ne : (name : List ℕ) → replacement_name name ≢ name

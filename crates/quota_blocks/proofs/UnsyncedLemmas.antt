@@ -1,11 +1,10 @@
 -- Names that are unsynced, call by call, and as a set in memory.
-use Rattle.std.proofs.Common.{◌≡◌, ◌≢◌, ◌⊎◌, inl, inr, ℕ, Bool, true, false, cond, not, IsTrue, List, [], ◌∷◌, ◌++◌, ◌||◌, Some, Result, Ok, Err, OnOk, OnErr, filter, refl, sym, ap, subst, ◌∙◌, String}
+use Rattle.std.proofs.Common.{◌≡◌, ◌≢◌, ◌⊎◌, inl, inr, ℕ, Bool, true, false, cond, not, IsTrue, List, [], ◌∷◌, ◌||◌, Some, Result, Ok, Err, OnOk, OnErr, filter, refl, sym, ap, subst, ◌∙◌, String}
 use Rattle.std.specs.Option.{is_some}
 use Rattle.std.specs.Str.{bytes_eq}
 use Rattle.std.specs.String.{string_bytes}
 use Rattle.std.specs.declared.alloc.Global.{Global}
 use Rattle.std.proofs.lemmas.Bool.{cases_Bool, cond-true, cond-false, false≢true, true≢false}
-use Rattle.std.proofs.lemmas.List.Folds.{list_any-append}
 use Rattle.quota_blocks.specs.Frame.{replaced_names}
 use Rattle.quota_blocks.specs.NameSet.{names_in}
 use Rattle.quota_blocks.specs.Replace.{ReplacesOnly, replacement_name}
@@ -57,14 +56,6 @@ with_name-again names name one other = same_names _ _ (λ n. again (bytes_eq nam
 pub with_name-swap : (names : Names) (from to : List ℕ) (one other : Bool) → from ≢ to → with_name (with_name names to other) from one ≡ with_name (with_name names from one) to other
 with_name-swap names from to one other differ =
     same_names _ _ (λ n. swap (bytes_eq from n) (bytes_eq to n) one other (names n) (apart_names from to n differ))
-
--- a name that is there already
-pub with_name-there : (names : Names) (name : List ℕ) (is : Bool) → names name ≡ is → with_name names name is ≡ names
-with_name-there names name is there = same_names _ _ (λ other.
-    elim (cases_Bool (bytes_eq name other)) [
-      | inl e ↦ cond-true _ _ _ e ∙ sym there ∙ ap names (bytes_eq-true _ _ e)
-      | inr e ↦ cond-false _ _ _ e
-    ])
 
 -- other names stay
 pub with_name-others : (names : Names) (name : List ℕ) (is : Bool) → KeepsOthers name names (with_name names name is)
@@ -151,13 +142,6 @@ filtered name other (text ∷ texts) =
 -- a name that was taken out of the set
 pub names_in-removed : (name : List ℕ) (texts kept : List (String Global)) → kept ≡ filter (λ (text : String Global). not (bytes_eq (string_bytes text) name)) texts → names_in kept ≡ with_name (names_in texts) name false
 names_in-removed name texts kept is = ap (λ (t : List (String Global)). names_in t) is ∙ same_names _ _ (λ other. filtered name other texts)
-
--- a name that was put into the set
-pub names_in-added : (name : List ℕ) (texts : List (String Global)) (text : String Global) → string_bytes text ≡ name → names_in (texts ++ text ∷ []) ≡ with_name (names_in texts) name true
-names_in-added name texts text is = same_names _ _ (λ other.
-    list_any-append (λ (t : String Global). bytes_eq (string_bytes t) other) texts (text ∷ [])
-    ∙ ap (λ (n : List ℕ). names_in texts other || (bytes_eq n other || false)) is
-    ∙ either (names_in texts other) (bytes_eq name other))
 
 -- what a name has where all names have the same
 at_name : {X : Type 0} (old new : List ℕ → X) → new ≡ old → (name : List ℕ) → new name ≡ old name

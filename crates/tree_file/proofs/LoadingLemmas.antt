@@ -1,13 +1,7 @@
 -- The blocks of a file that are loaded one after another.
-use Rattle.std.proofs.Common.{◌≡◌, ℕ, ◌+◌, ◌*◌, ◌<◌, List, ◌++◌, length, take, drop, sym, ap, ◌∙◌, arith, length-take}
+use Rattle.std.proofs.Common.{◌≡◌, ℕ, ◌+◌, ◌*◌, ◌<◌, List, ◌++◌, length, take, drop, sym, ap, ◌∙◌, arith}
 use Rattle.std.proofs.Math.Seq.{take-add}
-use Rattle.std.proofs.lemmas.List.{take-append-le, take_all}
-
--- where the file ended before a block there is no more of it
-pub loaded_short : (file bytes : List ℕ) (block : ℕ) → length bytes < 1024 * block → bytes ≡ take (1024 * block) file → bytes ≡ take (1024 * (block + 1)) file
-loaded_short file bytes block short is =
-    let ends : length file < 1024 * block = omega (arith, short, ap (λ (bs : List ℕ). length bs) is, length-take (1024 * block) file) in
-    is ∙ take_all (1024 * block) file (omega arith) ∙ sym (take_all (1024 * (block + 1)) file (omega (arith, ends)))
+use Rattle.std.proofs.lemmas.List.{take-append-le}
 
 -- the bytes that are read at the place of a block are those of the block
 pub loaded_more : (file bytes more got : List ℕ) (block at room : ℕ) → length bytes ≡ 1024 * block → at ≡ length bytes → room ≡ 1024 → more ≡ bytes ++ got → got ≡ take room (drop at file)

@@ -4,8 +4,7 @@ use Rattle.std.proofs.lemmas.Bool.{cases_Bool, cases_lt}
 use Rattle.std.specs.FinMap.{get}
 use Rattle.std.specs.List.{AllByRecursion}
 use Rattle.quota_types.specs.declared.damage.Damage.{Damage}
-use Rattle.quota_types.specs.declared.damage.DamageKind.{DamageKind}
-use Rattle.quota_types.specs.declared.damage.DamageKind.TheVariants.{RefOut, EmptyTree, MissingEntry}
+use Rattle.quota_types.specs.declared.damage.DamageKind.TheVariants.{MissingEntry}
 use Rattle.quota_types.specs.declared.file_kind.Format.{Format}
 use Rattle.quota_types.specs.declared.record.Entry.{Entry}
 use Rattle.quota_types.specs.declared.record.Rec.{Rec}
@@ -15,12 +14,10 @@ use Rattle.entry_codec.specs.declared.header.Header.{Header}
 use Rattle.quota_radix.specs.declared.tree_path.TreePath.{TreePath}
 use Rattle.quota_blocks.specs.Block.{block_of}
 use Rattle.quota_types.specs.Times.{StandsIn, times}
-use Rattle.tree_build.specs.Defect.{IsDefectOf, IsTreeDefect}
-use Rattle.quota_types.specs.Damage.{NamesItsId}
+use Rattle.tree_build.specs.Defect.{IsTreeDefect}
 use Rattle.quota_radix.specs.Descent.{leaf_from}
 use Rattle.tree_build.specs.Entries.{used_entries, used_ids}
 use Rattle.tree_file.specs.Leaf.{IsLeafFault, IsNextId}
-use Rattle.quota_radix.specs.Lookup.{IsWayFault, IsWayFaultOf}
 use Rattle.quota_radix.specs.Tree.{ids_at, leaves}
 use Rattle.tree_build.specs.TreeFile.{TreeStandsFor, record_in, tree_record}
 use Rattle.tree_build.proofs.DefectLemmas.{no_defect_of_sound}
@@ -29,30 +26,9 @@ use Rattle.quota_radix.proofs.LeafLemmas.{IsLeaf}
 use Rattle.quota_radix.proofs.PathLemmas.{Rises-paths, leaves_lead}
 use Rattle.tree_build.proofs.ValueLemmas.{found_entry}
 
--- a damage on the way down is one of the file
-way_defect : (format : Format) (file : List ℕ) (numbers : HeaderNumbers) (kind : DamageKind) (block id : ℕ) → IsWayFaultOf file numbers.blocks kind block → id ≡ 0
-    → IsDefectOf format file numbers kind block id × NamesItsId kind id
-way_defect format file numbers RefOut block id fault no_id = (fault, no_id)
-way_defect format file numbers EmptyTree block id fault no_id = (fault, no_id)
-way_defect format file numbers _ block id fault no_id = absurd fault
-
--- a damage on the way down, by the numbers of the header, is one of the file
-pub way_damage : (header : Header) (file : List ℕ) (damage : Damage) → AreOf header (header_of file) → IsWayFault file header.blocks damage
-    → IsTreeDefect header.format file (header_of file) damage
-way_damage header file damage of fault =
-    way_defect header.format file (header_of file) damage.kind damage.block damage.id
-    (subst (λ (blocks : ℕ). IsWayFaultOf file blocks damage.kind damage.block) (sym of.blocks) fault.fault) fault.no_id
-
 -- a file stands for no value
 abbrev pub StandsForNone : List ℕ → Type 0
 StandsForNone file = (value : QuotaValue) → ¬ (TreeStandsFor file value)
-
--- so a file with one stands for nothing
-pub way_refused : (header : Header) (file : List ℕ) (damage : Damage) → AreOf header (header_of file) → IsWayFault file header.blocks damage → StandsForNone file
-way_refused header file damage of fault = λ value stands.
-    no_defect_of_sound value.format file (header_of file) stands.sound damage
-    (way_defect value.format file (header_of file) damage.kind damage.block damage.id
-    (subst (λ (blocks : ℕ). IsWayFaultOf file blocks damage.kind damage.block) (sym of.blocks) fault.fault) fault.no_id)
 
 -- what holds of each path holds of the one that is found
 pub each_found : (P : TreePath → Type 0) (test : TreePath → Bool) (ps : List TreePath) (p : TreePath) → find test ps ≡ Some p → AllByRecursion P ps → P p

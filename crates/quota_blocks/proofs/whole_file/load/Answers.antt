@@ -1,4 +1,4 @@
-use Rattle.std.proofs.Common.{◌≡◌, ◌+◌, ◌-◌, ◌<◌, ◌≤◌, ◌∙◌, ap, sym, subst, length, min, vec_len, IsTrue, List, ℕ, Option, arith}
+use Rattle.std.proofs.Common.{◌≡◌, ◌+◌, ◌-◌, ◌<◌, ◌≤◌, ◌∙◌, ap, sym, subst, min, vec_len, IsTrue, List, ℕ, Option, arith}
 use Rattle.quota_blocks.specs.Replace.{pieces_of}
 use Rattle.quota_blocks.proofs.FrameLemmas.{only_reads-then}
 use Rattle.quota_blocks.proofs.ReplaceLemmas.{piece-counted, piece-whole}
