@@ -1,13 +1,13 @@
 -- What is said of a command, and what all that carry one out keep to.
 use Rattle.std.specs.Prelude.{◌≡◌, ◌≢◌, ◌⊎◌, ℕ, Bool, false, None, IsTrue, IfErr, IfSome, OnErr, OnOk, List, Option, Result}
 use Rattle.std.specs.Result.{result_err}
-use Rattle.quota_types.specs.declared.file_kind.Format.{Format}
 use Rattle.quota_blocks.specs.Frame.{AreSynced}
 use Rattle.quota_blocks.specs.World.{World}
 use Rattle.refusals.specs.declared.cause.Cause.{Cause}
 use Rattle.refusals.specs.declared.cause.Cause.TheVariants.{LinkFault}
 use Rattle.refusals.specs.declared.reason.Refusal.{Refusal}
 use Rattle.refusals.specs.Status.{status_of}
+use Rattle.quota_blocks.specs.QuotaValue.{QuotaValue}
 use Rattle.run_steps.specs.Act.{MayBeLeft}
 use Rattle.run_steps.specs.Done.{Outside, RunSeen, RunTells}
 use Rattle.run_steps.specs.Run.{CarriesOut, Uses}
@@ -57,16 +57,16 @@ abbrev pub StopsIt : Cause → Type 0
 StopsIt cause = (status_of cause ≡ 4) ⊎ (status_of cause ≡ 5)
 
 -- What stands of a file that is edited, by the status at the end. With status 0 this says nothing. With any other one the file is as it
--- was, or, where that is 4 and something outside failed, what an edit that failed may leave of a file of some format.
+-- was, or, where that is 4 and something outside failed, what an edit of it to some value that failed may leave.
 abbrev pub IsLeftByEdit : (status : ℕ) (old new : World) → List ℕ → Type 0
 IsLeftByEdit status old new file =
-    status ≢ 0 → (new file ≡ old file) ⊎ ((status ≡ 4) × ((format : Format) × MayBeLeft format (old file) (new file)))
+    status ≢ 0 → (new file ≡ old file) ⊎ ((status ≡ 4) × ((value : QuotaValue) × MayBeLeft value (old file) (new file)))
 
 -- A command was carried out but for its error line. Where it was refused, for whichever cause, a file that it replaces as a whole
 -- is as it was, and one that it edits is as an edit leaves it by the status of that cause; and where it was done, what was written has
--- been synced. The link is said to have failed only where not all was done
--- with it; where memory was wanting for a command that reads no commands nothing was; and what came to no use of it left it as it was. Where
--- commands were to be read, and what stopped that names no line, nothing was done but that the input was read.
+-- been synced. The link is said to have failed only where not all was done with it; where memory was wanting for a command that reads
+-- no commands nothing was; and what came to no use of it left it as it was. Where commands were to be read, and what stopped that names
+-- no line, nothing was done but that the input was read.
 pub record IsCarriedOut (command : Description) (invocation : Invocation) (tells : RunTells) (old new : RunSeen) (result : Result (Unit {0}) Refusal) : Type 0 where
   pub carries : CarriesOut (command.steps invocation) command.uses command.may tells old new result
   pub named : IfSome command.replaces (λ (file : List ℕ). OnErr result (IsTrue tells.store → new.store.files file ≡ old.store.files file))

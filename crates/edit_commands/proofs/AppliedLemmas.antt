@@ -12,7 +12,7 @@ use Rattle.edit_commands.specs.declared.batch_line.LineEdit.{LineEdit}
 use Rattle.edit_commands.specs.Batch.{EditsThen, LineSteps, edit_of, met_at, value_left}
 use Rattle.edit_commands.specs.Edits.{changed, edit_step}
 
--- The file does not count.
+-- The step of an edit does not rest on the file.
 
 changed_same : (name : List ℕ) (edit : Edit) (one other : Option (List ℕ)) (value : QuotaValue) (edited : Result QuotaValue (Field × ℕ)) → changed name edit one value edited ≡ changed name edit other value edited
 changed_same name edit one other value (Ok new) = refl

@@ -43,7 +43,7 @@ abbrev pub changed : List ℕ → Edit → Option (List ℕ) → QuotaValue → 
 changed name edit file value (Ok new) = written name new (edit.is_idle value) (is_too_large edit file new)
 changed name edit file value (Err out) = Refused (refusal_of (NoRoom (record { id = edit.id; field = out.0; value = out.1 })) name)
 
--- the value of the file of this name, which is this one, is edited
+-- the value is edited that the file of this name, whose bytes are these, stands for
 abbrev pub edit_step : List ℕ → Edit → Option (List ℕ) → QuotaValue → Outcome (List Act)
 edit_step name edit file value = changed name edit file value (edit.edited value)
 
@@ -104,7 +104,7 @@ edit_cause (File fault) = file_cause fault
 edit_cause (Unfit out) = NoRoom out
 
 -- the causes for which the change of an opened file may be refused, whatever is told: a field of its format for which there
--- may be no room, or the blocks of a tree file, which may have as many as the program allows
+-- may be no room, or blocks, of which a tree file may have at most as many as the program allows
 abbrev pub ChangeMayRefuse : Option Format → Edit → List ℕ → Cause → List ℕ → Type 0
 ChangeMayRefuse asked edit file (NoRoom out) name =
     (name ≡ file) × (out.id ≡ edit.id)

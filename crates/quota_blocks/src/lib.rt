@@ -5,8 +5,9 @@
 //! adapter over the real thing does not. `load` reads a whole file and `replace` puts one in the place of another,
 //! `TextBuffer` gathers text in front of a sink, `LineReader` gives the lines of a source, such as a file of a store
 //! behind `StoreInput`, `words` the words of a line, `number_in` the number that a word of digits spells, and `QuotaFile`
-//! is what every format of quota file offers, and `FileUse` what an opened one keeps besides its bytes. `read_block` reads a block of a file, `le16` to `set_le64` read and write the
-//! numbers in one, and a `BlockSet` is a set of a file's blocks.
+//! is what every format of quota file offers, and `FileUse` what an opened one keeps besides its bytes. `read_block` reads
+//! a block of a file, `le16` to `set_le64` read and write the numbers in one, and a `BlockSet` is a set of a file's
+//! blocks.
 //!
 //! The one promise: every answer has a cause that the caller can see, and what is told of the outside stays in step
 //! with what was done.

@@ -20,7 +20,8 @@ use Rattle.command_table.proofs.SureLemmas.{asked_sure, command_sure}
 use Rattle.quota_cli.specs.Headline.{Setting, asked, steps_asked, uses_asked}
 use Rattle.quota_cli.specs.Script.{StandsInScript, commanded, is_script, script_or}
 use Rattle.quota_cli.proofs.ScriptFullLemmas.{script_full}
-use Rattle.quota_cli.proofs.ScriptLemmas.{script_reads, script_sure, unread_stands}
+use Rattle.quota_cli.proofs.RowLemmas.{script_reads}
+use Rattle.quota_cli.proofs.ScriptLemmas.{script_sure, unread_stands}
 
 -- Rows of the table of the command line: a script, or another command.
 

@@ -1,6 +1,6 @@
 -- Lines of a script that were carried out, one after another, and the script that they stand in.
 use Rattle.std.proofs.Common.{◌≡◌, ◌≤◌, ◌<◌, ◌+◌, ◌⊎◌, ℕ, Bool, true, false, cond, IsTrue, List, [], ◌∷◌, Option, None, Some, Ok, Err, Result, inl, inr, refl, sym, ap, subst, ◌∙◌, arith}
-use Rattle.std.specs.Prelude.{⊤, ◌&&◌, ◌||◌, IfErr, IfSome, IsSome, OnOk, is_none}
+use Rattle.std.specs.Prelude.{⊤, ◌&&◌, IfErr, IfSome, IsSome, OnOk, is_none}
 use Rattle.std.specs.Result.{result_err}
 use Rattle.std.specs.Str.{is_utf8}
 use Rattle.std.proofs.lemmas.Bool.{false≢true, le-leb, or_parts}
@@ -20,9 +20,7 @@ use Rattle.refusals.specs.Outcome.{Passed, Refused}
 use Rattle.refusals.specs.Refusals.{in_line, nowhere, refusal_of}
 use Rattle.run_steps.specs.Done.{Outside, RunSeen, RunTells, outside_of}
 use Rattle.run_steps.specs.Meaning.{IsSure, IsTaken}
-use Rattle.run_steps.specs.OneCommand.{ReadsToEnd}
 use Rattle.run_steps.specs.Run.{HasReason, Uses}
-use Rattle.run_steps.specs.Steps.{Before, Steps}
 use Rattle.run_steps.specs.declared.invocation.Invocation.{Invocation}
 use Rattle.run_steps.proofs.CarryingLemmas.{MayUseAll, carried_before, carried_in_line, carried_stopped, finish_carried, lined}
 use Rattle.run_steps.proofs.OpeningLemmas.{with_input}
@@ -375,17 +373,6 @@ script_unread invocation tells old input fault later rose = record {
 }
 
 -- It reads the input to its end, and is sure.
-
-lines_read_on : (now : ℕ) (lines : List LineSaid) (refusal : Refusal) → ReadsToEnd (LinesSteps now lines (Some refusal))
-lines_read_on now [] refusal = tt
-lines_read_on now (line ∷ lines) refusal = inr (lines_read_on now lines refusal)
-
-read_by : (now : ℕ) (lines : List LineSaid) (refusal : Option Refusal) → IsTrue (is_none refusal) ⊎ ReadsToEnd (LinesSteps now lines refusal)
-read_by now lines None = inl refl
-read_by now lines (Some refusal) = inr (lines_read_on now lines refusal)
-
-pub script_reads : (invocation : Invocation) → ReadsToEnd (ScriptSteps invocation)
-script_reads invocation = λ bytes. read_by invocation.now (script_said bytes).lines (script_said bytes).refusal
 
 lines_are_sure : (now : ℕ) (lines : List LineSaid) (old : Outside) → LinesSuffice now lines old → IsSure (LinesSteps now lines None) old
 lines_are_sure now [] old can = refl

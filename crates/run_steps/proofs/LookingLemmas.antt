@@ -95,7 +95,7 @@ only_begun acts end (InLine line steps) old done hand now only by = absurd only
 
 -- Steps of single commands.
 
--- where they end with a refusal, they pass never
+-- where they end with a refusal, they never pass
 pub only_stopped : (acts : List Act) (refusal : Refusal) (steps : Steps) → DoOnly acts (Some refusal) steps → ReadsToEnd steps
 only_stopped acts refusal (Ending None) only = absurd (none-some refusal only.1)
 only_stopped acts refusal (Ending (Some other)) only = tt

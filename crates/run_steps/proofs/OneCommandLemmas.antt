@@ -49,7 +49,7 @@ reads_taking is_whole read next each = λ bytes. outcome_read (read bytes)
     outcome_read (Passed value) = each value
     outcome_read (Refused refusal) = inr tt
 
--- where they end with a refusal, they pass never
+-- where they end with a refusal, they never pass
 pub reads_stopped : (acts : List Act) (refusal : Refusal) → ReadsToEnd (AreDoneThen acts (Some refusal))
 reads_stopped [] refusal = tt
 reads_stopped (act ∷ acts) refusal = reads_stopped acts refusal

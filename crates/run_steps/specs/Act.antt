@@ -5,7 +5,6 @@ use Rattle.quota_blocks.specs.World.{World}
 use Rattle.quota_blocks.specs.QuotaValue.{QuotaValue}
 use Rattle.quota_map.specs.AnyFile.{AnyLeaves}
 use Rattle.quota_map.specs.View.{IsView}
-use Rattle.quota_types.specs.declared.file_kind.Format.{Format}
 
 -- One act: bytes to the output, bytes to the error output, an answer to a datagram, or a file that from then on stands
 -- for another value: an opened one that is edited, or one that is replaced as a whole.
@@ -59,14 +58,17 @@ abbrev pub Follows : List Act → World → World → Type 0
 Follows [] old new = new ≡ old
 Follows (act ∷ acts) old new = (middle : World) × FollowsAct act old middle × Follows acts middle new
 
--- What an edit that failed may leave of an opened file of this format: what was there, or what a change of it may leave.
-abbrev pub MayBeLeft : Format → (old left : Option (List ℕ)) → Type 0
-MayBeLeft format old left = (left ≡ old) ⊎ ((after : Option (List ℕ)) × AnyLeaves format old after left)
+-- What an edit of a file to this value that failed may leave of it: what was there, or what lies between that and a file that stands
+-- for the value, as the format allows.
+abbrev pub MayBeLeft : QuotaValue → (old left : Option (List ℕ)) → Type 0
+MayBeLeft value old left =
+    (left ≡ old)
+    ⊎ ((after : Option (List ℕ)) × IsView after value.kind (Some value.format) (Ok value) × AnyLeaves value.format old after left)
 
 -- Files after acts of which at most the first was begun. A replacement leaves the named file as it was, and an edit leaves
 -- what an edit that failed may leave; both leave all other files but the one with `.new` added to the name.
 abbrev pub FollowsInPart : List Act → World → World → Type 0
 FollowsInPart [] old new = new ≡ old
-FollowsInPart (Change name value ∷ _) old new = MayBeLeft value.format (old name) (new name) × ReplacesOnly name old new
+FollowsInPart (Change name value ∷ _) old new = MayBeLeft value (old name) (new name) × ReplacesOnly name old new
 FollowsInPart (Replace name value ∷ _) old new = (new name ≡ old name) × ReplacesOnly name old new
 FollowsInPart (_ ∷ _) old new = new ≡ old

@@ -17,7 +17,7 @@ leaves_files _ = true
 abbrev pub RestsOnNone : (World → Steps) → Type 0
 RestsOnNone next = (one other : World) → next one ≡ next other
 
--- No file is looked at once one was changed, but by looks of which the same comes whatever they see, and the standard input is taken
+-- No file is looked at once one was changed, but by looks that lead to the same steps whatever they see, and the standard input is taken
 -- once at most: whether a file may still be looked at, and the input be taken. Such steps have the same acts whatever bytes are
 -- chosen for a changed file, and commands after one another are none.
 abbrev pub LooksFirst : (looks takes : Bool) → Steps → Type 0

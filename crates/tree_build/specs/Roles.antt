@@ -9,8 +9,8 @@ use Rattle.tree_build.specs.Entries.{has_unused, used_ids}
 use Rattle.quota_radix.specs.Tree.{data_blocks, ids_at, is_data, leaves, lower_blocks, tree_blocks}
 use Rattle.quota_radix.specs.TreeDefect.{IsEmpty}
 
--- Each of these takes a block that counts as data though no leaf names it, where there is one: so a file is in the middle of the
--- removal of its last entry. A file as a whole has none.
+-- These definitions take a block that counts as data though no leaf names it, where there is one: there is one while the last
+-- entry of that block is being taken away. A file as a whole has none.
 
 -- the data blocks, and the one that counts as one
 abbrev pub data_with : (extra : Option ℕ) → List ℕ → ℕ → List ℕ
