@@ -1,6 +1,6 @@
 //! Stores whose files turn into other bytes in the middle of a command.
 
-/// Damages that are met before and after opening.
+/// Damages that are met while a file is opened. Once it is opened, what becomes of its bytes is in no command's way.
 pub const TURNED: &str = "\
 = a store that turns before the header is read, and one that turns behind the root
 use six
@@ -14,20 +14,20 @@ run repquota q
 status 3
 !^ quota: q: damaged:
 
-= a damage that is met after opening ends a report
+= a report over a store that turns is whole, or is none
 use six
 file q
 turn repquota q
 head user q 7days 7days
 > #1000        --          4          0          0      -        1        0        0      -
 
-= a damage that is met after opening leaves the old file of limits
+= limits over a store that turns are set, or the file is as it was
 use six
 file q
 turn setquota 1000 1 1 1 1 q
 changes q
 
-= a damage that is met after opening ends a form
+= a form over a store that turns is whole, or is none
 use timed
 file q
 turn edquota --print 1000 q
@@ -35,20 +35,20 @@ turn edquota --print 1000 q
 >   Filesystem blocks soft hard inodes soft hard
 >   q 4 2 8 1 0 0
 
-= a damage that is met after opening ends a copy of limits
+= limits over a store that turns are copied, or the file is as it was
 use timed
 file q
 turn setquota -p 1000 7 q
 changes q
 
-= a damage that is met after opening ends a change of times
+= times over a store that turns are set, or the file is as it was
 use timed
 file q
 turn setquota -T 1000 5 unset q
 ! quota: inode time not set, soft limit not exceeded
 changes q
 
-= a damage that is met after opening ends a check, of whose lines none is one of the device
+= a check over a store that turns is made, of whose lines none is one of the device, or the file is as it was
 use timed
 file q
 text 1000 1 1 1 1
@@ -57,7 +57,7 @@ input
 turn quotacheck --device 5 q
 changes q
 
-= a damage that is met at a line leaves the lines before
+= the lines of an input over a store that turns are carried out, or the file is as the lines before left it
 use timed
 file q
 run setquota 1000 1 1 1 1 q
