@@ -1,0 +1,76 @@
+# Files that are read ahead and gathered, the greatest numbers, each format and kind, and kills.
+# A part of real_files.sh, which has what it calls, and runs it in the folder that the parts before it left.
+
+# Files of more than 65,536 bytes, of which so many are read ahead and gathered: the lines of a batch do what single
+# commands do, one after another, a file that grew is read to its new end, and a file of names and a quota file are read
+# in turn.
+seq 5000 | awk '{ print $1, 100, 1, $1, 8 }' >owners
+seq 5000 | awk '{ print "user" $1 ":x:" $1 ":1::/:/bin/sh" }' >users
+printf '1 100 200 3 4\n5000 50 60 7 8\nuser70 70 70 7 7\n6000 9 0 0 0\n1 20 20 2 2\n5000 0 0 0 0\n' >few
+for format in vfsold vfsv1; do
+    expect "5,000 owners in a $format file" 0 '' '' quotacheck -c -u -F "$format" --input owners one
+    same "they are more than a window of $format" "$(($(stat -c %s one) > 65536))" 1
+    cp one other
+    expect "a batch of a large $format file" 0 '' '' setquota -F "$format" --names users -b --input few one
+    while read -r name bsoft bhard isoft ihard; do
+        "$run" setquota -F "$format" --names users "$name" "$bsoft" "$bhard" "$isoft" "$ihard" other
+    done <few
+    same "single changes of $format make the same file" "$(cmp one other && echo same)" same
+    same "all names of a large $format file" "$("$run" repquota -F "$format" --names users one | sed 1,4d | awk '{ print $1 }' | cksum)" \
+        "$(seq 5000 | sed 's/^/user/' | cksum)"
+    same "the end of a $format file that grew" "$("$run" repquota -v -F "$format" one | tail -n 1)" \
+        '#6000        --          0          9          0      -        0        0        0      -'
+    "$run" repquota -u -F "$format" one | sed 1,4d | awk '{ print substr($1, 2), 100, 1, substr($1, 2), 2 * $3 }' >owners.again
+    expect "a listing of a large $format file from a pipe" 0 '' '' quotacheck -u -F "$format" other < <(cat owners.again)
+    same "its sums of $format" "$("$run" repquota -u -F "$format" other | sed 1,4d | awk '{ kib += $3; inodes += $7 } END { print NR, kib, inodes }')" \
+        '5000 20000 5000'
+done
+rm one other owners owners.again users few
+
+# The greatest identifier and the greatest use of a flat file.
+expect 'the greatest flat file' 0 '' '' quotacheck -c -F vfsold q <<<'1048575 0 1 1 8589934590'
+same 'its size' "$(stat -c %s q)" 41943040
+same 'its line' "$("$run" repquota -F vfsold q | sed 1,4d)" \
+    '#1048575     -- 4294967295          0          0      -        1        0        0      -'
+rm q
+
+# Each command on each format and kind. A tree file begins with its header alone, which is a file of no records.
+week='\x80\x3a\x09\x00\x80\x3a\x09\x00'
+tail='\x00\x00\x00\x00\x02\x00\x00\x00\x00\x00\x00\x00\x00\x00\x00\x00'
+for row in 'user -u vfsv1 \x11\x1f \x01 User' 'user -u vfsv0 \x11\x1f \x00 User' \
+    'group -g vfsv1 \x27\x19 \x01 Group' 'group -g vfsv0 \x27\x19 \x00 Group' 'group -g vfsold - - Group'; do
+    read -r kind letter format magic version title <<<"$row"
+    if [ "$format" = vfsold ]; then : >t; else printf "$magic\\xc0\\xd9$version\\x00\\x00\\x00$week$tail" >t; fi
+    expect "new limits in $format of a $kind" 0 '' '' setquota "$letter" -F "$format" 1000 100 200 10 20 t
+    expect "a second identifier in $format of a $kind" 0 '' '' setquota "$letter" -F "$format" 70000 1 2 3 4 t
+    expect "the report of $format of a $kind" 0 "*** Report for $kind quotas on t
+Block grace time: 7days; Inode grace time: 7days
+$(printf '%-13s' "$title")         used       soft       hard  grace    files     soft     hard  grace
+-----------------------------------------------------------------------------------------
+#1000        --          0        100        200      -        0       10       20      -
+#70000       --          0          1          2      -        0        3        4      -" '' repquota "$letter" -v -F "$format" t
+    expect "a batch in $format of a $kind" 0 '' '' setquota "$letter" -F "$format" -b t <<<$'70000 0 0 0 0\n1000 1 2 3 4'
+    same "its report in $format of a $kind" "$("$run" repquota "$letter" -v -F "$format" t | sed 1,4d)" \
+        '#1000        --          0          1          2      -        0        3        4      -'
+    same "nothing is left beside $format of a $kind" "$(echo t.*)" ''
+done
+expect 'a flat file that is not asked for as one' 3 '' 'quota: t: not a quota file' repquota -u t
+
+# The program killed at many moments of a change leaves the old file or the new one.
+printf '\x11\x1f\xc0\xd9\x01\x00\x00\x00'"$week$tail" >tree
+for id in 1 2 3 1000 70000 16777216 4294967295; do "$run" setquota "$id" 1 2 3 4 tree; done
+truncate -s 41943040 flat
+for case in 'tree vfsv1 0.0' 'flat vfsold 0.'; do
+    read -r name format point <<<"$case"
+    cp "$name" old
+    cp "$name" new
+    "$run" setquota -F "$format" 5 1 2 3 4 new
+    kept=0
+    for step in $(seq 10 99); do
+        cp old killed
+        timeout -s KILL "${point}0$step" "$folder/program" setquota -F "$format" 5 1 2 3 4 killed 2>err.txt || true
+        if cmp -s killed old || cmp -s killed new; then kept=$((kept + 1)); fi
+        rm -f killed.new
+    done
+    same "a $format file after a kill is the old or the new one" "$kept" 90
+done
