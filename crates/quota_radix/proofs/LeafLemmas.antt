@@ -1,8 +1,10 @@
 -- The leaf of an identifier, and the first leaf from one on.
-use Rattle.std.proofs.Common.{◌≡◌, ℕ, ◌^◌, ◌<◌, Bool, true, cond, ◌==◌, List, [], ◌∷◌, find, Option, Some, None, option_map, sym, ap, ◌∙◌, inl, inr, arith}
+use Rattle.std.proofs.Common.{◌≡◌, ℕ, ◌/◌, ◌%◌, ◌^◌, ◌<◌, Bool, true, cond, ◌==◌, List, [], ◌∷◌, find, Option, Some, None, option_and_then, option_map, sym, ap, ◌∙◌, inl, inr, arith}
 use Rattle.std.proofs.lemmas.Bool.{cases_Bool, cases_lt, eqb-true}
 use Rattle.quota_radix.specs.declared.tree_path.TreePath.{TreePath}
-use Rattle.quota_radix.specs.Descent.{leaf_block, leaf_from}
+use Rattle.quota_blocks.specs.Block.{leads, word_at}
+use Rattle.quota_radix.proofs.StepLemmas.{leads_on}
+use Rattle.quota_radix.specs.Descent.{IsLowest, block_led_to, leaf_block, leaf_from, led_by}
 use Rattle.quota_radix.specs.Tree.{leaves}
 use Rattle.quota_radix.proofs.DescentLemmas.{IsPathFrom, leaf_is_from, leaf_led_to, no_leaf_from, not_some, option_cases, some_same}
 
@@ -57,3 +59,16 @@ leaf_from_here file blocks from block low is =
                 sym there ∙ ap (λ (number : ℕ). find (λ (other : TreePath). other.number == number) (leaves file blocks)) same ∙ next.there ∙ sym found.1
           ]
     ]
+
+-- where a reference leads
+pub led_there : (file : List ℕ) (blocks digit block word : ℕ) → word ≡ word_at file block digit → word < blocks → (word ≡ 0 → ⊥) → Some word ≡ led_by file blocks digit block
+led_there file blocks digit block word is inside some =
+    sym (ap (λ (w : ℕ). cond (leads blocks w) (Some w) None) (sym is) ∙ ap (λ (b : Bool). cond b (Some word) None) (leads_on blocks word inside some))
+
+-- the data block of an identifier, by its last digit from where the first three lead
+pub leaf_of_lowest : (file : List ℕ) (blocks from digit block : ℕ) (path : TreePath) → IsLowest file blocks path → path.number ≡ from / 256 → digit ≡ from % 256
+    → Some block ≡ led_by file blocks digit path.block → Some block ≡ leaf_block file blocks from
+leaf_of_lowest file blocks from digit block path lowest number digit_is led =
+    led
+    ∙ ap (λ (d : ℕ). led_by file blocks d path.block) digit_is
+    ∙ sym (ap (option_and_then (led_by file blocks (from % 256))) (ap (block_led_to file blocks 3) (sym number) ∙ lowest))

@@ -22,7 +22,7 @@ mod walk_fault;
 pub use finding::{find_path, leaf};
 pub use following::next_leaf;
 pub use linking::link;
-pub use loaded_blocks::{first_leaf, leaf_block};
+pub use loaded_blocks::{first_leaf, leaf_beside, leaf_block};
 pub use path::Path;
 pub use places::digits;
 pub use reference::level_ref;

@@ -1,6 +1,6 @@
 -- The entries of a data block. Source: the kernel's `fs/quota/quota_tree.c` (entries fill a data block behind its
 -- header of 16 bytes; one of zeros is unused).
-use Rattle.std.specs.Prelude.{ℕ, ◌+◌, ◌*◌, ◌==◌, Bool, if◌then◌else◌, List, map, take, drop, Option, Some, None}
+use Rattle.std.specs.Prelude.{◌≡◌, ℕ, ◌+◌, ◌*◌, ◌<◌, ◌==◌, Bool, if◌then◌else◌, List, map, take, drop, Option, Some, None}
 use Rattle.std.specs.List.{filter_map, list_any, range_with_len}
 use Rattle.std.specs.Option.{option_and_then}
 use Rattle.quota_types.specs.Kept.{without_marker}
@@ -45,3 +45,9 @@ used_by id entry = if entry.id == id then Some entry.rec else None
 -- the record of a block's entry at a place, where this identifier uses it
 abbrev pub record_by : Format → List ℕ → ℕ → ℕ → Option Rec
 record_by format block id place = option_and_then (used_by id) (entry_of format (entry_bytes format block place))
+
+-- a record is that of some entry of a block, which this identifier uses
+pub record IsRecordIn (format : Format) (block : List ℕ) (id : ℕ) (rec : Rec) : Type 0 where
+  pub place : ℕ
+  pub low : place < entries_per_block format
+  pub is : record_by format block id place ≡ Some rec

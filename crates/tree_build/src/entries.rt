@@ -1,4 +1,5 @@
-ghost use Rattle.std.specs.Prelude.{◌≡◌, ◌≢◌, ℕ, ◌+◌, ◌<◌, ◌≤◌, ◌++◌, ◌||◌, length, None, IfOk, IfSome, IsSome, OnOk, IfErr, MatchOption};
+ghost use Rattle.std.specs.Prelude.{◌≡◌, ◌≢◌, ℕ, ◌+◌, ◌<◌, ◌≤◌, ◌++◌, ◌||◌, length, None, Some, IfNone, IfOk, IfSome, IsSome, OnOk, IfErr, MatchOption};
+ghost use Rattle.std.specs.Option.{option_map};
 ghost use Rattle.std.specs.Bool.{OnFalse, OnTrue};
 ghost use Rattle.arrayvec.specs.ArrayVec.{array_vec_len};
 ghost use Rattle.entry_codec.specs.Entry.{entries_per_block, entry_size, is_unused};
@@ -7,7 +8,7 @@ ghost use Rattle.quota_types.specs.Kept.{IsKept};
 ghost use Rattle.tree_build.specs.Compared.{AreEntriesOf, IsEntryDefectAt, id_in};
 ghost use Rattle.quota_types.specs.Times.{StandsIn, StandsTwiceIn, times};
 ghost use Rattle.quota_types.specs.Damage.{NamesItsId};
-ghost use Rattle.tree_build.specs.Entries.{entry_bytes, has_unused, record_by, used_ids};
+ghost use Rattle.tree_build.specs.Entries.{IsRecordIn, entry_bytes, has_unused, record_by, used_ids};
 ghost use Rattle.tree_build.specs.TreeFile.{record_in};
 
 use arrayvec::ArrayVec;
@@ -94,22 +95,33 @@ fn record_by(format: Format, block: &[u8; 1024], place: usize, id: u32) -> Optio
     Some(rec)
 }
 
+/// The first entry of a block that is used by an identifier: its place among the entries, and its record.
+fn first_used(format: Format, block: &[u8; 1024], id: u32) -> Option<(usize, Rec)>
+    requires tree { format ≢ Format.V1 }
+    ensures value { option_map (λ found. found.1) result ≡ record_in format block.now id }
+    ensures there { IfSome result (λ found. (found.0 < entries_per_block format)
+        × (record_by format block.now id found.0 ≡ Some found.1)) }
+    ensures kept { IfSome result (λ found. IsKept format id found.1) }
+{
+    for place in 0..entries_per_block(format) {
+        if !has_id(format, block, place, id) {
+            continue;
+        }
+        if let Some(rec) = record_by(format, block, place, id) {
+            return Some((place, rec));
+        }
+    }
+    None
+}
+
 /// The record of the first entry of a block that is used by an identifier.
 pub fn find_record(format: Format, block: &[u8; 1024], id: u32) -> Option<Rec>
     requires tree { format ≢ Format.V1 }
     ensures value { result ≡ record_in format block.now id }
     ensures kept { IfSome result (IsKept format id) }
 {
-    for place in 0..entries_per_block(format) {
-        if !has_id(format, block, place, id) {
-            continue;
-        }
-        let rec = record_by(format, block, place, id);
-        if rec.is_some() {
-            return rec;
-        }
-    }
-    None
+    let (_place, rec) = first_used(format, block, id)?;
+    Some(rec)
 }
 
 /// The place among the entries of a block of the first one that is used by an identifier.
@@ -118,12 +130,39 @@ pub fn find_place(format: Format, block: &[u8; 1024], id: u32) -> Option<usize>
     ensures low { IfSome result (λ place. place < entries_per_block format) }
     ensures used { IfSome result (λ place. IsSome (record_by format block.now id place)) }
 {
-    for place in 0..entries_per_block(format) {
-        if record_by(format, block, place, id).is_some() {
-            return Some(place);
+    let (place, _rec) = first_used(format, block, id)?;
+    Some(place)
+}
+
+/// The record of an entry of a block that is used by an identifier: of that at the place `near`, where that is one, and else
+/// of the first one. Then the place behind it is near, so that entries that follow one another are found at once.
+#[inline(always)]
+pub fn find_near(format: Format, block: &[u8; 1024], id: u32, near: &mut usize) -> Option<Rec>
+    requires tree { format ≢ Format.V1 }
+    ensures there { IfSome result (IsRecordIn format block.now id) }
+    ensures none { IfNone result (record_in format block.now id ≡ None) }
+    ensures kept { IfSome result (IsKept format id) }
+{
+    if *near < entries_per_block(format) {
+        if let Some(rec) = record_by(format, block, *near, id) {
+            *near += 1;
+            return Some(rec);
         }
     }
-    None
+    find_from_first(format, block, id, near)
+}
+
+/// The same, of the first one. It stands apart, so that what is near is found without it.
+#[inline(never)]
+fn find_from_first(format: Format, block: &[u8; 1024], id: u32, near: &mut usize) -> Option<Rec>
+    requires tree { format ≢ Format.V1 }
+    ensures there { IfSome result (IsRecordIn format block.now id) }
+    ensures none { IfNone result (record_in format block.now id ≡ None) }
+    ensures kept { IfSome result (IsKept format id) }
+{
+    let (place, rec) = first_used(format, block, id)?;
+    *near = place + 1;
+    Some(rec)
 }
 
 /// The first of some numbers that is none of others.

@@ -16,5 +16,5 @@ mod new_tree;
 
 pub use build_fault::BuildFault;
 pub use building::build;
-pub use entries::{compare_entries, find_place, find_record};
+pub use entries::{compare_entries, find_near, find_place, find_record};
 pub use needed::Needed;

@@ -16,4 +16,5 @@ pub mod ReadLemmas
 pub mod RoleLemmas
 pub mod SameBlocksLemmas
 pub mod SpanLemmas
+pub mod UsedLemmas
 pub mod WholeBlocksLemmas

@@ -2,6 +2,7 @@
 use Rattle.std.proofs.Common.{◌≡◌, ℕ, ◌^◌, ◌≤◌, Bool, cond, ◌==◌, List, [], ◌∷◌, find, Option, Some, None, Result, Ok, Err, OnErr, IfErr, IsErrAnd, option_and_then, refl, sym, ap, subst, ◌∙◌, inl, inr, arith}
 use Rattle.std.proofs.lemmas.Bool.{cases_Bool, cases_lt}
 use Rattle.std.specs.FinMap.{get}
+use Rattle.std.specs.Prelude.{IfSome}
 use Rattle.std.specs.List.{AllByRecursion}
 use Rattle.quota_types.specs.declared.damage.Damage.{Damage}
 use Rattle.quota_types.specs.declared.damage.DamageKind.TheVariants.{MissingEntry}
@@ -16,7 +17,7 @@ use Rattle.quota_blocks.specs.Block.{block_of}
 use Rattle.quota_types.specs.Times.{StandsIn, times}
 use Rattle.tree_build.specs.Defect.{IsTreeDefect}
 use Rattle.quota_radix.specs.Descent.{leaf_from}
-use Rattle.tree_build.specs.Entries.{used_entries, used_ids}
+use Rattle.tree_build.specs.Entries.{IsRecordIn, used_entries, used_ids}
 use Rattle.tree_file.specs.Leaf.{IsLeafFault, IsNextId}
 use Rattle.quota_radix.specs.Tree.{ids_at, leaves}
 use Rattle.tree_build.specs.TreeFile.{TreeStandsFor, record_in, tree_record}
@@ -25,6 +26,7 @@ use Rattle.quota_radix.proofs.DescentLemmas.{IsPathFrom, find_above, leaf_is_fro
 use Rattle.quota_radix.proofs.LeafLemmas.{IsLeaf}
 use Rattle.quota_radix.proofs.PathLemmas.{Rises-paths, leaves_lead}
 use Rattle.tree_build.proofs.ValueLemmas.{found_entry}
+use Rattle.tree_file.proofs.UsedLemmas.{one_is_first}
 
 -- a file stands for no value
 abbrev pub StandsForNone : List ℕ → Type 0
@@ -107,14 +109,26 @@ none_next header file after from of first none value stands = λ id is.
 
 -- the leaf from an identifier on is that of the next one
 pub one_next : (header : Header) (file : List ℕ) (after : Option ℕ) (from : ℕ) (leaf : TreePath) (rec : Rec) → AreOf header (header_of file) → ((id : ℕ) → IsAfter after id → from ≤ id)
-    → ((id : ℕ) → from ≤ id → IsAfter after id) → Some leaf ≡ leaf_from file header.blocks from → record_in header.format (block_of file leaf.block) leaf.number ≡ Some rec
-    → (value : QuotaValue) → TreeStandsFor file value → IsNextAfter after value.records (Some (record { id = leaf.number; rec = rec }))
-one_next header file after from leaf rec of first comes_after is found value stands =
+    → ((id : ℕ) → from ≤ id → IsAfter after id) → Some leaf ≡ leaf_from file header.blocks from
+    → (value : QuotaValue) → TreeStandsFor file value → get value.records leaf.number ≡ Some rec → IsNextAfter after value.records (Some (record { id = leaf.number; rec = rec }))
+one_next header file after from leaf rec of first comes_after is value stands has =
     let next : IsPathFrom from (leaves file header.blocks) leaf = leaf_is_from file header.blocks from leaf (sym is) in (
       comes_after leaf.number next.above,
-      one_record header file leaf rec of next.there found value stands,
+      has,
       λ id after_id below. no_record header file id of (next.none_between id (first id after_id) below) value stands,
     )
+
+-- the record of any entry of an identifier in its block is that of the identifier
+pub near_record : (header : Header) (file : List ℕ) (leaf : TreePath) (rec : Rec) → AreOf header (header_of file) → IsLeaf file header.blocks leaf
+    → IsRecordIn header.format (block_of file leaf.block) leaf.number rec → (value : QuotaValue) → TreeStandsFor file value → get value.records leaf.number ≡ Some rec
+near_record header file leaf rec of is there value stands =
+    let leads : StandsIn (ids_at (leaves file header.blocks) leaf.block) leaf.number =
+    each_found (λ (other : TreePath). StandsIn (ids_at (leaves file header.blocks) other.block) other.number) (λ (other : TreePath). other.number == leaf.number)
+    (leaves file header.blocks) leaf is (leaves_lead file header.blocks) in
+    let once : times (used_ids header.format (block_of file leaf.block)) leaf.number ≡ 1 =
+    subst (λ (format : Format). times (used_ids format (block_of file leaf.block)) leaf.number ≡ 1) (same_format header file value of stands)
+    (stands.sound.filled.one_entry leaf.block leaf.number (subst (λ (blocks : ℕ). StandsIn (ids_at (leaves file blocks) leaf.block) leaf.number) (sym of.blocks) leads)) in
+    one_record header file leaf rec of is (one_is_first header.format (block_of file leaf.block) leaf.number rec once there) value stands
 
 -- its leaf, and that it comes after
 pub next_leaf : (file : List ℕ) (blocks from : ℕ) (leaf : TreePath) → Some leaf ≡ leaf_from file blocks from → IsLeaf file blocks leaf × (from ≤ leaf.number)
@@ -146,5 +160,16 @@ pub leaf_next_id : (header : Header) (file : List ℕ) (after : Option ℕ) (fro
     → ((id : ℕ) → from ≤ id → IsAfter after id) → Some leaf ≡ leaf_from file header.blocks from → (value : QuotaValue) → TreeStandsFor file value
     → IsNextId after value.records (Some leaf.number)
 leaf_next_id header file after from leaf of first comes_after is value stands =
-    let found = leaf_record header file leaf of (next_leaf file header.blocks from leaf is).0 value stands in
-    (found.0, one_next header file after from leaf found.0 of first comes_after is found.1 value stands)
+    let found = leaf_record header file leaf of (next_leaf file header.blocks from leaf is).0 value stands in (
+      found.0,
+      one_next header file after from leaf found.0 of first comes_after is value stands
+          (one_record header file leaf found.0 of (next_leaf file header.blocks from leaf is).0 found.1 value stands),
+    )
+
+-- a fact of what may be there, as one of each that it is
+pub if_each : {T : Type 0} (P : T → Type 0) (o : Option T) → ((x : T) → o ≡ Some x → P x) → IfSome o P
+if_each P None each = tt
+if_each P (Some x) each = each x refl
+
+pub each_if : {T : Type 0} (P : T → Type 0) (o : Option T) → IfSome o P → (x : T) → o ≡ Some x → P x
+each_if P o holds x is = subst (λ (some : Option _). IfSome some P) is holds

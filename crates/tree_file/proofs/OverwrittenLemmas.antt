@@ -1,41 +1,38 @@
 -- An entry that is overwritten where it stands changes the record of its identifier and nothing else.
-use Rattle.std.proofs.Common.{◌≡◌, ◌≢◌, ℕ, zero, suc, ◌+◌, ◌*◌, ◌<◌, ◌≤◌, Bool, true, false, cond, ◌||◌, ◌==◌, List, [], ◌∷◌, ◌++◌, length, map, find, take, drop, Option, Some, None, option_and_then, option_map, refl, sym, ap, subst, ◌∙◌, inl, inr, arith, ne_eqb, eq-eqb, if◌then◌else◌, length-take, length-drop}
+use Rattle.std.proofs.Common.{◌≡◌, ◌≢◌, ℕ, suc, ◌+◌, ◌*◌, ◌<◌, ◌≤◌, Bool, true, false, cond, ◌==◌, List, [], ◌++◌, length, find, take, drop, Option, Some, None, option_and_then, sym, ap, subst, ◌∙◌, inl, inr, arith, ne_eqb, if◌then◌else◌, length-take, length-drop}
 use Rattle.std.proofs.Math.Nat.{mul-le-mul_left}
-use Rattle.std.proofs.lemmas.Bool.{cases_Bool, cases_eq, cases_lt}
+use Rattle.std.proofs.lemmas.Bool.{cases_eq, cases_lt}
 use Rattle.std.proofs.lemmas.Bool.Decides.{eqb_tells}
 use Rattle.std.proofs.lemmas.Grind.{same_number_lists}
 use Rattle.std.proofs.lemmas.List.{get_or-drop, get_or-take}
 use Rattle.std.specs.FinMap.{get, insert}
-use Rattle.std.specs.List.{cons_option, filter_map, list_any, range_with_len}
-use Rattle.std.specs.Option.{option_or}
-use Rattle.std.specs.Prelude.{IsSome, nat_lt}
+use Rattle.std.specs.Prelude.{nat_lt}
 use Rattle.quota_types.specs.Bytes.{byte_at, number_at}
-use Rattle.quota_types.specs.Kept.{without_marker}
 use Rattle.quota_types.specs.declared.file_kind.Format.{Format}
 use Rattle.quota_types.specs.declared.file_kind.Format.TheVariants.{V1, V2R0, V2R1}
-use Rattle.quota_types.specs.declared.record.Entry.{Entry}
 use Rattle.quota_types.specs.declared.record.Rec.{Rec}
 use Rattle.quota_blocks.specs.QuotaValue.{QuotaValue}
 use Rattle.quota_blocks.specs.Span.{KeepsOutside}
-use Rattle.entry_codec.specs.Entry.{IsEntry, entries_per_block, entry_size, is_unused, stored_id}
+use Rattle.entry_codec.specs.Entry.{IsEntry, entries_per_block, entry_size, is_unused}
 use Rattle.entry_codec.specs.Header.{AreOf, HeaderNumbers, format_of, header_of}
 use Rattle.entry_codec.specs.declared.header.Header.{Header}
 use Rattle.quota_radix.specs.declared.tree_path.TreePath.{TreePath}
 use Rattle.quota_blocks.specs.Block.{block_of}
 use Rattle.quota_types.specs.Times.{StandsIn, times}
-use Rattle.tree_build.specs.Entries.{entry_bytes, entry_of, has_unused, stored_record, used_by, used_entries, used_ids}
+use Rattle.tree_build.specs.Entries.{entry_bytes, entry_of, has_unused, used_by, used_entries, used_ids}
 use Rattle.tree_file.specs.Overwritten.{HasEntryAt}
 use Rattle.tree_build.specs.Roles.{OneRole, roles}
 use Rattle.quota_radix.specs.Tree.{data_blocks, ids_at, leaves, level, lower_blocks, tree_blocks}
 use Rattle.tree_build.specs.TreeFile.{TreeStandsFor, record_in, tree_record}
-use Rattle.quota_types.proofs.TimesLemmas.{times-append, times-cons, times-cons-other, times-cons-same, stands_left, stands_right}
+use Rattle.quota_types.proofs.TimesLemmas.{times-append, times-cons, times-cons-same, stands_left}
 use Rattle.quota_blocks.proofs.WordLemmas.{number_same, same_part, byte_at-block_of, length-block_of}
-use Rattle.tree_build.proofs.RecordLemmas.{used_is, found_or_later}
+use Rattle.tree_build.proofs.RecordLemmas.{used_is}
 use Rattle.tree_file.proofs.GracedLemmas.{same_header}
 use Rattle.tree_file.proofs.HeaderKeptLemmas.{KeepsHeader, same_numbers, sound_kept}
 use Rattle.tree_file.proofs.ListingLemmas.{inserted_own, inserted_rest}
 use Rattle.tree_file.proofs.LookupLemmas.{each_found}
 use Rattle.quota_radix.proofs.PathLemmas.{data_block_of_id, leaves_lead}
+use Rattle.tree_file.proofs.UsedLemmas.{any_same, id_of, ids_of_same, rec_of_same, used_found, used_there}
 use Rattle.tree_file.proofs.SameBlocksLemmas.{IsInside, KeepsTree, listed_inside, paths_same, record_same}
 
 -- an entry lies within its block
@@ -43,114 +40,6 @@ entry_fits : (format : Format) (place : ℕ) → place < entries_per_block forma
 entry_fits V1 place low = absurd (omega (arith, low))
 entry_fits V2R0 place low = omega (arith, low)
 entry_fits V2R1 place low = omega (arith, low)
-
--- the identifier of an entry, where there is one
-abbrev id_of : Option Entry → Option ℕ
-id_of o = option_map (λ (entry : Entry). entry.id) o
-
--- the identifiers of the entries at so many places from one on, and the record of the first entry there of an identifier
-abbrev ids_from : (ℕ → Option Entry) → ℕ → ℕ → List ℕ
-ids_from f low count = map (λ (entry : Entry). entry.id) (filter_map f (range_with_len low count))
-
-abbrev rec_from : ℕ → (ℕ → Option Entry) → ℕ → ℕ → Option Rec
-rec_from id f low count = option_map (λ (entry : Entry). entry.rec) (find (λ (entry : Entry). entry.id == id) (filter_map f (range_with_len low count)))
-
-ids_cons : (o : Option Entry) (entries : List Entry) → map (λ (entry : Entry). entry.id) (cons_option o entries) ≡ cons_option (id_of o) (map (λ (entry : Entry). entry.id) entries)
-ids_cons None entries = refl
-ids_cons (Some e) entries = refl
-
--- places with the same identifiers
-ids_of_same : (f g : ℕ → Option Entry) (low count : ℕ) → ((k : ℕ) → low ≤ k → k < low + count → id_of (f k) ≡ id_of (g k)) → ids_from f low count ≡ ids_from g low count
-ids_of_same f g low zero same = refl
-ids_of_same f g low (suc count) same =
-    let here : id_of (f low) ≡ id_of (g low) = same low (omega arith) (omega arith) in
-    let rest : ids_from f (low + 1) count ≡ ids_from g (low + 1) count = ids_of_same f g (low + 1) count (λ k from to. same k (omega arith) (omega arith)) in
-    ids_cons (f low) (filter_map f (range_with_len (low + 1) count))
-    ∙ (λ i. cons_option (here i) (rest i))
-    ∙ sym (ids_cons (g low) (filter_map g (range_with_len (low + 1) count)))
-
--- places at which two tests agree
-any_same : (f g : ℕ → Bool) (low count : ℕ) → ((k : ℕ) → low ≤ k → k < low + count → f k ≡ g k) → list_any f (range_with_len low count) ≡ list_any g (range_with_len low count)
-any_same f g low zero same = refl
-any_same f g low (suc count) same =
-    let here : f low ≡ g low = same low (omega arith) (omega arith) in
-    let rest : list_any f (range_with_len (low + 1) count) ≡ list_any g (range_with_len (low + 1) count) = any_same f g (low + 1) count (λ k from to. same k (omega arith) (omega arith)) in
-    λ i. here i || rest i
-
--- places with the same records of an identifier
-rec_of_same : (id : ℕ) (f g : ℕ → Option Entry) (low count : ℕ) → ((k : ℕ) → low ≤ k → k < low + count → option_and_then (used_by id) (f k) ≡ option_and_then (used_by id) (g k))
-    → rec_from id f low count ≡ rec_from id g low count
-rec_of_same id f g low zero same = refl
-rec_of_same id f g low (suc count) same =
-    let here : option_and_then (used_by id) (f low) ≡ option_and_then (used_by id) (g low) = same low (omega arith) (omega arith) in
-    let rest : rec_from id f (low + 1) count ≡ rec_from id g (low + 1) count = rec_of_same id f g (low + 1) count (λ k from to. same k (omega arith) (omega arith)) in
-    found_or_later id (f low) (filter_map f (range_with_len (low + 1) count))
-    ∙ (λ i. option_or (here i) (rest i))
-    ∙ sym (found_or_later id (g low) (filter_map g (range_with_len (low + 1) count)))
-
--- an identifier that uses an entry is one of those of the entries
-used_stands : (id : ℕ) (rec : Rec) (f : ℕ → Option Entry) (low count k : ℕ) → low ≤ k → k < low + count → f k ≡ Some (record { id = id; rec = rec }) → StandsIn (ids_from f low count) id
-used_stands id rec f low zero k from to is = absurd (omega (arith, from, to))
-used_stands id rec f low (suc count) k from to is =
-    let rest : List ℕ = ids_from f (low + 1) count in
-    let split : ids_from f low (suc count) ≡ cons_option (id_of (f low)) rest = ids_cons (f low) (filter_map f (range_with_len (low + 1) count)) in
-    elim (cases_eq k low) [
-      | inl same ↦
-          let first : ids_from f low (suc count) ≡ id ∷ rest = split ∙ ap (λ (n : ℕ). cons_option (id_of (f n)) rest) (sym same) ∙ ap (λ (o : Option Entry). cons_option (id_of o) rest) is in
-          subst (λ (xs : List ℕ). StandsIn xs id) (sym first) (omega (arith, times-cons-same id rest))
-      | inr other ↦
-          let later : StandsIn rest id = used_stands id rec f (low + 1) count k (omega (arith, other, from)) (omega (arith, to)) is in
-          subst (λ (xs : List ℕ). StandsIn xs id) (sym split) (either (id_of (f low)) rest later)
-    ]
-  where
-    either : (o : Option ℕ) (xs : List ℕ) → StandsIn xs id → StandsIn (cons_option o xs) id
-    either None xs stands = stands
-    either (Some x) xs stands = stands_right (x ∷ []) xs id stands
-
--- the entry that an identifier uses once is the one that is found
-used_found : (id : ℕ) (rec : Rec) (f : ℕ → Option Entry) (low count k : ℕ) → low ≤ k → k < low + count → f k ≡ Some (record { id = id; rec = rec }) → times (ids_from f low count) id ≤ 1
-    → rec_from id f low count ≡ Some rec
-used_found id rec f low zero k from to is once = absurd (omega (arith, from, to))
-used_found id rec f low (suc count) k from to is once =
-    let rest : List Entry = filter_map f (range_with_len (low + 1) count) in
-    let split : ids_from f low (suc count) ≡ cons_option (id_of (f low)) (ids_from f (low + 1) count) = ids_cons (f low) rest in
-    found_or_later id (f low) rest
-    ∙ elim (cases_eq k low) [
-      | inl same ↦ ap (λ (n : ℕ). option_or (option_and_then (used_by id) (f n)) (rec_from id f (low + 1) count)) (sym same)
-          ∙ ap (λ (o : Option Entry). option_or (option_and_then (used_by id) o) (rec_from id f (low + 1) count)) is
-          ∙ ap (λ (b : Bool). option_or (cond b (Some rec) None) (rec_from id f (low + 1) count)) (eq-eqb id id refl)
-      | inr other ↦
-          let later : StandsIn (ids_from f (low + 1) count) id = used_stands id rec f (low + 1) count k (omega (arith, other, from)) (omega (arith, to)) is in
-          let few : times (cons_option (id_of (f low)) (ids_from f (low + 1) count)) id ≤ 1 = subst (λ (xs : List ℕ). times xs id ≤ 1) split once in
-          behind (f low) (ids_from f (low + 1) count) (rec_from id f (low + 1) count) later few
-          (λ still. used_found id rec f (low + 1) count k (omega (arith, other, from)) (omega (arith, to)) is still)
-    ]
-  where
-    behind : (o : Option Entry) (xs : List ℕ) (found : Option Rec) → StandsIn xs id → times (cons_option (id_of o) xs) id ≤ 1 → (times xs id ≤ 1 → found ≡ Some rec)
-        → option_or (option_and_then (used_by id) o) found ≡ Some rec
-    behind None xs found stands few next = next few
-    behind (Some e) xs found stands few next = elim (eqb_tells e.id id) [
-      | inl same ↦ absurd (omega (arith, stands, few, times-cons e.id xs id, ap {B = ℕ} (λ (b : Bool). cond b 1 0) same.0))
-      | inr other ↦ ap (λ (b : Bool). option_or (cond b (Some e.rec) None) found) other.0 ∙ next (omega (arith, few, times-cons-other e.id xs id other.1))
-    ]
-
--- the entry that an identifier uses
-used_there : (format : Format) (bytes : List ℕ) (id : ℕ) → IsSome (option_and_then (used_by id) (entry_of format bytes))
-    → (is_unused bytes ≡ false) × ((rec : Rec) × (entry_of format bytes ≡ Some (record { id = id; rec = rec })))
-used_there format bytes id some =
-    let e : Entry = record { id = stored_id bytes; rec = without_marker (stored_id bytes) (stored_record format bytes) } in
-    elim (cases_Bool (is_unused bytes)) [
-      | inl unused ↦ absurd (not_there (subst (λ (b : Bool). IsSome (option_and_then (used_by id) (cond b None (Some e)))) unused some))
-      | inr used ↦
-          let there : IsSome (cond (e.id == id) (Some e.rec) None) = subst (λ (b : Bool). IsSome (option_and_then (used_by id) (cond b None (Some e)))) used some in
-          elim (eqb_tells e.id id) [
-            | inl same ↦ (used, (e.rec, ap (λ (b : Bool). cond b None (Some e)) used ∙ ap (λ (n : ℕ). Some (record { id = n; rec = e.rec })) same.1))
-            | inr other ↦ absurd (not_there (subst (λ (b : Bool). IsSome (cond b (Some e.rec) None)) other.0 there))
-          ]
-    ]
-  where
-    not_there : IsSome {T = Rec} None → ⊥
-    not_there h = absurd cc
 
 -- a file of which the bytes of an entry of a block were written
 module _ (format : Format) (old new : List ℕ) (block place : ℕ) (low : place < entries_per_block format)

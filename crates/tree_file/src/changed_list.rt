@@ -6,11 +6,12 @@ ghost use Rattle.quota_types.specs.Range.{unfit};
 ghost use Rattle.quota_blocks.specs.QuotaValue.{QuotaValue, IsAfter, IsNextAfter};
 ghost use Rattle.quota_blocks.specs.Listed.{ids_of};
 ghost use Rattle.quota_types.specs.Damage.{NamesItsId};
+ghost use Rattle.tree_file.specs.Leaf.{IsNear};
 ghost use Rattle.tree_file.specs.Listing.{IsListFault, IsListOf, with_change};
 ghost use Rattle.tree_build.specs.TreeFile.{TreeStandsFor};
 ghost use Rattle.tree_file.specs.declared.changed_list.ListFault.TheVariants.{Damage as Damaged, Memory};
 
-use crate::loaded::LoadedTree;
+use crate::loaded::{LoadedTree, Near};
 use entry_codec::entry_size;
 use quota_types::{Damage, Entry, Rec};
 use std::alloc::{AllocError, AllocFailed, Global};
@@ -69,7 +70,8 @@ pub(crate) fn changed_entries(
     let room = tree.bytes.len() / entry_size(tree.header.format) + 1;
     let mut list = Vec::with_capacity(alloc, room)?;
     let mut after = None;
-    while let Some(entry) = next_changed(tree, after, id, rec)? {
+    let mut near = Near::none();
+    while let Some(entry) = next_changed(tree, after, id, rec, &mut near)? {
         list.push(entry)?;
         after = Some(entry.id);
     }
@@ -82,8 +84,11 @@ fn next_changed(
     after: Option<u32>,
     id: u32,
     rec: Option<Rec>,
+    near: &mut Near,
 ) -> Result<Option<Entry>, Damage>
-    requires { IfSome rec (IsKept tree.now.header.format id) }
+    requires kept { IfSome rec (IsKept tree.now.header.format id) }
+    requires near { IsNear tree.now.bytes.items tree.now.header.blocks near.old }
+    ensures near { IsNear tree.now.bytes.items tree.now.header.blocks near.new }
     ensures found { IfOk result (λ found. (value : QuotaValue) → TreeStandsFor tree.now.bytes.items value
         → IsNextAfter after (with_change id rec value.records) found) }
     ensures ascends { IfOk result (λ found. IfSome found (λ entry. IsAfter after entry.id)) }
@@ -92,7 +97,7 @@ fn next_changed(
     ensures refused { OnErr result ((value : QuotaValue) → ¬ (TreeStandsFor tree.now.bytes.items value)) }
     ensures names_id { IfErr result (λ damage. NamesItsId damage.kind damage.id) }
 {
-    let other = next_other(tree, after, id)?;
+    let other = next_other(tree, after, id, near)?;
     let Some(rec) = rec else {
         return Ok(other);
     };
@@ -120,7 +125,14 @@ fn is_due(after: Option<u32>, id: u32, other: &Option<Entry>) -> bool
 }
 
 /// The next entry after an identifier, other than that of `id`.
-fn next_other(tree: &LoadedTree, after: Option<u32>, id: u32) -> Result<Option<Entry>, Damage>
+fn next_other(
+    tree: &LoadedTree,
+    after: Option<u32>,
+    id: u32,
+    near: &mut Near,
+) -> Result<Option<Entry>, Damage>
+    requires { IsNear tree.now.bytes.items tree.now.header.blocks near.old }
+    ensures near { IsNear tree.now.bytes.items tree.now.header.blocks near.new }
     ensures found { IfOk result (λ found. (value : QuotaValue) → TreeStandsFor tree.now.bytes.items value
         → IsNextAfter after (with_change id None value.records) found) }
     ensures ascends { IfOk result (λ found. IfSome found (λ entry. IsAfter after entry.id)) }
@@ -130,11 +142,11 @@ fn next_other(tree: &LoadedTree, after: Option<u32>, id: u32) -> Result<Option<E
     ensures refused { OnErr result ((value : QuotaValue) → ¬ (TreeStandsFor tree.now.bytes.items value)) }
     ensures names_id { IfErr result (λ damage. NamesItsId damage.kind damage.id) }
 {
-    let Some(entry) = tree.next_record(after)? else {
+    let Some(entry) = tree.next_record(after, near)? else {
         return Ok(None);
     };
     if entry.id == id {
-        tree.next_record(Some(id))
+        tree.next_record(Some(id), near)
     } else {
         Ok(Some(entry))
     }

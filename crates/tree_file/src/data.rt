@@ -12,18 +12,20 @@ ghost use Rattle.tree_file.specs.EntryList.{AreListed, IsListDefect, NamesOther}
 ghost use Rattle.free_chains.specs.Walk.{IsWalk, linked_blocks, previous_in};
 
 use free_chains::{Link, Walk};
-use quota_blocks::{BlockSet, CheckFault, Store, read_block};
+use quota_blocks::{BLOCK, BlockSet, CheckFault, Store, read_block};
 use quota_types::{Damage, DamageKind, Format, damage_at};
 use std::alloc::Global;
 use tree_build::compare_entries;
 
-/// Checks the entries of a data block against the identifiers that lead to it, and answers whether it has room.
+/// Checks the entries of a data block, which is read into `block`, against the identifiers that lead to it, and answers
+/// whether it has room.
 fn check_block<S: Store>(
     store: &mut S,
     name: &str,
     format: Format,
     number: u32,
     ids: &[u32],
+    block: &mut [u8; BLOCK],
 ) -> Result<bool, CheckFault>
     requires tree { format ≢ Format.V1 }
     ensures entries { OnOk result (IsTrue S.tells
@@ -38,9 +40,8 @@ fn check_block<S: Store>(
     ensures leaves { OnlyReads (is_ok result) name.now (S.seen store.old) (S.seen store.new) }
     ensures reads { (S.seen store.new).reads ≤ (S.seen store.old).reads + 1 }
 {
-    let mut block = [0; 1024];
-    read_block(store, name, number, &mut block)?;
-    Ok(compare_entries(format, number, &block, ids)?)
+    read_block(store, name, number, block)?;
+    Ok(compare_entries(format, number, block, ids)?)
 }
 
 /// Checks the data blocks, which are those to which identifiers lead, and answers those that have room.
@@ -68,15 +69,24 @@ pub(crate) fn check_data<S: Store>(
     ensures reads { (S.seen store.new).reads ≤ (S.seen store.old).reads + led_blocks (map (λ ids. ids.items) groups.now) }
 {
     let mut room = BlockSet::new(alloc, blocks)?;
+    let mut bytes = [0; BLOCK];
     for (block, ids) in groups.iter().enumerate() {
         let number = block as u32;
-        check_group(store, name, format, number, ids.as_slice(), &mut room)?;
+        check_group(
+            store,
+            name,
+            format,
+            number,
+            ids.as_slice(),
+            &mut room,
+            &mut bytes,
+        )?;
     }
     Ok(room)
 }
 
-/// Checks a block against the identifiers that lead to it, where there are some, and adds it to those that have room
-/// where it has room.
+/// Checks a block, which is read into `bytes`, against the identifiers that lead to it, where there are some, and adds it to
+/// those that have room where it has room.
 fn check_group<S: Store>(
     store: &mut S,
     name: &str,
@@ -84,6 +94,7 @@ fn check_group<S: Store>(
     number: u32,
     ids: &[u32],
     room: &mut BlockSet,
+    bytes: &mut [u8; BLOCK],
 ) -> Result<(), CheckFault>
     requires tree { format ≢ Format.V1 }
     ensures entries { OnOk result (IsTrue S.tells
@@ -103,7 +114,7 @@ fn check_group<S: Store>(
     if ids.is_empty() {
         return Ok(());
     }
-    if check_block(store, name, format, number, ids)? {
+    if check_block(store, name, format, number, ids, bytes)? {
         room.insert(number);
     }
     Ok(())

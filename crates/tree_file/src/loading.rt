@@ -5,13 +5,14 @@ ghost use Rattle.quota_blocks.specs.Block.{bytes_of};
 
 use quota_blocks::{BLOCK, CheckFault, Store};
 
-/// Appends the bytes that a file has of a block to those of all blocks before it. Where the file ends before the block there
-/// are none.
+/// Appends the bytes that a file has of a block to those of all blocks before it, by way of `piece`. Where the file ends
+/// before the block there are none.
 pub(crate) fn append_block<S: Store>(
     store: &mut S,
     name: &str,
     block: u32,
     bytes: &mut Vec<u8>,
+    piece: &mut [u8; BLOCK],
 ) -> Result<(), CheckFault>
     requires { vec_len bytes.old ≤ 1024 * block }
     ensures loaded { OnOk result (IsTrue S.tells
@@ -26,8 +27,7 @@ pub(crate) fn append_block<S: Store>(
     if bytes.len() < BLOCK * block as usize {
         return Ok(());
     }
-    let mut piece = [0; BLOCK];
-    let count = store.read(name, bytes.len() as u64, &mut piece)?;
+    let count = store.read(name, bytes.len() as u64, piece)?;
     bytes.extend_from_slice(&piece[..count])?;
     Ok(())
 }
@@ -52,8 +52,9 @@ pub(crate) fn load_rest<S: Store>(
     ensures reads { OnOk result ((S.seen store.new).reads + 1 ≤ (S.seen store.old).reads + blocks) }
 {
     bytes.reserve_exact(BLOCK * blocks as usize - bytes.len())?;
+    let mut piece = [0; BLOCK];
     for block in 1..blocks {
-        append_block(store, name, block, bytes)?;
+        append_block(store, name, block, bytes, &mut piece)?;
     }
     Ok(())
 }

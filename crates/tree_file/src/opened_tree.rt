@@ -6,12 +6,13 @@ ghost use Rattle.quota_blocks.specs.FileChange.{FileChange, has_nothing_to_do};
 ghost use Rattle.quota_blocks.specs.QuotaValue.{QuotaValue};
 ghost use Rattle.quota_blocks.specs.World.{overwritten};
 ghost use Rattle.entry_codec.specs.Header.{AreOf, header_of};
+ghost use Rattle.tree_file.specs.Leaf.{IsNear};
 ghost use Rattle.tree_file.specs.Opened.{HoldsTree};
 ghost use Rattle.tree_file.specs.TreeChange.{IsChangedTree, record_change, tree_at, tree_laws};
 ghost use Rattle.tree_build.specs.TreeFile.{TreeStandsFor};
 
 use crate::changed_tree::{GRACE_AT, grace_bytes, rebuilt};
-use crate::loaded::LoadedTree;
+use crate::loaded::{LoadedTree, Near};
 use crate::overwriting::place_to_overwrite;
 use entry_codec::{entry_size, write_entry};
 use quota_blocks::{FileFault, FileUse, QuotaFile, Store};
@@ -29,11 +30,13 @@ pub struct TreeFile {
     pub(crate) opened: FileUse,
     pub(crate) tree: LoadedTree,
     pub(crate) limit: u32,
+    pub(crate) near: Near,
     ghost grace: { grace_unfit tree.header.format tree.header.grace ≡ None },
     ghost two: { 2 ≤ tree.header.blocks },
     ghost narrow: { tree.header.blocks < 2 ^ 32 },
     ghost few: { tree.header.blocks ≤ limit },
     ghost limited: { vec_len tree.bytes ≤ 1024 * tree.header.blocks },
+    ghost met: { IsNear tree.bytes.items tree.header.blocks near },
 }
 
 impl TreeFile {
@@ -60,6 +63,7 @@ impl TreeFile {
     {
         let alloc = *self.tree.bytes.allocator();
         self.opened.replace(alloc, store, tree.bytes.as_slice())?;
+        self.near = Near::none();
         self.tree = tree;
         Ok(())
     }
@@ -85,6 +89,7 @@ impl TreeFile {
             (tree_at S.tells self.new.opened self.new.tree self.new.limit (S.seen store.new)) result }
     {
         let mut grace = grace;
+        self.near = Near::none();
         self.tree.exchange(at, span, &mut grace);
         let alloc = *self.tree.bytes.allocator();
         let bytes = self.tree.bytes.as_slice();
@@ -185,7 +190,7 @@ impl<S: Store> QuotaFile<S> for TreeFile {
         _store: &mut S,
         after: Option<u32>,
     ) -> Result<Option<Entry>, FileFault> {
-        match self.tree.next_record(after) {
+        match self.tree.next_record(after, &mut self.near) {
             Ok(found) => Ok(found),
             Err(damage) => Err(self.opened.refused(FileFault::Damage(damage))),
         }

@@ -16,10 +16,10 @@ ghost use Rattle.tree_file.specs.View.{FitsRequest, HasHeader, IsAsAsked, IsRefu
 use crate::TreeFile;
 use crate::checking::{check_length, check_loaded};
 use crate::file_header::header_in;
-use crate::loaded::LoadedTree;
+use crate::loaded::{LoadedTree, Near};
 use crate::loading::{append_block, load_rest};
 use entry_codec::{Header, HeaderFault};
-use quota_blocks::{CheckFault, FileUse, OpenFault, QuotaFile, Store};
+use quota_blocks::{BLOCK, CheckFault, FileUse, OpenFault, QuotaFile, Store};
 use quota_types::{Format, Kind};
 use std::alloc::Global;
 
@@ -73,6 +73,7 @@ pub fn open_tree<S: Store>(
         opened: FileUse::new(own_name),
         tree,
         limit,
+        near: Near::none(),
     })
 }
 
@@ -94,7 +95,7 @@ fn first_block<S: Store>(alloc: Global, store: &mut S, name: &str) -> Result<Vec
         Err(_) => return Err(OpenFault::Store),
     }
     let mut first = Vec::new(alloc);
-    append_block(store, name, 0, &mut first)?;
+    append_block(store, name, 0, &mut first, &mut [0; BLOCK])?;
     Ok(first)
 }
 

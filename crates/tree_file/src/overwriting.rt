@@ -49,7 +49,8 @@ fn count_needed(tree: &LoadedTree) -> Result<Needed, Damage>
         → HasMet (ids_in value.records) needed) }
 {
     let mut needed = Needed::none();
-    'ids: while let Some(id) = tree.next_id(needed.last)? {
+    let mut lowest = None;
+    'ids: while let Some(id) = tree.next_id(needed.last, &mut lowest)? {
         needed.add(id);
     }
     Ok(needed)
