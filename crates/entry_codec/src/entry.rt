@@ -51,6 +51,7 @@ fn is_unused(bytes: &[u8]) -> bool
 }
 
 /// The record of an entry in use.
+#[inline(always)]
 fn used_record(format: Format, id: u32, bytes: &[u8]) -> Rec
     requires tree { format ≢ Format.V1 }
     requires size { length bytes.now ≡ entry_size format }
@@ -81,6 +82,7 @@ pub fn read_id(bytes: &[u8]) -> Option<u32>
 }
 
 /// The identifier and the record of an entry, or none where it is unused.
+#[inline(always)]
 pub fn read_entry(format: Format, bytes: &[u8]) -> Option<(u32, Rec)>
     requires tree { format ≢ Format.V1 }
     requires size { length bytes.now ≡ entry_size format }
