@@ -1,5 +1,5 @@
 -- Texts that are written over spaces.
-use Rattle.std.proofs.Common.{◌≡◌, ℕ, suc, ◌+◌, ◌-◌, ◌≤◌, List, ◌∷◌, ◌++◌, length, take, drop, replicate, refl, sym, ap, ◌∙◌, arith, append_assoc, take-take, length-take-le}
+use Rattle.std.proofs.Common.{◌≡◌, ℕ, suc, ◌+◌, ◌-◌, ◌≤◌, List, [], ◌∷◌, ◌++◌, length, max, take, drop, replicate, refl, sym, ap, ◌∙◌, arith, append_assoc, take-take, length-take-le}
 use Rattle.std.proofs.lemmas.List.{take-append-drop, drop-take, drop-drop, drop-replicate, take-replicate, replicate-append-replicate, take_at, drop_at}
 use Rattle.report_text.specs.Report.{column, left_in}
 
@@ -9,6 +9,19 @@ take_both n m xs =
     sym (take-append-drop n (take (n + m) xs))
     ∙ ap (λ (front : List ℕ). front ++ drop n (take (n + m) xs)) (take-take n (n + m) xs (omega arith))
     ∙ ap (λ (rest : List ℕ). take n xs ++ rest) (drop-take n m xs)
+
+-- the elements of a list, and of another one behind it
+take_past : (xs : List ℕ) (n : ℕ) (ys : List ℕ) → take (length xs + n) (xs ++ ys) ≡ xs ++ take n ys
+take_past [] n ys = let none : 0 + n ≡ n = omega arith in ap (λ (k : ℕ). take k ys) none
+take_past (x ∷ xs) n ys =
+    let more : suc (length xs) + n ≡ suc (length xs + n) = omega arith in
+    ap (λ (k : ℕ). take k (x ∷ (xs ++ ys))) more ∙ ap (λ (rest : List ℕ). x ∷ rest) (take_past xs n ys)
+
+drop_past : (xs : List ℕ) (n : ℕ) (ys : List ℕ) → drop (length xs + n) (xs ++ ys) ≡ drop n ys
+drop_past [] n ys = let none : 0 + n ≡ n = omega arith in ap (λ (k : ℕ). drop k ys) none
+drop_past (x ∷ xs) n ys =
+    let more : suc (length xs) + n ≡ suc (length xs + n) = omega arith in
+    ap (λ (k : ℕ). drop k (x ∷ (xs ++ ys))) more ∙ drop_past xs n ys
 
 -- Bytes of which the first ones are a text, and the others are spaces.
 module _ (capacity len : ℕ) (bytes text : List ℕ) (whole : length bytes ≡ capacity) (within : len ≤ capacity)
@@ -68,6 +81,39 @@ module _ (capacity len : ℕ) (bytes text : List ℕ) (whole : length bytes ≡ 
         ap (λ (k : ℕ). drop k now) (sym ends) ∙ sym (drop-drop (length digits) start now)
         ∙ ap (λ (xs : List ℕ). drop (length digits) xs) written ∙ drop_at digits _ _ refl
         ∙ ap (λ (k : ℕ). drop k bytes) (sym end) ∙ spaces_past (1 + width) ∙ ap (λ (k : ℕ). replicate (capacity - k) 32) end
+
+  -- Digits are written over spaces, behind the text.
+  module _ (width start : ℕ) (digits now : List ℕ) (room : len + length digits ≤ capacity) (most : ℕ) (most_is : most ≡ max (length digits) width) (fits : len + most ≤ capacity)
+      (ends : start + length digits ≡ len + length digits) (before : take start now ≡ take start bytes)
+      (written : drop start now ≡ digits ++ drop (len + length digits) bytes) where
+    behind : drop len now ≡ digits ++ drop (len + length digits) bytes
+    behind = let same : start ≡ len = omega (arith, ends) in ap (λ (k : ℕ). drop k now) (sym same) ∙ written
+
+    -- what stands there then is the text, and the digits at the left of their places
+    pub left_text : take (len + most) now ≡ text ++ left_in width digits
+    left_text =
+        let same : start ≡ len = omega (arith, ends) in
+        let places : most ≡ length digits + (width - length digits) = omega (arith, most_is) in
+        take_both len most now
+        ∙ ap (λ (xs : List ℕ). xs ++ take most (drop len now)) (ap (λ (k : ℕ). take k now) (sym same) ∙ before ∙ ap (λ (k : ℕ). take k bytes) same ∙ is)
+        ∙ ap (λ (xs : List ℕ). text ++ take most xs) behind
+        ∙ ap (λ (k : ℕ). text ++ take k (digits ++ drop (len + length digits) bytes)) places
+        ∙ ap (λ (xs : List ℕ). text ++ xs) (take_past digits (width - length digits) (drop (len + length digits) bytes)
+        ∙ ap (λ (xs : List ℕ). digits ++ take (width - length digits) xs) (spaces_past (length digits))
+        ∙ ap (λ (xs : List ℕ). digits ++ xs) (take-replicate (width - length digits) (capacity - (len + length digits)) 32 (omega (arith, places, fits))))
+
+    -- the bytes behind it are spaces still
+    pub left_spaces : drop (len + most) now ≡ replicate (capacity - (len + most)) 32
+    left_spaces =
+        let places : most ≡ length digits + (width - length digits) = omega (arith, most_is) in
+        let all : len + length digits + (width - length digits) ≡ len + most = omega (arith, places) in
+        let still : len + (length digits + (width - length digits)) ≡ len + most = omega (arith, places) in
+        sym (drop-drop most len now)
+        ∙ ap (λ (xs : List ℕ). drop most xs) behind
+        ∙ ap (λ (k : ℕ). drop k (digits ++ drop (len + length digits) bytes)) places
+        ∙ drop_past digits (width - length digits) (drop (len + length digits) bytes)
+        ∙ drop-drop (width - length digits) (len + length digits) bytes
+        ∙ ap (λ (k : ℕ). drop k bytes) (all ∙ sym still) ∙ spaces_past (length digits + (width - length digits)) ∙ ap (λ (k : ℕ). replicate (capacity - k) 32) still
 
 -- a first byte and a text at the left of places are that byte, and the text at the left of one place fewer
 pub left_in-cons : (x width : ℕ) (text : List ℕ) → left_in (suc width) (x ∷ text) ≡ x ∷ left_in width text

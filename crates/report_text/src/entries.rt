@@ -2,14 +2,13 @@ ghost use Rattle.std.specs.Prelude.{◌≡◌, ◌+◌, ◌≤◌, ◌++◌, len
 ghost use Rattle.id_names.specs.FirstMatch.{first_name};
 ghost use Rattle.quota_blocks.specs.Count.{Rose};
 ghost use Rattle.quota_blocks.specs.Text.{Gathers, WritesPrefix};
-ghost use Rattle.report_text.specs.Report.{left_in, name_of, numbered, shown_name, columns_in, columns_of, entry_line, is_shown, shown_line};
+ghost use Rattle.report_text.specs.Report.{left_in, name_of, numbered, shown_name, column, columns_in, columns_of, entry_line, grace_end, grace_left, is_shown, shown_line};
 
-use crate::Options;
 use crate::page::{CAPACITY, Page};
-use crate::usage::{GRACE, NUMBER, Usage};
+use crate::usage::Usage;
+use crate::{Options, period_text};
 use arrayvec::ArrayVec;
 use id_names::Names;
-use itoa::Buffer;
 use quota_blocks::{Sink, SinkFault};
 use quota_types::Entry;
 
@@ -18,6 +17,15 @@ const NAME_PLACES: usize = 12;
 
 /// How many bytes a name has at most.
 const NAME: usize = 255;
+
+/// How many places the grace column has. A longer text widens it.
+const GRACE_PLACES: usize = 6;
+
+/// How many digits a number below 2^64 has at most.
+const NUMBER: usize = 20;
+
+/// How many bytes the text of a grace period has at most: a number, and `days`.
+const GRACE: usize = NUMBER + 4;
 
 /// How many bytes the columns on blocks, or on inodes, have at most: three numbers and a grace period, a space before
 /// each.
@@ -58,6 +66,7 @@ fn is_shown(entry: &Entry, options: &Options) -> bool
 }
 
 /// Appends the line of an identifier.
+#[inline(always)]
 #[tactic(auto, unfolding(crate::specs::Report::entry_line))]
 fn push_entry(page: &mut Page, entry: &Entry, names: &Names, now: u64, options: &Options)
     requires { length page.old + LINE ≤ CAPACITY }
@@ -103,22 +112,55 @@ fn push_numbered(page: &mut Page, id: u32)
     ensures text { page.new ≡ page.old ++ left_in NAME_PLACES (numbered id) }
     ensures room { length page.new ≤ length page.old + NAME }
 {
-    let mut digits = Buffer::new();
     page.push_text(b"#");
-    page.push_left(NAME_PLACES - 1, digits.format(id).as_bytes());
+    page.push_left_number(NAME_PLACES - 1, id);
 }
 
 /// Appends the four columns on blocks, or on inodes.
+#[inline(always)]
+#[tactic(auto, unfolding(crate::specs::Report::grace_of))]
 fn push_columns(page: &mut Page, width: usize, usage: &Usage, now: u64, options: &Options)
     requires narrow { width ≤ NUMBER }
     requires room { length page.old + COLUMNS ≤ CAPACITY }
     ensures text { page.new ≡ page.old ++ columns_in width (columns_of options.now now usage.now) }
     ensures room { length page.new ≤ length page.old + COLUMNS }
 {
-    let mut grace = ArrayVec::new();
-    usage.grace_text(now, options, &mut grace);
     page.push_number(width, usage.used);
     page.push_number(width, usage.soft);
     page.push_number(width, usage.hard);
-    page.push_column(6, grace.as_slice());
+    if options.raw {
+        push_grace_end(page, usage);
+    } else {
+        push_grace_left(page, usage, now);
+    }
+}
+
+/// Appends the column of what is left of the grace period.
+fn push_grace_left(page: &mut Page, usage: &Usage, now: u64)
+    requires { length page.old + 1 + GRACE ≤ CAPACITY }
+    ensures text { page.new ≡ page.old ++ column GRACE_PLACES (grace_left now usage.now) }
+    ensures room { length page.new ≤ length page.old + 1 + GRACE }
+{
+    if !usage.is_over_soft() {
+        page.push_column(GRACE_PLACES, b"-");
+    } else if now < usage.timer {
+        let mut left = ArrayVec::new();
+        period_text(usage.timer - now, &mut left);
+        page.push_column(GRACE_PLACES, left.as_slice());
+    } else {
+        page.push_column(GRACE_PLACES, b"none");
+    }
+}
+
+/// Appends the column of when the grace period ends.
+fn push_grace_end(page: &mut Page, usage: &Usage)
+    requires { length page.old + 1 + GRACE ≤ CAPACITY }
+    ensures text { page.new ≡ page.old ++ column GRACE_PLACES (grace_end usage.now) }
+    ensures room { length page.new ≤ length page.old + 1 + GRACE }
+{
+    if usage.is_over_soft() {
+        page.push_number(GRACE_PLACES, usage.timer);
+    } else {
+        page.push_column(GRACE_PLACES, b"0");
+    }
 }

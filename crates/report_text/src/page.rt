@@ -162,6 +162,17 @@ impl Page {
         self.push_text(text);
     }
 
+    /// Appends a number at the left of so many places.
+    pub fn push_left_number(&mut self, width: usize, number: u32)
+        requires { length self.old + max width 10 ≤ CAPACITY }
+        ensures text { self.new ≡ self.old ++ left_in width (decimal number) }
+        ensures long { length self.new ≤ length self.old + max width 10 }
+    {
+        let count = count_digits(number);
+        write_digits(u64::from(number), &mut self.bytes, self.len + count);
+        self.len += count.max(width);
+    }
+
     /// Appends a space and a number at the right of so many places.
     pub fn push_number(&mut self, width: usize, number: u64)
         requires { length self.old + 1 + max width 20 ≤ CAPACITY }
@@ -196,6 +207,18 @@ fn write_at(bytes: &mut [u8], at: usize, text: &[u8])
     ensures rest { drop (at + length text.now) bytes.new ≡ drop (at + length text.now) bytes.old }
 {
     bytes[at..at + text.len()].copy_from_slice(text);
+}
+
+/// How many digits a number has.
+fn count_digits(number: u32) -> usize
+    ensures digits { result ≡ length (decimal number) }
+    ensures few { result ≤ 10 }
+{
+    match number {
+        0..=9 => 1,
+        10..=99 => 2,
+        _ => 2 + count_digits(number / 100),
+    }
 }
 
 /// The first number that has more digits than there are places in a column of numbers, or one before it.
