@@ -112,22 +112,23 @@ impl<'a, R: Files<File = File>> FileStore<'a, R> {
         }
     }
 
-    /// Opens a file, unless it is the one that was used last. None where it is to be read and is not there.
-    fn open(&mut self, name: &str, access: Access) -> io::Result<Option<Opened>>
+    /// Opens a file, unless it is the one that was used last. Where it is to be read and is not there, none is open then.
+    fn open(&mut self, name: &str, access: Access) -> io::Result<()>
         ensures faults { self.new.faults ≡ self.old.faults }
         ensures reads { self.new.reads ≡ self.old.reads }
         ensures writes { self.new.writes ≡ self.old.writes }
     {
         if self.is_last(name, access) {
-            return Ok(self.last.take());
+            return Ok(());
         }
         self.let_go()?;
         if !is_there(self.files, name)? && access == Access::Reading {
-            return Ok(None);
+            return Ok(());
         }
         let file = open_file(self.files, name, access)?;
         let name = String::from_str(self.alloc, name)?;
-        Ok(Some(Opened::new(self.alloc, name, file, access)))
+        self.last = Some(Opened::new(self.alloc, name, file, access));
+        Ok(())
     }
 
     /// Closes the file that was used last, once what is to be written to it was written.
@@ -142,18 +143,31 @@ impl<'a, R: Files<File = File>> FileStore<'a, R> {
         }
     }
 
+    /// Closes the file that was used last where what was done with it failed, so that it is opened anew.
+    fn closing<T>(&mut self, done: io::Result<T>) -> io::Result<T>
+        ensures same { result ≡ done }
+        ensures faults { self.new.faults ≡ self.old.faults }
+        ensures reads { self.new.reads ≡ self.old.reads }
+        ensures writes { self.new.writes ≡ self.old.writes }
+    {
+        if done.is_err() {
+            self.last = None;
+        }
+        done
+    }
+
     /// The length of a file; what is no file, as a folder, is an error.
     fn length(&mut self, name: &str) -> io::Result<Option<u64>>
         ensures faults { self.new.faults ≡ self.old.faults }
         ensures reads { self.new.reads ≡ self.old.reads }
         ensures writes { self.new.writes ≡ self.old.writes }
     {
-        let Some(mut file) = self.open(name, Access::Reading)? else {
+        self.open(name, Access::Reading)?;
+        let Some(file) = &mut self.last else {
             return Ok(None);
         };
-        let length = file.length()?;
-        self.last = Some(file);
-        Ok(Some(length))
+        let length = file.length();
+        Ok(Some(self.closing(length)?))
     }
 
     /// Reads from a place of a file on; a file that is not there has no bytes.
@@ -163,12 +177,12 @@ impl<'a, R: Files<File = File>> FileStore<'a, R> {
         ensures reads { self.new.reads ≡ self.old.reads }
         ensures writes { self.new.writes ≡ self.old.writes }
     {
-        let Some(mut file) = self.open(name, Access::Reading)? else {
+        self.open(name, Access::Reading)?;
+        let Some(file) = &mut self.last else {
             return Ok(0);
         };
-        let count = file.read(at, buf)?;
-        self.last = Some(file);
-        Ok(count)
+        let count = file.read(at, buf);
+        self.closing(count)
     }
 
     /// Makes an empty file.
@@ -177,8 +191,7 @@ impl<'a, R: Files<File = File>> FileStore<'a, R> {
         ensures reads { self.new.reads ≡ self.old.reads }
         ensures writes { self.new.writes ≡ self.old.writes }
     {
-        self.last = self.open(name, Access::Making)?;
-        Ok(())
+        self.open(name, Access::Making)
     }
 
     /// Writes bytes to a place of a file.
@@ -187,12 +200,12 @@ impl<'a, R: Files<File = File>> FileStore<'a, R> {
         ensures reads { self.new.reads ≡ self.old.reads }
         ensures writes { self.new.writes ≡ self.old.writes }
     {
-        let Some(mut file) = self.open(name, Access::Writing)? else {
+        self.open(name, Access::Writing)?;
+        let Some(file) = &mut self.last else {
             return Err(io::Error::from(ErrorKind::NotFound));
         };
-        file.write(at, bytes)?;
-        self.last = Some(file);
-        Ok(())
+        let done = file.write(at, bytes);
+        self.closing(done)
     }
 
     /// Waits until a file's bytes are on the disk. A file that is not there has none.
@@ -201,12 +214,12 @@ impl<'a, R: Files<File = File>> FileStore<'a, R> {
         ensures reads { self.new.reads ≡ self.old.reads }
         ensures writes { self.new.writes ≡ self.old.writes }
     {
-        let Some(mut file) = self.open(name, Access::Reading)? else {
+        self.open(name, Access::Reading)?;
+        let Some(file) = &mut self.last else {
             return Ok(());
         };
-        file.sync()?;
-        self.last = Some(file);
-        Ok(())
+        let done = file.sync();
+        self.closing(done)
     }
 
     /// Renames a file, which takes the owner and the permissions of the one that had the name.
