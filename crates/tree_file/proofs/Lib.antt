@@ -1,3 +1,4 @@
+pub mod ByBlockLemmas
 pub mod CheckedLemmas
 pub mod DataLemmas
 pub mod EnoughLemmas

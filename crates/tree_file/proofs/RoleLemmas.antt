@@ -18,7 +18,8 @@ use Rattle.quota_types.specs.Times.{StandsIn, times}
 use Rattle.tree_build.specs.Defect.{IsDefectOf, IsTreeDefect}
 use Rattle.quota_types.specs.Damage.{NamesItsId}
 use Rattle.tree_file.specs.Found.{HasNoEmptyBlock, IsRoleDefect, AreRoles}
-use Rattle.tree_file.specs.Groups.{AreGroupsOf, named_blocks}
+use Rattle.tree_file.specs.Groups.{AreGroupsOf, groups_of, named_blocks}
+use Rattle.tree_file.proofs.ByBlockLemmas.{same_groups}
 use Rattle.tree_file.proofs.FoundLemmas.{same_bytes}
 use Rattle.tree_file.specs.declared.roles.Roles.{Roles}
 use Rattle.quota_radix.specs.Levels.{AreTreeBlocksWhole, AreWithin, IsSecondRole, IsTreeFault, IsTreeFaultOf}
@@ -162,24 +163,14 @@ none_empty file blocks free flags whole are block lower =
 -- the roles that a check answers are those of the file
 pub are_roles : (file : List ℕ) (blocks free_head : ℕ) (free : List ℕ) (flags : List Bool) (found : List TreePath) (checked : Roles) → found ≡ leaves file blocks
     → AreTreeBlocksWhole file blocks → IsChain file blocks free_head free 0 → AreFlagsOf blocks flags (roles None file blocks free) → ((n : ℕ) → n < blocks → StandsIn (roles None file blocks free) n)
-    → AreGroupsOf blocks found (map (λ ids. ids.items) checked.groups.items) → checked.used ≡ length found → checked.free ≡ length free → AreRoles file blocks free_head checked
+    → AreGroupsOf blocks found (groups_of blocks checked.leaves.items) → checked.used ≡ length found → checked.free ≡ length free → AreRoles file blocks free_head checked
 are_roles file blocks free_head free flags found checked are_leaves whole is_free are each groups used count = record {
   one_role = one_role file blocks free_head free flags whole is_free are each;
   not_empty = none_empty file blocks free flags whole are;
-  groups = subst (λ (ps : List TreePath). AreGroupsOf blocks ps (map (λ ids. ids.items) checked.groups.items)) are_leaves groups;
+  groups = subst (λ (ps : List TreePath). AreGroupsOf blocks ps (groups_of blocks checked.leaves.items)) are_leaves groups;
   used = used ∙ ap length are_leaves;
   free = count ∙ sym (one_role-free file blocks free_head free flags whole is_free are each);
 }
-
--- how many blocks there are groups of
-pub length_groups : (blocks : ℕ) (found : List TreePath) (groups : List (List ℕ)) → AreGroupsOf blocks found groups → length groups ≡ blocks
-length_groups blocks found groups are = ap length are ∙ length-map-range_with_len (ids_at found) 0 blocks
-
--- the groups, by the lists that a call was given and has answered
-pub groups_are : (blocks : ℕ) (found given : List TreePath) (groups : List (List ℕ)) → given ≡ found → AreWithin blocks (2 ^ 32) found
-    → ((bound : ℕ) → AreWithin blocks bound given → AreGroupsOf blocks given groups) → AreGroupsOf blocks found groups
-groups_are blocks found given groups same within are =
-    subst (λ (ps : List TreePath). AreGroupsOf blocks ps groups) same (are (2 ^ 32) (subst (λ (ps : List TreePath). AreWithin blocks (2 ^ 32) ps) (sym same) within))
 
 -- the leaves that a search has found, the groups of their identifiers, and the set of the blocks of the header and the tree
 pub record AreFound (tells : Bool) (file : List ℕ) (blocks : ℕ) (flags : List Bool) (found : List TreePath) (ids : List (List ℕ)) : Type 0 where
@@ -187,14 +178,14 @@ pub record AreFound (tells : Bool) (file : List ℕ) (blocks : ℕ) (flags : Lis
   pub are_leaves : IsTrue tells → found ≡ leaves file blocks
   pub marked : IsTrue tells → AreFlagsOf blocks flags (0 ∷ tree_blocks file blocks)
 
--- they are so by what the calls answered: the search, the grouping of its leaves, and the groups as a slice
-pub are_found : (tells : Bool) (file : List ℕ) (blocks : ℕ) (header flags : List Bool) (found given : List TreePath) (groups slice : List (Vec ℕ Global))
+-- they are so by what the calls answered: the search, and the sort of its leaves
+pub are_found : (tells : Bool) (file : List ℕ) (blocks : ℕ) (header flags : List Bool) (found sorted : List TreePath)
     → AreFlagsOf blocks header (0 ∷ []) → (IsTrue tells → found ≡ leaves file blocks)
     → (IsTrue tells → (numbers : List ℕ) → AreFlagsOf blocks header numbers → AreFlagsOf blocks flags (numbers ++ tree_blocks file blocks))
-    → AreWithin blocks (2 ^ 32) found → given ≡ found → ((bound : ℕ) → AreWithin blocks bound given → AreGroupsOf blocks given (map (λ ids. ids.items) groups)) → slice ≡ groups
-    → AreFound tells file blocks flags found (map (λ ids. ids.items) slice)
-are_found tells file blocks header flags found given groups slice marked are_leaves more within same are as_slice = record {
-  groups = subst (λ (all : List (Vec ℕ Global)). AreGroupsOf blocks found (map (λ ids. ids.items) all)) (sym as_slice) (groups_are blocks found given (map (λ ids. ids.items) groups) same within are);
+    → ((block : ℕ) → ids_at sorted block ≡ ids_at found block)
+    → AreFound tells file blocks flags found (groups_of blocks sorted)
+are_found tells file blocks header flags found sorted marked are_leaves more same = record {
+  groups = same_groups blocks found sorted same;
   are_leaves = are_leaves;
   marked = λ told. more told (0 ∷ []) marked;
 }
@@ -202,8 +193,8 @@ are_found tells file blocks header flags found given groups slice marked are_lea
 -- what the marking of the data blocks was refused for
 pub data_marked_refused : (before now : ℕ) (tells : Bool) (file : List ℕ) (blocks free_head : ℕ) (flags : List Bool) (found : List TreePath) (groups : List (List ℕ)) (fault : CheckFault)
     → AreFound tells file blocks flags found groups
-    → IsStepFault (λ damage. (all : ℕ) → (leaves : List TreePath) → (numbers : List ℕ) → AreGroupsOf all leaves groups → AreFlagsOf all flags numbers
-    → IsSecondRole (numbers ++ named_blocks all leaves) damage) fault
+    → IsStepFault (λ damage. (led : List TreePath) → (numbers : List ℕ) → AreGroupsOf blocks led groups → AreFlagsOf blocks flags numbers
+    → IsSecondRole (numbers ++ named_blocks blocks led) damage) fault
     → IsCheckFault before now (λ damage. IsTrue tells → IsRoleDefect file blocks free_head damage) fault
 data_marked_refused before now tells file blocks free_head flags found groups Store are is = absurd is
 data_marked_refused before now tells file blocks free_head flags found groups (Damaged damage) are is = (
@@ -211,7 +202,7 @@ data_marked_refused before now tells file blocks free_head flags found groups (D
   λ told.
       let chain = some_chain file blocks free_head in
       second_role file blocks free_head chain.0 chain.1 ((0 ∷ tree_blocks file blocks) ++ data_blocks file blocks) chain.0 damage chain.2 refl
-      (is.1 blocks (leaves file blocks) (0 ∷ tree_blocks file blocks) (subst (λ (ps : List TreePath). AreGroupsOf blocks ps groups) (are.are_leaves told) are.groups) (are.marked told)),
+      (is.1 (leaves file blocks) (0 ∷ tree_blocks file blocks) (subst (λ (ps : List TreePath). AreGroupsOf blocks ps groups) (are.are_leaves told) are.groups) (are.marked told)),
 )
 data_marked_refused before now tells file blocks free_head flags found groups Memory are is = tt
 
@@ -227,13 +218,13 @@ links_marked R blocks flags numbers links given same inside are marks =
 -- what follows of all roles once the data blocks and the blocks of the free list are marked, or are not
 pub roles_marked : (R : ℕ → List ℕ → Type 0) (tells : Bool) (file : List ℕ) (blocks : ℕ) (flags now : List Bool) (found : List TreePath) (groups : List (List ℕ)) (links given : List Link)
     → AreFound tells file blocks flags found groups → IsTrue tells
-    → ((all : ℕ) (leaves : List TreePath) (numbers : List ℕ) → AreGroupsOf all leaves groups → AreFlagsOf all flags numbers → AreFlagsOf all now (numbers ++ named_blocks all leaves))
+    → ((led : List TreePath) (numbers : List ℕ) → AreGroupsOf blocks led groups → AreFlagsOf blocks flags numbers → AreFlagsOf blocks now (numbers ++ named_blocks blocks led))
     → given ≡ links → ((n : ℕ) → StandsIn (linked_blocks links) n → IsTrue (leads blocks n))
     → ((all : ℕ) (ns : List ℕ) → AreFlagsOf all now ns → ((n : ℕ) → StandsIn (linked_blocks given) n → n < all) → R all (ns ++ linked_blocks given))
     → R blocks (roles None file blocks (linked_blocks links))
 roles_marked R tells file blocks flags now found groups links given are told more same inside marks =
     let led : AreFlagsOf blocks now ((0 ∷ tree_blocks file blocks) ++ data_blocks file blocks) =
-    more blocks (leaves file blocks) (0 ∷ tree_blocks file blocks) (subst (λ (ps : List TreePath). AreGroupsOf blocks ps groups) (are.are_leaves told) are.groups) (are.marked told) in
+    more (leaves file blocks) (0 ∷ tree_blocks file blocks) (subst (λ (ps : List TreePath). AreGroupsOf blocks ps groups) (are.are_leaves told) are.groups) (are.marked told) in
     links_marked R blocks now ((0 ∷ tree_blocks file blocks) ++ data_blocks file blocks) links given same inside led marks
 
 -- the free list, by a walk along it in a file that stayed

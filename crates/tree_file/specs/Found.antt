@@ -1,12 +1,12 @@
 -- What the parts of a check find of a file.
-use Rattle.std.specs.Prelude.{◌≡◌, ℕ, List, length, map, None}
+use Rattle.std.specs.Prelude.{◌≡◌, ℕ, List, length, None}
 use Rattle.entry_codec.specs.Header.{HeaderNumbers}
 use Rattle.quota_types.specs.declared.damage.Damage.{Damage}
 use Rattle.quota_types.specs.declared.file_kind.Format.{Format}
 use Rattle.tree_file.specs.declared.roles.Roles.{Roles}
 use Rattle.quota_types.specs.Times.{StandsIn}
 use Rattle.tree_build.specs.Defect.{IsTreeDefect}
-use Rattle.tree_file.specs.Groups.{AreGroupsOf}
+use Rattle.tree_file.specs.Groups.{AreGroupsOf, groups_of}
 use Rattle.quota_radix.specs.TreeDefect.{IsEmpty}
 use Rattle.tree_build.specs.Roles.{OneRole}
 use Rattle.quota_radix.specs.Tree.{leaves, lower_blocks}
@@ -20,7 +20,7 @@ HasNoEmptyBlock file blocks = (block : ℕ) → StandsIn (lower_blocks file bloc
 pub record AreRoles (file : List ℕ) (blocks free_head : ℕ) (roles : Roles) : Type 0 where
   pub one_role : OneRole None file blocks free_head
   pub not_empty : HasNoEmptyBlock file blocks
-  pub groups : AreGroupsOf blocks (leaves file blocks) (map (λ ids. ids.items) roles.groups.items)
+  pub groups : AreGroupsOf blocks (leaves file blocks) (groups_of blocks roles.leaves.items)
   pub used : roles.used ≡ length (leaves file blocks)
   pub free : roles.free ≡ length one_role.free
 

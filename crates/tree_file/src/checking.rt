@@ -56,8 +56,7 @@ pub fn check<S: Store>(
 {
     check_length(store, name, header.blocks)?;
     let roles = check_roles(alloc, store, name, header.blocks, header.free)?;
-    let groups = roles.groups.as_slice();
-    check_lists(alloc, store, name, header, groups)?;
+    check_lists(alloc, store, name, header, roles.leaves.as_slice())?;
     Ok(Checked {
         used: roles.used,
         free: roles.free,

@@ -7,12 +7,15 @@ ghost use Rattle.tree_build.specs.Compared.{AreEntriesOf, HasEntriesOf, IsDataDe
 ghost use Rattle.quota_types.specs.Times.{StandsIn, times};
 ghost use Rattle.quota_types.specs.Damage.{NamesItsId};
 ghost use Rattle.tree_build.specs.Entries.{has_unused, used_ids};
+ghost use Rattle.tree_file.specs.Groups.{AreByBlock, groups_of};
 ghost use Rattle.tree_file.specs.Reads.{led_blocks};
 ghost use Rattle.tree_file.specs.EntryList.{AreListed, IsListDefect, NamesOther};
 ghost use Rattle.free_chains.specs.Walk.{IsWalk, linked_blocks, previous_in};
 
+use crate::groups::{list_numbers, part};
 use free_chains::{Link, Walk};
 use quota_blocks::{BLOCK, BlockSet, CheckFault, Store, read_block};
+use quota_radix::TreePath;
 use quota_types::{Damage, DamageKind, Format, damage_at};
 use std::alloc::Global;
 use tree_build::compare_entries;
@@ -44,39 +47,43 @@ fn check_block<S: Store>(
     Ok(compare_entries(format, number, block, ids)?)
 }
 
-/// Checks the data blocks, which are those to which identifiers lead, and answers those that have room.
+/// Checks the data blocks, which are those that leaves name, and answers those that have room.
 pub(crate) fn check_data<S: Store>(
     alloc: Global,
     store: &mut S,
     name: &str,
     format: Format,
     blocks: u32,
-    groups: &[Vec<u32>],
+    leaves: &[TreePath],
 ) -> Result<BlockSet, CheckFault>
     requires tree { format ≢ Format.V1 }
-    requires groups { length groups.now ≡ blocks }
+    requires by_block { AreByBlock leaves.now }
     ensures entries { OnOk result (IsTrue S.tells → (block : ℕ) → block < blocks
         → HasEntriesOf format (bytes_of ((S.seen store.old).files name.now)) block
-        (leading_ids (map (λ ids. ids.items) groups.now) block)) }
+        (leading_ids (groups_of blocks leaves.now) block)) }
     ensures room { IfOk result (λ room. IsTrue S.tells
         → AreFlagsOf blocks room.flags.items (rooms format (bytes_of ((S.seen store.old).files name.now))
-        (map (λ ids. ids.items) groups.now) blocks)) }
+        (groups_of blocks leaves.now) blocks)) }
     ensures refused { IfErr result (IsCheckFault (S.seen store.old).faults (S.seen store.new).faults
         (λ damage. IsTrue S.tells
         → IsDataDefect format (bytes_of ((S.seen store.old).files name.now))
-        (leading_ids (map (λ ids. ids.items) groups.now) damage.block) damage.block damage)) }
+        (leading_ids (groups_of blocks leaves.now) damage.block) damage.block damage)) }
     ensures leaves { OnlyReads (is_ok result) name.now (S.seen store.old) (S.seen store.new) }
-    ensures reads { (S.seen store.new).reads ≤ (S.seen store.old).reads + led_blocks (map (λ ids. ids.items) groups.now) }
+    ensures reads { (S.seen store.new).reads ≤ (S.seen store.old).reads + led_blocks (groups_of blocks leaves.now) }
 {
     let mut room = BlockSet::new(alloc, blocks)?;
     let mut bytes = [0; BLOCK];
-    for (block, ids) in groups.iter().enumerate() {
-        let number = block as u32;
+    let mut ids = Vec::new(alloc);
+    let mut rest = leaves;
+    for block in 0..blocks {
+        let (here, behind) = part(rest, block);
+        rest = behind;
+        list_numbers(&mut ids, here)?;
         check_group(
             store,
             name,
             format,
-            number,
+            block,
             ids.as_slice(),
             &mut room,
             &mut bytes,

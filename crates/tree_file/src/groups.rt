@@ -1,70 +1,83 @@
-ghost use Rattle.std.specs.Prelude.{◌≡◌, ◌<◌, ◌∷◌, ◌++◌, [], ◌^◌, ℕ, List, length, map, OnOk, IfOk, IfErr};
+ghost use Rattle.std.specs.Prelude.{◌≡◌, ◌≢◌, ◌+◌, ◌<◌, ◌≤◌, ◌++◌, ℕ, All, List, length, slice_index_or, take, OnOk, IfErr};
 ghost use Rattle.quota_radix.specs.declared.tree_path.TreePath.{TreePath};
 ghost use Rattle.quota_blocks.specs.BlockSet.{AreFlagsOf};
-ghost use Rattle.tree_file.specs.Groups.{AreGroupsOf, named_blocks};
-ghost use Rattle.quota_radix.specs.Levels.{AreWithin, IsSecondRole};
+ghost use Rattle.tree_file.specs.Groups.{AreByBlock, AreGroupsOf, AreLeftFrom, groups_of, named_blocks};
+ghost use Rattle.quota_radix.specs.Levels.{IsSecondRole};
+ghost use Rattle.quota_radix.specs.Tree.{ids_at, numbers_of};
 ghost use Rattle.quota_blocks.specs.CheckFault.{IsStepFault};
 
 use quota_blocks::{BlockSet, CheckFault};
 use quota_radix::TreePath;
 use quota_types::{DamageKind, damage_at};
-use std::alloc::{AllocError, Global};
+use std::alloc::AllocError;
 
-/// For each block of a file the identifiers that lead to it, in the order of the leaves.
-pub(crate) fn group(
-    alloc: Global,
-    blocks: u32,
-    leaves: &[TreePath],
-) -> Result<Vec<Vec<u32>>, AllocError>
-    ensures groups { IfOk result (λ groups. (bound : ℕ) → AreWithin blocks bound leaves.now
-        → AreGroupsOf blocks leaves.now (map (λ ids. ids.items) groups.items)) }
+/// Puts the leaves that name one block side by side, the blocks ascending. Those of one block stay in their order. Where
+/// the blocks ascend already, as in a file that was built at once, no memory is taken.
+pub(crate) fn sort_by_block(leaves: &mut Vec<TreePath>) -> Result<(), AllocError>
+    ensures by_block { OnOk result (AreByBlock leaves.new.items) }
+    ensures same { OnOk result ((block : ℕ) → ids_at leaves.new.items block ≡ ids_at leaves.old.items block) }
+    ensures many { length leaves.new.items ≡ length leaves.old.items }
 {
-    let mut groups = no_groups(alloc, blocks)?;
-    for leaf in leaves {
-        if let Some(ids) = groups.get_mut(leaf.block as usize) {
-            add_to(ids, leaf.number)?;
-        }
-    }
-    Ok(groups)
-}
-
-/// Adds an identifier to those of a block. The first one takes memory for 14 at once, as many as a block of vfsv1 has
-/// entries; one of vfsv0 has 21.
-fn add_to(ids: &mut Vec<u32>, number: u32) -> Result<(), AllocError>
-    ensures added { OnOk result (ids.new.items ≡ ids.old.items ++ number ∷ []) }
-{
-    if ids.is_empty() {
-        ids.reserve_exact(14)?;
-    }
-    ids.push(number)?;
+    leaves.sort_by_key(|leaf| leaf.block)?;
     Ok(())
 }
 
-/// For each block no identifier.
-fn no_groups(alloc: Global, blocks: u32) -> Result<Vec<Vec<u32>>, AllocError>
-    ensures groups { IfOk result (λ groups. AreGroupsOf blocks [] (map (λ ids. ids.items) groups.items)) }
+/// Parts what is left of leaves by their blocks into those of the next block, and the others.
+pub(crate) fn part(rest: &[TreePath], block: u32) -> (&[TreePath], &[TreePath])
+    ensures here { (leaves : List TreePath) → AreLeftFrom leaves block rest.now
+        → numbers_of result.0.now ≡ ids_at leaves block }
+    ensures behind { (leaves : List TreePath) → AreLeftFrom leaves block rest.now
+        → AreLeftFrom leaves (block + 1) result.1.now }
 {
-    let mut groups = Vec::with_capacity(alloc, blocks as usize)?;
-    for _ in 0..blocks {
-        groups.push(Vec::new(alloc))?;
-    }
-    Ok(groups)
+    rest.split_at(count_of(rest, block))
 }
 
-/// Adds each block to which an identifier leads to those that were met.
-pub(crate) fn mark_data(met: &mut BlockSet, groups: &[Vec<u32>]) -> Result<(), CheckFault>
-    requires few { length groups.now < 2 ^ 32 }
-    ensures marked { OnOk result ((blocks : ℕ) → (leaves : List TreePath) → (numbers : List ℕ)
-        → AreGroupsOf blocks leaves (map (λ ids. ids.items) groups.now) → AreFlagsOf blocks met.old.flags.items numbers
-        → AreFlagsOf blocks met.new.flags.items (numbers ++ named_blocks blocks leaves)) }
-    ensures refused { IfErr result (IsStepFault (λ damage. (blocks : ℕ) → (leaves : List TreePath) → (numbers : List ℕ)
-        → AreGroupsOf blocks leaves (map (λ ids. ids.items) groups.now) → AreFlagsOf blocks met.old.flags.items numbers
-        → IsSecondRole (numbers ++ named_blocks blocks leaves) damage)) }
+/// How many leaves at the front name a block.
+fn count_of(leaves: &[TreePath], block: u32) -> usize
+    ensures within { result ≤ length leaves.now }
+    ensures those { All (λ leaf. leaf.block ≡ block) (take result leaves.now) }
+    ensures other { (d : TreePath) → result < length leaves.now
+        → (slice_index_or leaves.now result d).block ≢ block }
 {
-    for (block, ids) in groups.iter().enumerate() {
-        let number = block as u32;
-        if !ids.is_empty() && !met.insert(number) {
-            return Err(CheckFault::Damage(damage_at(DamageKind::TwoRoles, number)));
+    for (index, leaf) in leaves.iter().enumerate() {
+        if leaf.block != block {
+            return index;
+        }
+    }
+    leaves.len()
+}
+
+/// Puts the numbers of leaves in the place of what a list held.
+pub(crate) fn list_numbers(numbers: &mut Vec<u32>, leaves: &[TreePath]) -> Result<(), AllocError>
+    ensures { OnOk result (numbers.new.items ≡ numbers_of leaves.now) }
+{
+    numbers.clear();
+    for leaf in leaves {
+        numbers.push(leaf.number)?;
+    }
+    Ok(())
+}
+
+/// Adds each block that leaves name to those that were met.
+pub(crate) fn mark_data(
+    met: &mut BlockSet,
+    blocks: u32,
+    leaves: &[TreePath],
+) -> Result<(), CheckFault>
+    requires { AreByBlock leaves.now }
+    ensures marked { OnOk result ((led : List TreePath) → (numbers : List ℕ)
+        → AreGroupsOf blocks led (groups_of blocks leaves.now) → AreFlagsOf blocks met.old.flags.items numbers
+        → AreFlagsOf blocks met.new.flags.items (numbers ++ named_blocks blocks led)) }
+    ensures refused { IfErr result (IsStepFault (λ damage. (led : List TreePath) → (numbers : List ℕ)
+        → AreGroupsOf blocks led (groups_of blocks leaves.now) → AreFlagsOf blocks met.old.flags.items numbers
+        → IsSecondRole (numbers ++ named_blocks blocks led) damage)) }
+{
+    let mut rest = leaves;
+    for block in 0..blocks {
+        let (here, behind) = part(rest, block);
+        rest = behind;
+        if !here.is_empty() && !met.insert(block) {
+            return Err(CheckFault::Damage(damage_at(DamageKind::TwoRoles, block)));
         }
     }
     Ok(())

@@ -1,9 +1,10 @@
-use Rattle.std.proofs.Common.{ℕ, ◌∙◌, List, Vec, Global, map, sym, subst, arith, None}
+use Rattle.std.proofs.Common.{ℕ, ◌∙◌, List, sym, subst, arith, None}
 use Rattle.std.proofs.lemmas.Result.{err_from_is_err_and}
 use Rattle.quota_blocks.specs.Block.{bytes_of}
 use Rattle.tree_file.specs.Found.{AreRoles, HasNoEmptyBlock}
-use Rattle.tree_file.specs.Groups.{AreGroupsOf}
+use Rattle.tree_file.specs.Groups.{AreGroupsOf, groups_of}
 use Rattle.tree_build.specs.Roles.{Chained, Filled}
+use Rattle.quota_radix.specs.declared.tree_path.TreePath.{TreePath}
 use Rattle.quota_radix.specs.Tree.{leaves}
 use Rattle.tree_file.proofs.CheckedLemmas.{is_checked, length_refused, lists_refused, only_damaged, roles_refused}
 use Rattle.tree_file.proofs.FoundLemmas.{same_bytes}
@@ -43,14 +44,13 @@ returns-in_err-check_lists-clause-refused g c =
     let file : List ℕ = bytes_of ((g.S.Store.seen c.args.store.now).files c.args.name.now) in
     rw (p.1, p.2) (lists_refused (g.S.Store.seen c.args.store.now).faults (g.S.Store.seen c.check_roles.new.store).faults (g.S.Store.seen c.check_lists.new.store).faults
     g.S.Store.tells file
-    (bytes_of ((g.S.Store.seen c.check_roles.new.store).files c.args.name.now)) header (map (λ (ids : Vec ℕ Global). ids.items) c.as_slice-groups.result.now) _
+    (bytes_of ((g.S.Store.seen c.check_roles.new.store).files c.args.name.now)) header (groups_of header.blocks c.as_slice.result.now) _
     (omega (arith, length.leaves.later, roles.leaves.later)) (same_bytes _ _ c.args.name.now (roles.leaves.files ∙ length.leaves.files))
     (λ told.
     let found : AreRoles file header.blocks header.free c.in_ok-roles.roles =
     subst (λ (f : List ℕ). AreRoles f header.blocks header.free c.in_ok-roles.roles) (same_bytes _ _ c.args.name.now length.leaves.files)
     (roles.roles told) in
-    subst (λ (all : List (Vec ℕ Global)). AreGroupsOf header.blocks (leaves file header.blocks) (map (λ (ids : Vec ℕ Global). ids.items) all))
-    (sym c.as_slice-groups.ensures.value) found.groups)
+    subst (λ (sorted : List TreePath). AreGroupsOf header.blocks (leaves file header.blocks) (groups_of header.blocks sorted)) (sym c.as_slice.ensures.value) found.groups)
     c.in_err-check_lists.ensures.refused)
 
 pub returns-in_err-check_lists-clause-only_damaged : goal.returns-in_err-check_lists-clause-only_damaged
@@ -65,13 +65,12 @@ returns-clause-checked g c = λ told are.
     let lists = c.in_ok-check_lists.ensures in
     let header = c.args.header.now in
     let file : List ℕ = bytes_of ((g.S.Store.seen c.args.store.now).files c.args.name.now) in
-    let groups : List (List ℕ) = map (λ (ids : Vec ℕ Global). ids.items) c.as_slice-groups.result.now in
+    let groups : List (List ℕ) = groups_of header.blocks c.as_slice.result.now in
     let found : AreRoles file header.blocks header.free c.in_ok-roles.roles =
     subst (λ (f : List ℕ). AreRoles f header.blocks header.free c.in_ok-roles.roles) (same_bytes _ _ c.args.name.now length.leaves.files)
     (roles.roles told) in
     let grouped : AreGroupsOf header.blocks (leaves file header.blocks) groups =
-    subst (λ (all : List (Vec ℕ Global)). AreGroupsOf header.blocks (leaves file header.blocks) (map (λ (ids : Vec ℕ Global). ids.items) all))
-    (sym c.as_slice-groups.ensures.value) found.groups in
+    subst (λ (sorted : List TreePath). AreGroupsOf header.blocks (leaves file header.blocks) (groups_of header.blocks sorted)) (sym c.as_slice.ensures.value) found.groups in
     let same = same_bytes ((g.S.Store.seen c.args.store.now).files) _ c.args.name.now (roles.leaves.files ∙ length.leaves.files) in
     let chained : Chained None header.format file header.blocks header.first =
     subst (λ (f : List ℕ). AreGroupsOf header.blocks (leaves f header.blocks) groups → Chained None header.format f header.blocks header.first) same (lists.chained told) grouped in

@@ -1,8 +1,9 @@
-use Rattle.std.proofs.Common.{ℕ, ◌+◌, ◌<◌, ◌≤◌, map, take, IsTrue, true}
+use Rattle.std.proofs.Common.{ℕ, ◌+◌, ◌<◌, ◌≤◌, take, IsTrue, true}
 use Rattle.quota_blocks.specs.Frame.{OnlyReads}
 use Rattle.quota_blocks.specs.BlockSet.{AreFlagsOf}
 use Rattle.quota_blocks.specs.Block.{bytes_of}
 use Rattle.tree_build.specs.Compared.{HasEntriesOf, leading_ids, rooms}
+use Rattle.tree_file.specs.Groups.{AreLeftFrom, groups_of}
 use Rattle.tree_file.specs.Reads.{led_blocks}
 use Rattle.tree_file.proofs.data.check_data.Given as goal
 
@@ -10,10 +11,11 @@ abbrev pub invariant-loop-block : goal.invariant-loop-block
 invariant-loop-block g l =
     let S = g.S.Store in
     record {
+      left : AreLeftFrom l.leaves l.block l.rest;
       entries : IsTrue S.tells → (block : ℕ) → block < l.block
-          → HasEntriesOf l.format (bytes_of ((S.seen l.fn.store).files l.name)) block (leading_ids (map (λ ids. ids.items) l.groups) block);
+          → HasEntriesOf l.format (bytes_of ((S.seen l.fn.store).files l.name)) block (leading_ids (groups_of l.blocks l.leaves) block);
       room : IsTrue S.tells
-          → AreFlagsOf l.blocks l.room.flags.items (rooms l.format (bytes_of ((S.seen l.fn.store).files l.name)) (map (λ ids. ids.items) l.groups) l.block);
+          → AreFlagsOf l.blocks l.room.flags.items (rooms l.format (bytes_of ((S.seen l.fn.store).files l.name)) (groups_of l.blocks l.leaves) l.block);
       leaves : OnlyReads true l.name (S.seen l.fn.store) (S.seen l.store);
-      reads : (S.seen l.store).reads ≤ (S.seen l.fn.store).reads + led_blocks (take l.block (map (λ ids. ids.items) l.groups));
+      reads : (S.seen l.store).reads ≤ (S.seen l.fn.store).reads + led_blocks (take l.block (groups_of l.blocks l.leaves));
     }
