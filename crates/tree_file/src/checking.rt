@@ -12,6 +12,7 @@ ghost use Rattle.tree_build.specs.Defect.{IsTreeDefect};
 ghost use Rattle.tree_file.specs.Found.{IsLengthDefect};
 ghost use Rattle.tree_build.specs.TreeFile.{TreeStandsFor};
 
+use crate::block_check::{HeldBlocks, LooksAtBlock, ReadBlocks};
 use crate::checked::Checked;
 use crate::lists::check_lists;
 use crate::roles::check_roles;
@@ -54,9 +55,36 @@ pub fn check<S: Store>(
     ensures leaves { OnlyReads (is_ok result) name.now (S.seen store.old) (S.seen store.new) }
     ensures reads { (S.seen store.new).reads ≤ (S.seen store.old).reads + 2 * header.now.blocks }
 {
+    check_by(alloc, store, name, &mut ReadBlocks::new(), header)
+}
+
+/// The same, by how the data blocks are looked at.
+fn check_by<S: Store, B: LooksAtBlock<S>>(
+    alloc: Global,
+    store: &mut S,
+    name: &str,
+    look: &mut B,
+    header: &Header,
+) -> Result<Checked, CheckFault>
+    requires tree { header.now.format ≢ V1 }
+    requires two { 2 ≤ header.now.blocks }
+    ensures checked { IfOk result (λ checked. IsTrue S.tells
+        → AreOf header.now (header_of (bytes_of ((S.seen store.old).files name.now)))
+        → IsChecked (bytes_of ((S.seen store.old).files name.now)) checked) }
+    ensures refused { IfErr result (IsCheckFault (S.seen store.old).faults (S.seen store.new).faults
+        (λ damage. IsTrue S.tells
+        → AreOf header.now (header_of (bytes_of ((S.seen store.old).files name.now)))
+        → IsTreeDefect header.now.format (bytes_of ((S.seen store.old).files name.now))
+        (header_of (bytes_of ((S.seen store.old).files name.now))) damage)) }
+    ensures only_damaged { IfErr result (λ fault. (damage : Damage) → fault ≡ Damaged damage → IsTrue S.tells
+        → AreOf header.now (header_of (bytes_of ((S.seen store.old).files name.now)))
+        → (value : QuotaValue) → ¬ TreeStandsFor (bytes_of ((S.seen store.old).files name.now)) value) }
+    ensures leaves { OnlyReads (is_ok result) name.now (S.seen store.old) (S.seen store.new) }
+    ensures reads { (S.seen store.new).reads ≤ (S.seen store.old).reads + 2 * header.now.blocks }
+{
     check_length(store, name, header.blocks)?;
     let roles = check_roles(alloc, store, name, header.blocks, header.free)?;
-    check_lists(alloc, store, name, header, roles.leaves.as_slice())?;
+    check_lists(alloc, store, name, look, header, roles.leaves.as_slice())?;
     Ok(Checked {
         used: roles.used,
         free: roles.free,
@@ -82,7 +110,7 @@ pub(crate) fn check_loaded(
         → IsTreeDefect header.now.format bytes.items (header_of bytes.items) damage)) }
 {
     let mut store = store_of(alloc, bytes)?;
-    if let Err(fault) = check(alloc, &mut store, LOADED, header) {
+    if let Err(fault) = check_by(alloc, &mut store, LOADED, &mut HeldBlocks, header) {
         return Err(without_store(fault));
     }
     Ok(store.into_file(LOADED).unwrap())

@@ -12,46 +12,20 @@ ghost use Rattle.tree_file.specs.Reads.{led_blocks};
 ghost use Rattle.tree_file.specs.EntryList.{AreListed, IsListDefect, NamesOther};
 ghost use Rattle.free_chains.specs.Walk.{IsWalk, linked_blocks, previous_in};
 
+use crate::block_check::LooksAtBlock;
 use crate::groups::{list_numbers, part};
 use free_chains::{Link, Walk};
-use quota_blocks::{BLOCK, BlockSet, CheckFault, Store, read_block};
+use quota_blocks::{BlockSet, CheckFault, Store};
 use quota_radix::TreePath;
 use quota_types::{Damage, DamageKind, Format, damage_at};
 use std::alloc::Global;
-use tree_build::compare_entries;
-
-/// Checks the entries of a data block, which is read into `block`, against the identifiers that lead to it, and answers
-/// whether it has room.
-fn check_block<S: Store>(
-    store: &mut S,
-    name: &str,
-    format: Format,
-    number: u32,
-    ids: &[u32],
-    block: &mut [u8; BLOCK],
-) -> Result<bool, CheckFault>
-    requires tree { format ≢ Format.V1 }
-    ensures entries { OnOk result (IsTrue S.tells
-        → AreEntriesOf (stated_count (bytes_of ((S.seen store.old).files name.now)) number)
-        (used_ids format (block_of (bytes_of ((S.seen store.old).files name.now)) number)) ids.now) }
-    ensures room { IfOk result (λ has_room. IsTrue S.tells
-        → has_room ≡ has_unused format (block_of (bytes_of ((S.seen store.old).files name.now)) number)) }
-    ensures refused { IfErr result (IsCheckFault (S.seen store.old).faults (S.seen store.new).faults
-        (λ damage. IsTrue S.tells
-        → IsEntryDefectAt number (stated_count (bytes_of ((S.seen store.old).files name.now)) number)
-        (used_ids format (block_of (bytes_of ((S.seen store.old).files name.now)) number)) ids.now damage)) }
-    ensures leaves { OnlyReads (is_ok result) name.now (S.seen store.old) (S.seen store.new) }
-    ensures reads { (S.seen store.new).reads ≤ (S.seen store.old).reads + 1 }
-{
-    read_block(store, name, number, block)?;
-    Ok(compare_entries(format, number, block, ids)?)
-}
 
 /// Checks the data blocks, which are those that leaves name, and answers those that have room.
-pub(crate) fn check_data<S: Store>(
+pub(crate) fn check_data<S: Store, B: LooksAtBlock<S>>(
     alloc: Global,
     store: &mut S,
     name: &str,
+    look: &mut B,
     format: Format,
     blocks: u32,
     leaves: &[TreePath],
@@ -72,7 +46,6 @@ pub(crate) fn check_data<S: Store>(
     ensures reads { (S.seen store.new).reads ≤ (S.seen store.old).reads + led_blocks (groups_of blocks leaves.now) }
 {
     let mut room = BlockSet::new(alloc, blocks)?;
-    let mut bytes = [0; BLOCK];
     let mut ids = Vec::new(alloc);
     let mut rest = leaves;
     for block in 0..blocks {
@@ -82,26 +55,26 @@ pub(crate) fn check_data<S: Store>(
         check_group(
             store,
             name,
+            look,
             format,
             block,
             ids.as_slice(),
             &mut room,
-            &mut bytes,
         )?;
     }
     Ok(room)
 }
 
-/// Checks a block, which is read into `bytes`, against the identifiers that lead to it, where there are some, and adds it to
-/// those that have room where it has room.
-fn check_group<S: Store>(
+/// Checks a block against the identifiers that lead to it, where there are some, and adds it to those that have room where
+/// it has room.
+fn check_group<S: Store, B: LooksAtBlock<S>>(
     store: &mut S,
     name: &str,
+    look: &mut B,
     format: Format,
     number: u32,
     ids: &[u32],
     room: &mut BlockSet,
-    bytes: &mut [u8; BLOCK],
 ) -> Result<(), CheckFault>
     requires tree { format ≢ Format.V1 }
     ensures entries { OnOk result (IsTrue S.tells
@@ -121,7 +94,7 @@ fn check_group<S: Store>(
     if ids.is_empty() {
         return Ok(());
     }
-    if check_block(store, name, format, number, ids, bytes)? {
+    if look.check_block(store, name, format, number, ids)? {
         room.insert(number);
     }
     Ok(())

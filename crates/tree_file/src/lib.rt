@@ -4,6 +4,7 @@
 //! what is said to be wrong with a file is wrong with it; and an opened file is that map, which its changes change.
 #![tactic(auto)]
 
+mod block_check;
 mod changed_list;
 mod changed_tree;
 mod checked;

@@ -9,6 +9,7 @@ ghost use Rattle.tree_file.specs.Reads.{led_blocks};
 ghost use Rattle.tree_build.specs.Roles.{Chained, Filled};
 ghost use Rattle.quota_radix.specs.Tree.{leaves};
 
+use crate::block_check::LooksAtBlock;
 use crate::data::{check_data, check_listed};
 use entry_codec::Header;
 use free_chains::walk_chain;
@@ -17,10 +18,11 @@ use quota_radix::TreePath;
 use std::alloc::Global;
 
 /// Checks the entry list, and the entries of each data block against the identifiers of the leaves that name it.
-pub(crate) fn check_lists<S: Store>(
+pub(crate) fn check_lists<S: Store, B: LooksAtBlock<S>>(
     alloc: Global,
     store: &mut S,
     name: &str,
+    look: &mut B,
     header: &Header,
     by_block: &[TreePath],
 ) -> Result<(), CheckFault>
@@ -47,7 +49,7 @@ pub(crate) fn check_lists<S: Store>(
 {
     let blocks = header.blocks;
     let listed = walk_chain(alloc, store, name, blocks, header.first)?;
-    let room = check_data(alloc, store, name, header.format, blocks, by_block)?;
+    let room = check_data(alloc, store, name, look, header.format, blocks, by_block)?;
     check_listed(&listed, &room, blocks)?;
     Ok(())
 }
