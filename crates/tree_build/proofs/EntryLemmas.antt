@@ -1,5 +1,5 @@
 -- Numbers that stand in lists, as a loop over a list finds them.
-use Rattle.std.proofs.Common.{◌≡◌, ℕ, ◌+◌, ◌<◌, ◌≤◌, Bool, ◌||◌, List, [], ◌∷◌, ◌++◌, length, map, take, get_or, Option, Some, None, refl, sym, ap, subst, ◌∙◌, inl, inr, arith, add-one}
+use Rattle.std.proofs.Common.{◌≡◌, ℕ, ◌+◌, ◌<◌, ◌≤◌, Bool, false, cond, ◌||◌, List, [], ◌∷◌, ◌++◌, length, map, take, get_or, Option, Some, None, refl, sym, ap, subst, ◌∙◌, inl, inr, arith, add-one}
 use Rattle.std.proofs.Math.Bool.{or-false}
 use Rattle.std.proofs.lemmas.Bool.{cases_lt}
 use Rattle.std.proofs.Math.Seq.{take-suc}
@@ -9,6 +9,12 @@ use Rattle.std.proofs.lemmas.List.Folds.{list_any-append}
 use Rattle.std.specs.List.{list_any, filter_map, range_with_len, cons_option}
 use Rattle.std.specs.Option.{option_to_list}
 use Rattle.quota_types.specs.Times.{StandsIn, times}
+use Rattle.quota_types.specs.Kept.{without_marker}
+use Rattle.quota_types.specs.declared.file_kind.Format.{Format}
+use Rattle.quota_types.specs.declared.record.Entry.{Entry}
+use Rattle.entry_codec.specs.Entry.{is_unused, stored_id}
+use Rattle.tree_build.specs.Compared.{id_in}
+use Rattle.tree_build.specs.Entries.{stored_record}
 use Rattle.quota_types.proofs.TimesLemmas.{times_cases, times-append, range_with_len-add}
 
 -- the numbers of a longer beginning
@@ -63,3 +69,9 @@ pub any_more : (test : ℕ → Bool) (count : ℕ) (so_far : Bool) → so_far �
 any_more test count so_far is =
     ap (λ (b : Bool). b || test count) is ∙ sym (ap (list_any test) (range-suc count) ∙ list_any-append test (range_with_len 0 count) (count ∷ [])
     ∙ ap (λ (b : Bool). list_any test (range_with_len 0 count) || b) (or-false (test count)))
+
+-- the identifier of an entry that is used
+pub used_one : (format : Format) (bytes : List ℕ) (id : ℕ) → is_unused bytes ≡ false → id ≡ stored_id bytes → id ∷ [] ≡ id_in format bytes
+used_one format bytes id used is =
+    ap (λ (n : ℕ). n ∷ []) is
+    ∙ sym (ap (λ (b : Bool). map (λ (entry : Entry). entry.id) (option_to_list (cond b None (Some (record { id = stored_id bytes; rec = without_marker (stored_id bytes) (stored_record format bytes) }))))) used)

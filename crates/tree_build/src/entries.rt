@@ -1,4 +1,4 @@
-ghost use Rattle.std.specs.Prelude.{◌≡◌, ◌≢◌, ℕ, ◌+◌, ◌<◌, ◌≤◌, ◌++◌, ◌||◌, length, None, Some, IfNone, IfOk, IfSome, IsSome, OnOk, IfErr, MatchOption};
+ghost use Rattle.std.specs.Prelude.{◌≡◌, ◌≢◌, ℕ, ◌+◌, ◌<◌, ◌≤◌, ◌++◌, ◌||◌, length, false, None, Some, IfNone, IfOk, IfSome, IsSome, OnOk, IfErr, MatchOption};
 ghost use Rattle.std.specs.Option.{option_map};
 ghost use Rattle.std.specs.Bool.{OnFalse, OnTrue};
 ghost use Rattle.arrayvec.specs.ArrayVec.{array_vec_len};
@@ -212,7 +212,29 @@ fn ascends(numbers: &[u32]) -> bool
     true
 }
 
+/// Whether all entries of a block are used by these identifiers, in this order. No list of them is made. `false` says
+/// nothing.
+fn is_full_of(format: Format, block: &[u8; 1024], ids: &[u32]) -> bool
+    requires tree { format ≢ Format.V1 }
+    ensures ids { OnTrue result (used_ids format block.now ≡ ids.now) }
+    ensures full { OnTrue result (has_unused format block.now ≡ false) }
+{
+    if ids.len() != entries_per_block(format) {
+        return false;
+    }
+    for (place, id) in ids.iter().enumerate() {
+        match read_id(entry_bytes(format, block, place)) {
+            Some(used_by) if used_by == *id => {}
+            _ => return false,
+        }
+    }
+    true
+}
+
 /// Compares the entries of a data block with the identifiers that lead to it, and answers whether one is unused.
+///
+/// In a file that was built at once each data block but the last is full, and ascends by identifier. For such a block no
+/// list of its entries is made.
 pub fn compare_entries(
     format: Format,
     number: u32,
@@ -226,8 +248,12 @@ pub fn compare_entries(
         (used_ids format block.now) ids.now) }
     ensures names_id { IfErr result (λ damage. NamesItsId damage.kind damage.id) }
 {
+    let stated = usize::from(le16(block, 8));
+    if stated == ids.len() && ascends(ids) && is_full_of(format, block, ids) {
+        return Ok(false);
+    }
     let used = read_used(format, block);
-    if usize::from(le16(block, 8)) != used.ids.len() {
+    if stated != used.ids.len() {
         return Err(damage_at(DamageKind::BadCount, number));
     }
     compare_ids(number, used.ids.as_slice(), ids)?;
@@ -238,7 +264,7 @@ pub fn compare_entries(
 ///
 /// An identifier without an entry is looked for first: where more of them lead to the block than it has entries, one of
 /// the first `used.len() + 1` has none, and the searches that follow never run. None runs where both are the same and
-/// ascend, as they mostly do.
+/// ascend.
 fn compare_ids(number: u32, used: &[u32], ids: &[u32]) -> Result<(), Damage>
     ensures same { OnOk result (AreEntriesOf (length used.now) used.now ids.now) }
     ensures refused { IfErr result (λ damage. (stated : ℕ) → IsEntryDefectAt number stated used.now ids.now damage) }
