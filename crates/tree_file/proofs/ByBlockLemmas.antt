@@ -1,5 +1,5 @@
 -- Leaves that stand by their blocks, taken block by block.
-use Rattle.std.proofs.Common.{◌≡◌, ◌≢◌, ℕ, ◌+◌, ◌<◌, ◌≤◌, ◌==◌, Bool, true, false, not, ◌&&◌, cond, nat_lt, List, [], ◌∷◌, ◌++◌, length, get_or, map, take, drop, filter, zero, suc, IsTrue, subst, refl, sym, ap, ◌∙◌, inl, inr, arith, length-drop, append-nil}
+use Rattle.std.proofs.Common.{◌≡◌, ◌≢◌, ℕ, ◌+◌, ◌<◌, ◌≤◌, ◌==◌, Bool, not, ◌&&◌, cond, List, [], ◌∷◌, ◌++◌, length, get_or, map, take, drop, filter, zero, suc, IsTrue, subst, refl, sym, ap, ◌∙◌, arith, length-drop, append-nil}
 use Rattle.std.specs.Prelude.{All}
 use Rattle.std.specs.List.{range_with_len}
 use Rattle.std.specs.List.Sorted.{IsStableByKey, ties}
@@ -118,7 +118,7 @@ pub same_groups : (blocks : ℕ) (leaves sorted : List TreePath) → ((block : �
 same_groups blocks leaves sorted same = groups_from sorted leaves 0 blocks same
 
 -- the identifiers of one block, by leaves that have the same groups
-pub ids_here : (blocks : ℕ) (leaves sorted : List TreePath) (block : ℕ) → AreGroupsOf blocks leaves (groups_of blocks sorted) → block < blocks → ids_at sorted block ≡ ids_at leaves block
+ids_here : (blocks : ℕ) (leaves sorted : List TreePath) (block : ℕ) → AreGroupsOf blocks leaves (groups_of blocks sorted) → block < blocks → ids_at sorted block ≡ ids_at leaves block
 ids_here blocks leaves sorted block are low =
     sym (get_or-map-range_with_len (ids_at sorted) 0 blocks block block [] low (omega arith)) ∙ ap (λ (all : List (List ℕ)). get_or all block []) are
     ∙ get_or-map-range_with_len (ids_at leaves) 0 blocks block block [] low (omega arith)

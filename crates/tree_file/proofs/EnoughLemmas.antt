@@ -139,7 +139,7 @@ few_paths most (block ∷ bs) ps all few =
     let here : length (ids_at ps block) ≤ most = few block (omega (arith, times-cons-same block bs)) in
     omega (arith, mul-suc most (length bs), rest, here, split block ps)
 
-few_used : (format : Format) (block : List ℕ) → length (used_ids format block) ≤ entries_per_block format
+pub few_used : (format : Format) (block : List ℕ) → length (used_ids format block) ≤ entries_per_block format
 unfolding used_entries
 few_used format block =
     let count : ℕ = entries_per_block format in
@@ -147,7 +147,7 @@ few_used format block =
     omega (arith, few, length-range_with_len 0 count, length-map (filter_map (λ place. entry_of format (entry_bytes format block place)) (range_with_len 0 count)) (λ (entry : Entry). entry.id))
 
 -- the data blocks have room for all entries
-data_enough : (format : Format) (file : List ℕ) (blocks : ℕ) → Filled None format file blocks → length (leaves file blocks) ≤ entries_per_block format * length (data_blocks file blocks)
+pub data_enough : (format : Format) (file : List ℕ) (blocks : ℕ) → Filled None format file blocks → length (leaves file blocks) ≤ entries_per_block format * length (data_blocks file blocks)
 data_enough format file blocks filled =
     few_paths (entries_per_block format) (data_blocks file blocks) (leaves file blocks)
     (AllByRecursion-weaker (λ (leaf : TreePath). StandsIn (ids_at (leaves file blocks) leaf.block) leaf.number) (λ (leaf : TreePath). StandsIn (data_blocks file blocks) leaf.block) (leaves file blocks)
@@ -155,8 +155,8 @@ data_enough format file blocks filled =
     (λ block stands. omega (arith, filled.counted block stands, few_used format (block_of file block)))
 
 -- the blocks of all roles are all
-all_roles : (file : List ℕ) (blocks free_head : ℕ) (role : OneRole None file blocks free_head)
-    → 2 + length (level file blocks 1) + length (level file blocks 2) + length (level file blocks 3) + length (data_blocks file blocks) ≤ blocks
+pub all_roles : (file : List ℕ) (blocks free_head : ℕ) (role : OneRole None file blocks free_head)
+    → 2 + length (level file blocks 1) + length (level file blocks 2) + length (level file blocks 3) + length (data_blocks file blocks) + length role.free ≡ blocks
 all_roles file blocks free_head role =
     let all : length (roles None file blocks role.free) ≡ blocks =
     length_same_times (roles None file blocks role.free) (range_with_len 0 blocks)
@@ -199,7 +199,7 @@ enough_blocks file value stands =
     omega (arith, length_numbers (leaves file blocks), data_enough value.format file blocks stands.sound.filled) in
     subst (λ (numbers : List ℕ). blocks_needed value.format numbers ≤ blocks) (sym ids)
     (needed value.format (numbers_of (leaves file blocks)) blocks (length (level file blocks 1)) (length (level file blocks 2)) (length (level file blocks 3)) (length (data_blocks file blocks))
-    (all_roles file blocks (header_of file).free stands.sound.roles)
+    (omega (arith, all_roles file blocks (header_of file).free stands.sound.roles))
     (level_enough file blocks 1 3 (numbers_of (leaves file blocks))
     (λ id s. let same : id / 256 / 256 / 256 ≡ id / 256 ^ 3 = omega arith in subst (StandsIn (numbers_of (paths file blocks 1))) same (first id s)))
     (level_enough file blocks 2 2 (numbers_of (leaves file blocks))

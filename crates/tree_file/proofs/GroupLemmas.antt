@@ -1,16 +1,15 @@
 -- Identifiers by the block to which they lead, leaf by leaf and block by block.
-use Rattle.std.proofs.Common.{◌≡◌, ◌≢◌, ℕ, suc, ◌+◌, ◌<◌, ◌≤◌, ◌==◌, cond, List, [], ◌∷◌, ◌++◌, length, get_or, set, map, take, filter, refl, sym, ap, subst, ◌∙◌, inl, inr, arith, length-set, get_or-set_same, get_or-set_other, nat_le}
+use Rattle.std.proofs.Common.{◌≡◌, ℕ, suc, ◌+◌, ◌<◌, ◌≤◌, ◌==◌, cond, List, [], ◌∷◌, ◌++◌, length, map, filter, refl, sym, ap, subst, ◌∙◌, inl, inr, arith, nat_le}
 use Rattle.std.specs.Prelude.{Bool, true, false}
 use Rattle.std.specs.List.{range_with_len}
-use Rattle.std.proofs.lemmas.List.{append_assoc, append-nil, get_or-map, length-map, map-append, map-set, same_lists, take_more}
+use Rattle.std.proofs.lemmas.List.{append_assoc, append-nil}
 use Rattle.std.proofs.lemmas.List.Elements.{filter-append}
-use Rattle.std.proofs.lemmas.List.FromFn.{get_or-map-range_with_len, length-map-range_with_len, map-range_with_len_more}
-use Rattle.std.proofs.lemmas.Bool.{cases_eq, eq-eqb, eqb-false, eqb-true, le-leb, lt-leb, ne_eqb}
+use Rattle.std.proofs.lemmas.Bool.{eqb-false, eqb-true, le-leb, lt-leb}
 use Rattle.std.proofs.lemmas.Bool.Decides.{eqb_tells}
 use Rattle.quota_radix.specs.declared.tree_path.TreePath.{TreePath}
 use Rattle.quota_blocks.specs.BlockSet.{AreFlagsOf}
 use Rattle.quota_types.specs.Times.{StandsIn, StandsTwiceIn, times}
-use Rattle.tree_file.specs.Groups.{AreGroupsOf, named_blocks}
+use Rattle.tree_file.specs.Groups.{named_blocks}
 use Rattle.quota_radix.specs.Tree.{blocks_of, ids_at}
 use Rattle.quota_types.proofs.TimesLemmas.{times-append, times-cons-same, times-cons-other, times-filter-yes, times-range-high, times-range-within}
 use Rattle.quota_radix.proofs.StepLemmas.{range_push}

@@ -3,6 +3,7 @@ pub mod CheckedLemmas
 pub mod DataLemmas
 pub mod EnoughLemmas
 pub mod EntryWrittenLemmas
+pub mod FewestLemmas
 pub mod FoundLemmas
 pub mod GracedLemmas
 pub mod GroupLemmas

@@ -2,7 +2,6 @@
 use Rattle.std.proofs.Common.{◌≡◌, ℕ, ◌^◌, ◌≤◌, Bool, cond, ◌==◌, List, [], ◌∷◌, find, Option, Some, None, Result, Ok, Err, OnErr, IfErr, IsErrAnd, option_and_then, refl, sym, ap, subst, ◌∙◌, inl, inr, arith}
 use Rattle.std.proofs.lemmas.Bool.{cases_Bool, cases_lt}
 use Rattle.std.specs.FinMap.{get}
-use Rattle.std.specs.Prelude.{IfSome}
 use Rattle.std.specs.List.{AllByRecursion}
 use Rattle.quota_types.specs.declared.damage.Damage.{Damage}
 use Rattle.quota_types.specs.declared.damage.DamageKind.TheVariants.{MissingEntry}
@@ -165,11 +164,3 @@ leaf_next_id header file after from leaf of first comes_after is value stands =
       one_next header file after from leaf found.0 of first comes_after is value stands
           (one_record header file leaf found.0 of (next_leaf file header.blocks from leaf is).0 found.1 value stands),
     )
-
--- a fact of what may be there, as one of each that it is
-pub if_each : {T : Type 0} (P : T → Type 0) (o : Option T) → ((x : T) → o ≡ Some x → P x) → IfSome o P
-if_each P None each = tt
-if_each P (Some x) each = each x refl
-
-pub each_if : {T : Type 0} (P : T → Type 0) (o : Option T) → IfSome o P → (x : T) → o ≡ Some x → P x
-each_if P o holds x is = subst (λ (some : Option _). IfSome some P) is holds

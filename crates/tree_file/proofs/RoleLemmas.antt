@@ -1,7 +1,6 @@
 -- The roles of a file's blocks, as a check finds them one after another.
-use Rattle.std.proofs.Common.{◌^◌, ◌≡◌, ◌≢◌, ℕ, ◌<◌, ◌≤◌, Bool, true, false, if◌then◌else◌, IsTrue, MatchBool, List, [], ◌∷◌, ◌++◌, length, refl, sym, ap, subst, ◌∙◌, inl, inr, arith, append_assoc, Vec, Global, map, Option, None}
+use Rattle.std.proofs.Common.{◌≡◌, ◌≢◌, ℕ, ◌<◌, ◌≤◌, Bool, true, false, if◌then◌else◌, IsTrue, MatchBool, List, [], ◌∷◌, ◌++◌, length, refl, sym, ap, subst, ◌∙◌, inl, inr, arith, append_assoc, Option, None}
 use Rattle.std.proofs.lemmas.Bool.{cases_lt, le-ltb, lt-ltb}
-use Rattle.std.proofs.lemmas.List.FromFn.{length-map-range_with_len}
 use Rattle.entry_codec.specs.Header.{HeaderNumbers}
 use Rattle.quota_types.specs.declared.damage.Damage.{Damage}
 use Rattle.quota_types.specs.declared.damage.DamageKind.{DamageKind}
@@ -22,7 +21,7 @@ use Rattle.tree_file.specs.Groups.{AreGroupsOf, groups_of, named_blocks}
 use Rattle.tree_file.proofs.ByBlockLemmas.{same_groups}
 use Rattle.tree_file.proofs.FoundLemmas.{same_bytes}
 use Rattle.tree_file.specs.declared.roles.Roles.{Roles}
-use Rattle.quota_radix.specs.Levels.{AreTreeBlocksWhole, AreWithin, IsSecondRole, IsTreeFault, IsTreeFaultOf}
+use Rattle.quota_radix.specs.Levels.{AreTreeBlocksWhole, IsSecondRole, IsTreeFault, IsTreeFaultOf}
 use Rattle.tree_build.specs.Roles.{OneRole, roles}
 use Rattle.quota_radix.specs.Tree.{data_blocks, ids_at, leaves, lower_blocks, tree_blocks}
 use Rattle.quota_blocks.specs.Block.{leads, bytes_of}

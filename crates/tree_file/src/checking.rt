@@ -28,7 +28,8 @@ const LOADED: &str = "";
 ///
 /// It succeeds exactly where the file stands for a map, and a damage that it answers is one of the file. It makes in all
 /// at most twice as many reads as the header has blocks, whatever it answers and whether or not the store tells its files.
-/// Time and memory grow with the blocks and the identifiers; no clause says so.
+/// Time and memory grow with the blocks and the identifiers; where the data blocks do not ascend with the identifiers, these
+/// are sorted by them first. No clause says so.
 ///
 /// # Errors
 ///

@@ -52,15 +52,7 @@ pub(crate) fn check_data<S: Store, B: LooksAtBlock<S>>(
         let (here, behind) = part(rest, block);
         rest = behind;
         list_numbers(&mut ids, here)?;
-        check_group(
-            store,
-            name,
-            look,
-            format,
-            block,
-            ids.as_slice(),
-            &mut room,
-        )?;
+        check_group(store, name, look, format, block, ids.as_slice(), &mut room)?;
     }
     Ok(room)
 }

@@ -4,10 +4,11 @@ ghost use Rattle.entry_codec.specs.Entry.{entry_size};
 ghost use Rattle.quota_blocks.specs.QuotaValue.{QuotaValue};
 ghost use Rattle.tree_build.specs.Needed.{HasMet};
 ghost use Rattle.tree_build.specs.Size.{ids_in, blocks_needed};
-ghost use Rattle.tree_file.specs.Overwritten.{HasEntryAt};
+ghost use Rattle.tree_file.specs.Overwritten.{HasEntryAt, IsListOfOne};
 ghost use Rattle.tree_build.specs.TreeFile.{TreeStandsFor};
 
 use crate::loaded::LoadedTree;
+use quota_blocks::{le32, whole_block};
 use quota_types::Damage;
 use tree_build::Needed;
 
@@ -37,8 +38,31 @@ fn has_fewest_blocks(tree: &LoadedTree) -> bool
     if header.free != 0 || tree.bytes.len() != 1024 * header.blocks as usize {
         return false;
     }
+    lists_one_at_most(tree) || needs_all(tree)
+}
+
+/// Whether the list of the data blocks that have room has one at most. Then all others are full, so that a file without
+/// free blocks has no more than it needs, and its identifiers need not be counted.
+fn lists_one_at_most(tree: &LoadedTree) -> bool
+    ensures { OnTrue result (IsListOfOne tree.now.bytes.items tree.now.header.first) }
+{
+    let first = tree.header.first;
+    if first == 0 {
+        return true;
+    }
+    match whole_block(&tree.bytes, first) {
+        Some(block) => le32(block, 0) == 0,
+        None => false,
+    }
+}
+
+/// Whether the identifiers of a file need all its blocks, by counting them.
+fn needs_all(tree: &LoadedTree) -> bool
+    ensures { OnTrue result ((value : QuotaValue) → TreeStandsFor tree.now.bytes.items value
+        → tree.now.header.blocks ≡ blocks_needed value.format (ids_in value.records)) }
+{
     match count_needed(tree) {
-        Ok(needed) => needed.blocks(header.format) == u64::from(header.blocks),
+        Ok(needed) => needed.blocks(tree.header.format) == u64::from(tree.header.blocks),
         Err(_) => false,
     }
 }

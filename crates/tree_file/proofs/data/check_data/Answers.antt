@@ -1,4 +1,4 @@
-use Rattle.std.proofs.Common.{◌≡◌, ℕ, ◌+◌, ◌<◌, cond, nat_le, List, [], length, Option, rules, ap, subst, ◌∙◌, arith}
+use Rattle.std.proofs.Common.{◌≡◌, ℕ, ◌+◌, ◌<◌, cond, nat_le, List, [], length, Option, rules, ap, subst, arith}
 use Rattle.std.proofs.lemmas.Result.{err_from_is_err_and}
 use Rattle.quota_blocks.proofs.FrameLemmas.{only_reads-then}
 use Rattle.quota_blocks.specs.BlockSet.{AreFlagsOf}
@@ -72,9 +72,9 @@ returns-in_err-check_group-clause-refused g c =
     let kept = c.loop-block.invariant in
     let block : ℕ = c.loop-block.block in
     rw (p.1, p.2) (
-      led_refused (g.S.Store.seen c.args.store.now).faults (g.S.Store.seen c.loop-block.store).faults (g.S.Store.seen c.check_group.new.store).faults g.S.Store.tells c.args.format _ _
-      (groups_of c.args.blocks c.args.leaves.now) block c.as_slice.result.now _ kept.leaves.later
-      (ap (λ (files : List ℕ → Option (List ℕ)). bytes_of (files c.args.name.now)) kept.leaves.files)
-      (led_here c.args.blocks c.args.leaves.now _ block _ _ c.loop-block-test.true (c.part.ensures.here _ kept.left) c.in_ok-list_numbers.ensures c.as_slice.ensures.value)
-      c.in_err-check_group.ensures.refused
+    led_refused (g.S.Store.seen c.args.store.now).faults (g.S.Store.seen c.loop-block.store).faults (g.S.Store.seen c.check_group.new.store).faults g.S.Store.tells c.args.format _ _
+    (groups_of c.args.blocks c.args.leaves.now) block c.as_slice.result.now _ kept.leaves.later
+    (ap (λ (files : List ℕ → Option (List ℕ)). bytes_of (files c.args.name.now)) kept.leaves.files)
+    (led_here c.args.blocks c.args.leaves.now _ block _ _ c.loop-block-test.true (c.part.ensures.here _ kept.left) c.in_ok-list_numbers.ensures c.as_slice.ensures.value)
+    c.in_err-check_group.ensures.refused
     )

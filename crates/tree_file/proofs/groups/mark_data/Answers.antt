@@ -1,4 +1,4 @@
-use Rattle.std.proofs.Common.{◌≡◌, ◌<◌, ◌+◌, ℕ, List, [], ◌∷◌, ◌++◌, refl, sym, subst, append-nil, arith}
+use Rattle.std.proofs.Common.{◌≡◌, ◌<◌, ℕ, List, [], ◌∷◌, ◌++◌, refl, sym, subst, append-nil, arith}
 use Rattle.quota_blocks.specs.BlockSet.{AreFlagsOf}
 use Rattle.quota_blocks.specs.declared.block_set.BlockSet.{BlockSet}
 use Rattle.tree_file.specs.Groups.{named_blocks}
