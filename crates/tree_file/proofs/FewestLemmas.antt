@@ -36,7 +36,7 @@ use Rattle.quota_radix.proofs.OrderLemmas.{each_at, length_numbers, number_at_pl
 use Rattle.quota_radix.proofs.PathLemmas.{Rises-paths, Rises-steps, times-data_blocks, times_rising}
 use Rattle.quota_radix.proofs.StepLemmas.{none_by}
 use Rattle.tree_file.proofs.EnoughLemmas.{all_roles, enough_blocks, ids_of_value}
-use Rattle.tree_file.proofs.GroupLemmas.{count_ids}
+use Rattle.tree_check.proofs.GroupLemmas.{count_ids}
 
 -- no reference of a block leads past the last one, and it has one
 abbrev GoesOn : List ℕ → ℕ → ℕ → Type 0

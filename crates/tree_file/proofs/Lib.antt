@@ -1,12 +1,7 @@
-pub mod ByBlockLemmas
-pub mod CheckedLemmas
-pub mod DataLemmas
 pub mod EnoughLemmas
 pub mod EntryWrittenLemmas
 pub mod FewestLemmas
-pub mod FoundLemmas
 pub mod GracedLemmas
-pub mod GroupLemmas
 pub mod HeaderKeptLemmas
 pub mod ListingLemmas
 pub mod LoadingLemmas
@@ -14,8 +9,6 @@ pub mod LookupLemmas
 pub mod MakesLemmas
 pub mod OpenLemmas
 pub mod OverwrittenLemmas
-pub mod ReadLemmas
-pub mod RoleLemmas
 pub mod SameBlocksLemmas
 pub mod SpanLemmas
 pub mod UsedLemmas

@@ -16,7 +16,7 @@ use Rattle.quota_blocks.specs.declared.check_fault.CheckFault.TheVariants.{Store
 use Rattle.quota_blocks.specs.CheckFault.{IsCheckFault, IsStepFault, open_fault}
 use Rattle.quota_blocks.specs.Block.{bytes_of}
 use Rattle.tree_build.specs.Defect.{IsTreeDefect}
-use Rattle.tree_file.specs.Found.{IsLengthDefect}
+use Rattle.tree_check.specs.Found.{IsLengthDefect}
 use Rattle.tree_file.specs.Opened.{HoldsTree}
 use Rattle.tree_build.specs.TreeFile.{TreeStandsFor}
 use Rattle.tree_file.specs.View.{FitsRequest, HasHeader, IsAsAsked, IsDamaged, IsRefusedHeader, IsTreeFault, IsTreeView}

@@ -1,12 +1,7 @@
-pub mod Check
-pub mod EntryList
-pub mod Found
-pub mod Groups
 pub mod Leaf
 pub mod Listing
 pub mod Opened
 pub mod Overwritten
-pub mod Reads
 pub mod Rebuilt
 pub mod Rests
 pub mod TreeChange

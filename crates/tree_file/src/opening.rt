@@ -14,7 +14,6 @@ ghost use Rattle.tree_build.specs.TreeFile.{TreeStandsFor};
 ghost use Rattle.tree_file.specs.View.{FitsRequest, HasHeader, IsAsAsked, IsRefusedHeader, IsTreeFault, IsTreeView};
 
 use crate::TreeFile;
-use crate::checking::{check_length, check_loaded};
 use crate::file_header::header_in;
 use crate::loaded::{LoadedTree, Near};
 use crate::loading::{append_block, load_rest};
@@ -22,6 +21,7 @@ use entry_codec::{Header, HeaderFault};
 use quota_blocks::{BLOCK, CheckFault, FileUse, OpenFault, QuotaFile, Store};
 use quota_types::{Format, Kind};
 use std::alloc::Global;
+use tree_check::{check_length, check_loaded};
 
 /// Opens a tree file, whose blocks are loaded and then checked. Bytes behind the last block are left out.
 ///

@@ -2,7 +2,7 @@ use Rattle.std.proofs.Common.{◌≡◌, ◌*◌, ℕ, List, IsTrue, subst, sym,
 use Rattle.std.proofs.lemmas.Result.{err_from_is_err_and}
 use Rattle.entry_codec.specs.Header.{AreOf, header_of}
 use Rattle.quota_blocks.specs.Block.{bytes_of}
-use Rattle.tree_file.proofs.FoundLemmas.{same_bytes}
+use Rattle.tree_check.proofs.FoundLemmas.{same_bytes}
 use Rattle.tree_file.proofs.OpenLemmas.{are_loaded, length_refused_file, loaded_refused, loaded_stands}
 use Rattle.tree_file.proofs.opening.checked_tree.Goals as goal
 

@@ -1,0 +1,55 @@
+ghost use Rattle.std.specs.Prelude.{◌≡◌, ◌≢◌, ◌+◌, ◌≤◌, length, map, IsTrue, OnOk, IfErr, is_ok, None};
+ghost use Rattle.quota_types.specs.declared.file_kind.Format.TheVariants.{V1};
+ghost use Rattle.quota_blocks.specs.Frame.{OnlyReads};
+ghost use Rattle.quota_blocks.specs.CheckFault.{IsCheckFault};
+ghost use Rattle.quota_blocks.specs.Block.{bytes_of};
+ghost use Rattle.tree_check.specs.Found.{HasNoEmptyBlock, IsListedDefect};
+ghost use Rattle.tree_check.specs.Groups.{AreByBlock, AreGroupsOf, groups_of};
+ghost use Rattle.tree_check.specs.Reads.{led_blocks};
+ghost use Rattle.tree_build.specs.Roles.{Chained, Filled};
+ghost use Rattle.quota_radix.specs.Tree.{leaves};
+
+use crate::block_check::ChecksBlock;
+use crate::data::{check_data, check_listed};
+use entry_codec::Header;
+use free_chains::walk_chain;
+use quota_blocks::{CheckFault, Store};
+use quota_radix::TreePath;
+use std::alloc::Global;
+
+/// Checks the entry list, and the entries of each data block against the identifiers of the leaves that name it.
+pub(crate) fn check_lists<S: Store, B: ChecksBlock<S>>(
+    alloc: Global,
+    store: &mut S,
+    name: &str,
+    checks: &mut B,
+    header: &Header,
+    by_block: &[TreePath],
+) -> Result<(), CheckFault>
+    requires tree { header.now.format ≢ V1 }
+    requires by_block { AreByBlock by_block.now }
+    ensures chained { OnOk result (IsTrue S.tells
+        → AreGroupsOf header.now.blocks (leaves (bytes_of ((S.seen store.old).files name.now)) header.now.blocks)
+        (groups_of header.now.blocks by_block.now)
+        → Chained None header.now.format (bytes_of ((S.seen store.old).files name.now)) header.now.blocks header.now.first) }
+    ensures filled { OnOk result (IsTrue S.tells
+        → AreGroupsOf header.now.blocks (leaves (bytes_of ((S.seen store.old).files name.now)) header.now.blocks)
+        (groups_of header.now.blocks by_block.now)
+        → HasNoEmptyBlock (bytes_of ((S.seen store.old).files name.now)) header.now.blocks
+        → Filled None header.now.format (bytes_of ((S.seen store.old).files name.now)) header.now.blocks) }
+    ensures refused { IfErr result (IsCheckFault (S.seen store.old).faults (S.seen store.new).faults
+        (λ damage. IsTrue S.tells
+        → AreGroupsOf header.now.blocks (leaves (bytes_of ((S.seen store.old).files name.now)) header.now.blocks)
+        (groups_of header.now.blocks by_block.now)
+        → IsListedDefect header.now.format (bytes_of ((S.seen store.old).files name.now)) header.now.blocks
+        header.now.first damage)) }
+    ensures leaves { OnlyReads (is_ok result) name.now (S.seen store.old) (S.seen store.new) }
+    ensures reads { (S.seen store.new).reads ≤ (S.seen store.old).reads + header.now.blocks
+        + led_blocks (groups_of header.now.blocks by_block.now) }
+{
+    let blocks = header.blocks;
+    let listed = walk_chain(alloc, store, name, blocks, header.first)?;
+    let room = check_data(alloc, store, name, checks, header.format, blocks, by_block)?;
+    check_listed(&listed, &room, blocks)?;
+    Ok(())
+}
