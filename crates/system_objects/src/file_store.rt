@@ -105,6 +105,7 @@ impl<'a, R: Files<File = File>> FileStore<'a, R> {
     }
 
     /// Whether the file that was used last is the one of this name, and may be used so.
+    #[inline(always)]
     fn is_last(&self, name: &str, access: Access) -> bool {
         match &self.last {
             Some(last) => last.serves(name, access),
@@ -113,6 +114,7 @@ impl<'a, R: Files<File = File>> FileStore<'a, R> {
     }
 
     /// Opens a file, unless it is the one that was used last. Where it is to be read and is not there, none is open then.
+    #[inline(always)]
     fn open(&mut self, name: &str, access: Access) -> io::Result<()>
         ensures faults { self.new.faults ≡ self.old.faults }
         ensures reads { self.new.reads ≡ self.old.reads }
@@ -121,6 +123,17 @@ impl<'a, R: Files<File = File>> FileStore<'a, R> {
         if self.is_last(name, access) {
             return Ok(());
         }
+        self.open_other(name, access)
+    }
+
+    /// Opens a file where the one that is open does not serve. It stands apart, so that a use of the open one does not carry
+    /// it along.
+    #[inline(never)]
+    fn open_other(&mut self, name: &str, access: Access) -> io::Result<()>
+        ensures faults { self.new.faults ≡ self.old.faults }
+        ensures reads { self.new.reads ≡ self.old.reads }
+        ensures writes { self.new.writes ≡ self.old.writes }
+    {
         self.let_go()?;
         if !is_there(self.files, name)? && access == Access::Reading {
             return Ok(());

@@ -41,6 +41,7 @@ impl Opened {
     }
 
     /// Whether it is the file of this name, and may be used so. A file that is to be made is another one.
+    #[inline(always)]
     pub fn serves(&self, name: &str, access: Access) -> bool {
         let may = match access {
             Access::Reading => true,
