@@ -1,7 +1,7 @@
 #!/usr/bin/env bash
 # Measures, in one run, what a listing of 1,000,000 inodes adds up to, of which each tenth is the one before it again: the
 # program beside awk with a set of pairs and sums, and beside `sort -u` piped into awk. The ratios of their times (the best
-# of three each), the most memory that each holds, and the program's calls of the system.
+# of five each), the most memory that each holds, and the program's calls of the system.
 . "$(dirname "${BASH_SOURCE[0]}")/measure.sh"
 awk 'BEGIN {
     srand(1)
@@ -20,10 +20,10 @@ by_sort=(bash -c 'LC_ALL=C sort -u listing | awk "$0"' "{ blocks[\$1] += \$5; in
 "$program" repquota -u made | awk 'NR > 4 { print substr($1, 2), $3, $7 }' | sort >sums
 "${by_pairs[@]}" | sort | cmp - sums || echo "the sums differ"
 "${by_sort[@]}" | sort | cmp - sums || echo "the sums differ"
-ours=$(best "$program" "${words[@]}")
+count=("$program" "${words[@]}")
 for case in pairs sort; do
     declare -n command=by_$case
-    theirs=$(best "${command[@]}")
+    best_of_both count "by_$case"
     echo "quotacheck: $ours s, awk by $case: $theirs s, ratio $(ratio "$ours" "$theirs")"
     echo "memory of awk by $case: at most $(held "${command[@]}") KiB"
 done

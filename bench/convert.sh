@@ -1,7 +1,7 @@
 #!/usr/bin/env bash
 # Measures, in one run, the conversion of a tree file of 1,000,000 users from vfsv0 to vfsv1, beside reading the source and
 # writing a file of the target's size once with dd, both in pieces of 1,024 bytes: the ratio of their times (the best of
-# three each), and the program's calls of the system. Then the most memory that it holds for each pair of formats, beside
+# five each), and the program's calls of the system. Then the most memory that it holds for each pair of formats, beside
 # both files and 64 bytes for each user.
 maker=make_tree_file.py
 . "$(dirname "${BASH_SOURCE[0]}")/measure.sh"
@@ -29,8 +29,9 @@ kib() {
 
 converted vfsv0,vfsv1
 cmp <("$program" repquota -v -p vfsv0 | tail -n +2) <("$program" repquota -v -p new | tail -n +2) || echo "the reports differ"
-ours=$(best converted vfsv0,vfsv1)
-theirs=$(best copied)
+conversion=(converted "vfsv0,vfsv1")
+copy=(copied)
+best_of_both conversion copy
 echo "convertquota: $ours s, dd: $theirs s, ratio $(ratio "$ours" "$theirs")"
 rm new
 calls 'pread64|pwrite64|fsync' convertquota -f vfsv0,vfsv1 vfsv0 new

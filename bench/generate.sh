@@ -1,6 +1,6 @@
 #!/usr/bin/env bash
 # Measures, in one run, a quota file out of a listing of 1,000,000 lines that is made, beside the same listing written by awk
-# and piped into quotacheck, and a report on the file: the ratio of their times (the best of three each), the most memory
+# and piped into quotacheck, and a report on the file: the ratio of their times (the best of five each), the most memory
 # that the program holds, and its calls of the system. Numbers of 64 bits are four parts of 16 bits to awk, whose own
 # numbers have 53.
 . "$(dirname "${BASH_SOURCE[0]}")/measure.sh"
@@ -31,10 +31,11 @@ piped awk
 cmp made file || echo "the files differ"
 [ "$(awk '{ print $(NF - 1) }' line)" = "$(stat -c %s report)" ] || echo "the reports differ"
 cat line
-ours=$(best "$program" "${words[@]}")
+generation=("$program" "${words[@]}")
 for awk in awk mawk; do
     if command -v "$awk" >/dev/null; then
-        theirs=$(best piped "$awk")
+        pipe=(piped "$awk")
+        best_of_both generation pipe
         echo "generate: $ours s, $awk, quotacheck and repquota: $theirs s, ratio $(ratio "$ours" "$theirs")"
     fi
 done

@@ -10,22 +10,39 @@ trap 'rm -rf "$folder"' EXIT
 cd "$folder"
 python3 "$top/bench/${maker:-make_flat_file.py}" q dump
 
-# best WORD..: the least of three times, in seconds, of a command.
-best() {
-    local least=999999 status start end
-    for _ in 1 2 3; do
-        status=0
-        start=$(date +%s.%N)
-        "$@" >/dev/null 2>said || status=$?
-        end=$(date +%s.%N)
-        if [ "$status" != 0 ]; then
-            cat said >&2
-            echo "this was timed, and failed with status $status: $*" >&2
-            return "$status"
-        fi
-        least=$(echo "$start $end $least" | awk '{ t = $2 - $1; print (t < $3 ? t : $3) }')
+# time_of WORD..: how many seconds a command takes.
+time_of() {
+    local status=0 start end
+    start=$(date +%s.%N)
+    "$@" >/dev/null 2>said || status=$?
+    end=$(date +%s.%N)
+    if [ "$status" != 0 ]; then
+        cat said >&2
+        echo "this was timed, and failed with status $status: $*" >&2
+        return "$status"
+    fi
+    echo "$start $end" | awk '{ printf "%.6f", $2 - $1 }'
+}
+
+# least ONE OTHER: the lesser of two numbers.
+least() {
+    echo "$1 $2" | awk '{ print ($1 < $2 ? $1 : $2) }'
+}
+
+# best_of_both ONE OTHER: puts the least of five times of each of two commands into `ours` and `theirs`. ONE and OTHER are
+# the names of arrays that have the words of the commands, which run in turn, so that whatever else the machine does meets
+# both.
+best_of_both() {
+    local -n one=$1 other=$2
+    local now
+    ours=999999
+    theirs=999999
+    for _ in 1 2 3 4 5; do
+        now=$(time_of "${one[@]}")
+        ours=$(least "$ours" "$now")
+        now=$(time_of "${other[@]}")
+        theirs=$(least "$theirs" "$now")
     done
-    echo "$least"
 }
 
 # ratio ONE OTHER: how often the second number is in the first.
@@ -68,12 +85,12 @@ calls() {
 # program holds, and its calls of the system.
 report_beside_awk() {
     local ours theirs
+    local report=("$program" "$@")
     local text=(awk -v now="$(date +%s)" -v names="${names:-}" -f "$top/bench/report.awk" dump)
     "$top/bin/quota_cli" "$@" >report
     "${text[@]}" >lines
     tail -n +5 report | cmp - lines || echo "the texts differ: the grace column of a timer may have passed a minute between the two"
-    ours=$(best "$program" "$@")
-    theirs=$(best "${text[@]}")
+    best_of_both report text
     echo "report: $ours s, awk: $theirs s, ratio $(ratio "$ours" "$theirs")"
     memory q "$@"
     calls 'pread64|write' "$@"
@@ -82,9 +99,10 @@ report_beside_awk() {
 # change_beside_reading WORD..: a change with these words beside one reading of the file in pieces of 1,024 bytes, likewise.
 change_beside_reading() {
     local ours theirs
+    local change=("$program" "$@")
+    local reading=(dd if=q of=/dev/null bs=1024)
     "$top/bin/quota_cli" "$@"
-    ours=$(best "$program" "$@")
-    theirs=$(best dd if=q of=/dev/null bs=1024)
+    best_of_both change reading
     echo "setquota: $ours s, one reading: $theirs s, ratio $(ratio "$ours" "$theirs")"
     memory q "$@"
     calls 'pread64|pwrite64|fsync' "$@"

@@ -1,7 +1,7 @@
 #!/usr/bin/env bash
 # Measures, in one run, a tree file (vfsv1) of 1,000,000 users: its report beside awk, which prints the same lines from a
 # text dump of it, and one change of it beside reading it once in pieces of 1,024 bytes. For each the ratio of the times
-# (the best of three each), the most memory that the program holds, and its calls of the system. Then the most memory that
+# (the best of five each), the most memory that the program holds, and its calls of the system. Then the most memory that
 # a change holds for a user who has no record yet.
 maker=make_tree_file.py
 . "$(dirname "${BASH_SOURCE[0]}")/measure.sh"
