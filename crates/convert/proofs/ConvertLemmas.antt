@@ -21,7 +21,7 @@ use Rattle.quota_blocks.specs.declared.quota_file.OpenFault.{OpenFault}
 use Rattle.quota_blocks.specs.declared.quota_file.OpenFault.TheVariants.{Store, NoFile, TooLarge, Memory, NotQuota, WrongKind, UnknownVersion, BadBlockCount, FormatMismatch, Damage}
 use Rattle.quota_blocks.specs.declared.replacement.ReplaceFault.{ReplaceFault}
 use Rattle.quota_blocks.specs.declared.replacement.ReplaceFault.TheVariants.{Store as MakingFailed, Full as NoBlocks, Memory as NoMemoryToMake}
-use Rattle.quota_blocks.proofs.CountLemmas.{Rose-since}
+use Rattle.outside.proofs.CountLemmas.{Rose-since}
 use Rattle.tree_build.specs.Size.{blocks_needed, ids_in}
 use Rattle.tree_file.specs.View.{IsTreeFault}
 use Rattle.quota_v1.specs.View.{IsFlatFault}

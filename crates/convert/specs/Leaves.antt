@@ -1,6 +1,6 @@
 -- What a conversion leaves of a store.
 use Rattle.std.specs.Prelude.{◌≡◌, ◌≢◌, ◌≤◌, ◌⊎◌, ℕ, false, List}
-use Rattle.quota_blocks.specs.Replace.{ReplacesOnly, replacement_name}
+use Rattle.quota_blocks.specs.Replacement.{ReplacesOnly, replacement_name}
 use Rattle.quota_blocks.specs.Seen.{StoreSeen}
 use Rattle.quota_blocks.specs.Unsynced.{AddsNone}
 use Rattle.quota_blocks.specs.World.{KeepsOtherTwo}

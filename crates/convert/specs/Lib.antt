@@ -10,6 +10,7 @@ pub use Rattle.quota_blocks.specs.Count
 pub use Rattle.quota_blocks.specs.Listed
 pub use Rattle.quota_blocks.specs.QuotaValue
 pub use Rattle.quota_blocks.specs.Replace
+pub use Rattle.quota_blocks.specs.Replacement
 pub use Rattle.quota_blocks.specs.Seen
 pub use Rattle.quota_blocks.specs.Unsynced
 pub use Rattle.quota_blocks.specs.World

@@ -1,5 +1,5 @@
 ghost use Rattle.std.specs.Prelude.{◌≡◌, ◌≢◌, IfErr, IsTrue, OnErr, OnOk};
-ghost use Rattle.quota_blocks.specs.Replace.{replacement_name};
+ghost use Rattle.quota_blocks.specs.Replacement.{replacement_name};
 ghost use Rattle.quota_blocks.specs.World.{KeepsOthers};
 ghost use Rattle.convert.specs.Convert.{IsConvertFault, IsMade, UnlessMaking, asked_for};
 ghost use Rattle.convert.specs.Leaves.{IsKeptSafe, LeavesOthers, OnlyLooks};

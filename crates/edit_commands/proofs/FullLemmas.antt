@@ -11,7 +11,7 @@ use Rattle.quota_blocks.specs.InputLines.{InputLines, NoLine, LineThen, LongNext
 use Rattle.quota_blocks.specs.QuotaValue.{QuotaValue}
 use Rattle.quota_blocks.specs.StoreInput.{left_from}
 use Rattle.quota_blocks.specs.World.{World}
-use Rattle.quota_blocks.specs.declared.line_reader.LineFault.TheVariants.{Source}
+use Rattle.input_text.specs.declared.line_reader.LineFault.TheVariants.{Source}
 use Rattle.quota_blocks.specs.declared.quota_file.OpenFault.{OpenFault}
 use Rattle.quota_blocks.specs.declared.quota_file.OpenFault.TheVariants.{Store}
 use Rattle.quota_map.specs.View.{IsView, most_blocks}

@@ -12,7 +12,7 @@ use Rattle.quota_blocks.specs.Seen.{StoreSeen}
 use Rattle.quota_blocks.specs.World.{World}
 use Rattle.quota_blocks.specs.declared.quota_file.FileFault.{FileFault}
 use Rattle.quota_blocks.specs.declared.quota_file.FileFault.TheVariants.{Store, Damage, Full, Memory}
-use Rattle.quota_blocks.proofs.FrameLemmas.{only_reads-none, replaces_one-read}
+use Rattle.outside.proofs.FrameLemmas.{only_reads-none, replaces_one-read}
 use Rattle.quota_map.specs.View.{most_blocks}
 use Rattle.set_edit.specs.EditFault.{IfNoRoom, file_fault}
 use Rattle.set_edit.specs.Editing.{Edit}

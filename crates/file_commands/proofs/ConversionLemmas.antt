@@ -16,8 +16,8 @@ use Rattle.quota_blocks.specs.declared.quota_file.OpenFault.{OpenFault}
 use Rattle.quota_blocks.specs.declared.quota_file.OpenFault.TheVariants.{Store as OpenFailed, Memory as WantsMemory}
 use Rattle.quota_blocks.specs.declared.replacement.ReplaceFault.{ReplaceFault}
 use Rattle.quota_blocks.specs.declared.replacement.ReplaceFault.TheVariants.{Store as MakingFailed, Full as TooManyBlocks, Memory as NoMemoryToMake}
-use Rattle.quota_blocks.proofs.FrameLemmas.{only_reads-none}
-use Rattle.quota_blocks.proofs.WorldLemmas.{bytes_eq-ne, bytes_eq-same}
+use Rattle.outside.proofs.FrameLemmas.{only_reads-none}
+use Rattle.outside.proofs.WorldLemmas.{bytes_eq-ne, bytes_eq-same}
 use Rattle.tree_build.specs.Size.{ids_in}
 use Rattle.quota_map.specs.Replacing.{UnlessStore}
 use Rattle.quota_map.specs.View.{IsView, most_blocks}

@@ -8,7 +8,7 @@ use Rattle.quota_types.specs.declared.file_kind.Kind.{Kind}
 use Rattle.quota_types.specs.declared.file_kind.Kind.TheVariants.{User}
 use Rattle.quota_blocks.specs.Count.{Rose}
 use Rattle.quota_blocks.specs.QuotaValue.{QuotaValue}
-use Rattle.quota_blocks.specs.Replace.{ReplacesOnly}
+use Rattle.quota_blocks.specs.Replacement.{ReplacesOnly}
 use Rattle.quota_blocks.specs.Seen.{SinkSeen, StoreSeen}
 use Rattle.quota_blocks.specs.Text.{AppendsPrefix}
 use Rattle.quota_blocks.specs.Frame.{ReplacesOne}

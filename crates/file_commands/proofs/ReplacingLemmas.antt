@@ -8,7 +8,7 @@ use Rattle.quota_blocks.specs.Count.{Rose}
 use Rattle.quota_blocks.specs.Frame.{ReplacesOne}
 use Rattle.quota_blocks.specs.Listed.{ids_of}
 use Rattle.quota_blocks.specs.QuotaValue.{QuotaValue}
-use Rattle.quota_blocks.specs.Replace.{ReplacesOnly}
+use Rattle.quota_blocks.specs.Replacement.{ReplacesOnly}
 use Rattle.quota_blocks.specs.Seen.{StoreSeen}
 use Rattle.tree_build.specs.Size.{blocks_needed}
 use Rattle.quota_blocks.specs.declared.replacement.ReplaceFault.{ReplaceFault}

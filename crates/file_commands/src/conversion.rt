@@ -1,6 +1,6 @@
 ghost use Rattle.std.specs.Prelude.{◌≡◌, ◌≢◌, Bool, IsTrue, OnErr, OnOk, false};
 ghost use Rattle.quota_blocks.specs.Frame.{AreSynced};
-ghost use Rattle.quota_blocks.specs.Replace.{replacement_name};
+ghost use Rattle.quota_blocks.specs.Replacement.{replacement_name};
 ghost use Rattle.quota_blocks.specs.Seen.{LinkSeen, SinkSeen, SourceSeen};
 ghost use Rattle.run_steps.specs.Changing.{edit_uses};
 ghost use Rattle.run_steps.specs.Done.{seen_of, tells_of};

@@ -2,11 +2,11 @@
 use Rattle.std.proofs.Common.{◌≡◌, ℕ, zero, suc, ◌+◌, ◌≤◌, IsTrue, List, [], ◌∷◌, ◌++◌, length, map, refl, sym, ap, subst, ◌∙◌, ◌⊎◌, inl, inr, arith, zero-le, append_assoc, append-nil, length-append}
 use Rattle.std.proofs.lemmas.Bool.{cases_lt}
 use Rattle.std.proofs.lemmas.List.{map-append}
-use Rattle.quota_blocks.specs.Block.{next_of, leads}
+use Rattle.file_blocks.specs.Block.{next_of, leads}
 use Rattle.free_chains.specs.Chain.{IsChain}
 use Rattle.quota_types.specs.Times.{StandsIn, times}
 use Rattle.quota_types.proofs.TimesLemmas.{few_of_distinct, times-append, times-cons-same, times_cases}
-use Rattle.quota_blocks.proofs.LeadsLemmas.{leads_within, leads_from}
+use Rattle.file_blocks.proofs.LeadsLemmas.{leads_within, leads_from}
 
 pub goes_on_by_one : (next : ℕ → ℕ) (head at : ℕ) (done : List ℕ) → done ++ at ∷ [] ≡ head ∷ map next done
     → (done ++ at ∷ []) ++ next at ∷ [] ≡ head ∷ map next (done ++ at ∷ [])

@@ -4,8 +4,8 @@ use Rattle.std.specs.Prelude.{◌==◌}
 use Rattle.std.specs.List.{list_any}
 use Rattle.quota_types.specs.Times.{StandsIn, times}
 use Rattle.quota_types.proofs.TimesLemmas.{times-list_any}
-use Rattle.quota_blocks.specs.Block.{leads, next_of}
-use Rattle.quota_blocks.proofs.LeadsLemmas.{leads_from}
+use Rattle.file_blocks.specs.Block.{leads, next_of}
+use Rattle.file_blocks.proofs.LeadsLemmas.{leads_from}
 use Rattle.free_chains.specs.Chain.{IsChain}
 use Rattle.free_chains.specs.FreeList.{CountsFree, EndsBefore}
 use Rattle.free_chains.specs.declared.heads.Heads.{Heads}

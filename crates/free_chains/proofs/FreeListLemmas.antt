@@ -5,8 +5,8 @@ use Rattle.std.proofs.lemmas.List.{get_or-replicate, get_or_past, length-replica
 use Rattle.quota_types.specs.Bytes.{byte_at}
 use Rattle.quota_types.specs.Times.{times}
 use Rattle.quota_types.proofs.TimesLemmas.{times-cons-same}
-use Rattle.quota_blocks.specs.Block.{block_of, next_of}
-use Rattle.quota_blocks.proofs.LeadsLemmas.{leads_within}
+use Rattle.file_blocks.specs.Block.{block_of, next_of}
+use Rattle.file_blocks.proofs.LeadsLemmas.{leads_within}
 use Rattle.quota_pages.specs.Used.{HasWord, KeepsBlocksBut}
 use Rattle.free_chains.specs.Chain.{IsChain}
 use Rattle.free_chains.specs.FreeList.{GivesBlock, LosesFirst, TakesBlock}

@@ -4,10 +4,10 @@ use Rattle.std.specs.Prelude.{◌==◌}
 use Rattle.std.proofs.lemmas.Bool.{cond-true, cond-false}
 use Rattle.std.proofs.lemmas.Bool.Decides.{eqb_tells}
 use Rattle.quota_types.proofs.TimesLemmas.{stands_either, stands_left, stands_right, times-append}
-use Rattle.quota_blocks.specs.Block.{block_of}
-use Rattle.quota_blocks.specs.Seen.{StoreSeen}
-use Rattle.quota_blocks.specs.Span.{KeepsOutside}
-use Rattle.quota_blocks.proofs.WordLemmas.{number_same}
+use Rattle.file_blocks.specs.Block.{block_of}
+use Rattle.outside.specs.Seen.{StoreSeen}
+use Rattle.file_blocks.specs.Span.{KeepsOutside}
+use Rattle.file_blocks.proofs.WordLemmas.{number_same}
 use Rattle.quota_pages.specs.Page.{Page, is_buffered}
 use Rattle.quota_pages.specs.Pages.{pages_of}
 use Rattle.quota_pages.specs.Used.{HasWord, KeepsBlocksBut, LendsSome, LooksAtSome, missing}

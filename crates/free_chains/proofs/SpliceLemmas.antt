@@ -2,8 +2,8 @@
 use Rattle.std.proofs.Common.{◌≡◌, ◌≢◌, ℕ, ◌≤◌, IsTrue, List, [], ◌∷◌, ◌++◌, length, map, take, refl, sym, ap, subst, ◌∙◌, ◌⊎◌, inl, inr, arith, zero-le}
 use Rattle.quota_types.specs.Times.{StandsIn, times}
 use Rattle.quota_types.proofs.TimesLemmas.{stands_cons, stands_right, times-append, times-cons-same, times_cases}
-use Rattle.quota_blocks.specs.Block.{leads, next_of, previous_of}
-use Rattle.quota_blocks.proofs.LeadsLemmas.{leads_from, leads_within}
+use Rattle.file_blocks.specs.Block.{leads, next_of, previous_of}
+use Rattle.file_blocks.proofs.LeadsLemmas.{leads_from, leads_within}
 use Rattle.quota_types.specs.Bytes.{number_at}
 use Rattle.quota_pages.specs.Used.{KeepsBlocksBut}
 use Rattle.free_chains.specs.Chain.{IsChain}

@@ -3,13 +3,13 @@ use Rattle.std.proofs.Common.{◌≡◌, ◌≢◌, ℕ, ◌+◌, ◌<◌, ◌�
 use Rattle.std.proofs.lemmas.List.{map-append, length-map}
 use Rattle.free_chains.specs.declared.chain.Walk.{Walk}
 use Rattle.free_chains.specs.declared.link.Link.{Link}
-use Rattle.quota_blocks.specs.BlockSet.{AreFlagsOf}
+use Rattle.file_blocks.specs.BlockSet.{AreFlagsOf}
 use Rattle.quota_types.specs.Times.{StandsIn, times}
-use Rattle.quota_blocks.specs.Block.{leads}
+use Rattle.file_blocks.specs.Block.{leads}
 use Rattle.free_chains.specs.Walk.{IsWalk, linked_blocks, AreLinksTo}
-use Rattle.quota_blocks.proofs.LeadsLemmas.{leads_from}
+use Rattle.file_blocks.proofs.LeadsLemmas.{leads_from}
 use Rattle.quota_types.proofs.TimesLemmas.{few_of_distinct, times-append, times_cases}
-use Rattle.quota_blocks.proofs.MarkedLemmas.{marked_fit}
+use Rattle.file_blocks.proofs.MarkedLemmas.{marked_fit}
 use Rattle.free_chains.specs.Chain.{IsChain}
 
 -- a walk that has met one more block

@@ -2,7 +2,7 @@
 -- `fs/quota/quotaio_v2.h` (`dqi_free_blk`, `dqi_free_entry`) and `struct qt_disk_dqdbheader` of `fs/quota/quota_tree.h`
 -- (`dqdh_next_free`, `dqdh_prev_free`).
 use Rattle.std.specs.Prelude.{◌≡◌, ◌⊎◌, ℕ, ◌≤◌, IsTrue, List, [], ◌∷◌, ◌++◌, map}
-use Rattle.quota_blocks.specs.Block.{next_of, leads}
+use Rattle.file_blocks.specs.Block.{next_of, leads}
 use Rattle.quota_types.specs.Times.{StandsIn, times}
 
 -- A chain begins at its head and goes on by the link of each block, up to the first number that is 0, is no block's

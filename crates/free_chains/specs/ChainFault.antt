@@ -2,7 +2,7 @@
 use Rattle.std.specs.Prelude.{◌≡◌, ℕ, ◌≤◌}
 use Rattle.quota_types.specs.declared.damage.Damage.{Damage}
 use Rattle.quota_types.specs.declared.damage.DamageKind.TheVariants.{ChainOut}
-use Rattle.quota_blocks.specs.Count.{Rose}
+use Rattle.outside.specs.Count.{Rose}
 use Rattle.free_chains.specs.declared.chain_fault.ChainFault.{ChainFault}
 use Rattle.free_chains.specs.declared.chain_fault.ChainFault.TheVariants.{Store, Damage as Damaged}
 

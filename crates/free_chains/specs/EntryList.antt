@@ -2,8 +2,8 @@
 -- kernel's `fs/quota/quota_tree.c`.
 use Rattle.std.specs.Prelude.{◌≡◌, ◌≢◌, ℕ, ◌<◌, ◌≤◌, ◌==◌, Bool, IsTrue, List, [], ◌∷◌, ◌++◌, length, map, take, if◌then◌else◌}
 use Rattle.quota_types.specs.Times.{times}
-use Rattle.quota_blocks.specs.Block.{leads, next_of, previous_of}
-use Rattle.quota_blocks.specs.Seen.{StoreSeen}
+use Rattle.file_blocks.specs.Block.{leads, next_of, previous_of}
+use Rattle.outside.specs.Seen.{StoreSeen}
 use Rattle.quota_pages.specs.Used.{HasWord, IsKnown, LendsSome, shown_over}
 use Rattle.quota_pages.specs.declared.page_buffer.Pages.{Pages}
 use Rattle.free_chains.specs.Chain.{IsChain}

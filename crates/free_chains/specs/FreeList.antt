@@ -3,7 +3,7 @@
 use Rattle.std.specs.Prelude.{◌≡◌, ◌≢◌, ◌⊎◌, ℕ, ◌+◌, ◌<◌, ◌≤◌, IsTrue, List, [], ◌∷◌, length, min, replicate}
 use Rattle.quota_types.specs.Bytes.{byte_at}
 use Rattle.quota_types.specs.Times.{times}
-use Rattle.quota_blocks.specs.Block.{block_of, leads, next_of}
+use Rattle.file_blocks.specs.Block.{block_of, leads, next_of}
 use Rattle.free_chains.specs.Chain.{IsChain}
 use Rattle.free_chains.specs.declared.heads.Heads.{Heads}
 

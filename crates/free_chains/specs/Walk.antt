@@ -5,8 +5,8 @@ use Rattle.quota_types.specs.declared.damage.DamageKind.{DamageKind}
 use Rattle.quota_types.specs.declared.damage.DamageKind.TheVariants.{ChainLoop, ChainOut}
 use Rattle.free_chains.specs.declared.chain.Walk.{Walk}
 use Rattle.free_chains.specs.declared.link.Link.{Link}
-use Rattle.quota_blocks.specs.Block.{next_of, previous_of, leads}
-use Rattle.quota_blocks.specs.BlockSet.{AreFlagsOf}
+use Rattle.file_blocks.specs.Block.{next_of, previous_of, leads}
+use Rattle.file_blocks.specs.BlockSet.{AreFlagsOf}
 use Rattle.quota_types.specs.Times.{StandsIn}
 use Rattle.free_chains.specs.ChainDefect.{IsLoop, IsOut}
 

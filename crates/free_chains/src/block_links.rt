@@ -2,9 +2,9 @@
 
 ghost use Rattle.std.specs.Prelude.{◌≡◌, ◌≢◌, ◌+◌, ◌<◌, ◌≤◌, ◌∷◌, [], length, true, IsOk, IfOk, IfErr, OnOk, OnErr};
 ghost use Rattle.quota_types.specs.Bytes.{number_at};
-ghost use Rattle.quota_blocks.specs.Block.{block_of};
-ghost use Rattle.quota_blocks.specs.Count.{Rose};
-ghost use Rattle.quota_blocks.specs.Unsynced.{AddsNone};
+ghost use Rattle.file_blocks.specs.Block.{block_of};
+ghost use Rattle.outside.specs.Count.{Rose};
+ghost use Rattle.outside.specs.Unsynced.{AddsNone};
 ghost use Rattle.quota_pages.specs.Page.{HasRoomFor, is_buffered};
 ghost use Rattle.quota_pages.specs.Pages.{pages_of};
 ghost use Rattle.quota_pages.specs.Used.{HasWord, IsKnown, LendsSome, LooksAtSome, missing, shown_over};
@@ -12,7 +12,7 @@ ghost use Rattle.free_chains.specs.ChainFault.{IsChainFault};
 ghost use Rattle.free_chains.specs.Links.{HasLinks, led_to, missing_at};
 
 use crate::chain_fault::ChainFault;
-use quota_blocks::{Store, StoreFault};
+use outside::{Store, StoreFault};
 use quota_pages::Pages;
 use quota_types::{DamageKind, damage_at};
 

@@ -1,11 +1,12 @@
 ghost use Rattle.std.specs.Prelude.{◌≡◌, ◌≢◌, ℕ, ◌+◌, ◌<◌, ◌≤◌, [], vec_len, IsTrue, IfOk, OnOk, IfErr, is_ok};
-ghost use Rattle.quota_blocks.specs.Frame.{OnlyReads};
-ghost use Rattle.quota_blocks.specs.CheckFault.{IsCheckFault};
-ghost use Rattle.quota_blocks.specs.Block.{bytes_of};
+ghost use Rattle.outside.specs.Frame.{OnlyReads};
+ghost use Rattle.file_blocks.specs.CheckFault.{IsCheckFault};
+ghost use Rattle.file_blocks.specs.Block.{bytes_of};
 ghost use Rattle.free_chains.specs.Walk.{AreLinksTo, IsWalk, IsWalkDefect};
 
 use crate::link::Link;
-use quota_blocks::{BlockSet, CheckFault, Store, le32, read_block};
+use file_blocks::{BlockSet, CheckFault, le32, read_block};
+use outside::Store;
 use quota_types::{DamageKind, damage_at};
 use std::alloc::{AllocError, Global};
 

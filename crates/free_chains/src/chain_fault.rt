@@ -1,7 +1,7 @@
 ghost use Rattle.std.specs.Prelude.{◌≡◌};
 ghost use Rattle.free_chains.specs.declared.chain_fault.ChainFault.TheVariants.{Store as StoreFailed};
 
-use quota_blocks::StoreFault;
+use outside::StoreFault;
 use quota_types::Damage;
 
 /// Why a list of blocks could not be followed or changed.

@@ -1,7 +1,7 @@
 //! How many blocks are free.
 
 ghost use Rattle.std.specs.Prelude.{◌≡◌, ◌+◌, ◌<◌, ◌≤◌, length, IfOk, IfErr, OnOk};
-ghost use Rattle.quota_blocks.specs.Unsynced.{AddsNone};
+ghost use Rattle.outside.specs.Unsynced.{AddsNone};
 ghost use Rattle.quota_pages.specs.Pages.{pages_of};
 ghost use Rattle.quota_pages.specs.Used.{IsKnown, LooksAtSome, shown_over};
 ghost use Rattle.free_chains.specs.ChainFault.{IsChainFault};
@@ -10,7 +10,7 @@ ghost use Rattle.free_chains.specs.FreeList.{CountsFree, EndsBefore};
 use crate::chain_fault::ChainFault;
 use crate::heads::Heads;
 use arrayvec::ArrayVec;
-use quota_blocks::Store;
+use outside::Store;
 use quota_pages::Pages;
 use quota_types::{DamageKind, damage_at};
 

@@ -1,8 +1,8 @@
 //! The list of data blocks that have room, which is linked both ways.
 
 ghost use Rattle.std.specs.Prelude.{◌≡◌, ℕ, ◌+◌, ◌<◌, ◌≤◌, ◌∷◌, ◌++◌, [], List, length, true, IfErr, OnOk, OnErr};
-ghost use Rattle.quota_blocks.specs.Count.{Rose};
-ghost use Rattle.quota_blocks.specs.Unsynced.{AddsNone};
+ghost use Rattle.outside.specs.Count.{Rose};
+ghost use Rattle.outside.specs.Unsynced.{AddsNone};
 ghost use Rattle.quota_pages.specs.Page.{is_buffered};
 ghost use Rattle.quota_pages.specs.Pages.{pages_of};
 ghost use Rattle.quota_pages.specs.Used.{IsKnown, LendsSome, LooksAtSome, shown_over};
@@ -14,7 +14,7 @@ ghost use Rattle.free_chains.specs.EntryList.{AreApart, EntersList, LeavesList, 
 use crate::block_links::{bring, link_at, set_link, set_links};
 use crate::chain_fault::ChainFault;
 use crate::heads::Heads;
-use quota_blocks::{Store, StoreFault};
+use outside::{Store, StoreFault};
 use quota_pages::Pages;
 use quota_types::{DamageKind, damage_at};
 

@@ -1,9 +1,9 @@
 //! The list of free blocks.
 
 ghost use Rattle.std.specs.Prelude.{◌≡◌, ◌≢◌, ◌+◌, ◌-◌, ◌^◌, ◌<◌, ◌≤◌, ◌∷◌, [], length, replicate, true, IfOk, IfErr, OnOk, OnErr};
-ghost use Rattle.quota_blocks.specs.Block.{block_of};
-ghost use Rattle.quota_blocks.specs.Count.{Rose};
-ghost use Rattle.quota_blocks.specs.Unsynced.{AddsNone};
+ghost use Rattle.file_blocks.specs.Block.{block_of};
+ghost use Rattle.outside.specs.Count.{Rose};
+ghost use Rattle.outside.specs.Unsynced.{AddsNone};
 ghost use Rattle.quota_pages.specs.Page.{HasRoomFor, is_lent};
 ghost use Rattle.quota_pages.specs.Pages.{pages_of};
 ghost use Rattle.quota_pages.specs.Used.{IsKnown, LendsSome, LooksAtSome, shown_over};
@@ -13,7 +13,7 @@ ghost use Rattle.free_chains.specs.FreeList.{GivesBlock, StopsTaking, TakesBlock
 use crate::block_links::link_at;
 use crate::chain_fault::ChainFault;
 use crate::heads::Heads;
-use quota_blocks::{Store, StoreFault};
+use outside::{Store, StoreFault};
 use quota_pages::Pages;
 use quota_types::{DamageKind, damage_at};
 

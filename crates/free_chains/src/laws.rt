@@ -2,7 +2,7 @@
 
 ghost use Rattle.std.specs.Prelude.{◌≡◌, ◌⊎◌, ℕ, ◌≤◌, IsTrue, List};
 ghost use Rattle.quota_types.specs.Times.{StandsIn, times};
-ghost use Rattle.quota_blocks.specs.Block.{leads, next_of};
+ghost use Rattle.file_blocks.specs.Block.{leads, next_of};
 ghost use Rattle.quota_pages.specs.Used.{KeepsBlocksBut};
 ghost use Rattle.free_chains.specs.Chain.{IsChain};
 ghost use Rattle.free_chains.specs.EntryList.{NamesPrevious};

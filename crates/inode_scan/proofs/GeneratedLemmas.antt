@@ -16,10 +16,10 @@ use Rattle.quota_blocks.specs.InputLines.{InputLines, NoLine, LineThen, input_li
 use Rattle.quota_blocks.specs.Lines.{NextLine, Line, is_newline, next_line_of}
 use Rattle.quota_blocks.specs.Numeral.{number_of, value_of}
 use Rattle.quota_blocks.specs.Words.{is_blank, is_word, words_of}
-use Rattle.quota_blocks.proofs.InputLinesLemmas.{input_lines-step}
-use Rattle.quota_blocks.proofs.LinesLemmas.{next-end, next-line}
-use Rattle.quota_blocks.proofs.WordsLemmas.{words_of-append}
-use Rattle.quota_blocks.proofs.NumeralLemmas.{IsNumeralModel-value_of}
+use Rattle.input_text.proofs.InputLinesLemmas.{input_lines-step}
+use Rattle.input_text.proofs.LinesLemmas.{next-end, next-line}
+use Rattle.input_text.proofs.WordsLemmas.{words_of-append}
+use Rattle.input_text.proofs.NumeralLemmas.{IsNumeralModel-value_of}
 use Rattle.inode_scan.specs.declared.row.Row.{Row}
 use Rattle.inode_scan.specs.Generated.{lines_text, row_text}
 use Rattle.inode_scan.specs.Line.{number_below, row_in, row_of}

@@ -5,9 +5,9 @@ use Rattle.std.specs.Option.{option_to_list}
 use Rattle.quota_types.specs.declared.file_kind.Kind.{Kind}
 use Rattle.quota_blocks.specs.InputLines.{InputLines, NoLine, LineThen, LongNext, PastNext, input_lines, line_then}
 use Rattle.quota_blocks.specs.Lines.{IsLineFault, LinesSeen, NamesLine, line_given, next_line_of}
-use Rattle.quota_blocks.specs.declared.line_reader.LineFault.{LineFault}
-use Rattle.quota_blocks.specs.declared.line_reader.LineFault.TheVariants.{Source, Long, TooLarge}
-use Rattle.quota_blocks.proofs.InputLinesLemmas.{input_lines-long, input_lines-past, lines_left-next}
+use Rattle.input_text.specs.declared.line_reader.LineFault.{LineFault}
+use Rattle.input_text.specs.declared.line_reader.LineFault.TheVariants.{Source, Long, TooLarge}
+use Rattle.input_text.proofs.InputLinesLemmas.{input_lines-long, input_lines-past, lines_left-next}
 use Rattle.inode_scan.specs.declared.fault.ScanFault.{ScanFault}
 use Rattle.inode_scan.specs.declared.fault.ScanFault.TheVariants as scan
 use Rattle.inode_scan.specs.declared.tally.Tally.{Tally}

@@ -6,8 +6,8 @@ use Rattle.quota_types.specs.declared.file_kind.Kind.{Kind}
 use Rattle.quota_blocks.specs.Count.{Rose}
 use Rattle.quota_blocks.specs.InputLines.{InputLines, NoLine, LineThen, LongNext, PastNext, input_lines, lines_left}
 use Rattle.quota_blocks.specs.Lines.{LinesSeen}
-use Rattle.quota_blocks.specs.declared.line_reader.LineFault.{LineFault}
-use Rattle.quota_blocks.specs.declared.line_reader.LineFault.TheVariants.{Source as SourceFailed, Long, TooLarge as PastTotal}
+use Rattle.input_text.specs.declared.line_reader.LineFault.{LineFault}
+use Rattle.input_text.specs.declared.line_reader.LineFault.TheVariants.{Source as SourceFailed, Long, TooLarge as PastTotal}
 use Rattle.inode_scan.specs.declared.fault.ScanFault.{ScanFault}
 use Rattle.inode_scan.specs.declared.fault.ScanFault.TheVariants.{Source, TooLarge, BadLine, LongLine, Conflict, Memory}
 use Rattle.inode_scan.specs.Faults.{unless}

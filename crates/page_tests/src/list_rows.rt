@@ -1,7 +1,8 @@
 use free_chains::{
     ChainFault, Heads, count_free, enter_entry_list, give_block, leave_entry_list, take_block,
 };
-use quota_blocks::{MemStore, Store, StoreFault};
+use memory_objects::MemStore;
+use outside::{Store, StoreFault};
 use quota_pages::Pages;
 use std::alloc::{AllocError, Global};
 use std::process::Abort;

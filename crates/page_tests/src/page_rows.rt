@@ -1,4 +1,5 @@
-use quota_blocks::{MemStore, Store, StoreFault};
+use memory_objects::MemStore;
+use outside::{Store, StoreFault};
 use quota_pages::Pages;
 use std::alloc::{AllocError, Global};
 use std::process::Abort;

@@ -1,4 +1,5 @@
-use quota_blocks::{MemStore, Store, StoreFault};
+use memory_objects::MemStore;
+use outside::{Store, StoreFault};
 use quota_pages::Pages;
 use quota_radix::{WalkFault, find_path, leaf, link, next_leaf};
 use quota_types::DamageKind;

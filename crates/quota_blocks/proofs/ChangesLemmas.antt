@@ -3,16 +3,16 @@ use Rattle.std.proofs.Common.{◌≡◌, ℕ, ◌+◌, ◌<◌, ◌≤◌, Bool,
 use Rattle.std.specs.Prelude.{not}
 use Rattle.std.proofs.lemmas.Bool.{false≢true}
 use Rattle.quota_blocks.specs.Changes.{Changes, FileAt, FileLaws, IsRefused, LacksRoom, LacksRoomFor}
-use Rattle.quota_blocks.specs.Count.{Rose}
+use Rattle.outside.specs.Count.{Rose}
 use Rattle.quota_blocks.specs.FileChange.{FileChange, IsLeft, changed_value, edit_by, has_nothing_to_do, may_lack_room}
-use Rattle.quota_blocks.specs.Frame.{IsSynced, OnlyReads, ReplacesOne}
+use Rattle.outside.specs.Frame.{IsSynced, OnlyReads, ReplacesOne}
 use Rattle.quota_blocks.specs.QuotaFile.{CountsRefusal, IfFull, IsChangeFault, UnlessStoreFailed, is_store_fault}
 use Rattle.quota_blocks.specs.QuotaValue.{QuotaValue}
 use Rattle.quota_blocks.specs.Replace.{IsRewriteFault}
-use Rattle.quota_blocks.specs.World.{World}
+use Rattle.outside.specs.World.{World}
 use Rattle.quota_blocks.specs.declared.quota_file.FileFault.{FileFault}
 use Rattle.quota_blocks.specs.declared.quota_file.FileFault.TheVariants.{Store, Damage, Full, Memory}
-use Rattle.quota_blocks.proofs.FrameLemmas.{is_synced-read, only_reads-less, replaces_one-read}
+use Rattle.outside.proofs.FrameLemmas.{is_synced-read, only_reads-less, replaces_one-read}
 
 -- a fact that always holds
 pub unless_store-always : (fault : FileFault) (P : Type 0) → P → UnlessStoreFailed fault P

@@ -3,7 +3,8 @@ use Rattle.std.proofs.Common.{◌≡◌, ℕ, zero, suc, ◌+◌, ◌-◌, ◌�
 use Rattle.std.proofs.Math.Seq.{take-add}
 use Rattle.std.proofs.lemmas.Option.{same_Some, none-some}
 use Rattle.std.specs.Option.{option_map, unwrap_or}
-use Rattle.quota_blocks.specs.World.{bytes_from}
+use Rattle.outside.specs.World.{bytes_from}
+use Rattle.outside.proofs.WorldLemmas.{take-length-take}
 
 -- the file has this size, and begins with the bytes that were read
 pub record IsBegun (file : Option (List ℕ)) (size : ℕ) (bytes : List ℕ) : Type 0 where
@@ -16,12 +17,6 @@ pub record IsBegun (file : Option (List ℕ)) (size : ℕ) (bytes : List ℕ) : 
 pub begun_none : (file : Option (List ℕ)) (size : ℕ) → Some size ≡ option_map length file → IsBegun file size []
 begun_none None size e = absurd (none-some size (sym e))
 begun_none (Some whole) size e = record { whole = whole; there = refl; long = same_Some _ _ (sym e); front = refl }
-
--- as many from the front as a longer front has
-pub take-length-take : (n : ℕ) (xs : List ℕ) → take (length (take n xs)) xs ≡ take n xs
-take-length-take zero xs = refl
-take-length-take (suc n) [] = refl
-take-length-take (suc n) (x ∷ xs) = ap (λ (ys : List ℕ). x ∷ ys) (take-length-take n xs)
 
 more_of : (whole bytes : List ℕ) (wanted : ℕ) → take (length bytes) whole ≡ bytes → take (length (bytes ++ take wanted (drop (length bytes) whole))) whole ≡ bytes ++ take wanted (drop (length bytes) whole)
 more_of whole bytes wanted front =

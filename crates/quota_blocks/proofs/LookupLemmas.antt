@@ -5,14 +5,14 @@ use Rattle.std.proofs.lemmas.Option.{IfSome_then}
 use Rattle.std.proofs.lemmas.Result.{IfOk-weaker}
 use Rattle.quota_blocks.specs.Changes.{EditsValue, FileAt, FileLaws, IsDone, IsRefused, LacksRoomFor, file_at}
 use Rattle.quota_blocks.specs.FileChange.{ValueEdit}
-use Rattle.quota_blocks.specs.Frame.{OnlyReads}
+use Rattle.outside.specs.Frame.{OnlyReads}
 use Rattle.quota_blocks.specs.QuotaFile.{FileSeen, IsChangeFault, UnlessStoreFailed}
 use Rattle.quota_blocks.specs.QuotaValue.{QuotaValue}
-use Rattle.quota_blocks.specs.Seen.{StoreSeen}
-use Rattle.quota_blocks.specs.World.{World}
+use Rattle.outside.specs.Seen.{StoreSeen}
+use Rattle.outside.specs.World.{World}
 use Rattle.quota_blocks.specs.declared.quota_file.FileFault.{FileFault}
 use Rattle.quota_blocks.specs.declared.quota_file.FileFault.TheVariants.{Store, Damage, Full, Memory}
-use Rattle.quota_blocks.proofs.FrameLemmas.{is_synced-read, is_synced-then, only_reads-then, replaces_one-after_read}
+use Rattle.outside.proofs.FrameLemmas.{is_synced-read, is_synced-then, only_reads-then, replaces_one-after_read}
 
 -- What calls that only looked something up left, as far as an edit goes on from there.
 pub record IsLookedUp (old new : FileAt) : Type 0 where

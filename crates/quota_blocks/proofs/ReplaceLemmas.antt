@@ -4,11 +4,12 @@ use Rattle.std.specs.Prelude.{codes}
 use Rattle.std.specs.Option.{IsSomeAnd, option_map_or, unwrap_or}
 use Rattle.std.proofs.Math.Seq.{take-add}
 use Rattle.std.proofs.lemmas.Bool.{cases_lt}
-use Rattle.quota_blocks.specs.Count.{counted}
+use Rattle.outside.specs.Count.{counted}
 use Rattle.std.proofs.lemmas.List.{take_all, drop_all}
-use Rattle.quota_blocks.specs.Replace.{WritesAnew, pieces_of, replaced_files, replacement_name}
-use Rattle.quota_blocks.specs.World.{World, overwritten, with_bytes, with_file, with_new_name}
-use Rattle.quota_blocks.proofs.WorldLemmas.{bytes_eq-ne, with_file-at, with_file-again}
+use Rattle.quota_blocks.specs.Replace.{WritesAnew, pieces_of}
+use Rattle.outside.specs.Replacement.{replaced_files, replacement_name}
+use Rattle.outside.specs.World.{World, overwritten, with_bytes, with_file, with_new_name}
+use Rattle.outside.proofs.WorldLemmas.{bytes_eq-ne, with_file-at, with_file-again}
 
 -- a piece written behind the pieces before it
 overwritten-piece : (bytes : List ℕ) (at end : ℕ) → at ≤ end → end ≤ length bytes → overwritten (take at bytes) at (take (end - at) (drop at bytes)) ≡ take end bytes

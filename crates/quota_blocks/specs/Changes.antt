@@ -3,11 +3,11 @@
 use Rattle.std.specs.Prelude.{◌≡◌, ◌⊎◌, ℕ, ◌+◌, ◌<◌, ◌≤◌, Bool, true, false, IsTrue, is_ok, IsOk, IsOkAnd, IfOk, IfErr, IfSome, OnOk, List, Option, Some, Result}
 use Rattle.quota_types.specs.declared.file_kind.Format.{Format}
 use Rattle.quota_blocks.specs.FileChange.{FileChange, IsLeft, ValueEdit, edit_by}
-use Rattle.quota_blocks.specs.Frame.{IsSynced, OnlyReads, ReplacesOne}
+use Rattle.outside.specs.Frame.{IsSynced, OnlyReads, ReplacesOne}
 use Rattle.quota_blocks.specs.QuotaFile.{CountsRefusal, FileSeen, IfFull, IsChangeFault, UnlessStoreFailed, is_store_fault}
 use Rattle.quota_blocks.specs.QuotaValue.{QuotaValue}
-use Rattle.quota_blocks.specs.Seen.{StoreSeen}
-use Rattle.quota_blocks.specs.World.{World}
+use Rattle.outside.specs.Seen.{StoreSeen}
+use Rattle.outside.specs.World.{World}
 use Rattle.quota_blocks.specs.declared.quota_file.FileFault.{FileFault}
 
 -- What the type of an opened file and that of its store say of all their calls: whether the store tells its files, what a

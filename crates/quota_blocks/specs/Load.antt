@@ -1,6 +1,6 @@
 -- Why a file could not be read whole.
 use Rattle.std.specs.Prelude.{◌≡◌, ℕ, ◌<◌, Bool, IsTrue, List, length, Option, None, IsSomeAnd, ⊤}
-use Rattle.quota_blocks.specs.Count.{Rose}
+use Rattle.outside.specs.Count.{Rose}
 use Rattle.quota_blocks.specs.declared.whole_file.LoadFault.{LoadFault}
 use Rattle.quota_blocks.specs.declared.whole_file.LoadFault.TheVariants.{Store, NoFile, TooLarge, Memory}
 

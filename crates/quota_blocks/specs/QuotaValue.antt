@@ -2,6 +2,7 @@
 use Rattle.std.specs.Prelude.{◌≡◌, ℕ, ◌<◌, Option, Some, None}
 use Rattle.std.specs.Ordering.{nat_cmp}
 use Rattle.std.specs.FinMap.{FinMap, get, insert, remove}
+pub use Rattle.quota_types.specs.Ids.{IsAfter}
 use Rattle.quota_types.specs.declared.file_kind.Kind.{Kind}
 use Rattle.quota_types.specs.declared.file_kind.Format.{Format}
 use Rattle.quota_types.specs.declared.record.Rec.{Rec}
@@ -31,11 +32,6 @@ without_record value id = record value { records = remove value.records id }
 -- the value with these grace periods
 abbrev pub with_grace : QuotaValue → Grace → QuotaValue
 with_grace value grace = record value { grace = grace }
-
--- an identifier comes after another one, or after none
-abbrev pub IsAfter : Option ℕ → ℕ → Type 0
-IsAfter None id = Unit {0}
-IsAfter (Some after) id = after < id
 
 -- the least identifier that comes after another one, with its record, or none where there is none
 abbrev pub IsNextAfter : Option ℕ → Records → Option Entry → Type 0

@@ -1,23 +1,12 @@
 -- A file that is written under another name first, and then takes the place of the old one.
 use Rattle.std.specs.Prelude.{◌≡◌, ℕ, ◌+◌, ◌/◌, List, ◌++◌, None, Some, IsSomeAnd, codes, ⊤}
-use Rattle.quota_blocks.specs.Count.{Rose}
-use Rattle.quota_blocks.specs.World.{KeepsOtherTwo, World, with_file}
+use Rattle.outside.specs.Count.{Rose}
+use Rattle.outside.specs.Replacement.{replacement_name}
+use Rattle.outside.specs.World.{World}
 use Rattle.quota_blocks.specs.declared.quota_file.FileFault.{FileFault}
 use Rattle.quota_blocks.specs.declared.quota_file.FileFault.TheVariants.{Store as StoreFailed, Damage as Damaged, Full as FullFor, Memory as NoMemory}
 use Rattle.quota_blocks.specs.declared.replacement.ReplaceFault.{ReplaceFault}
 use Rattle.quota_blocks.specs.declared.replacement.ReplaceFault.TheVariants.{Store, Full, Memory}
-
--- the name under which the new file is written: the old one with `.new` added
-unfoldable pub replacement_name : List ℕ → List ℕ
-replacement_name name = name ++ codes ".new"
-
--- the files once the one of this name was replaced by these bytes, with none left under the name of the new file
-abbrev pub replaced_files : World → List ℕ → List ℕ → World
-replaced_files files name bytes = with_file (with_file files (replacement_name name) None) name (Some bytes)
-
--- what each name has is as before, but for this name, and the one under which a new file is written
-abbrev pub ReplacesOnly : {T : Type 0} → List ℕ → (List ℕ → T) → (List ℕ → T) → Type 0
-ReplacesOnly name = KeepsOtherTwo name (replacement_name name)
 
 -- how many calls of `write`, or of `read`, so many bytes take, of 1,024 bytes each but the last
 abbrev pub pieces_of : ℕ → ℕ

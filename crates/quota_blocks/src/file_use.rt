@@ -2,10 +2,11 @@ ghost use Rattle.std.specs.Prelude.{◌≡◌, ◌+◌, ◌≤◌, ◌^◌, ℕ,
 ghost use Rattle.std.specs.String.{string_bytes};
 ghost use Rattle.quota_types.specs.declared.file_kind.Format.{Format};
 ghost use Rattle.quota_blocks.specs.FileUse.{seen_in};
-ghost use Rattle.quota_blocks.specs.Frame.{IsSynced, OnlyReads, ReplacesOne};
+ghost use Rattle.outside.specs.Frame.{IsSynced, OnlyReads, ReplacesOne};
 ghost use Rattle.quota_blocks.specs.QuotaFile.{CountsRefusal, UnlessStoreFailed, is_store_fault};
-ghost use Rattle.quota_blocks.specs.Replace.{IsRewriteFault, pieces_of, replaced_files, replacement_name};
-ghost use Rattle.quota_blocks.specs.World.{KeepsOthers};
+ghost use Rattle.quota_blocks.specs.Replace.{IsRewriteFault, pieces_of};
+ghost use Rattle.outside.specs.Replacement.{replaced_files, replacement_name};
+ghost use Rattle.outside.specs.World.{KeepsOthers};
 
 use crate::{FileFault, Store, replace};
 use std::alloc::Global;

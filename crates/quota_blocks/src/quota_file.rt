@@ -6,13 +6,13 @@ ghost use Rattle.quota_types.specs.Range.{grace_unfit};
 ghost use Rattle.quota_types.specs.Rec.{IsNull};
 ghost use Rattle.quota_blocks.specs.Changes.{Changes, file_at, laws_of};
 ghost use Rattle.quota_blocks.specs.FileChange.{FileChange, Put, Remove, SetGrace};
-ghost use Rattle.quota_blocks.specs.Frame.{OnlyReads};
+ghost use Rattle.outside.specs.Frame.{OnlyReads};
 ghost use Rattle.quota_blocks.specs.QuotaFile.{CountsRefusal, FileSeen, IsLookupFault};
 ghost use Rattle.quota_blocks.specs.QuotaValue.{QuotaValue, IsAfter, IsNextAfter};
-ghost use Rattle.quota_blocks.specs.World.{World};
+ghost use Rattle.outside.specs.World.{World};
 ghost use Rattle.quota_blocks.specs.declared.quota_file.FileFault.{FileFault};
 
-use crate::{ReplaceFault, Store};
+use crate::{CheckFault, ReplaceFault, Store};
 use quota_types::{Damage, Entry, Format, Grace, Rec};
 
 /// Why a call on an opened quota file was refused.
@@ -78,6 +78,20 @@ pub enum OpenFault {
     },
     /// The file is damaged.
     Damage(Damage),
+}
+
+impl From<CheckFault> for OpenFault {
+    ghost use Rattle.quota_blocks.specs.Opening.{open_fault};
+
+    ghost from_gives = { λ fault opening. opening ≡ open_fault fault };
+
+    fn from(fault: CheckFault) -> Self {
+        match fault {
+            CheckFault::Store => OpenFault::Store,
+            CheckFault::Damage(damage) => OpenFault::Damage(damage),
+            CheckFault::Memory => OpenFault::Memory,
+        }
+    }
 }
 
 /// An opened quota file, whatever its format. Each call is given the store that the file was opened from.

@@ -1,10 +1,11 @@
 ghost use Rattle.std.specs.Prelude.{◌≡◌, ◌+◌, ◌^◌, ◌≤◌, length, false, None, Some, IsTrue, IfOk, IfErr, OnOk, OnErr};
 ghost use Rattle.std.specs.String.{string_bytes};
-ghost use Rattle.quota_blocks.specs.Count.{Rose};
-ghost use Rattle.quota_blocks.specs.Frame.{ChangesOne, ReplacesOne, replaced_names};
-ghost use Rattle.quota_blocks.specs.Replace.{IsReplaceFault, OnNoMemory, pieces_of, replaced_files, replacement_name};
-ghost use Rattle.quota_blocks.specs.Unsynced.{with_name};
-ghost use Rattle.quota_blocks.specs.World.{KeepsOthers, with_file};
+ghost use Rattle.outside.specs.Count.{Rose};
+ghost use Rattle.outside.specs.Frame.{ChangesOne, ReplacesOne, replaced_names};
+ghost use Rattle.quota_blocks.specs.Replace.{IsReplaceFault, OnNoMemory, pieces_of};
+ghost use Rattle.outside.specs.Replacement.{replaced_files, replacement_name};
+ghost use Rattle.outside.specs.Unsynced.{with_name};
+ghost use Rattle.outside.specs.World.{KeepsOthers, with_file};
 ghost use Rattle.quota_blocks.specs.declared.replacement.ReplaceFault.TheVariants.{Store as StoreFailed, Memory};
 
 use crate::{Store, StoreFault};
@@ -76,7 +77,7 @@ pub fn replace<S: Store>(
     Ok(())
 }
 
-#[tactic(auto, unfolding(crate::specs::Replace::replacement_name))]
+#[tactic(auto, unfolding(outside::specs::Replacement::replacement_name))]
 fn name_of_new(alloc: Global, name: &str) -> Result<String, AllocError>
     ensures { IfOk result (λ new_name. string_bytes new_name ≡ replacement_name name.now) }
 {

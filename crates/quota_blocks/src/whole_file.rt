@@ -1,9 +1,9 @@
 ghost use Rattle.std.specs.Prelude.{◌≡◌, ◌+◌, ◌≤◌, ◌++◌, length, min, vec_len, Some, IsTrue, IfOk, IfErr, OnOk, is_ok};
-ghost use Rattle.quota_blocks.specs.Count.{Rose, counted};
-ghost use Rattle.quota_blocks.specs.Frame.{OnlyReads};
+ghost use Rattle.outside.specs.Count.{Rose, counted};
+ghost use Rattle.outside.specs.Frame.{OnlyReads};
 ghost use Rattle.quota_blocks.specs.Load.{IsLoadFault, IsReadFault};
 ghost use Rattle.quota_blocks.specs.Replace.{pieces_of};
-ghost use Rattle.quota_blocks.specs.World.{bytes_from};
+ghost use Rattle.outside.specs.World.{bytes_from};
 ghost use Rattle.quota_blocks.specs.declared.whole_file.LoadFault.TheVariants.{Store as StoreFailed, Memory};
 
 use crate::{Store, StoreFault};

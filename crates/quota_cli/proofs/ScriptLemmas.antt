@@ -11,7 +11,7 @@ use Rattle.quota_blocks.specs.Count.{Rose}
 use Rattle.quota_blocks.specs.InputLines.{InputLines, NoLine, LineThen, LongNext, PastNext, input_lines}
 use Rattle.quota_blocks.specs.Seen.{SourceSeen}
 use Rattle.quota_blocks.specs.Words.{words_of}
-use Rattle.quota_blocks.proofs.FrameLemmas.{are_synced-none, are_synced-then, only_reads-none}
+use Rattle.outside.proofs.FrameLemmas.{are_synced-none, are_synced-then, only_reads-none}
 use Rattle.refusals.specs.declared.cause.Cause.{Cause}
 use Rattle.refusals.specs.declared.cause.Cause.TheVariants.{LinkFault, SourceFault, TooLarge, LongLine, BadLine, Memory}
 use Rattle.refusals.specs.declared.reason.Place.{Place}

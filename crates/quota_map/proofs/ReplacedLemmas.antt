@@ -2,7 +2,7 @@
 use Rattle.std.proofs.Common.{◌≡◌, ℕ, List}
 use Rattle.quota_blocks.specs.Frame.{AreSynced, ReplacesOne, replaced_names}
 use Rattle.quota_blocks.specs.Seen.{StoreSeen}
-use Rattle.quota_blocks.proofs.UnsyncedLemmas.{replaced-adds_none, replaced-changed}
+use Rattle.outside.proofs.UnsyncedLemmas.{replaced-adds_none, replaced-changed}
 
 -- what was written for it has been synced
 pub replaced-synced : (name : List ℕ) (old new : StoreSeen) → new.unsynced ≡ replaced_names old.unsynced name → ReplacesOne name old new → AreSynced old new

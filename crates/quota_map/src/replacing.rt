@@ -5,7 +5,7 @@ ghost use Rattle.quota_types.specs.Range.{grace_unfit, unfit};
 ghost use Rattle.quota_types.specs.Rec.{is_zeros};
 ghost use Rattle.quota_blocks.specs.Frame.{ReplacesOne, replaced_names};
 ghost use Rattle.quota_blocks.specs.Listed.{ids_of, value_of};
-ghost use Rattle.quota_blocks.specs.Replace.{replacement_name};
+ghost use Rattle.quota_blocks.specs.Replacement.{replacement_name};
 ghost use Rattle.quota_blocks.specs.World.{KeepsOthers};
 ghost use Rattle.tree_build.specs.Build.{IsBuildFault};
 ghost use Rattle.tree_build.specs.Size.{blocks_needed};

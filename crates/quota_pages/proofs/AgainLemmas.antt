@@ -2,8 +2,8 @@
 use Rattle.std.proofs.Common.{◌≡◌, ℕ, zero, suc, inl, inr, Bool, false, not, ◌&&◌, ◌||◌, IsTrue, List, [], ◌∷◌, get_or, take, refl, sym, ap, subst, ◌∙◌}
 use Rattle.std.specs.Prelude.{◌==◌, fold}
 use Rattle.std.proofs.lemmas.Bool.{cases_Bool, cond-true, cond-false, or_parts, and_parts, not-true}
-use Rattle.quota_blocks.specs.Block.{bytes_of}
-use Rattle.quota_blocks.specs.World.{World}
+use Rattle.file_blocks.specs.Block.{bytes_of}
+use Rattle.outside.specs.World.{World}
 use Rattle.quota_pages.specs.Overlay.{with_block}
 use Rattle.quota_pages.specs.Flushed.{IsPartlyFlushed}
 use Rattle.quota_pages.specs.Page.{IsClean, Page, are_distinct, is_buffered, is_lent, shown, with_page}

@@ -4,9 +4,9 @@ use Rattle.std.proofs.lemmas.Bool.{cases_lt}
 use Rattle.std.proofs.lemmas.Grind.{same_number_lists}
 use Rattle.std.proofs.lemmas.List.{get_or-append_right, get_or_append_left, get_or-take, get_or-drop, get_or-replicate, get_or_past, length-replicate, take_all, take-append-le}
 use Rattle.quota_types.specs.Bytes.{byte_at}
-use Rattle.quota_blocks.specs.World.{overwritten}
-use Rattle.quota_blocks.specs.Block.{block_of}
-use Rattle.quota_blocks.proofs.WordLemmas.{byte_at-block_of, length-block_of}
+use Rattle.outside.specs.World.{overwritten}
+use Rattle.file_blocks.specs.Block.{block_of}
+use Rattle.file_blocks.proofs.WordLemmas.{byte_at-block_of, length-block_of}
 use Rattle.quota_pages.specs.Overlay.{whole_block, with_block}
 
 -- two lists of as many bytes with the same byte at each place

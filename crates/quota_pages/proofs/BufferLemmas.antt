@@ -5,8 +5,8 @@ use Rattle.std.specs.String.{string_bytes}
 use Rattle.std.proofs.Math.Bool.{or-false}
 use Rattle.std.proofs.lemmas.Bool.{cond-true, cond-false, eqb-true}
 use Rattle.std.proofs.lemmas.List.{get_or_default, length-set}
-use Rattle.quota_blocks.specs.World.{World}
-use Rattle.quota_blocks.specs.Block.{block_of, bytes_of}
+use Rattle.outside.specs.World.{World}
+use Rattle.file_blocks.specs.Block.{block_of, bytes_of}
 use Rattle.quota_pages.specs.Overlay.{whole_block, with_block}
 use Rattle.quota_pages.specs.Flushed.{IsPartlyFlushed}
 use Rattle.quota_pages.specs.Held.{lent_head, pages_in, with_lent}

@@ -7,12 +7,12 @@ use Rattle.std.proofs.lemmas.Bool.{cases_Bool, cond-true, cond-false, false_from
 use Rattle.std.proofs.lemmas.List.{take-append-drop, take_more}
 use Rattle.std.proofs.lemmas.List.Folds.{list_any-append, list_any_at}
 use Rattle.std.proofs.lemmas.List.Sums.{sum_by-append}
-use Rattle.quota_blocks.specs.Block.{bytes_of}
-use Rattle.quota_blocks.specs.Count.{counted}
-use Rattle.quota_blocks.specs.Unsynced.{Names, with_name}
-use Rattle.quota_blocks.specs.World.{World, overwritten, with_bytes, with_file}
-use Rattle.quota_blocks.proofs.UnsyncedLemmas.{with_name-again}
-use Rattle.quota_blocks.proofs.WorldLemmas.{with_file-again, with_file-at}
+use Rattle.file_blocks.specs.Block.{bytes_of}
+use Rattle.outside.specs.Count.{counted}
+use Rattle.outside.specs.Unsynced.{Names, with_name}
+use Rattle.outside.specs.World.{World, overwritten, with_bytes, with_file}
+use Rattle.outside.proofs.UnsyncedLemmas.{with_name-again}
+use Rattle.outside.proofs.WorldLemmas.{with_file-again, with_file-at}
 use Rattle.quota_pages.specs.Overlay.{whole_block, with_block}
 use Rattle.quota_pages.specs.Flushed.{IsPartlyFlushed, counted_by, flushed_files, flushed_names}
 use Rattle.quota_pages.specs.Page.{Page, is_some_lent, lent_count, shown, with_page}

@@ -5,7 +5,7 @@ use Rattle.std.proofs.lemmas.Bool.{cases_lt, cond-false, cond_both, eqb-true, an
 use Rattle.std.proofs.lemmas.List.Sums.{sum_by-cons}
 use Rattle.quota_types.specs.Times.{StandsIn, times}
 use Rattle.quota_types.proofs.TimesLemmas.{length_of_times, times-append, times-cons}
-use Rattle.quota_blocks.specs.Seen.{StoreSeen}
+use Rattle.outside.specs.Seen.{StoreSeen}
 use Rattle.quota_pages.specs.Page.{Page, are_distinct, is_buffered, is_lent, lent_count}
 use Rattle.quota_pages.specs.Pages.{pages_of}
 use Rattle.quota_pages.specs.Used.{LendsSome}

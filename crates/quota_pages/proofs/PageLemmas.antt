@@ -7,7 +7,7 @@ use Rattle.std.proofs.lemmas.List.{set-get_or, take-append-drop}
 use Rattle.std.proofs.lemmas.List.Elements.{All-push, All-set}
 use Rattle.std.proofs.lemmas.List.Folds.{list_any-append, list_any_at}
 use Rattle.std.proofs.lemmas.List.Sums.{fold-append, sum_by-append, sum_by-set}
-use Rattle.quota_blocks.specs.Block.{block_of}
+use Rattle.file_blocks.specs.Block.{block_of}
 use Rattle.quota_pages.specs.Overlay.{whole_block, with_block}
 use Rattle.quota_pages.specs.Page.{IsClean, Page, are_distinct, is_buffered, is_lent, lent_count, shown, with_page}
 use Rattle.quota_pages.proofs.BlockLemmas.{block_of-with_block_other, block_of-with_block_same, length-with_block, whole_block-same, with_block-again, with_block-swap}

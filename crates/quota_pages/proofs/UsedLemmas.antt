@@ -7,14 +7,14 @@ use Rattle.std.proofs.lemmas.List.{get_or_past, replicate-append-replicate, take
 use Rattle.quota_types.specs.Bytes.{byte_at, number_at}
 use Rattle.quota_types.specs.Times.{StandsIn, times}
 use Rattle.quota_types.proofs.TimesLemmas.{stands_left, stands_right, times-append, times-cons-other, times-cons-same}
-use Rattle.quota_blocks.specs.Block.{block_of, bytes_of}
-use Rattle.quota_blocks.specs.Count.{counted}
-use Rattle.quota_blocks.specs.Frame.{OnlyReads}
-use Rattle.quota_blocks.specs.Seen.{StoreSeen}
-use Rattle.quota_blocks.specs.Span.{KeepsOutside}
-use Rattle.quota_blocks.specs.World.{World}
-use Rattle.quota_blocks.proofs.FrameLemmas.{only_reads-none, only_reads-any, only_reads-less}
-use Rattle.quota_blocks.proofs.WordLemmas.{number_same, length-block_of}
+use Rattle.file_blocks.specs.Block.{block_of, bytes_of}
+use Rattle.outside.specs.Count.{counted}
+use Rattle.outside.specs.Frame.{OnlyReads}
+use Rattle.outside.specs.Seen.{StoreSeen}
+use Rattle.file_blocks.specs.Span.{KeepsOutside}
+use Rattle.outside.specs.World.{World}
+use Rattle.outside.proofs.FrameLemmas.{only_reads-none, only_reads-any, only_reads-less}
+use Rattle.file_blocks.proofs.WordLemmas.{number_same, length-block_of}
 use Rattle.quota_pages.specs.Overlay.{whole_block, with_block}
 use Rattle.quota_pages.specs.Page.{HasRoomFor, IsClean, Page, is_buffered, is_lent, lent_count, shown}
 use Rattle.quota_pages.specs.Pages.{Brings, Lent, LooksAt, StaysAsItWas, name_of, pages_of}

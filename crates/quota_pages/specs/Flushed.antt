@@ -1,9 +1,9 @@
 -- Files that the pages of a buffer are written into.
 use Rattle.std.specs.Prelude.{◌≡◌, ℕ, zero, suc, true, List, take, Some, if◌then◌else◌}
-use Rattle.quota_blocks.specs.Block.{bytes_of}
-use Rattle.quota_blocks.specs.Count.{counted}
-use Rattle.quota_blocks.specs.Unsynced.{Names, with_name}
-use Rattle.quota_blocks.specs.World.{World, with_file}
+use Rattle.file_blocks.specs.Block.{bytes_of}
+use Rattle.outside.specs.Count.{counted}
+use Rattle.outside.specs.Unsynced.{Names, with_name}
+use Rattle.outside.specs.World.{World, with_file}
 use Rattle.quota_pages.specs.Page.{Page, is_some_lent, shown}
 
 -- The files once the named one has what pages show over it. Where no page was lent for writing nothing changes; a file

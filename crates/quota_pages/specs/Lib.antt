@@ -6,10 +6,10 @@ pub mod Flushed
 pub mod Used
 pub use Rattle.quota_types.specs.Times
 pub use Rattle.quota_types.specs.Bytes
-pub use Rattle.quota_blocks.specs.Block
-pub use Rattle.quota_blocks.specs.Count
-pub use Rattle.quota_blocks.specs.Frame
-pub use Rattle.quota_blocks.specs.Seen
-pub use Rattle.quota_blocks.specs.Span
-pub use Rattle.quota_blocks.specs.Unsynced
-pub use Rattle.quota_blocks.specs.World
+pub use Rattle.file_blocks.specs.Block
+pub use Rattle.outside.specs.Count
+pub use Rattle.outside.specs.Frame
+pub use Rattle.outside.specs.Seen
+pub use Rattle.file_blocks.specs.Span
+pub use Rattle.outside.specs.Unsynced
+pub use Rattle.outside.specs.World

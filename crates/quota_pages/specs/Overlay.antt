@@ -1,6 +1,6 @@
 -- A block laid over a file. Source: `V2_DQBLKSIZE_BITS` of the kernel's `fs/quota/quotaio_v2.h`, blocks of 1,024 bytes.
 use Rattle.std.specs.Prelude.{ℕ, ◌*◌, List, ◌++◌, take, replicate}
-use Rattle.quota_blocks.specs.World.{overwritten}
+use Rattle.outside.specs.World.{overwritten}
 
 -- the 1,024 bytes of a block; bytes that are missing count as 0
 abbrev pub whole_block : List ℕ → List ℕ

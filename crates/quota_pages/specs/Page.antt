@@ -1,7 +1,7 @@
 -- Pages: blocks of a file that are kept in a buffer.
 use Rattle.std.specs.Prelude.{◌≡◌, ℕ, ◌<◌, Bool, true, false, not, ◌&&◌, ◌==◌, List, [], ◌∷◌, length, fold, count_by, All, if◌then◌else◌}
 use Rattle.std.specs.List.{list_any}
-use Rattle.quota_blocks.specs.Block.{block_of}
+use Rattle.file_blocks.specs.Block.{block_of}
 use Rattle.quota_pages.specs.Overlay.{with_block}
 
 -- a page: the number of a block in its file, the bytes that it has in the buffer, and whether it was lent for writing

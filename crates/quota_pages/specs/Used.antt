@@ -2,10 +2,10 @@
 use Rattle.std.specs.Prelude.{◌≡◌, ℕ, ◌+◌, ◌*◌, ◌<◌, ◌≤◌, Bool, true, false, IsTrue, List, length, max, if◌then◌else◌}
 use Rattle.quota_types.specs.Bytes.{number_at}
 use Rattle.quota_types.specs.Times.{StandsIn, times}
-use Rattle.quota_blocks.specs.Block.{block_of, bytes_of}
-use Rattle.quota_blocks.specs.Frame.{OnlyReads}
-use Rattle.quota_blocks.specs.Seen.{StoreSeen}
-use Rattle.quota_blocks.specs.Span.{KeepsOutside}
+use Rattle.file_blocks.specs.Block.{block_of, bytes_of}
+use Rattle.outside.specs.Frame.{OnlyReads}
+use Rattle.outside.specs.Seen.{StoreSeen}
+use Rattle.file_blocks.specs.Span.{KeepsOutside}
 use Rattle.quota_pages.specs.Page.{IsClean, Page, is_buffered, is_lent, lent_count, shown}
 use Rattle.quota_pages.specs.Pages.{name_of, pages_of}
 use Rattle.quota_pages.specs.declared.page_buffer.Pages.{Pages}

@@ -2,11 +2,11 @@
 
 ghost use Rattle.std.specs.Prelude.{◌≡◌, ◌≢◌, ◌⊎◌, ◌+◌, ◌*◌, ◌<◌, ◌≤◌, ℕ, Bool, IsTrue, true, false, IfOk, OnErr, List, [], ◌++◌, length, max};
 ghost use Rattle.quota_types.specs.Bytes.{byte_at, number_at};
-ghost use Rattle.quota_blocks.specs.Count.{Rose};
-ghost use Rattle.quota_blocks.specs.World.{World};
-ghost use Rattle.quota_blocks.specs.Seen.{StoreSeen};
+ghost use Rattle.outside.specs.Count.{Rose};
+ghost use Rattle.outside.specs.World.{World};
+ghost use Rattle.outside.specs.Seen.{StoreSeen};
 ghost use Rattle.quota_types.specs.Times.{StandsIn};
-ghost use Rattle.quota_blocks.specs.Block.{block_of, bytes_of};
+ghost use Rattle.file_blocks.specs.Block.{block_of, bytes_of};
 ghost use Rattle.quota_pages.specs.Overlay.{with_block};
 ghost use Rattle.quota_pages.specs.Flushed.{IsPartlyFlushed};
 ghost use Rattle.quota_pages.specs.Page.{IsClean, Page, is_lent, shown};
@@ -15,7 +15,8 @@ ghost use Rattle.quota_pages.specs.Used.{KeepsBlocksBut, LendsSome, LooksAtSome,
 ghost use Rattle.quota_pages.specs.declared.page_buffer.Pages.{Pages as Buffer};
 
 use crate::Pages;
-use quota_blocks::{Store, StoreFault, le32, set_le32};
+use file_blocks::{le32, set_le32};
+use outside::{Store, StoreFault};
 
 /// A file with a block laid over it has that block under its number, all other bytes as before, and the length of the
 /// file, or up to the end of that block where that is greater.

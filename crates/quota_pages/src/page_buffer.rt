@@ -4,7 +4,8 @@ ghost use Rattle.quota_pages.specs.Page.{are_distinct};
 
 use crate::held_blocks::{Held, ROOM};
 use crate::page_write::write_pages;
-use quota_blocks::{Store, StoreFault, le32, read_block, set_le32};
+use file_blocks::{le32, read_block, set_le32};
+use outside::{Store, StoreFault};
 
 /// A buffer of up to twelve blocks of one file, of 1,024 bytes each. Bytes past the end of the file are 0.
 #[derive(Drop)]
@@ -22,10 +23,10 @@ impl Pages {
     ghost use Rattle.std.specs.Borrow.{sem};
     ghost use Rattle.std.specs.String.{string_bytes};
     ghost use Rattle.arrayvec.specs.ArrayVec.{array_vec_len};
-    ghost use Rattle.quota_blocks.specs.Count.{Rose, counted};
-    ghost use Rattle.quota_blocks.specs.Frame.{ChangesOne, OnlyReads};
-    ghost use Rattle.quota_blocks.specs.Unsynced.{AddsNone};
-    ghost use Rattle.quota_blocks.specs.Block.{block_of};
+    ghost use Rattle.outside.specs.Count.{Rose, counted};
+    ghost use Rattle.outside.specs.Frame.{ChangesOne, OnlyReads};
+    ghost use Rattle.outside.specs.Unsynced.{AddsNone};
+    ghost use Rattle.file_blocks.specs.Block.{block_of};
     ghost use Rattle.quota_pages.specs.Flushed.{IsPartlyFlushed, counted_by, flushed_files, flushed_names};
     ghost use Rattle.quota_pages.specs.Page.{HasRoomFor, IsClean, is_buffered, is_lent, is_some_lent, lent_count, shown};
     ghost use Rattle.quota_types.specs.Bytes.{number_at};

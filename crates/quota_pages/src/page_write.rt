@@ -1,13 +1,13 @@
 ghost use Rattle.std.specs.Prelude.{◌≡◌, ◌⊎◌, ◌+◌, ◌≤◌, ◌∷◌, [], length, true, false, IsTrue, IsOk, OnOk, OnErr, if◌then◌else◌};
-ghost use Rattle.quota_blocks.specs.Count.{Rose, counted};
-ghost use Rattle.quota_blocks.specs.Frame.{ChangesOne};
-ghost use Rattle.quota_blocks.specs.Unsynced.{with_name};
+ghost use Rattle.outside.specs.Count.{Rose, counted};
+ghost use Rattle.outside.specs.Frame.{ChangesOne};
+ghost use Rattle.outside.specs.Unsynced.{with_name};
 ghost use Rattle.quota_pages.specs.Flushed.{IsPartlyFlushed, counted_by, flushed_files, flushed_names};
 ghost use Rattle.quota_pages.specs.Held.{pages_in};
 ghost use Rattle.quota_pages.specs.Page.{is_some_lent, lent_count};
 
 use crate::held_blocks::Held;
-use quota_blocks::{Store, StoreFault};
+use outside::{Store, StoreFault};
 
 /// Writes each held block that was lent for writing into a file.
 pub(crate) fn write_pages<S: Store>(

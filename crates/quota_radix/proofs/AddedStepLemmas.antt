@@ -5,7 +5,7 @@ use Rattle.std.proofs.lemmas.List.{append_assoc, append-nil}
 use Rattle.std.proofs.lemmas.List.Elements.{All-cons, All-append, All-nil}
 use Rattle.std.proofs.lemmas.Bool.{cases_eq}
 use Rattle.quota_radix.specs.declared.tree_path.TreePath.{TreePath}
-use Rattle.quota_blocks.specs.Block.{block_of, word_at, leads}
+use Rattle.file_blocks.specs.Block.{block_of, word_at, leads}
 use Rattle.quota_types.specs.declared.damage.DamageKind.TheVariants.{EmptyTree}
 use Rattle.quota_radix.specs.Levels.{AreWithin, IsLevelDefect, IsWhole}
 use Rattle.quota_radix.specs.TreeDefect.{IsEmpty}

@@ -9,7 +9,7 @@ use Rattle.std.proofs.lemmas.Option.{none-some, same_Some}
 use Rattle.quota_types.specs.declared.damage.Damage.{Damage}
 use Rattle.quota_types.specs.declared.damage.DamageKind.TheVariants.{RefOut}
 use Rattle.quota_types.proofs.TimesLemmas.{range_with_len-add}
-use Rattle.quota_blocks.specs.Block.{word_at, leads}
+use Rattle.file_blocks.specs.Block.{word_at, leads}
 use Rattle.quota_radix.specs.Descent.{block_led_to, leaf_block, led_by}
 use Rattle.quota_radix.specs.Digits.{digits_of}
 use Rattle.quota_radix.specs.Way.{IsInsideOnWay, IsOutOnWay, block_on_way, blocks_on_way, digit_on_way}

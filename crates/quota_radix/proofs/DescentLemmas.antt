@@ -7,7 +7,7 @@ use Rattle.std.proofs.lemmas.List.Concat.{flat_map-append}
 use Rattle.std.specs.List.{cons_option, filter_map, flat_map, range_with_len}
 use Rattle.std.specs.Option.{option_or}
 use Rattle.quota_radix.specs.declared.tree_path.TreePath.{TreePath}
-use Rattle.quota_blocks.specs.Block.{word_at, leads}
+use Rattle.file_blocks.specs.Block.{word_at, leads}
 use Rattle.quota_radix.specs.Descent.{block_led_to, leaf_block, leaf_from, led_by, path_from, paths_below}
 use Rattle.quota_radix.specs.Tree.{leaves, paths, step, steps}
 use Rattle.quota_radix.proofs.OrderLemmas.{rises_bound}

@@ -8,12 +8,12 @@ use Rattle.std.proofs.lemmas.Bool.{cases_lt, lt-ltb}
 use Rattle.quota_types.specs.declared.damage.Damage.{Damage}
 use Rattle.quota_types.specs.declared.damage.DamageKind.{DamageKind}
 use Rattle.quota_types.specs.declared.damage.DamageKind.TheVariants.{RefOut, EmptyTree}
-use Rattle.quota_blocks.specs.declared.check_fault.CheckFault.{CheckFault}
-use Rattle.quota_blocks.specs.declared.check_fault.CheckFault.TheVariants.{Store, Damage as Damaged, Memory}
+use Rattle.file_blocks.specs.declared.check_fault.CheckFault.{CheckFault}
+use Rattle.file_blocks.specs.declared.check_fault.CheckFault.TheVariants.{Store, Damage as Damaged, Memory}
 use Rattle.quota_radix.specs.declared.tree_path.TreePath.{TreePath}
-use Rattle.quota_blocks.specs.BlockSet.{AreFlagsOf}
-use Rattle.quota_blocks.specs.CheckFault.{IsCheckFault, IsStepFault}
-use Rattle.quota_blocks.specs.Block.{bytes_of, leads}
+use Rattle.file_blocks.specs.BlockSet.{AreFlagsOf}
+use Rattle.file_blocks.specs.CheckFault.{IsCheckFault, IsStepFault}
+use Rattle.file_blocks.specs.Block.{bytes_of, leads}
 use Rattle.quota_types.specs.Times.{StandsIn, StandsTwiceIn, times}
 use Rattle.quota_radix.specs.Levels.{AreTreeBlocksWhole, AreWithin, IsBlockDefect, IsLevelDefect, IsSecondRole, IsTreeFault, IsTreeFaultOf, IsWhole}
 use Rattle.quota_radix.specs.Tree.{blocks_of, level, lower_blocks, paths, steps, tree_blocks}

@@ -9,7 +9,7 @@ use Rattle.quota_types.specs.Times.{StandsIn}
 use Rattle.quota_types.specs.declared.damage.Damage.{Damage}
 use Rattle.quota_types.specs.declared.damage.DamageKind.{DamageKind}
 use Rattle.quota_types.specs.declared.damage.DamageKind.TheVariants.{RefOut}
-use Rattle.quota_blocks.specs.Block.{word_at, leads}
+use Rattle.file_blocks.specs.Block.{word_at, leads}
 use Rattle.quota_radix.specs.declared.tree_path.TreePath.{TreePath}
 use Rattle.quota_radix.specs.Descent.{block_led_to, later_steps, led_by, path_from, paths_below, with_digits}
 use Rattle.quota_radix.specs.Digits.{id_of}

@@ -2,7 +2,7 @@
 use Rattle.std.proofs.Common.{◌≡◌, ℕ, ◌/◌, ◌%◌, ◌^◌, ◌<◌, Bool, true, cond, ◌==◌, List, [], ◌∷◌, find, Option, Some, None, option_and_then, option_map, sym, ap, ◌∙◌, inl, inr, arith}
 use Rattle.std.proofs.lemmas.Bool.{cases_Bool, cases_lt, eqb-true}
 use Rattle.quota_radix.specs.declared.tree_path.TreePath.{TreePath}
-use Rattle.quota_blocks.specs.Block.{leads, word_at}
+use Rattle.file_blocks.specs.Block.{leads, word_at}
 use Rattle.quota_radix.proofs.StepLemmas.{leads_on}
 use Rattle.quota_radix.specs.Descent.{IsLowest, block_led_to, leaf_block, leaf_from, led_by}
 use Rattle.quota_radix.specs.Tree.{leaves}

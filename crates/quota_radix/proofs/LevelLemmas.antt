@@ -4,16 +4,16 @@ use Rattle.std.proofs.lemmas.List.{append-nil, take_more}
 use Rattle.std.proofs.lemmas.List.Concat.{flat_map-append}
 use Rattle.std.specs.List.{flat_map}
 use Rattle.quota_types.specs.declared.damage.Damage.{Damage}
-use Rattle.quota_blocks.specs.declared.check_fault.CheckFault.{CheckFault}
-use Rattle.quota_blocks.specs.declared.check_fault.CheckFault.TheVariants.{Store, Damage as Damaged, Memory}
+use Rattle.file_blocks.specs.declared.check_fault.CheckFault.{CheckFault}
+use Rattle.file_blocks.specs.declared.check_fault.CheckFault.TheVariants.{Store, Damage as Damaged, Memory}
 use Rattle.std.specs.Prelude.{Bool}
 use Rattle.quota_radix.specs.declared.tree_path.TreePath.{TreePath}
-use Rattle.quota_blocks.specs.CheckFault.{IsCheckFault, IsStepFault}
-use Rattle.quota_blocks.specs.Block.{bytes_of, block_of}
+use Rattle.file_blocks.specs.CheckFault.{IsCheckFault, IsStepFault}
+use Rattle.file_blocks.specs.Block.{bytes_of, block_of}
 use Rattle.quota_types.specs.Times.{StandsIn}
 use Rattle.quota_radix.specs.Levels.{IsLevelDefect}
 use Rattle.quota_radix.specs.Tree.{blocks_of, steps}
-use Rattle.quota_blocks.proofs.MarkedLemmas.{stands_mapped}
+use Rattle.file_blocks.proofs.MarkedLemmas.{stands_mapped}
 use Rattle.quota_types.proofs.TimesLemmas.{only_one}
 
 -- a damage of one block of a level is one of the level

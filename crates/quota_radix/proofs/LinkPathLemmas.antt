@@ -7,7 +7,7 @@ use Rattle.std.proofs.lemmas.List.Concat.{flat_map-append}
 use Rattle.std.proofs.lemmas.Option.{none-some, same_Some}
 use Rattle.quota_types.specs.Bytes.{number_at}
 use Rattle.quota_types.specs.Times.{StandsIn, times}
-use Rattle.quota_blocks.specs.Block.{block_of, word_at, leads}
+use Rattle.file_blocks.specs.Block.{block_of, word_at, leads}
 use Rattle.quota_pages.specs.Used.{HasWord}
 use Rattle.quota_radix.specs.declared.tree_path.TreePath.{TreePath}
 use Rattle.quota_radix.specs.Descent.{block_led_to, led_by}
@@ -15,7 +15,7 @@ use Rattle.quota_radix.specs.Link.{GainsBlocks, HasWay, path_along}
 use Rattle.quota_radix.specs.Tree.{blocks_of, level, paths, steps, tree_blocks}
 use Rattle.quota_types.proofs.TimesLemmas.{times-append, times-cons-same}
 use Rattle.quota_types.proofs.BytesLemmas.{number_at-zeros}
-use Rattle.quota_blocks.proofs.WordLemmas.{number_same}
+use Rattle.file_blocks.proofs.WordLemmas.{number_same}
 use Rattle.quota_radix.proofs.PathLemmas.{Rises, Rises-paths}
 use Rattle.quota_radix.proofs.DescentLemmas.{path_led_to}
 use Rattle.quota_radix.proofs.DownLemmas.{blocks_above, times_above, times_in_tree}

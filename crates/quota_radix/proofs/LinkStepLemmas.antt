@@ -7,7 +7,7 @@ use Rattle.std.proofs.lemmas.List.{append_assoc, append-nil, map-append}
 use Rattle.std.proofs.lemmas.List.Concat.{flat_map-append}
 use Rattle.std.proofs.lemmas.List.Elements.{filter-append, filter_map-append}
 use Rattle.quota_radix.specs.declared.tree_path.TreePath.{TreePath}
-use Rattle.quota_blocks.specs.Block.{block_of, word_at, leads}
+use Rattle.file_blocks.specs.Block.{block_of, word_at, leads}
 use Rattle.quota_types.specs.Times.{StandsIn, times}
 use Rattle.quota_radix.specs.Link.{with_path}
 use Rattle.quota_radix.specs.Tree.{blocks_of, steps}

@@ -5,7 +5,7 @@ use Rattle.std.proofs.lemmas.Bool.{cases_lt}
 use Rattle.std.proofs.lemmas.List.{ext_get_or, get_or-append-add, get_or-drop, get_or-take, get_or_append_left, get_or_at, take_more}
 use Rattle.std.proofs.lemmas.List.FromFn.{get_or-map-range_with_len, length-map-range_with_len}
 use Rattle.quota_types.specs.Times.{StandsIn, times}
-use Rattle.quota_blocks.specs.Block.{leads}
+use Rattle.file_blocks.specs.Block.{leads}
 use Rattle.quota_radix.specs.Descent.{block_led_to}
 use Rattle.quota_radix.specs.Link.{AreBuffered, AreDistinct, IsLinkable, LeadsAlong, changed_blocks, path_along, whole_way}
 use Rattle.quota_radix.specs.declared.tree_path.TreePath.{TreePath}

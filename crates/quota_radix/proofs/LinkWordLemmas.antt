@@ -3,7 +3,7 @@ use Rattle.std.proofs.Common.{◌≡◌, ◌≢◌, ℕ, suc, ◌+◌, ◌-◌, 
 use Rattle.std.proofs.lemmas.Bool.{cases_eq, cases_lt}
 use Rattle.std.proofs.lemmas.List.{get_or-drop, take_more}
 use Rattle.quota_types.specs.Times.{times}
-use Rattle.quota_blocks.specs.Block.{block_of}
+use Rattle.file_blocks.specs.Block.{block_of}
 use Rattle.quota_pages.specs.Used.{HasWord, KeepsBlocksBut}
 use Rattle.quota_pages.proofs.UsedLemmas.{HasWord-earlier, HasWord-later}
 use Rattle.quota_radix.specs.Link.{AreDistinct}

@@ -7,7 +7,7 @@ use Rattle.std.proofs.lemmas.Bool.{cases_eq}
 use Rattle.quota_types.specs.Bytes.{number_at}
 use Rattle.quota_types.specs.declared.damage.Damage.{Damage}
 use Rattle.quota_types.specs.declared.damage.DamageKind.TheVariants.{RefOut, EmptyTree}
-use Rattle.quota_blocks.specs.Block.{block_of, leads, word_at}
+use Rattle.file_blocks.specs.Block.{block_of, leads, word_at}
 use Rattle.quota_radix.specs.declared.tree_path.TreePath.{TreePath}
 use Rattle.quota_radix.specs.Descent.{later_steps, leaf_from, path_from, paths_below, with_digits}
 use Rattle.quota_radix.specs.Digits.{id_of}

@@ -4,10 +4,10 @@ use Rattle.std.specs.List.{cons_option, range_with_len, AllByRecursion}
 use Rattle.std.proofs.lemmas.Bool.{cases_Bool, eq-eqb, le-leb, leb-true}
 use Rattle.std.proofs.lemmas.Bool.Decides.{eqb_tells}
 use Rattle.quota_radix.specs.declared.tree_path.TreePath.{TreePath}
-use Rattle.quota_blocks.specs.Block.{word_at, leads}
+use Rattle.file_blocks.specs.Block.{word_at, leads}
 use Rattle.quota_types.specs.Times.{StandsIn, times}
 use Rattle.quota_radix.specs.Tree.{data_blocks, ids_at, is_data, leaves, level, paths, step, steps}
-use Rattle.quota_blocks.proofs.LeadsLemmas.{leads_within}
+use Rattle.file_blocks.proofs.LeadsLemmas.{leads_within}
 use Rattle.quota_types.proofs.TimesLemmas.{times-cons, times-cons-other, times-cons-same, times-filter-no, times-filter-yes, times-range-within, times_cases}
 use Rattle.quota_types.proofs.ListLemmas.{AllByRecursion-weaker}
 

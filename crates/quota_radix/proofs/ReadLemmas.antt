@@ -2,12 +2,12 @@
 use Rattle.std.proofs.Common.{ℕ, ◌+◌, ◌≤◌, Bool, List, [], ◌++◌, length, sym, subst, arith, Result, Ok, Err, append_assoc, append-nil, length-append}
 use Rattle.std.specs.Prelude.{OnOk}
 use Rattle.std.proofs.lemmas.List.{length-map}
-use Rattle.quota_blocks.specs.declared.check_fault.CheckFault.{CheckFault}
+use Rattle.file_blocks.specs.declared.check_fault.CheckFault.{CheckFault}
 use Rattle.quota_radix.specs.declared.tree_path.TreePath.{TreePath}
-use Rattle.quota_blocks.specs.BlockSet.{AreFlagsOf}
+use Rattle.file_blocks.specs.BlockSet.{AreFlagsOf}
 use Rattle.quota_radix.specs.Tree.{blocks_of}
 use Rattle.quota_radix.specs.Reads.{AreMarkedReads}
-use Rattle.quota_blocks.proofs.MarkedLemmas.{marked_fit}
+use Rattle.file_blocks.proofs.MarkedLemmas.{marked_fit}
 
 -- nor with those of a level
 pub level_fits : (blocks : ℕ) (flags : List Bool) (numbers : List ℕ) (level : List TreePath) → AreFlagsOf blocks flags (numbers ++ blocks_of level)

@@ -6,8 +6,8 @@ use Rattle.std.proofs.lemmas.Bool.{cases_Bool, cases_eq, false≢true, lt-ltb}
 use Rattle.std.proofs.lemmas.Bool.Decides.{nat_tests}
 use Rattle.quota_types.specs.Bytes.{number_at}
 use Rattle.quota_radix.specs.declared.tree_path.TreePath.{TreePath}
-use Rattle.quota_blocks.specs.Block.{block_of, leads}
-use Rattle.quota_blocks.proofs.LeadsLemmas.{leads_within}
+use Rattle.file_blocks.specs.Block.{block_of, leads}
+use Rattle.file_blocks.proofs.LeadsLemmas.{leads_within}
 use Rattle.quota_radix.specs.Tree.{steps}
 
 -- the reference at a digit's place in a block of these bytes

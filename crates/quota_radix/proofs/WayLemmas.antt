@@ -8,7 +8,7 @@ use Rattle.std.specs.Option.{option_or}
 use Rattle.quota_types.specs.declared.damage.Damage.{Damage}
 use Rattle.quota_types.specs.declared.damage.DamageKind.TheVariants.{RefOut, EmptyTree}
 use Rattle.quota_radix.specs.declared.tree_path.TreePath.{TreePath}
-use Rattle.quota_blocks.specs.Block.{word_at, leads}
+use Rattle.file_blocks.specs.Block.{word_at, leads}
 use Rattle.quota_types.specs.Times.{StandsIn, times}
 use Rattle.quota_radix.specs.Descent.{later_steps, path_from}
 use Rattle.quota_radix.specs.Lookup.{IsOnWay, IsWayFault}

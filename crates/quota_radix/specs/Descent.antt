@@ -4,7 +4,7 @@ use Rattle.std.specs.Prelude.{◌≡◌, ℕ, zero, suc, ◌+◌, ◌-◌, ◌*�
 use Rattle.std.specs.List.{filter_map, flat_map, range_with_len}
 use Rattle.std.specs.Option.{option_and_then}
 use Rattle.quota_radix.specs.declared.tree_path.TreePath.{TreePath}
-use Rattle.quota_blocks.specs.Block.{word_at, leads}
+use Rattle.file_blocks.specs.Block.{word_at, leads}
 use Rattle.quota_radix.specs.Tree.{leaves, step, steps}
 
 -- the block to which a digit leads from a block of the tree, or none

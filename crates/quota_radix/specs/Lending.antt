@@ -1,6 +1,6 @@
 -- What holds of a file that lends its blocks one at a time, whatever keeps them at hand.
 use Rattle.std.specs.Prelude.{◌≡◌, ℕ, ◌+◌, ◌≤◌, List}
-use Rattle.quota_blocks.specs.Seen.{StoreSeen}
+use Rattle.outside.specs.Seen.{StoreSeen}
 
 -- What is said of blocks that were looked at holds of no block, and of looks one after another. What was known still is, and it
 -- is what was shown before; no more blocks are kept than before and those that were looked at, and none is missing that was not;

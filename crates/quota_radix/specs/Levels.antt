@@ -4,7 +4,7 @@ use Rattle.quota_types.specs.declared.damage.Damage.{Damage}
 use Rattle.quota_types.specs.declared.damage.DamageKind.{DamageKind}
 use Rattle.quota_types.specs.declared.damage.DamageKind.TheVariants.{RefOut, EmptyTree, TwoRoles}
 use Rattle.quota_radix.specs.declared.tree_path.TreePath.{TreePath}
-use Rattle.quota_blocks.specs.Block.{word_at, leads}
+use Rattle.file_blocks.specs.Block.{word_at, leads}
 use Rattle.quota_types.specs.Times.{StandsIn, StandsTwiceIn}
 use Rattle.quota_radix.specs.TreeDefect.{IsEmptyTree, IsRefOut, IsEmpty}
 use Rattle.quota_radix.specs.Tree.{lower_blocks, tree_blocks}

@@ -2,7 +2,7 @@
 use Rattle.std.specs.Prelude.{◌≡◌, ℕ, suc, ◌-◌, ◌+◌, ◌*◌, ◌/◌, ◌^◌, ◌<◌, ◌≤◌, nat_lt, true, IsTrue, List, [], ◌∷◌, ◌++◌, length, replicate, slice_index}
 use Rattle.std.specs.List.{filter}
 use Rattle.quota_types.specs.Times.{StandsIn, times}
-use Rattle.quota_blocks.specs.Block.{block_of, leads}
+use Rattle.file_blocks.specs.Block.{block_of, leads}
 use Rattle.quota_pages.specs.Page.{Page, is_buffered}
 use Rattle.quota_pages.specs.Used.{HasWord}
 use Rattle.quota_radix.specs.declared.tree_path.TreePath.{TreePath}

@@ -1,6 +1,6 @@
 -- What may be wrong with a block of the tree. Source: the rules of `fs/quota/quota_tree.c`, each turned round.
 use Rattle.std.specs.Prelude.{◌≡◌, ℕ, ◌<◌, List, ◌≤◌}
-use Rattle.quota_blocks.specs.Block.{word_at}
+use Rattle.file_blocks.specs.Block.{word_at}
 use Rattle.quota_types.specs.Times.{StandsIn}
 use Rattle.quota_radix.specs.Tree.{lower_blocks, tree_blocks}
 

@@ -4,7 +4,7 @@ use Rattle.std.specs.Prelude.{◌≡◌, ℕ, ◌-◌, ◌/◌, ◌%◌, ◌^◌
 use Rattle.std.specs.List.{filter_map, range_with_len}
 use Rattle.std.specs.Option.{option_map}
 use Rattle.quota_radix.specs.declared.tree_path.TreePath.{TreePath}
-use Rattle.quota_blocks.specs.Block.{leads, word_at}
+use Rattle.file_blocks.specs.Block.{leads, word_at}
 use Rattle.quota_radix.specs.Descent.{block_led_to}
 
 -- the block to which the first digits of an identifier lead, so many of them, or none

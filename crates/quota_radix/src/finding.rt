@@ -1,6 +1,6 @@
 ghost use Rattle.std.specs.Prelude.{◌≡◌, ◌+◌, ◌<◌, ◌≤◌, length, slice_get, IfErr, IfOk, OnOk};
-ghost use Rattle.quota_blocks.specs.Block.{word_at};
-ghost use Rattle.quota_blocks.specs.Unsynced.{AddsNone};
+ghost use Rattle.file_blocks.specs.Block.{word_at};
+ghost use Rattle.outside.specs.Unsynced.{AddsNone};
 ghost use Rattle.quota_types.specs.declared.damage.DamageKind.TheVariants.{RefOut};
 ghost use Rattle.quota_pages.specs.Pages.{pages_of};
 ghost use Rattle.quota_pages.specs.Used.{IsKnown, LooksAtSome, shown_over};
@@ -12,7 +12,7 @@ use crate::lending::LendsBlocks;
 use crate::levels::ROOT;
 use crate::{Path, WalkFault, digits, level_ref};
 use arrayvec::ArrayVec;
-use quota_blocks::Store;
+use outside::Store;
 use quota_pages::Pages;
 use quota_types::{DamageKind, damage_at};
 

@@ -1,9 +1,9 @@
 ghost use Rattle.std.specs.Prelude.{◌≡◌, ◌+◌, ◌-◌, ◌*◌, ◌^◌, ◌<◌, ◌≤◌, ℕ, List, suc, length, true, IfErr, IfNone, IfOk, IfSome, OnOk, Some};
 ghost use Rattle.std.specs.List.{flat_map};
 ghost use Rattle.std.specs.Option.{option_map};
-ghost use Rattle.quota_blocks.specs.Block.{block_of, word_at};
-ghost use Rattle.quota_blocks.specs.QuotaValue.{IsAfter};
-ghost use Rattle.quota_blocks.specs.Unsynced.{AddsNone};
+ghost use Rattle.file_blocks.specs.Block.{block_of, word_at};
+ghost use Rattle.quota_types.specs.Ids.{IsAfter};
+ghost use Rattle.outside.specs.Unsynced.{AddsNone};
 ghost use Rattle.quota_types.specs.declared.damage.DamageKind.TheVariants.{RefOut};
 ghost use Rattle.quota_pages.specs.Page.{is_buffered};
 ghost use Rattle.quota_pages.specs.Pages.{pages_of};
@@ -20,7 +20,7 @@ use crate::finding::reference_in;
 use crate::lending::LendsBlocks;
 use crate::levels::ROOT;
 use crate::{TreePath, WalkFault, digits, level_ref};
-use quota_blocks::Store;
+use outside::Store;
 use quota_pages::Pages;
 use quota_types::{Damage, DamageKind, damage_at};
 

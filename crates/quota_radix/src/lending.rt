@@ -1,12 +1,12 @@
 ghost use Rattle.std.specs.Prelude.{◌≡◌, ◌+◌, ◌<◌, ◌≤◌, ℕ, List, IfOk, OnOk, OnErr};
 ghost use Rattle.std.specs.Fn.{FnOnceReturnsAt};
-ghost use Rattle.quota_blocks.specs.Block.{block_of};
-ghost use Rattle.quota_blocks.specs.Count.{Rose};
-ghost use Rattle.quota_blocks.specs.Seen.{StoreSeen};
-ghost use Rattle.quota_blocks.specs.Unsynced.{AddsNone};
+ghost use Rattle.file_blocks.specs.Block.{block_of};
+ghost use Rattle.outside.specs.Count.{Rose};
+ghost use Rattle.outside.specs.Seen.{StoreSeen};
+ghost use Rattle.outside.specs.Unsynced.{AddsNone};
 ghost use Rattle.quota_radix.specs.Lending.{LendsWell};
 
-use quota_blocks::{Store, StoreFault};
+use outside::{Store, StoreFault};
 use quota_pages::Pages;
 
 /// A file of blocks of 1,024 bytes, which lends them one at a time.

@@ -1,14 +1,15 @@
 ghost use Rattle.std.specs.Prelude.{◌≡◌, ◌<◌, ◌≤◌, ◌+◌, ◌*◌, ◌==◌, if◌then◌else◌, ◌^◌, ◌++◌, ◌∷◌, [], ℕ, List, length, All, IsTrue, OnOk, IfOk, IfErr, is_ok};
 ghost use Rattle.std.specs.List.{flat_map};
-ghost use Rattle.quota_blocks.specs.Frame.{OnlyReads};
+ghost use Rattle.outside.specs.Frame.{OnlyReads};
 ghost use Rattle.quota_radix.specs.declared.tree_path.TreePath.{TreePath};
-ghost use Rattle.quota_blocks.specs.Block.{block_of, bytes_of};
-ghost use Rattle.quota_blocks.specs.CheckFault.{IsCheckFault, IsStepFault};
+ghost use Rattle.file_blocks.specs.Block.{block_of, bytes_of};
+ghost use Rattle.file_blocks.specs.CheckFault.{IsCheckFault, IsStepFault};
 ghost use Rattle.quota_radix.specs.Levels.{AreWithin, IsLevelDefect, IsWhole};
 ghost use Rattle.quota_radix.specs.Tree.{blocks_of, steps};
 
 use crate::{TreePath, level_ref};
-use quota_blocks::{CheckFault, Store, read_block};
+use file_blocks::{CheckFault, read_block};
+use outside::Store;
 use quota_types::{DamageKind, damage_at};
 use std::alloc::{AllocError, Global};
 

@@ -1,7 +1,7 @@
 ghost use Rattle.std.specs.Prelude.{◌≡◌, ◌+◌, ◌*◌, ◌-◌, ◌<◌, ◌≤◌, ◌++◌, ◌∷◌, [], ℕ, suc, true, length, slice_index, take, drop, IsOk, OnOk, OnErr, IsTrue};
 ghost use Rattle.arrayvec.specs.ArrayVec.{array_vec_len};
-ghost use Rattle.quota_blocks.specs.Count.{Rose};
-ghost use Rattle.quota_blocks.specs.Unsynced.{AddsNone};
+ghost use Rattle.outside.specs.Count.{Rose};
+ghost use Rattle.outside.specs.Unsynced.{AddsNone};
 ghost use Rattle.quota_pages.specs.Page.{is_buffered};
 ghost use Rattle.quota_pages.specs.Pages.{pages_of};
 ghost use Rattle.quota_pages.specs.Used.{IsKnown, LendsSome, LooksAtSome, shown_over};
@@ -10,7 +10,7 @@ ghost use Rattle.quota_radix.specs.Link.{AreBuffered, AreDistinct, GainsBlocks, 
 ghost use Rattle.quota_radix.specs.Tree.{leaves};
 
 use crate::{Path, digits};
-use quota_blocks::{Store, StoreFault};
+use outside::{Store, StoreFault};
 use quota_pages::Pages;
 
 /// Adds the leaf of an identifier to the tree: in the last block of `path` the reference by the identifier's next digit

@@ -1,6 +1,6 @@
 ghost use Rattle.std.specs.Prelude.{◌≡◌, ◌≢◌, ◌+◌, ◌*◌, ◌/◌, ◌%◌, ◌<◌, ◌≤◌, ℕ, length, None, Some, IfErr, IfNone, IfOk, IfSome};
 ghost use Rattle.std.specs.Fn.{FnOnceReturnsAt};
-ghost use Rattle.quota_blocks.specs.Block.{block_of};
+ghost use Rattle.file_blocks.specs.Block.{block_of};
 ghost use Rattle.quota_radix.specs.Descent.{IsLowest, block_led_to, leaf_block, leaf_from, led_by};
 ghost use Rattle.quota_radix.specs.declared.tree_path.TreePath.{TreePath};
 ghost use Rattle.quota_radix.specs.Lookup.{IsWayFault};
@@ -11,7 +11,8 @@ use crate::following::first_leaf_in;
 use crate::lending::LendsBlocks;
 use crate::levels::ROOT;
 use crate::{TreePath, WalkFault, level_ref};
-use quota_blocks::{StoreFault, block_of, whole_block};
+use file_blocks::{block_of, whole_block};
+use outside::StoreFault;
 use quota_types::Damage;
 
 /// The bytes of a loaded file, all of which are at hand, so that no store is asked for any.

@@ -1,16 +1,17 @@
 ghost use Rattle.std.specs.Prelude.{◌≡◌, ◌≤◌, ◌+◌, ◌*◌, ◌^◌, ◌⊎◌, ◌++◌, ℕ, List, length, All, IsTrue, OnOk, IfOk, IfErr, is_ok};
 ghost use Rattle.std.specs.List.{flat_map};
-ghost use Rattle.quota_blocks.specs.Frame.{OnlyReads};
-ghost use Rattle.quota_blocks.specs.BlockSet.{AreFlagsOf};
-ghost use Rattle.quota_blocks.specs.CheckFault.{IsCheckFault, IsStepFault};
-ghost use Rattle.quota_blocks.specs.Block.{bytes_of};
+ghost use Rattle.outside.specs.Frame.{OnlyReads};
+ghost use Rattle.file_blocks.specs.BlockSet.{AreFlagsOf};
+ghost use Rattle.file_blocks.specs.CheckFault.{IsCheckFault, IsStepFault};
+ghost use Rattle.file_blocks.specs.Block.{bytes_of};
 ghost use Rattle.quota_radix.specs.Levels.{AreTreeBlocksWhole, AreWithin, IsLevelDefect, IsSecondRole, IsTreeFault, IsWhole};
 ghost use Rattle.quota_radix.specs.Tree.{blocks_of, leaves, steps, tree_blocks};
 ghost use Rattle.quota_radix.specs.Reads.{AreMarkedReads};
 
 use crate::TreePath;
 use crate::levels::{ROOT, next_level};
-use quota_blocks::{BlockSet, CheckFault, Store};
+use file_blocks::{BlockSet, CheckFault};
+use outside::Store;
 use quota_types::{DamageKind, damage_at};
 use std::alloc::Global;
 

@@ -1,7 +1,7 @@
 ghost use Rattle.std.specs.Prelude.{◌≡◌};
 ghost use Rattle.quota_radix.specs.declared.walk_fault.WalkFault.TheVariants.{Store as StoreFailed, Damage as Damaged};
 
-use quota_blocks::StoreFault;
+use outside::StoreFault;
 use quota_types::Damage;
 
 /// Why a walk down the tree of a file was refused.

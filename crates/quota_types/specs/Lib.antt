@@ -1,6 +1,7 @@
 pub mod Bytes
 pub mod Damage
 pub mod Field
+pub mod Ids
 pub mod Kept
 pub mod Range
 pub mod Rec

@@ -10,14 +10,15 @@ use Rattle.quota_blocks.specs.FileUse.{seen_in}
 use Rattle.quota_blocks.specs.Frame.{IsSynced, OnlyReads, ReplacesOne}
 use Rattle.quota_blocks.specs.QuotaFile.{CountsRefusal, UnlessStoreFailed, is_store_fault}
 use Rattle.quota_blocks.specs.QuotaValue.{QuotaValue}
-use Rattle.quota_blocks.specs.Replace.{IsRewriteFault, pieces_of, replaced_files, replacement_name}
+use Rattle.quota_blocks.specs.Replace.{IsRewriteFault, pieces_of}
+use Rattle.quota_blocks.specs.Replacement.{replaced_files, replacement_name}
 use Rattle.quota_blocks.specs.Seen.{StoreSeen}
 use Rattle.quota_blocks.specs.World.{KeepsOthers, World}
 use Rattle.quota_blocks.specs.declared.file_use.FileUse.{FileUse}
 use Rattle.quota_blocks.specs.declared.quota_file.FileFault.{FileFault}
 use Rattle.quota_blocks.specs.declared.quota_file.FileFault.TheVariants.{Memory}
 use Rattle.quota_blocks.proofs.ChangesLemmas.{IsBounded, IsWanted, bounded-none, changes-anew, changes-done, changes-refused}
-use Rattle.quota_blocks.proofs.FrameLemmas.{only_reads-none}
+use Rattle.outside.proofs.FrameLemmas.{only_reads-none}
 use Rattle.quota_blocks.proofs.ReplaceLemmas.{replaced-named, replacement_name-ne, writes_anew}
 use Rattle.quota_v1.specs.Change.{FlatChanged, IsFlatChange}
 use Rattle.quota_v1.specs.FlatFile.{FlatStandsFor}

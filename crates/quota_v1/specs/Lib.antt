@@ -17,6 +17,7 @@ pub use Rattle.quota_blocks.specs.Listed
 pub use Rattle.quota_blocks.specs.QuotaFile
 pub use Rattle.quota_blocks.specs.QuotaValue
 pub use Rattle.quota_blocks.specs.Replace
+pub use Rattle.quota_blocks.specs.Replacement
 pub use Rattle.quota_blocks.specs.Seen
 pub use Rattle.quota_blocks.specs.Span
 pub use Rattle.quota_blocks.specs.Unsynced

@@ -1,7 +1,7 @@
 -- Texts that are put one after another.
 use Rattle.std.proofs.Common.{◌≡◌, ℕ, Bool, List, [], ◌++◌, IsTrue, sym, ap, subst, ◌∙◌, append_assoc, append-nil}
 use Rattle.quota_blocks.specs.Text.{AppendsPrefix, Gathers, IsGathered, WritesPrefix}
-use Rattle.quota_blocks.proofs.TextLemmas.{appends_more, appends_at_flush}
+use Rattle.outside.proofs.TextLemmas.{appends_more, appends_at_flush}
 
 -- pieces that are appended one after another, the first two pairs each as one
 pub appended_pieces : (before a b c d e : List ℕ) → before ++ (a ++ b) ++ (c ++ d) ++ e ≡ before ++ (a ++ b ++ c ++ d ++ e)

@@ -7,7 +7,7 @@ use Rattle.std.specs.Option.{option_to_list}
 use Rattle.quota_blocks.specs.Count.{Rose}
 use Rattle.quota_blocks.specs.Seen.{Datagram, LinkSeen}
 use Rattle.quota_blocks.specs.declared.quota_file.FileFault.TheVariants.{Store as CallFailed, Damage as Damaged, Full, Memory as NoMemory}
-use Rattle.quota_blocks.proofs.CountLemmas.{Rose-since}
+use Rattle.outside.proofs.CountLemmas.{Rose-since}
 use Rattle.rquota_xdr.specs.Reply.{spelling_of}
 use Rattle.rquota_xdr.specs.declared.reply.Reply.{Reply}
 use Rattle.rquota_serve.specs.Exported.{Exported}

@@ -4,7 +4,7 @@ use Rattle.std.specs.Prelude.{◌&&◌}
 use Rattle.std.proofs.lemmas.Option.{none-some}
 use Rattle.std.proofs.lemmas.Result.{IfErr-weaker, on_ok_weaker}
 use Rattle.quota_blocks.specs.World.{World}
-use Rattle.quota_blocks.proofs.FrameLemmas.{only_reads-none}
+use Rattle.outside.proofs.FrameLemmas.{only_reads-none}
 use Rattle.refusals.specs.declared.cause.Cause.{Cause}
 use Rattle.refusals.specs.declared.reason.Refusal.{Refusal}
 use Rattle.run_steps.specs.Act.{Act, Follows}

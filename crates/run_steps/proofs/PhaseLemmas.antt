@@ -26,7 +26,7 @@ use Rattle.run_steps.specs.Meaning.{EndsBy, HasBegun, IsTaken}
 use Rattle.run_steps.specs.Naming.{FileOfNamesMayRefuse, IsNamesFault, NamesMayRefuse, names_seen}
 use Rattle.run_steps.specs.Run.{CarriesOut, HasReason, HasSteps, IsDoneInPart, IsPlacedBy, Uses}
 use Rattle.run_steps.specs.Steps.{Steps, Looking, Naming, Opening, Reading, Stop, Then}
-use Rattle.quota_blocks.proofs.FrameLemmas.{only_reads-none}
+use Rattle.outside.proofs.FrameLemmas.{only_reads-none}
 use Rattle.run_steps.proofs.OpeningLemmas.{outside_same, refused_reads, refused_steps, with_input, with_store}
 use Rattle.run_steps.proofs.PartLemmas.{part_from}
 use Rattle.run_steps.proofs.ReasonLemmas.{reason_since}

@@ -8,7 +8,7 @@ use Rattle.quota_blocks.specs.Seen.{Datagram}
 use Rattle.quota_blocks.specs.World.{World, with_file}
 use Rattle.quota_blocks.specs.QuotaValue.{QuotaValue}
 use Rattle.quota_blocks.specs.declared.quota_file.OpenFault.{OpenFault}
-use Rattle.quota_blocks.proofs.WorldLemmas.{bytes_eq-ne, bytes_eq-same}
+use Rattle.outside.proofs.WorldLemmas.{bytes_eq-ne, bytes_eq-same}
 use Rattle.quota_map.specs.View.{IsView}
 use Rattle.refusals.specs.declared.reason.Refusal.{Refusal}
 use Rattle.refusals.specs.Refusals.{in_line, refusal_of}

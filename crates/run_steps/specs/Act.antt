@@ -1,6 +1,6 @@
 -- What a command does to what is outside, act by act, and how the files follow.
 use Rattle.std.specs.Prelude.{◌≡◌, ◌⊎◌, ℕ, List, [], ◌∷◌, ◌++◌, Option, Some, Ok, ⊤}
-use Rattle.quota_blocks.specs.Replace.{ReplacesOnly}
+use Rattle.quota_blocks.specs.Replacement.{ReplacesOnly}
 use Rattle.quota_blocks.specs.World.{World}
 use Rattle.quota_blocks.specs.QuotaValue.{QuotaValue}
 use Rattle.quota_map.specs.AnyFile.{AnyLeaves}

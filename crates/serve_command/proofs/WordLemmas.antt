@@ -11,7 +11,7 @@ use Rattle.quota_types.specs.declared.file_kind.Kind.{Kind}
 use Rattle.quota_types.specs.declared.file_kind.Kind.TheVariants.{User, Group}
 use Rattle.quota_blocks.specs.Numeral.{number_of}
 use Rattle.quota_blocks.specs.QuotaFile.{FileSeen}
-use Rattle.quota_blocks.proofs.WorldLemmas.{bytes_eq-true}
+use Rattle.outside.proofs.WorldLemmas.{bytes_eq-true}
 use Rattle.rquota_serve.specs.Exported.{kinds_eq, names_eq}
 use Rattle.rquota_serve.specs.Exports.{ExportSeen, is_exported as is_served, is_named}
 use Rattle.refusals.specs.declared.cause.UsageKind.TheVariants.{BadValue, BadFileName, Repeated}

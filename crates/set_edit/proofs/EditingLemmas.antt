@@ -11,7 +11,7 @@ use Rattle.quota_blocks.specs.QuotaValue.{QuotaValue}
 use Rattle.quota_blocks.specs.World.{World}
 use Rattle.quota_blocks.specs.declared.quota_file.FileFault.{FileFault}
 use Rattle.quota_blocks.specs.declared.quota_file.FileFault.TheVariants.{Store, Damage, Full, Memory}
-use Rattle.quota_blocks.proofs.FrameLemmas.{only_reads-then, replaces_one-read}
+use Rattle.outside.proofs.FrameLemmas.{only_reads-then, replaces_one-read}
 use Rattle.quota_blocks.proofs.LookupLemmas.{IsLookedUp, IsSameAt, edits_value-after, is_answer-itself}
 use Rattle.set_edit.specs.declared.fault.EditFault.{EditFault}
 use Rattle.set_edit.specs.declared.fault.EditFault.TheVariants.{File, NoRoom as Unfit}

@@ -8,7 +8,7 @@ use Rattle.quota_types.specs.declared.file_kind.Kind.{Kind}
 use Rattle.quota_types.specs.declared.record.Rec.{Rec}
 use Rattle.quota_blocks.specs.Text.{AppendsPrefix}
 use Rattle.set_edit.specs.Form.{form_columns, form_heading, form_of, id_front, name_front}
-use Rattle.quota_blocks.proofs.TextLemmas.{appends_more}
+use Rattle.outside.proofs.TextLemmas.{appends_more}
 
 -- all pieces are those up to a place, the one there, and those behind it
 pieces-at : {A : Type 0} (text : A → List ℕ) (pieces : List A) (at : ℕ) (none : A) → at < length pieces

@@ -8,10 +8,10 @@ use Rattle.quota_blocks.specs.InputLines.{line_then}
 use Rattle.quota_blocks.specs.Lines.{IsLineFault, LinesSeen, NamesLine, line_given, next_line_of}
 use Rattle.quota_blocks.specs.Numeral.{number_of}
 use Rattle.quota_blocks.specs.Words.{words_behind, words_eq, words_of}
-use Rattle.quota_blocks.specs.declared.line_reader.LineFault.{LineFault}
-use Rattle.quota_blocks.specs.declared.line_reader.LineFault.TheVariants.{Source, Long, TooLarge}
-use Rattle.quota_blocks.proofs.InputLinesLemmas.{input_lines-long, input_lines-past, lines_left-next}
-use Rattle.quota_blocks.proofs.WordsLemmas.{words_eq_front, words_eq_front_none, words_of-append, words_of-blank, words_of-nil}
+use Rattle.input_text.specs.declared.line_reader.LineFault.{LineFault}
+use Rattle.input_text.specs.declared.line_reader.LineFault.TheVariants.{Source, Long, TooLarge}
+use Rattle.input_text.proofs.InputLinesLemmas.{input_lines-long, input_lines-past, lines_left-next}
+use Rattle.input_text.proofs.WordsLemmas.{words_eq_front, words_eq_front_none, words_of-append, words_of-blank, words_of-nil}
 use Rattle.set_edit.specs.Form.{form_title, id_front, name_front}
 use Rattle.set_edit.specs.FormReading.{IsFormFault, IsLinesFault, all_limits, form_in, form_lines, form_read, limits_in, then_read}
 use Rattle.set_edit.specs.declared.form_reading.FormFault.{FormFault}

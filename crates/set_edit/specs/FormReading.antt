@@ -8,8 +8,8 @@ use Rattle.quota_blocks.specs.InputLines.{InputLines, NoLine, LineThen, LongNext
 use Rattle.quota_blocks.specs.Lines.{LinesSeen}
 use Rattle.quota_blocks.specs.Numeral.{number_of}
 use Rattle.quota_blocks.specs.Words.{words_eq, words_of}
-use Rattle.quota_blocks.specs.declared.line_reader.LineFault.{LineFault}
-use Rattle.quota_blocks.specs.declared.line_reader.LineFault.TheVariants.{Source, Long, TooLarge}
+use Rattle.input_text.specs.declared.line_reader.LineFault.{LineFault}
+use Rattle.input_text.specs.declared.line_reader.LineFault.TheVariants.{Source, Long, TooLarge}
 use Rattle.set_edit.specs.declared.form_reading.FormFault.{FormFault}
 use Rattle.set_edit.specs.declared.form_reading.FormFault.TheVariants.{Lines, BadForm}
 use Rattle.set_edit.specs.declared.limits.Limits.{Limits}

@@ -14,6 +14,7 @@ pub use Rattle.quota_blocks.specs.Numeral
 pub use Rattle.quota_blocks.specs.QuotaFile
 pub use Rattle.quota_blocks.specs.QuotaValue
 pub use Rattle.quota_blocks.specs.Replace
+pub use Rattle.quota_blocks.specs.Replacement
 pub use Rattle.quota_blocks.specs.Seen
 pub use Rattle.quota_blocks.specs.Unsynced
 pub use Rattle.quota_types.specs.Kept

@@ -1,8 +1,8 @@
 ghost use Rattle.std.specs.Prelude.{◌≡◌, ◌≤◌, length, Ok, IfOk, OnErr};
-ghost use Rattle.quota_blocks.specs.Count.{Rose};
+ghost use Rattle.outside.specs.Count.{Rose};
 
 use crate::opened::{Access, Opened};
-use quota_blocks::{Store, StoreFault};
+use outside::{Store, StoreFault};
 use std::alloc::Global;
 use std::fs::{File, Files, OpenOptions};
 use std::io::ErrorKind;

@@ -1,6 +1,6 @@
 ghost use Rattle.std.specs.Prelude.{◌≡◌};
 
-use quota_blocks::{Sink, SinkFault};
+use outside::{Sink, SinkFault};
 use std::io::Write;
 
 /// A stream of the system as a sink, such as standard output. It tells nothing of what was written.

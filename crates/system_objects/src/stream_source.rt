@@ -1,6 +1,6 @@
 ghost use Rattle.std.specs.Prelude.{◌≡◌};
 
-use quota_blocks::{Source, SourceFault};
+use outside::{Source, SourceFault};
 use std::io::{ErrorKind, Read};
 
 /// A stream of the system as a source, such as standard input. It tells nothing of what is left in it.

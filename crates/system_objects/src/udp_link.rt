@@ -1,8 +1,8 @@
 ghost use Rattle.std.specs.Prelude.{◌≡◌, ◌≤◌, IfOk, Ok, OnErr};
-ghost use Rattle.quota_blocks.specs.Count.{Rose};
+ghost use Rattle.outside.specs.Count.{Rose};
 
 use crate::moment;
-use quota_blocks::{Got, Link, LinkFault};
+use outside::{Got, Link, LinkFault};
 use std::io;
 use std::io::ErrorKind;
 use std::net::{Ipv4Addr, Net, SocketAddr, UdpSocket};

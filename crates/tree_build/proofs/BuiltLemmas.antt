@@ -12,7 +12,7 @@ use Rattle.entry_codec.specs.Entry.{entries_per_block, padding_of}
 use Rattle.quota_radix.specs.declared.tree_path.TreePath.{TreePath}
 use Rattle.quota_blocks.specs.Block.{block_of, stated_count, word_at, leads}
 use Rattle.quota_blocks.specs.Listed.{ids_of}
-use Rattle.quota_blocks.proofs.LeadsLemmas.{leads_from}
+use Rattle.file_blocks.proofs.LeadsLemmas.{leads_from}
 use Rattle.tree_build.specs.Build.{HasNoPadding, HasOneRoom}
 use Rattle.quota_types.specs.Times.{StandsIn, times}
 use Rattle.tree_build.specs.Entries.{entry_bytes, has_unused, used_entries, used_ids}

@@ -18,7 +18,7 @@ use Rattle.entry_codec.specs.Entry.{IsEntry, entries_per_block, entry_size, is_u
 use Rattle.entry_codec.proofs.SpellingLemmas.{is_unused-zeros}
 use Rattle.tree_build.specs.Entries.{entry_bytes, entry_of, has_unused, stored_record, used_entries}
 use Rattle.tree_build.specs.NewFile.{IsDataBlock}
-use Rattle.quota_blocks.proofs.WordLemmas.{number_same, same_part}
+use Rattle.file_blocks.proofs.WordLemmas.{number_same, same_part}
 use Rattle.tree_build.proofs.RecordLemmas.{used_is}
 
 -- an entry in the place of one that is not there

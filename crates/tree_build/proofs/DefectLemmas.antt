@@ -16,7 +16,7 @@ use Rattle.tree_build.specs.Entries.{used_ids}
 use Rattle.tree_build.specs.Roles.{Chained, Filled, OneRole, roles}
 use Rattle.quota_radix.specs.Tree.{data_blocks, ids_at, leaves}
 use Rattle.tree_build.specs.TreeFile.{IsSound}
-use Rattle.quota_blocks.proofs.LeadsLemmas.{leads_within}
+use Rattle.file_blocks.proofs.LeadsLemmas.{leads_within}
 use Rattle.free_chains.proofs.ChainLemmas.{one_chain}
 use Rattle.quota_types.proofs.TimesLemmas.{length_of_times, times_cases}
 use Rattle.quota_radix.proofs.PathLemmas.{ids_distinct}

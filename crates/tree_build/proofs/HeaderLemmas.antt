@@ -3,7 +3,7 @@ use Rattle.std.proofs.Common.{◌≡◌, ℕ, ◌+◌, ◌*◌, ◌≤◌, List,
 use Rattle.quota_types.specs.Bytes.{number_at}
 use Rattle.entry_codec.specs.Header.{header_of}
 use Rattle.quota_blocks.specs.Block.{block_of}
-use Rattle.quota_blocks.proofs.WordLemmas.{number_in_block}
+use Rattle.file_blocks.proofs.WordLemmas.{number_in_block}
 
 -- the header of a file is that of its first block
 pub header_in_block : (file : List ℕ) → header_of (block_of file 0) ≡ header_of file

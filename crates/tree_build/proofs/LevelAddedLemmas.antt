@@ -13,7 +13,7 @@ use Rattle.quota_radix.specs.Tree.{blocks_of, numbers_of, steps}
 use Rattle.tree_build.specs.NewFile.{AllLead, AreSiblings, IsFullTreeBlock, IsLevel, KeepsBlocks, parents_of}
 use Rattle.quota_radix.specs.TreeDefect.{IsEmpty}
 use Rattle.tree_build.specs.Size.{each_once}
-use Rattle.quota_blocks.proofs.LeadsLemmas.{leads_below}
+use Rattle.file_blocks.proofs.LeadsLemmas.{leads_below}
 use Rattle.tree_build.proofs.NewFileLemmas.{appended, kept_again, kept_append, kept_first}
 use Rattle.tree_build.proofs.OnceLemmas.{once_run}
 use Rattle.quota_radix.proofs.OrderLemmas.{each_left, each_of_places, each_right, length_numbers}

@@ -12,7 +12,7 @@ use Rattle.quota_types.specs.declared.record.Rec.{Rec}
 use Rattle.entry_codec.specs.Entry.{IsEntry, entries_per_block, entry_size, is_unused, stored_id}
 use Rattle.tree_build.specs.Entries.{entry_bytes, entry_of, record_by, stored_record, used_by, used_entries}
 use Rattle.tree_build.specs.TreeFile.{record_in}
-use Rattle.quota_blocks.proofs.WordLemmas.{number_in_part}
+use Rattle.file_blocks.proofs.WordLemmas.{number_in_part}
 
 pub used_is : (format : Format) (bytes : List ℕ) (id : ℕ) (rec : Rec) → IsEntry format bytes id rec → (is_unused bytes ≡ false) × (entry_of format bytes ≡ Some (record { id = id; rec = rec }))
 used_is V1 bytes id rec e = absurd e

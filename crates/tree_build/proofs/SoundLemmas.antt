@@ -17,7 +17,7 @@ use Rattle.tree_build.specs.Entries.{used_ids}
 use Rattle.tree_build.specs.Roles.{Chained, Filled, OneRole, has_room, roles}
 use Rattle.quota_radix.specs.Tree.{data_blocks, ids_at, leaves, level, lower_blocks, tree_blocks}
 use Rattle.tree_build.specs.TreeFile.{IsSound}
-use Rattle.quota_blocks.proofs.LeadsLemmas.{leads_within}
+use Rattle.file_blocks.proofs.LeadsLemmas.{leads_within}
 use Rattle.free_chains.proofs.ChainLemmas.{some_chain}
 use Rattle.quota_types.proofs.TimesLemmas.{length_same_times, stands_cons, stands_either}
 use Rattle.quota_radix.proofs.PathLemmas.{data_block_of_id, data_blocks_within, ids_distinct, level_leads}

@@ -16,7 +16,7 @@ use Rattle.entry_codec.specs.declared.header.Header.{Header}
 use Rattle.quota_radix.specs.declared.tree_path.TreePath.{TreePath}
 use Rattle.quota_blocks.specs.Block.{block_of, leads}
 use Rattle.quota_blocks.specs.Listed.{ids_of, records_of, value_of}
-use Rattle.quota_blocks.proofs.LeadsLemmas.{leads_from}
+use Rattle.file_blocks.proofs.LeadsLemmas.{leads_from}
 use Rattle.tree_build.specs.Build.{HasNoPadding, HasOneRoom}
 use Rattle.tree_build.specs.Entries.{used_entries}
 use Rattle.quota_radix.specs.Tree.{blocks_of, numbers_of, leaves, paths, steps}

@@ -16,8 +16,8 @@ use Rattle.tree_build.specs.Compared.{IsDataDefect, leading_ids}
 use Rattle.quota_types.specs.declared.damage.Damage.{Damage}
 use Rattle.quota_types.specs.declared.file_kind.Format.{Format}
 use Rattle.quota_blocks.specs.CheckFault.{IsCheckFault}
-use Rattle.quota_blocks.specs.declared.check_fault.CheckFault.{CheckFault}
-use Rattle.quota_blocks.specs.declared.check_fault.CheckFault.TheVariants.{Store, Damage as Damaged, Memory}
+use Rattle.file_blocks.specs.declared.check_fault.CheckFault.{CheckFault}
+use Rattle.file_blocks.specs.declared.check_fault.CheckFault.TheVariants.{Store, Damage as Damaged, Memory}
 use Rattle.tree_check.specs.Groups.{AreByBlock, AreGroupsOf, AreLeftFrom, groups_of}
 
 -- the identifiers that lead to a block which none of some leaves names, or which each of them names

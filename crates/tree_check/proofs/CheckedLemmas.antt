@@ -7,8 +7,8 @@ use Rattle.entry_codec.specs.declared.header.Header.{Header}
 use Rattle.quota_blocks.specs.QuotaValue.{QuotaValue}
 use Rattle.quota_types.specs.declared.damage.Damage.{Damage}
 use Rattle.quota_types.specs.declared.file_kind.Format.{Format}
-use Rattle.quota_blocks.specs.declared.check_fault.CheckFault.{CheckFault}
-use Rattle.quota_blocks.specs.declared.check_fault.CheckFault.TheVariants.{Store, Damage as Damaged, Memory}
+use Rattle.file_blocks.specs.declared.check_fault.CheckFault.{CheckFault}
+use Rattle.file_blocks.specs.declared.check_fault.CheckFault.TheVariants.{Store, Damage as Damaged, Memory}
 use Rattle.tree_check.specs.declared.roles.Roles.{Roles}
 use Rattle.free_chains.specs.Chain.{IsChain}
 use Rattle.quota_blocks.specs.CheckFault.{IsCheckFault}

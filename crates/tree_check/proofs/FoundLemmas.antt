@@ -9,8 +9,8 @@ use Rattle.quota_types.specs.declared.damage.Damage.{Damage}
 use Rattle.quota_types.specs.declared.damage.DamageKind.{DamageKind}
 use Rattle.quota_types.specs.declared.damage.DamageKind.TheVariants.{BadCount, BadPrev, ChainLoop, ChainOut, DoubleEntry, EmptyTree, ForeignInChain, MissingEntry, MissingInChain, NoRole, PartialRecord, RefOut, Short, StrayEntry, TwoRoles}
 use Rattle.quota_types.specs.declared.file_kind.Format.{Format}
-use Rattle.quota_blocks.specs.declared.check_fault.CheckFault.{CheckFault}
-use Rattle.quota_blocks.specs.declared.check_fault.CheckFault.TheVariants.{Store, Damage as Damaged, Memory}
+use Rattle.file_blocks.specs.declared.check_fault.CheckFault.{CheckFault}
+use Rattle.file_blocks.specs.declared.check_fault.CheckFault.TheVariants.{Store, Damage as Damaged, Memory}
 use Rattle.free_chains.specs.declared.link.Link.{Link}
 use Rattle.quota_radix.specs.declared.tree_path.TreePath.{TreePath}
 use Rattle.quota_blocks.specs.Block.{block_of, previous_of, stated_count, bytes_of, leads}

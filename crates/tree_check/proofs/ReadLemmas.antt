@@ -14,7 +14,7 @@ use Rattle.quota_radix.specs.Reads.{AreMarkedReads}
 use Rattle.tree_check.specs.Reads.{led_blocks}
 use Rattle.free_chains.specs.Walk.{linked_blocks}
 use Rattle.tree_check.proofs.GroupLemmas.{count_ids}
-use Rattle.quota_blocks.proofs.MarkedLemmas.{marked_fit}
+use Rattle.file_blocks.proofs.MarkedLemmas.{marked_fit}
 
 -- one more block, and whether identifiers lead to it
 pub led_more : (groups : List (List ℕ)) (i : ℕ) (d : List ℕ) → i < length groups

@@ -6,8 +6,8 @@ use Rattle.quota_types.specs.declared.damage.Damage.{Damage}
 use Rattle.quota_types.specs.declared.damage.DamageKind.{DamageKind}
 use Rattle.quota_types.specs.declared.damage.DamageKind.TheVariants.{BadCount, BadPrev, ChainLoop, ChainOut, DoubleEntry, EmptyTree, ForeignInChain, MissingEntry, MissingInChain, NoRole, PartialRecord, RefOut, Short, StrayEntry, TwoRoles}
 use Rattle.quota_types.specs.declared.file_kind.Format.{Format}
-use Rattle.quota_blocks.specs.declared.check_fault.CheckFault.{CheckFault}
-use Rattle.quota_blocks.specs.declared.check_fault.CheckFault.TheVariants.{Store, Damage as Damaged, Memory}
+use Rattle.file_blocks.specs.declared.check_fault.CheckFault.{CheckFault}
+use Rattle.file_blocks.specs.declared.check_fault.CheckFault.TheVariants.{Store, Damage as Damaged, Memory}
 use Rattle.free_chains.specs.declared.link.Link.{Link}
 use Rattle.quota_radix.specs.declared.tree_path.TreePath.{TreePath}
 use Rattle.quota_blocks.specs.BlockSet.{AreFlagsOf}
@@ -26,7 +26,7 @@ use Rattle.tree_build.specs.Roles.{OneRole, roles}
 use Rattle.quota_radix.specs.Tree.{data_blocks, ids_at, leaves, lower_blocks, tree_blocks}
 use Rattle.quota_blocks.specs.Block.{leads, bytes_of}
 use Rattle.free_chains.specs.Walk.{linked_blocks, AreLinksTo, IsWalk}
-use Rattle.quota_blocks.proofs.LeadsLemmas.{leads_within}
+use Rattle.file_blocks.proofs.LeadsLemmas.{leads_within}
 use Rattle.free_chains.proofs.ChainLemmas.{some_chain}
 use Rattle.free_chains.specs.declared.chain.Walk.{Walk}
 use Rattle.free_chains.proofs.WalkLemmas.{walked}

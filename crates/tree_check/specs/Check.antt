@@ -2,8 +2,8 @@
 use Rattle.std.specs.Prelude.{◌≡◌, ℕ, List, length}
 use Rattle.std.specs.FinMap.{len}
 use Rattle.quota_blocks.specs.QuotaValue.{QuotaValue}
-use Rattle.quota_blocks.specs.declared.check_fault.CheckFault.{CheckFault}
-use Rattle.quota_blocks.specs.declared.check_fault.CheckFault.TheVariants.{Store, Damage as Damaged, Memory}
+use Rattle.file_blocks.specs.declared.check_fault.CheckFault.{CheckFault}
+use Rattle.file_blocks.specs.declared.check_fault.CheckFault.TheVariants.{Store, Damage as Damaged, Memory}
 use Rattle.entry_codec.specs.Header.{header_of}
 use Rattle.tree_check.specs.declared.checked.Checked.{Checked}
 use Rattle.free_chains.specs.Chain.{IsChain}

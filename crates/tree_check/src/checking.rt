@@ -4,7 +4,7 @@ ghost use Rattle.quota_types.specs.declared.damage.Damage.{Damage};
 ghost use Rattle.quota_types.specs.declared.file_kind.Format.TheVariants.{V1};
 ghost use Rattle.quota_blocks.specs.Frame.{OnlyReads};
 ghost use Rattle.quota_blocks.specs.QuotaValue.{QuotaValue};
-ghost use Rattle.quota_blocks.specs.declared.check_fault.CheckFault.TheVariants.{Damage as Damaged, Memory};
+ghost use Rattle.file_blocks.specs.declared.check_fault.CheckFault.TheVariants.{Damage as Damaged, Memory};
 ghost use Rattle.tree_check.specs.Check.{IsChecked, without_store};
 ghost use Rattle.quota_blocks.specs.CheckFault.{IsCheckFault, IsStepFault};
 ghost use Rattle.quota_blocks.specs.Block.{bytes_of};

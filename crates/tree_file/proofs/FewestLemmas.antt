@@ -16,7 +16,7 @@ use Rattle.quota_types.specs.declared.record.Entry.{Entry}
 use Rattle.quota_types.specs.Times.{StandsIn, times}
 use Rattle.quota_blocks.specs.QuotaValue.{QuotaValue}
 use Rattle.quota_blocks.specs.Block.{block_of, next_of, word_at}
-use Rattle.quota_blocks.proofs.LeadsLemmas.{leads_within}
+use Rattle.file_blocks.proofs.LeadsLemmas.{leads_within}
 use Rattle.entry_codec.specs.Entry.{entries_per_block, is_unused}
 use Rattle.entry_codec.specs.Header.{AreOf, header_of}
 use Rattle.entry_codec.specs.declared.header.Header.{Header}

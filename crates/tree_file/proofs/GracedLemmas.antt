@@ -13,7 +13,7 @@ use Rattle.entry_codec.specs.declared.header.Header.{Header}
 use Rattle.entry_codec.specs.Header.{AreOf, format_of, header_of}
 use Rattle.quota_blocks.specs.Block.{block_of}
 use Rattle.tree_file.specs.TreeChange.{IsChangedTree}
-use Rattle.quota_blocks.proofs.WordLemmas.{number_same}
+use Rattle.file_blocks.proofs.WordLemmas.{number_same}
 use Rattle.tree_file.proofs.HeaderKeptLemmas.{KeepsHeader, stands_kept}
 use Rattle.tree_file.proofs.SpanLemmas.{keeps-overwritten, length-overwritten, span-overwritten}
 

@@ -11,9 +11,10 @@ use Rattle.quota_blocks.specs.declared.quota_file.OpenFault.{OpenFault}
 use Rattle.quota_blocks.specs.declared.quota_file.OpenFault.TheVariants.{Store, NoFile, TooLarge, Memory, NotQuota, WrongKind, UnknownVersion, BadBlockCount, FormatMismatch, Damage as Damaged}
 use Rattle.entry_codec.specs.Header.{AreOf, HeaderNumbers, header_of}
 use Rattle.entry_codec.specs.declared.header.Header.{Header}
-use Rattle.quota_blocks.specs.declared.check_fault.CheckFault.{CheckFault}
-use Rattle.quota_blocks.specs.declared.check_fault.CheckFault.TheVariants.{Store as CheckStore, Damage as CheckDamage, Memory as CheckMemory}
-use Rattle.quota_blocks.specs.CheckFault.{IsCheckFault, IsStepFault, open_fault}
+use Rattle.file_blocks.specs.declared.check_fault.CheckFault.{CheckFault}
+use Rattle.file_blocks.specs.declared.check_fault.CheckFault.TheVariants.{Store as CheckStore, Damage as CheckDamage, Memory as CheckMemory}
+use Rattle.quota_blocks.specs.CheckFault.{IsCheckFault, IsStepFault}
+use Rattle.quota_blocks.specs.Opening.{open_fault}
 use Rattle.quota_blocks.specs.Block.{bytes_of}
 use Rattle.tree_build.specs.Defect.{IsTreeDefect}
 use Rattle.tree_check.specs.Found.{IsLengthDefect}

@@ -25,7 +25,7 @@ use Rattle.tree_build.specs.Roles.{OneRole, roles}
 use Rattle.quota_radix.specs.Tree.{data_blocks, ids_at, leaves, level, lower_blocks, tree_blocks}
 use Rattle.tree_build.specs.TreeFile.{TreeStandsFor, record_in, tree_record}
 use Rattle.quota_types.proofs.TimesLemmas.{times-append, times-cons, times-cons-same, stands_left}
-use Rattle.quota_blocks.proofs.WordLemmas.{number_same, same_part, byte_at-block_of, length-block_of}
+use Rattle.file_blocks.proofs.WordLemmas.{number_same, same_part, byte_at-block_of, length-block_of}
 use Rattle.tree_build.proofs.RecordLemmas.{used_is}
 use Rattle.tree_file.proofs.GracedLemmas.{same_header}
 use Rattle.tree_file.proofs.HeaderKeptLemmas.{KeepsHeader, same_numbers, sound_kept}

@@ -13,7 +13,7 @@ use Rattle.tree_build.specs.Entries.{has_unused, used_ids}
 use Rattle.tree_build.specs.Roles.{Chained, Filled, OneRole, has_room}
 use Rattle.quota_radix.specs.Tree.{data_blocks, ids_at, is_data, leaves, level, lower_blocks, paths, steps, tree_blocks}
 use Rattle.tree_build.specs.TreeFile.{record_in, tree_record}
-use Rattle.quota_blocks.proofs.LeadsLemmas.{leads_within}
+use Rattle.file_blocks.proofs.LeadsLemmas.{leads_within}
 use Rattle.quota_types.proofs.TimesLemmas.{stands_either, stands_right, times-cons-same, only_one}
 use Rattle.quota_types.proofs.ListLemmas.{AllByRecursion-weaker}
 use Rattle.tree_build.proofs.LevelAddedLemmas.{empty_kept, flat_map_same}

@@ -18,7 +18,7 @@ use Rattle.tree_build.specs.TreeFile.{TreeStandsFor}
 use Rattle.free_chains.specs.ChainDefect.{IsOut, IsLoop}
 use Rattle.quota_radix.specs.Tree.{data_blocks, level, lower_blocks}
 use Rattle.quota_radix.proofs.PathLemmas.{data_block_of_id}
-use Rattle.quota_blocks.proofs.LeadsLemmas.{leads_within}
+use Rattle.file_blocks.proofs.LeadsLemmas.{leads_within}
 use Rattle.quota_types.proofs.TimesLemmas.{stands_right, times-cons-same}
 use Rattle.tree_build.proofs.LevelAddedLemmas.{empty_kept}
 use Rattle.tree_file.proofs.SameBlocksLemmas.{IsInside, KeepsTree, chain_same, data_same, has_room_same, ids_same, listed_inside, lower_same, same_tree, tree_same}

@@ -2,8 +2,8 @@ use Rattle.std.proofs.Common.{◌≡◌, ◌≢◌, List, None, rules, sym, subs
 use Rattle.std.specs.List.Sorted.{IsStrictlyIncreasing}
 use Rattle.quota_types.specs.declared.record.Entry.{Entry}
 use Rattle.quota_blocks.specs.Listed.{ids_of}
-use Rattle.quota_blocks.proofs.FrameLemmas.{are_synced-read, are_synced-then}
-use Rattle.quota_blocks.proofs.UnsyncedLemmas.{replaced-named}
+use Rattle.outside.proofs.FrameLemmas.{are_synced-read, are_synced-then}
+use Rattle.outside.proofs.UnsyncedLemmas.{replaced-named}
 use Rattle.quota_map.proofs.ReplacedLemmas.{replaced-synced}
 use Rattle.convert.specs.Convert.{Asked, HasNoTarget, asked_for}
 use Rattle.convert.specs.Listing.{kept_list}

@@ -1,7 +1,7 @@
 use Rattle.std.proofs.Common.{false, true, inl, inr, ap}
 use Rattle.std.proofs.lemmas.Bool.{false≢true}
 use Rattle.std.proofs.lemmas.Result.{on_ok_weaker}
-use Rattle.quota_blocks.proofs.FrameLemmas.{are_synced-read, are_synced-then}
+use Rattle.outside.proofs.FrameLemmas.{are_synced-read, are_synced-then}
 use Rattle.run_steps.specs.Changing.{edit_uses}
 use Rattle.run_steps.specs.Taking.{AForm}
 use Rattle.run_steps.proofs.PhaseLemmas.{placed_nowhere}

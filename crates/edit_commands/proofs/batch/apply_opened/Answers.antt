@@ -2,7 +2,7 @@ use Rattle.std.proofs.Common.{false, Option, inl, inr, sym, ap, subst}
 use Rattle.std.specs.Prelude.{IfSome}
 use Rattle.std.proofs.lemmas.Bool.{false≢true}
 use Rattle.quota_blocks.specs.World.{World}
-use Rattle.quota_blocks.proofs.FrameLemmas.{are_synced-then}
+use Rattle.outside.proofs.FrameLemmas.{are_synced-then}
 use Rattle.quota_map.specs.AnyFile.{HoldsAny}
 use Rattle.refusals.specs.declared.reason.Refusal.{Refusal}
 use Rattle.run_steps.specs.Taking.{Lines, input_name}

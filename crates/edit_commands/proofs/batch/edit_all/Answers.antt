@@ -2,7 +2,7 @@ use Rattle.std.proofs.Common.{◌≡◌, ◌+◌, IsTrue, List, [], drop, refl, 
 use Rattle.std.proofs.lemmas.List.{drop_all, drop_more}
 use Rattle.quota_blocks.specs.Frame.{ReplacesOne}
 use Rattle.quota_blocks.specs.QuotaFile.{FileSeen}
-use Rattle.quota_blocks.proofs.FrameLemmas.{are_synced, are_synced-none, are_synced-then, only_reads-none, replaces_one-none, replaces_one-then}
+use Rattle.outside.proofs.FrameLemmas.{are_synced, are_synced-none, are_synced-then, only_reads-none, replaces_one-none, replaces_one-then}
 use Rattle.quota_map.specs.AnyFile.{HoldsAny, any_seen}
 use Rattle.quota_map.specs.View.{fresh_seen}
 use Rattle.edit_commands.specs.declared.batch_line.LineEdit.{LineEdit}

@@ -1,5 +1,5 @@
 use Rattle.std.proofs.Common.{◌≡◌, ◌+◌, None, Some, arith}
-use Rattle.quota_blocks.proofs.InputLinesLemmas.{input_lines-long, input_lines-past, lines_left-next}
+use Rattle.input_text.proofs.InputLinesLemmas.{input_lines-long, input_lines-past, lines_left-next}
 use Rattle.refusals.specs.declared.cause.Cause.TheVariants.{TooLarge, LongLine}
 use Rattle.edit_commands.specs.declared.batch_line.LineRead.TheVariants.{Refused as Faulty}
 use Rattle.edit_commands.specs.Batch.{ends_with}

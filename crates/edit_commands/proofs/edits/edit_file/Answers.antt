@@ -2,7 +2,7 @@ use Rattle.std.proofs.Common.{◌≡◌, ℕ, IsTrue, List, inl, inr, refl, sym,
 use Rattle.std.proofs.lemmas.Bool.{false≢true}
 use Rattle.quota_blocks.specs.QuotaFile.{FileSeen}
 use Rattle.quota_blocks.specs.World.{World}
-use Rattle.quota_blocks.proofs.FrameLemmas.{are_synced, are_synced-read, are_synced-then}
+use Rattle.outside.proofs.FrameLemmas.{are_synced, are_synced-read, are_synced-then}
 use Rattle.quota_map.specs.AnyFile.{any_seen}
 use Rattle.quota_map.specs.View.{fresh_seen}
 use Rattle.edit_commands.specs.Edits.{edit_cause, warnings}

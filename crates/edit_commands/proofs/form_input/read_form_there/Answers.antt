@@ -1,6 +1,6 @@
 use Rattle.std.proofs.Common.{List, ℕ, sym, ap, ◌∙◌}
 use Rattle.std.specs.String.{string_bytes}
-use Rattle.quota_blocks.specs.declared.store_source.StoreSource.{StoreSource}
+use Rattle.input_text.specs.declared.store_source.StoreSource.{StoreSource}
 use Rattle.edit_commands.specs.Apply.{form_cause}
 use Rattle.refusals.specs.Refusals.{refusal_of}
 use Rattle.refusals.specs.declared.cause.Cause.TheVariants.{StoreFault}

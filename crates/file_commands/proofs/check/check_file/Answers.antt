@@ -1,7 +1,7 @@
 use Rattle.std.proofs.Common.{◌≡◌, [], subst, ◌∙◌, true}
 use Rattle.std.proofs.lemmas.Result.{on_ok_weaker}
 use Rattle.quota_types.specs.declared.file_kind.Format.{Format}
-use Rattle.quota_blocks.proofs.FrameLemmas.{only_reads-none}
+use Rattle.outside.proofs.FrameLemmas.{only_reads-none}
 use Rattle.quota_types.specs.declared.file_kind.Kind.{Kind}
 use Rattle.quota_blocks.specs.QuotaValue.{QuotaValue}
 use Rattle.run_steps.specs.Done.{seen_of, tells_of}

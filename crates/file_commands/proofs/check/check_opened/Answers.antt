@@ -3,7 +3,7 @@ use Rattle.std.proofs.lemmas.Result.{on_ok_weaker}
 use Rattle.quota_types.specs.declared.file_kind.Format.{Format}
 use Rattle.quota_types.specs.declared.file_kind.Kind.{Kind}
 use Rattle.quota_blocks.specs.QuotaFile.{FileSeen}
-use Rattle.quota_blocks.proofs.FrameLemmas.{are_synced-read, are_synced-then, only_reads-then}
+use Rattle.outside.proofs.FrameLemmas.{are_synced-read, are_synced-then, only_reads-then}
 use Rattle.quota_map.specs.AnyFile.{any_seen}
 use Rattle.quota_map.specs.View.{IsOpenedAs}
 use Rattle.quota_map.proofs.SeenLemmas.{view_kind}

@@ -1,7 +1,7 @@
 use Rattle.std.proofs.Common.{◌≡◌, true, false, inl, inr, refl, ap}
 use Rattle.std.proofs.lemmas.Bool.{false≢true}
 use Rattle.std.proofs.lemmas.Result.{on_ok_weaker}
-use Rattle.quota_blocks.proofs.FrameLemmas.{are_synced-read, are_synced-then}
+use Rattle.outside.proofs.FrameLemmas.{are_synced-read, are_synced-then}
 use Rattle.inode_scan.specs.Usage.{UsageMap}
 use Rattle.run_steps.specs.Taking.{AListing}
 use Rattle.file_commands.specs.Check.{ReplaceSteps, check_uses, checked}

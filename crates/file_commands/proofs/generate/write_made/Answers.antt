@@ -2,7 +2,7 @@ use Rattle.std.proofs.Common.{ℕ, List, Some, Ok, IsTrue, sym, subst, arith}
 use Rattle.std.proofs.lemmas.Result.{on_ok_weaker}
 use Rattle.quota_types.specs.declared.record.Entry.{Entry}
 use Rattle.quota_blocks.specs.Listed.{ids_of, value_of}
-use Rattle.quota_blocks.proofs.FrameLemmas.{are_synced-then}
+use Rattle.outside.proofs.FrameLemmas.{are_synced-then}
 use Rattle.quota_blocks.proofs.ReplaceLemmas.{replacement_name-ne}
 use Rattle.quota_map.specs.Replacing.{flags_in}
 use Rattle.quota_map.specs.View.{IsView}

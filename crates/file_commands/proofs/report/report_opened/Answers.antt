@@ -1,7 +1,7 @@
 use Rattle.std.proofs.Common.{Ok, inr, sym, ap, ◌∙◌, IsTrue}
 use Rattle.quota_blocks.specs.QuotaFile.{FileSeen}
 use Rattle.quota_blocks.specs.QuotaValue.{QuotaValue}
-use Rattle.quota_blocks.proofs.FrameLemmas.{only_reads-any}
+use Rattle.outside.proofs.FrameLemmas.{only_reads-any}
 use Rattle.quota_map.specs.AnyFile.{any_seen}
 use Rattle.quota_map.specs.View.{IsView}
 use Rattle.quota_map.proofs.SeenLemmas.{view_kind}

@@ -1,6 +1,6 @@
 use Rattle.std.proofs.Common.{◌+◌, ◌-◌, ◌≤◌, vec_len, IsTrue, true}
-use Rattle.quota_blocks.specs.Frame.{OnlyReads}
-use Rattle.quota_blocks.specs.Block.{bytes_of}
+use Rattle.outside.specs.Frame.{OnlyReads}
+use Rattle.file_blocks.specs.Block.{bytes_of}
 use Rattle.free_chains.specs.Walk.{AreLinksTo, IsWalk}
 use Rattle.free_chains.proofs.chain.walk_chain.Given as goal
 

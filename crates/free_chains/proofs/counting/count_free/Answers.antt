@@ -2,7 +2,7 @@ use Rattle.std.proofs.Common.{ℕ, ◌+◌, List, ap, arith, inl, inr, refl, sym
 use Rattle.std.specs.Prelude.{◌==◌}
 use Rattle.std.specs.List.{list_any}
 use Rattle.quota_types.proofs.TimesLemmas.{StandsIn-list_any}
-use Rattle.quota_blocks.proofs.FrameLemmas.{adds_none-then}
+use Rattle.outside.proofs.FrameLemmas.{adds_none-then}
 use Rattle.quota_pages.proofs.UsedLemmas.{looks_more, looks_then, missing-few, shown_over-looks}
 use Rattle.quota_pages.specs.Pages.{pages_of}
 use Rattle.free_chains.proofs.CountLemmas.{begun_step, counts_ended, counts_most, ends_before}

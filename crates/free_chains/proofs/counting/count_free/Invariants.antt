@@ -1,5 +1,5 @@
 use Rattle.std.proofs.Common.{◌≡◌, length}
-use Rattle.quota_blocks.specs.Unsynced.{AddsNone}
+use Rattle.outside.specs.Unsynced.{AddsNone}
 use Rattle.quota_pages.specs.Used.{IsKnown, LooksAtSome, shown_over}
 use Rattle.free_chains.proofs.CountLemmas.{IsBegun}
 use Rattle.free_chains.proofs.counting.count_free.Given as goal

@@ -1,6 +1,6 @@
 use Rattle.std.proofs.Common.{List, ℕ, ap, ◌∙◌}
 use Rattle.quota_pages.proofs.UsedLemmas.{looks_then, looks_then_lends, shown_over-lends, shown_over-looks}
-use Rattle.quota_blocks.specs.Block.{previous_of}
+use Rattle.file_blocks.specs.Block.{previous_of}
 use Rattle.free_chains.proofs.LeaveLemmas.{head-first, head-stays, leaves}
 use Rattle.free_chains.proofs.entry_list.leave_entry_list.Goals as goal
 

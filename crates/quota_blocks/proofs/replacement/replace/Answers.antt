@@ -1,8 +1,8 @@
 use Rattle.std.proofs.Common.{◌≡◌, List, ℕ, Some, sym, ap, ◌∙◌}
-use Rattle.quota_blocks.specs.Replace.{replacement_name}
-use Rattle.quota_blocks.specs.World.{with_file, with_new_name}
+use Rattle.outside.specs.Replacement.{replacement_name}
+use Rattle.outside.specs.World.{with_file, with_new_name}
 use Rattle.quota_blocks.proofs.ReplaceLemmas.{replacement_name-ne, with_new_name-replaced}
-use Rattle.quota_blocks.proofs.UnsyncedLemmas.{replaced-names}
+use Rattle.outside.proofs.UnsyncedLemmas.{replaced-names}
 use Rattle.quota_blocks.proofs.replacement.replace.Goals as goal
 
 pub rename-requires : goal.rename-requires

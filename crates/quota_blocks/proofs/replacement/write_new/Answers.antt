@@ -1,8 +1,8 @@
 use Rattle.std.proofs.Common.{◌+◌, ◌≤◌, ℕ, length, IsTrue, sym, subst, ◌∙◌, arith}
 use Rattle.quota_blocks.specs.Replace.{pieces_of}
-use Rattle.quota_blocks.proofs.FrameLemmas.{changes_one-then}
+use Rattle.outside.proofs.FrameLemmas.{changes_one-then}
 use Rattle.quota_blocks.proofs.ReplaceLemmas.{piece-counted, piece-whole, with_bytes-piece}
-use Rattle.quota_blocks.proofs.UnsyncedLemmas.{synced_on_ok, with_name-more}
+use Rattle.outside.proofs.UnsyncedLemmas.{synced_on_ok, with_name-more}
 use Rattle.quota_blocks.proofs.replacement.write_new.Goals as goal
 
 pub loop-at-preserved : goal.loop-at-preserved

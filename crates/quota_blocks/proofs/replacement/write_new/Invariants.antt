@@ -1,8 +1,8 @@
 use Rattle.std.proofs.Common.{◌≡◌, ◌⊎◌, ◌+◌, ◌-◌, ◌%◌, ◌≤◌, length, take, true, Some, IsTrue}
-use Rattle.quota_blocks.specs.Frame.{ChangesOne}
+use Rattle.outside.specs.Frame.{ChangesOne}
 use Rattle.quota_blocks.specs.Replace.{pieces_of}
-use Rattle.quota_blocks.specs.Unsynced.{with_name}
-use Rattle.quota_blocks.specs.World.{with_file}
+use Rattle.outside.specs.Unsynced.{with_name}
+use Rattle.outside.specs.World.{with_file}
 use Rattle.quota_blocks.proofs.replacement.write_new.Given as goal
 
 abbrev pub decreases-loop-at : goal.decreases-loop-at

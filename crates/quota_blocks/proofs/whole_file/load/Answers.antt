@@ -1,6 +1,6 @@
 use Rattle.std.proofs.Common.{◌≡◌, ◌+◌, ◌-◌, ◌<◌, ◌≤◌, ◌∙◌, ap, sym, subst, min, vec_len, IsTrue, List, ℕ, Option, arith}
 use Rattle.quota_blocks.specs.Replace.{pieces_of}
-use Rattle.quota_blocks.proofs.FrameLemmas.{only_reads-then}
+use Rattle.outside.proofs.FrameLemmas.{only_reads-then}
 use Rattle.quota_blocks.proofs.ReplaceLemmas.{piece-counted, piece-whole}
 use Rattle.quota_blocks.proofs.LoadLemmas.{begun_ends, begun_step}
 use Rattle.quota_blocks.proofs.whole_file.load.Goals as goal

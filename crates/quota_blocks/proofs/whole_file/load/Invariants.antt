@@ -1,5 +1,5 @@
 use Rattle.std.proofs.Common.{◌≡◌, ◌⊎◌, ◌+◌, ◌-◌, ◌%◌, ◌≤◌, true, vec_len, IsTrue}
-use Rattle.quota_blocks.specs.Frame.{OnlyReads}
+use Rattle.outside.specs.Frame.{OnlyReads}
 use Rattle.quota_blocks.specs.Replace.{pieces_of}
 use Rattle.quota_blocks.proofs.LoadLemmas.{IsBegun}
 use Rattle.quota_blocks.proofs.whole_file.load.Given as goal

@@ -8,7 +8,7 @@ use Rattle.quota_types.specs.declared.record.Entry.{Entry}
 use Rattle.quota_blocks.specs.Listed.{ids_of}
 use Rattle.quota_blocks.specs.QuotaFile.{FileSeen}
 use Rattle.quota_blocks.specs.QuotaValue.{IsAfter, IsNextAfter}
-use Rattle.quota_blocks.proofs.FrameLemmas.{only_reads-none, only_reads-then}
+use Rattle.outside.proofs.FrameLemmas.{only_reads-none, only_reads-then}
 use Rattle.quota_map.specs.AnyFile.{any_seen}
 use Rattle.quota_map.proofs.ReadingLemmas.{AscendTo, IsReadUpTo, ascend_more, ascend_none, only_reads-of, read_more, read_none, read_whole}
 use Rattle.quota_map.proofs.reading.read_all.Goals as goal

@@ -1,7 +1,7 @@
 use Rattle.std.proofs.Common.{◌≡◌, ◌+◌, List, take, refl, sym, ap, ◌∙◌, arith}
 use Rattle.std.proofs.lemmas.Bool.{false≢true}
 use Rattle.std.proofs.lemmas.List.{take_all}
-use Rattle.quota_blocks.proofs.FrameLemmas.{changes_one-none, changes_one-then}
+use Rattle.outside.proofs.FrameLemmas.{changes_one-none, changes_one-then}
 use Rattle.quota_pages.specs.Flushed.{counted_by, flushed_files, flushed_names}
 use Rattle.quota_pages.specs.Held.{pages_in}
 use Rattle.quota_pages.specs.Page.{Page, lent_count}

@@ -1,5 +1,5 @@
 use Rattle.std.proofs.Common.{◌≡◌, false, take, IsTrue}
-use Rattle.quota_blocks.specs.Frame.{ChangesOne}
+use Rattle.outside.specs.Frame.{ChangesOne}
 use Rattle.quota_pages.specs.Flushed.{counted_by, flushed_files, flushed_names}
 use Rattle.quota_pages.specs.Held.{pages_in}
 use Rattle.quota_pages.specs.Page.{is_some_lent, lent_count}

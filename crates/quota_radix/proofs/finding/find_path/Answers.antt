@@ -2,9 +2,9 @@ use Rattle.std.proofs.Common.{◌≡◌, ℕ, Bool, ◌+◌, ◌≤◌, List, []
 use Rattle.std.specs.Prelude.{slice_get}
 use Rattle.std.proofs.lemmas.Result.{err_from_is_err_and}
 use Rattle.quota_types.specs.declared.damage.Damage.{Damage}
-use Rattle.quota_blocks.specs.Block.{word_at}
-use Rattle.quota_blocks.proofs.FrameLemmas.{adds_none-then}
-use Rattle.quota_blocks.specs.Seen.{StoreSeen}
+use Rattle.file_blocks.specs.Block.{word_at}
+use Rattle.outside.proofs.FrameLemmas.{adds_none-then}
+use Rattle.outside.specs.Seen.{StoreSeen}
 use Rattle.quota_pages.specs.Pages.{pages_of}
 use Rattle.quota_pages.specs.Used.{IsKnown, LooksAtSome, shown_over}
 use Rattle.quota_pages.specs.declared.page_buffer.Pages.{Pages}

@@ -1,5 +1,5 @@
 use Rattle.std.proofs.Common.{◌≡◌, ◌+◌, ◌≤◌, length, get_or}
-use Rattle.quota_blocks.specs.Unsynced.{AddsNone}
+use Rattle.outside.specs.Unsynced.{AddsNone}
 use Rattle.quota_pages.specs.Used.{IsKnown, LooksAtSome, shown_over}
 use Rattle.quota_radix.proofs.AlongLemmas.{IsAlong}
 use Rattle.quota_radix.proofs.finding.find_path.Given as goal

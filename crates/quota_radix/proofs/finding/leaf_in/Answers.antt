@@ -1,8 +1,8 @@
 use Rattle.std.proofs.Common.{◌≡◌, ℕ, ◌≤◌, List, [], ◌∷◌, ◌++◌, get_or, refl, ap, arith}
 use Rattle.std.proofs.lemmas.Result.{err_from_is_err_and}
 use Rattle.quota_types.specs.declared.damage.Damage.{Damage}
-use Rattle.quota_blocks.specs.Block.{word_at}
-use Rattle.quota_blocks.proofs.FrameLemmas.{adds_none-then}
+use Rattle.file_blocks.specs.Block.{word_at}
+use Rattle.outside.proofs.FrameLemmas.{adds_none-then}
 use Rattle.quota_radix.proofs.AlongLemmas.{along_all_inside, along_end_inside, along_leaf, along_more, along_no_leaf, along_out, along_start, nth}
 use Rattle.quota_radix.proofs.WalkLemmas.{since, walk_refused}
 use Rattle.quota_radix.proofs.finding.leaf_in.Goals as goal

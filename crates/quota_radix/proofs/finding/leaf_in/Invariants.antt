@@ -1,5 +1,5 @@
 use Rattle.std.proofs.Common.{◌≤◌, List, ℕ}
-use Rattle.quota_blocks.specs.Unsynced.{AddsNone}
+use Rattle.outside.specs.Unsynced.{AddsNone}
 use Rattle.quota_radix.proofs.AlongLemmas.{IsAlong}
 use Rattle.quota_radix.proofs.finding.leaf_in.Given as goal
 

@@ -1,5 +1,5 @@
 use Rattle.std.proofs.Common.{sym, ◌∙◌, arith}
-use Rattle.quota_blocks.specs.Block.{word_at}
+use Rattle.file_blocks.specs.Block.{word_at}
 use Rattle.quota_radix.specs.Way.{IsClearTo}
 use Rattle.quota_radix.proofs.PastLemmas.{later_none, later_some, word_read, zeros_more}
 use Rattle.quota_radix.proofs.WayLemmas.{none_later}

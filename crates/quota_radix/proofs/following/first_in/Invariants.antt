@@ -1,5 +1,5 @@
 use Rattle.std.proofs.Common.{◌≡◌, ℕ, List, ◌<◌, ◌≤◌}
-use Rattle.quota_blocks.specs.Block.{block_of, word_at}
+use Rattle.file_blocks.specs.Block.{block_of, word_at}
 use Rattle.quota_radix.specs.Descent.{later_steps, path_from}
 use Rattle.quota_radix.proofs.following.first_in.Given as goal
 

@@ -1,9 +1,9 @@
 use Rattle.std.proofs.Common.{ℕ, List, arith}
 use Rattle.std.proofs.lemmas.Result.{err_from_is_err_and}
 use Rattle.std.proofs.lemmas.List.Elements.{All-more}
-use Rattle.quota_blocks.proofs.FrameLemmas.{only_reads-then}
+use Rattle.outside.proofs.FrameLemmas.{only_reads-then}
 use Rattle.quota_radix.specs.declared.tree_path.TreePath.{TreePath}
-use Rattle.quota_blocks.specs.Block.{bytes_of}
+use Rattle.file_blocks.specs.Block.{bytes_of}
 use Rattle.quota_radix.specs.Levels.{IsWhole}
 use Rattle.quota_radix.proofs.LevelLemmas.{level_refused, paths_more, read_of_same}
 use Rattle.quota_radix.proofs.levels.next_level.Goals as goal

@@ -1,9 +1,9 @@
 use Rattle.std.proofs.Common.{◌≡◌, ℕ, ◌+◌, ◌*◌, ◌≤◌, IsTrue, take, true}
 use Rattle.std.specs.Prelude.{All}
 use Rattle.std.specs.List.{flat_map}
-use Rattle.quota_blocks.specs.Frame.{OnlyReads}
+use Rattle.outside.specs.Frame.{OnlyReads}
 use Rattle.quota_radix.specs.declared.tree_path.TreePath.{TreePath}
-use Rattle.quota_blocks.specs.Block.{bytes_of}
+use Rattle.file_blocks.specs.Block.{bytes_of}
 use Rattle.quota_radix.specs.Levels.{AreWithin, IsWhole}
 use Rattle.quota_radix.specs.Tree.{steps}
 use Rattle.quota_radix.proofs.levels.next_level.Given as goal

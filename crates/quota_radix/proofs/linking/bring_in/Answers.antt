@@ -3,7 +3,7 @@ use Rattle.std.proofs.lemmas.Bool.{false≢true}
 use Rattle.std.proofs.lemmas.List.{take_all}
 use Rattle.quota_types.specs.Times.{StandsIn}
 use Rattle.quota_types.proofs.TimesLemmas.{StandsIn-get_or}
-use Rattle.quota_blocks.proofs.FrameLemmas.{adds_none-then}
+use Rattle.outside.proofs.FrameLemmas.{adds_none-then}
 use Rattle.quota_pages.specs.Page.{is_buffered}
 use Rattle.quota_pages.specs.Pages.{pages_of}
 use Rattle.quota_pages.proofs.UsedLemmas.{looks_more, looks_then, missing-few, missing-there}

@@ -1,5 +1,5 @@
 use Rattle.std.proofs.Common.{◌≡◌, ◌≤◌, length, take}
-use Rattle.quota_blocks.specs.Unsynced.{AddsNone}
+use Rattle.outside.specs.Unsynced.{AddsNone}
 use Rattle.quota_pages.specs.Pages.{pages_of}
 use Rattle.quota_pages.specs.Used.{LooksAtSome}
 use Rattle.quota_radix.specs.Link.{AreBuffered}

@@ -1,6 +1,6 @@
 use Rattle.std.proofs.Common.{◌≡◌, ◌*◌, ◌%◌, List, ℕ, refl, ap, ◌∙◌, arith}
 use Rattle.quota_types.specs.Bytes.{number_at}
-use Rattle.quota_blocks.specs.Block.{word_at}
+use Rattle.file_blocks.specs.Block.{word_at}
 use Rattle.quota_radix.proofs.LeafLemmas.{leaf_from_here, leaf_of_lowest, led_there}
 use Rattle.quota_radix.proofs.loaded_blocks.leaf_beside.Goals as goal
 

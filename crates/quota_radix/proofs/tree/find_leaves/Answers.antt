@@ -1,7 +1,7 @@
 use Rattle.std.proofs.Common.{IfOk, IsTrue, ◌^◌, ◌∙◌, ℕ, List, [], ◌∷◌, refl, arith}
 use Rattle.std.proofs.lemmas.Result.{err_from_is_err_and}
-use Rattle.quota_blocks.specs.BlockSet.{AreFlagsOf}
-use Rattle.quota_blocks.specs.Block.{bytes_of}
+use Rattle.file_blocks.specs.BlockSet.{AreFlagsOf}
+use Rattle.file_blocks.specs.Block.{bytes_of}
 use Rattle.quota_radix.specs.Reads.{AreMarkedReads}
 use Rattle.quota_radix.proofs.DownLemmas.{IsDown, down_none, down_on, down_end, down_end_marked, down_end_whole, down_refused, down_refused_at, file_same, within_end, within_higher, within_same, within_root}
 use Rattle.quota_radix.proofs.ReadLemmas.{marked_end, marked_few, marked_level, marked_start}

@@ -2,7 +2,7 @@ use Rattle.std.proofs.Common.{arith}
 use Rattle.std.proofs.lemmas.Result.{err_from_is_err_and}
 use Rattle.quota_radix.proofs.DownLemmas.{mark_refused, on_ok}
 use Rattle.quota_radix.proofs.ReadLemmas.{level_fits}
-use Rattle.quota_blocks.proofs.MarkedLemmas.{marked_fit}
+use Rattle.file_blocks.proofs.MarkedLemmas.{marked_fit}
 use Rattle.quota_radix.proofs.tree.go_down.Goals as goal
 
 pub returns-in_err-mark_all-clause-refused : goal.returns-in_err-mark_all-clause-refused

@@ -1,6 +1,6 @@
 use Rattle.std.proofs.Common.{refl}
-use Rattle.quota_blocks.proofs.LeadsLemmas.{leads_below}
-use Rattle.quota_blocks.proofs.MarkedLemmas.{met_all, met_more, met_twice}
+use Rattle.file_blocks.proofs.LeadsLemmas.{leads_below}
+use Rattle.file_blocks.proofs.MarkedLemmas.{met_all, met_more, met_twice}
 use Rattle.quota_radix.specs.declared.tree_path.TreePath.{TreePath}
 use Rattle.quota_radix.proofs.tree.mark_all.Goals as goal
 

@@ -1,5 +1,5 @@
 use Rattle.std.proofs.Common.{ℕ, List, ◌++◌, take}
-use Rattle.quota_blocks.specs.BlockSet.{AreFlagsOf}
+use Rattle.file_blocks.specs.BlockSet.{AreFlagsOf}
 use Rattle.quota_radix.specs.Levels.{AreWithin}
 use Rattle.quota_radix.specs.Tree.{blocks_of}
 use Rattle.quota_radix.proofs.tree.mark_all.Given as goal

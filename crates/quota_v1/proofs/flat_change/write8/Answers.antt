@@ -1,5 +1,5 @@
 use Rattle.std.proofs.Common.{◌-◌, length, arith}
-use Rattle.quota_blocks.proofs.NumberLemmas.{written_at, number_at-with_number, keeps-with_number}
+use Rattle.file_blocks.proofs.NumberLemmas.{written_at, number_at-with_number, keeps-with_number}
 use Rattle.quota_v1.proofs.flat_change.write8.Goals as goal
 
 pub returns-clause-value : goal.returns-clause-value

@@ -1,5 +1,5 @@
 use Rattle.std.proofs.lemmas.List.{take_rest}
-use Rattle.quota_blocks.proofs.NumberLemmas.{little_number-drop}
+use Rattle.file_blocks.proofs.NumberLemmas.{little_number-drop}
 use Rattle.quota_v1.proofs.flat_record.number4.Goals as goal
 
 pub returns-clause-value : goal.returns-clause-value

@@ -3,7 +3,7 @@ use Rattle.std.specs.Prelude.{codes}
 use Rattle.refusals.specs.Line.{front_of}
 use Rattle.refusals.specs.Piece.{joined}
 use Rattle.std.proofs.lemmas.Result.{err_from_is_err_and, on_ok_weaker, on_err_weaker}
-use Rattle.quota_blocks.proofs.TextLemmas.{appends_more}
+use Rattle.outside.proofs.TextLemmas.{appends_more}
 use Rattle.refusals.proofs.PieceLemmas.{gathered_flushed, gathered_start, prefix_flushed}
 use Rattle.refusals.proofs.piece.write_line.Goals as goal
 

@@ -4,7 +4,7 @@ use Rattle.quota_types.specs.declared.record.Entry.{Entry}
 use Rattle.quota_blocks.specs.Frame.{OnlyReads}
 use Rattle.quota_blocks.specs.QuotaFile.{FileSeen}
 use Rattle.quota_blocks.specs.QuotaValue.{IsNextAfter}
-use Rattle.quota_blocks.proofs.FrameLemmas.{only_reads-none, only_reads-then}
+use Rattle.outside.proofs.FrameLemmas.{only_reads-none, only_reads-then}
 use Rattle.report_text.proofs.LinesLemmas.{put_none, put_more, put_all, put_fault, put_part}
 use Rattle.report_text.proofs.file_report.put_entries.Goals as goal
 

@@ -1,5 +1,5 @@
 use Rattle.std.proofs.Common.{List, refl, subst, ◌∙◌, arith}
-use Rattle.quota_blocks.proofs.FrameLemmas.{adds_none-then}
+use Rattle.outside.proofs.FrameLemmas.{adds_none-then}
 use Rattle.rquota_serve.specs.Exported.{Exported}
 use Rattle.rquota_serve.specs.Exports.{ExportSeen, OnlyLooksUp, Serves, exports_seen}
 use Rattle.rquota_serve.specs.Refusal.{IsServeFault}

@@ -1,5 +1,5 @@
 use Rattle.std.proofs.Common.{◌≡◌, ◌+◌, None, Some, arith}
-use Rattle.quota_blocks.proofs.InputLinesLemmas.{input_lines-long, input_lines-past, lines_left-next}
+use Rattle.input_text.proofs.InputLinesLemmas.{input_lines-long, input_lines-past, lines_left-next}
 use Rattle.refusals.specs.declared.cause.Cause.TheVariants.{TooLarge, LongLine}
 use Rattle.script_lines.specs.declared.line.LineRead.TheVariants.{Refused as Faulty}
 use Rattle.script_lines.specs.Script.{ends_with, script_refusal}

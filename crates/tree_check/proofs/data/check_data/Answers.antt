@@ -1,6 +1,6 @@
 use Rattle.std.proofs.Common.{◌≡◌, ℕ, ◌+◌, ◌<◌, cond, nat_le, List, [], length, Option, rules, ap, subst, arith}
 use Rattle.std.proofs.lemmas.Result.{err_from_is_err_and}
-use Rattle.quota_blocks.proofs.FrameLemmas.{only_reads-then}
+use Rattle.outside.proofs.FrameLemmas.{only_reads-then}
 use Rattle.quota_blocks.specs.BlockSet.{AreFlagsOf}
 use Rattle.quota_blocks.specs.Block.{bytes_of}
 use Rattle.tree_build.specs.Compared.{leading_ids, rooms}

@@ -2,7 +2,7 @@ use Rattle.std.proofs.Common.{ℕ}
 use Rattle.free_chains.specs.declared.link.Link.{Link}
 use Rattle.quota_types.specs.Times.{StandsIn}
 use Rattle.tree_check.proofs.DataLemmas.{mapped_all, mapped_more}
-use Rattle.quota_blocks.proofs.MarkedLemmas.{stands_mapped}
+use Rattle.file_blocks.proofs.MarkedLemmas.{stands_mapped}
 use Rattle.tree_check.proofs.data.first_foreign.Goals as goal
 
 pub returns-then-not-contains : goal.returns-then-not-contains

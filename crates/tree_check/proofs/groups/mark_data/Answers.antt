@@ -1,6 +1,6 @@
 use Rattle.std.proofs.Common.{◌≡◌, ◌<◌, ℕ, List, [], ◌∷◌, ◌++◌, refl, sym, subst, append-nil, arith}
 use Rattle.quota_blocks.specs.BlockSet.{AreFlagsOf}
-use Rattle.quota_blocks.specs.declared.block_set.BlockSet.{BlockSet}
+use Rattle.file_blocks.specs.declared.block_set.BlockSet.{BlockSet}
 use Rattle.tree_check.specs.Groups.{named_blocks}
 use Rattle.tree_check.proofs.ByBlockLemmas.{all_left, count_here}
 use Rattle.tree_check.proofs.GroupLemmas.{marked_no, marked_yes, named_twice, none_of, some_of}

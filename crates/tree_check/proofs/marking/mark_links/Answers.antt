@@ -1,6 +1,6 @@
 use Rattle.std.proofs.Common.{refl}
 use Rattle.free_chains.specs.declared.link.Link.{Link}
-use Rattle.quota_blocks.proofs.MarkedLemmas.{met_all, met_more, met_twice, stands_mapped}
+use Rattle.file_blocks.proofs.MarkedLemmas.{met_all, met_more, met_twice, stands_mapped}
 use Rattle.tree_check.proofs.marking.mark_links.Goals as goal
 
 pub returns-then-not-insert-clause-refused : goal.returns-then-not-insert-clause-refused

@@ -1,5 +1,5 @@
 use Rattle.std.proofs.Common.{◌∙◌, arith}
-use Rattle.quota_blocks.proofs.WordLemmas.{number_same}
+use Rattle.file_blocks.proofs.WordLemmas.{number_same}
 use Rattle.tree_file.proofs.changed_tree.grace_bytes.Goals as goal
 
 pub returns-clause-block : goal.returns-clause-block

@@ -1,5 +1,5 @@
 use Rattle.std.proofs.Common.{List, ℕ, refl, ap, ◌∙◌, arith}
-use Rattle.quota_blocks.specs.Block.{block_of, bytes_of}
+use Rattle.file_blocks.specs.Block.{block_of, bytes_of}
 use Rattle.quota_pages.specs.Pages.{name_of, pages_of}
 use Rattle.quota_pages.proofs.BufferLemmas.{looks_at-read, page_count, pushed_distinct}
 use Rattle.quota_pages.proofs.HeldLemmas.{pushed_beside, pushed_pages}

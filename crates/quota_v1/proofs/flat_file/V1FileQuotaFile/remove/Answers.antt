@@ -1,6 +1,6 @@
 use Rattle.std.proofs.Common.{◌≡◌, None, IsTrue, refl, arith}
 use Rattle.quota_blocks.proofs.ChangesLemmas.{bounded-none, changes-idle}
-use Rattle.quota_blocks.proofs.FrameLemmas.{only_reads-none}
+use Rattle.outside.proofs.FrameLemmas.{only_reads-none}
 use Rattle.quota_blocks.specs.FileChange.{Remove}
 use Rattle.quota_v1.specs.FlatFile.{unless_zeros}
 use Rattle.quota_v1.specs.Opened.{flat_at, flat_laws}

@@ -1,5 +1,5 @@
 use Rattle.std.proofs.lemmas.Result.{err_from_is_err_and}
-use Rattle.quota_blocks.proofs.TextLemmas.{appends_at_flush}
+use Rattle.outside.proofs.TextLemmas.{appends_at_flush}
 use Rattle.report_text.proofs.page.Page.make_room.Goals as goal
 
 pub returns-in_err-flush-clause-fault : goal.returns-in_err-flush-clause-fault

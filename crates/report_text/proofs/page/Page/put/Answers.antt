@@ -1,6 +1,6 @@
 use Rattle.std.proofs.Common.{refl}
 use Rattle.std.proofs.lemmas.Result.{err_from_is_err_and, on_err_weaker}
-use Rattle.quota_blocks.proofs.TextLemmas.{appends_at_write}
+use Rattle.outside.proofs.TextLemmas.{appends_at_write}
 use Rattle.report_text.proofs.GatherLemmas.{writes_more}
 use Rattle.report_text.proofs.page.Page.put.Goals as goal
 

@@ -5,7 +5,7 @@ use Rattle.quota_blocks.specs.FileChange.{Remove}
 use Rattle.quota_blocks.specs.QuotaValue.{QuotaValue}
 use Rattle.quota_blocks.specs.declared.quota_file.FileFault.TheVariants.{Damage}
 use Rattle.quota_blocks.proofs.ChangesLemmas.{bounded-none, changes-idle}
-use Rattle.quota_blocks.proofs.FrameLemmas.{only_reads-none}
+use Rattle.outside.proofs.FrameLemmas.{only_reads-none}
 use Rattle.tree_file.specs.TreeChange.{tree_at, tree_laws}
 use Rattle.tree_file.proofs.ListingLemmas.{absent_stays}
 use Rattle.tree_file.proofs.MakesLemmas.{changes-left, loaded_stands}

@@ -1,0 +1,6 @@
+pub mod BlockLemmas
+pub mod FlagsLemmas
+pub mod LeadsLemmas
+pub mod MarkedLemmas
+pub mod NumberLemmas
+pub mod WordLemmas

@@ -1,0 +1,5 @@
+pub mod InputLemmas
+pub mod InputLinesLemmas
+pub mod LinesLemmas
+pub mod NumeralLemmas
+pub mod WordsLemmas

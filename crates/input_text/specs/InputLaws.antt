@@ -1,0 +1,74 @@
+-- What a file of a store as a source keeps along its calls is kept by no call, by two in a row, and whether or not they
+-- answered Ok.
+use Rattle.std.specs.Prelude.{◌≤◌, ◌⊎◌, ◌&&◌, Bool, true, false, List, ℕ, refl}
+use Rattle.std.proofs.Common.{◌∙◌, inl, inr, arith, subst}
+use Rattle.std.proofs.Math.Nat.{le_refl, le_trans}
+use Rattle.std.proofs.lemmas.Bool.{and_parts, false≢true}
+use Rattle.std.specs.String.{string_bytes}
+use Rattle.outside.specs.Behind.{behind_nothing, behind_on}
+use Rattle.outside.specs.Count.{Rose}
+use Rattle.outside.specs.Frame.{OnlyReads}
+use Rattle.outside.specs.Seen.{StoreSeen}
+use Rattle.input_text.specs.StoreInput.{KeepsInput}
+use Rattle.outside.specs.Unsynced.{AddsNone, Names}
+use Rattle.input_text.specs.declared.store_input.StoreInput.{StoreInput}
+
+-- no name is unsynced that was not, unless the count of faults rose: so along two calls in a row where it is so along each
+unsynced_on : (faults faults_between faults_last : ℕ) (names names_between names_last : Names) → faults ≤ faults_between → faults_between ≤ faults_last
+    → (Rose faults faults_between ⊎ AddsNone names names_between) → (Rose faults_between faults_last ⊎ AddsNone names_between names_last)
+    → Rose faults faults_last ⊎ AddsNone names names_last
+unsynced_on faults faults_between faults_last names names_between names_last later later_last one two =
+    elim one [
+      | inl rose ↦ inl (le_trans rose later_last)
+      | inr none ↦ elim two [
+        | inl rose ↦ inl (omega (arith, later, rose))
+        | inr none_last ↦ inr (λ name is. none name (none_last name is))
+      ]
+    ]
+
+module _ {S : Type 0} (tells : Bool) (seen : S → StoreSeen) where
+  pub keeps_input_itself : (input : StoreInput S) → KeepsInput tells seen true input input
+  keeps_input_itself input = record {
+    source = refl;
+    store = refl;
+    name = refl;
+    leaves = record { files = refl; unsynced = λ other differs. refl; later = le_refl _; writes = refl; synced = λ ok name is. is };
+    unsynced = inr (λ name is. is);
+    behind = λ told. behind_nothing _;
+  }
+
+  pub keeps_input_on : (ok ok_last : Bool) (first between last : StoreInput S) → KeepsInput tells seen ok first between → KeepsInput tells seen ok_last between last
+      → KeepsInput tells seen (ok && ok_last) first last
+  keeps_input_on ok ok_last first between last one two =
+      let read : OnlyReads ok_last (string_bytes first.source.now.name) (seen between.store.now) (seen last.store.now) =
+      subst (λ (name : List ℕ). OnlyReads ok_last name (seen between.store.now) (seen last.store.now)) one.name two.leaves in
+      record {
+        source = two.source ∙ one.source;
+        store = two.store ∙ one.store;
+        name = two.name ∙ one.name;
+        leaves = record {
+          files = read.files ∙ one.leaves.files;
+          unsynced = λ other differs. read.unsynced other differs ∙ one.leaves.unsynced other differs;
+          later = le_trans one.leaves.later read.later;
+          writes = read.writes ∙ one.leaves.writes;
+          synced = λ both name is. one.leaves.synced (and_parts ok ok_last both).0 name (read.synced (and_parts ok ok_last both).1 name is);
+        };
+        unsynced = unsynced_on _ _ _ _ _ _ one.leaves.later read.later one.unsynced two.unsynced;
+        behind = λ told. behind_on _ _ _ (one.behind told) (two.behind told);
+      }
+
+  pub keeps_input_any : (old new : StoreInput S) → KeepsInput tells seen true old new → KeepsInput tells seen false old new
+  keeps_input_any old new kept = record {
+    source = kept.source;
+    store = kept.store;
+    name = kept.name;
+    leaves = record {
+      files = kept.leaves.files;
+      unsynced = kept.leaves.unsynced;
+      later = kept.leaves.later;
+      writes = kept.leaves.writes;
+      synced = λ not. absurd (false≢true not);
+    };
+    unsynced = kept.unsynced;
+    behind = kept.behind;
+  }

@@ -1,0 +1,4 @@
+pub mod NameSetLemmas
+pub mod NamedFilesLemmas
+pub mod OverwriteLemmas
+pub mod TakenLemmas

@@ -1,0 +1,142 @@
+-- What calls on a store leave, for no call and for two in a row.
+use Rattle.std.proofs.Common.{◌≡◌, inl, inr, ℕ, Bool, true, false, List, refl, sym, ◌∙◌, arith, ◌⊎◌, ap}
+use Rattle.std.proofs.lemmas.Bool.{cases_Bool, false≢true}
+use Rattle.outside.specs.Frame.{AreSynced, ChangesOne, IsSynced, OnlyReads, ReplacesOne}
+use Rattle.outside.specs.Replacement.{replacement_name}
+use Rattle.outside.specs.Seen.{StoreSeen}
+use Rattle.outside.specs.Unsynced.{AddsNone, Names}
+use Rattle.outside.specs.World.{KeepsOthers, KeepsOtherTwo, World}
+
+-- where nothing changed all others are as they were
+pub keeps_others-same : {T : Type 0} (name : List ℕ) (old new : List ℕ → T) → new ≡ old → KeepsOthers name old new
+keeps_others-same name old new same other differ i = same i other
+
+pub keeps_others-then : {T : Type 0} (name : List ℕ) (old between new : List ℕ → T) → KeepsOthers name old between → KeepsOthers name between new → KeepsOthers name old new
+keeps_others-then name old between new first second other differ = second other differ ∙ first other differ
+
+pub keeps_other_two-then : {T : Type 0} (one two : List ℕ) (old between new : List ℕ → T) → KeepsOtherTwo one two old between → KeepsOtherTwo one two between new → KeepsOtherTwo one two old new
+keeps_other_two-then one two old between new first second other differ differs = second other differ differs ∙ first other differ differs
+
+-- a call that was not made reads only
+pub only_reads-none : {done : Bool} (name : List ℕ) (seen : StoreSeen) → OnlyReads done name seen seen
+only_reads-none name seen = record { files = refl; unsynced = λ other differ. refl; later = omega arith; writes = refl; synced = λ done other is. is }
+
+pub only_reads-then : {done : Bool} (name : List ℕ) (old between new : StoreSeen) → OnlyReads true name old between → OnlyReads done name between new → OnlyReads done name old new
+only_reads-then name old between new first second = record {
+  files = second.files ∙ first.files;
+  unsynced = keeps_others-then name _ _ _ first.unsynced second.unsynced;
+  later = omega (arith, first.later, second.later);
+  writes = second.writes ∙ first.writes;
+  synced = λ done other is. first.synced refl other (second.synced done other is);
+}
+
+-- what was done is also what was not said to be done
+pub only_reads-less : {done : Bool} (name : List ℕ) (old new : StoreSeen) → OnlyReads done name old new → OnlyReads false name old new
+only_reads-less name old new read = record {
+  files = read.files;
+  unsynced = read.unsynced;
+  later = read.later;
+  writes = read.writes;
+  synced = λ done. absurd (false≢true done);
+}
+
+-- two calls in a row, of which nothing is said of names that were synced
+pub only_reads-any : {one two : Bool} (name : List ℕ) (old between new : StoreSeen) → OnlyReads one name old between → OnlyReads two name between new → OnlyReads false name old new
+only_reads-any name old between new first second = record {
+  files = second.files ∙ first.files;
+  unsynced = keeps_others-then name _ _ _ first.unsynced second.unsynced;
+  later = omega (arith, first.later, second.later);
+  writes = second.writes ∙ first.writes;
+  synced = λ done. absurd (false≢true done);
+}
+
+pub changes_one-none : (name : List ℕ) (seen : StoreSeen) → ChangesOne name seen seen
+changes_one-none name seen = record { files = λ other differ. refl; unsynced = λ other differ. refl; later = omega arith; reads = refl }
+
+pub changes_one-then : (name : List ℕ) (old between new : StoreSeen) → ChangesOne name old between → ChangesOne name between new → ChangesOne name old new
+changes_one-then name old between new first second = record {
+  files = keeps_others-then name _ _ _ first.files second.files;
+  unsynced = keeps_others-then name _ _ _ first.unsynced second.unsynced;
+  later = omega (arith, first.later, second.later);
+  reads = second.reads ∙ first.reads;
+}
+
+pub replaces_one-none : (name : List ℕ) (seen : StoreSeen) → ReplacesOne name seen seen
+replaces_one-none name seen = record { files = λ other differ differs. refl; unsynced = λ other differ differs. refl; later = omega arith }
+
+pub replaces_one-then : (name : List ℕ) (old between new : StoreSeen) → ReplacesOne name old between → ReplacesOne name between new → ReplacesOne name old new
+replaces_one-then name old between new first second = record {
+  files = keeps_other_two-then name (replacement_name name) _ _ _ first.files second.files;
+  unsynced = keeps_other_two-then name (replacement_name name) _ _ _ first.unsynced second.unsynced;
+  later = omega (arith, first.later, second.later);
+}
+
+-- a call that only reads replaces nothing
+pub replaces_one-read : {done : Bool} (name : List ℕ) (old new : StoreSeen) → OnlyReads done name old new → ReplacesOne name old new
+replaces_one-read name old new read = record {
+  files = λ other differ differs. keeps_others-same name _ _ read.files other differ;
+  unsynced = λ other differ differs. read.unsynced other differ;
+  later = read.later;
+}
+
+-- a change after a call that only reads
+pub replaces_one-after_read : {done : Bool} (name : List ℕ) (old between new : StoreSeen) → OnlyReads done name old between → ReplacesOne name between new → ReplacesOne name old new
+replaces_one-after_read name old between new first second =
+    replaces_one-then name old between new (replaces_one-read name old between first) second
+
+pub adds_none-then : (old between new : Names) → AddsNone old between → AddsNone between new → AddsNone old new
+adds_none-then old between new first second name is = first name (second name is)
+
+-- a name that was synced is synced after a call that made no name unsynced
+still_synced : (name : List ℕ) (old new : Names) → AddsNone old new → old name ≡ false → new name ≡ false
+still_synced name old new adds was =
+    elim (cases_Bool (new name)) [
+      | inl is ↦ absurd (false≢true (sym was ∙ adds name is))
+      | inr is ↦ is
+    ]
+
+-- a call that only read has nothing to sync
+pub is_synced-read : (name : List ℕ) (old new : StoreSeen) → OnlyReads true name old new → IsSynced name old new
+is_synced-read name old new read = record {
+  none = read.synced refl;
+  changed = λ other. inr (ap (λ (files : World). files other) read.files);
+  named = inr (read.writes, read.files);
+}
+
+-- a name is synced after two changes, or its file is as before both
+synced_then : (name : List ℕ) (old between new : StoreSeen) → AddsNone between.unsynced new.unsynced → (between.unsynced name ≡ false) ⊎ (between.files name ≡ old.files name)
+    → (new.unsynced name ≡ false) ⊎ (new.files name ≡ between.files name) → (new.unsynced name ≡ false) ⊎ (new.files name ≡ old.files name)
+synced_then name old between new adds first (inl synced) = inl synced
+synced_then name old between new adds (inl synced) (inr same) = inl (still_synced name between.unsynced new.unsynced adds synced)
+synced_then name old between new adds (inr was) (inr same) = inr (same ∙ was)
+
+pub is_synced-then : (name : List ℕ) (old between new : StoreSeen) → IsSynced name old between → IsSynced name between new → IsSynced name old new
+is_synced-then name old between new first second = record {
+  none = adds_none-then old.unsynced between.unsynced new.unsynced first.none second.none;
+  changed = λ other. synced_then other old between new second.none (first.changed other) (second.changed other);
+  named =
+      elim second.named [
+        | inl synced ↦ inl synced
+        | inr unwritten ↦ elim first.named [
+          | inl synced ↦ inl (still_synced name between.unsynced new.unsynced second.none synced)
+          | inr none ↦ inr (unwritten.0 ∙ none.0, unwritten.1 ∙ none.1)
+        ]
+      ];
+}
+
+-- what was done for one file, as what was done for all
+pub are_synced : (name : List ℕ) (old new : StoreSeen) → IsSynced name old new → AreSynced old new
+are_synced name old new synced = record { none = synced.none; changed = synced.changed }
+
+pub are_synced-none : (seen : StoreSeen) → AreSynced seen seen
+are_synced-none seen = record { none = λ other is. is; changed = λ other. inr refl }
+
+-- calls that only read have nothing to sync
+pub are_synced-read : (name : List ℕ) (old new : StoreSeen) → OnlyReads true name old new → AreSynced old new
+are_synced-read name old new read = record { none = read.synced refl; changed = λ other. inr (ap (λ (files : World). files other) read.files) }
+
+pub are_synced-then : (old between new : StoreSeen) → AreSynced old between → AreSynced between new → AreSynced old new
+are_synced-then old between new first second = record {
+  none = adds_none-then old.unsynced between.unsynced new.unsynced first.none second.none;
+  changed = λ other. synced_then other old between new second.none (first.changed other) (second.changed other);
+}

@@ -1,0 +1,5 @@
+pub mod CountLemmas
+pub mod FrameLemmas
+pub mod TextLemmas
+pub mod UnsyncedLemmas
+pub mod WorldLemmas

@@ -1,0 +1,34 @@
+-- What is seen of the objects outside of the program, as far as they tell it.
+use Rattle.std.specs.Prelude.{ℕ, List}
+use Rattle.outside.specs.Unsynced.{Names}
+use Rattle.outside.specs.World.{World}
+
+-- A store: its files by the bytes of their names, the names that are unsynced, how many of its calls have failed, and
+-- how many calls of `read` and of `write` there were. Each count stands still at the last value of 64 bits.
+pub record StoreSeen : Type 0 where
+  pub files : World
+  pub unsynced : Names
+  pub faults : ℕ
+  pub reads : ℕ
+  pub writes : ℕ
+
+-- A sink: the bytes that were written to it, and how many of its calls have failed.
+pub record SinkSeen : Type 0 where
+  pub written : List ℕ
+  pub faults : ℕ
+
+-- A source: the bytes that are left in it, and how many of its calls have failed.
+pub record SourceSeen : Type 0 where
+  pub left : List ℕ
+  pub faults : ℕ
+
+-- a datagram and the moment at which it comes, in seconds since 1970
+pub record Datagram : Type 0 where
+  pub bytes : List ℕ
+  pub moment : ℕ
+
+-- A link: the datagrams that are left, the answers that were sent, and how many of its calls have failed.
+pub record LinkSeen : Type 0 where
+  pub left : List Datagram
+  pub answers : List (List ℕ)
+  pub faults : ℕ

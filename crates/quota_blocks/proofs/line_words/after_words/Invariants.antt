@@ -1,9 +1,0 @@
-use Rattle.std.proofs.Common.{◌≡◌, length}
-use Rattle.quota_blocks.specs.Words.{words_behind, words_of}
-use Rattle.quota_blocks.proofs.line_words.after_words.Given as goal
-
-abbrev pub invariant-loop-front : goal.invariant-loop-front
-invariant-loop-front l = words_behind (words_of l.text) (words_of l.line) ≡ words_behind (words_of l.wanted) (words_of l.rest)
-
-abbrev pub decreases-loop-front : goal.decreases-loop-front
-decreases-loop-front l = length l.wanted
