@@ -1,6 +1,7 @@
 pub mod Check
 pub mod Conversion
 pub mod FileValue
+pub mod Gathered
 pub mod Generate
 pub mod Report
 pub use Rattle.quota_blocks.specs.Frame

@@ -22,13 +22,14 @@ ghost use Rattle.file_commands.specs.Generate.{GenerateMayRefuse, GenerateSteps,
 
 use crate::check::apply_cause;
 use crate::file_value::{FileValue, replace_cause};
+use crate::gathered::Gathered;
 use crate::listing_input::scan_cause;
 use crate::report::report_opened;
 use arrayvec::ArrayVec;
 use id_names::Names;
 use inode_scan::{Generated, apply, scan};
 use itoa::Buffer;
-use quota_blocks::{MemSink, Sink, Store};
+use quota_blocks::{Sink, Store};
 use quota_map::{MOST_BLOCKS, replace_file};
 use quota_types::{Entry, Format, Kind};
 use refusals::{Cause, Refusal, Word};
@@ -189,7 +190,7 @@ fn report_length<S: Store>(
     ensures later { (S.seen store.old).faults ≤ (S.seen store.new).faults }
     ensures synced { OnOk result (AddsNone (S.seen store.old).unsynced (S.seen store.new).unsynced) }
 {
-    let mut sink = MemSink::new(Vec::new(alloc), Vec::new(alloc));
+    let mut gathered = Gathered::new(alloc);
     let names = Names::none(alloc);
     match report_opened(
         alloc,
@@ -199,10 +200,10 @@ fn report_length<S: Store>(
         &no_options(),
         file,
         store,
-        &mut sink,
+        &mut gathered,
         now,
     ) {
-        Ok(()) => Ok(sink.bytes().len()),
+        Ok(()) => Ok(gathered.text().len()),
         Err(refusal) => Err(Refusal::of(gathered_cause(refusal.cause), refusal.name)),
     }
 }

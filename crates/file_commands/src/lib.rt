@@ -6,6 +6,7 @@
 mod check;
 mod conversion;
 mod file_value;
+mod gathered;
 mod generate;
 mod listing_input;
 mod report;
