@@ -1,3 +1,2 @@
-pub mod NumberLemmas
 pub mod EntryLemmas
 pub mod SpellingLemmas

@@ -1,17 +1,13 @@
--- The entries of a tree file. Source: `struct v2r0_disk_dqblk` and `struct v2r1_disk_dqblk` of the quota tools.
+-- The entries of a tree file, each of as many bytes as a record of the format has. Source: `struct v2r0_disk_dqblk` and
+-- `struct v2r1_disk_dqblk` of the quota tools.
 use Rattle.std.specs.Prelude.{◌≡◌, ℕ, ◌<◌, Bool, false, ◌==◌, List, length}
 use Rattle.std.specs.List.{list_all}
 use Rattle.quota_types.specs.Bytes.{byte_at, number_at}
+use Rattle.quota_types.specs.Format.{record_size}
 use Rattle.quota_types.specs.Kept.{without_marker}
 use Rattle.quota_types.specs.declared.file_kind.Format.{Format}
 use Rattle.quota_types.specs.declared.file_kind.Format.TheVariants.{V1, V2R0, V2R1}
 use Rattle.quota_types.specs.declared.record.Rec.{Rec}
-
--- the bytes of an entry; a flat file has none
-abbrev pub entry_size : Format → ℕ
-entry_size V1 = 0
-entry_size V2R0 = 48
-entry_size V2R1 = 72
 
 -- the entries of a data block, which fill it behind its first 16 bytes
 abbrev pub entries_per_block : Format → ℕ
@@ -79,6 +75,6 @@ AreBytes bytes = (at : ℕ) → byte_at bytes at < 256
 -- the bytes are a whole entry of this identifier and record, and its padding is 0
 pub record IsSpelling (format : Format) (bytes : List ℕ) (id : ℕ) (rec : Rec) : Type 0 where
   pub are_bytes : AreBytes bytes
-  pub size : length bytes ≡ entry_size format
+  pub size : length bytes ≡ record_size format
   pub entry : IsEntry format bytes id rec
   pub padding : padding_of format bytes ≡ 0

@@ -1,11 +1,11 @@
 ghost use Rattle.std.specs.Prelude.{◌≡◌, ◌≢◌, ◌≤◌, ℕ, true, false, None, Some, IfNone, IfSome, length};
-ghost use Rattle.entry_codec.specs.Entry.{IsEntry, entry_size, is_unused, padding_of, stored_id, stored_v2r0, stored_v2r1};
+ghost use Rattle.entry_codec.specs.Entry.{IsEntry, is_unused, padding_of, stored_id, stored_v2r0, stored_v2r1};
 ghost use Rattle.quota_types.specs.Bytes.{number_at};
+ghost use Rattle.quota_types.specs.Format.{IsTreeFormat, record_size};
 ghost use Rattle.quota_types.specs.Kept.{kept_of, without_marker};
 ghost use Rattle.quota_types.specs.Range.{unfit};
 
-use crate::numbers::{number4, number8, put_numbers4, put_numbers8};
-use quota_types::{Format, Rec, kept};
+use quota_types::{Format, Rec, kept, le32_at, le64_at, set_le32s_at, set_le64s_at};
 
 /// The record of an entry of vfsv0, as it is stored. It fits, whatever the identifier.
 fn stored_v2r0(bytes: &[u8]) -> Rec
@@ -14,14 +14,14 @@ fn stored_v2r0(bytes: &[u8]) -> Rec
     ensures fits { unfit Format.V2R0 0 result ≡ None }
 {
     Rec {
-        ihard: u64::from(number4(bytes, 4)),
-        isoft: u64::from(number4(bytes, 8)),
-        inodes: u64::from(number4(bytes, 12)),
-        bhard: u64::from(number4(bytes, 16)),
-        bsoft: u64::from(number4(bytes, 20)),
-        space: number8(bytes, 24),
-        btime: number8(bytes, 32),
-        itime: number8(bytes, 40),
+        ihard: u64::from(le32_at(bytes, 4)),
+        isoft: u64::from(le32_at(bytes, 8)),
+        inodes: u64::from(le32_at(bytes, 12)),
+        bhard: u64::from(le32_at(bytes, 16)),
+        bsoft: u64::from(le32_at(bytes, 20)),
+        space: le64_at(bytes, 24),
+        btime: le64_at(bytes, 32),
+        itime: le64_at(bytes, 40),
     }
 }
 
@@ -32,14 +32,14 @@ fn stored_v2r1(bytes: &[u8]) -> Rec
     ensures fits { unfit Format.V2R1 0 result ≡ None }
 {
     Rec {
-        ihard: number8(bytes, 8),
-        isoft: number8(bytes, 16),
-        inodes: number8(bytes, 24),
-        bhard: number8(bytes, 32),
-        bsoft: number8(bytes, 40),
-        space: number8(bytes, 48),
-        btime: number8(bytes, 56),
-        itime: number8(bytes, 64),
+        ihard: le64_at(bytes, 8),
+        isoft: le64_at(bytes, 16),
+        inodes: le64_at(bytes, 24),
+        bhard: le64_at(bytes, 32),
+        bsoft: le64_at(bytes, 40),
+        space: le64_at(bytes, 48),
+        btime: le64_at(bytes, 56),
+        itime: le64_at(bytes, 64),
     }
 }
 
@@ -53,8 +53,8 @@ fn is_unused(bytes: &[u8]) -> bool
 /// The record of an entry in use.
 #[inline(always)]
 fn used_record(format: Format, id: u32, bytes: &[u8]) -> Rec
-    requires tree { format ≢ Format.V1 }
-    requires size { length bytes.now ≡ entry_size format }
+    requires tree { IsTreeFormat format }
+    requires size { length bytes.now ≡ record_size format }
     requires used { is_unused bytes.now ≡ false }
     requires id { id ≡ stored_id bytes.now }
     ensures entry { IsEntry format bytes.now id result }
@@ -78,14 +78,14 @@ pub fn read_id(bytes: &[u8]) -> Option<u32>
     if is_unused(bytes) {
         return None;
     }
-    Some(number4(bytes, 0))
+    Some(le32_at(bytes, 0))
 }
 
 /// The identifier and the record of an entry, or none where it is unused.
 #[inline(always)]
 pub fn read_entry(format: Format, bytes: &[u8]) -> Option<(u32, Rec)>
-    requires tree { format ≢ Format.V1 }
-    requires size { length bytes.now ≡ entry_size format }
+    requires tree { IsTreeFormat format }
+    requires size { length bytes.now ≡ record_size format }
     ensures used { IfSome result (λ entry. IsEntry format bytes.now entry.0 entry.1) }
     ensures found { (id : ℕ) (rec : Rec) → IsEntry format bytes.now id rec → result ≡ Some (id, rec) }
     ensures unused { IfNone result (is_unused bytes.now ≡ true) }
@@ -125,8 +125,8 @@ fn write_v2r0(id: u32, stored: &Rec, bytes: &mut [u8])
         stored.bhard as u32,
         stored.bsoft as u32,
     ];
-    put_numbers4(bytes, &numbers);
-    put_numbers8(bytes, 24, &[stored.space, stored.btime, stored.itime]);
+    set_le32s_at(bytes, 0, &numbers);
+    set_le64s_at(bytes, 24, &[stored.space, stored.btime, stored.itime]);
 }
 
 fn write_v2r1(id: u32, stored: &Rec, bytes: &mut [u8])
@@ -145,14 +145,14 @@ fn write_v2r1(id: u32, stored: &Rec, bytes: &mut [u8])
         stored.btime,
         stored.itime,
     ];
-    put_numbers4(bytes, &[id, 0]);
-    put_numbers8(bytes, 8, &numbers);
+    set_le32s_at(bytes, 0, &[id, 0]);
+    set_le64s_at(bytes, 8, &numbers);
 }
 
 /// Writes the entry of an identifier and its record over all bytes of `bytes`; padding becomes 0.
 pub fn write_entry(format: Format, id: u32, rec: &Rec, bytes: &mut [u8])
-    requires tree { format ≢ Format.V1 }
-    requires size { length bytes.old ≡ entry_size format }
+    requires tree { IsTreeFormat format }
+    requires size { length bytes.old ≡ record_size format }
     requires fits { unfit format id rec.now ≡ None }
     requires kept { kept_of format id rec.now ≡ rec.now }
     ensures entry { IsEntry format bytes.new id rec.now }

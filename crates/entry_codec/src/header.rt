@@ -1,9 +1,9 @@
 ghost use Rattle.std.specs.Prelude.{◌≡◌, ◌≢◌, ◌^◌, ◌<◌, ◌≤◌, None, Some, IfErr, IfOk, OnOk, drop, length};
 ghost use Rattle.entry_codec.specs.Header.{AreOf, format_of, header_fault, header_of, is_magic, magic_of};
+ghost use Rattle.quota_types.specs.Format.{IsTreeFormat};
 ghost use Rattle.quota_types.specs.Range.{grace_unfit};
 
-use crate::numbers::{number4, put_numbers4};
-use quota_types::{Format, Grace, Kind};
+use quota_types::{Format, Grace, Kind, le32_at, set_le32s_at};
 
 /// The header of a tree file.
 #[derive(Clone, Copy, Debug, PartialEq, Eq)]
@@ -69,7 +69,7 @@ fn format_of(version: u32) -> Option<Format>
 }
 
 fn version_of(format: Format) -> u32
-    requires { format ≢ Format.V1 }
+    requires { IsTreeFormat format }
     ensures { format_of result ≡ Some format }
 {
     match format {
@@ -86,15 +86,15 @@ fn check_header(block: &[u8], kind: Kind) -> Result<Format, HeaderFault>
     ensures refused { IfErr result (λ fault. header_fault kind (header_of block.now) ≡ Some fault) }
     ensures version { IfOk result (λ format. format_of (header_of block.now).version ≡ Some format) }
 {
-    let magic = number4(block, 0);
+    let magic = le32_at(block, 0);
     if !is_magic(magic) {
         return Err(HeaderFault::NotQuota);
     }
     if magic != magic_of(kind) {
         return Err(HeaderFault::WrongKind);
     }
-    let format = format_of(number4(block, 4)).ok_or(HeaderFault::UnknownVersion)?;
-    if number4(block, 20) < LEAST_BLOCKS {
+    let format = format_of(le32_at(block, 4)).ok_or(HeaderFault::UnknownVersion)?;
+    if le32_at(block, 20) < LEAST_BLOCKS {
         return Err(HeaderFault::BadBlockCount);
     }
     Ok(format)
@@ -108,20 +108,20 @@ fn read_from(block: &[u8], kind: Kind) -> Result<Header, HeaderFault>
     ensures numbers { IfOk result (λ header. AreOf header (header_of block.now)) }
     ensures grace { IfOk result (λ header. grace_unfit header.format header.grace ≡ None) }
     ensures blocks { IfOk result (λ header. 2 ≤ header.blocks) }
-    ensures tree { IfOk result (λ header. header.format ≢ Format.V1) }
+    ensures tree { IfOk result (λ header. IsTreeFormat header.format) }
 {
     let format = check_header(block, kind)?;
     Ok(Header {
         kind,
         format,
         grace: Grace {
-            block: u64::from(number4(block, 8)),
-            inode: u64::from(number4(block, 12)),
+            block: u64::from(le32_at(block, 8)),
+            inode: u64::from(le32_at(block, 12)),
         },
-        flags: number4(block, 16),
-        blocks: number4(block, 20),
-        free: number4(block, 24),
-        first: number4(block, 28),
+        flags: le32_at(block, 16),
+        blocks: le32_at(block, 20),
+        free: le32_at(block, 24),
+        first: le32_at(block, 28),
     })
 }
 
@@ -134,13 +134,13 @@ pub fn read_header(block: &[u8; 1024], kind: Kind) -> Result<Header, HeaderFault
     ensures numbers { IfOk result (λ header. AreOf header (header_of block.now)) }
     ensures grace { IfOk result (λ header. grace_unfit header.format header.grace ≡ None) }
     ensures blocks { IfOk result (λ header. 2 ≤ header.blocks) }
-    ensures tree { IfOk result (λ header. header.format ≢ Format.V1) }
+    ensures tree { IfOk result (λ header. IsTreeFormat header.format) }
 {
     read_from(&block[..], kind)
 }
 
 fn write_to(header: &Header, block: &mut [u8])
-    requires tree { header.now.format ≢ Format.V1 }
+    requires tree { IsTreeFormat header.now.format }
     requires block_grace { header.now.grace.block < 2 ^ 32 }
     requires inode_grace { header.now.grace.inode < 2 ^ 32 }
     requires size { 32 ≤ length block.old }
@@ -157,12 +157,12 @@ fn write_to(header: &Header, block: &mut [u8])
         header.free,
         header.first,
     ];
-    put_numbers4(block, &numbers);
+    set_le32s_at(block, 0, &numbers);
 }
 
 /// Writes the header into the first 32 bytes of the file's first block, and leaves the others.
 pub fn write_header(header: &Header, block: &mut [u8; 1024])
-    requires tree { header.now.format ≢ Format.V1 }
+    requires tree { IsTreeFormat header.now.format }
     requires blocks { 2 ≤ header.now.blocks }
     requires block_grace { header.now.grace.block < 2 ^ 32 }
     requires inode_grace { header.now.grace.inode < 2 ^ 32 }

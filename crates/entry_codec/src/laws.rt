@@ -1,9 +1,10 @@
 //! Laws of the layout: what is written is read again, and bytes and values determine each other.
 
 ghost use Rattle.std.specs.Prelude.{◌≡◌, ◌≢◌, ◌^◌, ◌<◌, ◌≤◌, ℕ, List, None, Ok, Some, length};
-ghost use Rattle.entry_codec.specs.Entry.{AreBytes, IsEntry, IsSpelling, entry_size};
+ghost use Rattle.entry_codec.specs.Entry.{AreBytes, IsEntry, IsSpelling};
 ghost use Rattle.entry_codec.specs.Header.{AreOf, HeaderNumbers, header_of};
 ghost use Rattle.quota_types.specs.Bytes.{byte_at};
+ghost use Rattle.quota_types.specs.Format.{IsTreeFormat, record_size};
 ghost use Rattle.quota_types.specs.Kept.{kept_of};
 ghost use Rattle.quota_types.specs.Range.{unfit};
 
@@ -15,7 +16,7 @@ pub fn a_header_is_read_again(
     header: &Header,
     block: &mut [u8; 1024],
 ) -> Result<Header, HeaderFault>
-    requires tree { header.now.format ≢ Format.V1 }
+    requires tree { IsTreeFormat header.now.format }
     requires blocks { 2 ≤ header.now.blocks }
     requires block_grace { header.now.grace.block < 2 ^ 32 }
     requires inode_grace { header.now.grace.inode < 2 ^ 32 }
@@ -32,8 +33,8 @@ pub fn an_entry_is_read_again(
     rec: &Rec,
     bytes: &mut [u8],
 ) -> Option<(u32, Rec)>
-    requires tree { format ≢ Format.V1 }
-    requires size { length bytes.old ≡ entry_size format }
+    requires tree { IsTreeFormat format }
+    requires size { length bytes.old ≡ record_size format }
     requires fits { unfit format id rec.now ≡ None }
     requires kept { kept_of format id rec.now ≡ rec.now }
     ensures { result ≡ Some (id, rec.now) }

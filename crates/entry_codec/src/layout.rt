@@ -1,23 +1,20 @@
 ghost use Rattle.std.specs.Prelude.{◌≡◌, ◌≢◌};
-ghost use Rattle.entry_codec.specs.Entry.{entries_per_block, entry_size};
+ghost use Rattle.entry_codec.specs.Entry.{entries_per_block};
+ghost use Rattle.quota_types.specs.Format.{IsTreeFormat, record_size};
 
 use quota_types::Format;
 
-/// The bytes of an entry of a tree file.
+/// How many bytes an entry of a tree file has: as many as a record of its format.
 pub fn entry_size(format: Format) -> usize
-    requires { format ≢ Format.V1 }
-    ensures { result ≡ entry_size format }
+    requires { IsTreeFormat format }
+    ensures { result ≡ record_size format }
 {
-    match format {
-        Format::V1 => unreachable!(),
-        Format::V2R0 => 48,
-        Format::V2R1 => 72,
-    }
+    format.record_size()
 }
 
 /// The entries of a data block of a tree file.
 pub fn entries_per_block(format: Format) -> usize
-    requires { format ≢ Format.V1 }
+    requires { IsTreeFormat format }
     ensures { result ≡ entries_per_block format }
 {
     match format {

@@ -11,7 +11,6 @@ mod entry;
 mod header;
 pub mod laws;
 mod layout;
-mod numbers;
 
 pub use entry::{read_entry, read_id, write_entry};
 pub use header::{Header, HeaderFault, read_header, write_header};

@@ -2,5 +2,4 @@ pub mod BlockLemmas
 pub mod FlagsLemmas
 pub mod LeadsLemmas
 pub mod MarkedLemmas
-pub mod NumberLemmas
 pub mod WordLemmas

@@ -4,16 +4,8 @@ use Rattle.std.proofs.lemmas.Bool.{cases_lt}
 use Rattle.std.proofs.lemmas.List.{get_or_past, get_or-drop, get_or-take, get_or-replicate, length-replicate}
 use Rattle.quota_types.specs.Bytes.{byte_at, number_at}
 use Rattle.file_blocks.specs.Block.{block_of}
+pub use Rattle.quota_types.proofs.BytesLemmas.{number_same}
 use Rattle.std.proofs.lemmas.Grind.{same_number_lists}
-
--- numbers of bytes that are the same
-pub number_same : (width at : ℕ) (xs ys : List ℕ) → ((k : ℕ) → at ≤ k → k < at + width → byte_at xs k ≡ byte_at ys k) → number_at width xs at ≡ number_at width ys at
-unfolding number_at
-number_same zero at xs ys same = refl
-number_same (suc width) at xs ys same =
-    let byte : byte_at xs at ≡ byte_at ys at = same at (omega arith) (omega arith) in
-    let rest = number_same width (suc at) xs ys (λ k from to. same k (omega arith) (omega arith)) in
-    omega arith
 
 -- a part of two lists in which they are the same
 pub same_part : (size at : ℕ) (xs ys : List ℕ) → length xs ≡ length ys → ((k : ℕ) → at ≤ k → k < at + size → byte_at xs k ≡ byte_at ys k) → take size (drop at xs) ≡ take size (drop at ys)

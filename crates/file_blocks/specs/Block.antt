@@ -20,10 +20,6 @@ next_of file number = number_at 4 (block_of file number) 0
 abbrev pub previous_of : List ℕ → ℕ → ℕ
 previous_of file number = number_at 4 (block_of file number) 4
 
--- the number of used entries that a data block states
-abbrev pub stated_count : List ℕ → ℕ → ℕ
-stated_count file number = number_at 2 (block_of file number) 8
-
 -- the bytes of a file that may be absent
 abbrev pub bytes_of : Option (List ℕ) → List ℕ
 bytes_of file = unwrap_or file []

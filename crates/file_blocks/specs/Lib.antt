@@ -1,9 +1,9 @@
 pub mod Block
 pub mod BlockSet
 pub mod CheckFault
-pub mod Span
 pub use Rattle.quota_types.specs.Bytes
 pub use Rattle.quota_types.specs.Damage
+pub use Rattle.quota_types.specs.Span
 pub use Rattle.quota_types.specs.Times
 pub use Rattle.outside.specs.Count
 pub use Rattle.outside.specs.Frame

@@ -37,3 +37,12 @@ number_at-zeros (suc width) at file zeros =
 -- past the end there are zeros
 pub number_at-past : (width at : ℕ) (file : List ℕ) → length file ≤ at → number_at width file at ≡ 0
 number_at-past width at file past = number_at-zeros width at file (λ k from to. get_or_past file k 0 (omega arith))
+
+-- numbers of bytes that are the same
+pub number_same : (width at : ℕ) (xs ys : List ℕ) → ((k : ℕ) → at ≤ k → k < at + width → byte_at xs k ≡ byte_at ys k) → number_at width xs at ≡ number_at width ys at
+unfolding number_at
+number_same zero at xs ys same = refl
+number_same (suc width) at xs ys same =
+    let byte : byte_at xs at ≡ byte_at ys at = same at (omega arith) (omega arith) in
+    let rest = number_same width (suc at) xs ys (λ k from to. same k (omega arith) (omega arith)) in
+    omega arith

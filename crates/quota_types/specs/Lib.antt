@@ -1,9 +1,12 @@
 pub mod Bytes
 pub mod Damage
 pub mod Field
+pub mod Format
 pub mod Ids
 pub mod Kept
+pub mod Kind
 pub mod Range
 pub mod Rec
+pub mod Span
 pub mod Timers
 pub mod Times

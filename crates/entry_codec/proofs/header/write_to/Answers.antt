@@ -1,10 +1,11 @@
 use Rattle.std.proofs.Common.{ap, ◌∙◌, arith}
+use Rattle.quota_types.proofs.NumberLemmas.{behind_kept}
 use Rattle.entry_codec.specs.Header.{format_of}
 use Rattle.entry_codec.proofs.header.write_to.Goals as goal
 
 pub returns-clause-numbers : goal.returns-clause-numbers
 returns-clause-numbers c =
-    let written = c.put_numbers4.ensures.written in
+    let written = c.set_le32s_at.ensures.written in
     record {
       magic = written 0 (omega arith) ∙ c.magic_of.ensures;
       version = ap format_of (written 1 (omega arith)) ∙ c.version_of.ensures;
@@ -15,3 +16,6 @@ returns-clause-numbers c =
       free = written 6 (omega arith);
       first = written 7 (omega arith);
     }
+
+pub returns-clause-rest : goal.returns-clause-rest
+returns-clause-rest c = behind_kept 0 32 c.args.block.now c.set_le32s_at.new.bytes c.set_le32s_at.ensures.others (omega arith)

@@ -1,6 +1,6 @@
 use Rattle.std.proofs.lemmas.List.{take_rest}
-use Rattle.entry_codec.proofs.NumberLemmas.{little_number-drop}
-use Rattle.entry_codec.proofs.numbers.number8.Goals as goal
+use Rattle.quota_types.proofs.NumberLemmas.{little_number-drop}
+use Rattle.quota_types.proofs.little_endian.le64_at.Goals as goal
 
 pub returns : goal.returns
 returns c = rw (c.read_u64.ensures, take_rest) (little_number-drop 8 c.args.at c.args.bytes.now)

@@ -1,0 +1,17 @@
+-- The numbers of kinds, by which kinds are compared. Source: USRQUOTA and GRPQUOTA of the kernel's `linux/quota.h`.
+use Rattle.std.specs.Prelude.{ℕ, Bool, ◌==◌, if◌then◌else◌, Option, None, Some}
+use Rattle.quota_types.specs.declared.file_kind.Kind.{Kind}
+use Rattle.quota_types.specs.declared.file_kind.Kind.TheVariants.{User, Group}
+
+-- the number of a kind
+abbrev pub kind_number : Kind → ℕ
+kind_number User = 0
+kind_number Group = 1
+
+-- the kind with this number, or none
+abbrev pub kind_numbered : ℕ → Option Kind
+kind_numbered number = if number == 0 then Some User else if number == 1 then Some Group else None
+
+-- the two are one kind
+abbrev pub kinds_eq : Kind → Kind → Bool
+kinds_eq kind other = kind_number kind == kind_number other
