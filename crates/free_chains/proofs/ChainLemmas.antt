@@ -1,11 +1,11 @@
 -- The lists of free blocks and of data blocks that have room: each head has one, and it ends.
-use Rattle.std.proofs.Common.{◌≡◌, ℕ, zero, suc, ◌+◌, ◌≤◌, IsTrue, List, [], ◌∷◌, ◌++◌, length, map, refl, sym, ap, subst, ◌∙◌, ◌⊎◌, inl, inr, arith, zero-le, append_assoc, append-nil, length-append}
-use Rattle.std.proofs.lemmas.Bool.{cases_lt}
+use Rattle.std.proofs.Common.{◌≡◌, ℕ, zero, suc, ◌+◌, ◌≤◌, false, true, IsTrue, List, [], ◌∷◌, ◌++◌, length, map, refl, sym, ap, subst, ◌∙◌, ◌⊎◌, inl, inr, arith, zero-le, append_assoc, append-nil, length-append}
+use Rattle.std.proofs.lemmas.Bool.{cases_lt, cond-false, cond-true}
 use Rattle.std.proofs.lemmas.List.{map-append}
 use Rattle.file_blocks.specs.Block.{next_of, leads}
-use Rattle.free_chains.specs.Chain.{IsChain}
+use Rattle.free_chains.specs.Chain.{IsChain, chain_from}
 use Rattle.quota_types.specs.Times.{StandsIn, times}
-use Rattle.quota_types.proofs.TimesLemmas.{few_of_distinct, times-append, times-cons-same, times_cases}
+use Rattle.quota_types.proofs.TimesLemmas.{few_of_distinct, stands_right, times-append, times-cons-same, times_cases}
 use Rattle.file_blocks.proofs.LeadsLemmas.{leads_within, leads_from}
 
 pub goes_on_by_one : (next : ℕ → ℕ) (head at : ℕ) (done : List ℕ) → done ++ at ∷ [] ≡ head ∷ map next done
@@ -117,3 +117,29 @@ pub one_chain : (file : List ℕ) (blocks head : ℕ) (chain : List ℕ) (end : 
 one_chain file blocks head chain end chain' end' c c' =
     let same : chain ≡ chain' = one_rest file blocks head [] chain end chain' end' c c' in
     (same, same_last chain end end' (c.linked ∙ sym (subst (λ (xs : List ℕ). xs ++ end' ∷ [] ≡ head ∷ map (next_of file) xs) (sym same) c'.linked)))
+
+-- the blocks that are met from a head on are those of its chain, where that ends at a number that leads to no block
+chain_walked : (file : List ℕ) (blocks head end most : ℕ) (chain : List ℕ) → chain ++ end ∷ [] ≡ head ∷ map (next_of file) chain → ((n : ℕ) → StandsIn chain n → IsTrue (leads blocks n)) → leads blocks end ≡ false
+    → length chain ≤ most → chain_from file blocks head most ≡ chain
+unfolding chain_from
+chain_walked file blocks head end zero [] linked inside ends few = refl
+chain_walked file blocks head end zero (at ∷ rest) linked inside ends few = absurd (omega arith)
+chain_walked file blocks head end (suc most) [] linked inside ends few =
+    let last : end ≡ head = cc in
+    cond-false _ _ _ (ap (leads blocks) (sym last) ∙ ends)
+chain_walked file blocks head end (suc most) (at ∷ rest) linked inside ends few =
+    let first : at ≡ head = cc in
+    let behind : rest ++ end ∷ [] ≡ next_of file at ∷ map (next_of file) rest = cc in
+    let here : leads blocks at ≡ true = inside at (omega (arith, times-cons-same at rest)) in
+    ap (λ (number : ℕ). chain_from file blocks number (suc most)) (sym first)
+    ∙ cond-true _ _ _ here
+    ∙ ap (λ (numbers : List ℕ). at ∷ numbers)
+    (chain_walked file blocks (next_of file at) end most rest behind (λ n stands. inside n (stands_right (at ∷ []) rest n stands)) ends (omega arith))
+
+-- a list that ends at 0, with as many steps as it has blocks or more
+pub chain_is_met : (file : List ℕ) (blocks head most : ℕ) (chain : List ℕ) → IsChain file blocks head chain 0 → length chain ≤ most → chain_from file blocks head most ≡ chain
+chain_is_met file blocks head most chain c few = chain_walked file blocks head 0 most chain c.linked c.inside refl few
+
+-- it has no more blocks than the file has
+pub few_of_chain : (file : List ℕ) (blocks head : ℕ) (chain : List ℕ) (end : ℕ) → IsChain file blocks head chain end → length chain ≤ blocks
+few_of_chain file blocks head chain end c = few_of_distinct blocks chain c.distinct (λ n stands. (leads_within blocks n (c.inside n stands)).1)

@@ -1,3 +1,4 @@
+pub mod BesideLemmas
 pub mod ChainLemmas
 pub mod WalkLemmas
 pub mod SpliceLemmas

@@ -6,7 +6,7 @@ use Rattle.std.proofs.lemmas.Bool.Decides.{eqb_tells}
 use Rattle.quota_types.proofs.TimesLemmas.{stands_either, stands_left, stands_right, times-append}
 use Rattle.file_blocks.specs.Block.{block_of}
 use Rattle.outside.specs.Seen.{StoreSeen}
-use Rattle.file_blocks.specs.Span.{KeepsOutside}
+use Rattle.quota_types.specs.Span.{KeepsOutside}
 use Rattle.file_blocks.proofs.WordLemmas.{number_same}
 use Rattle.quota_pages.specs.Page.{Page, is_buffered}
 use Rattle.quota_pages.specs.Pages.{pages_of}
@@ -90,15 +90,15 @@ missing_at-there pages number there = elim (eqb_tells number 0) [
 ]
 
 -- a block was lent for writing twice, and was buffered the second time
-pub lends_twice : {tells : Bool} {number : ℕ} {before between now : StoreSeen} {old middle new : Pages} → LendsSome tells (missing (pages_of old) number) (number ∷ []) before between old middle → is_buffered (pages_of middle) number ≡ true
-    → LendsSome tells (missing (pages_of middle) number) (number ∷ []) between now middle new → LendsSome tells (missing (pages_of old) number) (number ∷ []) before now old new
+pub lends_twice : {tells ok : Bool} {number : ℕ} {before between now : StoreSeen} {old middle new : Pages} → LendsSome tells true (missing (pages_of old) number) (number ∷ []) before between old middle → is_buffered (pages_of middle) number ≡ true
+    → LendsSome tells ok (missing (pages_of middle) number) (number ∷ []) between now middle new → LendsSome tells ok (missing (pages_of old) number) (number ∷ []) before now old new
 lends_twice {number} {old} {middle} first there second =
     lends_more (missing (pages_of old) number) (omega (arith, missing-there (pages_of middle) number there))
     (lends_among (number ∷ []) (λ other stands. elim (stands_either (number ∷ []) (number ∷ []) other stands) [ inl one ↦ one | inr two ↦ two ]) (lends_then first second))
 
 -- the blocks that are lent for writing where one is put before a list
-pub enters_lends : {tells : Bool} (first block : ℕ) {zero one two three : StoreSeen} {a b c d : Pages} → LooksAtSome tells (missing (pages_of a) block) zero one a b → is_buffered (pages_of b) block ≡ true
-    → LendsSome tells (missing_at (pages_of b) first) (led_to first) one two b c → LendsSome tells (missing (pages_of c) block) (block ∷ []) two three c d → LendsSome tells 2 (block ∷ led_to first) zero three a d
+pub enters_lends : {tells ok : Bool} (first block : ℕ) {zero one two three : StoreSeen} {a b c d : Pages} → LooksAtSome tells true (missing (pages_of a) block) zero one a b → is_buffered (pages_of b) block ≡ true
+    → LendsSome tells true (missing_at (pages_of b) first) (led_to first) one two b c → LendsSome tells ok (missing (pages_of c) block) (block ∷ []) two three c d → LendsSome tells ok 2 (block ∷ led_to first) zero three a d
 enters_lends first block {a} {b} {c} looks there behind links =
     lends_more 2 (omega (arith, missing-few (pages_of a) block, missing_at-few (pages_of b) first, missing-there (pages_of c) block (behind.stay block there)))
     (lends_among (block ∷ led_to first)
@@ -109,10 +109,10 @@ enters_lends first block {a} {b} {c} looks there behind links =
     (looks_then_lends looks (lends_then behind links)))
 
 -- the blocks that are lent for writing where one is taken out between two
-pub unlinks_lends : {tells : Bool} (block next previous : ℕ) {zero one two three four : StoreSeen} {a b c d e : Pages} → is_buffered (pages_of a) block ≡ true
-    → LooksAtSome tells (missing_at (pages_of a) previous) zero one a b → (previous ≢ 0 → is_buffered (pages_of b) previous ≡ true)
-    → LendsSome tells (missing_at (pages_of b) next) (led_to next) one two b c → LendsSome tells (missing_at (pages_of c) previous) (led_to previous) two three c d
-    → LendsSome tells (missing (pages_of d) block) (block ∷ []) three four d e → LendsSome tells 2 (block ∷ led_to previous ++ led_to next) zero four a e
+pub unlinks_lends : {tells ok : Bool} (block next previous : ℕ) {zero one two three four : StoreSeen} {a b c d e : Pages} → is_buffered (pages_of a) block ≡ true
+    → LooksAtSome tells true (missing_at (pages_of a) previous) zero one a b → (previous ≢ 0 → is_buffered (pages_of b) previous ≡ true)
+    → LendsSome tells true (missing_at (pages_of b) next) (led_to next) one two b c → LendsSome tells true (missing_at (pages_of c) previous) (led_to previous) two three c d
+    → LendsSome tells ok (missing (pages_of d) block) (block ∷ []) three four d e → LendsSome tells ok 2 (block ∷ led_to previous ++ led_to next) zero four a e
 unlinks_lends block next previous {a} {b} {c} {d} there looks brought behind before links =
     lends_more 2
     (omega (

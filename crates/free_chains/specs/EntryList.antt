@@ -1,6 +1,6 @@
 -- What calls do with the list of data blocks that have room. Source: `insert_free_dqentry` and `remove_free_dqentry` of the
 -- kernel's `fs/quota/quota_tree.c`.
-use Rattle.std.specs.Prelude.{◌≡◌, ◌≢◌, ℕ, ◌<◌, ◌≤◌, ◌==◌, Bool, IsTrue, List, [], ◌∷◌, ◌++◌, length, map, take, if◌then◌else◌}
+use Rattle.std.specs.Prelude.{◌≡◌, ◌≢◌, ℕ, ◌<◌, ◌≤◌, ◌==◌, Bool, true, IsTrue, List, [], ◌∷◌, ◌++◌, length, map, take, if◌then◌else◌}
 use Rattle.quota_types.specs.Times.{times}
 use Rattle.file_blocks.specs.Block.{leads, next_of, previous_of}
 use Rattle.outside.specs.Seen.{StoreSeen}
@@ -45,7 +45,7 @@ pub record TakesOut (tells : Bool) (block : ℕ) (before now : StoreSeen) (heads
   pub next_inside : next < heads.blocks
   pub previous_inside : previous < heads.blocks
   pub heads_are : new_heads ≡ record heads { first = if previous == 0 then next else heads.first }
-  pub lends : LendsSome tells 3 (block ∷ led_to previous ++ led_to next) before now old new
+  pub lends : LendsSome tells true 3 (block ∷ led_to previous ++ led_to next) before now old new
 
 -- The number that stops a block from leaving: its link to the block behind it, or, where that is inside, the one to the block
 -- before it.

@@ -14,7 +14,7 @@ pub use Rattle.file_blocks.specs.CheckFault
 pub use Rattle.outside.specs.Count
 pub use Rattle.outside.specs.Frame
 pub use Rattle.outside.specs.Seen
-pub use Rattle.file_blocks.specs.Span
+pub use Rattle.quota_types.specs.Span
 pub use Rattle.outside.specs.Unsynced
 pub use Rattle.outside.specs.World
 pub use Rattle.quota_pages.specs.Page

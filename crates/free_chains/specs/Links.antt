@@ -2,7 +2,7 @@
 -- `fs/quota/quota_tree.h`: a link that is 0 leads to no block.
 use Rattle.std.specs.Prelude.{◌≡◌, ℕ, ◌==◌, List, [], ◌∷◌, if◌then◌else◌}
 use Rattle.file_blocks.specs.Block.{block_of, next_of, previous_of}
-use Rattle.file_blocks.specs.Span.{KeepsOutside}
+use Rattle.quota_types.specs.Span.{KeepsOutside}
 use Rattle.quota_pages.specs.Page.{Page}
 use Rattle.quota_pages.specs.Used.{missing}
 
@@ -13,6 +13,10 @@ led_to number = if number == 0 then [] else number ∷ []
 -- how many blocks are read to have the one buffered to which a head or a link leads
 abbrev pub missing_at : List Page → ℕ → ℕ
 missing_at pages number = if number == 0 then 0 else missing pages number
+
+-- All bytes of each block but the first eight, its links, are as before.
+abbrev pub ChangesLinksAlone : (old new : List ℕ) → Type 0
+ChangesLinksAlone old new = (block : ℕ) → KeepsOutside 0 8 (block_of old block) (block_of new block)
 
 -- A block has these links to the block behind it and to the one before it, and all its other bytes are as before.
 pub record HasLinks (number behind before : ℕ) (old new : List ℕ) : Type 0 where

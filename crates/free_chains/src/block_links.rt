@@ -1,10 +1,9 @@
 //! The links of single blocks. A link that is 0 leads to no block.
 
-ghost use Rattle.std.specs.Prelude.{◌≡◌, ◌≢◌, ◌+◌, ◌<◌, ◌≤◌, ◌∷◌, [], length, true, IsOk, IfOk, IfErr, OnOk, OnErr};
+ghost use Rattle.std.specs.Prelude.{◌≡◌, ◌≢◌, ◌+◌, ◌<◌, ◌≤◌, ◌∷◌, [], length, true, false, IsOk, is_ok, IfOk, IfErr, OnOk, OnErr};
 ghost use Rattle.quota_types.specs.Bytes.{number_at};
 ghost use Rattle.file_blocks.specs.Block.{block_of};
 ghost use Rattle.outside.specs.Count.{Rose};
-ghost use Rattle.outside.specs.Unsynced.{AddsNone};
 ghost use Rattle.quota_pages.specs.Page.{HasRoomFor, is_buffered};
 ghost use Rattle.quota_pages.specs.Pages.{pages_of};
 ghost use Rattle.quota_pages.specs.Used.{HasWord, IsKnown, LendsSome, LooksAtSome, missing, shown_over};
@@ -29,13 +28,12 @@ pub(crate) fn link_at<S: Store>(
     ensures inside { IfOk result (λ link. link < blocks) }
     ensures value { IfOk result (λ link. IsKnown S.tells (S.seen store.old) pages.old
         → link ≡ number_at 4 (block_of (shown_over (S.seen store.old) pages.old) block) at) }
-    ensures looked { LooksAtSome S.tells (missing (pages_of pages.old) block)
+    ensures looked { LooksAtSome S.tells (is_ok result) (missing (pages_of pages.old) block)
         (S.seen store.old) (S.seen store.new) pages.old pages.new }
     ensures brought { OnOk result (is_buffered (pages_of pages.new) block ≡ true) }
     ensures refused { IfErr result (IsChainFault blocks (S.seen store.old).faults (S.seen store.new).faults
         (λ number. IsKnown S.tells (S.seen store.old) pages.old
         → number ≡ number_at 4 (block_of (shown_over (S.seen store.old) pages.old) block) at)) }
-    ensures synced { OnOk result (AddsNone (S.seen store.old).unsynced (S.seen store.new).unsynced) }
 {
     let link = pages.word(store, block, at)?;
     if link >= blocks {
@@ -51,11 +49,10 @@ pub(crate) fn bring<S: Store>(
     block: u32,
 ) -> Result<(), StoreFault>
     requires { block ≢ 0 → HasRoomFor (pages_of pages.old) block }
-    ensures looked { LooksAtSome S.tells (missing_at (pages_of pages.old) block)
+    ensures looked { LooksAtSome S.tells (is_ok result) (missing_at (pages_of pages.old) block)
         (S.seen store.old) (S.seen store.new) pages.old pages.new }
     ensures brought { OnOk result (block ≢ 0 → is_buffered (pages_of pages.new) block ≡ true) }
     ensures cause { OnErr result (Rose (S.seen store.old).faults (S.seen store.new).faults) }
-    ensures synced { OnOk result (AddsNone (S.seen store.old).unsynced (S.seen store.new).unsynced) }
 {
     if block == 0 {
         return Ok(());
@@ -76,13 +73,12 @@ pub(crate) fn set_link<S: Store>(
     requires room { block ≢ 0 → HasRoomFor (pages_of pages.old) block }
     ensures set { OnOk result (IsKnown S.tells (S.seen store.old) pages.old → block ≢ 0
         → HasWord block at value (shown_over (S.seen store.old) pages.old) (shown_over (S.seen store.new) pages.new)) }
-    ensures lends { OnOk result (LendsSome S.tells (missing_at (pages_of pages.old) block) (led_to block)
+    ensures lends { OnOk result (LendsSome S.tells true (missing_at (pages_of pages.old) block) (led_to block)
         (S.seen store.old) (S.seen store.new) pages.old pages.new) }
-    ensures kept { OnErr result (LooksAtSome S.tells (missing_at (pages_of pages.old) block)
+    ensures kept { OnErr result (LooksAtSome S.tells false (missing_at (pages_of pages.old) block)
         (S.seen store.old) (S.seen store.new) pages.old pages.new) }
     ensures buffered { (block ≢ 0 → is_buffered (pages_of pages.old) block ≡ true) → IsOk result }
     ensures cause { OnErr result (Rose (S.seen store.old).faults (S.seen store.new).faults) }
-    ensures synced { OnOk result (AddsNone (S.seen store.old).unsynced (S.seen store.new).unsynced) }
 {
     if block == 0 {
         return Ok(());
@@ -102,13 +98,12 @@ pub(crate) fn set_links<S: Store>(
     ensures set { OnOk result (IsKnown S.tells (S.seen store.old) pages.old
         → HasLinks block next previous (shown_over (S.seen store.old) pages.old)
         (shown_over (S.seen store.new) pages.new)) }
-    ensures lends { OnOk result (LendsSome S.tells (missing (pages_of pages.old) block) (block ∷ [])
+    ensures lends { OnOk result (LendsSome S.tells true (missing (pages_of pages.old) block) (block ∷ [])
         (S.seen store.old) (S.seen store.new) pages.old pages.new) }
-    ensures kept { OnErr result (LooksAtSome S.tells (missing (pages_of pages.old) block)
+    ensures kept { OnErr result (LooksAtSome S.tells false (missing (pages_of pages.old) block)
         (S.seen store.old) (S.seen store.new) pages.old pages.new) }
     ensures buffered { is_buffered (pages_of pages.old) block ≡ true → IsOk result }
     ensures cause { OnErr result (Rose (S.seen store.old).faults (S.seen store.new).faults) }
-    ensures synced { OnOk result (AddsNone (S.seen store.old).unsynced (S.seen store.new).unsynced) }
 {
     pages.set_word(store, block, 0, next)?;
     pages.set_word(store, block, 4, previous)?;

@@ -1,7 +1,6 @@
 //! How many blocks are free.
 
-ghost use Rattle.std.specs.Prelude.{◌≡◌, ◌+◌, ◌<◌, ◌≤◌, length, IfOk, IfErr, OnOk};
-ghost use Rattle.outside.specs.Unsynced.{AddsNone};
+ghost use Rattle.std.specs.Prelude.{◌≡◌, ◌+◌, ◌<◌, ◌≤◌, length, IfOk, IfErr, is_ok};
 ghost use Rattle.quota_pages.specs.Pages.{pages_of};
 ghost use Rattle.quota_pages.specs.Used.{IsKnown, LooksAtSome, shown_over};
 ghost use Rattle.free_chains.specs.ChainFault.{IsChainFault};
@@ -32,11 +31,10 @@ pub fn count_free<S: Store>(
     ensures few { IfOk result (λ count. count ≤ most) }
     ensures count { IfOk result (λ count. IsKnown S.tells (S.seen store.old) pages.old
         → CountsFree (shown_over (S.seen store.old) pages.old) heads.now most count) }
-    ensures looked { LooksAtSome S.tells most (S.seen store.old) (S.seen store.new) pages.old pages.new }
+    ensures looked { LooksAtSome S.tells (is_ok result) most (S.seen store.old) (S.seen store.new) pages.old pages.new }
     ensures refused { IfErr result (IsChainFault heads.now.blocks (S.seen store.old).faults (S.seen store.new).faults
         (λ number. IsKnown S.tells (S.seen store.old) pages.old
         → EndsBefore (shown_over (S.seen store.old) pages.old) heads.now most number)) }
-    ensures synced { OnOk result (AddsNone (S.seen store.old).unsynced (S.seen store.new).unsynced) }
 {
     let mut met: ArrayVec<u32, 4> = ArrayVec::new();
     let mut at = heads.free;

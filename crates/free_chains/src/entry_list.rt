@@ -1,14 +1,13 @@
 //! The list of data blocks that have room, which is linked both ways.
 
-ghost use Rattle.std.specs.Prelude.{◌≡◌, ℕ, ◌+◌, ◌<◌, ◌≤◌, ◌∷◌, ◌++◌, [], List, length, true, IfErr, OnOk, OnErr};
+ghost use Rattle.std.specs.Prelude.{◌≡◌, ℕ, ◌+◌, ◌<◌, ◌≤◌, ◌∷◌, ◌++◌, [], List, length, true, false, IfErr, OnOk, OnErr};
 ghost use Rattle.outside.specs.Count.{Rose};
-ghost use Rattle.outside.specs.Unsynced.{AddsNone};
 ghost use Rattle.quota_pages.specs.Page.{is_buffered};
 ghost use Rattle.quota_pages.specs.Pages.{pages_of};
 ghost use Rattle.quota_pages.specs.Used.{IsKnown, LendsSome, LooksAtSome, shown_over};
 ghost use Rattle.free_chains.specs.Chain.{IsChain};
 ghost use Rattle.free_chains.specs.ChainFault.{IsChainFault};
-ghost use Rattle.free_chains.specs.Links.{led_to};
+ghost use Rattle.free_chains.specs.Links.{ChangesLinksAlone, led_to};
 ghost use Rattle.free_chains.specs.EntryList.{AreApart, EntersList, LeavesList, NamesPrevious, StopsLeaving, TakesOut, Unlinks};
 
 use crate::block_links::{bring, link_at, set_link, set_links};
@@ -19,7 +18,7 @@ use quota_pages::Pages;
 use quota_types::{DamageKind, damage_at};
 
 /// Puts a block before the list of data blocks that have room. Its links become the old head and 0, and the old first
-/// block, where there is one, names it as the block before. It reads two blocks at most.
+/// block, where there is one, names it as the block before. All other bytes stay. It reads two blocks at most.
 ///
 /// # Errors
 ///
@@ -36,13 +35,14 @@ pub fn enter_entry_list<S: Store>(
     ensures inside { OnOk result (heads.old.first < heads.old.blocks) }
     ensures entered { OnOk result (IsKnown S.tells (S.seen store.old) pages.old
         → EntersList (shown_over (S.seen store.old) pages.old) (shown_over (S.seen store.new) pages.new) heads.old n) }
-    ensures lends { OnOk result (LendsSome S.tells 2 (n ∷ led_to heads.old.first)
+    ensures links { OnOk result (IsKnown S.tells (S.seen store.old) pages.old
+        → ChangesLinksAlone (shown_over (S.seen store.old) pages.old) (shown_over (S.seen store.new) pages.new)) }
+    ensures lends { OnOk result (LendsSome S.tells true 2 (n ∷ led_to heads.old.first)
         (S.seen store.old) (S.seen store.new) pages.old pages.new) }
-    ensures kept { OnErr result (LooksAtSome S.tells 2 (S.seen store.old) (S.seen store.new) pages.old pages.new) }
+    ensures kept { OnErr result (LooksAtSome S.tells false 2 (S.seen store.old) (S.seen store.new) pages.old pages.new) }
     ensures stays { OnErr result (heads.new ≡ heads.old) }
     ensures refused { IfErr result (IsChainFault heads.old.blocks (S.seen store.old).faults (S.seen store.new).faults
         (λ number. number ≡ heads.old.first)) }
-    ensures synced { OnOk result (AddsNone (S.seen store.old).unsynced (S.seen store.new).unsynced) }
 {
     let first = heads.first;
     if first >= heads.blocks {
@@ -56,7 +56,7 @@ pub fn enter_entry_list<S: Store>(
 }
 
 /// Takes a block out of the list of data blocks that have room. The blocks before it and behind it are linked to each
-/// other, and its own links become 0. It reads three blocks at most.
+/// other, and its own links become 0. All other bytes stay. It reads three blocks at most.
 ///
 /// # Errors
 ///
@@ -76,12 +76,13 @@ pub fn leave_entry_list<S: Store>(
         → NamesPrevious (shown_over (S.seen store.old) pages.old) (front ++ n ∷ back)
         → LeavesList (shown_over (S.seen store.old) pages.old) (shown_over (S.seen store.new) pages.new)
         heads.old heads.new n front back) }
-    ensures kept { OnErr result (LooksAtSome S.tells 3 (S.seen store.old) (S.seen store.new) pages.old pages.new) }
+    ensures links { OnOk result (IsKnown S.tells (S.seen store.old) pages.old
+        → ChangesLinksAlone (shown_over (S.seen store.old) pages.old) (shown_over (S.seen store.new) pages.new)) }
+    ensures kept { OnErr result (LooksAtSome S.tells false 3 (S.seen store.old) (S.seen store.new) pages.old pages.new) }
     ensures stays { OnErr result (heads.new ≡ heads.old) }
     ensures refused { IfErr result (IsChainFault heads.old.blocks (S.seen store.old).faults (S.seen store.new).faults
         (λ number. IsKnown S.tells (S.seen store.old) pages.old
         → StopsLeaving (shown_over (S.seen store.old) pages.old) heads.old.blocks n number)) }
-    ensures synced { OnOk result (AddsNone (S.seen store.old).unsynced (S.seen store.new).unsynced) }
 {
     let next = link_at(pages, store, heads.blocks, n, 0)?;
     let previous = link_at(pages, store, heads.blocks, n, 4)?;
@@ -104,11 +105,12 @@ fn unlink<S: Store>(
     requires room { length (pages_of pages.old) + 2 ≤ 12 }
     ensures unlinked { OnOk result (IsKnown S.tells (S.seen store.old) pages.old → AreApart n next previous
         → Unlinks (shown_over (S.seen store.old) pages.old) (shown_over (S.seen store.new) pages.new) n next previous) }
-    ensures lends { OnOk result (LendsSome S.tells 2 (n ∷ led_to previous ++ led_to next)
+    ensures links { OnOk result (IsKnown S.tells (S.seen store.old) pages.old
+        → ChangesLinksAlone (shown_over (S.seen store.old) pages.old) (shown_over (S.seen store.new) pages.new)) }
+    ensures lends { OnOk result (LendsSome S.tells true 2 (n ∷ led_to previous ++ led_to next)
         (S.seen store.old) (S.seen store.new) pages.old pages.new) }
-    ensures kept { OnErr result (LooksAtSome S.tells 2 (S.seen store.old) (S.seen store.new) pages.old pages.new) }
+    ensures kept { OnErr result (LooksAtSome S.tells false 2 (S.seen store.old) (S.seen store.new) pages.old pages.new) }
     ensures cause { OnErr result (Rose (S.seen store.old).faults (S.seen store.new).faults) }
-    ensures synced { OnOk result (AddsNone (S.seen store.old).unsynced (S.seen store.new).unsynced) }
 {
     bring(pages, store, previous)?;
     set_link(pages, store, next, 4, previous)?;

@@ -1,12 +1,11 @@
 //! The list of free blocks.
 
-ghost use Rattle.std.specs.Prelude.{◌≡◌, ◌≢◌, ◌+◌, ◌-◌, ◌^◌, ◌<◌, ◌≤◌, ◌∷◌, [], length, replicate, true, IfOk, IfErr, OnOk, OnErr};
+ghost use Rattle.std.specs.Prelude.{◌≡◌, ◌≢◌, ◌+◌, ◌-◌, ◌^◌, ◌<◌, ◌≤◌, ◌∷◌, [], length, replicate, true, false, IfOk, IfErr, OnOk, OnErr};
 ghost use Rattle.file_blocks.specs.Block.{block_of};
 ghost use Rattle.outside.specs.Count.{Rose};
-ghost use Rattle.outside.specs.Unsynced.{AddsNone};
 ghost use Rattle.quota_pages.specs.Page.{HasRoomFor, is_lent};
 ghost use Rattle.quota_pages.specs.Pages.{pages_of};
-ghost use Rattle.quota_pages.specs.Used.{IsKnown, LendsSome, LooksAtSome, shown_over};
+ghost use Rattle.quota_pages.specs.Used.{IsKnown, LendsSome, LooksAtSome, missing, shown_over};
 ghost use Rattle.free_chains.specs.ChainFault.{IsChainFault};
 ghost use Rattle.free_chains.specs.FreeList.{GivesBlock, StopsTaking, TakesBlock, TakesHead, TakesListed};
 
@@ -36,15 +35,14 @@ pub fn take_block<S: Store>(
     ensures taken { IfOk result (λ block. IsKnown S.tells (S.seen store.old) pages.old
         → TakesBlock (shown_over (S.seen store.old) pages.old) (shown_over (S.seen store.new) pages.new)
         heads.old heads.new block) }
-    ensures lends { IfOk result (λ block. LendsSome S.tells 1 (block ∷ [])
+    ensures lends { IfOk result (λ block. LendsSome S.tells true 1 (block ∷ [])
         (S.seen store.old) (S.seen store.new) pages.old pages.new) }
     ensures marked { IfOk result (λ block. is_lent (pages_of pages.new) block ≡ true) }
-    ensures kept { OnErr result (LooksAtSome S.tells 1 (S.seen store.old) (S.seen store.new) pages.old pages.new) }
+    ensures kept { OnErr result (LooksAtSome S.tells false 1 (S.seen store.old) (S.seen store.new) pages.old pages.new) }
     ensures stays { OnErr result (heads.new ≡ heads.old) }
     ensures refused { IfErr result (IsChainFault heads.old.blocks (S.seen store.old).faults (S.seen store.new).faults
         (λ number. (heads.old.free ≢ 0) × (IsKnown S.tells (S.seen store.old) pages.old
         → StopsTaking (shown_over (S.seen store.old) pages.old) heads.old number))) }
-    ensures synced { OnOk result (AddsNone (S.seen store.old).unsynced (S.seen store.new).unsynced) }
 {
     if heads.free == 0 {
         return Ok(take_new(pages, store, heads)?);
@@ -53,7 +51,7 @@ pub fn take_block<S: Store>(
 }
 
 /// Puts a block before the list of free blocks. Its first four bytes become the old head, and all others 0. It reads
-/// one block at most.
+/// that block, where it is not buffered, and no other.
 ///
 /// # Errors
 ///
@@ -68,13 +66,13 @@ pub fn give_block<S: Store>(
     ensures head { OnOk result (heads.new ≡ record heads.old { free = n }) }
     ensures given { OnOk result (IsKnown S.tells (S.seen store.old) pages.old
         → GivesBlock (shown_over (S.seen store.old) pages.old) (shown_over (S.seen store.new) pages.new) heads.old n) }
-    ensures lends { OnOk result (LendsSome S.tells 1 (n ∷ [])
+    ensures lends { OnOk result (LendsSome S.tells true (missing (pages_of pages.old) n) (n ∷ [])
         (S.seen store.old) (S.seen store.new) pages.old pages.new) }
     ensures marked { OnOk result (is_lent (pages_of pages.new) n ≡ true) }
-    ensures kept { OnErr result (LooksAtSome S.tells 1 (S.seen store.old) (S.seen store.new) pages.old pages.new) }
+    ensures kept { OnErr result (LooksAtSome S.tells false (missing (pages_of pages.old) n)
+        (S.seen store.old) (S.seen store.new) pages.old pages.new) }
     ensures stays { OnErr result (heads.new ≡ heads.old) }
     ensures cause { OnErr result (Rose (S.seen store.old).faults (S.seen store.new).faults) }
-    ensures synced { OnOk result (AddsNone (S.seen store.old).unsynced (S.seen store.new).unsynced) }
 {
     pages.blank(store, n)?;
     pages.set_word(store, n, 0, heads.free)?;
@@ -94,13 +92,12 @@ fn take_new<S: Store>(
     ensures head { OnOk result (heads.new ≡ record heads.old { blocks = heads.old.blocks + 1 }) }
     ensures blank { IfOk result (λ block. IsKnown S.tells (S.seen store.old) pages.old
         → block_of (shown_over (S.seen store.new) pages.new) block ≡ replicate 1024 0) }
-    ensures lends { IfOk result (λ block. LendsSome S.tells 1 (block ∷ [])
+    ensures lends { IfOk result (λ block. LendsSome S.tells true 1 (block ∷ [])
         (S.seen store.old) (S.seen store.new) pages.old pages.new) }
     ensures marked { IfOk result (λ block. is_lent (pages_of pages.new) block ≡ true) }
-    ensures kept { OnErr result (LooksAtSome S.tells 1 (S.seen store.old) (S.seen store.new) pages.old pages.new) }
+    ensures kept { OnErr result (LooksAtSome S.tells false 1 (S.seen store.old) (S.seen store.new) pages.old pages.new) }
     ensures stays { OnErr result (heads.new ≡ heads.old) }
     ensures cause { OnErr result (Rose (S.seen store.old).faults (S.seen store.new).faults) }
-    ensures synced { OnOk result (AddsNone (S.seen store.old).unsynced (S.seen store.new).unsynced) }
 {
     let block = heads.blocks;
     pages.blank(store, block)?;
@@ -121,15 +118,14 @@ fn take_listed<S: Store>(
     ensures taken { IfOk result (λ block. IsKnown S.tells (S.seen store.old) pages.old
         → TakesBlock (shown_over (S.seen store.old) pages.old) (shown_over (S.seen store.new) pages.new)
         heads.old heads.new block) }
-    ensures lends { IfOk result (λ block. LendsSome S.tells 1 (block ∷ [])
+    ensures lends { IfOk result (λ block. LendsSome S.tells true 1 (block ∷ [])
         (S.seen store.old) (S.seen store.new) pages.old pages.new) }
     ensures marked { IfOk result (λ block. is_lent (pages_of pages.new) block ≡ true) }
-    ensures kept { OnErr result (LooksAtSome S.tells 1 (S.seen store.old) (S.seen store.new) pages.old pages.new) }
+    ensures kept { OnErr result (LooksAtSome S.tells false 1 (S.seen store.old) (S.seen store.new) pages.old pages.new) }
     ensures stays { OnErr result (heads.new ≡ heads.old) }
     ensures refused { IfErr result (IsChainFault heads.old.blocks (S.seen store.old).faults (S.seen store.new).faults
         (λ number. IsKnown S.tells (S.seen store.old) pages.old
         → StopsTaking (shown_over (S.seen store.old) pages.old) heads.old number)) }
-    ensures synced { OnOk result (AddsNone (S.seen store.old).unsynced (S.seen store.new).unsynced) }
 {
     let first = heads.free;
     if first >= heads.blocks {

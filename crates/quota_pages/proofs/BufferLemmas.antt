@@ -1,5 +1,5 @@
 -- What calls leave of a buffer of pages.
-use Rattle.std.proofs.Common.{◌≡◌, ℕ, ◌+◌, ◌<◌, ◌≢◌, ◌⊎◌, inl, inr, take, Bool, true, false, cond, ◌||◌, IsTrue, List, [], ◌∷◌, ◌++◌, length, set, get_or, refl, sym, ap, subst, ◌∙◌, arith, length-append}
+use Rattle.std.proofs.Common.{◌≡◌, ℕ, ◌+◌, ◌<◌, ◌≤◌, ◌≢◌, ◌⊎◌, inl, inr, take, Bool, true, false, cond, ◌||◌, IsTrue, List, [], ◌∷◌, ◌++◌, length, set, get_or, refl, sym, ap, subst, ◌∙◌, arith, length-append}
 use Rattle.std.specs.Prelude.{◌==◌}
 use Rattle.std.specs.String.{string_bytes}
 use Rattle.std.proofs.Math.Bool.{or-false}
@@ -98,6 +98,10 @@ pub page_count : (buffer : Pages) → length (pages_of buffer) ≡ length buffer
 unfolding pages_of
 page_count buffer = length-pages_in buffer.held.heads.items buffer.held.blocks.items buffer.beside
 
+-- and that they are twelve at most
+pub few_pages : (buffer : Pages) → length (pages_of buffer) ≤ 12
+few_pages buffer = omega (arith, page_count buffer, buffer.few)
+
 -- a head that was found at a place
 pub has_at : (buffer : Pages) (place number : ℕ) (d : Head) → place < length buffer.held.heads.items → (get_or buffer.held.heads.items place d).number ≡ number → HasAt place number buffer
 has_at buffer place number d within is = record {
@@ -129,6 +133,12 @@ lent_beside between place bytes =
     let heads = between.held.heads.items in
     let h : Head = record { number = 0; lent = true } in
     length-set heads place (lent_head (get_or heads place h)) ∙ between.beside ∙ sym (length-set between.held.blocks.items place bytes)
+
+pub lent_few : (between : Pages) (place : ℕ) (bytes : List ℕ) → length (with_lent between.held place bytes).heads.items ≤ 12
+lent_few between place bytes =
+    let heads = between.held.heads.items in
+    let h : Head = record { number = 0; lent = true } in
+    omega (arith, length-set heads place (lent_head (get_or heads place h)), between.few)
 
 pub lent_distinct : (between : Pages) (place number : ℕ) (bytes : List ℕ) → HasAt place number between → let held = with_lent between.held place bytes in IsTrue (are_distinct (pages_in held.heads.items held.blocks.items))
 unfolding pages_of

@@ -187,7 +187,7 @@ names-more old now new name pages place page d within is was wrote =
     ∙ ap (λ (p : Page). flushed_names old name (take place pages ++ p ∷ [])) is
     ∙ ap (λ (ps : List Page). flushed_names old name ps) (sym (take_more pages place d within))
 
-counted_by-most : (count more : ℕ) → counted_by count more ≤ count + more
+pub counted_by-most : (count more : ℕ) → counted_by count more ≤ count + more
 counted_by-most count zero = omega arith
 counted_by-most count (suc more) = omega (arith, counted_by-most count more)
 

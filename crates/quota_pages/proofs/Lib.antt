@@ -6,3 +6,4 @@ pub mod FlushLemmas
 pub mod AgainLemmas
 pub mod UsedLemmas
 pub mod LentLemmas
+pub mod UsesLemmas

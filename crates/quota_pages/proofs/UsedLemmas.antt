@@ -1,5 +1,5 @@
 -- What calls over a buffer of pages leave of it: no call, one call, and one after another.
-use Rattle.std.proofs.Common.{◌≡◌, ℕ, ◌+◌, ◌*◌, ◌<◌, ◌≤◌, max, Bool, true, false, cond, ◌||◌, IsTrue, List, [], ◌∷◌, ◌++◌, length, replicate, take, inl, inr, refl, sym, ap, subst, ◌∙◌, ◌≢◌, ◌⊎◌, arith, append-nil, eq-eqb, ne_eqb, length-append}
+use Rattle.std.proofs.Common.{◌≡◌, ℕ, ◌+◌, ◌*◌, ◌<◌, ◌≤◌, max, Bool, true, false, cond, ◌&&◌, ◌||◌, IsTrue, List, [], ◌∷◌, ◌++◌, length, replicate, take, inl, inr, refl, sym, ap, subst, ◌∙◌, ◌≢◌, ◌⊎◌, arith, append-nil, eq-eqb, ne_eqb, length-append}
 use Rattle.std.specs.Prelude.{◌==◌, Result, Ok, Err, MatchResult}
 use Rattle.std.proofs.Math.Bool.{or-false, or-true}
 use Rattle.std.proofs.lemmas.Bool.{cases_lt, cond-true, cond-false, cond_both, true≢false}
@@ -11,9 +11,9 @@ use Rattle.file_blocks.specs.Block.{block_of, bytes_of}
 use Rattle.outside.specs.Count.{counted}
 use Rattle.outside.specs.Frame.{OnlyReads}
 use Rattle.outside.specs.Seen.{StoreSeen}
-use Rattle.file_blocks.specs.Span.{KeepsOutside}
+use Rattle.quota_types.specs.Span.{KeepsOutside}
 use Rattle.outside.specs.World.{World}
-use Rattle.outside.proofs.FrameLemmas.{only_reads-none, only_reads-any, only_reads-less}
+use Rattle.outside.proofs.FrameLemmas.{only_reads-none, only_reads-any, only_reads-less, only_reads-then}
 use Rattle.file_blocks.proofs.WordLemmas.{number_same, length-block_of}
 use Rattle.quota_pages.specs.Overlay.{whole_block, with_block}
 use Rattle.quota_pages.specs.Page.{HasRoomFor, IsClean, Page, is_buffered, is_lent, lent_count, shown}
@@ -79,7 +79,7 @@ one_read true before now is = omega (arith, is)
 one_read false before now is = omega (arith, is)
 
 -- nothing was done
-pub looks_none : (tells : Bool) (seen : StoreSeen) (buffer : Pages) → LooksAtSome tells 0 seen seen buffer buffer
+pub looks_none : {ok : Bool} (tells : Bool) (seen : StoreSeen) (buffer : Pages) → LooksAtSome tells ok 0 seen seen buffer buffer
 looks_none tells seen buffer = record {
   name = refl;
   few = omega arith;
@@ -92,8 +92,14 @@ looks_none tells seen buffer = record {
   reads = omega arith;
 }
 
-pub looks_then : {tells : Bool} {one two : ℕ} {before between now : StoreSeen} {old middle new : Pages} → LooksAtSome tells one before between old middle → LooksAtSome tells two between now middle new → LooksAtSome tells (one + two) before now old new
-looks_then {before} {between} {now} {old} first second = record {
+-- two calls in a row: where both were done no name is unsynced that was not
+pub only_reads-both : (one two : Bool) (name : List ℕ) (old between new : StoreSeen) → OnlyReads one name old between → OnlyReads two name between new → OnlyReads (one && two) name old new
+only_reads-both true two name old between new first second = only_reads-then name old between new first second
+only_reads-both false two name old between new first second = only_reads-any name old between new first second
+
+pub looks_both : {tells done ok : Bool} {one two : ℕ} {before between now : StoreSeen} {old middle new : Pages} → LooksAtSome tells done one before between old middle → LooksAtSome tells ok two between now middle new
+    → LooksAtSome tells (done && ok) (one + two) before now old new
+looks_both {done = done} {ok = ok} {before} {between} {now} {old} first second = record {
   name = second.name ∙ first.name;
   few = omega (arith, first.few, second.few);
   stay = λ number there. second.stay number (first.stay number there);
@@ -101,11 +107,29 @@ looks_then {before} {between} {now} {old} first second = record {
   lent = λ number. second.lent number ∙ first.lent number;
   lent_count = second.lent_count ∙ first.lent_count;
   known = λ known. second.known (first.known known);
-  leaves = only_reads-any (name_of old) before between now first.leaves (subst (λ (name : List ℕ). OnlyReads false name between now) first.name second.leaves);
+  leaves = only_reads-both done ok (name_of old) before between now first.leaves (subst (λ (name : List ℕ). OnlyReads ok name between now) first.name second.leaves);
   reads = omega (arith, first.reads, second.reads);
 }
 
-pub looks_more : {tells : Bool} {few : ℕ} {before now : StoreSeen} {old new : Pages} (more : ℕ) → few ≤ more → LooksAtSome tells few before now old new → LooksAtSome tells more before now old new
+pub looks_then : {tells ok : Bool} {one two : ℕ} {before between now : StoreSeen} {old middle new : Pages} → LooksAtSome tells true one before between old middle → LooksAtSome tells ok two between now middle new
+    → LooksAtSome tells ok (one + two) before now old new
+looks_then first second = looks_both first second
+
+-- what was done is also what was not said to be done
+pub looks_less : {tells ok : Bool} {count : ℕ} {before now : StoreSeen} {old new : Pages} → LooksAtSome tells ok count before now old new → LooksAtSome tells false count before now old new
+looks_less {before = before} {now = now} {old = old} looks = record {
+  name = looks.name;
+  few = looks.few;
+  stay = looks.stay;
+  shows = looks.shows;
+  lent = looks.lent;
+  lent_count = looks.lent_count;
+  known = looks.known;
+  leaves = only_reads-less (name_of old) before now looks.leaves;
+  reads = looks.reads;
+}
+
+pub looks_more : {tells ok : Bool} {few : ℕ} {before now : StoreSeen} {old new : Pages} (more : ℕ) → few ≤ more → LooksAtSome tells ok few before now old new → LooksAtSome tells ok more before now old new
 looks_more more fewer looks = record {
   name = looks.name;
   few = omega (arith, looks.few, fewer);
@@ -120,7 +144,7 @@ looks_more more fewer looks = record {
 
 -- a block was looked at
 pub looks_of_block : {tells done : Bool} {number : ℕ} (before now : StoreSeen) {old new : Pages} → LooksAt tells (file_of before old) number old new → OnlyReads done (name_of old) before now
-    → now.reads ≡ cond (is_buffered (pages_of old) number) before.reads (counted before.reads) → LooksAtSome tells (missing (pages_of old) number) before now old new
+    → now.reads ≡ cond (is_buffered (pages_of old) number) before.reads (counted before.reads) → LooksAtSome tells done (missing (pages_of old) number) before now old new
 looks_of_block {tells} {number} before now {old} {new} looks leaves reads = record {
   name = looks.brings.name;
   few = one_more (is_buffered (pages_of old) number) (length (pages_of old)) (length (pages_of new)) looks.brings.count;
@@ -129,13 +153,13 @@ looks_of_block {tells} {number} before now {old} {new} looks leaves reads = reco
   lent = looks.lent;
   lent_count = looks.lent_count;
   known = known_along tells before now old new looks.brings.name leaves.files looks.clean;
-  leaves = only_reads-less (name_of old) before now leaves;
+  leaves = leaves;
   reads = one_read (is_buffered (pages_of old) number) before.reads now.reads reads;
 }
 
 -- or was not, since the store failed
 pub looks_of_fault : {done : Bool} (tells : Bool) (number : ℕ) (before now : StoreSeen) {old new : Pages} → StaysAsItWas old new → OnlyReads done (name_of old) before now
-    → now.reads ≡ cond (is_buffered (pages_of old) number) before.reads (counted before.reads) → LooksAtSome tells (missing (pages_of old) number) before now old new
+    → now.reads ≡ cond (is_buffered (pages_of old) number) before.reads (counted before.reads) → LooksAtSome tells done (missing (pages_of old) number) before now old new
 looks_of_fault tells number before now {old} {new} stays leaves reads = record {
   name = stays.name;
   few = omega (arith, ap length stays.pages);
@@ -145,27 +169,27 @@ looks_of_fault tells number before now {old} {new} stays leaves reads = record {
   lent_count = ap (λ (pages : List Page). lent_count pages) stays.pages;
   known = known_along tells before now old new stays.name leaves.files
       (λ told clean. subst (λ (pages : List Page). IsClean pages (file_of before old)) (sym stays.pages) clean);
-  leaves = only_reads-less (name_of old) before now leaves;
+  leaves = leaves;
   reads = one_read (is_buffered (pages_of old) number) before.reads now.reads reads;
 }
 
 -- a call that looks at a block, whatever it answers
 pub looks_of_peek : {A E : Type 0} {done : Bool} (tells : Bool) (number : ℕ) (before now : StoreSeen) {old new : Pages} (result : Result A E)
     → MatchResult result (λ _. LooksAt tells (file_of before old) number old new) (λ _. StaysAsItWas old new) → OnlyReads done (name_of old) before now
-    → now.reads ≡ cond (is_buffered (pages_of old) number) before.reads (counted before.reads) → LooksAtSome tells (missing (pages_of old) number) before now old new
+    → now.reads ≡ cond (is_buffered (pages_of old) number) before.reads (counted before.reads) → LooksAtSome tells done (missing (pages_of old) number) before now old new
 looks_of_peek tells number before now (Ok _) looks leaves reads = looks_of_block before now looks leaves reads
 looks_of_peek tells number before now (Err _) stays leaves reads = looks_of_fault tells number before now stays leaves reads
 
 -- what a buffer shows over its file stays where blocks were looked at
-pub shown_over-looks : {tells : Bool} {count : ℕ} {before now : StoreSeen} {old new : Pages} → LooksAtSome tells count before now old new → shown_over now new ≡ shown_over before old
+pub shown_over-looks : {tells ok : Bool} {count : ℕ} {before now : StoreSeen} {old new : Pages} → LooksAtSome tells ok count before now old new → shown_over now new ≡ shown_over before old
 shown_over-looks {before} {now} {old} {new} looks =
     ap (shown (pages_of new)) (same_file before now old new looks.name looks.leaves.files) ∙ looks.shows (file_of before old)
 
 -- room that is left once blocks were looked at
-pub room-looks : {tells : Bool} {count : ℕ} {before now : StoreSeen} {old new : Pages} → LooksAtSome tells count before now old new → (number : ℕ) → length (pages_of old) + count + 1 ≤ 12 → HasRoomFor (pages_of new) number
+pub room-looks : {tells ok : Bool} {count : ℕ} {before now : StoreSeen} {old new : Pages} → LooksAtSome tells ok count before now old new → (number : ℕ) → length (pages_of old) + count + 1 ≤ 12 → HasRoomFor (pages_of new) number
 room-looks {new} looks number few = room-few (pages_of new) number (omega (arith, looks.few, few))
 
-pub missing-looks : {tells : Bool} {count : ℕ} {before now : StoreSeen} {old new : Pages} → LooksAtSome tells count before now old new → (number : ℕ) → missing (pages_of new) number ≤ missing (pages_of old) number
+pub missing-looks : {tells ok : Bool} {count : ℕ} {before now : StoreSeen} {old new : Pages} → LooksAtSome tells ok count before now old new → (number : ℕ) → missing (pages_of new) number ≤ missing (pages_of old) number
 missing-looks {old} {new} looks number = missing-stay (pages_of old) (pages_of new) number (looks.stay number)
 
 -- a file of which nothing changed
@@ -218,7 +242,7 @@ marked {number = number} {old = old} lent = lent.lent number ∙ ap (λ (b : Boo
 
 -- a block was lent for writing, and left with these bytes
 pub lends_of_page : {tells done : Bool} {number : ℕ} {bytes : List ℕ} (before now : StoreSeen) {old new : Pages} → Lent tells (file_of before old) number bytes old new → OnlyReads done (name_of old) before now
-    → now.reads ≡ cond (is_buffered (pages_of old) number) before.reads (counted before.reads) → LendsSome tells (missing (pages_of old) number) (number ∷ []) before now old new
+    → now.reads ≡ cond (is_buffered (pages_of old) number) before.reads (counted before.reads) → LendsSome tells done (missing (pages_of old) number) (number ∷ []) before now old new
 lends_of_page {tells} {number} {bytes} before now {old} {new} lent leaves reads = record {
   name = lent.brings.name;
   few = one_more (is_buffered (pages_of old) number) (length (pages_of old)) (length (pages_of new)) lent.brings.count;
@@ -230,7 +254,7 @@ lends_of_page {tells} {number} {bytes} before now {old} {new} lent leaves reads 
   still_lent = λ other there. lent.lent other ∙ ap (λ (b : Bool). b || number == other) there;
   lent_count = one_lent (is_lent (pages_of old) number) (lent_count (pages_of old)) (lent_count (pages_of new)) lent.lent_count;
   known = known_along tells before now old new lent.brings.name leaves.files lent.clean;
-  leaves = only_reads-less (name_of old) before now leaves;
+  leaves = leaves;
   reads = one_read (is_buffered (pages_of old) number) before.reads now.reads reads;
 }
   where
@@ -239,7 +263,7 @@ lends_of_page {tells} {number} {bytes} before now {old} {new} lent leaves reads 
     one_lent false old new is = omega (arith, is)
 
 -- where pages were looked at none was lent for writing
-pub lends_of_looks : {tells : Bool} {count : ℕ} {before now : StoreSeen} {old new : Pages} → LooksAtSome tells count before now old new → LendsSome tells count [] before now old new
+pub lends_of_looks : {tells ok : Bool} {count : ℕ} {before now : StoreSeen} {old new : Pages} → LooksAtSome tells ok count before now old new → LendsSome tells ok count [] before now old new
 lends_of_looks {old} {new} looks = record {
   name = looks.name;
   few = looks.few;
@@ -253,9 +277,9 @@ lends_of_looks {old} {new} looks = record {
   reads = looks.reads;
 }
 
-pub lends_then : {tells : Bool} {one two : ℕ} {these those : List ℕ} {before between now : StoreSeen} {old middle new : Pages} → LendsSome tells one these before between old middle → LendsSome tells two those between now middle new
-    → LendsSome tells (one + two) (these ++ those) before now old new
-lends_then {these} {those} {before} {between} {now} {old} first second = record {
+pub lends_both : {tells done ok : Bool} {one two : ℕ} {these those : List ℕ} {before between now : StoreSeen} {old middle new : Pages} → LendsSome tells done one these before between old middle → LendsSome tells ok two those between now middle new
+    → LendsSome tells (done && ok) (one + two) (these ++ those) before now old new
+lends_both {done = done} {ok = ok} {these = these} {those = those} {before = before} {between = between} {now = now} {old = old} first second = record {
   name = second.name ∙ first.name;
   few = omega (arith, first.few, second.few);
   stay = λ number there. second.stay number (first.stay number there);
@@ -266,20 +290,24 @@ lends_then {these} {those} {before} {between} {now} {old} first second = record 
   still_lent = λ number there. second.still_lent number (first.still_lent number there);
   lent_count = omega (arith, first.lent_count, second.lent_count, length-append these those);
   known = λ known. second.known (first.known known);
-  leaves = only_reads-any (name_of old) before between now first.leaves (subst (λ (name : List ℕ). OnlyReads false name between now) first.name second.leaves);
+  leaves = only_reads-both done ok (name_of old) before between now first.leaves (subst (λ (name : List ℕ). OnlyReads ok name between now) first.name second.leaves);
   reads = omega (arith, first.reads, second.reads);
 }
 
-pub looks_then_lends : {tells : Bool} {one two : ℕ} {numbers : List ℕ} {before between now : StoreSeen} {old middle new : Pages} → LooksAtSome tells one before between old middle → LendsSome tells two numbers between now middle new
-    → LendsSome tells (one + two) numbers before now old new
+pub lends_then : {tells ok : Bool} {one two : ℕ} {these those : List ℕ} {before between now : StoreSeen} {old middle new : Pages} → LendsSome tells true one these before between old middle → LendsSome tells ok two those between now middle new
+    → LendsSome tells ok (one + two) (these ++ those) before now old new
+lends_then first second = lends_both first second
+
+pub looks_then_lends : {tells ok : Bool} {one two : ℕ} {numbers : List ℕ} {before between now : StoreSeen} {old middle new : Pages} → LooksAtSome tells true one before between old middle → LendsSome tells ok two numbers between now middle new
+    → LendsSome tells ok (one + two) numbers before now old new
 looks_then_lends first second = lends_then (lends_of_looks first) second
 
-pub lends_then_looks : {tells : Bool} {one two : ℕ} {numbers : List ℕ} {before between now : StoreSeen} {old middle new : Pages} → LendsSome tells one numbers before between old middle → LooksAtSome tells two between now middle new
-    → LendsSome tells (one + two) numbers before now old new
-lends_then_looks {tells} {one} {two} {numbers} {before} {now} {old} {new} first second =
-    subst (λ (ns : List ℕ). LendsSome tells (one + two) ns before now old new) (append-nil numbers) (lends_then first (lends_of_looks second))
+pub lends_then_looks : {tells ok : Bool} {one two : ℕ} {numbers : List ℕ} {before between now : StoreSeen} {old middle new : Pages} → LendsSome tells true one numbers before between old middle → LooksAtSome tells ok two between now middle new
+    → LendsSome tells ok (one + two) numbers before now old new
+lends_then_looks {tells} {ok} {one} {two} {numbers} {before} {now} {old} {new} first second =
+    subst (λ (ns : List ℕ). LendsSome tells ok (one + two) ns before now old new) (append-nil numbers) (lends_then first (lends_of_looks second))
 
-pub lends_more : {tells : Bool} {few : ℕ} {numbers : List ℕ} {before now : StoreSeen} {old new : Pages} (more : ℕ) → few ≤ more → LendsSome tells few numbers before now old new → LendsSome tells more numbers before now old new
+pub lends_more : {tells ok : Bool} {few : ℕ} {numbers : List ℕ} {before now : StoreSeen} {old new : Pages} (more : ℕ) → few ≤ more → LendsSome tells ok few numbers before now old new → LendsSome tells ok more numbers before now old new
 lends_more more fewer lends = record {
   name = lends.name;
   few = omega (arith, lends.few, fewer);
@@ -294,7 +322,7 @@ lends_more more fewer lends = record {
 }
 
 -- of what a buffer shows over its file all blocks stay but those that were lent for writing
-pub shown_over-lends : {tells : Bool} {count : ℕ} {numbers : List ℕ} {before now : StoreSeen} {old new : Pages} → LendsSome tells count numbers before now old new → KeepsBlocksBut numbers (shown_over before old) (shown_over now new)
+pub shown_over-lends : {tells ok : Bool} {count : ℕ} {numbers : List ℕ} {before now : StoreSeen} {old new : Pages} → LendsSome tells ok count numbers before now old new → KeepsBlocksBut numbers (shown_over before old) (shown_over now new)
 shown_over-lends {numbers} {before} {now} {old} {new} lends =
     subst (λ (file : List ℕ). KeepsBlocksBut numbers (shown_over before old) (shown (pages_of new) file)) (sym (same_file before now old new lends.name lends.leaves.files))
     (lends.shows (file_of before old))
@@ -304,10 +332,10 @@ pub shown_over-lent : {tells done : Bool} {number : ℕ} {bytes : List ℕ} (bef
 shown_over-lent before now {old} {new} lent leaves =
     ap (shown (pages_of new)) (same_file before now old new lent.brings.name leaves.files) ∙ lent.shows (file_of before old)
 
-pub room-lends : {tells : Bool} {count : ℕ} {numbers : List ℕ} {before now : StoreSeen} {old new : Pages} → LendsSome tells count numbers before now old new → (number : ℕ) → length (pages_of old) + count + 1 ≤ 12 → HasRoomFor (pages_of new) number
+pub room-lends : {tells ok : Bool} {count : ℕ} {numbers : List ℕ} {before now : StoreSeen} {old new : Pages} → LendsSome tells ok count numbers before now old new → (number : ℕ) → length (pages_of old) + count + 1 ≤ 12 → HasRoomFor (pages_of new) number
 room-lends {new} lends number few = room-few (pages_of new) number (omega (arith, lends.few, few))
 
-pub missing-lends : {tells : Bool} {count : ℕ} {numbers : List ℕ} {before now : StoreSeen} {old new : Pages} → LendsSome tells count numbers before now old new → (number : ℕ) → missing (pages_of new) number ≤ missing (pages_of old) number
+pub missing-lends : {tells ok : Bool} {count : ℕ} {numbers : List ℕ} {before now : StoreSeen} {old new : Pages} → LendsSome tells ok count numbers before now old new → (number : ℕ) → missing (pages_of new) number ≤ missing (pages_of old) number
 missing-lends {old} {new} lends number = missing-stay (pages_of old) (pages_of new) number (lends.stay number)
 
 -- the block that bytes were left in, over a file

@@ -18,6 +18,11 @@ is_buffered pages number = list_any (λ page. page.number == number) pages
 abbrev pub is_lent : List Page → ℕ → Bool
 is_lent pages number = list_any (λ page. page.lent && page.number == number) pages
 
+-- the numbers of the pages that were lent for writing, in order
+abbrev pub lent_numbers : List Page → List ℕ
+lent_numbers [] = []
+lent_numbers (page ∷ pages) = if page.lent then page.number ∷ lent_numbers pages else lent_numbers pages
+
 -- whether some page was lent for writing
 abbrev pub is_some_lent : List Page → Bool
 is_some_lent pages = list_any (λ page. page.lent) pages

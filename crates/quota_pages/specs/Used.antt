@@ -1,11 +1,11 @@
 -- What calls over a buffer of pages leave of it, and of what it shows over its file.
-use Rattle.std.specs.Prelude.{◌≡◌, ℕ, ◌+◌, ◌*◌, ◌<◌, ◌≤◌, Bool, true, false, IsTrue, List, length, max, if◌then◌else◌}
+use Rattle.std.specs.Prelude.{◌≡◌, ℕ, ◌+◌, ◌*◌, ◌<◌, ◌≤◌, Bool, true, IsTrue, List, [], ◌∷◌, length, max, if◌then◌else◌}
 use Rattle.quota_types.specs.Bytes.{number_at}
 use Rattle.quota_types.specs.Times.{StandsIn, times}
 use Rattle.file_blocks.specs.Block.{block_of, bytes_of}
 use Rattle.outside.specs.Frame.{OnlyReads}
 use Rattle.outside.specs.Seen.{StoreSeen}
-use Rattle.file_blocks.specs.Span.{KeepsOutside}
+use Rattle.quota_types.specs.Span.{KeepsOutside}
 use Rattle.quota_pages.specs.Page.{IsClean, Page, is_buffered, is_lent, lent_count, shown}
 use Rattle.quota_pages.specs.Pages.{name_of, pages_of}
 use Rattle.quota_pages.specs.declared.page_buffer.Pages.{Pages}
@@ -27,9 +27,25 @@ pub record IsKnown (tells : Bool) (seen : StoreSeen) (buffer : Pages) : Type 0 w
 abbrev pub missing : List Page → ℕ → ℕ
 missing pages number = if is_buffered pages number then 0 else 1
 
+-- how many blocks are read at most to have some of them buffered, one after another; a block that is missing counts as often as
+-- it stands there
+unfoldable pub missing_among : List Page → List ℕ → ℕ
+missing_among pages [] = 0
+missing_among pages (number ∷ numbers) = missing pages number + missing_among pages numbers
+
+-- So many pages were used, at most, whether they were looked at or lent: the name and what was buffered stay, what was known
+-- still is, no file changed, and where it was done no name is unsynced that was not. It is said beside what is shown then.
+pub record Uses (tells ok : Bool) (count : ℕ) (before now : StoreSeen) (old new : Pages) : Type 0 where
+  pub name : name_of new ≡ name_of old
+  pub few : length (pages_of new) ≤ length (pages_of old) + count
+  pub stay : (number : ℕ) → is_buffered (pages_of old) number ≡ true → is_buffered (pages_of new) number ≡ true
+  pub known : IsKnown tells before old → IsKnown tells now new
+  pub leaves : OnlyReads ok (name_of old) before now
+  pub reads : now.reads ≤ before.reads + count
+
 -- So many pages were looked at, at most: the name and what was buffered stay, and so does what the buffer shows, over any file;
--- no further page was lent for writing, and no file changed.
-pub record LooksAtSome (tells : Bool) (count : ℕ) (before now : StoreSeen) (old new : Pages) : Type 0 where
+-- no further page was lent for writing, no file changed, and where it was done no name is unsynced that was not.
+pub record LooksAtSome (tells ok : Bool) (count : ℕ) (before now : StoreSeen) (old new : Pages) : Type 0 where
   pub name : name_of new ≡ name_of old
   pub few : length (pages_of new) ≤ length (pages_of old) + count
   pub stay : (number : ℕ) → is_buffered (pages_of old) number ≡ true → is_buffered (pages_of new) number ≡ true
@@ -37,7 +53,7 @@ pub record LooksAtSome (tells : Bool) (count : ℕ) (before now : StoreSeen) (ol
   pub lent : (number : ℕ) → is_lent (pages_of new) number ≡ is_lent (pages_of old) number
   pub lent_count : lent_count (pages_of new) ≡ lent_count (pages_of old)
   pub known : IsKnown tells before old → IsKnown tells now new
-  pub leaves : OnlyReads false (name_of old) before now
+  pub leaves : OnlyReads ok (name_of old) before now
   pub reads : now.reads ≤ before.reads + count
 
 -- Of a file's blocks all but those of a list have the bytes that they had, and the file grows no further than to the end of
@@ -48,9 +64,9 @@ pub record KeepsBlocksBut (numbers : List ℕ) (old new : List ℕ) : Type 0 whe
   pub within : (blocks : ℕ) → ((number : ℕ) → StandsIn numbers number → number < blocks) → length new ≤ max (length old) (1024 * blocks)
 
 -- Pages of no blocks but those of a list were lent for writing, and so many were read, at most: the name and what was buffered
--- stay, and so does what the buffer shows of other blocks, over any file; a page that was lent before still is, and no file
--- changed.
-pub record LendsSome (tells : Bool) (count : ℕ) (numbers : List ℕ) (before now : StoreSeen) (old new : Pages) : Type 0 where
+-- stay, and so does what the buffer shows of other blocks, over any file; a page that was lent before still is, no file
+-- changed, and where it was done no name is unsynced that was not.
+pub record LendsSome (tells ok : Bool) (count : ℕ) (numbers : List ℕ) (before now : StoreSeen) (old new : Pages) : Type 0 where
   pub name : name_of new ≡ name_of old
   pub few : length (pages_of new) ≤ length (pages_of old) + count
   pub stay : (number : ℕ) → is_buffered (pages_of old) number ≡ true → is_buffered (pages_of new) number ≡ true
@@ -59,7 +75,7 @@ pub record LendsSome (tells : Bool) (count : ℕ) (numbers : List ℕ) (before n
   pub still_lent : (number : ℕ) → is_lent (pages_of old) number ≡ true → is_lent (pages_of new) number ≡ true
   pub lent_count : lent_count (pages_of new) ≤ lent_count (pages_of old) + length numbers
   pub known : IsKnown tells before old → IsKnown tells now new
-  pub leaves : OnlyReads false (name_of old) before now
+  pub leaves : OnlyReads ok (name_of old) before now
   pub reads : now.reads ≤ before.reads + count
 
 -- A block has a number of four bytes at a place, and all its other bytes are as before.

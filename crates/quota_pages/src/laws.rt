@@ -1,17 +1,17 @@
 //! Laws of what a buffer of pages shows.
 
-ghost use Rattle.std.specs.Prelude.{◌≡◌, ◌≢◌, ◌⊎◌, ◌+◌, ◌*◌, ◌<◌, ◌≤◌, ℕ, Bool, IsTrue, true, false, IfOk, OnErr, List, [], ◌++◌, length, max};
+ghost use Rattle.std.specs.Prelude.{◌≡◌, ◌≢◌, ◌⊎◌, ◌+◌, ◌*◌, ◌<◌, ◌≤◌, ◌&&◌, ℕ, Bool, IsTrue, true, false, IfOk, OnErr, List, [], ◌++◌, length, max};
 ghost use Rattle.quota_types.specs.Bytes.{byte_at, number_at};
 ghost use Rattle.outside.specs.Count.{Rose};
 ghost use Rattle.outside.specs.World.{World};
 ghost use Rattle.outside.specs.Seen.{StoreSeen};
-ghost use Rattle.quota_types.specs.Times.{StandsIn};
+ghost use Rattle.quota_types.specs.Times.{StandsIn, times};
 ghost use Rattle.file_blocks.specs.Block.{block_of, bytes_of};
 ghost use Rattle.quota_pages.specs.Overlay.{with_block};
-ghost use Rattle.quota_pages.specs.Flushed.{IsPartlyFlushed};
-ghost use Rattle.quota_pages.specs.Page.{IsClean, Page, is_lent, shown};
+ghost use Rattle.quota_pages.specs.Flushed.{IsPartlyFlushed, counted_by, flushed_files};
+ghost use Rattle.quota_pages.specs.Page.{IsClean, Page, is_buffered, is_lent, lent_count, lent_numbers, shown};
 ghost use Rattle.quota_pages.specs.Pages.{name_of, pages_of};
-ghost use Rattle.quota_pages.specs.Used.{KeepsBlocksBut, LendsSome, LooksAtSome, file_of, shown_over};
+ghost use Rattle.quota_pages.specs.Used.{KeepsBlocksBut, LendsSome, LooksAtSome, Uses, file_of, shown_over};
 ghost use Rattle.quota_pages.specs.declared.page_buffer.Pages.{Pages as Buffer};
 
 use crate::Pages;
@@ -49,6 +49,42 @@ pub fn all_but_lent_blocks_stay()
         → 1024 * number + 1024 ≤ length (shown pages file) }
     ensures ends { (pages : List Page) (file : List ℕ) → (length (shown pages file) ≡ length file)
         ⊎ ((number : ℕ) × (is_lent pages number ≡ true) × (length (shown pages file) ≡ 1024 * number + 1024)) }
+    ensures all { (pages : List Page) (file : List ℕ) → KeepsBlocksBut (lent_numbers pages) file (shown pages file) }
+{}
+
+/// A block that was lent for writing is buffered. The numbers of the pages that were lent are those of the blocks that
+/// were, and no more than there are pages.
+pub fn a_lent_block_is_buffered()
+    ensures buffered { (pages : List Page) (number : ℕ) → is_lent pages number ≡ true → is_buffered pages number ≡ true }
+    ensures stands { (pages : List Page) (number : ℕ) → is_lent pages number ≡ true
+        → StandsIn (lent_numbers pages) number }
+    ensures lent { (pages : List Page) (number : ℕ) → StandsIn (lent_numbers pages) number
+        → is_lent pages number ≡ true }
+    ensures count { (pages : List Page) → length (lent_numbers pages) ≡ lent_count pages }
+    ensures few { (pages : List Page) → lent_count pages ≤ length pages }
+{}
+
+/// A buffer has at most twelve pages. So at most twelve blocks were lent for writing, and none of them stands twice.
+pub fn a_buffer_has_few_pages()
+    ensures pages { (buffer : Buffer) → length (pages_of buffer) ≤ 12 }
+    ensures lent { (buffer : Buffer) → length (lent_numbers (pages_of buffer)) ≤ 12 }
+    ensures distinct { (buffer : Buffer) (number : ℕ) → times (lent_numbers (pages_of buffer)) number ≤ 1 }
+{}
+
+/// After a flush the named file is what was shown. So all its blocks stay but those that were lent for writing, and each
+/// byte outside of those. As many calls of `write` are counted as blocks were lent, at most, which are twelve at most.
+pub fn a_flush_leaves_what_was_shown()
+    ensures file { (files : World) (name : List ℕ) (pages : List Page)
+        → bytes_of (flushed_files files name pages name) ≡ shown pages (bytes_of (files name)) }
+    ensures blocks { (files : World) (name : List ℕ) (pages : List Page)
+        → KeepsBlocksBut (lent_numbers pages) (bytes_of (files name)) (bytes_of (flushed_files files name pages name)) }
+    ensures bytes { (files : World) (name : List ℕ) (pages : List Page) (number at : ℕ) → is_lent pages number ≡ false
+        → 1024 * number ≤ at → at < 1024 * number + 1024
+        → byte_at (bytes_of (flushed_files files name pages name)) at ≡ byte_at (bytes_of (files name)) at }
+    ensures writes { (pages : List Page) (before : ℕ)
+        → counted_by before (lent_count pages) ≤ before + lent_count pages }
+    ensures few { (buffer : Buffer) (before : ℕ)
+        → counted_by before (lent_count (pages_of buffer)) ≤ before + 12 }
 {}
 
 /// After a fault of a flush each block of the file is the old one, or the one that was shown.
@@ -74,24 +110,39 @@ pub fn a_fault_leaves_what_is_shown()
 {}
 
 /// Calls that look at pages, one after another, look at as many as both, and leave what is shown. Calls that lend pages,
-/// one after another, lend those of both, and leave all other blocks that are shown. A page that was lent twice counts
-/// once.
+/// one after another, lend those of both, and leave all other blocks that are shown. Where both were done they leave no
+/// name unsynced that was not. A page that was lent twice counts once.
 pub fn calls_stand_for_one()
-    ensures looks { (tells : Bool) (one two : ℕ) (before between now : StoreSeen) (old middle new : Buffer)
-        → LooksAtSome tells one before between old middle → LooksAtSome tells two between now middle new
-        → LooksAtSome tells (one + two) before now old new }
-    ensures shown { (tells : Bool) (count : ℕ) (before now : StoreSeen) (old new : Buffer)
-        → LooksAtSome tells count before now old new → shown_over now new ≡ shown_over before old }
-    ensures lends { (tells : Bool) (one two : ℕ) (these those : List ℕ) (before between now : StoreSeen)
+    ensures looks { (tells done ok : Bool) (one two : ℕ) (before between now : StoreSeen) (old middle new : Buffer)
+        → LooksAtSome tells done one before between old middle → LooksAtSome tells ok two between now middle new
+        → LooksAtSome tells (done && ok) (one + two) before now old new }
+    ensures shown { (tells ok : Bool) (count : ℕ) (before now : StoreSeen) (old new : Buffer)
+        → LooksAtSome tells ok count before now old new → shown_over now new ≡ shown_over before old }
+    ensures lends { (tells done ok : Bool) (one two : ℕ) (these those : List ℕ) (before between now : StoreSeen)
         (old middle new : Buffer)
-        → LendsSome tells one these before between old middle → LendsSome tells two those between now middle new
-        → LendsSome tells (one + two) (these ++ those) before now old new }
-    ensures once { (tells : Bool) (count : ℕ) (numbers more : List ℕ) (before now : StoreSeen) (old new : Buffer)
+        → LendsSome tells done one these before between old middle → LendsSome tells ok two those between now middle new
+        → LendsSome tells (done && ok) (one + two) (these ++ those) before now old new }
+    ensures once { (tells ok : Bool) (count : ℕ) (numbers more : List ℕ) (before now : StoreSeen) (old new : Buffer)
         → ((number : ℕ) → StandsIn numbers number → StandsIn more number)
-        → LendsSome tells count numbers before now old new → LendsSome tells count more before now old new }
-    ensures others { (tells : Bool) (count : ℕ) (numbers : List ℕ) (before now : StoreSeen) (old new : Buffer)
-        → LendsSome tells count numbers before now old new
+        → LendsSome tells ok count numbers before now old new → LendsSome tells ok count more before now old new }
+    ensures others { (tells ok : Bool) (count : ℕ) (numbers : List ℕ) (before now : StoreSeen) (old new : Buffer)
+        → LendsSome tells ok count numbers before now old new
         → KeepsBlocksBut numbers (shown_over before old) (shown_over now new) }
+{}
+
+/// What calls use of a buffer adds up, whatever they say of its pages beside it. Calls that look at pages use as many, and
+/// so do calls that lend pages. No call uses none, two in a row use as many as both, and what was used is used of a greater count.
+pub fn what_calls_use_adds_up()
+    ensures looks { (tells ok : Bool) (count : ℕ) (before now : StoreSeen) (old new : Buffer)
+        → LooksAtSome tells ok count before now old new → Uses tells ok count before now old new }
+    ensures lends { (tells ok : Bool) (count : ℕ) (numbers : List ℕ) (before now : StoreSeen) (old new : Buffer)
+        → LendsSome tells ok count numbers before now old new → Uses tells ok count before now old new }
+    ensures none { (tells ok : Bool) (seen : StoreSeen) (buffer : Buffer) → Uses tells ok 0 seen seen buffer buffer }
+    ensures both { (tells done ok : Bool) (one two : ℕ) (before between now : StoreSeen) (old middle new : Buffer)
+        → Uses tells done one before between old middle → Uses tells ok two between now middle new
+        → Uses tells (done && ok) (one + two) before now old new }
+    ensures more { (tells ok : Bool) (few more : ℕ) (before now : StoreSeen) (old new : Buffer) → few ≤ more
+        → Uses tells ok few before now old new → Uses tells ok more before now old new }
 {}
 
 /// A word that is set in one block leaves each other block as it was shown. This answers a word of the other block.

@@ -1,4 +1,4 @@
-ghost use Rattle.std.specs.Prelude.{◌≡◌, IsTrue, length, is_ok};
+ghost use Rattle.std.specs.Prelude.{◌≡◌, ◌≤◌, IsTrue, length, is_ok};
 ghost use Rattle.quota_pages.specs.Held.{pages_in};
 ghost use Rattle.quota_pages.specs.Page.{are_distinct};
 
@@ -12,20 +12,20 @@ use outside::{Store, StoreFault};
 pub struct Pages {
     name: String,
     held: Held,
-    // Each head has its block, and no block is held twice.
+    // Each head has its block, no block is held twice, and twelve are at most.
     ghost beside: { length held.heads.items ≡ length held.blocks.items },
     ghost distinct: { IsTrue (are_distinct (pages_in held.heads.items held.blocks.items)) },
+    ghost few: { length held.heads.items ≤ 12 },
 }
 
 #[tactic(auto, unfolding(crate::specs::Pages::name_of, crate::specs::Pages::pages_of))]
 impl Pages {
-    ghost use Rattle.std.specs.Prelude.{ℕ, ◌+◌, ◌<◌, ◌≤◌, ◌⊎◌, List, [], true, false, IsOk, IfOk, OnOk, OnErr, MatchOption, slice_index_or, if◌then◌else◌, ◌∷◌, replicate};
+    ghost use Rattle.std.specs.Prelude.{ℕ, ◌+◌, ◌<◌, ◌⊎◌, List, [], true, false, IsOk, IfOk, OnOk, OnErr, MatchOption, slice_index_or, if◌then◌else◌, ◌∷◌, replicate};
     ghost use Rattle.std.specs.Borrow.{sem};
     ghost use Rattle.std.specs.String.{string_bytes};
     ghost use Rattle.arrayvec.specs.ArrayVec.{array_vec_len};
     ghost use Rattle.outside.specs.Count.{Rose, counted};
     ghost use Rattle.outside.specs.Frame.{ChangesOne, OnlyReads};
-    ghost use Rattle.outside.specs.Unsynced.{AddsNone};
     ghost use Rattle.file_blocks.specs.Block.{block_of};
     ghost use Rattle.quota_pages.specs.Flushed.{IsPartlyFlushed, counted_by, flushed_files, flushed_names};
     ghost use Rattle.quota_pages.specs.Page.{HasRoomFor, IsClean, is_buffered, is_lent, is_some_lent, lent_count, shown};
@@ -115,12 +115,11 @@ impl Pages {
         requires room { HasRoomFor (pages_of self.old) n }
         ensures value { IfOk result (λ value. IsKnown S.tells (S.seen store.old) self.old
             → value ≡ number_at 4 (block_of (shown_over (S.seen store.old) self.old) n) at) }
-        ensures looked { LooksAtSome S.tells (missing (pages_of self.old) n)
+        ensures looked { LooksAtSome S.tells (is_ok result) (missing (pages_of self.old) n)
             (S.seen store.old) (S.seen store.new) self.old self.new }
         ensures brought { OnOk result (is_buffered (pages_of self.new) n ≡ true) }
         ensures buffered { is_buffered (pages_of self.old) n ≡ true → (IsOk result) × (store.new ≡ store.old) }
         ensures cause { OnErr result (Rose (S.seen store.old).faults (S.seen store.new).faults) }
-        ensures synced { OnOk result (AddsNone (S.seen store.old).unsynced (S.seen store.new).unsynced) }
     {
         let block = self.peek(store, n)?;
         Ok(le32(block, at))
@@ -142,15 +141,14 @@ impl Pages {
         requires room { HasRoomFor (pages_of self.old) n }
         ensures set { OnOk result (IsKnown S.tells (S.seen store.old) self.old
             → HasWord n at value (shown_over (S.seen store.old) self.old) (shown_over (S.seen store.new) self.new)) }
-        ensures lends { OnOk result (LendsSome S.tells (missing (pages_of self.old) n) (n ∷ [])
+        ensures lends { OnOk result (LendsSome S.tells true (missing (pages_of self.old) n) (n ∷ [])
             (S.seen store.old) (S.seen store.new) self.old self.new) }
-        ensures kept { OnErr result (LooksAtSome S.tells (missing (pages_of self.old) n)
+        ensures kept { OnErr result (LooksAtSome S.tells false (missing (pages_of self.old) n)
             (S.seen store.old) (S.seen store.new) self.old self.new) }
         ensures marked { OnOk result (is_lent (pages_of self.new) n ≡ true) }
         ensures brought { OnOk result (is_buffered (pages_of self.new) n ≡ true) }
         ensures buffered { is_buffered (pages_of self.old) n ≡ true → (IsOk result) × (store.new ≡ store.old) }
         ensures cause { OnErr result (Rose (S.seen store.old).faults (S.seen store.new).faults) }
-        ensures synced { OnOk result (AddsNone (S.seen store.old).unsynced (S.seen store.new).unsynced) }
     {
         let block = self.page(store, n)?;
         set_le32(block, at, value);
@@ -166,15 +164,14 @@ impl Pages {
         requires { HasRoomFor (pages_of self.old) n }
         ensures blank { OnOk result (IsKnown S.tells (S.seen store.old) self.old
             → block_of (shown_over (S.seen store.new) self.new) n ≡ replicate 1024 0) }
-        ensures lends { OnOk result (LendsSome S.tells (missing (pages_of self.old) n) (n ∷ [])
+        ensures lends { OnOk result (LendsSome S.tells true (missing (pages_of self.old) n) (n ∷ [])
             (S.seen store.old) (S.seen store.new) self.old self.new) }
-        ensures kept { OnErr result (LooksAtSome S.tells (missing (pages_of self.old) n)
+        ensures kept { OnErr result (LooksAtSome S.tells false (missing (pages_of self.old) n)
             (S.seen store.old) (S.seen store.new) self.old self.new) }
         ensures marked { OnOk result (is_lent (pages_of self.new) n ≡ true) }
         ensures brought { OnOk result (is_buffered (pages_of self.new) n ≡ true) }
         ensures buffered { is_buffered (pages_of self.old) n ≡ true → (IsOk result) × (store.new ≡ store.old) }
         ensures cause { OnErr result (Rose (S.seen store.old).faults (S.seen store.new).faults) }
-        ensures synced { OnOk result (AddsNone (S.seen store.old).unsynced (S.seen store.new).unsynced) }
     {
         self.page(store, n)?.fill(0);
         Ok(())

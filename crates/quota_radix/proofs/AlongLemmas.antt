@@ -76,7 +76,7 @@ none_later file blocks id gone later none from few =
     subst (λ (k : ℕ). block_on_way file blocks id k ≡ None) same (none_behind file blocks id gone (later - gone) none (omega arith))
 
 -- what a function gives of numbers in a range, with one more
-given_more : (f : ℕ → Option ℕ) (count : ℕ) → filter_map f (range_with_len 0 (count + 1)) ≡ filter_map f (range_with_len 0 count) ++ cons_option (f count) []
+pub given_more : (f : ℕ → Option ℕ) (count : ℕ) → filter_map f (range_with_len 0 (count + 1)) ≡ filter_map f (range_with_len 0 count) ++ cons_option (f count) []
 given_more f count =
     let from : 0 + count ≡ count = omega arith in
     ap (filter_map f) (range_with_len-add 0 count 1)
@@ -90,7 +90,7 @@ given_none f first (suc count) none =
     ap (λ (o : Option ℕ). cons_option o (filter_map f (range_with_len (first + 1) count))) (none first (omega arith) (omega arith))
     ∙ given_none f (first + 1) count (λ k from to. none k (omega arith) (omega arith))
 
-given_all : (f : ℕ → Option ℕ) (count more : ℕ) → ((k : ℕ) → count ≤ k → k < count + more → f k ≡ None) → filter_map f (range_with_len 0 (count + more)) ≡ filter_map f (range_with_len 0 count)
+pub given_all : (f : ℕ → Option ℕ) (count more : ℕ) → ((k : ℕ) → count ≤ k → k < count + more → f k ≡ None) → filter_map f (range_with_len 0 (count + more)) ≡ filter_map f (range_with_len 0 count)
 given_all f count more none =
     ap (filter_map f) (range_with_len-add 0 count more)
     ∙ filter_map-append f (range_with_len 0 count) (range_with_len (0 + count) more)

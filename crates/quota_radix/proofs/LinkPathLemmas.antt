@@ -38,7 +38,7 @@ front_next id (suc (suc zero)) few = omega arith
 front_next id (suc (suc (suc zero))) few = omega arith
 front_next id (suc (suc (suc (suc digits)))) few = absurd (omega arith)
 
-front_small : (id digits : ℕ) → id < 2 ^ 32 → digits < 4 → front_of id digits < 256 ^ digits
+pub front_small : (id digits : ℕ) → id < 2 ^ 32 → digits < 4 → front_of id digits < 256 ^ digits
 front_small id zero small few = omega arith
 front_small id (suc zero) small few = omega arith
 front_small id (suc (suc zero)) small few = omega arith
@@ -46,13 +46,13 @@ front_small id (suc (suc (suc zero))) small few = omega arith
 front_small id (suc (suc (suc (suc digits)))) small few = absurd (omega arith)
 
 -- a block of zeros has no reference
-word_of_zeros : (file : List ℕ) (block digit : ℕ) → block_of file block ≡ replicate 1024 0 → digit < 256 → word_at file block digit ≡ 0
+pub word_of_zeros : (file : List ℕ) (block digit : ℕ) → block_of file block ≡ replicate 1024 0 → digit < 256 → word_at file block digit ≡ 0
 word_of_zeros file block digit blank low =
     ap (λ (bytes : List ℕ). number_at 4 bytes (4 * digit)) blank
     ∙ number_at-zeros 4 (4 * digit) (replicate 1024 0) (λ k above below. get_or-replicate 1024 k 0 0 (omega arith))
 
 -- where one reference of a block was set, the others are as before
-word_kept : (block digit value other : ℕ) (old new : List ℕ) → HasWord block (4 * digit) value old new → other ≢ digit → word_at new block other ≡ word_at old block other
+pub word_kept : (block digit value other : ℕ) (old new : List ℕ) → HasWord block (4 * digit) value old new → other ≢ digit → word_at new block other ≡ word_at old block other
 word_kept block digit value other old new set ne =
     number_same 4 (4 * other) (block_of new block) (block_of old block) (λ k from to. elim (cases_lt k (4 * digit)) [
       | inl low ↦ set.others.before k low
@@ -71,7 +71,7 @@ gains_ref block digit value blocks old new low none leading set = record {
 }
 
 -- a path to a block that is there
-path_to : (o : Option TreePath) (block : ℕ) → Some block ≡ option_map (λ (path : TreePath). path.block) o → (path : TreePath) × (o ≡ Some path) × (path.block ≡ block)
+pub path_to : (o : Option TreePath) (block : ℕ) → Some block ≡ option_map (λ (path : TreePath). path.block) o → (path : TreePath) × (o ≡ Some path) × (path.block ≡ block)
 path_to None block is = absurd (none-some block (sym is))
 path_to (Some path) block is = (path, refl, sym (same_Some block path.block is))
 
@@ -87,7 +87,7 @@ level_above file blocks block upper (suc lower) above =
     ]
 
 -- a block stands in no two levels of the tree more often than in the tree
-two_levels : (file : List ℕ) (blocks block one two : ℕ) → one ≢ two → one < 4 → two < 4
+pub two_levels : (file : List ℕ) (blocks block one two : ℕ) → one ≢ two → one < 4 → two < 4
     → times (level file blocks one) block + times (level file blocks two) block ≤ times (tree_blocks file blocks) block
 two_levels file blocks block one two ne few few' = elim (cases_lt one two) [
   | inl above ↦ omega (arith, level_above file blocks block one two above, times_above file blocks two block few')
@@ -106,7 +106,7 @@ gains_as low high high' path path' old old' new new' eh ep eo en gain =
     (subst (λ (ps : List TreePath). Gains low high path ps new') eo
     (subst (λ (ps : List TreePath). Gains low high path old ps) en gain)))
 
-path_same : (number number' block : ℕ) → number ≡ number' → (let p : TreePath = record { number = number; block = block } in p) ≡ record { number = number'; block = block }
+pub path_same : (number number' block : ℕ) → number ≡ number' → (let p : TreePath = record { number = number; block = block } in p) ≡ record { number = number'; block = block }
 path_same number number' block is = ap (λ (n : ℕ). let p : TreePath = record { number = n; block = block } in p) is
 
 -- What a new leaf changes: along the way of its identifier, from the last block that was there on, each block leads to the next,
@@ -133,7 +133,7 @@ module _ (way : List ℕ) (gone id blocks : ℕ) (old new : List ℕ) (linked : 
   split : SplitsAt (front_of id gone) there.0 (paths old blocks gone)
   split = found_splits (front_of id gone) (paths old blocks gone) there.0 there.1
 
-  last_stands : StandsIn (level old blocks gone) (get_or way gone 0)
+  pub last_stands : StandsIn (level old blocks gone) (get_or way gone 0)
   last_stands =
       subst (λ (block : ℕ). StandsIn (level old blocks gone) block) there.2
       (found_stands (λ (other : TreePath). other.number == front_of id gone) (paths old blocks gone) there.0 there.1)
@@ -162,7 +162,7 @@ module _ (way : List ℕ) (gone id blocks : ℕ) (old new : List ℕ) (linked : 
       ∙ onward_same old new blocks (paths old blocks digits) (λ block stands. stays_in digits block (omega (arith, linked.few, few)) (omega arith) stands)
 
   -- its digit led nowhere
-  none_there : leads blocks (word_at old (get_or way gone 0) (digit_behind id gone)) ≡ false
+  pub none_there : leads blocks (word_at old (get_or way gone 0) (digit_behind id gone)) ≡ false
   none_there =
       let up : front_of id (suc gone) / 256 ≡ front_of id gone = omega (arith, front_next id gone linked.few) in
       let digit : ℕ = digit_behind id gone in

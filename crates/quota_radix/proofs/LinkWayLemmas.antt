@@ -19,7 +19,7 @@ use Rattle.quota_radix.proofs.DescentLemmas.{option_cases}
 use Rattle.quota_radix.proofs.LinkPathLemmas.{IsLinked, front_of, last_in_tree}
 
 -- what stands in a list has a place
-place_of : (xs : List ℕ) (n : ℕ) → StandsIn xs n → (k : ℕ) × (k < length xs) × (get_or xs k 0 ≡ n)
+pub place_of : (xs : List ℕ) (n : ℕ) → StandsIn xs n → (k : ℕ) × (k < length xs) × (get_or xs k 0 ≡ n)
 place_of [] n stands = absurd (omega arith)
 place_of (x ∷ xs) n stands = elim (stands_cons x xs n stands) [
   | inl same ↦ (0, omega arith, same)
@@ -27,7 +27,7 @@ place_of (x ∷ xs) n stands = elim (stands_cons x xs n stands) [
 ]
 
 -- numbers of a list that are distinct differ at different places
-apart_at : (xs : List ℕ) → AreDistinct xs → (j k : ℕ) → j < k → k < length xs → get_or xs j 0 ≢ get_or xs k 0
+pub apart_at : (xs : List ℕ) → AreDistinct xs → (j k : ℕ) → j < k → k < length xs → get_or xs j 0 ≢ get_or xs k 0
 apart_at [] distinct j k lt low same = absurd (omega arith)
 apart_at (x ∷ xs) distinct j zero lt low same = absurd (omega arith)
 apart_at (x ∷ xs) distinct zero (suc k) lt low same =
@@ -153,7 +153,7 @@ module _ (f : ℕ → Option ℕ) (high : ℕ) (ends : (d : ℕ) → suc d < hig
       ap (λ (o : Option ℕ). cons_option o (filter_map f (range_with_len (first + 1) (suc count)))) none
       ∙ none_on (first + 1) (suc count) (omega arith) (ap f next ∙ ends first (omega arith) none)
 
-  some_at : (first count k : ℕ) → first + count ≤ high → k < length (filter_map f (range_with_len first count))
+  pub some_at : (first count k : ℕ) → first + count ≤ high → k < length (filter_map f (range_with_len first count))
       → f (first + k) ≡ Some (get_or (filter_map f (range_with_len first count)) k 0)
   some_at first zero k within low = absurd (omega arith)
   some_at first (suc count) k within low =
@@ -188,7 +188,7 @@ module _ (f : ℕ → Option ℕ) (high : ℕ) (ends : (d : ℕ) → suc d < hig
             ap f next ∙ none_behind (first + 1) count (omega arith) (omega (arith, low, is))
       ]
 
-ends_on_way : (file : List ℕ) (blocks id d : ℕ) → suc d < 5 → block_on_way file blocks id d ≡ None → block_on_way file blocks id (suc d) ≡ None
+pub ends_on_way : (file : List ℕ) (blocks id d : ℕ) → suc d < 5 → block_on_way file blocks id d ≡ None → block_on_way file blocks id (suc d) ≡ None
 ends_on_way file blocks id d low none = none_later file blocks id d (suc d) none (omega arith) (omega arith)
 
 -- the last block of a way that ends before the leaf, and that it ends there
@@ -209,7 +209,7 @@ way_end file found blocks id gone is some few =
     let here : suc gone ≡ 0 + length (filter_map f (range_with_len 0 5)) = omega (arith, long) in
     ap f here ∙ none_behind f 5 (ends_on_way file blocks id) 0 5 (omega arith) (omega (arith, long, few))
 
-digit_same : (id digits : ℕ) → digits < 4 → 4 * digit_on_way id digits ≡ 4 * (front_of id (suc digits) % 256)
+pub digit_same : (id digits : ℕ) → digits < 4 → 4 * digit_on_way id digits ≡ 4 * (front_of id (suc digits) % 256)
 unfolding digit_on_way
 digit_same id digits few = let same : 3 - digits ≡ 4 - suc digits = omega arith in ap (λ (k : ℕ). 4 * (id / 256 ^ k % 256)) same
 

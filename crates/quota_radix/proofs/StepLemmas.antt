@@ -64,7 +64,7 @@ step_cases words blocks path digit = elim (cases_Bool (leads blocks (words digit
   | inr other ↦ inr (other, ap (λ (b : Bool). cond b (Some (path_by (words digit) path digit)) None) other)
 ]
 
-zero_of : (blocks word : ℕ) → leads blocks word ≡ false → word < blocks → word ≡ 0
+pub zero_of : (blocks word : ℕ) → leads blocks word ≡ false → word < blocks → word ≡ 0
 zero_of blocks word not_leading low = grind (arith, nat_tests)
 
 -- a reference that leads

@@ -40,7 +40,7 @@ out_fault file blocks gone block digit word damage few stands low word_is out is
     })
 
 -- a level below the root is one of those below it
-lower_level : (file : List ℕ) (blocks gone block : ℕ) → 1 ≤ gone → gone < 4 → StandsIn (level file blocks gone) block → StandsIn (lower_blocks file blocks) block
+pub lower_level : (file : List ℕ) (blocks gone block : ℕ) → 1 ≤ gone → gone < 4 → StandsIn (level file blocks gone) block → StandsIn (lower_blocks file blocks) block
 lower_level file blocks gone block some few stands = go gone some few stands
   where
     total : times (lower_blocks file blocks) block

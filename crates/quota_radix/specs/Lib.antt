@@ -8,6 +8,8 @@ pub mod Lookup
 pub mod Reads
 pub mod Tree
 pub mod TreeDefect
+pub mod Undone
+pub mod Unlink
 pub mod Walk
 pub mod WalkFault
 pub mod Way

@@ -1,10 +1,10 @@
-ghost use Rattle.std.specs.Prelude.{◌≡◌, ◌+◌, ◌<◌, ◌≤◌, length, slice_get, IfErr, IfOk, OnOk};
+ghost use Rattle.std.specs.Prelude.{◌≡◌, ◌+◌, ◌<◌, ◌≤◌, length, min, take, true, false, slice_get, IfErr, IfOk, OnErr, OnOk, is_ok};
 ghost use Rattle.file_blocks.specs.Block.{word_at};
-ghost use Rattle.outside.specs.Unsynced.{AddsNone};
 ghost use Rattle.quota_types.specs.declared.damage.DamageKind.TheVariants.{RefOut};
 ghost use Rattle.quota_pages.specs.Pages.{pages_of};
 ghost use Rattle.quota_pages.specs.Used.{IsKnown, LooksAtSome, shown_over};
 ghost use Rattle.quota_radix.specs.Descent.{leaf_block};
+ghost use Rattle.quota_radix.specs.Link.{AreBuffered};
 ghost use Rattle.quota_radix.specs.WalkFault.{IsWalkFault};
 ghost use Rattle.quota_radix.specs.Way.{IsFromRoot, IsInsideOnWay, IsOutOnWay, blocks_on_way};
 
@@ -37,9 +37,8 @@ pub(crate) fn reference_in<C, B: LendsBlocks<C>>(
         × (B.missing file.new block ≡ 0)
         × (B.known file.old context.old
         → blocks ≤ word_at (B.shows file.old context.old) block digit))) }
-    ensures looked { B.looked (B.missing file.old block) context.old context.new file.old file.new }
+    ensures looked { B.looked (is_ok result) (B.missing file.old block) context.old context.new file.old file.new }
     ensures brought { OnOk result (B.missing file.new block ≡ 0) }
-    ensures synced { OnOk result (AddsNone (B.seen context.old).unsynced (B.seen context.new).unsynced) }
 {
     let reference = file.with_block(context, block, |block| level_ref(block, digit))?;
     if reference < blocks {
@@ -51,7 +50,8 @@ pub(crate) fn reference_in<C, B: LendsBlocks<C>>(
 
 /// The blocks on the way of an identifier that are there: the root first, and the data block fifth.
 ///
-/// The file has so many blocks. At most 4 of them are read.
+/// The file has so many blocks. As many are read as there are of the tree on the way, 4 at most, and these are buffered
+/// then.
 ///
 /// # Errors
 ///
@@ -74,8 +74,10 @@ pub fn find_path<S: Store>(
     ensures refused { IfErr result (IsWalkFault (S.seen store.old).faults (S.seen store.new).faults
         (λ damage. (damage.kind ≡ RefOut) × (IsKnown S.tells (S.seen store.old) pages.old
         → IsOutOnWay (shown_over (S.seen store.old) pages.old) blocks id damage.block))) }
-    ensures looked { LooksAtSome S.tells 4 (S.seen store.old) (S.seen store.new) pages.old pages.new }
-    ensures synced { OnOk result (AddsNone (S.seen store.old).unsynced (S.seen store.new).unsynced) }
+    ensures looked { IfOk result (λ path. LooksAtSome S.tells true (min 4 (length path.found.items))
+        (S.seen store.old) (S.seen store.new) pages.old pages.new) }
+    ensures kept { OnErr result (LooksAtSome S.tells false 4 (S.seen store.old) (S.seen store.new) pages.old pages.new) }
+    ensures buffered { IfOk result (λ path. AreBuffered (pages_of pages.new) (take 4 path.found.items)) }
 {
     let mut found = ArrayVec::new();
     found.push(ROOT);
@@ -112,8 +114,7 @@ pub(crate) fn leaf_in<C, B: LendsBlocks<C>>(
     ensures refused { IfErr result (IsWalkFault (B.seen context.old).faults (B.seen context.new).faults
         (λ damage. (damage.kind ≡ RefOut) × (B.known file.old context.old
         → IsOutOnWay (B.shows file.old context.old) blocks id damage.block))) }
-    ensures looked { B.looked 4 context.old context.new file.old file.new }
-    ensures synced { OnOk result (AddsNone (B.seen context.old).unsynced (B.seen context.new).unsynced) }
+    ensures looked { B.looked (is_ok result) 4 context.old context.new file.old file.new }
 {
     let mut block = ROOT;
     for digit in digits(id) {
@@ -147,8 +148,7 @@ pub fn leaf<S: Store>(
     ensures refused { IfErr result (IsWalkFault (S.seen store.old).faults (S.seen store.new).faults
         (λ damage. (damage.kind ≡ RefOut) × (IsKnown S.tells (S.seen store.old) pages.old
         → IsOutOnWay (shown_over (S.seen store.old) pages.old) blocks id damage.block))) }
-    ensures looked { LooksAtSome S.tells 4 (S.seen store.old) (S.seen store.new) pages.old pages.new }
-    ensures synced { OnOk result (AddsNone (S.seen store.old).unsynced (S.seen store.new).unsynced) }
+    ensures looked { LooksAtSome S.tells (is_ok result) 4 (S.seen store.old) (S.seen store.new) pages.old pages.new }
 {
     leaf_in(pages, store, blocks, id)
 }

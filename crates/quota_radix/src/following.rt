@@ -1,9 +1,8 @@
-ghost use Rattle.std.specs.Prelude.{◌≡◌, ◌+◌, ◌-◌, ◌*◌, ◌^◌, ◌<◌, ◌≤◌, ℕ, List, suc, length, true, IfErr, IfNone, IfOk, IfSome, OnOk, Some};
+ghost use Rattle.std.specs.Prelude.{◌≡◌, ◌+◌, ◌-◌, ◌*◌, ◌^◌, ◌<◌, ◌≤◌, ℕ, List, suc, length, true, IfErr, IfNone, IfOk, IfSome, OnOk, Some, is_ok};
 ghost use Rattle.std.specs.List.{flat_map};
 ghost use Rattle.std.specs.Option.{option_map};
 ghost use Rattle.file_blocks.specs.Block.{block_of, word_at};
 ghost use Rattle.quota_types.specs.Ids.{IsAfter};
-ghost use Rattle.outside.specs.Unsynced.{AddsNone};
 ghost use Rattle.quota_types.specs.declared.damage.DamageKind.TheVariants.{RefOut};
 ghost use Rattle.quota_pages.specs.Page.{is_buffered};
 ghost use Rattle.quota_pages.specs.Pages.{pages_of};
@@ -48,9 +47,8 @@ fn step<C, B: LendsBlocks<C>>(
         × (B.missing file.new path.block ≡ 0)
         × (B.known file.old context.old
         → blocks ≤ word_at (B.shows file.old context.old) path.block digit))) }
-    ensures looked { B.looked (B.missing file.old path.block) context.old context.new file.old file.new }
+    ensures looked { B.looked (is_ok result) (B.missing file.old path.block) context.old context.new file.old file.new }
     ensures brought { OnOk result (B.missing file.new path.block ≡ 0) }
-    ensures synced { OnOk result (AddsNone (B.seen context.old).unsynced (B.seen context.new).unsynced) }
 {
     let block = reference_in(file, context, blocks, path.block, digit)?;
     if block == 0 {
@@ -129,9 +127,8 @@ fn first_step<C, B: LendsBlocks<C>>(
         × (B.missing file.new path.block ≡ 0)
         × (B.known file.old context.old → (digit : ℕ) × (digit < 256)
         × (blocks ≤ word_at (B.shows file.old context.old) path.block digit)))) }
-    ensures looked { B.looked (B.missing file.old path.block) context.old context.new file.old file.new }
+    ensures looked { B.looked (is_ok result) (B.missing file.old path.block) context.old context.new file.old file.new }
     ensures brought { OnOk result (B.missing file.new path.block ≡ 0) }
-    ensures synced { OnOk result (AddsNone (B.seen context.old).unsynced (B.seen context.new).unsynced) }
 {
     let found = file.with_block(context, path.block, |block| {
         first_in(block, blocks, path, first)
@@ -163,8 +160,7 @@ fn least_below<C, B: LendsBlocks<C>>(
         × (B.known file.old context.old
         → IsBelowRoot (B.shows file.old context.old) blocks to_go path
         → IsWayFault (B.shows file.old context.old) blocks damage))) }
-    ensures looked { B.looked to_go context.old context.new file.old file.new }
-    ensures synced { OnOk result (AddsNone (B.seen context.old).unsynced (B.seen context.new).unsynced) }
+    ensures looked { B.looked (is_ok result) to_go context.old context.new file.old file.new }
 {
     if to_go == 0 {
         return Ok(path);
@@ -203,10 +199,9 @@ fn least_past<C, B: LendsBlocks<C>>(
         × (B.known file.old context.old
         → IsOnWay (B.shows file.old context.old) blocks (suc to_go) path
         → IsWayFault (B.shows file.old context.old) blocks damage))) }
-    ensures looked { B.looked to_go context.old context.new file.old file.new }
+    ensures looked { B.looked (is_ok result) to_go context.old context.new file.old file.new }
     ensures none { IfOk result (λ found. IfNone found
-        (B.looked 0 context.old context.new file.old file.new)) }
-    ensures synced { OnOk result (AddsNone (B.seen context.old).unsynced (B.seen context.new).unsynced) }
+        (B.looked true 0 context.old context.new file.old file.new)) }
 {
     match first_step(file, context, blocks, path, u32::from(digit) + 1)? {
         Some(next) => Ok(Some(least_below(file, context, blocks, next, to_go)?)),
@@ -243,10 +238,9 @@ fn first_below<C, B: LendsBlocks<C>>(
         × (B.known file.old context.old
         → IsOnWay (B.shows file.old context.old) blocks (length digits.now) path
         → IsWayFault (B.shows file.old context.old) blocks damage))) }
-    ensures looked { B.looked (2 * length digits.now - 1) context.old context.new file.old file.new }
+    ensures looked { B.looked (is_ok result) (2 * length digits.now - 1) context.old context.new file.old file.new }
     ensures none { IfOk result (λ found. IfNone found
-        (B.looked (length digits.now) context.old context.new file.old file.new)) }
-    ensures synced { OnOk result (AddsNone (B.seen context.old).unsynced (B.seen context.new).unsynced) }
+        (B.looked true (length digits.now) context.old context.new file.old file.new)) }
 {
     let Some((digit, rest)) = digits.split_first() else {
         return Ok(Some(path));
@@ -281,8 +275,7 @@ pub(crate) fn first_leaf_in<C, B: LendsBlocks<C>>(
     ensures refused { IfErr result (IsWalkFault (B.seen context.old).faults (B.seen context.new).faults
         (λ damage. (B.missing file.new damage.block ≡ 0)
         × (B.known file.old context.old → IsWayFault (B.shows file.old context.old) blocks damage))) }
-    ensures looked { B.looked 7 context.old context.new file.old file.new }
-    ensures synced { OnOk result (AddsNone (B.seen context.old).unsynced (B.seen context.new).unsynced) }
+    ensures looked { B.looked (is_ok result) 7 context.old context.new file.old file.new }
 {
     let root = TreePath {
         number: 0,
@@ -334,8 +327,7 @@ pub fn next_leaf<S: Store>(
         (λ damage. (is_buffered (pages_of pages.new) damage.block ≡ true)
         × (IsKnown S.tells (S.seen store.old) pages.old
         → IsWayFault (shown_over (S.seen store.old) pages.old) blocks damage))) }
-    ensures looked { LooksAtSome S.tells 7 (S.seen store.old) (S.seen store.new) pages.old pages.new }
-    ensures synced { OnOk result (AddsNone (S.seen store.old).unsynced (S.seen store.new).unsynced) }
+    ensures looked { LooksAtSome S.tells (is_ok result) 7 (S.seen store.old) (S.seen store.new) pages.old pages.new }
 {
     let Some(from) = id_after(after) else {
         return Ok(None);

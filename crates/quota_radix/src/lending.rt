@@ -1,9 +1,8 @@
-ghost use Rattle.std.specs.Prelude.{◌≡◌, ◌+◌, ◌<◌, ◌≤◌, ℕ, List, IfOk, OnOk, OnErr};
+ghost use Rattle.std.specs.Prelude.{◌≡◌, ◌+◌, ◌<◌, ◌≤◌, ℕ, Bool, List, is_ok, IfOk, OnOk, OnErr};
 ghost use Rattle.std.specs.Fn.{FnOnceReturnsAt};
 ghost use Rattle.file_blocks.specs.Block.{block_of};
 ghost use Rattle.outside.specs.Count.{Rose};
 ghost use Rattle.outside.specs.Seen.{StoreSeen};
-ghost use Rattle.outside.specs.Unsynced.{AddsNone};
 ghost use Rattle.quota_radix.specs.Lending.{LendsWell};
 
 use outside::{Store, StoreFault};
@@ -30,8 +29,9 @@ pub(crate) trait LendsBlocks<C> {
     /// How many blocks are read to have the one of this number at hand.
     ghost missing: { Self → ℕ → ℕ };
 
-    /// So many blocks were looked at, at most, that were not at hand. What is shown stays.
-    ghost looked: { ℕ → C → C → Self → Self → Type 0 };
+    /// So many blocks were looked at, at most, that were not at hand, and whether that was done. What is shown stays, and
+    /// where it was done no name is unsynced that was not.
+    ghost looked: { Bool → ℕ → C → C → Self → Self → Type 0 };
 
     /// What `look` says of block `number`.
     ///
@@ -48,10 +48,9 @@ pub(crate) trait LendsBlocks<C> {
         requires callable { F.IsAlwaysCallable look }
         ensures block { IfOk result (λ found. (block : List ℕ) × FnOnceReturnsAt F.FnOnce look block found
             × (known self.old context.old → block ≡ block_of (shows self.old context.old) number)) }
-        ensures looked { looked (missing self.old number) context.old context.new self.old self.new }
+        ensures looked { looked (is_ok result) (missing self.old number) context.old context.new self.old self.new }
         ensures brought { OnOk result (missing self.new number ≡ 0) }
-        ensures cause { OnErr result (Rose (seen context.old).faults (seen context.new).faults) }
-        ensures synced { OnOk result (AddsNone (seen context.old).unsynced (seen context.new).unsynced) };
+        ensures cause { OnErr result (Rose (seen context.old).faults (seen context.new).faults) };
 
     /// Looks add up, and leave what is known and shown.
     ghost laws: { LendsWell seen shows known kept missing looked };
@@ -61,7 +60,7 @@ impl<S: Store> LendsBlocks<S> for Pages {
     ghost use Rattle.std.specs.Prelude.{length};
     ghost use Rattle.quota_pages.specs.Pages.{pages_of};
     ghost use Rattle.quota_pages.specs.Used.{IsKnown, LooksAtSome, missing, shown_over};
-    ghost use Rattle.quota_pages.proofs.UsedLemmas.{looks_more, looks_none, looks_then, missing-few, missing-looks, shown_over-looks};
+    ghost use Rattle.quota_pages.proofs.UsedLemmas.{looks_both, looks_more, looks_none, missing-few, missing-looks, shown_over-looks};
 
     ghost seen = { S.seen };
 
@@ -73,11 +72,11 @@ impl<S: Store> LendsBlocks<S> for Pages {
 
     ghost missing = { λ pages number. missing (pages_of pages) number };
 
-    ghost looked = { λ count before now old new. LooksAtSome S.tells count (S.seen before) (S.seen now) old new };
+    ghost looked = { λ ok count before now old new. LooksAtSome S.tells ok count (S.seen before) (S.seen now) old new };
 
     ghost laws = { record {
       none = looks_none S.tells _ _;
-      then = λ first second all. looks_more _ all (looks_then first second);
+      then = λ first second all. looks_more _ all (looks_both first second);
       stays = λ looks known. (looks.known known, shown_over-looks looks);
       few = λ looks. looks.few;
       still = missing-looks;

@@ -1,13 +1,13 @@
 //! The tree of a tree quota file, by which an identifier's data block is found: its four levels are indexed by the four
 //! bytes of the identifier.
 //!
-//! The one promise: the digits of an identifier are its bytes, the most significant first, a reference is the number at
-//! its digit's place, the leaves that are found are those of the file, one that is added stands in its place among them,
-//! and what is said to be wrong with a block of the tree is wrong with it.
+//! The one promise: the digits of an identifier are its bytes, the most significant first, the leaves that are found are
+//! those of the file, one is added or taken away and all others stay, and a damage of a block of the tree is one.
 #![tactic(auto)]
 
 mod finding;
 mod following;
+pub mod laws;
 mod lending;
 mod levels;
 mod linking;
@@ -17,6 +17,7 @@ mod places;
 mod reference;
 mod tree;
 mod tree_path;
+mod unlinking;
 mod walk_fault;
 
 pub use finding::{find_path, leaf};
@@ -28,4 +29,5 @@ pub use places::digits;
 pub use reference::level_ref;
 pub use tree::find_leaves;
 pub use tree_path::TreePath;
+pub use unlinking::unlink;
 pub use walk_fault::WalkFault;

@@ -1,10 +1,9 @@
-ghost use Rattle.std.specs.Prelude.{◌≡◌, ◌+◌, ◌*◌, ◌-◌, ◌<◌, ◌≤◌, ◌++◌, ◌∷◌, [], ℕ, suc, true, length, slice_index, take, drop, IsOk, OnOk, OnErr, IsTrue};
+ghost use Rattle.std.specs.Prelude.{◌≡◌, ◌+◌, ◌*◌, ◌-◌, ◌<◌, ◌≤◌, ◌++◌, ◌∷◌, [], ℕ, suc, true, false, length, slice_index, take, drop, IsOk, OnOk, OnErr, IsTrue, is_ok};
 ghost use Rattle.arrayvec.specs.ArrayVec.{array_vec_len};
 ghost use Rattle.outside.specs.Count.{Rose};
-ghost use Rattle.outside.specs.Unsynced.{AddsNone};
 ghost use Rattle.quota_pages.specs.Page.{is_buffered};
 ghost use Rattle.quota_pages.specs.Pages.{pages_of};
-ghost use Rattle.quota_pages.specs.Used.{IsKnown, LendsSome, LooksAtSome, shown_over};
+ghost use Rattle.quota_pages.specs.Used.{IsKnown, LendsSome, LooksAtSome, missing_among, shown_over};
 ghost use Rattle.quota_radix.specs.declared.tree_path.TreePath.{TreePath};
 ghost use Rattle.quota_radix.specs.Link.{AreBuffered, AreDistinct, GainsBlocks, HasWay, IsLinkable, LeadsAlong, changed_blocks, whole_way, with_path};
 ghost use Rattle.quota_radix.specs.Tree.{leaves};
@@ -17,7 +16,8 @@ use quota_pages::Pages;
 /// leads to the first of the fresh blocks, from each of these the next digit leads to the next one, and the last digit
 /// leads to `leaf_block`.
 ///
-/// Each block is buffered before anything is changed. No other byte of them changes, and no other block.
+/// Each block that changes is buffered before anything is changed: it is already, or there is room for it. No other byte
+/// of them changes, and no other block.
 ///
 /// # Errors
 ///
@@ -33,13 +33,15 @@ pub fn link<S: Store>(
 ) -> Result<(), StoreFault>
     requires found { 1 ≤ array_vec_len path.now.found }
     requires fresh { array_vec_len path.now.found + length fresh.now ≡ 4 }
-    requires room { length (pages_of pages.old) + 1 + length fresh.now ≤ 12 }
+    requires room { length (pages_of pages.old)
+        + missing_among (pages_of pages.old) (changed_blocks path.now.found.items fresh.now) ≤ 12 }
     ensures words { OnOk result (IsKnown S.tells (S.seen store.old) pages.old
         → AreDistinct (changed_blocks path.now.found.items fresh.now)
         → LeadsAlong (whole_way path.now.found.items fresh.now leaf_block) (array_vec_len path.now.found - 1) id
         (shown_over (S.seen store.old) pages.old) (shown_over (S.seen store.new) pages.new)) }
-    ensures lends { OnOk result (LendsSome S.tells (1 + length fresh.now) (changed_blocks path.now.found.items fresh.now)
-        (S.seen store.old) (S.seen store.new) pages.old pages.new) }
+    ensures lends { OnOk result (LendsSome S.tells true
+        (missing_among (pages_of pages.old) (changed_blocks path.now.found.items fresh.now))
+        (changed_blocks path.now.found.items fresh.now) (S.seen store.old) (S.seen store.new) pages.old pages.new) }
     ensures paths { OnOk result (IsKnown S.tells (S.seen store.old) pages.old
         → IsLinkable (shown_over (S.seen store.old) pages.old) blocks path.now.found.items fresh.now id leaf_block
         → HasWay (whole_way path.now.found.items fresh.now leaf_block) (array_vec_len path.now.found) id blocks
@@ -52,14 +54,13 @@ pub fn link<S: Store>(
         → IsLinkable (shown_over (S.seen store.old) pages.old) blocks path.now.found.items fresh.now id leaf_block
         → GainsBlocks (whole_way path.now.found.items fresh.now leaf_block) fresh.now (array_vec_len path.now.found) blocks
         (shown_over (S.seen store.old) pages.old) (shown_over (S.seen store.new) pages.new)) }
-    ensures kept { OnErr result (LooksAtSome S.tells (1 + length fresh.now)
-        (S.seen store.old) (S.seen store.new) pages.old pages.new) }
+    ensures kept { OnErr result (LooksAtSome S.tells false
+        (missing_among (pages_of pages.old) (changed_blocks path.now.found.items fresh.now)) (S.seen store.old) (S.seen store.new) pages.old pages.new) }
     ensures buffered { AreBuffered (pages_of pages.old) (changed_blocks path.now.found.items fresh.now)
         → (IsOk result) × (store.new ≡ store.old) }
     ensures few { AreBuffered (pages_of pages.old) (changed_blocks path.now.found.items fresh.now)
         → length (pages_of pages.new) ≤ length (pages_of pages.old) }
     ensures cause { OnErr result (Rose (S.seen store.old).faults (S.seen store.new).faults) }
-    ensures synced { OnOk result (AddsNone (S.seen store.old).unsynced (S.seen store.new).unsynced) }
 {
     let way = whole_way(path, fresh, leaf_block);
     let first = path.found.len() - 1;
@@ -84,16 +85,19 @@ fn whole_way(path: &Path, fresh: &[u32], leaf_block: u32) -> [u32; 5]
 /// # Errors
 ///
 /// The store failed.
-fn bring_in<S: Store>(pages: &mut Pages, store: &mut S, numbers: &[u32]) -> Result<(), StoreFault>
-    requires { length (pages_of pages.old) + length numbers.now ≤ 12 }
-    ensures looked { LooksAtSome S.tells (length numbers.now)
+pub(crate) fn bring_in<S: Store>(
+    pages: &mut Pages,
+    store: &mut S,
+    numbers: &[u32],
+) -> Result<(), StoreFault>
+    requires { length (pages_of pages.old) + missing_among (pages_of pages.old) numbers.now ≤ 12 }
+    ensures looked { LooksAtSome S.tells (is_ok result) (missing_among (pages_of pages.old) numbers.now)
         (S.seen store.old) (S.seen store.new) pages.old pages.new }
     ensures brought { OnOk result (AreBuffered (pages_of pages.new) numbers.now) }
     ensures buffered { AreBuffered (pages_of pages.old) numbers.now → (IsOk result) × (store.new ≡ store.old) }
     ensures few { AreBuffered (pages_of pages.old) numbers.now
         → length (pages_of pages.new) ≤ length (pages_of pages.old) }
     ensures cause { OnErr result (Rose (S.seen store.old).faults (S.seen store.new).faults) }
-    ensures synced { OnOk result (AddsNone (S.seen store.old).unsynced (S.seen store.new).unsynced) }
 {
     for number in numbers {
         pages.word(store, *number, 0)?;
@@ -121,7 +125,7 @@ fn set_refs<S: Store>(
     ensures words { IsKnown S.tells (S.seen store.old) pages.old
         → AreDistinct (take (4 - first) (drop first way.now))
         → LeadsAlong way.now first id (shown_over (S.seen store.old) pages.old) (shown_over (S.seen store.new) pages.new) }
-    ensures lends { LendsSome S.tells 0 (take (4 - first) (drop first way.now))
+    ensures lends { LendsSome S.tells true 0 (take (4 - first) (drop first way.now))
         (S.seen store.old) (S.seen store.new) pages.old pages.new }
 {
     let digits = digits(id);

@@ -35,7 +35,7 @@ impl LendsBlocks<()> for LoadedBlocks<'_> {
 
     ghost missing = { λ _ _. 0 };
 
-    ghost looked = { λ _ _ _ old new. new.bytes.now ≡ old.bytes.now };
+    ghost looked = { λ _ _ _ _ old new. new.bytes.now ≡ old.bytes.now };
 
     ghost laws = { record {
       none = refl;

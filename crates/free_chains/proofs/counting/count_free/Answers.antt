@@ -2,7 +2,6 @@ use Rattle.std.proofs.Common.{ℕ, ◌+◌, List, ap, arith, inl, inr, refl, sym
 use Rattle.std.specs.Prelude.{◌==◌}
 use Rattle.std.specs.List.{list_any}
 use Rattle.quota_types.proofs.TimesLemmas.{StandsIn-list_any}
-use Rattle.outside.proofs.FrameLemmas.{adds_none-then}
 use Rattle.quota_pages.proofs.UsedLemmas.{looks_more, looks_then, missing-few, shown_over-looks}
 use Rattle.quota_pages.specs.Pages.{pages_of}
 use Rattle.free_chains.proofs.CountLemmas.{begun_step, counts_ended, counts_most, ends_before}
@@ -30,8 +29,7 @@ loop-count-preserved g c =
     let kept = c.loop-count.invariant in
     record {
       long = omega (arith, c.push.ensures.len);
-      looked = looks_more (c.loop-count.count + 1) (omega (arith, missing-few (pages_of c.loop-count.pages) c.loop-count.at)) (looks_then kept.looked c.word.ensures.looked);
-      synced = adds_none-then _ _ _ kept.synced c.in_ok-at.ensures.synced;
+      looked = looks_more (c.loop-count.count + 1) (omega (arith, missing-few (pages_of c.loop-count.pages) c.loop-count.at)) (looks_then kept.looked c.in_ok-at.ensures.looked);
       begun = λ known. begun_step _ _ _ _ c.loop-count.met.items _ c.loop-count.at c.in_ok-at.at (kept.begun known) c.if-at-eq0.false c.if-at-heads.false
           (ap (λ (xs : List ℕ). list_any (λ (other : ℕ). other == c.loop-count.at) xs) (sym c.as_slice.ensures.value) ∙ sym c.contains.ensures.value ∙ c.if-contains.false) c.push.ensures.items (shown_over-looks kept.looked)
           (c.in_ok-at.ensures.value (kept.looked.known known));

@@ -1,5 +1,4 @@
-use Rattle.std.proofs.Common.{◌≡◌, length}
-use Rattle.outside.specs.Unsynced.{AddsNone}
+use Rattle.std.proofs.Common.{◌≡◌, true, length}
 use Rattle.quota_pages.specs.Used.{IsKnown, LooksAtSome, shown_over}
 use Rattle.free_chains.proofs.CountLemmas.{IsBegun}
 use Rattle.free_chains.proofs.counting.count_free.Given as goal
@@ -9,7 +8,6 @@ invariant-loop-count g l =
     let S = g.S.Store in
     record {
       long : length l.met.items ≡ l.count;
-      looked : LooksAtSome S.tells l.count (S.seen l.fn.store) (S.seen l.store) l.fn.pages l.pages;
-      synced : AddsNone (S.seen l.fn.store).unsynced (S.seen l.store).unsynced;
+      looked : LooksAtSome S.tells true l.count (S.seen l.fn.store) (S.seen l.store) l.fn.pages l.pages;
       begun : IsKnown S.tells (S.seen l.fn.store) l.fn.pages → IsBegun (shown_over (S.seen l.fn.store) l.fn.pages) l.heads.blocks l.heads.free l.met.items l.at;
     }

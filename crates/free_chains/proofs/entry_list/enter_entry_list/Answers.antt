@@ -1,12 +1,13 @@
 use Rattle.std.proofs.Common.{ℕ}
 use Rattle.quota_pages.proofs.UsedLemmas.{shown_over-lends, shown_over-looks}
+use Rattle.free_chains.proofs.BesideLemmas.{beside_enters}
 use Rattle.free_chains.proofs.EntryListLemmas.{enters}
 use Rattle.free_chains.proofs.LinkLemmas.{enters_behind, enters_lends, enters_links}
 use Rattle.free_chains.proofs.entry_list.enter_entry_list.Goals as goal
 
 pub returns-clause-entered : goal.returns-clause-entered
 returns-clause-entered g c = λ known.
-    let looks = c.word.ensures.looked in
+    let looks = c.in_ok-word.ensures.looked in
     let behind = c.in_ok-set_link.ensures in
     let links = c.in_ok-set_links.ensures in
     let known' = looks.known known in
@@ -18,4 +19,13 @@ returns-clause-entered g c = λ known.
 
 pub returns-clause-lends : goal.returns-clause-lends
 returns-clause-lends g c =
-    enters_lends c.args.heads.now.first c.args.n c.word.ensures.looked c.in_ok-word.ensures.brought c.in_ok-set_link.ensures.lends c.in_ok-set_links.ensures.lends
+    enters_lends c.args.heads.now.first c.args.n c.in_ok-word.ensures.looked c.in_ok-word.ensures.brought c.in_ok-set_link.ensures.lends c.in_ok-set_links.ensures.lends
+
+pub returns-clause-links : goal.returns-clause-links
+returns-clause-links g c = λ known.
+    let looks = c.in_ok-word.ensures.looked in
+    let behind = c.in_ok-set_link.ensures in
+    let links = c.in_ok-set_links.ensures in
+    let known' = looks.known known in
+    beside_enters _ _ _ _ c.args.heads.now.first c.args.n (shown_over-looks looks) (behind.set known') (shown_over-lends behind.lends)
+    (links.set (behind.lends.known known')) (shown_over-lends links.lends)

@@ -1,10 +1,11 @@
 use Rattle.quota_pages.proofs.UsedLemmas.{shown_over-lends, shown_over-looks}
+use Rattle.free_chains.proofs.BesideLemmas.{beside_unlinks}
 use Rattle.free_chains.proofs.LinkLemmas.{unlinks, unlinks_lends}
 use Rattle.free_chains.proofs.entry_list.unlink.Goals as goal
 
 pub returns-clause-unlinked : goal.returns-clause-unlinked
 returns-clause-unlinked g c = λ known apart.
-    let looks = c.bring.ensures.looked in
+    let looks = c.in_ok-bring.ensures.looked in
     let behind = c.in_ok-set_link.ensures in
     let before = c.in_ok-set_link-2.ensures in
     let cleared = c.in_ok-set_links.ensures in
@@ -16,4 +17,15 @@ returns-clause-unlinked g c = λ known apart.
 
 pub returns-clause-lends : goal.returns-clause-lends
 returns-clause-lends g c =
-    unlinks_lends c.args.n c.args.next c.args.previous c.requires.there c.bring.ensures.looked c.in_ok-bring.ensures.brought c.in_ok-set_link.ensures.lends c.in_ok-set_link-2.ensures.lends c.in_ok-set_links.ensures.lends
+    unlinks_lends c.args.n c.args.next c.args.previous c.requires.there c.in_ok-bring.ensures.looked c.in_ok-bring.ensures.brought c.in_ok-set_link.ensures.lends c.in_ok-set_link-2.ensures.lends c.in_ok-set_links.ensures.lends
+
+pub returns-clause-links : goal.returns-clause-links
+returns-clause-links g c = λ known.
+    let looks = c.in_ok-bring.ensures.looked in
+    let behind = c.in_ok-set_link.ensures in
+    let before = c.in_ok-set_link-2.ensures in
+    let cleared = c.in_ok-set_links.ensures in
+    let known' = looks.known known in
+    let known'' = behind.lends.known known' in
+    beside_unlinks _ _ _ _ _ c.args.n c.args.next c.args.previous (shown_over-looks looks) (behind.set known') (shown_over-lends behind.lends)
+    (before.set known'') (shown_over-lends before.lends) (cleared.set (before.lends.known known'')) (shown_over-lends cleared.lends)

@@ -1,5 +1,4 @@
-use Rattle.quota_pages.proofs.UsedLemmas.{lends_more, missing-few, shown_over-lends}
-use Rattle.quota_pages.specs.Pages.{pages_of}
+use Rattle.quota_pages.proofs.UsedLemmas.{shown_over-lends}
 use Rattle.free_chains.proofs.FreeListLemmas.{gives}
 use Rattle.free_chains.proofs.LinkLemmas.{lends_twice}
 use Rattle.free_chains.proofs.free_list.give_block.Goals as goal
@@ -13,4 +12,4 @@ returns-clause-given g c = λ known.
 pub returns-clause-lends : goal.returns-clause-lends
 returns-clause-lends g c =
     let first = c.in_ok-blank.ensures in
-    lends_more 1 (missing-few (pages_of c.args.pages.now) c.args.n) (lends_twice first.lends first.brought c.in_ok-set_word.ensures.lends)
+    lends_twice first.lends first.brought c.in_ok-set_word.ensures.lends

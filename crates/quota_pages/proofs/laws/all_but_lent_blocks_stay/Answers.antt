@@ -1,3 +1,4 @@
+use Rattle.quota_pages.proofs.LentLemmas.{keeps_but_lent}
 use Rattle.quota_pages.proofs.PageLemmas.{block_of-shown_other, shown-covers, shown-ends, shown-grows}
 use Rattle.quota_pages.proofs.laws.all_but_lent_blocks_stay.Goals as goal
 
@@ -12,3 +13,6 @@ returns-clause-covers c = λ pages file number lent. shown-covers file pages num
 
 pub returns-clause-ends : goal.returns-clause-ends
 returns-clause-ends c = λ pages file. shown-ends file pages
+
+pub returns-clause-all : goal.returns-clause-all
+returns-clause-all c = keeps_but_lent

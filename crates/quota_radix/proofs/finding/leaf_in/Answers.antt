@@ -2,7 +2,6 @@ use Rattle.std.proofs.Common.{◌≡◌, ℕ, ◌≤◌, List, [], ◌∷◌, �
 use Rattle.std.proofs.lemmas.Result.{err_from_is_err_and}
 use Rattle.quota_types.specs.declared.damage.Damage.{Damage}
 use Rattle.file_blocks.specs.Block.{word_at}
-use Rattle.outside.proofs.FrameLemmas.{adds_none-then}
 use Rattle.quota_radix.proofs.AlongLemmas.{along_all_inside, along_end_inside, along_leaf, along_more, along_no_leaf, along_out, along_start, nth}
 use Rattle.quota_radix.proofs.WalkLemmas.{since, walk_refused}
 use Rattle.quota_radix.proofs.finding.leaf_in.Goals as goal
@@ -12,7 +11,6 @@ loop-digit-init g c = record {
   within = omega arith;
   along = λ known. (1 ∷ [], along_start _ c.args.blocks c.args.id (1 ∷ []) refl);
   looked = g.met.B.LendsBlocks.laws.none;
-  synced = λ name there. there;
 }
 
 pub reference_in-requires : goal.reference_in-requires
@@ -51,7 +49,6 @@ loop-digit-preserved g c =
                 read.inside c.if-block-eq0.false refl,
           );
       looked = B.then kept.looked read.looked (omega (arith, B.one c.loop-digit.file c.loop-digit.block));
-      synced = adds_none-then _ _ _ kept.synced read.synced;
     }
 
 pub returns-then-block-eq0-clause-found : goal.returns-then-block-eq0-clause-found

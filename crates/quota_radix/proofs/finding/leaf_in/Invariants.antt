@@ -1,5 +1,4 @@
-use Rattle.std.proofs.Common.{◌≤◌, List, ℕ}
-use Rattle.outside.specs.Unsynced.{AddsNone}
+use Rattle.std.proofs.Common.{true, ◌≤◌, List, ℕ}
 use Rattle.quota_radix.proofs.AlongLemmas.{IsAlong}
 use Rattle.quota_radix.proofs.finding.leaf_in.Given as goal
 
@@ -9,6 +8,5 @@ invariant-loop-digit g l =
     record {
       within : l.digit-index ≤ 4;
       along : B.known l.fn.file l.fn.context → (found : List ℕ) × IsAlong (B.shows l.fn.file l.fn.context) l.blocks l.id l.digit-index l.block found;
-      looked : B.looked l.digit-index l.fn.context l.context l.fn.file l.file;
-      synced : AddsNone (B.seen l.fn.context).unsynced (B.seen l.context).unsynced;
+      looked : B.looked true l.digit-index l.fn.context l.context l.fn.file l.file;
     }

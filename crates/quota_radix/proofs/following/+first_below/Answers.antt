@@ -1,4 +1,4 @@
-use Rattle.std.proofs.Common.{◌≡◌, ℕ, suc, ◌+◌, ◌*◌, ◌<◌, List, ◌∷◌, length, get_or, sym, ap, ◌∙◌, arith}
+use Rattle.std.proofs.Common.{false, ◌≡◌, ℕ, suc, ◌+◌, ◌*◌, ◌<◌, List, ◌∷◌, length, get_or, sym, ap, ◌∙◌, arith}
 use Rattle.std.specs.List.{flat_map}
 use Rattle.std.proofs.lemmas.Result.{IfOk-weaker, err_from_is_err_and}
 use Rattle.quota_radix.specs.Descent.{later_steps, path_from, paths_below, with_digits}
@@ -138,6 +138,13 @@ returns-in-None-clause-none g t c =
 
 pub returns-in_err-next-clause-looked : goal.returns-in_err-next-clause-looked
 returns-in_err-next-clause-looked g t c =
+    let p = err_from_is_err_and c.from_residual.result c.from_residual.ensures.1 in
     let B = g.met.B.LendsBlocks.laws in
     let more = rest_long c.args.digits.now c.in-Some.digit.now c.in-Some.rest.now c.in-Some.ensures.cases.0 in
-    B.then c.in_err-next.ensures.looked B.none (omega (arith, more, B.one c.args.file.now c.args.path.block))
+    rw p.1 (B.then c.in_err-next.ensures.looked (B.none {ok = false}) (omega (arith, more, B.one c.args.file.now c.args.path.block)))
+
+pub returns-in_default-2-clause-looked : goal.returns-in_default-2-clause-looked
+returns-in_default-2-clause-looked g t c =
+    let B = g.met.B.LendsBlocks.laws in
+    let more = rest_long c.args.digits.now c.in-Some.digit.now c.in-Some.rest.now c.in-Some.ensures.cases.0 in
+    B.then c.in_ok-next.ensures.looked c.least_past.ensures.looked (omega (arith, more, B.one c.args.file.now c.args.path.block))

@@ -1,4 +1,4 @@
-use Rattle.std.proofs.Common.{◌≡◌, ℕ, suc, ◌-◌, List, Some, sym, ◌∙◌, refl, arith}
+use Rattle.std.proofs.Common.{false, ◌≡◌, ℕ, suc, ◌-◌, List, Some, sym, ◌∙◌, refl, arith}
 use Rattle.std.proofs.lemmas.Result.{IfOk-weaker, err_from_is_err_and}
 use Rattle.quota_radix.specs.Descent.{path_from, paths_below}
 use Rattle.quota_radix.specs.Lookup.{IsBelowRoot, IsWayFault}
@@ -94,13 +94,14 @@ returns-clause-between g t c =
 
 pub returns-in_err-next-clause-looked : goal.returns-in_err-next-clause-looked
 returns-in_err-next-clause-looked g t c =
+    let p = err_from_is_err_and c.from_residual.result c.from_residual.ensures.1 in
     let B = g.met.B.LendsBlocks.laws in
-    B.then c.in_err-next.ensures.looked B.none (omega (arith, c.if-to_go-eq0.false, B.one c.args.file.now c.args.path.block))
+    rw p.1 (B.then c.in_err-next.ensures.looked (B.none {ok = false}) (omega (arith, c.if-to_go-eq0.false, B.one c.args.file.now c.args.path.block)))
 
 pub returns-in_default-clause-looked : goal.returns-in_default-clause-looked
 returns-in_default-clause-looked g t c =
     let B = g.met.B.LendsBlocks.laws in
-    B.then c.in_ok-next.ensures.looked B.none (omega (arith, c.if-to_go-eq0.false, B.one c.args.file.now c.args.path.block))
+    B.then c.in_ok-next.ensures.looked (B.none {ok = false}) (omega (arith, c.if-to_go-eq0.false, B.one c.args.file.now c.args.path.block))
 
 pub returns-clause-looked : goal.returns-clause-looked
 returns-clause-looked g t c =

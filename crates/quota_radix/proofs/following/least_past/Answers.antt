@@ -1,4 +1,4 @@
-use Rattle.std.proofs.Common.{◌≡◌, ℕ, suc, ◌+◌, List, Option, Some, None, sym, subst, ◌∙◌, refl, arith}
+use Rattle.std.proofs.Common.{false, ◌≡◌, ℕ, suc, ◌+◌, List, Option, Some, None, sym, subst, ◌∙◌, refl, arith}
 use Rattle.std.proofs.lemmas.Result.{err_from_is_err_and}
 use Rattle.quota_radix.specs.declared.tree_path.TreePath.{TreePath}
 use Rattle.quota_radix.specs.Descent.{path_from, paths_below}
@@ -69,4 +69,7 @@ returns-in-None-clause-looked g c =
     B.then c.in_ok-next.ensures.looked B.none (omega (arith, c.requires.buffered))
 
 pub returns-in_err-next-clause-looked : goal.returns-in_err-next-clause-looked
-returns-in_err-next-clause-looked g c = g.met.B.LendsBlocks.laws.then c.in_err-next.ensures.looked g.met.B.LendsBlocks.laws.none (omega (arith, c.requires.buffered))
+returns-in_err-next-clause-looked g c =
+    let p = err_from_is_err_and c.from_residual.result c.from_residual.ensures.1 in
+    let B = g.met.B.LendsBlocks.laws in
+    rw p.1 (B.then c.in_err-next.ensures.looked (B.none {ok = false}) (omega (arith, c.requires.buffered)))

@@ -1,10 +1,7 @@
-use Rattle.std.proofs.Common.{◌≡◌, ℕ, List, true, Option, Some, None, sym, ap, subst, ◌∙◌, arith, inl, inr}
+use Rattle.std.proofs.Common.{◌≡◌, ℕ, List, Option, Some, None, sym, ap, subst, ◌∙◌, arith}
 use Rattle.std.specs.Option.{option_map}
-use Rattle.std.proofs.lemmas.Bool.{cases_Bool}
 use Rattle.std.proofs.lemmas.Result.{err_from_is_err_and}
-use Rattle.quota_pages.specs.Page.{Page, is_buffered}
-use Rattle.quota_pages.specs.Used.{missing}
-use Rattle.quota_pages.proofs.UsedLemmas.{missing-absent}
+use Rattle.quota_pages.proofs.UsesLemmas.{there-missing}
 use Rattle.quota_radix.specs.declared.tree_path.TreePath.{TreePath}
 use Rattle.quota_radix.specs.Descent.{leaf_from}
 use Rattle.quota_radix.specs.Way.{IsInsideUpTo}
@@ -12,12 +9,6 @@ use Rattle.quota_radix.proofs.InsideLemmas.{none_up_to, way_up_to}
 use Rattle.quota_radix.proofs.PastLemmas.{none_after_last}
 use Rattle.quota_radix.proofs.WalkLemmas.{walk_refused}
 use Rattle.quota_radix.proofs.following.next_leaf.Goals as goal
-
-not_missing : (pages : List Page) (number : ℕ) → missing pages number ≡ 0 → is_buffered pages number ≡ true
-not_missing pages number none = elim (cases_Bool (is_buffered pages number)) [
-  | inl there ↦ there
-  | inr absent ↦ absurd (omega (arith, none, missing-absent pages number absent))
-]
 
 pub returns-in_default-clause-found : goal.returns-in_default-clause-found
 returns-in_default-clause-found g c = λ known. sym (none_after_last _ c.args.blocks c.args.after c.in_default.ensures.last)
@@ -31,7 +22,7 @@ returns-in_default-clause-between g c = λ known. none_up_to _ c.args.blocks _ N
 pub returns-in_err-leaf-clause-refused : goal.returns-in_err-leaf-clause-refused
 returns-in_err-leaf-clause-refused g c =
     let p = err_from_is_err_and c.from_residual.result c.from_residual.ensures.1 in
-    rw (p.1, p.2) (walk_refused _ _ _ _ _ (omega arith) (λ damage out. (not_missing _ damage.block out.0, out.1)) _ c.in_err-leaf.ensures.refused)
+    rw (p.1, p.2) (walk_refused _ _ _ _ _ (omega arith) (λ damage out. (there-missing _ damage.block out.0, out.1)) _ c.in_err-leaf.ensures.refused)
 
 pub returns-in-Some-2-clause-found : goal.returns-in-Some-2-clause-found
 returns-in-Some-2-clause-found g c = λ known.

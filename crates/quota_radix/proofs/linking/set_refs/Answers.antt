@@ -25,9 +25,9 @@ loop-place-preserved g c =
     let next : place + 1 ≡ suc place = omega arith in
     record {
       store = (set.buffered there).1 ∙ kept.store;
-      lends = subst (λ (numbers : List ℕ). LendsSome S.tells 0 numbers (S.seen c.args.store.now) (S.seen c.set_word.new.store) c.args.pages.now c.set_word.new.self)
+      lends = subst (λ (numbers : List ℕ). LendsSome S.tells true 0 numbers (S.seen c.args.store.now) (S.seen c.set_word.new.store) c.args.pages.now c.set_word.new.self)
           (sym (stretch_more way first place from (omega (arith, few, five))))
-          (subst (λ (count : ℕ). LendsSome S.tells count (stretch way first (place - first) ++ block ∷ []) (S.seen c.args.store.now) (S.seen c.set_word.new.store) c.args.pages.now c.set_word.new.self)
+          (subst (λ (count : ℕ). LendsSome S.tells true count (stretch way first (place - first) ++ block ∷ []) (S.seen c.args.store.now) (S.seen c.set_word.new.store) c.args.pages.now c.set_word.new.self)
           none (lends_then kept.lends set.lends));
       words = λ known distinct.
           leads_more way first c.args.id place (4 * c.from.result) (get_or way (place + 1) 0)
@@ -42,5 +42,5 @@ pub returns-clause-lends : goal.returns-clause-lends
 returns-clause-lends g c =
     let S = g.S.Store in
     let all : c.loop-place.place ≡ 4 = omega arith in
-    subst (λ (end : ℕ). LendsSome S.tells 0 (stretch c.args.way.now c.args.first (end - c.args.first)) (S.seen c.args.store.now) (S.seen c.loop-place.store) c.args.pages.now c.loop-place.pages)
+    subst (λ (end : ℕ). LendsSome S.tells true 0 (stretch c.args.way.now c.args.first (end - c.args.first)) (S.seen c.args.store.now) (S.seen c.loop-place.store) c.args.pages.now c.loop-place.pages)
     all c.loop-place.invariant.lends

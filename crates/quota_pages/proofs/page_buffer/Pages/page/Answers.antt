@@ -1,10 +1,10 @@
 use Rattle.std.proofs.Common.{refl}
-use Rattle.quota_pages.proofs.BufferLemmas.{lent_beside, lent_distinct, lent_from, looked_at, looked_at-was_lent}
+use Rattle.quota_pages.proofs.BufferLemmas.{lent_beside, lent_distinct, lent_few, lent_from, looked_at, looked_at-was_lent}
 use Rattle.quota_pages.proofs.page_buffer.Pages.page.Goals as goal
 
 pub invariant_of-self-lent : goal.invariant_of-self-lent
 invariant_of-self-lent g c = λ bytes.
-    (lent_beside c.bring.new.self c.in_ok-place.place bytes, (lent_distinct c.bring.new.self c.in_ok-place.place c.args.n bytes c.in_ok-place.ensures.place, tt))
+    (lent_beside c.bring.new.self c.in_ok-place.place bytes, (lent_distinct c.bring.new.self c.in_ok-place.place c.args.n bytes c.in_ok-place.ensures.place, (lent_few c.bring.new.self c.in_ok-place.place bytes, tt)))
 
 pub returns : goal.returns
 returns g c =

@@ -1,6 +1,7 @@
-use Rattle.std.proofs.Common.{List, ℕ, refl, ap, ◌∙◌, arith}
+use Rattle.std.proofs.Common.{List, ℕ, [], ◌∷◌, false, length, refl, ap, ◌∙◌, arith, length-append}
 use Rattle.file_blocks.specs.Block.{block_of, bytes_of}
 use Rattle.quota_pages.specs.Pages.{name_of, pages_of}
+use Rattle.quota_pages.specs.declared.held_blocks.Head.{Head}
 use Rattle.quota_pages.proofs.BufferLemmas.{looks_at-read, page_count, pushed_distinct}
 use Rattle.quota_pages.proofs.HeldLemmas.{pushed_beside, pushed_pages}
 use Rattle.quota_pages.proofs.page_buffer.Pages.read_in.Goals as goal
@@ -17,6 +18,11 @@ invariant_of-self-clause-beside g c = pushed_beside _ _ _ _ _ _ c.args.self.now.
 pub invariant_of-self-clause-distinct : goal.invariant_of-self-clause-distinct
 unfolding pages_of
 invariant_of-self-clause-distinct g c = pushed_distinct _ _ _ _ _ _ c.args.self.now.beside c.push.ensures.heads c.push.ensures.blocks c.requires.absent c.args.self.now.distinct
+
+pub invariant_of-self-clause-few : goal.invariant_of-self-clause-few
+invariant_of-self-clause-few g c =
+    let head : Head = record { number = c.args.number; lent = false } in
+    omega (arith, ap length c.push.ensures.heads, length-append c.args.self.now.held.heads.items (head ∷ []), page_count c.args.self.now, c.requires.room)
 
 pub returns-clause-looked : goal.returns-clause-looked
 unfolding pages_of name_of
