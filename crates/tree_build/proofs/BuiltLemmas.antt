@@ -1,32 +1,35 @@
 -- A file with the header, the data blocks and the levels of a list is a sound one.
-use Rattle.std.proofs.Common.{◌≡◌, ◌≢◌, ℕ, ◌+◌, ◌-◌, ◌*◌, ◌/◌, ◌%◌, ◌<◌, ◌≤◌, min, Bool, true, false, ◌&&◌, ◌==◌, nat_lt, nat_le, if◌then◌else◌, IsTrue, List, [], ◌∷◌, ◌++◌, length, refl, sym, ap, subst, ◌∙◌, inl, inr, arith, true≢false, zero-le, None}
+use Rattle.std.proofs.Common.{◌≡◌, ◌≢◌, ℕ, ◌+◌, ◌-◌, ◌*◌, ◌/◌, ◌%◌, ◌<◌, ◌≤◌, min, Bool, true, false, ◌&&◌, ◌==◌, nat_lt, nat_le, if◌then◌else◌, IsTrue, List, [], ◌∷◌, ◌++◌, length, refl, sym, ap, subst, ◌∙◌, inl, inr, arith, true≢false, zero-le}
 use Rattle.std.proofs.lemmas.Bool.{cases_Bool, cases_lt, cases_eq, le-leb, le-ltb, lt-ltb}
 use Rattle.std.proofs.lemmas.Bool.Decides.{nat_tests}
 use Rattle.std.proofs.lemmas.List.{length-map}
 use Rattle.std.specs.List.{AllByRecursion, flat_map, range_with_len}
 use Rattle.quota_types.specs.Bytes.{byte_at}
+use Rattle.quota_types.specs.Format.{IsTreeFormat}
 use Rattle.quota_types.specs.declared.file_kind.Format.{Format}
 use Rattle.quota_types.specs.declared.file_kind.Format.TheVariants.{V1, V2R0, V2R1}
 use Rattle.quota_types.specs.declared.record.Entry.{Entry}
 use Rattle.entry_codec.specs.Entry.{entries_per_block, padding_of}
 use Rattle.quota_radix.specs.declared.tree_path.TreePath.{TreePath}
-use Rattle.quota_blocks.specs.Block.{block_of, stated_count, word_at, leads}
+use Rattle.quota_blocks.specs.Block.{block_of, word_at, leads}
 use Rattle.quota_blocks.specs.Listed.{ids_of}
 use Rattle.file_blocks.proofs.LeadsLemmas.{leads_from}
 use Rattle.tree_build.specs.Build.{HasNoPadding, HasOneRoom}
 use Rattle.quota_types.specs.Times.{StandsIn, times}
-use Rattle.tree_build.specs.Entries.{entry_bytes, has_unused, used_entries, used_ids}
+use Rattle.tree_build.specs.Entries.{entry_bytes, has_unused, stated_count, used_entries, used_ids}
 use Rattle.quota_radix.specs.Tree.{blocks_of, data_blocks, ids_at, is_data, leaves, level, lower_blocks, paths, tree_blocks}
 use Rattle.tree_build.specs.NewFile.{AreDataBlocks, IsDataBlock, IsFullTreeBlock, Part, leaves_in, part_of, parts_needed, parts_of}
+use Rattle.tree_build.specs.Loose.{nothing_loose}
 use Rattle.tree_build.specs.Roles.{Chained, Filled, OneRole, has_room, roles}
 use Rattle.tree_build.specs.Size.{filled_blocks}
 use Rattle.quota_types.proofs.TimesLemmas.{stands_either, times-append, times-cons-other, times-cons-same, times-range-high, times-range-low, times-range-within, only_one, range_with_len-add}
 use Rattle.quota_radix.proofs.PathLemmas.{length_ids, data_of_id, data_within, ids_distinct, one_with, times-data_blocks}
+use Rattle.tree_build.proofs.EntryLemmas.{used_ids-entries}
 use Rattle.tree_build.proofs.PartsLemmas.{each_part, ids_nowhere, ids_there, length_part, some_entries}
 
 -- A file with the levels and the data blocks of a list: the data blocks stand first, then the levels from the lowest one up.
 pub record IsBuilt (format : Format) (file : List ℕ) (blocks : ℕ) (list : List Entry) (first second third : List TreePath) : Type 0 where
-  pub tree : format ≢ V1
+  pub tree : IsTreeFormat format
   pub ones : ℕ
   pub twos : ℕ
   pub threes : ℕ
@@ -54,21 +57,21 @@ times_below count n = elim (cases_lt n count) [
 ]
 
 -- each part but the last one is full
-full_part : (format : Format) → format ≢ V1 → (count place : ℕ) → place < filled_blocks (entries_per_block format) count → place ≢ count / entries_per_block format
+full_part : (format : Format) → IsTreeFormat format → (count place : ℕ) → place < filled_blocks (entries_per_block format) count → place ≢ count / entries_per_block format
     → min (entries_per_block format) (count - entries_per_block format * place) ≡ entries_per_block format
-full_part V1 tree count place low other = absurd (tree refl)
+full_part V1 tree count place low other = absurd (true≢false tree)
 full_part V2R0 tree count place low other = omega arith
 full_part V2R1 tree count place low other = omega arith
 
 -- and the last one is not, where some entries are left
-last_part : (format : Format) → format ≢ V1 → (count : ℕ) → count % entries_per_block format ≢ 0
+last_part : (format : Format) → IsTreeFormat format → (count : ℕ) → count % entries_per_block format ≢ 0
     → (count / entries_per_block format < filled_blocks (entries_per_block format) count) × (min (entries_per_block format) (count - entries_per_block format * (count / entries_per_block format)) < entries_per_block format)
-last_part V1 tree count some = absurd (tree refl)
+last_part V1 tree count some = absurd (true≢false tree)
 last_part V2R0 tree count some = (omega arith, omega arith)
 last_part V2R1 tree count some = (omega arith, omega arith)
 
-no_last : (format : Format) → format ≢ V1 → (count place : ℕ) → count % entries_per_block format ≡ 0 → place < filled_blocks (entries_per_block format) count → place ≢ count / entries_per_block format
-no_last V1 tree count place none low = absurd (tree refl)
+no_last : (format : Format) → IsTreeFormat format → (count place : ℕ) → count % entries_per_block format ≡ 0 → place < filled_blocks (entries_per_block format) count → place ≢ count / entries_per_block format
+no_last V1 tree count place none low = absurd (true≢false tree)
 no_last V2R0 tree count place none low = λ e. omega (arith, e)
 no_last V2R1 tree count place none low = λ e. omega (arith, e)
 
@@ -143,7 +146,7 @@ module _ (format : Format) (file : List ℕ) (blocks : ℕ) (list : List Entry) 
   level_times : (digits block low many : ℕ) (found : List TreePath) → paths file blocks digits ≡ found → blocks_of found ≡ range_with_len low many → times (level file blocks digits) block ≡ times (range_with_len low many) block
   level_times digits block low many found are is = ap (λ (ps : List TreePath). times (blocks_of ps) block) are ∙ ap (λ (ns : List ℕ). times ns block) is
 
-  once : (block : ℕ) → times (roles None file blocks []) block ≡ (if nat_lt block blocks then 1 else 0)
+  once : (block : ℕ) → times (roles nothing_loose file blocks []) block ≡ (if nat_lt block blocks then 1 else 0)
   once block =
       let d : ℕ = parts_needed format list in
       let upper : List ℕ = level file blocks 1 ++ level file blocks 2 in
@@ -166,7 +169,7 @@ module _ (format : Format) (file : List ℕ) (blocks : ℕ) (list : List Entry) 
         times_below blocks block,
       )
 
-  pub one_role : OneRole None file blocks 0
+  pub one_role : OneRole nothing_loose file blocks 0
   one_role = record {
     references = λ block stands digit low. elim (stands_either (1 ∷ []) (lower_blocks file blocks) block stands) [
       | inl is_root ↦ subst (λ (b : ℕ). word_at file b digit < blocks) (only_one 1 block is_root) (built.root digit low)
@@ -178,7 +181,7 @@ module _ (format : Format) (file : List ℕ) (blocks : ℕ) (list : List Entry) 
   }
 
   used_is : (place : ℕ) → place < parts_needed format list → used_ids format (block_of file (2 + place)) ≡ ids_at (leaves file blocks) (2 + place)
-  used_is place low = ap ids_of (part_is place low).used ∙ sym (ids_is place low)
+  used_is place low = used_ids-entries format (block_of file (2 + place)) ∙ ap ids_of (part_is place low).used ∙ sym (ids_is place low)
 
   same_ids : (block : ℕ) → is_data file blocks block ≡ true → used_ids format (block_of file block) ≡ ids_at (leaves file blocks) block
   same_ids block is =
@@ -190,7 +193,7 @@ module _ (format : Format) (file : List ℕ) (blocks : ℕ) (list : List Entry) 
       let at = data_place block is in
       let part = part_is at.0 at.1 in
       subst (λ (b : ℕ). length (used_ids format (block_of file b)) ≡ stated_count file b) (sym at.2)
-      (length-map (used_entries format (block_of file (2 + at.0))) (λ (entry : Entry). entry.id) ∙ ap length part.used ∙ sym part.stated)
+      (ap length (used_ids-entries format (block_of file (2 + at.0))) ∙ length-map (used_entries format (block_of file (2 + at.0))) (λ (entry : Entry). entry.id) ∙ ap length part.used ∙ sym part.stated)
 
   data_stands : (block : ℕ) → StandsIn (data_blocks file blocks) block → is_data file blocks block ≡ true
   data_stands block stands = elim (cases_Bool (is_data file blocks block)) [
@@ -198,7 +201,7 @@ module _ (format : Format) (file : List ℕ) (blocks : ℕ) (list : List Entry) 
     | inr other ↦ absurd (omega (arith, stands, times-data_blocks file blocks block, ap {B = ℕ} (λ (b : Bool). if b then 1 else 0) other))
   ]
 
-  pub filled : Filled None format file blocks
+  pub filled : Filled nothing_loose format file blocks
   filled = record {
     not_empty = λ block lower. (lower_full block lower).not_empty;
     one_entry = λ block id leads_there. omega (
@@ -212,26 +215,26 @@ module _ (format : Format) (file : List ℕ) (blocks : ℕ) (list : List Entry) 
   }
 
   room_at : (place : ℕ) → place < parts_needed format list
-      → has_room None format file blocks (2 + place) ≡ nat_lt (min (entries_per_block format) (length list - entries_per_block format * place)) (entries_per_block format)
+      → has_room nothing_loose format file blocks (2 + place) ≡ nat_lt (min (entries_per_block format) (length list - entries_per_block format * place)) (entries_per_block format)
   room_at place low =
       ap (λ (b : Bool). b && has_unused format (block_of file (2 + place))) (data_yes place low)
       ∙ (part_is place low).room ∙ ap (λ (n : ℕ). nat_lt n (entries_per_block format)) (length_part format list 2 place)
 
-  not_full : (place : ℕ) → place < parts_needed format list → place ≢ length list / entries_per_block format → has_room None format file blocks (2 + place) ≡ false
+  not_full : (place : ℕ) → place < parts_needed format list → place ≢ length list / entries_per_block format → has_room nothing_loose format file blocks (2 + place) ≡ false
   not_full place low other =
       room_at place low ∙ le-ltb _ (entries_per_block format) (omega (arith, full_part format built.tree (length list) place low other))
 
-  no_data_no_room : (block : ℕ) → is_data file blocks block ≡ false → has_room None format file blocks block ≡ false
+  no_data_no_room : (block : ℕ) → is_data file blocks block ≡ false → has_room nothing_loose format file blocks block ≡ false
   no_data_no_room block other = ap (λ (b : Bool). b && has_unused format (block_of file block)) other
 
   -- a block with room is the last data block
-  room_is : (block : ℕ) → has_room None format file blocks block ≡ true
+  room_is : (block : ℕ) → has_room nothing_loose format file blocks block ≡ true
       → (block ≡ 2 + length list / entries_per_block format) × (length list % entries_per_block format ≢ 0)
   room_is block room = elim (cases_Bool (is_data file blocks block)) [
     | inr other ↦ absurd (true≢false (sym room ∙ no_data_no_room block other))
     | inl is ↦
         let at = data_place block is in
-        let here : has_room None format file blocks (2 + at.0) ≡ true = ap (has_room None format file blocks) (sym at.2) ∙ room in
+        let here : has_room nothing_loose format file blocks (2 + at.0) ≡ true = ap (has_room nothing_loose format file blocks) (sym at.2) ∙ room in
         let last : at.0 ≡ length list / entries_per_block format = elim (cases_eq at.0 (length list / entries_per_block format)) [
           | inl same ↦ same
           | inr other ↦ absurd (true≢false (sym here ∙ not_full at.0 at.1 other))
@@ -241,27 +244,27 @@ module _ (format : Format) (file : List ℕ) (blocks : ℕ) (list : List Entry) 
 
   pub one_room : HasOneRoom format file blocks
   one_room one other is also_is =
-      (room_is one (true_of (has_room None format file blocks one) is)).0 ∙ sym (room_is other (true_of (has_room None format file blocks other) also_is)).0
+      (room_is one (true_of (has_room nothing_loose format file blocks one) is)).0 ∙ sym (room_is other (true_of (has_room nothing_loose format file blocks other) also_is)).0
     where
       true_of : (b : Bool) → IsTrue b → b ≡ true
       true_of b h = grind (arith, nat_tests)
 
-  chained_none : length list % entries_per_block format ≡ 0 → Chained None format file blocks 0
+  chained_none : length list % entries_per_block format ≡ 0 → Chained nothing_loose format file blocks 0
   chained_none none = record {
     chain = [];
     is_chain = record { linked = refl; inside = λ number stands. absurd (omega (arith, stands)); distinct = λ number. zero-le; stops = inl refl };
-    has_those = λ block. elim (cases_Bool (has_room None format file blocks block)) [
+    has_those = λ block. elim (cases_Bool (has_room nothing_loose format file blocks block)) [
       | inl room ↦ absurd ((room_is block room).1 none)
       | inr full ↦ ap {B = ℕ} (λ (b : Bool). if b then 1 else 0) (sym full)
     ];
     previous = refl;
   }
 
-  chained_last : length list % entries_per_block format ≢ 0 → Chained None format file blocks (2 + length list / entries_per_block format)
+  chained_last : length list % entries_per_block format ≢ 0 → Chained nothing_loose format file blocks (2 + length list / entries_per_block format)
   chained_last some =
       let place : ℕ = length list / entries_per_block format in
       let last = last_part format built.tree (length list) some in
-      let here : has_room None format file blocks (2 + place) ≡ true = room_at place last.0 ∙ lt-ltb _ (entries_per_block format) last.1 in
+      let here : has_room nothing_loose format file blocks (2 + place) ≡ true = room_at place last.0 ∙ lt-ltb _ (entries_per_block format) last.1 in
       let part = part_is place last.0 in
       let below : 2 + place < blocks = omega (arith, data_within file blocks (2 + place) (data_yes place last.0)) in
       record {
@@ -272,10 +275,10 @@ module _ (format : Format) (file : List ℕ) (blocks : ℕ) (list : List Entry) 
           distinct = λ number. at_most_one (2 + place) number;
           stops = inl refl;
         };
-        has_those = λ block. elim (cases_Bool (has_room None format file blocks block)) [
+        has_those = λ block. elim (cases_Bool (has_room nothing_loose format file blocks block)) [
           | inl room ↦ ap (times ((2 + place) ∷ [])) (room_is block room).0 ∙ times-cons-same (2 + place) [] ∙ ap {B = ℕ} (λ (b : Bool). if b then 1 else 0) (sym room)
           | inr full ↦
-              let other : 2 + place ≢ block = λ e. true≢false (sym here ∙ ap (has_room None format file blocks) e ∙ full) in
+              let other : 2 + place ≢ block = λ e. true≢false (sym here ∙ ap (has_room nothing_loose format file blocks) e ∙ full) in
               times-cons-other (2 + place) [] block other ∙ ap {B = ℕ} (λ (b : Bool). if b then 1 else 0) (sym full)
         ];
         previous = ap (λ (n : ℕ). n ∷ []) part.previous;
@@ -287,10 +290,10 @@ module _ (format : Format) (file : List ℕ) (blocks : ℕ) (list : List Entry) 
         | inr other ↦ omega (arith, times-cons-other x [] n other)
       ]
 
-  pub chained : Chained None format file blocks (first_room format list)
+  pub chained : Chained nothing_loose format file blocks (first_room format list)
   chained = elim (cases_eq (length list % entries_per_block format) 0) [
-    | inl none ↦ subst (Chained None format file blocks) (sym (room_none (length list % entries_per_block format) (2 + length list / entries_per_block format) none)) (chained_none none)
-    | inr some ↦ subst (Chained None format file blocks) (sym (room_some (length list % entries_per_block format) (2 + length list / entries_per_block format) some)) (chained_last some)
+    | inl none ↦ subst (Chained nothing_loose format file blocks) (sym (room_none (length list % entries_per_block format) (2 + length list / entries_per_block format) none)) (chained_none none)
+    | inr some ↦ subst (Chained nothing_loose format file blocks) (sym (room_some (length list % entries_per_block format) (2 + length list / entries_per_block format) some)) (chained_last some)
   ]
     where
       room_none : (left last : ℕ) → left ≡ 0 → (if left == 0 then 0 else last) ≡ 0

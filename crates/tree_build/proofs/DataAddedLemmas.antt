@@ -1,9 +1,10 @@
 -- The data blocks of a new file, as they are appended one after another.
-use Rattle.std.proofs.Common.{◌≡◌, ◌≢◌, ℕ, zero, suc, ◌+◌, ◌-◌, ◌*◌, ◌≤◌, min, List, [], ◌∷◌, ◌++◌, length, map, take, drop, refl, sym, ap, subst, ◌∙◌, inl, inr, arith, length-drop}
+use Rattle.std.proofs.Common.{◌≡◌, ℕ, zero, suc, ◌+◌, ◌-◌, ◌*◌, ◌≤◌, min, List, [], ◌∷◌, ◌++◌, length, map, take, drop, refl, sym, ap, subst, ◌∙◌, inl, inr, arith, length-drop, true≢false}
 use Rattle.std.proofs.lemmas.Bool.{cases_lt}
 use Rattle.std.proofs.lemmas.List.{append-nil, drop-drop, drop_all, map-append, take_all}
 use Rattle.std.proofs.lemmas.List.Concat.{flat_map-append}
 use Rattle.std.specs.List.{flat_map, range_with_len}
+use Rattle.quota_types.specs.Format.{IsTreeFormat}
 use Rattle.quota_types.specs.declared.file_kind.Format.{Format}
 use Rattle.quota_types.specs.declared.file_kind.Format.TheVariants.{V1, V2R0, V2R1}
 use Rattle.quota_types.specs.declared.record.Entry.{Entry}
@@ -34,9 +35,9 @@ parts_none format list first file = record {
 }
 
 -- one block more of what is left
-filled_one_more : (format : Format) → format ≢ V1 → (left now later : ℕ) → 1 ≤ left → now ≡ min left (entries_per_block format) → later ≡ left - now
+filled_one_more : (format : Format) → IsTreeFormat format → (left now later : ℕ) → 1 ≤ left → now ≡ min left (entries_per_block format) → later ≡ left - now
     → filled_blocks (entries_per_block format) left ≡ suc (filled_blocks (entries_per_block format) later)
-filled_one_more V1 tree left now later some is rest = absurd (tree refl)
+filled_one_more V1 tree left now later some is rest = absurd (true≢false tree)
 filled_one_more V2R0 tree left now later some is rest = omega arith
 filled_one_more V2R1 tree left now later some is rest = omega arith
 
@@ -52,7 +53,7 @@ parts_kept format old new list first low (suc count) kept are = (
   parts_kept format old new list first (low + 1) count (λ number below. kept number (omega arith)) are.1,
 )
 
-pub part_added : (format : Format) → format ≢ V1 → (list : List Entry) (first : ℕ) (old file new block : List ℕ) (leaves more : List TreePath) (rest now later : List Entry) (count number now_len : ℕ)
+pub part_added : (format : Format) → IsTreeFormat format → (list : List Entry) (first : ℕ) (old file new block : List ℕ) (leaves more : List TreePath) (rest now later : List Entry) (count number now_len : ℕ)
     → length file ≡ 1024 * number → number ≡ first + count → length block ≡ 1024 → new ≡ file ++ block
     → 1 ≤ length rest → now_len ≡ min (length rest) (entries_per_block format) → now ≡ take now_len rest → later ≡ drop now_len rest
     → IsDataBlock format block now → more ≡ leaves ++ leaves_in (record { block = number; entries = now })

@@ -5,20 +5,22 @@ use Rattle.std.proofs.lemmas.Bool.{cases_lt, cases_eq, lt-ltb, le-ltb}
 use Rattle.std.proofs.lemmas.List.{append-nil, get_or_past, get_or-drop, get_or-take, get_or-replicate}
 use Rattle.std.proofs.lemmas.List.Elements.{filter_map-append}
 use Rattle.std.proofs.lemmas.List.Folds.{list_any-append}
-use Rattle.std.specs.List.{cons_option, filter_map, list_any, range_with_len}
+use Rattle.std.specs.List.{cons_option, filter_map, flat_map, list_any, range_with_len}
 use Rattle.quota_blocks.specs.Span.{KeepsOutside}
 use Rattle.quota_types.specs.Bytes.{byte_at, number_at}
+use Rattle.quota_types.specs.Format.{record_size}
 use Rattle.quota_types.specs.Kept.{without_marker}
 use Rattle.quota_types.specs.declared.file_kind.Format.{Format}
 use Rattle.quota_types.specs.declared.file_kind.Format.TheVariants.{V1, V2R0, V2R1}
 use Rattle.quota_types.specs.declared.record.Entry.{Entry}
 use Rattle.quota_types.proofs.TimesLemmas.{range_with_len-add}
 use Rattle.quota_types.proofs.BytesLemmas.{number_at-zeros}
-use Rattle.entry_codec.specs.Entry.{IsEntry, entries_per_block, entry_size, is_unused, padding_of, stored_id}
+use Rattle.entry_codec.specs.Entry.{IsEntry, entries_per_block, is_unused, padding_of, stored_id}
 use Rattle.entry_codec.proofs.SpellingLemmas.{is_unused-zeros}
-use Rattle.tree_build.specs.Entries.{entry_bytes, entry_of, has_unused, stored_record, used_entries}
+use Rattle.tree_build.specs.Entries.{entry_bytes, entry_of, has_unused, id_in, stored_record, used_entries, used_ids}
 use Rattle.tree_build.specs.NewFile.{IsDataBlock}
 use Rattle.file_blocks.proofs.WordLemmas.{number_same, same_part}
+use Rattle.tree_build.proofs.EntryLemmas.{no_test, unused_none}
 use Rattle.tree_build.proofs.RecordLemmas.{used_is}
 
 -- an entry in the place of one that is not there
@@ -43,7 +45,7 @@ pub record IsFilledTo (format : Format) (block : List ℕ) (entries : List Entry
   pub size : length block ≡ 1024
   pub entry : (place : ℕ) (absent : Entry) → place < count → IsEntry format (entry_bytes format block place) (get_or entries place absent).id (get_or entries place absent).rec
   pub padding : (place : ℕ) → place < count → padding_of format (entry_bytes format block place) ≡ 0
-  pub zeros : (at : ℕ) → 16 + entry_size format * count ≤ at → byte_at block at ≡ 0
+  pub zeros : (at : ℕ) → 16 + record_size format * count ≤ at → byte_at block at ≡ 0
   pub links : (at : ℕ) → at < 8 → byte_at block at ≡ 0
   pub stated : number_at 2 block 8 ≡ length entries
   pub behind_count : (at : ℕ) → 10 ≤ at → at < 16 → byte_at block at ≡ 0
@@ -62,10 +64,10 @@ filled_none format block entries kept stated size = record {
 
 pub filled_more : (format : Format) (old new : List ℕ) (entries : List Entry) (count : ℕ) → length new ≡ 1024 → count < length entries
     → IsEntry format (entry_bytes format new count) (get_or entries count no_entry).id (get_or entries count no_entry).rec → padding_of format (entry_bytes format new count) ≡ 0
-    → KeepsOutside (16 + entry_size format * count) (16 + entry_size format * count + entry_size format) old new
+    → KeepsOutside (16 + record_size format * count) (16 + record_size format * count + record_size format) old new
     → IsFilledTo format old entries count → IsFilledTo format new entries (count + 1)
 filled_more format old new entries count long low spelled padding kept so_far =
-    let size : ℕ = entry_size format in
+    let size : ℕ = record_size format in
     let earlier : (place : ℕ) → place < count → entry_bytes format old place ≡ entry_bytes format new place = λ place below.
     let room : size * suc place ≤ size * count = mul-le-mul_left size below in
     same_part size (16 + size * place) old new (so_far.size ∙ sym long) (λ k from to. sym (kept.before k (omega arith))) in
@@ -111,12 +113,6 @@ none_found {Y} f low (suc count) none =
     ap (λ (o : Option Y). cons_option o (filter_map f (range_with_len (low + 1) count))) (none low (omega arith) (omega arith))
     ∙ none_found f (low + 1) count (λ k from to. none k (omega arith) (omega arith))
 
-no_test : (test : ℕ → Bool) (low count : ℕ) → ((k : ℕ) → low ≤ k → k < low + count → test k ≡ false) → list_any test (range_with_len low count) ≡ false
-no_test test low zero none = refl
-no_test test low (suc count) none =
-    ap (λ (b : Bool). b || list_any test (range_with_len (low + 1) count)) (none low (omega arith) (omega arith))
-    ∙ no_test test (low + 1) count (λ k from to. none k (omega arith) (omega arith))
-
 -- whether one of the numbers that are left passes, where each does
 any_left : (test : ℕ → Bool) (first left count : ℕ) → first + left ≡ count → ((k : ℕ) → first ≤ k → test k ≡ true) → list_any test (range_with_len first left) ≡ nat_lt first count
 any_left test first zero count all each = sym (le-ltb first count (omega arith))
@@ -133,7 +129,7 @@ pub filled_all : (format : Format) (block : List ℕ) (entries : List Entry) (co
     → IsFilledTo format block entries count → IsDataBlock format block entries
 unfolding used_entries has_unused number_at
 filled_all format block entries count few over under so_far =
-    let size : ℕ = entry_size format in
+    let size : ℕ = record_size format in
     let per : ℕ = entries_per_block format in
     let read : ℕ → Option Entry = λ place. entry_of format (entry_bytes format block place) in
     let free : ℕ → Bool = λ place. is_unused (entry_bytes format block place) in
@@ -170,3 +166,21 @@ filled_all format block entries count few over under so_far =
         | inr behind ↦ padding_zero format (entry_bytes format block place) (zeros place behind)
       ];
     }
+
+-- each entry of a block of zeros is unused
+pub blank_unused : (format : Format) (place : ℕ) → is_unused (entry_bytes format (replicate 1024 0) place) ≡ true
+blank_unused format place =
+    is_unused-zeros (entry_bytes format (replicate 1024 0) place)
+    (λ k low. zero_part (record_size format) (16 + record_size format * place) (replicate 1024 0) (λ at from. zero_bytes at) k)
+
+-- so it has no used identifier
+pub blank_ids : (format : Format) → used_ids format (replicate 1024 0) ≡ []
+unfolding used_ids
+blank_ids format = none_made (range_with_len 0 (entries_per_block format))
+  where
+    none_made : (places : List ℕ) → flat_map (λ place. id_in format (entry_bytes format (replicate 1024 0) place)) places ≡ []
+    none_made [] = refl
+    none_made (place ∷ places) =
+        ap (λ (ids : List ℕ). ids ++ flat_map (λ place. id_in format (entry_bytes format (replicate 1024 0) place)) places)
+        (unused_none format (entry_bytes format (replicate 1024 0) place) (blank_unused format place))
+        ∙ none_made places

@@ -1,5 +1,5 @@
 -- A sound tree file has no defect.
-use Rattle.std.proofs.Common.{◌≡◌, ℕ, ◌<◌, ◌≤◌, Bool, if◌then◌else◌, nat_lt, List, [], ◌∷◌, ◌++◌, length, map, take, sym, ap, subst, ◌∙◌, inl, inr, arith, Some, unwrap_or, lt-ltb, None}
+use Rattle.std.proofs.Common.{◌≡◌, ℕ, ◌<◌, ◌≤◌, Bool, if◌then◌else◌, nat_lt, List, [], ◌∷◌, ◌++◌, length, map, take, sym, ap, subst, ◌∙◌, inl, inr, arith, Some, unwrap_or, lt-ltb}
 use Rattle.std.specs.List.{last_or}
 use Rattle.std.proofs.lemmas.Bool.{cases_lt, cases_Bool}
 use Rattle.quota_types.specs.declared.damage.Damage.{Damage}
@@ -13,6 +13,7 @@ use Rattle.quota_types.specs.Times.{StandsIn, StandsTwiceIn, times}
 use Rattle.tree_build.specs.Defect.{HasBadPrevious, HasNoRole, HasTwoRoles, HasStrayEntry, HasDoubleEntry, IsDefectOf, IsForeign, IsMissing, IsTreeDefect}
 use Rattle.free_chains.specs.ChainDefect.{IsLoop, IsOut}
 use Rattle.tree_build.specs.Entries.{used_ids}
+use Rattle.tree_build.specs.Loose.{nothing_loose}
 use Rattle.tree_build.specs.Roles.{Chained, Filled, OneRole, roles}
 use Rattle.quota_radix.specs.Tree.{data_blocks, ids_at, leaves}
 use Rattle.tree_build.specs.TreeFile.{IsSound}
@@ -22,20 +23,20 @@ use Rattle.quota_types.proofs.TimesLemmas.{length_of_times, times_cases}
 use Rattle.quota_radix.proofs.PathLemmas.{ids_distinct}
 
 -- a block has no second role
-no_two_roles : (file : List ℕ) (blocks head block : ℕ) → OneRole None file blocks head → HasTwoRoles file blocks head block → ⊥
+no_two_roles : (file : List ℕ) (blocks head block : ℕ) → OneRole nothing_loose file blocks head → HasTwoRoles file blocks head block → ⊥
 no_two_roles file blocks head block sound two =
     let same : sound.free ≡ two.free = (one_chain file blocks head sound.free 0 two.free two.end sound.is_free two.is_free).0 in
-    let twice : StandsTwiceIn (roles None file blocks sound.free) block = subst (λ (free : List ℕ). StandsTwiceIn (roles None file blocks free) block) (sym same) two.twice in
+    let twice : StandsTwiceIn (roles nothing_loose file blocks sound.free) block = subst (λ (free : List ℕ). StandsTwiceIn (roles nothing_loose file blocks free) block) (sym same) two.twice in
     elim (cases_Bool (nat_lt block blocks)) [
       | inl low ↦ omega (arith, twice, sound.once block, ap {B = ℕ} (λ (b : Bool). if b then 1 else 0) low)
       | inr high ↦ omega (arith, twice, sound.once block, ap {B = ℕ} (λ (b : Bool). if b then 1 else 0) high)
     ]
 
 -- and each has one
-no_role_less : (file : List ℕ) (blocks head block : ℕ) → OneRole None file blocks head → HasNoRole file blocks head block → ⊥
+no_role_less : (file : List ℕ) (blocks head block : ℕ) → OneRole nothing_loose file blocks head → HasNoRole file blocks head block → ⊥
 no_role_less file blocks head block sound none =
     let same : sound.free ≡ none.free = (one_chain file blocks head sound.free 0 none.free none.end sound.is_free none.is_free).0 in
-    let absent : times (roles None file blocks sound.free) block ≡ 0 = ap (λ (free : List ℕ). times (roles None file blocks free) block) same ∙ none.none in
+    let absent : times (roles nothing_loose file blocks sound.free) block ≡ 0 = ap (λ (free : List ℕ). times (roles nothing_loose file blocks free) block) same ∙ none.none in
     omega (arith, absent, sound.once block, ap {B = ℕ} (λ (b : Bool). if b then 1 else 0) (lt-ltb block blocks none.inside))
 
 -- a list that ends at 0 leads nowhere else
@@ -49,12 +50,12 @@ not_loop file blocks head block chain sound loop =
     let same : 0 ≡ block = (one_chain file blocks head chain 0 loop.chain block sound loop.is_chain).1 in
     omega (arith, same, leads_within blocks block (loop.is_chain.inside block loop.met))
 
-not_foreign : (format : Format) (file : List ℕ) (blocks first block : ℕ) → Chained None format file blocks first → IsForeign format file blocks first block → ⊥
+not_foreign : (format : Format) (file : List ℕ) (blocks first block : ℕ) → Chained nothing_loose format file blocks first → IsForeign format file blocks first block → ⊥
 not_foreign format file blocks first block sound foreign =
     let same : sound.chain ≡ foreign.chain = (one_chain file blocks first sound.chain 0 foreign.chain foreign.end sound.is_chain foreign.is_chain).0 in
     omega (arith, foreign.listed, ap (λ (chain : List ℕ). times chain block) same, sound.has_those block, ap {B = ℕ} (λ (b : Bool). if b then 1 else 0) foreign.foreign)
 
-not_missing : (format : Format) (file : List ℕ) (blocks first block : ℕ) → Chained None format file blocks first → IsMissing format file blocks first block → ⊥
+not_missing : (format : Format) (file : List ℕ) (blocks first block : ℕ) → Chained nothing_loose format file blocks first → IsMissing format file blocks first block → ⊥
 not_missing format file blocks first block sound missing =
     let same : sound.chain ≡ missing.chain = (one_chain file blocks first sound.chain 0 missing.chain missing.end sound.is_chain missing.is_chain).0 in
     omega (arith, missing.missing, ap (λ (chain : List ℕ). times chain block) same, sound.has_those block, ap {B = ℕ} (λ (b : Bool). if b then 1 else 0) missing.room)
@@ -68,7 +69,7 @@ previous_at previous from (x ∷ before) block behind is =
     let rest : map previous (before ++ block ∷ behind) ≡ take (length (before ++ block ∷ behind)) (x ∷ before ++ block ∷ behind) = cc in
     previous_at previous x before block behind rest
 
-not_bad_previous : (format : Format) (file : List ℕ) (blocks first block : ℕ) → Chained None format file blocks first → HasBadPrevious file blocks first block → ⊥
+not_bad_previous : (format : Format) (file : List ℕ) (blocks first block : ℕ) → Chained nothing_loose format file blocks first → HasBadPrevious file blocks first block → ⊥
 not_bad_previous format file blocks first block sound bad =
     let chain : List ℕ = bad.before ++ block ∷ bad.behind in
     let same : sound.chain ≡ chain = (one_chain file blocks first sound.chain 0 chain bad.end sound.is_chain bad.is_chain).0 in
@@ -86,7 +87,7 @@ more_numbers ids used id distinct once more = length_of_times (id ∷ ids) used 
 ])
 
 -- where the used entries are as many as the leaves that name the block, none is left over
-none_left_over : (format : Format) (file : List ℕ) (blocks block id : ℕ) → Filled None format file blocks → StandsIn (data_blocks file blocks) block
+none_left_over : (format : Format) (file : List ℕ) (blocks block id : ℕ) → Filled nothing_loose format file blocks → StandsIn (data_blocks file blocks) block
     → times (ids_at (leaves file blocks) block) id < times (used_ids format (block_of file block)) id → ⊥
 none_left_over format file blocks block id sound is_data more =
     omega (
@@ -95,16 +96,16 @@ none_left_over format file blocks block id sound is_data more =
       sound.counted block is_data,
     )
 
-not_stray : (format : Format) (file : List ℕ) (blocks block id : ℕ) → Filled None format file blocks → HasStrayEntry format file blocks block id → ⊥
+not_stray : (format : Format) (file : List ℕ) (blocks block id : ℕ) → Filled nothing_loose format file blocks → HasStrayEntry format file blocks block id → ⊥
 not_stray format file blocks block id sound stray =
     none_left_over format file blocks block id sound stray.is_data (omega (arith, stray.stray, stray.used))
 
-not_double : (format : Format) (file : List ℕ) (blocks block id : ℕ) → Filled None format file blocks → HasDoubleEntry format file blocks block id → ⊥
+not_double : (format : Format) (file : List ℕ) (blocks block id : ℕ) → Filled nothing_loose format file blocks → HasDoubleEntry format file blocks block id → ⊥
 not_double format file blocks block id sound double =
     none_left_over format file blocks block id sound double.is_data (omega (arith, double.twice, ids_distinct file blocks block id))
 
 -- what is wrong with a sound file is no kind of damage
-not_of_kind : (format : Format) (file : List ℕ) (numbers : HeaderNumbers) → IsSound format file numbers → (kind : DamageKind) (block id : ℕ) → IsDefectOf format file numbers kind block id → ⊥
+not_of_kind : (format : Format) (file : List ℕ) (numbers : HeaderNumbers) → IsSound format file (length file) numbers → (kind : DamageKind) (block id : ℕ) → IsDefectOf format file numbers kind block id → ⊥
 not_of_kind format file numbers sound Short block id defect = omega (arith, sound.long defect.more, defect.short)
 not_of_kind format file numbers sound RefOut block id defect = omega (arith, sound.roles.references block defect.tree defect.digit defect.is_digit, defect.out)
 not_of_kind format file numbers sound TwoRoles block id defect = no_two_roles file numbers.blocks numbers.free block sound.roles defect
@@ -127,5 +128,5 @@ not_of_kind format file numbers sound StrayEntry block id defect = not_stray for
 not_of_kind format file numbers sound DoubleEntry block id defect = not_double format file numbers.blocks block id sound.filled defect
 not_of_kind format file numbers sound PartialRecord block id defect = defect
 
-pub no_defect_of_sound : (format : Format) (file : List ℕ) (numbers : HeaderNumbers) → IsSound format file numbers → (damage : Damage) → ¬ IsTreeDefect format file numbers damage
+pub no_defect_of_sound : (format : Format) (file : List ℕ) (numbers : HeaderNumbers) → IsSound format file (length file) numbers → (damage : Damage) → ¬ IsTreeDefect format file numbers damage
 no_defect_of_sound format file numbers sound damage defect = not_of_kind format file numbers sound damage.kind damage.block damage.id defect.0

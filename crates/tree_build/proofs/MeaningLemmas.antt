@@ -1,5 +1,5 @@
 -- What a header and a file say of the value that the file stands for.
-use Rattle.std.proofs.Common.{◌≡◌, ℕ, Some, refl, sym, ap, ◌∙◌, arith}
+use Rattle.std.proofs.Common.{◌≡◌, ℕ, ◌==◌, if◌then◌else◌, Option, None, Some, refl, sym, ap, ◌∙◌}
 use Rattle.std.specs.Cmp.{nat_cmp_total}
 use Rattle.std.specs.FinMap.{nat_cmp-IsAntisymmetric, same_map}
 use Rattle.std.proofs.lemmas.Option.{same_Some}
@@ -12,12 +12,18 @@ use Rattle.quota_types.specs.declared.file_kind.Kind.{Kind}
 use Rattle.quota_types.specs.declared.file_kind.Kind.TheVariants.{User, Group}
 use Rattle.tree_build.specs.TreeFile.{TreeStandsFor, tree_record}
 
+-- the kind of a magic number
+kind_of_magic : ℕ → Option Kind
+kind_of_magic magic = if magic == magic_of User then Some User else if magic == magic_of Group then Some Group else None
+
+kind_of_magic-magic : (kind : Kind) → kind_of_magic (magic_of kind) ≡ Some kind
+unfolding kind_of_magic
+kind_of_magic-magic User = refl
+kind_of_magic-magic Group = refl
+
 -- a magic number is that of one kind
 pub same_kind : (kind other : Kind) → magic_of kind ≡ magic_of other → kind ≡ other
-same_kind User User e = refl
-same_kind User Group e = absurd (omega arith)
-same_kind Group User e = absurd (omega arith)
-same_kind Group Group e = refl
+same_kind kind other same = same_Some kind other (sym (kind_of_magic-magic kind) ∙ ap kind_of_magic same ∙ kind_of_magic-magic other)
 
 -- a file stands for one value at most
 pub one_meaning : (file : List ℕ) (value other : QuotaValue) → TreeStandsFor file value → TreeStandsFor file other → value ≡ other

@@ -1,5 +1,5 @@
 -- The data blocks of a new file, with their leaves, as parts of its list.
-use Rattle.std.proofs.Common.{◌≡◌, ◌≢◌, ℕ, zero, suc, ◌+◌, ◌-◌, ◌*◌, ◌<◌, ◌≤◌, min, Bool, cond, ◌==◌, List, [], ◌∷◌, ◌++◌, length, map, filter, find, take, drop, Option, Some, None, option_and_then, option_map, nat_cmp, refl, sym, ap, subst, ◌∙◌, ◌⊎◌, inl, inr, arith, length-take, length-drop, eq-eqb, ne_eqb, add-one}
+use Rattle.std.proofs.Common.{◌≡◌, ◌≢◌, ℕ, zero, suc, ◌+◌, ◌-◌, ◌*◌, ◌<◌, ◌≤◌, min, Bool, cond, ◌==◌, List, [], ◌∷◌, ◌++◌, length, map, filter, find, take, drop, Option, Some, None, option_and_then, option_map, nat_cmp, refl, sym, ap, subst, ◌∙◌, ◌⊎◌, inl, inr, arith, length-take, length-drop, eq-eqb, ne_eqb, add-one, true≢false}
 use Rattle.std.proofs.Math.Seq.{take-add}
 use Rattle.std.proofs.lemmas.Bool.{cases_eq}
 use Rattle.std.proofs.lemmas.Bool.Decides.{eqb_tells}
@@ -10,6 +10,7 @@ use Rattle.std.specs.Cmp.{nat_cmp_total, unsigned_tied}
 use Rattle.std.specs.FinMap.{get, get-from_entries}
 use Rattle.std.specs.FinMap.Entries.{find as find_key}
 use Rattle.std.specs.List.{AllByRecursion, flat_map, range_with_len}
+use Rattle.quota_types.specs.Format.{IsTreeFormat}
 use Rattle.quota_types.specs.declared.file_kind.Format.{Format}
 use Rattle.quota_types.specs.declared.file_kind.Format.TheVariants.{V1, V2R0, V2R1}
 use Rattle.quota_types.specs.declared.record.Entry.{Entry}
@@ -53,12 +54,12 @@ first_parts format list first (suc count) =
     ∙ ap (λ (es : List Entry). take (per * count) list ++ es) (append-nil (take per (drop (per * count) list)))
     ∙ sym (ap (λ (k : ℕ). take k list) more ∙ take-add (per * count) per list)
 
-enough : (format : Format) → format ≢ V1 → (count : ℕ) → count ≤ entries_per_block format * filled_blocks (entries_per_block format) count
-enough V1 tree count = absurd (tree refl)
+enough : (format : Format) → IsTreeFormat format → (count : ℕ) → count ≤ entries_per_block format * filled_blocks (entries_per_block format) count
+enough V1 tree count = absurd (true≢false tree)
 enough V2R0 tree count = omega arith
 enough V2R1 tree count = omega arith
 
-pub all_parts : (format : Format) → format ≢ V1 → (list : List Entry) (first : ℕ) → flat_map (λ (part : Part). part.entries) (parts_of format list first (parts_needed format list)) ≡ list
+pub all_parts : (format : Format) → IsTreeFormat format → (list : List Entry) (first : ℕ) → flat_map (λ (part : Part). part.entries) (parts_of format list first (parts_needed format list)) ≡ list
 all_parts format tree list first = first_parts format list first (parts_needed format list) ∙ take_all (entries_per_block format * parts_needed format list) list (enough format tree (length list))
 
 -- how many entries a part has
@@ -66,12 +67,12 @@ pub length_part : (format : Format) (list : List Entry) (first place : ℕ) → 
 length_part format list first place =
     length-take (entries_per_block format) (drop (entries_per_block format * place) list) ∙ ap (min (entries_per_block format)) (length-drop (entries_per_block format * place) list)
 
-some_in_part : (format : Format) → format ≢ V1 → (count place : ℕ) → place < filled_blocks (entries_per_block format) count → 1 ≤ min (entries_per_block format) (count - entries_per_block format * place)
-some_in_part V1 tree count place low = absurd (tree refl)
+some_in_part : (format : Format) → IsTreeFormat format → (count place : ℕ) → place < filled_blocks (entries_per_block format) count → 1 ≤ min (entries_per_block format) (count - entries_per_block format * place)
+some_in_part V1 tree count place low = absurd (true≢false tree)
 some_in_part V2R0 tree count place low = omega arith
 some_in_part V2R1 tree count place low = omega arith
 
-pub some_entries : (format : Format) → format ≢ V1 → (list : List Entry) (first place : ℕ) → place < parts_needed format list → 1 ≤ length (part_of format list first place).entries
+pub some_entries : (format : Format) → IsTreeFormat format → (list : List Entry) (first place : ℕ) → place < parts_needed format list → 1 ≤ length (part_of format list first place).entries
 some_entries format tree list first place low = omega (arith, length_part format list first place, some_in_part format tree (length list) place low)
 
 -- the identifiers of leaves

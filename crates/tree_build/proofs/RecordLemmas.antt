@@ -1,15 +1,18 @@
 -- The record of an identifier among the entries of a block.
-use Rattle.std.proofs.Common.{◌≡◌, ◌≢◌, ℕ, suc, ◌+◌, ◌-◌, ◌*◌, ◌<◌, ◌≤◌, Bool, true, false, cond, ◌==◌, List, find, Option, Some, None, option_and_then, option_map, refl, sym, ap, ◌∙◌, inl, inr, arith, ne_eqb, eq-eqb}
+use Rattle.std.proofs.Common.{◌≡◌, ◌≢◌, ℕ, suc, ◌+◌, ◌-◌, ◌*◌, ◌<◌, ◌≤◌, Bool, true, false, cond, ◌==◌, List, find, Option, Some, None, option_and_then, option_map, refl, sym, ap, subst, ◌∙◌, inl, inr, arith, ne_eqb, eq-eqb, true≢false}
 use Rattle.std.proofs.lemmas.Bool.{cases_Bool}
+use Rattle.std.proofs.lemmas.Bool.Decides.{eqb_tells}
 use Rattle.std.specs.List.{cons_option, filter_map, range_with_len}
 use Rattle.std.specs.Option.{option_or}
+use Rattle.std.specs.Prelude.{IsSome}
 use Rattle.quota_types.specs.Bytes.{number_at}
+use Rattle.quota_types.specs.Format.{IsTreeFormat, record_size}
 use Rattle.quota_types.specs.Kept.{without_marker}
 use Rattle.quota_types.specs.declared.file_kind.Format.{Format}
 use Rattle.quota_types.specs.declared.file_kind.Format.TheVariants.{V1, V2R0, V2R1}
 use Rattle.quota_types.specs.declared.record.Entry.{Entry}
 use Rattle.quota_types.specs.declared.record.Rec.{Rec}
-use Rattle.entry_codec.specs.Entry.{IsEntry, entries_per_block, entry_size, is_unused, stored_id}
+use Rattle.entry_codec.specs.Entry.{IsEntry, entries_per_block, is_unused, stored_id}
 use Rattle.tree_build.specs.Entries.{entry_bytes, entry_of, record_by, stored_record, used_by, used_entries}
 use Rattle.tree_build.specs.TreeFile.{record_in}
 use Rattle.file_blocks.proofs.WordLemmas.{number_in_part}
@@ -29,8 +32,26 @@ used_is V2R1 bytes id rec e =
           ∙ ap (λ (i : ℕ). found i (without_marker (stored_id bytes) (stored_record V2R1 bytes))) (sym e.id_is) ∙ ap (found id) (sym e.rec_is),
     )
 
-some_size : (format : Format) → format ≢ V1 → 4 ≤ entry_size format
-some_size V1 tree = absurd (tree refl)
+-- the bytes of an entry are used, and spell its identifier and its record
+pub spelled : (format : Format) (bytes : List ℕ) (entry : Entry) → entry_of format bytes ≡ Some entry
+    → (is_unused bytes ≡ false) × (entry.id ≡ stored_id bytes) × (entry.rec ≡ without_marker (stored_id bytes) (stored_record format bytes))
+spelled format bytes entry is =
+    let made : Entry = record { id = stored_id bytes; rec = without_marker (stored_id bytes) (stored_record format bytes) } in
+    elim (cases_Bool (is_unused bytes)) [
+      | inl unused ↦ absurd (let none : None ≡ Some entry = sym (ap (λ (b : Bool). cond b None (Some made)) unused) ∙ is in cc)
+      | inr used ↦
+          let same : Some made ≡ Some entry = sym (ap (λ (b : Bool). cond b None (Some made)) used) ∙ is in
+          let one : made ≡ entry = cc in
+          (used, sym (ap (λ (e : Entry). e.id) one), sym (ap (λ (e : Entry). e.rec) one))
+    ]
+
+pub is_spelled : (format : Format) (bytes : List ℕ) (entry : Entry) → IsTreeFormat format → entry_of format bytes ≡ Some entry → IsEntry format bytes entry.id entry.rec
+is_spelled V1 bytes entry tree is = absurd (true≢false tree)
+is_spelled V2R0 bytes entry tree is = let parts = spelled V2R0 bytes entry is in record { used = parts.0; id_is = parts.1; rec_is = parts.2 }
+is_spelled V2R1 bytes entry tree is = let parts = spelled V2R1 bytes entry is in record { used = parts.0; id_is = parts.1; rec_is = parts.2 }
+
+some_size : (format : Format) → IsTreeFormat format → 4 ≤ record_size format
+some_size V1 tree = absurd (true≢false tree)
 some_size V2R0 tree = omega arith
 some_size V2R1 tree = omega arith
 
@@ -39,11 +60,11 @@ abbrev given_by : Format → ℕ → List ℕ → Option Rec
 given_by format id bytes = option_and_then (used_by id) (entry_of format bytes)
 
 -- an entry that stores another identifier is not used by this one
-pub other_entry : (format : Format) (block : List ℕ) (id place size stored : ℕ) → format ≢ V1 → size ≡ entry_size format → stored ≡ number_at 4 block (16 + size * place) → stored ≢ id
+pub other_entry : (format : Format) (block : List ℕ) (id place size stored : ℕ) → IsTreeFormat format → size ≡ record_size format → stored ≡ number_at 4 block (16 + size * place) → stored ≢ id
     → record_by format block id place ≡ None
 other_entry format block id place size stored tree size_is stored_is other =
     let bytes : List ℕ = entry_bytes format block place in
-    let here : stored_id bytes ≡ number_at 4 block (16 + entry_size format * place) = number_in_part 4 (entry_size format) (16 + entry_size format * place) block (some_size format tree) in
+    let here : stored_id bytes ≡ number_at 4 block (16 + record_size format * place) = number_in_part 4 (record_size format) (16 + record_size format * place) block (some_size format tree) in
     let same : stored_id bytes ≡ stored = here ∙ ap (λ (n : ℕ). number_at 4 block (16 + n * place)) (sym size_is) ∙ sym stored_is in
     go bytes (ne_eqb (stored_id bytes) id (λ e. other (sym same ∙ e)))
   where
@@ -69,12 +90,12 @@ entry_id V2R0 bytes other rec entry = entry.id_is
 entry_id V2R1 bytes other rec entry = entry.id_is
 
 -- the identifier that an entry stores is the one that uses it
-pub stored_entry : (format : Format) (block bytes : List ℕ) (id other place size stored : ℕ) (rec : Rec) → format ≢ V1 → size ≡ entry_size format
+pub stored_entry : (format : Format) (block bytes : List ℕ) (id other place size stored : ℕ) (rec : Rec) → IsTreeFormat format → size ≡ record_size format
     → stored ≡ number_at 4 block (16 + size * place) → stored ≡ id → bytes ≡ entry_bytes format block place → IsEntry format bytes other rec → other ≡ id
 stored_entry format block bytes id other place size stored rec tree size_is stored_is same is entry =
     entry_id format bytes other rec entry
     ∙ ap stored_id is
-    ∙ number_in_part 4 (entry_size format) (16 + entry_size format * place) block (some_size format tree)
+    ∙ number_in_part 4 (record_size format) (16 + record_size format * place) block (some_size format tree)
     ∙ ap (λ (n : ℕ). number_at 4 block (16 + n * place)) (sym size_is)
     ∙ sym stored_is
     ∙ same
@@ -126,3 +147,21 @@ pub record_from-last : (format : Format) (block : List ℕ) (id place : ℕ) →
 record_from-last format block id place over =
     let none : entries_per_block format - place ≡ 0 = omega arith in
     ap (record_among format block id place) none
+
+-- the entry that an identifier uses
+pub used_there : (format : Format) (bytes : List ℕ) (id : ℕ) → IsSome (option_and_then (used_by id) (entry_of format bytes))
+    → (is_unused bytes ≡ false) × ((rec : Rec) × (entry_of format bytes ≡ Some (record { id = id; rec = rec })))
+used_there format bytes id some =
+    let e : Entry = record { id = stored_id bytes; rec = without_marker (stored_id bytes) (stored_record format bytes) } in
+    elim (cases_Bool (is_unused bytes)) [
+      | inl unused ↦ absurd (not_there (subst (λ (b : Bool). IsSome (option_and_then (used_by id) (cond b None (Some e)))) unused some))
+      | inr used ↦
+          let there : IsSome (cond (e.id == id) (Some e.rec) None) = subst (λ (b : Bool). IsSome (option_and_then (used_by id) (cond b None (Some e)))) used some in
+          elim (eqb_tells e.id id) [
+            | inl same ↦ (used, (e.rec, ap (λ (b : Bool). cond b None (Some e)) used ∙ ap (λ (n : ℕ). Some (record { id = n; rec = e.rec })) same.1))
+            | inr other ↦ absurd (not_there (subst (λ (b : Bool). IsSome (cond b (Some e.rec) None)) other.0 there))
+          ]
+    ]
+  where
+    not_there : IsSome {T = Rec} None → ⊥
+    not_there h = absurd cc

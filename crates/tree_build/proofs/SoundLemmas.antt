@@ -1,5 +1,5 @@
 -- A tree file with no defect is sound.
-use Rattle.std.proofs.Common.{◌≡◌, ℕ, suc, ◌*◌, ◌/◌, ◌<◌, ◌≤◌, Bool, if◌then◌else◌, List, [], ◌∷◌, ◌++◌, length, map, take, refl, sym, ap, subst, ◌∙◌, inl, inr, arith, Option, Some, unwrap_or, append_assoc, lt-ltb, le-ltb, None}
+use Rattle.std.proofs.Common.{◌≡◌, ℕ, suc, ◌*◌, ◌/◌, ◌<◌, ◌≤◌, Bool, if◌then◌else◌, List, [], ◌∷◌, ◌++◌, length, map, take, refl, sym, ap, subst, ◌∙◌, inl, inr, arith, Option, Some, unwrap_or, append_assoc, lt-ltb, le-ltb}
 use Rattle.std.specs.List.{last_or}
 use Rattle.std.proofs.lemmas.Bool.{cases_lt, cases_eq, cases_Bool}
 use Rattle.quota_types.specs.declared.damage.Damage.{Damage}
@@ -7,13 +7,14 @@ use Rattle.quota_types.specs.declared.damage.DamageKind.{DamageKind}
 use Rattle.quota_types.specs.declared.damage.DamageKind.TheVariants.{Short, RefOut, TwoRoles, NoRole, EmptyTree, ChainOut, ChainLoop, ForeignInChain, MissingInChain, BadPrev, BadCount, MissingEntry, StrayEntry, DoubleEntry}
 use Rattle.quota_types.specs.declared.file_kind.Format.{Format}
 use Rattle.entry_codec.specs.Header.{HeaderNumbers}
-use Rattle.quota_blocks.specs.Block.{block_of, previous_of, stated_count, word_at, leads}
+use Rattle.quota_blocks.specs.Block.{block_of, previous_of, word_at, leads}
 use Rattle.free_chains.specs.Chain.{IsChain}
 use Rattle.quota_types.specs.Times.{StandsIn, times}
 use Rattle.tree_build.specs.Defect.{IsDefectOf, IsTreeDefect}
 use Rattle.free_chains.specs.ChainDefect.{IsLoop, IsOut}
 use Rattle.quota_types.specs.Damage.{NamesItsId}
-use Rattle.tree_build.specs.Entries.{used_ids}
+use Rattle.tree_build.specs.Entries.{stated_count, used_ids}
+use Rattle.tree_build.specs.Loose.{nothing_loose}
 use Rattle.tree_build.specs.Roles.{Chained, Filled, OneRole, has_room, roles}
 use Rattle.quota_radix.specs.Tree.{data_blocks, ids_at, leaves, level, lower_blocks, tree_blocks}
 use Rattle.tree_build.specs.TreeFile.{IsSound}
@@ -50,7 +51,7 @@ tree_within file blocks block two stands =
     ]
 
 -- whatever has a role is a block
-role_within : (file : List ℕ) (blocks head block : ℕ) (free : List ℕ) → 2 ≤ blocks → IsChain file blocks head free 0 → StandsIn (roles None file blocks free) block → block < blocks
+role_within : (file : List ℕ) (blocks head block : ℕ) (free : List ℕ) → 2 ≤ blocks → IsChain file blocks head free 0 → StandsIn (roles nothing_loose file blocks free) block → block < blocks
 role_within file blocks head block free two is_free stands = elim (stands_cons 0 (tree_blocks file blocks ++ data_blocks file blocks ++ free) block stands) [
   | inl same ↦ omega (arith, same, two)
   | inr some ↦ elim (stands_either (tree_blocks file blocks ++ data_blocks file blocks) free block some) [
@@ -66,7 +67,7 @@ role_within file blocks head block free two is_free stands = elim (stands_cons 0
 none_of : (format : Format) (file : List ℕ) (numbers : HeaderNumbers) → HasNoDefect format file numbers → (kind : DamageKind) (block id : ℕ) → NamesItsId kind id → IsDefectOf format file numbers kind block id → ⊥
 none_of format file numbers no_defect kind block id names defect = no_defect (record { kind = kind; block = block; id = id }) (defect, names)
 
-one_role : (format : Format) (file : List ℕ) (numbers : HeaderNumbers) → 2 ≤ numbers.blocks → HasNoDefect format file numbers → OneRole None file numbers.blocks numbers.free
+one_role : (format : Format) (file : List ℕ) (numbers : HeaderNumbers) → 2 ≤ numbers.blocks → HasNoDefect format file numbers → OneRole nothing_loose file numbers.blocks numbers.free
 one_role format file numbers two no_defect =
     let none = none_of format file numbers no_defect in
     let found = some_chain file numbers.blocks numbers.free in
@@ -81,14 +82,14 @@ one_role format file numbers two no_defect =
       free = free;
       is_free = is_free;
       once = λ block. elim (cases_lt block numbers.blocks) [
-        | inl low ↦ elim (cases_lt 0 (times (roles None file numbers.blocks free) block)) [
-          | inl some ↦ elim (cases_lt 1 (times (roles None file numbers.blocks free) block)) [
+        | inl low ↦ elim (cases_lt 0 (times (roles nothing_loose file numbers.blocks free) block)) [
+          | inl some ↦ elim (cases_lt 1 (times (roles nothing_loose file numbers.blocks free) block)) [
             | inl twice ↦ absurd (none TwoRoles block 0 refl (record { free = free; end = 0; is_free = is_free; twice = twice }))
             | inr once ↦ omega (arith, some, once, ap {B = ℕ} (λ (b : Bool). if b then 1 else 0) (lt-ltb block numbers.blocks low))
           ]
           | inr absent ↦ absurd (none NoRole block 0 refl (record { free = free; end = 0; is_free = is_free; inside = low; none = omega (arith, absent) }))
         ]
-        | inr high ↦ elim (cases_lt 0 (times (roles None file numbers.blocks free) block)) [
+        | inr high ↦ elim (cases_lt 0 (times (roles nothing_loose file numbers.blocks free) block)) [
           | inl some ↦ absurd (omega (arith, high, role_within file numbers.blocks numbers.free block free two is_free some))
           | inr absent ↦ omega (arith, absent, ap {B = ℕ} (λ (b : Bool). if b then 1 else 0) (le-ltb block numbers.blocks high))
         ]
@@ -111,7 +112,7 @@ all_previous previous from before (x ∷ behind) each is =
     (ap (λ (o : Option ℕ). unwrap_or o 0) (last_or-append (Some 0) before x)) in
     ap (λ (y : ℕ). y ∷ map previous behind) first ∙ ap (λ (xs : List ℕ). from ∷ xs) rest
 
-chained : (format : Format) (file : List ℕ) (numbers : HeaderNumbers) → HasNoDefect format file numbers → Chained None format file numbers.blocks numbers.first
+chained : (format : Format) (file : List ℕ) (numbers : HeaderNumbers) → HasNoDefect format file numbers → Chained nothing_loose format file numbers.blocks numbers.first
 chained format file numbers no_defect =
     let none = none_of format file numbers no_defect in
     let found = some_chain file numbers.blocks numbers.first in
@@ -121,7 +122,7 @@ chained format file numbers no_defect =
     record {
       chain = chain;
       is_chain = is_chain;
-      has_those = λ block. elim (cases_Bool (has_room None format file numbers.blocks block)) [
+      has_those = λ block. elim (cases_Bool (has_room nothing_loose format file numbers.blocks block)) [
         | inl room ↦ elim (cases_lt 0 (times chain block)) [
           | inl listed ↦ omega (arith, listed, is_chain.distinct block, ap {B = ℕ} (λ (b : Bool). if b then 1 else 0) room)
           | inr missing ↦ absurd (none MissingInChain block 0 refl (record { chain = chain; end = 0; is_chain = is_chain; room = room; missing = omega (arith, missing) }))
@@ -145,7 +146,7 @@ chained format file numbers no_defect =
           refl;
     }
 
-filled : (format : Format) (file : List ℕ) (numbers : HeaderNumbers) → HasNoDefect format file numbers → Filled None format file numbers.blocks
+filled : (format : Format) (file : List ℕ) (numbers : HeaderNumbers) → HasNoDefect format file numbers → Filled nothing_loose format file numbers.blocks
 filled format file numbers no_defect =
     let none = none_of format file numbers no_defect in
     let ids : ℕ → List ℕ = λ block. ids_at (leaves file numbers.blocks) block in
@@ -173,7 +174,7 @@ filled format file numbers no_defect =
       ]);
     }
 
-pub sound_of_no_defect : (format : Format) (file : List ℕ) (numbers : HeaderNumbers) → 2 ≤ numbers.blocks → HasNoDefect format file numbers → IsSound format file numbers
+pub sound_of_no_defect : (format : Format) (file : List ℕ) (numbers : HeaderNumbers) → 2 ≤ numbers.blocks → HasNoDefect format file numbers → IsSound format file (length file) numbers
 sound_of_no_defect format file numbers two no_defect = record {
   two = two;
   long = λ more. elim (cases_lt (length file) (1024 * numbers.blocks)) [

@@ -1,5 +1,5 @@
 -- A sound tree file stands for the value whose records are those of its leaves.
-use Rattle.std.proofs.Common.{◌≡◌, ℕ, suc, ◌^◌, ◌<◌, ◌≤◌, Bool, true, false, cond, ◌&&◌, ◌==◌, T, List, [], ◌∷◌, length, map, find, Option, Some, option_and_then, option_map, refl, sym, ap, subst, ◌∙◌, inl, inr, arith, nat_cmp, eq-eqb, ne_eqb, ◌*◌, None}
+use Rattle.std.proofs.Common.{◌≡◌, ℕ, suc, ◌^◌, ◌<◌, ◌≤◌, Bool, true, false, cond, ◌&&◌, ◌==◌, T, List, [], ◌∷◌, length, map, find, Option, Some, option_and_then, option_map, refl, sym, ap, subst, ◌∙◌, inl, inr, arith, nat_cmp, eq-eqb, ne_eqb, ◌*◌}
 use Rattle.std.specs.List.{AllByRecursion}
 use Rattle.std.specs.Ordering.{is_lt}
 use Rattle.std.specs.declared.cmp.Ordering.TheVariants.{Less}
@@ -16,14 +16,16 @@ use Rattle.entry_codec.specs.Header.{format_of, header_of, magic_of, AreOf}
 use Rattle.quota_radix.specs.declared.tree_path.TreePath.{TreePath}
 use Rattle.quota_blocks.specs.Block.{block_of}
 use Rattle.quota_types.specs.Times.{StandsIn}
-use Rattle.tree_build.specs.Entries.{used_entries}
+use Rattle.tree_build.specs.Entries.{used_entries, used_ids}
 use Rattle.quota_radix.specs.Tree.{numbers_of, ids_at, leaves}
 use Rattle.tree_build.specs.Size.{ids_in}
+use Rattle.tree_build.specs.Loose.{nothing_loose}
 use Rattle.tree_build.specs.Roles.{Filled, Chained, OneRole}
 use Rattle.tree_build.specs.TreeFile.{IsSound, TreeStandsFor, record_in}
 use Rattle.quota_types.proofs.TimesLemmas.{times_cases}
 use Rattle.quota_types.proofs.ListLemmas.{AllByRecursion-weaker}
 use Rattle.quota_radix.proofs.PathLemmas.{Rises, Rises-paths, leaves_lead}
+use Rattle.tree_build.proofs.EntryLemmas.{used_ids-entries}
 use Rattle.entry_codec.specs.declared.header.Header.{Header}
 
 -- an identifier that some entry has is found
@@ -39,14 +41,19 @@ found_entry (e ∷ entries) id stands =
           (rest.0, later ∙ ap (λ (b : Bool). option_map (λ (entry : Entry). entry.rec) (cond b (Some e) (find (λ (entry : Entry). entry.id == id) entries))) other.0 ∙ rest.1)
     ]
 
+-- an identifier that uses an entry of a block has a record there
+pub found_used : (format : Format) (block : List ℕ) (id : ℕ) → StandsIn (used_ids format block) id → (rec : Rec) × (record_in format block id ≡ Some rec)
+found_used format block id stands =
+    found_entry (used_entries format block) id (subst (λ (ids : List ℕ). StandsIn ids id) (used_ids-entries format block) stands)
+
 -- a leaf has a record
 abbrev HasRecord : Format → List ℕ → TreePath → Type 0
 HasRecord format file leaf = (rec : Rec) × (record_in format (block_of file leaf.block) leaf.number ≡ Some rec)
 
-leaves_have_records : (file : List ℕ) (blocks : ℕ) (format : Format) → Filled None format file blocks → AllByRecursion (HasRecord format file) (leaves file blocks)
+leaves_have_records : (file : List ℕ) (blocks : ℕ) (format : Format) → Filled nothing_loose format file blocks → AllByRecursion (HasRecord format file) (leaves file blocks)
 leaves_have_records file blocks format filled =
     AllByRecursion-weaker (λ (leaf : TreePath). StandsIn (ids_at (leaves file blocks) leaf.block) leaf.number) (HasRecord format file) (leaves file blocks)
-    (λ leaf stands. found_entry (used_entries format (block_of file leaf.block)) leaf.number (omega (arith, filled.one_entry leaf.block leaf.number stands)))
+    (λ leaf stands. found_used format (block_of file leaf.block) leaf.number (omega (arith, filled.one_entry leaf.block leaf.number stands)))
     (leaves_lead file blocks)
 
 -- the identifiers of leaves with their records
@@ -100,7 +107,7 @@ find-leaf_records format file (p ∷ ps) all id =
 
 -- the value of a sound file
 pub sound_value : (file : List ℕ) (kind : Kind) (format : Format) → (header_of file).magic ≡ magic_of kind → format_of (header_of file).version ≡ Some format
-    → IsSound format file (header_of file)
+    → IsSound format file (length file) (header_of file)
     → (value : QuotaValue) × TreeStandsFor file value × (value.kind ≡ kind) × (value.format ≡ format) × (len value.records ≡ length (leaves file (header_of file).blocks))
 sound_value file kind format magic version sound =
     let all : AllByRecursion (HasRecord format file) (leaves file (header_of file).blocks) = leaves_have_records file (header_of file).blocks format sound.filled in
@@ -138,7 +145,7 @@ leaf_record_ids format file (p ∷ ps) all = ap (λ (ids : List ℕ). p.number �
 
 -- the identifiers of that value are those of the leaves
 pub sound_value_ids : (file : List ℕ) (kind : Kind) (format : Format) (magic : (header_of file).magic ≡ magic_of kind) (version : format_of (header_of file).version ≡ Some format)
-    (sound : IsSound format file (header_of file)) → ids_in (sound_value file kind format magic version sound).0.records ≡ numbers_of (leaves file (header_of file).blocks)
+    (sound : IsSound format file (length file) (header_of file)) → ids_in (sound_value file kind format magic version sound).0.records ≡ numbers_of (leaves file (header_of file).blocks)
 unfolding sound_value
 sound_value_ids file kind format magic version sound =
     let all : AllByRecursion (HasRecord format file) (leaves file (header_of file).blocks) = leaves_have_records file (header_of file).blocks format sound.filled in
@@ -147,12 +154,12 @@ sound_value_ids file kind format magic version sound =
     ∙ leaf_record_ids format file (leaves file (header_of file).blocks) all
 
 pub sound : (file : List ℕ) (header : Header) → AreOf header (header_of file) → 2 ≤ header.blocks → (2 < header.blocks → 1024 * header.blocks ≤ length file)
-    → OneRole None file header.blocks header.free → Chained None header.format file header.blocks header.first → Filled None header.format file header.blocks
-    → IsSound header.format file (header_of file)
+    → OneRole nothing_loose file header.blocks header.free → Chained nothing_loose header.format file header.blocks header.first → Filled nothing_loose header.format file header.blocks
+    → IsSound header.format file (length file) (header_of file)
 sound file header are two long roles chained filled = record {
   two = subst (λ (b : ℕ). 2 ≤ b) (sym are.blocks) two;
   long = subst (λ (b : ℕ). 2 < b → 1024 * b ≤ length file) (sym are.blocks) long;
-  roles = subst (λ (b : ℕ). OneRole None file b (header_of file).free) (sym are.blocks) (subst (λ (h : ℕ). OneRole None file header.blocks h) (sym are.free) roles);
-  chained = subst (λ (b : ℕ). Chained None header.format file b (header_of file).first) (sym are.blocks) (subst (λ (h : ℕ). Chained None header.format file header.blocks h) (sym are.first) chained);
-  filled = subst (λ (b : ℕ). Filled None header.format file b) (sym are.blocks) filled;
+  roles = subst (λ (b : ℕ). OneRole nothing_loose file b (header_of file).free) (sym are.blocks) (subst (λ (h : ℕ). OneRole nothing_loose file header.blocks h) (sym are.free) roles);
+  chained = subst (λ (b : ℕ). Chained nothing_loose header.format file b (header_of file).first) (sym are.blocks) (subst (λ (h : ℕ). Chained nothing_loose header.format file header.blocks h) (sym are.first) chained);
+  filled = subst (λ (b : ℕ). Filled nothing_loose header.format file b) (sym are.blocks) filled;
 }

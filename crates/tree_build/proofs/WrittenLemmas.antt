@@ -1,11 +1,12 @@
 -- A file that was written block by block, from what each step says of it.
-use Rattle.std.proofs.Common.{◌≡◌, ◌≢◌, ℕ, zero, suc, ◌+◌, ◌*◌, ◌/◌, ◌^◌, ◌<◌, ◌≤◌, Bool, cond, true, false, ◌==◌, IsTrue, List, [], ◌∷◌, length, map, filter, find, take, option_and_then, option_map, refl, sym, ap, subst, ◌∙◌, arith, None}
+use Rattle.std.proofs.Common.{◌≡◌, ◌≢◌, ℕ, zero, suc, ◌+◌, ◌*◌, ◌/◌, ◌^◌, ◌<◌, ◌≤◌, Bool, cond, true, false, ◌==◌, IsTrue, List, [], ◌∷◌, length, map, filter, find, take, option_and_then, option_map, refl, sym, ap, subst, ◌∙◌, arith, None, true≢false}
 use Rattle.std.proofs.lemmas.List.{append-nil, get_or-take, length-map}
 use Rattle.std.specs.FinMap.{get}
 use Rattle.std.specs.List.{AllByRecursion, flat_map, range_with_len}
 use Rattle.std.specs.List.Sorted.{IsStrictlyIncreasing}
 use Rattle.quota_types.specs.Bytes.{byte_at, number_at}
 use Rattle.quota_types.proofs.BytesLemmas.{number_at-take}
+use Rattle.quota_types.specs.Format.{IsTreeFormat}
 use Rattle.quota_types.specs.declared.file_kind.Format.{Format}
 use Rattle.quota_types.specs.declared.file_kind.Format.TheVariants.{V1, V2R0, V2R1}
 use Rattle.quota_types.specs.declared.record.Entry.{Entry}
@@ -21,6 +22,7 @@ use Rattle.tree_build.specs.Build.{HasNoPadding, HasOneRoom}
 use Rattle.tree_build.specs.Entries.{used_entries}
 use Rattle.quota_radix.specs.Tree.{blocks_of, numbers_of, leaves, paths, steps}
 use Rattle.tree_build.specs.NewFile.{AllLead, AreBelow, AreDataBlocks, AreSiblings, IsDataBlock, IsLevel, KeepsBlocks, Part, leaves_in, parents_of, part_of, parts_needed, parts_of}
+use Rattle.tree_build.specs.Loose.{nothing_loose}
 use Rattle.tree_build.specs.Roles.{Chained, OneRole}
 use Rattle.tree_build.specs.Size.{beginnings, blocks_needed, each_once}
 use Rattle.tree_build.specs.TreeFile.{TreeStandsFor, record_in, tree_record}
@@ -49,21 +51,21 @@ first_parents ids =
     ∙ each_once-map (λ n. n / 256) (map (λ n. n / 256 ^ 2) ids)
     ∙ ap each_once (map_again (λ n. n / 256 ^ 2) (λ n. n / 256) (λ n. n / 256 ^ 3) (λ n. omega arith) ids)
 
-sum_of : (format : Format) → format ≢ V1 → (list : List Entry)
+sum_of : (format : Format) → IsTreeFormat format → (list : List Entry)
     → blocks_needed format (ids_of list) ≡ 2 + (parts_needed format list + (beginnings 1 (ids_of list) + (beginnings 2 (ids_of list) + beginnings 3 (ids_of list))))
-sum_of V1 tree list = absurd (tree refl)
+sum_of V1 tree list = absurd (true≢false tree)
 sum_of V2R0 tree list = omega (arith, length-map list (λ (entry : Entry). entry.id))
 sum_of V2R1 tree list = omega (arith, length-map list (λ (entry : Entry). entry.id))
 
 -- how many blocks a file needs, by its levels
-pub needed_by_levels : (format : Format) → format ≢ V1 → (list : List Entry)
+pub needed_by_levels : (format : Format) → IsTreeFormat format → (list : List Entry)
     → blocks_needed format (ids_of list)
     ≡ 2 + (parts_needed format list + (length (parents_of (ids_of list)) + (length (parents_of (parents_of (ids_of list))) + length (parents_of (parents_of (parents_of (ids_of list)))))))
 needed_by_levels format tree list =
     omega (arith, sum_of format tree list, ap length (second_parents (ids_of list)), ap length (first_parents (ids_of list)))
 
 -- the numbers of leaves are the identifiers
-pub leaf_numbers : (format : Format) → format ≢ V1 → (list : List Entry) (first : ℕ) (leaves : List TreePath) → leaves ≡ flat_map leaves_in (parts_of format list first (parts_needed format list))
+pub leaf_numbers : (format : Format) → IsTreeFormat format → (list : List Entry) (first : ℕ) (leaves : List TreePath) → leaves ≡ flat_map leaves_in (parts_of format list first (parts_needed format list))
     → numbers_of leaves ≡ ids_of list
 leaf_numbers format tree list first leaves are =
     ap numbers_of are ∙ numbers_of_leaves (parts_of format list first (parts_needed format list)) ∙ ap ids_of (all_parts format tree list first)
@@ -119,7 +121,7 @@ parts_same format old new list low (suc count) same are = (
 -- What each step of the writing left: the header, the data blocks, and the levels from the lowest one up, each behind what
 -- was there before it.
 pub record IsWritten (header : Header) (list : List Entry) (zeroth data_file third_file second_file first_file root : List ℕ) (leaves third second first : List TreePath) : Type 0 where
-  pub tree : header.format ≢ V1
+  pub tree : IsTreeFormat header.format
   pub rising : IsStrictlyIncreasing (ids_of list)
   pub blocks : header.blocks ≡ blocks_needed header.format (ids_of list)
   pub free : header.free ≡ 0
@@ -322,8 +324,8 @@ module _ (header : Header) (list : List Entry) (zeroth data_file third_file seco
         inode_grace = sym are.inode_grace;
         flags = sym are.flags;
         sound = sound (with_root first_file root) header are (omega arith) (λ more. omega arith)
-            (subst (OneRole None (with_root first_file root) header.blocks) (sym w.free) (one_role header.format (with_root first_file root) header.blocks list first second third built))
-            (subst (Chained None header.format (with_root first_file root) header.blocks) (sym w.room) (chained header.format (with_root first_file root) header.blocks list first second third built))
+            (subst (OneRole nothing_loose (with_root first_file root) header.blocks) (sym w.free) (one_role header.format (with_root first_file root) header.blocks list first second third built))
+            (subst (Chained nothing_loose header.format (with_root first_file root) header.blocks) (sym w.room) (chained header.format (with_root first_file root) header.blocks list first second third built))
             (filled header.format (with_root first_file root) header.blocks list first second third built);
         records = λ id.
             subst (λ (b : ℕ). get (records_of list) id ≡ tree_record header.format (with_root first_file root) b id) (sym are.blocks) (

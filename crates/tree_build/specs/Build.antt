@@ -1,5 +1,5 @@
 -- A whole new tree file, from a list of entries.
-use Rattle.std.specs.Prelude.{◌≡◌, ℕ, ◌<◌, ◌≤◌, IsTrue, List, ⊤, None}
+use Rattle.std.specs.Prelude.{◌≡◌, ℕ, ◌<◌, ◌≤◌, IsTrue, List, ⊤}
 use Rattle.quota_types.specs.Bytes.{byte_at}
 use Rattle.quota_types.specs.declared.file_kind.Format.{Format}
 use Rattle.entry_codec.specs.Entry.{entries_per_block, padding_of}
@@ -8,13 +8,14 @@ use Rattle.tree_build.specs.declared.build_fault.BuildFault.TheVariants.{Full, M
 use Rattle.quota_blocks.specs.Block.{block_of}
 use Rattle.quota_types.specs.Times.{StandsIn}
 use Rattle.tree_build.specs.Entries.{entry_bytes}
+use Rattle.tree_build.specs.Loose.{nothing_loose}
 use Rattle.tree_build.specs.Roles.{has_room}
 use Rattle.quota_radix.specs.Tree.{data_blocks}
 
 -- At most one data block has an unused entry.
 abbrev pub HasOneRoom : Format → List ℕ → ℕ → Type 0
 HasOneRoom format file blocks =
-    (one other : ℕ) → IsTrue (has_room None format file blocks one) → IsTrue (has_room None format file blocks other) → one ≡ other
+    (one other : ℕ) → IsTrue (has_room nothing_loose format file blocks one) → IsTrue (has_room nothing_loose format file blocks other) → one ≡ other
 
 -- Every byte that no field names is 0: behind the header, behind the stored number of a data block, and inside of an
 -- entry. Source: `struct v2_disk_dqinfo` of the kernel's `fs/quota/quotaio_v2.h`, and `struct qt_disk_dqdbheader` of

@@ -1,18 +1,13 @@
 -- The entries of a data block, compared with the identifiers that lead to it.
-use Rattle.std.specs.Prelude.{◌≡◌, ◌≢◌, ℕ, ◌≤◌, ◌&&◌, nat_le, Bool, List, [], length, map}
+use Rattle.std.specs.Prelude.{◌≡◌, ◌≢◌, ℕ, ◌≤◌, ◌&&◌, nat_le, Bool, List, [], length}
 use Rattle.std.specs.List.{filter, range_with_len, slice_index_or}
-use Rattle.std.specs.Option.{option_to_list}
 use Rattle.quota_types.specs.declared.damage.Damage.{Damage}
 use Rattle.quota_types.specs.declared.damage.DamageKind.{DamageKind}
 use Rattle.quota_types.specs.declared.damage.DamageKind.TheVariants.{BadCount, MissingEntry, StrayEntry, DoubleEntry}
 use Rattle.quota_types.specs.declared.file_kind.Format.{Format}
-use Rattle.quota_blocks.specs.Block.{block_of, stated_count}
+use Rattle.quota_blocks.specs.Block.{block_of}
 use Rattle.quota_types.specs.Times.{StandsIn, StandsTwiceIn, times}
-use Rattle.tree_build.specs.Entries.{entry_of, has_unused, used_ids}
-
--- the identifier of an entry, or none where it is unused
-abbrev pub id_in : Format → List ℕ → List ℕ
-id_in format bytes = map (λ entry. entry.id) (option_to_list (entry_of format bytes))
+use Rattle.tree_build.specs.Entries.{has_unused, stated_count, used_ids}
 
 -- a used entry of each identifier that leads to the block, one of no other, and as many as the block states
 pub record AreEntriesOf (stated : ℕ) (used ids : List ℕ) : Type 0 where

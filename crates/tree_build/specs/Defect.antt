@@ -1,6 +1,6 @@
 -- What may be wrong with a tree file, kind by kind, with the block and the identifier that each kind names. Source: the
 -- rules of `fs/quota/quota_tree.c`, each turned round.
-use Rattle.std.specs.Prelude.{◌≡◌, ◌≢◌, ◌⊎◌, ℕ, ◌*◌, ◌/◌, ◌<◌, IsTrue, false, List, ◌∷◌, ◌++◌, length, Some, unwrap_or, None}
+use Rattle.std.specs.Prelude.{◌≡◌, ◌≢◌, ◌⊎◌, ℕ, ◌*◌, ◌/◌, ◌<◌, IsTrue, false, List, ◌∷◌, ◌++◌, length, Some, unwrap_or}
 use Rattle.std.specs.List.{last_or}
 use Rattle.quota_types.specs.Damage.{NamesItsId}
 use Rattle.quota_types.specs.declared.damage.Damage.{Damage}
@@ -8,27 +8,29 @@ use Rattle.quota_types.specs.declared.damage.DamageKind.{DamageKind}
 use Rattle.quota_types.specs.declared.damage.DamageKind.TheVariants.{Short, RefOut, TwoRoles, NoRole, EmptyTree, ChainOut, ChainLoop, ForeignInChain, MissingInChain, BadPrev, BadCount, MissingEntry, StrayEntry, DoubleEntry, PartialRecord}
 use Rattle.quota_types.specs.declared.file_kind.Format.{Format}
 use Rattle.entry_codec.specs.Header.{HeaderNumbers}
-use Rattle.quota_blocks.specs.Block.{block_of, previous_of, stated_count}
+use Rattle.quota_blocks.specs.Block.{block_of, previous_of}
 use Rattle.free_chains.specs.Chain.{IsChain}
 use Rattle.quota_types.specs.Times.{StandsIn, StandsTwiceIn, times}
-use Rattle.tree_build.specs.Entries.{used_ids}
+use Rattle.tree_build.specs.Entries.{stated_count, used_ids}
 use Rattle.quota_radix.specs.TreeDefect.{IsRefOut, IsEmptyTree}
+use Rattle.tree_build.specs.Loose.{nothing_loose}
 use Rattle.tree_build.specs.Roles.{has_room, roles}
 use Rattle.quota_radix.specs.Tree.{data_blocks, ids_at, leaves}
 use Rattle.free_chains.specs.ChainDefect.{IsOut, IsLoop}
 
--- the file has more blocks than header and root and is shorter than they, and the block is the first that is not whole
-pub record IsShort (file : List ℕ) (blocks block : ℕ) : Type 0 where
+-- a file of so many bytes has more blocks than header and root and is shorter than they, and the block is the first that is
+-- not whole
+pub record IsShort (len blocks block : ℕ) : Type 0 where
   pub more : 2 < blocks
-  pub short : length file < 1024 * blocks
-  pub cut : block ≡ length file / 1024
+  pub short : len < 1024 * blocks
+  pub cut : block ≡ len / 1024
 
 -- a block has two roles, or one role twice
 pub record HasTwoRoles (file : List ℕ) (blocks free_head block : ℕ) : Type 0 where
   pub free : List ℕ
   pub end : ℕ
   pub is_free : IsChain file blocks free_head free end
-  pub twice : StandsTwiceIn (roles None file blocks free) block
+  pub twice : StandsTwiceIn (roles nothing_loose file blocks free) block
 
 -- a block has no role
 pub record HasNoRole (file : List ℕ) (blocks free_head block : ℕ) : Type 0 where
@@ -36,7 +38,7 @@ pub record HasNoRole (file : List ℕ) (blocks free_head block : ℕ) : Type 0 w
   pub end : ℕ
   pub is_free : IsChain file blocks free_head free end
   pub inside : block < blocks
-  pub none : times (roles None file blocks free) block ≡ 0
+  pub none : times (roles nothing_loose file blocks free) block ≡ 0
 
 -- the entry list has a block that is no data block with room
 pub record IsForeign (format : Format) (file : List ℕ) (blocks first block : ℕ) : Type 0 where
@@ -44,14 +46,14 @@ pub record IsForeign (format : Format) (file : List ℕ) (blocks first block : �
   pub end : ℕ
   pub is_chain : IsChain file blocks first chain end
   pub listed : StandsIn chain block
-  pub foreign : has_room None format file blocks block ≡ false
+  pub foreign : has_room nothing_loose format file blocks block ≡ false
 
 -- a data block with room is not in the entry list
 pub record IsMissing (format : Format) (file : List ℕ) (blocks first block : ℕ) : Type 0 where
   pub chain : List ℕ
   pub end : ℕ
   pub is_chain : IsChain file blocks first chain end
-  pub room : IsTrue (has_room None format file blocks block)
+  pub room : IsTrue (has_room nothing_loose format file blocks block)
   pub missing : times chain block ≡ 0
 
 -- a block of the entry list does not name the block before it, or 0 where it is the first
@@ -85,7 +87,7 @@ pub record HasDoubleEntry (format : Format) (file : List ℕ) (blocks block id :
 
 -- what a kind of damage says of a block and an identifier
 abbrev pub IsDefectOf : Format → List ℕ → HeaderNumbers → DamageKind → ℕ → ℕ → Type 0
-IsDefectOf format file numbers Short block id = IsShort file numbers.blocks block
+IsDefectOf format file numbers Short block id = IsShort (length file) numbers.blocks block
 IsDefectOf format file numbers RefOut block id = IsRefOut file numbers.blocks block
 IsDefectOf format file numbers TwoRoles block id = HasTwoRoles file numbers.blocks numbers.free block
 IsDefectOf format file numbers NoRole block id = HasNoRole file numbers.blocks numbers.free block

@@ -1,18 +1,21 @@
 -- The entries of a data block. Source: the kernel's `fs/quota/quota_tree.c` (entries fill a data block behind its
 -- header of 16 bytes; one of zeros is unused).
-use Rattle.std.specs.Prelude.{◌≡◌, ℕ, ◌+◌, ◌*◌, ◌<◌, ◌==◌, Bool, if◌then◌else◌, List, map, take, drop, Option, Some, None}
-use Rattle.std.specs.List.{filter_map, list_any, range_with_len}
+use Rattle.std.specs.Prelude.{◌≡◌, ℕ, ◌+◌, ◌*◌, ◌<◌, ◌==◌, Bool, if◌then◌else◌, List, [], ◌∷◌, take, drop, Option, Some, None}
+use Rattle.std.specs.List.{filter_map, flat_map, list_any, range_with_len}
 use Rattle.std.specs.Option.{option_and_then}
+use Rattle.quota_blocks.specs.Block.{block_of}
+use Rattle.quota_types.specs.Bytes.{number_at}
+use Rattle.quota_types.specs.Format.{record_size}
 use Rattle.quota_types.specs.Kept.{without_marker}
 use Rattle.quota_types.specs.declared.file_kind.Format.{Format}
 use Rattle.quota_types.specs.declared.file_kind.Format.TheVariants.{V1, V2R0, V2R1}
 use Rattle.quota_types.specs.declared.record.Entry.{Entry}
 use Rattle.quota_types.specs.declared.record.Rec.{Rec}
-use Rattle.entry_codec.specs.Entry.{entries_per_block, entry_size, is_unused, stored_id, stored_v2r0, stored_v2r1}
+use Rattle.entry_codec.specs.Entry.{entries_per_block, is_unused, stored_id, stored_v2r0, stored_v2r1}
 
 -- the bytes of an entry of a block, by its place among the entries
 abbrev pub entry_bytes : Format → List ℕ → ℕ → List ℕ
-entry_bytes format block place = take (entry_size format) (drop (16 + entry_size format * place) block)
+entry_bytes format block place = take (record_size format) (drop (16 + record_size format * place) block)
 
 -- the record of an entry, as it is stored; a flat file has no entries
 abbrev pub stored_record : Format → List ℕ → Rec
@@ -30,9 +33,17 @@ entry_of format bytes =
 unfoldable pub used_entries : Format → List ℕ → List Entry
 used_entries format block = filter_map (λ place. entry_of format (entry_bytes format block place)) (range_with_len 0 (entries_per_block format))
 
+-- the identifier that an entry stores, or none where it is unused
+abbrev pub id_in : Format → List ℕ → List ℕ
+id_in format bytes = if is_unused bytes then [] else stored_id bytes ∷ []
+
 -- the identifiers of the entries of a block that are used, in order
-abbrev pub used_ids : Format → List ℕ → List ℕ
-used_ids format block = map (λ entry. entry.id) (used_entries format block)
+unfoldable pub used_ids : Format → List ℕ → List ℕ
+used_ids format block = flat_map (λ place. id_in format (entry_bytes format block place)) (range_with_len 0 (entries_per_block format))
+
+-- the number of used entries that a data block states
+abbrev pub stated_count : List ℕ → ℕ → ℕ
+stated_count file number = number_at 2 (block_of file number) 8
 
 -- some entry of a block is unused
 unfoldable pub has_unused : Format → List ℕ → Bool

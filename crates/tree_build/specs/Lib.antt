@@ -3,12 +3,17 @@ pub mod Build
 pub mod Compared
 pub mod Defect
 pub mod Entries
+pub mod EntryPlaces
+pub mod IsTree
+pub mod KeepsEntries
+pub mod Loose
 pub mod Needed
 pub mod NewFile
 pub mod Roles
 pub mod Size
 pub mod TreeFile
 pub use Rattle.quota_types.specs.Bytes
+pub use Rattle.quota_types.specs.Format
 pub use Rattle.quota_types.specs.Kept
 pub use Rattle.quota_blocks.specs.Frame
 pub use Rattle.quota_blocks.specs.QuotaValue
@@ -22,6 +27,7 @@ pub use Rattle.quota_blocks.specs.Listed
 pub use Rattle.quota_types.specs.Damage
 pub use Rattle.quota_types.specs.Times
 pub use Rattle.quota_blocks.specs.Block
+pub use Rattle.quota_blocks.specs.Span
 pub use Rattle.quota_radix.specs.Tree
 pub use Rattle.quota_radix.specs.TreeDefect
 pub use Rattle.free_chains.specs.Chain

@@ -1,6 +1,6 @@
 -- What a tree file stands for. Source: vfsv0 and vfsv1, the version 2 quota files of the quota tools and the kernel
 -- (`fs/quota/quota_v2.c` and `fs/quota/quota_tree.c`).
-use Rattle.std.specs.Prelude.{◌≡◌, ℕ, ◌*◌, ◌<◌, ◌≤◌, ◌==◌, List, length, find, Option, Some, None}
+use Rattle.std.specs.Prelude.{◌≡◌, ℕ, ◌*◌, ◌<◌, ◌≤◌, ◌==◌, List, length, find, Option, Some}
 use Rattle.std.specs.FinMap.{get}
 use Rattle.std.specs.Option.{option_and_then, option_map}
 use Rattle.quota_types.specs.declared.file_kind.Format.{Format}
@@ -11,6 +11,7 @@ use Rattle.entry_codec.specs.Header.{HeaderNumbers, format_of, header_of, magic_
 use Rattle.quota_radix.specs.declared.tree_path.TreePath.{TreePath}
 use Rattle.quota_blocks.specs.Block.{block_of}
 use Rattle.tree_build.specs.Entries.{used_entries}
+use Rattle.tree_build.specs.Loose.{nothing_loose}
 use Rattle.tree_build.specs.Roles.{Chained, Filled, OneRole}
 use Rattle.quota_radix.specs.Tree.{leaves}
 
@@ -18,19 +19,23 @@ use Rattle.quota_radix.specs.Tree.{leaves}
 abbrev pub record_in : Format → List ℕ → ℕ → Option Rec
 record_in format block id = option_map (λ (entry : Entry). entry.rec) (find (λ (entry : Entry). entry.id == id) (used_entries format block))
 
--- the record of an identifier: that of the entry in the data block to which the identifier leads
-abbrev pub tree_record : Format → List ℕ → ℕ → ℕ → Option Rec
-tree_record format file blocks id =
-    option_and_then (λ (leaf : TreePath). record_in format (block_of file leaf.block) id) (find (λ (leaf : TreePath). leaf.number == id) (leaves file blocks))
+-- the record of an identifier by some leaves: that of the entry in the data block to which the identifier leads
+abbrev pub record_by_leaves : Format → List ℕ → List TreePath → ℕ → Option Rec
+record_by_leaves format file leaves id =
+    option_and_then (λ (leaf : TreePath). record_in format (block_of file leaf.block) id) (find (λ (leaf : TreePath). leaf.number == id) leaves)
 
--- The blocks and entries of a file are sound: it has header and root; where it has more blocks it is as long as they; and
--- its roles, its entry list and its entries are in order.
-pub record IsSound (format : Format) (file : List ℕ) (numbers : HeaderNumbers) : Type 0 where
+-- the record of an identifier by the leaves of a file
+abbrev pub tree_record : Format → List ℕ → ℕ → ℕ → Option Rec
+tree_record format file blocks id = record_by_leaves format file (leaves file blocks) id
+
+-- The blocks and entries of a file of so many bytes are sound: it has header and root; where it has more blocks it is as long
+-- as they; and its roles, its entry list and its entries are in order.
+pub record IsSound (format : Format) (file : List ℕ) (len : ℕ) (numbers : HeaderNumbers) : Type 0 where
   pub two : 2 ≤ numbers.blocks
-  pub long : 2 < numbers.blocks → 1024 * numbers.blocks ≤ length file
-  pub roles : OneRole None file numbers.blocks numbers.free
-  pub chained : Chained None format file numbers.blocks numbers.first
-  pub filled : Filled None format file numbers.blocks
+  pub long : 2 < numbers.blocks → 1024 * numbers.blocks ≤ len
+  pub roles : OneRole nothing_loose file numbers.blocks numbers.free
+  pub chained : Chained nothing_loose format file numbers.blocks numbers.first
+  pub filled : Filled nothing_loose format file numbers.blocks
 
 -- A tree file stands for a value: its header has the kind, the format, the grace periods and the flags, it is sound, and
 -- its records are those of the identifiers that have a leaf.
@@ -40,5 +45,5 @@ pub record TreeStandsFor (file : List ℕ) (value : QuotaValue) : Type 0 where
   pub block_grace : value.grace.block ≡ (header_of file).block_grace
   pub inode_grace : value.grace.inode ≡ (header_of file).inode_grace
   pub flags : value.flags ≡ (header_of file).flags
-  pub sound : IsSound value.format file (header_of file)
+  pub sound : IsSound value.format file (length file) (header_of file)
   pub records : (id : ℕ) → get value.records id ≡ tree_record value.format file (header_of file).blocks id

@@ -1,5 +1,6 @@
 ghost use Rattle.std.specs.Prelude.{◌≡◌, ◌≢◌, ◌*◌, ◌+◌, ◌/◌, ◌%◌, ◌<◌, ◌≤◌, ◌^◌, ◌==◌, if◌then◌else◌, None, All, length, vec_len, IfOk, IfErr, OnOk};
 ghost use Rattle.std.specs.List.Sorted.{IsStrictlyIncreasing};
+ghost use Rattle.quota_types.specs.Format.{IsTreeFormat};
 ghost use Rattle.quota_types.specs.Kept.{kept_of};
 ghost use Rattle.quota_types.specs.Range.{grace_unfit, unfit};
 ghost use Rattle.entry_codec.specs.Entry.{entries_per_block};
@@ -36,7 +37,7 @@ pub fn build(
     list: &[Entry],
     limit: u32,
 ) -> Result<Vec<u8>, BuildFault>
-    requires tree { format ≢ Format.V1 }
+    requires tree { IsTreeFormat format }
     requires grace { grace_unfit format grace ≡ None }
     requires ascending { IsStrictlyIncreasing (ids_of list.now) }
     requires fits { All (λ entry. unfit format entry.id entry.rec ≡ None) list.now }
@@ -71,7 +72,7 @@ pub fn build(
 /// The file of a header and its entries: header and root, the data blocks, and the tree blocks below the root, from the
 /// lowest level up.
 fn write_file(alloc: Global, header: &Header, list: &[Entry]) -> Result<Vec<u8>, AllocError>
-    requires tree { header.now.format ≢ Format.V1 }
+    requires tree { IsTreeFormat header.now.format }
     requires grace { grace_unfit header.now.format header.now.grace ≡ None }
     requires ascending { IsStrictlyIncreasing (ids_of list.now) }
     requires fits { All (λ entry. unfit header.now.format entry.id entry.rec ≡ None) list.now }

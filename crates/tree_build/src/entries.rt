@@ -2,17 +2,18 @@ ghost use Rattle.std.specs.Prelude.{◌≡◌, ◌≢◌, ℕ, ◌+◌, ◌<◌,
 ghost use Rattle.std.specs.Option.{option_map};
 ghost use Rattle.std.specs.Bool.{OnFalse, OnTrue};
 ghost use Rattle.arrayvec.specs.ArrayVec.{array_vec_len};
-ghost use Rattle.entry_codec.specs.Entry.{entries_per_block, entry_size, is_unused};
+ghost use Rattle.entry_codec.specs.Entry.{entries_per_block, is_unused};
 ghost use Rattle.quota_types.specs.Bytes.{number_at};
+ghost use Rattle.quota_types.specs.Format.{IsTreeFormat, record_size};
 ghost use Rattle.quota_types.specs.Kept.{IsKept};
-ghost use Rattle.tree_build.specs.Compared.{AreEntriesOf, IsEntryDefectAt, id_in};
+ghost use Rattle.tree_build.specs.Compared.{AreEntriesOf, IsEntryDefectAt};
 ghost use Rattle.quota_types.specs.Times.{StandsIn, StandsTwiceIn, times};
 ghost use Rattle.quota_types.specs.Damage.{NamesItsId};
-ghost use Rattle.tree_build.specs.Entries.{IsRecordIn, entry_bytes, has_unused, record_by, used_ids};
+ghost use Rattle.tree_build.specs.Entries.{IsRecordIn, entry_bytes, has_unused, id_in, record_by, used_ids};
 ghost use Rattle.tree_build.specs.TreeFile.{record_in};
 
 use arrayvec::ArrayVec;
-use entry_codec::{entries_per_block, entry_size, read_entry, read_id};
+use entry_codec::{entries_per_block, read_entry, read_id};
 use quota_blocks::{le16, le32};
 use quota_types::{Damage, DamageKind, Format, Rec, damage_at};
 
@@ -28,8 +29,8 @@ struct Used {
 impl Used {
     /// Counts an entry, by its bytes.
     fn add(&mut self, format: Format, bytes: &[u8])
-        requires tree { format ≢ Format.V1 }
-        requires size { length bytes.now ≡ entry_size format }
+        requires tree { IsTreeFormat format }
+        requires size { length bytes.now ≡ record_size format }
         requires room { array_vec_len self.old.ids < 21 }
         ensures ids { self.new.ids.items ≡ self.old.ids.items ++ id_in format bytes.now }
         ensures unused { self.new.has_unused ≡ (self.old.has_unused || is_unused bytes.now) }
@@ -43,20 +44,20 @@ impl Used {
 }
 
 /// The bytes of an entry, by its place among the entries.
-fn entry_bytes(format: Format, block: &[u8; 1024], place: usize) -> &[u8]
-    requires tree { format ≢ Format.V1 }
+pub(crate) fn entry_bytes(format: Format, block: &[u8; 1024], place: usize) -> &[u8]
+    requires tree { IsTreeFormat format }
     requires place { place < entries_per_block format }
     ensures value { result.now ≡ entry_bytes format block.now place }
-    ensures size { length result.now ≡ entry_size format }
+    ensures size { length result.now ≡ record_size format }
 {
-    let size = entry_size(format);
+    let size = format.record_size();
     let start = 16 + size * place;
     &block[start..start + size]
 }
 
 /// What the entries of a block are used for.
 fn read_used(format: Format, block: &[u8; 1024]) -> Used
-    requires tree { format ≢ Format.V1 }
+    requires tree { IsTreeFormat format }
     ensures ids { result.ids.items ≡ used_ids format block.now }
     ensures unused { result.has_unused ≡ has_unused format block.now }
 {
@@ -72,23 +73,23 @@ fn read_used(format: Format, block: &[u8; 1024]) -> Used
 
 /// Whether the entry of a block at a place among the entries has this identifier. An unused one has 0.
 fn has_id(format: Format, block: &[u8; 1024], place: usize, id: u32) -> bool
-    requires tree { format ≢ Format.V1 }
+    requires tree { IsTreeFormat format }
     requires place { place < entries_per_block format }
     ensures other { OnFalse result (record_by format block.now id place ≡ None) }
 {
-    le32(block, 16 + entry_size(format) * place) == id
+    le32(block, 16 + format.record_size() * place) == id
 }
 
 /// The record of the entry of a block at a place among the entries, where it is used by this identifier.
 #[inline(always)]
 fn record_by(format: Format, block: &[u8; 1024], place: usize, id: u32) -> Option<Rec>
-    requires tree { format ≢ Format.V1 }
+    requires tree { IsTreeFormat format }
     requires place { place < entries_per_block format }
     ensures value { result ≡ record_by format block.now id place }
     ensures kept { IfSome result (IsKept format id) }
 {
     let bytes = entry_bytes(format, block, place);
-    if le32(block, 16 + entry_size(format) * place) != id {
+    if le32(block, 16 + format.record_size() * place) != id {
         return None;
     }
     let (_, rec) = read_entry(format, bytes)?;
@@ -97,7 +98,7 @@ fn record_by(format: Format, block: &[u8; 1024], place: usize, id: u32) -> Optio
 
 /// The first entry of a block that is used by an identifier: its place among the entries, and its record.
 fn first_used(format: Format, block: &[u8; 1024], id: u32) -> Option<(usize, Rec)>
-    requires tree { format ≢ Format.V1 }
+    requires tree { IsTreeFormat format }
     ensures value { option_map (λ found. found.1) result ≡ record_in format block.now id }
     ensures there { IfSome result (λ found. (found.0 < entries_per_block format)
         × (record_by format block.now id found.0 ≡ Some found.1)) }
@@ -116,7 +117,7 @@ fn first_used(format: Format, block: &[u8; 1024], id: u32) -> Option<(usize, Rec
 
 /// The record of the first entry of a block that is used by an identifier.
 pub fn find_record(format: Format, block: &[u8; 1024], id: u32) -> Option<Rec>
-    requires tree { format ≢ Format.V1 }
+    requires tree { IsTreeFormat format }
     ensures value { result ≡ record_in format block.now id }
     ensures kept { IfSome result (IsKept format id) }
 {
@@ -124,11 +125,12 @@ pub fn find_record(format: Format, block: &[u8; 1024], id: u32) -> Option<Rec>
     Some(rec)
 }
 
-/// The place among the entries of a block of the first one that is used by an identifier.
+/// The place among the entries of a block of the first one that is used by an identifier, or none where it uses none.
 pub fn find_place(format: Format, block: &[u8; 1024], id: u32) -> Option<usize>
-    requires tree { format ≢ Format.V1 }
+    requires tree { IsTreeFormat format }
     ensures low { IfSome result (λ place. place < entries_per_block format) }
     ensures used { IfSome result (λ place. IsSome (record_by format block.now id place)) }
+    ensures none { IfNone result (record_in format block.now id ≡ None) }
 {
     let (place, _rec) = first_used(format, block, id)?;
     Some(place)
@@ -138,7 +140,7 @@ pub fn find_place(format: Format, block: &[u8; 1024], id: u32) -> Option<usize>
 /// of the first one. Then the place behind it is near, so that entries that follow one another are found at once.
 #[inline(always)]
 pub fn find_near(format: Format, block: &[u8; 1024], id: u32, near: &mut usize) -> Option<Rec>
-    requires tree { format ≢ Format.V1 }
+    requires tree { IsTreeFormat format }
     ensures there { IfSome result (IsRecordIn format block.now id) }
     ensures none { IfNone result (record_in format block.now id ≡ None) }
     ensures kept { IfSome result (IsKept format id) }
@@ -155,7 +157,7 @@ pub fn find_near(format: Format, block: &[u8; 1024], id: u32, near: &mut usize) 
 /// The same, of the first one. It stands apart, so that what is near is found without it.
 #[inline(never)]
 fn find_from_first(format: Format, block: &[u8; 1024], id: u32, near: &mut usize) -> Option<Rec>
-    requires tree { format ≢ Format.V1 }
+    requires tree { IsTreeFormat format }
     ensures there { IfSome result (IsRecordIn format block.now id) }
     ensures none { IfNone result (record_in format block.now id ≡ None) }
     ensures kept { IfSome result (IsKept format id) }
@@ -215,7 +217,7 @@ fn ascends(numbers: &[u32]) -> bool
 /// Whether all entries of a block are used by these identifiers, in this order. No list of them is made. `false` says
 /// nothing.
 fn is_full_of(format: Format, block: &[u8; 1024], ids: &[u32]) -> bool
-    requires tree { format ≢ Format.V1 }
+    requires tree { IsTreeFormat format }
     ensures ids { OnTrue result (used_ids format block.now ≡ ids.now) }
     ensures full { OnTrue result (has_unused format block.now ≡ false) }
 {
@@ -241,7 +243,7 @@ pub fn compare_entries(
     block: &[u8; 1024],
     ids: &[u32],
 ) -> Result<bool, Damage>
-    requires tree { format ≢ Format.V1 }
+    requires tree { IsTreeFormat format }
     ensures entries { OnOk result (AreEntriesOf (number_at 2 block.now 8) (used_ids format block.now) ids.now) }
     ensures room { IfOk result (λ has_room. has_room ≡ has_unused format block.now) }
     ensures refused { IfErr result (IsEntryDefectAt number (number_at 2 block.now 8)

@@ -8,13 +8,17 @@
 mod build_fault;
 mod building;
 mod entries;
+pub mod entry_laws;
+mod entry_places;
 pub mod laws;
 mod needed;
 mod new_data;
 mod new_file;
 mod new_tree;
+pub mod steps;
 
 pub use build_fault::BuildFault;
 pub use building::build;
 pub use entries::{compare_entries, find_near, find_place, find_record};
+pub use entry_places::{clear_entry, put_entry, unused_place, used_count};
 pub use needed::Needed;

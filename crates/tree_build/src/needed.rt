@@ -5,6 +5,7 @@ ghost use Rattle.quota_blocks.specs.Listed.{ids_of};
 ghost use Rattle.quota_blocks.specs.QuotaValue.{IsAfter};
 ghost use Rattle.tree_build.specs.Beginnings.{new_beginnings, room_up_to};
 ghost use Rattle.tree_build.specs.Size.{blocks_needed};
+ghost use Rattle.quota_types.specs.Format.{IsTreeFormat};
 
 use entry_codec::entries_per_block;
 use quota_types::{Entry, Format};
@@ -61,7 +62,7 @@ impl Needed {
 
     /// How many blocks a file of the format needs: the header, the root, the tree blocks below it, and the data blocks.
     pub fn blocks(&self, format: Format) -> u64
-        requires tree { format ≢ Format.V1 }
+        requires tree { IsTreeFormat format }
         ensures { (ids : List ℕ) → HasMet ids self.now → result ≡ blocks_needed format ids }
     {
         let tree = 2 + self.firsts + self.seconds + self.thirds;
@@ -83,7 +84,7 @@ fn new_beginnings(last: Option<u32>, id: u32, divisor: u32) -> u64
 
 /// How many blocks a tree file of these entries needs.
 pub(crate) fn blocks_needed(format: Format, list: &[Entry]) -> u64
-    requires tree { format ≢ Format.V1 }
+    requires tree { IsTreeFormat format }
     requires ascending { IsStrictlyIncreasing (ids_of list.now) }
     ensures { result ≡ blocks_needed format (ids_of list.now) }
 {
@@ -97,7 +98,7 @@ pub(crate) fn blocks_needed(format: Format, list: &[Entry]) -> u64
 /// The first data block that has room, of a file whose data blocks begin with block 2 and have so many entries: the last
 /// one, where it is not full.
 pub(crate) fn first_with_room(format: Format, entries: usize) -> u32
-    requires tree { format ≢ Format.V1 }
+    requires tree { IsTreeFormat format }
     requires small { 2 + entries / entries_per_block format < 2 ^ 32 }
     ensures { result ≡ (if entries % entries_per_block format == 0 then 0 else 2 + entries / entries_per_block format) }
 {

@@ -1,14 +1,14 @@
-ghost use Rattle.std.specs.Prelude.{◌≡◌, ◌≢◌, ◌+◌, ◌*◌, ◌^◌, ◌<◌, ◌≤◌, ◌++◌, None, All, length, IfOk, OnOk};
+ghost use Rattle.std.specs.Prelude.{◌≡◌, ◌≢◌, ◌+◌, ◌^◌, ◌<◌, ◌≤◌, ◌++◌, None, All, length, IfOk, OnOk};
 ghost use Rattle.std.specs.List.{flat_map};
-ghost use Rattle.quota_blocks.specs.Span.{KeepsOutside};
+ghost use Rattle.quota_types.specs.Format.{IsTreeFormat};
 ghost use Rattle.quota_types.specs.Kept.{kept_of};
 ghost use Rattle.quota_types.specs.Range.{unfit};
-ghost use Rattle.entry_codec.specs.Entry.{IsEntry, entries_per_block, entry_size, padding_of};
-ghost use Rattle.tree_build.specs.Entries.{entry_bytes};
+ghost use Rattle.entry_codec.specs.Entry.{entries_per_block};
 ghost use Rattle.tree_build.specs.NewFile.{AreBelow, AreDataBlocks, IsDataBlock, KeepsBlocks, leaves_in, parts_needed, parts_of};
 
+use crate::entry_places::put_entry;
 use crate::new_file::NewFile;
-use entry_codec::{entries_per_block, entry_size, write_entry};
+use entry_codec::entries_per_block;
 use quota_blocks::set_le16;
 use quota_radix::TreePath;
 use quota_types::{Entry, Format};
@@ -21,7 +21,7 @@ pub(crate) fn add_data(
     format: Format,
     list: &[Entry],
 ) -> Result<Vec<TreePath>, AllocError>
-    requires tree { format ≢ Format.V1 }
+    requires tree { IsTreeFormat format }
     requires fits { All (λ entry. unfit format entry.id entry.rec ≡ None) list.now }
     requires kept { All (λ entry. kept_of format entry.id entry.rec ≡ entry.rec) list.now }
     requires room { file.old.blocks + parts_needed format list.now < 2 ^ 32 }
@@ -67,7 +67,7 @@ fn leaf(id: u32, block: u32) -> TreePath
 
 /// A data block that has these entries, in no list.
 fn data_block(format: Format, entries: &[Entry]) -> [u8; 1024]
-    requires tree { format ≢ Format.V1 }
+    requires tree { IsTreeFormat format }
     requires few { length entries.now ≤ entries_per_block format }
     requires fits { All (λ entry. unfit format entry.id entry.rec ≡ None) entries.now }
     requires kept { All (λ entry. kept_of format entry.id entry.rec ≡ entry.rec) entries.now }
@@ -76,28 +76,7 @@ fn data_block(format: Format, entries: &[Entry]) -> [u8; 1024]
     let mut block = [0; 1024];
     set_le16(&mut block, 8, entries.len() as u16);
     for (place, entry) in entries.iter().enumerate() {
-        put_entry(format, &mut block, place, entry);
+        put_entry(format, &mut block, place, entry.id, &entry.rec);
     }
     block
-}
-
-/// Writes an entry at its place among the entries of a block.
-fn put_entry(format: Format, block: &mut [u8; 1024], place: usize, entry: &Entry)
-    requires tree { format ≢ Format.V1 }
-    requires place { place < entries_per_block format }
-    requires fits { unfit format entry.now.id entry.now.rec ≡ None }
-    requires kept { kept_of format entry.now.id entry.now.rec ≡ entry.now.rec }
-    ensures entry { IsEntry format (entry_bytes format block.new place) entry.now.id entry.now.rec }
-    ensures padding { padding_of format (entry_bytes format block.new place) ≡ 0 }
-    ensures others { KeepsOutside (16 + entry_size format * place)
-        (16 + entry_size format * place + entry_size format) block.old block.new }
-{
-    let size = entry_size(format);
-    let start = 16 + size * place;
-    write_entry(
-        format,
-        entry.id,
-        &entry.rec,
-        &mut block[start..start + size],
-    );
 }

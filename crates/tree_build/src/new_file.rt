@@ -1,6 +1,7 @@
 ghost use Rattle.std.specs.Prelude.{◌≡◌, ◌≢◌, ◌+◌, ◌*◌, ◌^◌, ◌<◌, ◌≤◌, ◌++◌, ℕ, vec_len, take, drop, IfOk, OnOk};
 ghost use Rattle.entry_codec.specs.Header.{AreOf, header_of};
 ghost use Rattle.quota_types.specs.Bytes.{byte_at};
+ghost use Rattle.quota_types.specs.Format.{IsTreeFormat};
 
 use entry_codec::{Header, write_header};
 use quota_types::Format;
@@ -19,7 +20,7 @@ pub(crate) struct NewFile {
 impl NewFile {
     /// The file that has a header and an empty root.
     pub(crate) fn new(alloc: Global, header: &Header) -> Result<NewFile, AllocError>
-        requires tree { header.now.format ≢ Format.V1 }
+        requires tree { IsTreeFormat header.now.format }
         requires two { 2 ≤ header.now.blocks }
         requires block_grace { header.now.grace.block < 2 ^ 32 }
         requires inode_grace { header.now.grace.inode < 2 ^ 32 }

@@ -16,6 +16,7 @@ use Rattle.tree_check.specs.Check.{IsChecked}
 use Rattle.tree_build.specs.Defect.{IsTreeDefect}
 use Rattle.tree_check.specs.Found.{AreRoles, IsLengthDefect, IsListedDefect, IsRoleDefect}
 use Rattle.tree_check.specs.Groups.{AreGroupsOf}
+use Rattle.tree_build.specs.Loose.{nothing_loose}
 use Rattle.tree_build.specs.Roles.{Chained, Filled}
 use Rattle.quota_radix.specs.Tree.{leaves}
 use Rattle.tree_build.specs.TreeFile.{IsSound, TreeStandsFor}
@@ -68,7 +69,7 @@ stands_for_none : (file : List ℕ) (header : Header) → AreOf header (header_o
 stands_for_none file header are damage defect value stands =
     let found : Some value.format ≡ Some header.format = sym stands.version ∙ are.version in
     let same : value.format ≡ header.format = cc in
-    no_defect_of_sound header.format file (header_of file) (subst (λ (f : Format). IsSound f file (header_of file)) same stands.sound) damage defect
+    no_defect_of_sound header.format file (header_of file) (subst (λ (f : Format). IsSound f file (length file) (header_of file)) same stands.sound) damage defect
 
 -- a file for whose damage a check was refused stands for no value
 pub only_damaged : {T : Type 0} (before now : ℕ) (tells : Bool) (file : List ℕ) (header : Header) (result : Result T CheckFault)
@@ -81,7 +82,7 @@ only_damaged before now tells file header (Err Memory) is = λ named same. absur
 
 -- a file whose length, roles and lists were checked
 pub is_checked : (file : List ℕ) (header : Header) (roles : Roles) → AreOf header (header_of file) → 2 ≤ header.blocks → (2 < header.blocks → 1024 * header.blocks ≤ length file)
-    → AreRoles file header.blocks header.free roles → Chained None header.format file header.blocks header.first → Filled None header.format file header.blocks
+    → AreRoles file header.blocks header.free roles → Chained nothing_loose header.format file header.blocks header.first → Filled nothing_loose header.format file header.blocks
     → IsChecked file (record { used = roles.used; free = roles.free })
 is_checked file header roles are two long found chained filled =
     let value = sound_value file header.kind header.format are.magic are.version (sound file header are two long found.one_role chained filled) in record {

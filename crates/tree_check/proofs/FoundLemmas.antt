@@ -1,5 +1,5 @@
 -- What the parts of a check find, as the damages of a file and as the parts of a sound one.
-use Rattle.std.proofs.Common.{IsTrue, true≢false, ◌≡◌, ℕ, ◌<◌, ◌≤◌, Bool, true, ◌&&◌, nat_le, if◌then◌else◌, List, [], ◌∷◌, ◌++◌, length, get_or, map, Option, refl, sym, ap, subst, ◌∙◌, inl, inr, arith, zero-le, None}
+use Rattle.std.proofs.Common.{IsTrue, true≢false, ◌≡◌, ℕ, ◌<◌, ◌≤◌, Bool, true, ◌&&◌, nat_le, if◌then◌else◌, List, [], ◌∷◌, ◌++◌, length, get_or, map, Option, refl, sym, ap, subst, ◌∙◌, inl, inr, arith, zero-le}
 use Rattle.std.proofs.lemmas.Bool.{cases_Bool, cases_lt, le-leb, leb-true}
 use Rattle.std.proofs.lemmas.List.{get_or_past}
 use Rattle.std.proofs.lemmas.List.FromFn.{get_or-map-range_with_len, length-map-range_with_len}
@@ -13,16 +13,17 @@ use Rattle.file_blocks.specs.declared.check_fault.CheckFault.{CheckFault}
 use Rattle.file_blocks.specs.declared.check_fault.CheckFault.TheVariants.{Store, Damage as Damaged, Memory}
 use Rattle.free_chains.specs.declared.link.Link.{Link}
 use Rattle.quota_radix.specs.declared.tree_path.TreePath.{TreePath}
-use Rattle.quota_blocks.specs.Block.{block_of, previous_of, stated_count, bytes_of, leads}
+use Rattle.quota_blocks.specs.Block.{block_of, previous_of, bytes_of, leads}
 use Rattle.free_chains.specs.Chain.{IsChain}
 use Rattle.quota_blocks.specs.CheckFault.{IsCheckFault}
 use Rattle.tree_build.specs.Compared.{AreEntriesOf, HasEntriesOf, IsDataDefect, IsEntryDefect, leading_ids, is_room, rooms}
 use Rattle.quota_types.specs.Times.{StandsIn, times}
 use Rattle.tree_build.specs.Defect.{IsDefectOf, IsTreeDefect}
 use Rattle.quota_types.specs.Damage.{NamesItsId}
-use Rattle.tree_build.specs.Entries.{has_unused, used_ids}
+use Rattle.tree_build.specs.Entries.{has_unused, stated_count, used_ids}
 use Rattle.tree_check.specs.Found.{HasNoEmptyBlock, IsListedDefect}
 use Rattle.tree_check.specs.Groups.{AreGroupsOf}
+use Rattle.tree_build.specs.Loose.{nothing_loose}
 use Rattle.tree_build.specs.Roles.{Chained, Filled, has_room}
 use Rattle.quota_radix.specs.Tree.{data_blocks, ids_at, is_data, leaves, level}
 use Rattle.free_chains.specs.Walk.{AreLinksTo, linked_blocks, previous_in}
@@ -51,13 +52,13 @@ data_stands : (file : List ℕ) (blocks block : ℕ) → is_data file blocks blo
 data_stands file blocks block is = omega (arith, times-data_blocks file blocks block, ap {B = ℕ} (λ (b : Bool). if b then 1 else 0) is)
 
 room_there : (format : Format) (file : List ℕ) (blocks : ℕ) (groups : List (List ℕ)) (block : ℕ) → AreGroupsOf blocks (leaves file blocks) groups → block < blocks
-    → is_room format file groups block ≡ has_room None format file blocks block
+    → is_room format file groups block ≡ has_room nothing_loose format file blocks block
 room_there format file blocks groups block are low =
     ap (λ (ids : List ℕ). nat_le 1 (length ids) && has_unused format (block_of file block)) (ids_there blocks (leaves file blocks) groups block are low)
     ∙ ap (λ (n : ℕ). nat_le 1 n && has_unused format (block_of file block)) (length_ids (leaves file blocks) block)
 
 -- a data block with room is a block
-room_within : (format : Format) (file : List ℕ) (blocks block : ℕ) → has_room None format file blocks block ≡ true → block < blocks
+room_within : (format : Format) (file : List ℕ) (blocks block : ℕ) → has_room nothing_loose format file blocks block ≡ true → block < blocks
 room_within format file blocks block room = elim (cases_Bool (is_data file blocks block)) [
   | inl is ↦ data_within file blocks block is
   | inr other ↦ absurd (true≢false (sym room ∙ ap (λ (b : Bool). b && has_unused format (block_of file block)) other))
@@ -65,7 +66,7 @@ room_within format file blocks block room = elim (cases_Bool (is_data file block
 
 -- the data blocks with room, as the check finds them
 times_rooms : (format : Format) (file : List ℕ) (blocks : ℕ) (groups : List (List ℕ)) (block : ℕ) → AreGroupsOf blocks (leaves file blocks) groups
-    → times (rooms format file groups blocks) block ≡ (if has_room None format file blocks block then 1 else 0)
+    → times (rooms format file groups blocks) block ≡ (if has_room nothing_loose format file blocks block then 1 else 0)
 times_rooms format file blocks groups block are = elim (cases_lt block blocks) [
   | inl low ↦
       let same = room_there format file blocks groups block are low in
@@ -81,7 +82,7 @@ times_rooms format file blocks groups block are = elim (cases_lt block blocks) [
         | inl room ↦ times-filter-yes (is_room format file groups) (range_with_len 0 blocks) block room ∙ times-range-high 0 blocks block (omega arith)
         | inr none ↦ times-filter-no (is_room format file groups) (range_with_len 0 blocks) block none
       ] in
-      gone ∙ elim (cases_Bool (has_room None format file blocks block)) [
+      gone ∙ elim (cases_Bool (has_room nothing_loose format file blocks block)) [
         | inl room ↦ absurd (let low = room_within format file blocks block room in omega arith)
         | inr none ↦ ap (λ (b : Bool). if b then 1 else 0) (sym none)
       ]
@@ -89,7 +90,7 @@ times_rooms format file blocks groups block are = elim (cases_lt block blocks) [
 
 pub chained : (format : Format) (file : List ℕ) (blocks first : ℕ) (groups : List (List ℕ)) (links : List Link) → AreGroupsOf blocks (leaves file blocks) groups
     → IsChain file blocks first (linked_blocks links) 0 → AreLinksTo file first links 0
-    → AreListed (rooms format file groups blocks) (linked_blocks links) (previous_in links) → Chained None format file blocks first
+    → AreListed (rooms format file groups blocks) (linked_blocks links) (previous_in links) → Chained nothing_loose format file blocks first
 chained format file blocks first groups links are is_chain linked listed = record {
   chain = linked_blocks links;
   is_chain = is_chain;
@@ -98,7 +99,7 @@ chained format file blocks first groups links are is_chain linked listed = recor
 }
 
 pub filled : (format : Format) (file : List ℕ) (blocks : ℕ) (groups : List (List ℕ)) → AreGroupsOf blocks (leaves file blocks) groups
-    → ((block : ℕ) → block < blocks → HasEntriesOf format file block (leading_ids groups block)) → HasNoEmptyBlock file blocks → Filled None format file blocks
+    → ((block : ℕ) → block < blocks → HasEntriesOf format file block (leading_ids groups block)) → HasNoEmptyBlock file blocks → Filled nothing_loose format file blocks
 filled format file blocks groups are entries not_empty =
     let here : (block : ℕ) → is_data file blocks block ≡ true → AreEntriesOf (stated_count file block) (used_ids format (block_of file block)) (ids_at (leaves file blocks) block) = λ block is.
     let low = data_within file blocks block is in
@@ -168,7 +169,7 @@ list_defect_of format file numbers groups chain previous block id ForeignInChain
     end = 0;
     is_chain = is_chain;
     listed = is.0;
-    foreign = elim (cases_Bool (has_room None format file numbers.blocks block)) [
+    foreign = elim (cases_Bool (has_room nothing_loose format file numbers.blocks block)) [
       | inl room ↦ absurd (omega (arith, is.1, times_rooms format file numbers.blocks groups block are, ap {B = ℕ} (λ (b : Bool). if b then 1 else 0) room))
       | inr none ↦ none
     ];
@@ -180,7 +181,7 @@ list_defect_of format file numbers groups chain previous block id MissingInChain
     chain = chain;
     end = 0;
     is_chain = is_chain;
-    room = elim (cases_Bool (has_room None format file numbers.blocks block)) [
+    room = elim (cases_Bool (has_room nothing_loose format file numbers.blocks block)) [
       | inl room ↦ room
       | inr none ↦ absurd (omega (arith, is.0, times_rooms format file numbers.blocks groups block are, ap {B = ℕ} (λ (b : Bool). if b then 1 else 0) none))
     ];

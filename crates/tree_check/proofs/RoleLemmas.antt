@@ -1,5 +1,5 @@
 -- The roles of a file's blocks, as a check finds them one after another.
-use Rattle.std.proofs.Common.{◌≡◌, ◌≢◌, ℕ, ◌<◌, ◌≤◌, Bool, true, false, if◌then◌else◌, IsTrue, MatchBool, List, [], ◌∷◌, ◌++◌, length, refl, sym, ap, subst, ◌∙◌, inl, inr, arith, append_assoc, Option, None}
+use Rattle.std.proofs.Common.{◌≡◌, ◌≢◌, ℕ, ◌<◌, ◌≤◌, Bool, true, false, if◌then◌else◌, IsTrue, MatchBool, List, [], ◌∷◌, ◌++◌, length, refl, sym, ap, subst, ◌∙◌, inl, inr, arith, append_assoc, Option}
 use Rattle.std.proofs.lemmas.Bool.{cases_lt, le-ltb, lt-ltb}
 use Rattle.entry_codec.specs.Header.{HeaderNumbers}
 use Rattle.quota_types.specs.declared.damage.Damage.{Damage}
@@ -22,6 +22,7 @@ use Rattle.tree_check.proofs.ByBlockLemmas.{same_groups}
 use Rattle.tree_check.proofs.FoundLemmas.{same_bytes}
 use Rattle.tree_check.specs.declared.roles.Roles.{Roles}
 use Rattle.quota_radix.specs.Levels.{AreTreeBlocksWhole, IsSecondRole, IsTreeFault, IsTreeFaultOf}
+use Rattle.tree_build.specs.Loose.{nothing_loose}
 use Rattle.tree_build.specs.Roles.{OneRole, roles}
 use Rattle.quota_radix.specs.Tree.{data_blocks, ids_at, leaves, lower_blocks, tree_blocks}
 use Rattle.quota_blocks.specs.Block.{leads, bytes_of}
@@ -40,7 +41,7 @@ header_marked blocks flags now true two none added = (added blocks [] none (omeg
 header_marked blocks flags now false two none added = absurd (let twice = added blocks [] none (omega arith) in omega (arith, twice))
 
 second_role_of : (format : Format) (file : List ℕ) (numbers : HeaderNumbers) (free : List ℕ) (end : ℕ) (front rest : List ℕ) (damage : Damage)
-    → IsChain file numbers.blocks numbers.free free end → front ++ rest ≡ roles None file numbers.blocks free → IsSecondRole front damage → IsTreeDefect format file numbers damage
+    → IsChain file numbers.blocks numbers.free free end → front ++ rest ≡ roles nothing_loose file numbers.blocks free → IsSecondRole front damage → IsTreeDefect format file numbers damage
 second_role_of format file numbers free end front rest damage is_free all is =
     subst (λ (kind : DamageKind). IsDefectOf format file numbers kind damage.block damage.id × NamesItsId kind damage.id) (sym is.kind) (
       record {
@@ -54,11 +55,11 @@ second_role_of format file numbers free end front rest damage is_free all is =
 
 -- a second role among those that were found so far is one of the file
 pub second_role : (file : List ℕ) (blocks free_head : ℕ) (free : List ℕ) (end : ℕ) (front rest : List ℕ) (damage : Damage)
-    → IsChain file blocks free_head free end → front ++ rest ≡ roles None file blocks free → IsSecondRole front damage → IsRoleDefect file blocks free_head damage
+    → IsChain file blocks free_head free end → front ++ rest ≡ roles nothing_loose file blocks free → IsSecondRole front damage → IsRoleDefect file blocks free_head damage
 second_role file blocks free_head free end front rest damage is_free all is format numbers same same_free =
     second_role_of format file numbers free end front rest damage
     (subst (λ (b : ℕ). IsChain file b numbers.free free end) (sym same) (subst (λ (h : ℕ). IsChain file blocks h free end) (sym same_free) is_free))
-    (subst (λ (b : ℕ). front ++ rest ≡ roles None file b free) (sym same) all) is
+    (subst (λ (b : ℕ). front ++ rest ≡ roles nothing_loose file b free) (sym same) all) is
 
 -- the damages of the tree
 tree_fault_of : (format : Format) (file : List ℕ) (numbers : HeaderNumbers) (block id : ℕ) (kind : DamageKind) → id ≡ 0 → IsTreeFaultOf file numbers.blocks (0 ∷ []) kind block
@@ -110,27 +111,27 @@ tree_refused before now tells file blocks free_head flags Memory are is = tt
 
 -- a block without a role
 no_role_of : (format : Format) (file : List ℕ) (numbers : HeaderNumbers) (free : List ℕ) (end block : ℕ) → IsChain file numbers.blocks numbers.free free end
-    → block < numbers.blocks → times (roles None file numbers.blocks free) block ≡ 0 → IsTreeDefect format file numbers (record { kind = NoRole; block = block; id = 0 })
+    → block < numbers.blocks → times (roles nothing_loose file numbers.blocks free) block ≡ 0 → IsTreeDefect format file numbers (record { kind = NoRole; block = block; id = 0 })
 no_role_of format file numbers free end block is_free low none = (record { free = free; end = end; is_free = is_free; inside = low; none = none }, refl)
 
-pub no_role : (file : List ℕ) (blocks free_head : ℕ) (free : List ℕ) (end block : ℕ) → IsChain file blocks free_head free end → block < blocks → times (roles None file blocks free) block ≡ 0
+pub no_role : (file : List ℕ) (blocks free_head : ℕ) (free : List ℕ) (end block : ℕ) → IsChain file blocks free_head free end → block < blocks → times (roles nothing_loose file blocks free) block ≡ 0
     → IsRoleDefect file blocks free_head (record { kind = NoRole; block = block; id = 0 })
 no_role file blocks free_head free end block is_free low none format numbers same same_free =
     no_role_of format file numbers free end block
     (subst (λ (b : ℕ). IsChain file b numbers.free free end) (sym same) (subst (λ (h : ℕ). IsChain file blocks h free end) (sym same_free) is_free))
     (subst (λ (b : ℕ). block < b) (sym same) low)
-    (subst (λ (b : ℕ). times (roles None file b free) block ≡ 0) (sym same) none)
+    (subst (λ (b : ℕ). times (roles nothing_loose file b free) block ≡ 0) (sym same) none)
 
 -- each block has one role
 one_role : (file : List ℕ) (blocks free_head : ℕ) (free : List ℕ) (flags : List Bool) → AreTreeBlocksWhole file blocks → IsChain file blocks free_head free 0
-    → AreFlagsOf blocks flags (roles None file blocks free) → ((n : ℕ) → n < blocks → StandsIn (roles None file blocks free) n) → OneRole None file blocks free_head
+    → AreFlagsOf blocks flags (roles nothing_loose file blocks free) → ((n : ℕ) → n < blocks → StandsIn (roles nothing_loose file blocks free) n) → OneRole nothing_loose file blocks free_head
 one_role file blocks free_head free flags whole is_free are each = record {
   references = whole.references;
   free = free;
   is_free = is_free;
   once = λ block. elim (cases_lt block blocks) [
     | inl low ↦ omega (arith, each block low, are.distinct block, ap {B = ℕ} (λ (b : Bool). if b then 1 else 0) (lt-ltb block blocks low))
-    | inr high ↦ elim (cases_lt 0 (times (roles None file blocks free) block)) [
+    | inr high ↦ elim (cases_lt 0 (times (roles nothing_loose file blocks free) block)) [
       | inl some ↦ absurd (omega (arith, are.inside block some, high))
       | inr none ↦ omega (arith, none, ap {B = ℕ} (λ (b : Bool). if b then 1 else 0) (le-ltb block blocks high))
     ]
@@ -138,13 +139,13 @@ one_role file blocks free_head free flags whole is_free are each = record {
 }
 
 one_role-free : (file : List ℕ) (blocks free_head : ℕ) (free : List ℕ) (flags : List Bool) (whole : AreTreeBlocksWhole file blocks) (is_free : IsChain file blocks free_head free 0)
-    (are : AreFlagsOf blocks flags (roles None file blocks free)) (each : (n : ℕ) → n < blocks → StandsIn (roles None file blocks free) n)
+    (are : AreFlagsOf blocks flags (roles nothing_loose file blocks free)) (each : (n : ℕ) → n < blocks → StandsIn (roles nothing_loose file blocks free) n)
     → length (one_role file blocks free_head free flags whole is_free are each).free ≡ length free
 unfolding one_role
 one_role-free file blocks free_head free flags whole is_free are each = refl
 
 -- the root is no block below it
-none_empty : (file : List ℕ) (blocks : ℕ) (free : List ℕ) (flags : List Bool) → AreTreeBlocksWhole file blocks → AreFlagsOf blocks flags (roles None file blocks free) → HasNoEmptyBlock file blocks
+none_empty : (file : List ℕ) (blocks : ℕ) (free : List ℕ) (flags : List Bool) → AreTreeBlocksWhole file blocks → AreFlagsOf blocks flags (roles nothing_loose file blocks free) → HasNoEmptyBlock file blocks
 none_empty file blocks free flags whole are block lower =
     let not_root : block ≢ 1 = λ e.
     let again : StandsIn (lower_blocks file blocks) 1 = subst (λ (b : ℕ). StandsIn (lower_blocks file blocks) b) e lower in
@@ -161,7 +162,7 @@ none_empty file blocks free flags whole are block lower =
 
 -- the roles that a check answers are those of the file
 pub are_roles : (file : List ℕ) (blocks free_head : ℕ) (free : List ℕ) (flags : List Bool) (found : List TreePath) (checked : Roles) → found ≡ leaves file blocks
-    → AreTreeBlocksWhole file blocks → IsChain file blocks free_head free 0 → AreFlagsOf blocks flags (roles None file blocks free) → ((n : ℕ) → n < blocks → StandsIn (roles None file blocks free) n)
+    → AreTreeBlocksWhole file blocks → IsChain file blocks free_head free 0 → AreFlagsOf blocks flags (roles nothing_loose file blocks free) → ((n : ℕ) → n < blocks → StandsIn (roles nothing_loose file blocks free) n)
     → AreGroupsOf blocks found (groups_of blocks checked.leaves.items) → checked.used ≡ length found → checked.free ≡ length free → AreRoles file blocks free_head checked
 are_roles file blocks free_head free flags found checked are_leaves whole is_free are each groups used count = record {
   one_role = one_role file blocks free_head free flags whole is_free are each;
@@ -214,7 +215,7 @@ pub roles_marked : (R : ℕ → List ℕ → Type 0) (tells : Bool) (file : List
     → ((led : List TreePath) (numbers : List ℕ) → AreGroupsOf blocks led groups → AreFlagsOf blocks flags numbers → AreFlagsOf blocks now (numbers ++ named_blocks blocks led))
     → given ≡ links → ((n : ℕ) → StandsIn (linked_blocks links) n → IsTrue (leads blocks n))
     → ((all : ℕ) (ns : List ℕ) → AreFlagsOf all now ns → ((n : ℕ) → StandsIn (linked_blocks given) n → n < all) → R all (ns ++ linked_blocks given))
-    → R blocks (roles None file blocks (linked_blocks links))
+    → R blocks (roles nothing_loose file blocks (linked_blocks links))
 roles_marked R tells file blocks flags now found groups links given are told more same inside marks =
     let led : AreFlagsOf blocks now ((0 ∷ tree_blocks file blocks) ++ data_blocks file blocks) =
     more (leaves file blocks) (0 ∷ tree_blocks file blocks) (subst (λ (ps : List TreePath). AreGroupsOf blocks ps groups) (are.are_leaves told) are.groups) (are.marked told) in

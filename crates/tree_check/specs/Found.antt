@@ -1,5 +1,5 @@
 -- What the parts of a check find of a file.
-use Rattle.std.specs.Prelude.{◌≡◌, ℕ, List, length, None}
+use Rattle.std.specs.Prelude.{◌≡◌, ℕ, List, length}
 use Rattle.entry_codec.specs.Header.{HeaderNumbers}
 use Rattle.quota_types.specs.declared.damage.Damage.{Damage}
 use Rattle.quota_types.specs.declared.file_kind.Format.{Format}
@@ -8,6 +8,7 @@ use Rattle.quota_types.specs.Times.{StandsIn}
 use Rattle.tree_build.specs.Defect.{IsTreeDefect}
 use Rattle.tree_check.specs.Groups.{AreGroupsOf, groups_of}
 use Rattle.quota_radix.specs.TreeDefect.{IsEmpty}
+use Rattle.tree_build.specs.Loose.{nothing_loose}
 use Rattle.tree_build.specs.Roles.{OneRole}
 use Rattle.quota_radix.specs.Tree.{leaves, lower_blocks}
 
@@ -18,7 +19,7 @@ HasNoEmptyBlock file blocks = (block : ℕ) → StandsIn (lower_blocks file bloc
 -- each block of a file has one role, no tree block below the root is empty, and these are the identifiers that lead to
 -- each block, their number, and that of the free blocks
 pub record AreRoles (file : List ℕ) (blocks free_head : ℕ) (roles : Roles) : Type 0 where
-  pub one_role : OneRole None file blocks free_head
+  pub one_role : OneRole nothing_loose file blocks free_head
   pub not_empty : HasNoEmptyBlock file blocks
   pub groups : AreGroupsOf blocks (leaves file blocks) (groups_of blocks roles.leaves.items)
   pub used : roles.used ≡ length (leaves file blocks)

@@ -4,6 +4,7 @@ pub mod Found
 pub mod Groups
 pub mod Reads
 pub use Rattle.quota_types.specs.Damage
+pub use Rattle.quota_types.specs.Format
 pub use Rattle.quota_types.specs.Times
 pub use Rattle.quota_blocks.specs.Block
 pub use Rattle.quota_blocks.specs.CheckFault

@@ -1,10 +1,11 @@
 ghost use Rattle.std.specs.Prelude.{◌≡◌, ◌≢◌, ◌+◌, ◌≤◌, IsTrue, OnOk, IfOk, IfErr, is_ok};
-ghost use Rattle.quota_blocks.specs.Block.{block_of, bytes_of, stated_count};
+ghost use Rattle.quota_blocks.specs.Block.{block_of, bytes_of};
 ghost use Rattle.quota_blocks.specs.CheckFault.{IsCheckFault};
 ghost use Rattle.quota_blocks.specs.Frame.{OnlyReads};
 ghost use Rattle.quota_types.specs.Damage.{NamesItsId};
+ghost use Rattle.quota_types.specs.Format.{IsTreeFormat};
 ghost use Rattle.tree_build.specs.Compared.{AreEntriesOf, IsEntryDefectAt};
-ghost use Rattle.tree_build.specs.Entries.{has_unused, used_ids};
+ghost use Rattle.tree_build.specs.Entries.{has_unused, stated_count, used_ids};
 
 use quota_blocks::{BLOCK, CheckFault, MemStore, Store, block_of, read_block, whole_block};
 use quota_types::{Damage, Format};
@@ -21,7 +22,7 @@ pub(crate) trait ChecksBlock<S: Store> {
         number: u32,
         ids: &[u32],
     ) -> Result<bool, CheckFault>
-        requires tree { format ≢ Format.V1 }
+        requires tree { IsTreeFormat format }
         ensures entries { OnOk result (IsTrue S.tells
             → AreEntriesOf (stated_count (bytes_of ((S.seen store.old).files name.now)) number)
             (used_ids format (block_of (bytes_of ((S.seen store.old).files name.now)) number)) ids.now) }
@@ -89,7 +90,7 @@ fn held_bytes<'a>(store: &'a MemStore, name: &str) -> &'a [u8]
 /// Compares the entries of a block of a file with the identifiers that lead to it, and answers whether one is unused. The
 /// block is copied only where the file has not the whole of it.
 fn compare_held(format: Format, file: &[u8], number: u32, ids: &[u32]) -> Result<bool, Damage>
-    requires tree { format ≢ Format.V1 }
+    requires tree { IsTreeFormat format }
     ensures entries { OnOk result (AreEntriesOf (stated_count file.now number)
         (used_ids format (block_of file.now number)) ids.now) }
     ensures room { IfOk result (λ has_room. has_room ≡ has_unused format (block_of file.now number)) }
@@ -107,7 +108,7 @@ fn compare_held(format: Format, file: &[u8], number: u32, ids: &[u32]) -> Result
 /// does not pay for the copy.
 #[inline(never)]
 fn compare_past_end(format: Format, file: &[u8], number: u32, ids: &[u32]) -> Result<bool, Damage>
-    requires tree { format ≢ Format.V1 }
+    requires tree { IsTreeFormat format }
     ensures entries { OnOk result (AreEntriesOf (stated_count file.now number)
         (used_ids format (block_of file.now number)) ids.now) }
     ensures room { IfOk result (λ has_room. has_room ≡ has_unused format (block_of file.now number)) }

@@ -1,5 +1,6 @@
 ghost use Rattle.std.specs.Prelude.{◌≡◌, ◌≢◌, ◌+◌, ◌*◌, ◌<◌, ◌≤◌, ℕ, [], length, Some, IsTrue, IfOk, IfErr, OnOk, is_ok};
 ghost use Rattle.entry_codec.specs.Header.{AreOf, header_of};
+ghost use Rattle.quota_types.specs.Format.{IsTreeFormat};
 ghost use Rattle.quota_types.specs.declared.damage.Damage.{Damage};
 ghost use Rattle.quota_types.specs.declared.file_kind.Format.TheVariants.{V1};
 ghost use Rattle.quota_blocks.specs.Frame.{OnlyReads};
@@ -40,7 +41,7 @@ pub fn check<S: Store>(
     name: &str,
     header: &Header,
 ) -> Result<Checked, CheckFault>
-    requires tree { header.now.format ≢ V1 }
+    requires tree { IsTreeFormat header.now.format }
     requires two { 2 ≤ header.now.blocks }
     ensures checked { IfOk result (λ checked. IsTrue S.tells
         → AreOf header.now (header_of (bytes_of ((S.seen store.old).files name.now)))
@@ -67,7 +68,7 @@ fn check_by<S: Store, B: ChecksBlock<S>>(
     checks: &mut B,
     header: &Header,
 ) -> Result<Checked, CheckFault>
-    requires tree { header.now.format ≢ V1 }
+    requires tree { IsTreeFormat header.now.format }
     requires two { 2 ≤ header.now.blocks }
     ensures checked { IfOk result (λ checked. IsTrue S.tells
         → AreOf header.now (header_of (bytes_of ((S.seen store.old).files name.now)))
@@ -98,7 +99,7 @@ fn check_by<S: Store, B: ChecksBlock<S>>(
 ///
 /// `Damage` where they are damaged, and `Memory` where there was not enough memory.
 pub fn check_loaded(alloc: Global, bytes: Vec<u8>, header: &Header) -> Result<Vec<u8>, CheckFault>
-    requires tree { header.now.format ≢ V1 }
+    requires tree { IsTreeFormat header.now.format }
     requires two { 2 ≤ header.now.blocks }
     ensures same { IfOk result (λ checked. checked.items ≡ bytes.items) }
     ensures stands { OnOk result (AreOf header.now (header_of bytes.items)

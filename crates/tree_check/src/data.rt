@@ -1,12 +1,13 @@
 ghost use Rattle.std.specs.Prelude.{◌≡◌, ◌≢◌, ℕ, List, ◌+◌, ◌<◌, ◌≤◌, ◌++◌, ◌∷◌, [], ◌&&◌, nat_le, if◌then◌else◌, map, take, length, IsTrue, IfOk, OnOk, IfErr, MatchOption, is_ok};
 ghost use Rattle.quota_blocks.specs.Frame.{OnlyReads};
-ghost use Rattle.quota_blocks.specs.Block.{block_of, stated_count, bytes_of};
+ghost use Rattle.quota_blocks.specs.Block.{block_of, bytes_of};
 ghost use Rattle.quota_blocks.specs.BlockSet.{AreFlagsOf};
 ghost use Rattle.quota_blocks.specs.CheckFault.{IsCheckFault};
 ghost use Rattle.tree_build.specs.Compared.{AreEntriesOf, HasEntriesOf, IsDataDefect, IsEntryDefectAt, leading_ids, rooms};
+ghost use Rattle.quota_types.specs.Format.{IsTreeFormat};
 ghost use Rattle.quota_types.specs.Times.{StandsIn, times};
 ghost use Rattle.quota_types.specs.Damage.{NamesItsId};
-ghost use Rattle.tree_build.specs.Entries.{has_unused, used_ids};
+ghost use Rattle.tree_build.specs.Entries.{has_unused, stated_count, used_ids};
 ghost use Rattle.tree_check.specs.Groups.{AreByBlock, groups_of};
 ghost use Rattle.tree_check.specs.Reads.{led_blocks};
 ghost use Rattle.tree_check.specs.EntryList.{AreListed, IsListDefect, NamesOther};
@@ -30,7 +31,7 @@ pub(crate) fn check_data<S: Store, B: ChecksBlock<S>>(
     blocks: u32,
     leaves: &[TreePath],
 ) -> Result<BlockSet, CheckFault>
-    requires tree { format ≢ Format.V1 }
+    requires tree { IsTreeFormat format }
     requires by_block { AreByBlock leaves.now }
     ensures entries { OnOk result (IsTrue S.tells → (block : ℕ) → block < blocks
         → HasEntriesOf format (bytes_of ((S.seen store.old).files name.now)) block
@@ -76,7 +77,7 @@ fn check_group<S: Store, B: ChecksBlock<S>>(
     ids: &[u32],
     room: &mut BlockSet,
 ) -> Result<(), CheckFault>
-    requires tree { format ≢ Format.V1 }
+    requires tree { IsTreeFormat format }
     ensures entries { OnOk result (IsTrue S.tells
         → HasEntriesOf format (bytes_of ((S.seen store.old).files name.now)) number ids.now) }
     ensures room { OnOk result (IsTrue S.tells → (blocks : ℕ) → (numbers : List ℕ)

@@ -1,4 +1,5 @@
-ghost use Rattle.std.specs.Prelude.{◌≡◌, ◌≢◌, ◌+◌, ◌≤◌, length, map, IsTrue, OnOk, IfErr, is_ok, None};
+ghost use Rattle.std.specs.Prelude.{◌≡◌, ◌≢◌, ◌+◌, ◌≤◌, length, map, IsTrue, OnOk, IfErr, is_ok};
+ghost use Rattle.quota_types.specs.Format.{IsTreeFormat};
 ghost use Rattle.quota_types.specs.declared.file_kind.Format.TheVariants.{V1};
 ghost use Rattle.quota_blocks.specs.Frame.{OnlyReads};
 ghost use Rattle.quota_blocks.specs.CheckFault.{IsCheckFault};
@@ -6,6 +7,7 @@ ghost use Rattle.quota_blocks.specs.Block.{bytes_of};
 ghost use Rattle.tree_check.specs.Found.{HasNoEmptyBlock, IsListedDefect};
 ghost use Rattle.tree_check.specs.Groups.{AreByBlock, AreGroupsOf, groups_of};
 ghost use Rattle.tree_check.specs.Reads.{led_blocks};
+ghost use Rattle.tree_build.specs.Loose.{nothing_loose};
 ghost use Rattle.tree_build.specs.Roles.{Chained, Filled};
 ghost use Rattle.quota_radix.specs.Tree.{leaves};
 
@@ -26,17 +28,17 @@ pub(crate) fn check_lists<S: Store, B: ChecksBlock<S>>(
     header: &Header,
     by_block: &[TreePath],
 ) -> Result<(), CheckFault>
-    requires tree { header.now.format ≢ V1 }
+    requires tree { IsTreeFormat header.now.format }
     requires by_block { AreByBlock by_block.now }
     ensures chained { OnOk result (IsTrue S.tells
         → AreGroupsOf header.now.blocks (leaves (bytes_of ((S.seen store.old).files name.now)) header.now.blocks)
         (groups_of header.now.blocks by_block.now)
-        → Chained None header.now.format (bytes_of ((S.seen store.old).files name.now)) header.now.blocks header.now.first) }
+        → Chained nothing_loose header.now.format (bytes_of ((S.seen store.old).files name.now)) header.now.blocks header.now.first) }
     ensures filled { OnOk result (IsTrue S.tells
         → AreGroupsOf header.now.blocks (leaves (bytes_of ((S.seen store.old).files name.now)) header.now.blocks)
         (groups_of header.now.blocks by_block.now)
         → HasNoEmptyBlock (bytes_of ((S.seen store.old).files name.now)) header.now.blocks
-        → Filled None header.now.format (bytes_of ((S.seen store.old).files name.now)) header.now.blocks) }
+        → Filled nothing_loose header.now.format (bytes_of ((S.seen store.old).files name.now)) header.now.blocks) }
     ensures refused { IfErr result (IsCheckFault (S.seen store.old).faults (S.seen store.new).faults
         (λ damage. IsTrue S.tells
         → AreGroupsOf header.now.blocks (leaves (bytes_of ((S.seen store.old).files name.now)) header.now.blocks)

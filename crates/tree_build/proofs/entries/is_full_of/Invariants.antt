@@ -1,11 +1,11 @@
-use Rattle.std.proofs.Common.{◌≡◌, false, map, take}
-use Rattle.std.specs.List.{filter_map, list_any, range_with_len}
+use Rattle.std.proofs.Common.{◌≡◌, false, take}
+use Rattle.std.specs.List.{flat_map, list_any, range_with_len}
 use Rattle.entry_codec.specs.Entry.{is_unused}
-use Rattle.tree_build.specs.Entries.{entry_bytes, entry_of}
+use Rattle.tree_build.specs.Entries.{entry_bytes, id_in}
 use Rattle.tree_build.proofs.entries.is_full_of.Given as goal
 
 abbrev pub invariant-loop-place : goal.invariant-loop-place
 invariant-loop-place l = record {
-  ids : take l.place l.ids ≡ map (λ entry. entry.id) (filter_map (λ place. entry_of l.format (entry_bytes l.format l.block place)) (range_with_len 0 l.place));
+  ids : take l.place l.ids ≡ flat_map (λ place. id_in l.format (entry_bytes l.format l.block place)) (range_with_len 0 l.place);
   none : false ≡ list_any (λ place. is_unused (entry_bytes l.format l.block place)) (range_with_len 0 l.place);
 }

@@ -1,4 +1,4 @@
-use Rattle.std.proofs.Common.{◌≡◌, ◌≤◌, Some, None, sym, subst, ◌∙◌, arith}
+use Rattle.std.proofs.Common.{◌≡◌, ◌≤◌, length, Some, None, sym, subst, ◌∙◌, arith}
 use Rattle.std.proofs.lemmas.Bool.Decides.{nat_tests}
 use Rattle.entry_codec.specs.Header.{HeaderNumbers, header_fault, header_of, magic_of}
 use Rattle.quota_types.specs.declared.file_kind.Format.{Format}
@@ -19,7 +19,7 @@ returns c file kind format fault version =
       λ meaning.
           let found : Some meaning.0.format ≡ Some format = sym meaning.2.version ∙ version in
           let same : meaning.0.format ≡ format = cc in
-          no_defect_of_sound format file (header_of file) (subst (λ (f : Format). IsSound f file (header_of file)) same meaning.2.sound),
+          no_defect_of_sound format file (header_of file) (subst (λ (f : Format). IsSound f file (length file) (header_of file)) same meaning.2.sound),
       λ no_defect.
           let value = sound_value file kind format header.0 version (sound_of_no_defect format file (header_of file) header.1 no_defect) in
           (value.0, value.2, value.1),

@@ -1,8 +1,9 @@
-use Rattle.std.proofs.Common.{ℕ, ◌∙◌, List, sym, subst, arith, None}
+use Rattle.std.proofs.Common.{ℕ, ◌∙◌, List, sym, subst, arith}
 use Rattle.std.proofs.lemmas.Result.{err_from_is_err_and}
 use Rattle.quota_blocks.specs.Block.{bytes_of}
 use Rattle.tree_check.specs.Found.{AreRoles, HasNoEmptyBlock}
 use Rattle.tree_check.specs.Groups.{AreGroupsOf, groups_of}
+use Rattle.tree_build.specs.Loose.{nothing_loose}
 use Rattle.tree_build.specs.Roles.{Chained, Filled}
 use Rattle.quota_radix.specs.declared.tree_path.TreePath.{TreePath}
 use Rattle.quota_radix.specs.Tree.{leaves}
@@ -72,9 +73,9 @@ returns-clause-checked g c = λ told are.
     let grouped : AreGroupsOf header.blocks (leaves file header.blocks) groups =
     subst (λ (sorted : List TreePath). AreGroupsOf header.blocks (leaves file header.blocks) (groups_of header.blocks sorted)) (sym c.as_slice.ensures.value) found.groups in
     let same = same_bytes ((g.S.Store.seen c.args.store.now).files) _ c.args.name.now (roles.leaves.files ∙ length.leaves.files) in
-    let chained : Chained None header.format file header.blocks header.first =
-    subst (λ (f : List ℕ). AreGroupsOf header.blocks (leaves f header.blocks) groups → Chained None header.format f header.blocks header.first) same (lists.chained told) grouped in
-    let filled : Filled None header.format file header.blocks =
-    subst (λ (f : List ℕ). AreGroupsOf header.blocks (leaves f header.blocks) groups → HasNoEmptyBlock f header.blocks → Filled None header.format f header.blocks) same
+    let chained : Chained nothing_loose header.format file header.blocks header.first =
+    subst (λ (f : List ℕ). AreGroupsOf header.blocks (leaves f header.blocks) groups → Chained nothing_loose header.format f header.blocks header.first) same (lists.chained told) grouped in
+    let filled : Filled nothing_loose header.format file header.blocks =
+    subst (λ (f : List ℕ). AreGroupsOf header.blocks (leaves f header.blocks) groups → HasNoEmptyBlock f header.blocks → Filled nothing_loose header.format f header.blocks) same
     (lists.filled told) grouped found.not_empty in
     is_checked file header c.in_ok-roles.roles are c.requires.two (length.long told) found chained filled

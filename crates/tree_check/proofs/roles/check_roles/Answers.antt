@@ -1,4 +1,4 @@
-use Rattle.std.proofs.Common.{ℕ, List, [], ◌∷◌, ◌++◌, refl, ap, ◌∙◌, arith, append-nil, None}
+use Rattle.std.proofs.Common.{ℕ, List, [], ◌∷◌, ◌++◌, refl, ap, ◌∙◌, arith, append-nil}
 use Rattle.std.proofs.lemmas.List.{length-map}
 use Rattle.std.proofs.lemmas.Result.{err_from_is_err_and}
 use Rattle.free_chains.specs.declared.link.Link.{Link}
@@ -7,6 +7,7 @@ use Rattle.quota_blocks.specs.BlockSet.{AreFlagsOf}
 use Rattle.quota_blocks.specs.Block.{bytes_of}
 use Rattle.tree_check.specs.Groups.{named_blocks}
 use Rattle.quota_radix.specs.Levels.{IsSecondRole}
+use Rattle.tree_build.specs.Loose.{nothing_loose}
 use Rattle.tree_build.specs.Roles.{roles}
 use Rattle.free_chains.specs.Walk.{linked_blocks}
 use Rattle.free_chains.proofs.WalkLemmas.{walk_fits}
@@ -40,7 +41,7 @@ returns-in_err-mark_links-clause-refused g c =
     rw (p.1, p.2) (
       c.in_err-mark_links.ensures.names_id,
       λ told.
-          let all = roles None (bytes_of ((g.S.Store.seen c.args.store.now).files c.args.name.now)) c.args.blocks (linked_blocks c.in_ok-free.free.links.items) in
+          let all = roles nothing_loose (bytes_of ((g.S.Store.seen c.args.store.now).files c.args.name.now)) c.args.blocks (linked_blocks c.in_ok-free.free.links.items) in
           second_role _ c.args.blocks c.args.free_head (linked_blocks c.in_ok-free.free.links.items) 0 all [] _
           (walk_is_free _ _ c.args.name.now c.args.blocks c.args.free_head c.in_ok-free.free c.in_ok-leaves.ensures.leaves.files c.in_ok-free.ensures.walk (c.in_ok-free.ensures.links told)) (append-nil all)
           (roles_marked (λ (n : ℕ) (ns : List ℕ). IsSecondRole ns c.in_err-mark_links.field-0.0) g.S.Store.tells _ c.args.blocks _ _ _ _ c.in_ok-free.free.links.items _ found told
