@@ -1,8 +1,8 @@
 -- What is said of a change of an opened file, from what was done for it.
-use Rattle.std.proofs.Common.{◌≡◌, ℕ, ◌+◌, ◌<◌, ◌≤◌, Bool, true, false, IsTrue, List, Option, Result, Ok, Err, OnOk, OnErr, IfErr, inl, inr, refl, sym, ap, subst, ◌∙◌, arith}
-use Rattle.std.specs.Prelude.{not}
+use Rattle.std.proofs.Common.{◌≡◌, ℕ, ◌+◌, ◌<◌, ◌≤◌, ◌⊎◌, Bool, true, false, IsTrue, List, Option, Some, None, Result, Ok, Err, OnOk, OnErr, IfErr, inl, inr, refl, sym, ap, subst, ◌∙◌, arith}
+use Rattle.std.specs.Prelude.{IsSomeAnd, not}
 use Rattle.std.proofs.lemmas.Bool.{false≢true}
-use Rattle.quota_blocks.specs.Changes.{Changes, FileAt, FileLaws, IsRefused, LacksRoom, LacksRoomFor}
+use Rattle.quota_blocks.specs.Changes.{Changes, FileAt, FileLaws, IsRefused, LacksRoom, LacksRoomFor, StandsForEdited}
 use Rattle.outside.specs.Count.{Rose}
 use Rattle.quota_blocks.specs.FileChange.{FileChange, IsLeft, changed_value, edit_by, has_nothing_to_do, may_lack_room}
 use Rattle.outside.specs.Frame.{IsSynced, OnlyReads, ReplacesOne}
@@ -22,25 +22,25 @@ unless_store-always (Full blocks limit) P fact = fact
 unless_store-always Memory P fact = fact
 
 -- How many calls a change made: no more than it may.
-pub record IsBounded (laws : FileLaws) (old new : FileAt) : Type 0 where
-  pub reads : new.store.reads ≤ old.store.reads + laws.change_reads old.seen
-  pub writes : new.store.writes ≤ old.store.writes + laws.change_writes old.seen
+pub record IsBounded (change : FileChange) (laws : FileLaws) (old new : FileAt) : Type 0 where
+  pub reads : new.store.reads ≤ old.store.reads + laws.change_reads old.seen change
+  pub writes : new.store.writes ≤ old.store.writes + laws.change_writes old.seen change
 
 -- no call was made
-pub bounded-none : (laws : FileLaws) (old new : FileAt) → new.store.reads ≡ old.store.reads → new.store.writes ≡ old.store.writes → IsBounded laws old new
-bounded-none laws old new reads writes = record { reads = omega (arith, reads); writes = omega (arith, writes) }
+pub bounded-none : (change : FileChange) (laws : FileLaws) (old new : FileAt) → new.store.reads ≡ old.store.reads → new.store.writes ≡ old.store.writes → IsBounded change laws old new
+bounded-none change laws old new reads writes = record { reads = omega (arith, reads); writes = omega (arith, writes) }
 
 -- There was something to do at each value that the file holds, and there was room for what it becomes.
 pub record IsWanted (change : FileChange) (laws : FileLaws) (old : FileAt) : Type 0 where
   pub busy : (value : QuotaValue) → old.holds value → has_nothing_to_do change value ≡ false
-  pub room : IsTrue (may_lack_room change) → (value : QuotaValue) (blocks limit : ℕ) → old.holds value → ¬ (LacksRoom laws old (changed_value change value) blocks limit)
+  pub room : IsTrue (may_lack_room change) → (value : QuotaValue) (blocks limit : ℕ) → old.holds value → ¬ (LacksRoom laws old change (changed_value change value) blocks limit)
 
 -- nothing was to be done, and nothing was
 pub changes-idle : (change : FileChange) (laws : FileLaws) (old new : FileAt) (told : Unit {0})
     → ((value : QuotaValue) → old.holds value → has_nothing_to_do change value ≡ true)
     → ((value : QuotaValue) → old.holds value → new.holds (changed_value change value))
     → OnlyReads true old.seen.name old.store new.store → new.seen ≡ old.seen
-    → IsBounded laws old new → Changes change laws old new (Ok told)
+    → IsBounded change laws old new → Changes change laws old new (Ok told)
 changes-idle change laws old new told idle set read same bounded = record {
   edits = record {
     done = record {
@@ -56,6 +56,7 @@ changes-idle change laws old new told idle set read same bounded = record {
     leaves = replaces_one-read old.seen.name old.store new.store read;
   };
   ends = tt;
+  torn = tt;
   reads = bounded.reads;
   writes = bounded.writes;
 }
@@ -65,7 +66,7 @@ pub changes-done : (change : FileChange) (laws : FileLaws) (old new : FileAt) (t
     → ((value : QuotaValue) → old.holds value → new.holds (changed_value change value))
     → ((value : QuotaValue) → old.holds value → laws.makes old.seen.format change old.seen.name old.store.files new.store.files)
     → (IsTrue laws.tells → IsSynced old.seen.name old.store new.store) → new.seen ≡ old.seen → ReplacesOne old.seen.name old.store new.store
-    → IsBounded laws old new → Changes change laws old new (Ok told)
+    → IsBounded change laws old new → Changes change laws old new (Ok told)
 changes-done change laws old new told wanted set makes synced same leaves bounded = record {
   edits = record {
     done = record {
@@ -81,6 +82,7 @@ changes-done change laws old new told wanted set makes synced same leaves bounde
     leaves = leaves;
   };
   ends = tt;
+  torn = tt;
   reads = bounded.reads;
   writes = bounded.writes;
 }
@@ -94,7 +96,7 @@ pub changes-refused : (change : FileChange) (laws : FileLaws) (old new : FileAt)
     → CountsRefusal true old.seen new.seen
     → ((value : QuotaValue) → old.holds value → new.holds value)
     → OnlyReads false old.seen.name old.store new.store
-    → IsBounded laws old new → Changes change laws old new (Err fault)
+    → IsBounded change laws old new → Changes change laws old new (Err fault)
 changes-refused change laws old new fault other cause may passes busy counted stays read bounded = record {
   edits = record {
     done = tt;
@@ -116,17 +118,30 @@ changes-refused change laws old new fault other cause may passes busy counted st
     leaves = replaces_one-read old.seen.name old.store new.store read;
   };
   ends = λ is. absurd (false≢true (sym other ∙ is));
+  torn = λ tells. inl (ap (λ (files : World). files old.seen.name) read.files);
   reads = bounded.reads;
   writes = bounded.writes;
 }
 
--- the store failed while the file was written anew, and the named file is as it was
-pub changes-failed : (change : FileChange) (laws : FileLaws) (old new : FileAt) → IsWanted change laws old
+-- What a fault of the store left of the named file, of which a change had begun to write: it is as it was, or lies between the
+-- old file and one that the change would have made and that stands for the changed value.
+pub record IsTorn (change : FileChange) (laws : FileLaws) (old : FileAt) (files : World) : Type 0 where
+  pub left : (value : QuotaValue) → old.holds value → (files old.seen.name ≡ old.store.files old.seen.name)
+      ⊎ IsLeft (laws.makes old.seen.format change old.seen.name) (λ bytes. laws.stands_for old.seen.format bytes (changed_value change value))
+      (laws.may_leave old.seen.format change) old.seen.name old.store.files files
+  pub between : IsTrue laws.tells → (files old.seen.name ≡ old.store.files old.seen.name)
+      ⊎ ((after : Option (List ℕ)) × laws.may_leave old.seen.format change (old.store.files old.seen.name) after (files old.seen.name))
+
+-- the named file is as it was
+pub torn-none : (change : FileChange) (laws : FileLaws) (old : FileAt) (files : World) → files old.seen.name ≡ old.store.files old.seen.name → IsTorn change laws old files
+torn-none change laws old files same = record { left = λ value holds. inl same; between = λ tells. inl same }
+
+-- the store failed while the change was written
+pub changes-torn : (change : FileChange) (laws : FileLaws) (old new : FileAt) → IsWanted change laws old
     → Rose old.store.faults new.store.faults → laws.may_refuse old.seen.format Store
-    → CountsRefusal false old.seen new.seen
-    → new.store.files old.seen.name ≡ old.store.files old.seen.name → ReplacesOne old.seen.name old.store new.store
-    → IsBounded laws old new → Changes change laws old new (Err Store)
-changes-failed change laws old new wanted rose may counted same leaves bounded = record {
+    → CountsRefusal false old.seen new.seen → IsTorn change laws old new.store.files → ReplacesOne old.seen.name old.store new.store
+    → IsBounded change laws old new → Changes change laws old new (Err Store)
+changes-torn change laws old new wanted rose may counted torn leaves bounded = record {
   edits = record {
     done = tt;
     refused = record {
@@ -139,17 +154,63 @@ changes-failed change laws old new wanted rose may counted same leaves bounded =
       stays = λ usable. absurd (false≢true (sym counted.usable ∙ usable));
       unwritten = λ usable. absurd (false≢true (sym counted.usable ∙ usable));
       fits = λ ended value holds. refl;
-      left = λ ended value holds. inl same;
-      between = λ tells. inl same;
+      left = λ ended. torn.left;
+      between = λ tells. elim (torn.between tells) [
+        | inl same ↦ inl same
+        | inr left ↦ inr (change, left.0, left.1)
+      ];
     };
     idle = λ value holds is. absurd (false≢true (sym (wanted.busy value holds) ∙ is));
     full = λ needs value blocks limit holds lacks. absurd (wanted.room needs value blocks limit holds lacks);
     leaves = leaves;
   };
   ends = λ is. counted.usable;
+  torn = torn.between;
   reads = bounded.reads;
   writes = bounded.writes;
 }
+
+-- the store failed before anything was written: nothing has changed, and the file is not used again all the same
+pub changes-unwritten : (change : FileChange) (laws : FileLaws) (old new : FileAt)
+    → Rose old.store.faults new.store.faults → laws.may_refuse old.seen.format Store
+    → CountsRefusal false old.seen new.seen → OnlyReads false old.seen.name old.store new.store
+    → IsBounded change laws old new → Changes change laws old new (Err Store)
+changes-unwritten change laws old new rose may counted read bounded =
+    let same = ap (λ (files : World). files old.seen.name) read.files in
+    record {
+      edits = record {
+        done = tt;
+        refused = record {
+          cause = rose;
+          may = may;
+          passes = tt;
+          busy = tt;
+          counted = subst (λ (still : Bool). CountsRefusal still old.seen new.seen) (sym counted.usable) counted;
+          usable = λ is. absurd (false≢true (sym is));
+          stays = λ usable. absurd (false≢true (sym counted.usable ∙ usable));
+          unwritten = λ usable. absurd (false≢true (sym counted.usable ∙ usable));
+          fits = λ ended value holds. refl;
+          left = λ ended value holds. inl same;
+          between = λ tells. inl same;
+        };
+        idle = λ value holds is. read;
+        full = λ needs value blocks limit holds lacks. read;
+        leaves = replaces_one-read old.seen.name old.store new.store read;
+      };
+      ends = λ is. counted.usable;
+      torn = λ tells. inl same;
+      reads = bounded.reads;
+      writes = bounded.writes;
+    }
+
+-- the store failed while the file was written anew, and the named file is as it was
+pub changes-failed : (change : FileChange) (laws : FileLaws) (old new : FileAt) → IsWanted change laws old
+    → Rose old.store.faults new.store.faults → laws.may_refuse old.seen.format Store
+    → CountsRefusal false old.seen new.seen
+    → new.store.files old.seen.name ≡ old.store.files old.seen.name → ReplacesOne old.seen.name old.store new.store
+    → IsBounded change laws old new → Changes change laws old new (Err Store)
+changes-failed change laws old new wanted rose may counted same leaves bounded =
+    changes-torn change laws old new wanted rose may counted (torn-none change laws old new.store.files same) leaves bounded
 
 -- The file was to be written anew for a change that was wanted.
 pub changes-anew : (change : FileChange) (laws : FileLaws) (old new : FileAt) (result : Result (Unit {0}) FileFault) → IsWanted change laws old
@@ -163,7 +224,7 @@ pub changes-anew : (change : FileChange) (laws : FileLaws) (old new : FileAt) (r
     → OnErr result (new.store.files ≡ old.store.files → (value : QuotaValue) → old.holds value → new.holds value)
     → IfErr result (λ fault. UnlessStoreFailed fault (OnlyReads true old.seen.name old.store new.store))
     → IfErr result (λ fault. CountsRefusal (not (is_store_fault fault)) old.seen new.seen)
-    → ReplacesOne old.seen.name old.store new.store → IsBounded laws old new
+    → ReplacesOne old.seen.name old.store new.store → IsBounded change laws old new
     → Changes change laws old new result
 changes-anew change laws old new (Ok told) wanted may_store may_memory set makes synced same refused unchanged stays unwritten counted leaves bounded =
     changes-done change laws old new told wanted set makes synced same leaves bounded
@@ -178,13 +239,14 @@ changes-anew change laws old new (Err Memory) wanted may_store may_memory set ma
 -- and leaves, and the faults that may come, are some of the other's, and of the values that it becomes the same lack room.
 pub record IsWiderAt (change : FileChange) (laws wider : FileLaws) (old : FileAt) : Type 0 where
   pub tells : wider.tells ≡ laws.tells
-  pub reads : laws.change_reads old.seen ≤ wider.change_reads old.seen
-  pub writes : laws.change_writes old.seen ≤ wider.change_writes old.seen
+  pub stands_for : (bytes : List ℕ) (value : QuotaValue) → laws.stands_for old.seen.format bytes value → wider.stands_for old.seen.format bytes value
+  pub reads : laws.change_reads old.seen change ≤ wider.change_reads old.seen change
+  pub writes : laws.change_writes old.seen change ≤ wider.change_writes old.seen change
   pub makes : (files : World) → laws.makes old.seen.format change old.seen.name old.store.files files → wider.makes old.seen.format change old.seen.name old.store.files files
-  pub may_leave : (before after left : Option (List ℕ)) → laws.may_leave old.seen.format before after left → wider.may_leave old.seen.format before after left
+  pub may_leave : (any : FileChange) (before after left : Option (List ℕ)) → laws.may_leave old.seen.format any before after left → wider.may_leave old.seen.format any before after left
   pub may_refuse : (fault : FileFault) → laws.may_refuse old.seen.format fault → wider.may_refuse old.seen.format fault
-  pub lacks : (value : QuotaValue) (blocks limit : ℕ) → old.holds value → LacksRoom laws old (changed_value change value) blocks limit → LacksRoom wider old (changed_value change value) blocks limit
-  pub has : (value : QuotaValue) (blocks limit : ℕ) → old.holds value → LacksRoom wider old (changed_value change value) blocks limit → LacksRoom laws old (changed_value change value) blocks limit
+  pub lacks : (value : QuotaValue) (blocks limit : ℕ) → old.holds value → LacksRoom laws old change (changed_value change value) blocks limit → LacksRoom wider old change (changed_value change value) blocks limit
+  pub has : (value : QuotaValue) (blocks limit : ℕ) → old.holds value → LacksRoom wider old change (changed_value change value) blocks limit → LacksRoom laws old change (changed_value change value) blocks limit
 
 change_fault-wider : (change : FileChange) (laws wider : FileLaws) (old : FileAt) (now : ℕ) → IsWiderAt change laws wider old → (fault : FileFault)
     → IsChangeFault old.store.faults now old.holds (LacksRoomFor (edit_by change) laws old) fault → IsChangeFault old.store.faults now old.holds (LacksRoomFor (edit_by change) wider old) fault
@@ -193,13 +255,18 @@ change_fault-wider change laws wider old now so (Damage at) cause = cause
 change_fault-wider change laws wider old now so (Full blocks limit) cause = (cause.0, λ value holds. so.lacks value blocks limit holds (cause.1 value holds))
 change_fault-wider change laws wider old now so Memory cause = tt
 
-left-wider : (change : FileChange) (laws wider : FileLaws) (old : FileAt) (new : World) → IsWiderAt change laws wider old
-    → IsLeft (laws.makes old.seen.format change old.seen.name) (laws.may_leave old.seen.format) old.seen.name old.store.files new
-    → IsLeft (wider.makes old.seen.format change old.seen.name) (wider.may_leave old.seen.format) old.seen.name old.store.files new
-left-wider change laws wider old new so left = record {
+some_stands : (file : Option (List ℕ)) (P Q : List ℕ → Type 0) → ((bytes : List ℕ) → P bytes → Q bytes) → IsSomeAnd file P → IsSomeAnd file Q
+some_stands None P Q map stands = stands
+some_stands (Some bytes) P Q map stands = map bytes stands
+
+left-wider : (change : FileChange) (laws wider : FileLaws) (old : FileAt) (new : World) (value : QuotaValue) → IsWiderAt change laws wider old
+    → IsLeft (laws.makes old.seen.format change old.seen.name) (StandsForEdited (edit_by change) laws old value) (laws.may_leave old.seen.format change) old.seen.name old.store.files new
+    → IsLeft (wider.makes old.seen.format change old.seen.name) (StandsForEdited (edit_by change) wider old value) (wider.may_leave old.seen.format change) old.seen.name old.store.files new
+left-wider change laws wider old new value so left = record {
   after = left.after;
   made = so.makes left.after left.made;
-  left = so.may_leave _ _ _ left.left;
+  stands = some_stands (left.after old.seen.name) _ _ (λ bytes. so.stands_for bytes (changed_value change value)) left.stands;
+  left = so.may_leave change _ _ _ left.left;
 }
 
 refused-wider : (change : FileChange) (laws wider : FileLaws) (old new : FileAt) → IsWiderAt change laws wider old → (fault : FileFault) → IsRefused (edit_by change) laws old new fault
@@ -216,11 +283,11 @@ refused-wider change laws wider old new so fault refused = record {
   fits = refused.fits;
   left = λ ended value holds. elim (refused.left ended value holds) [
     | inl same ↦ inl same
-    | inr left ↦ inr (left-wider change laws wider old new.store.files so left)
+    | inr left ↦ inr (left-wider change laws wider old new.store.files value so left)
   ];
   between = λ told. elim (refused.between (subst IsTrue so.tells told)) [
     | inl same ↦ inl same
-    | inr left ↦ inr (left.0, so.may_leave _ _ _ left.1)
+    | inr left ↦ inr (left.0, left.1, so.may_leave left.0 _ _ _ left.2)
   ];
 }
 
@@ -241,6 +308,7 @@ changes-wider change laws wider old new (Ok told) so changes = record {
     leaves = changes.edits.leaves;
   };
   ends = tt;
+  torn = tt;
   reads = omega (arith, so.reads, changes.reads);
   writes = omega (arith, so.writes, changes.writes);
 }
@@ -253,6 +321,10 @@ changes-wider change laws wider old new (Err fault) so changes = record {
     leaves = changes.edits.leaves;
   };
   ends = changes.ends;
+  torn = λ told. elim (changes.torn (subst IsTrue so.tells told)) [
+    | inl same ↦ inl same
+    | inr left ↦ inr (left.0, so.may_leave change _ _ _ left.1)
+  ];
   reads = omega (arith, so.reads, changes.reads);
   writes = omega (arith, so.writes, changes.writes);
 }

@@ -3,4 +3,5 @@ pub mod EntriesLemmas
 pub mod ListedLemmas
 pub mod LoadLemmas
 pub mod LookupLemmas
+pub mod LooksUpLemmas
 pub mod ReplaceLemmas

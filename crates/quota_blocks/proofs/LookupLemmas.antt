@@ -1,10 +1,11 @@
 -- What is said of an edit of the value that an opened file holds, after calls that only looked something up in it.
-use Rattle.std.proofs.Common.{◌≡◌, ℕ, ◌≤◌, Bool, true, IfErr, IfSome, OnOk, Option, Result, Ok, Err, refl, sym, subst, ◌∙◌, arith}
-use Rattle.std.specs.Prelude.{is_ok}
+use Rattle.std.proofs.Common.{◌≡◌, ◌⊎◌, ℕ, ◌≤◌, Bool, true, IfErr, IfSome, OnOk, Option, Result, Ok, Err, refl, sym, subst, ◌∙◌, arith}
+use Rattle.std.specs.Prelude.{IsOkAnd, is_ok}
 use Rattle.std.proofs.lemmas.Option.{IfSome_then}
 use Rattle.std.proofs.lemmas.Result.{IfOk-weaker}
 use Rattle.quota_blocks.specs.Changes.{EditsValue, FileAt, FileLaws, IsDone, IsRefused, LacksRoomFor, file_at}
-use Rattle.quota_blocks.specs.FileChange.{ValueEdit}
+use Rattle.quota_types.specs.declared.field.Field.{Field}
+use Rattle.quota_blocks.specs.FileChange.{IsLeft, ValueEdit}
 use Rattle.outside.specs.Frame.{OnlyReads}
 use Rattle.quota_blocks.specs.QuotaFile.{FileSeen, IsChangeFault, UnlessStoreFailed}
 use Rattle.quota_blocks.specs.QuotaValue.{QuotaValue}
@@ -88,7 +89,7 @@ module _ (edit next : ValueEdit) (laws : FileLaws) (old new : FileAt) (held : Qu
     makes = λ value holds busy.
         rw (same.change value holds) (done.makes value (up.stays value holds) (sym (same.idle value holds) ∙ busy));
     room = λ needs value blocks limit holds busy.
-        rw (same.edited value holds)
+        rw (same.edited value holds, same.change value holds)
         (done.room (sym same.room ∙ needs) value blocks limit (up.stays value holds) (sym (same.idle value holds) ∙ busy));
     synced = λ tells.
         is_synced-then old.seen.name old.store (mid_at old held store).store new.store
@@ -102,7 +103,7 @@ module _ (edit next : ValueEdit) (laws : FileLaws) (old new : FileAt) (held : Qu
         (LacksRoomFor edit laws old) (LacksRoomFor next laws (mid_at old held store)) fault up.leaves.later up.stays
         (λ blocks limit lacks. (
           same.room ∙ lacks.0,
-          λ value holds. rw (same.edited value holds) (lacks.1 value (up.stays value holds)),
+          λ value holds. rw (same.edited value holds, same.change value holds) (lacks.1 value (up.stays value holds)),
         )) refused.cause;
     may = refused.may;
     passes = refused.passes;
@@ -112,7 +113,12 @@ module _ (edit next : ValueEdit) (laws : FileLaws) (old new : FileAt) (held : Qu
     stays = λ usable value holds. refused.stays usable value (up.stays value holds);
     unwritten = λ usable. only_reads-then old.seen.name old.store _ new.store up.leaves (refused.unwritten usable);
     fits = λ ended value holds. rw (same.edited value holds) (refused.fits ended value (up.stays value holds));
-    left = λ ended value holds. rw (same.change value holds) (refused.left ended value (up.stays value holds));
+    left = λ ended value holds.
+        rw (same.change value holds)
+        (subst (λ (edited : Result QuotaValue (Field × ℕ)). (new.store.files old.seen.name ≡ old.store.files old.seen.name)
+        ⊎ IsLeft (laws.makes old.seen.format (next.change value) old.seen.name) (λ bytes. IsOkAnd edited (laws.stands_for old.seen.format bytes))
+        (laws.may_leave old.seen.format (next.change value)) old.seen.name old.store.files new.store.files)
+        (sym (same.edited value holds)) (refused.left ended value (up.stays value holds)));
     between = refused.between;
   }
 
@@ -127,7 +133,7 @@ module _ (edit next : ValueEdit) (laws : FileLaws) (old new : FileAt) (held : Qu
         refused = answer-refused fault_in fault_of result answer _ _ is refused-after edits.refused;
         idle = λ value holds idle. read (only_reads-then old.seen.name old.store _ new.store up.leaves (edits.idle value (up.stays value holds) (sym (same.idle value holds) ∙ idle)));
         full = λ needs value blocks limit holds.
-            rw (same.edited value holds)
+            rw (same.edited value holds, same.change value holds)
             (IfOk-weaker (next.edited value) _ _ (λ edited only lacks. read (only_reads-then old.seen.name old.store _ new.store up.leaves (only lacks)))
             (edits.full (sym same.room ∙ needs) value blocks limit (up.stays value holds)));
         leaves = replaces_one-after_read old.seen.name old.store _ new.store up.leaves edits.leaves;

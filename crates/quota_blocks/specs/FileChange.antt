@@ -1,5 +1,5 @@
 -- The changes of an opened quota file, as edits of the value that it holds, and what is left where one of them failed.
-use Rattle.std.specs.Prelude.{ℕ, Bool, true, false, List, Option, is_none, Result, Ok}
+use Rattle.std.specs.Prelude.{ℕ, Bool, true, false, List, Option, is_none, IsSomeAnd, Result, Ok}
 use Rattle.std.specs.FinMap.{get}
 use Rattle.quota_types.specs.declared.field.Field.{Field}
 use Rattle.quota_types.specs.declared.record.Grace.{Grace}
@@ -49,9 +49,10 @@ edit_by change = record {
   needs_room = may_lack_room change;
 }
 
--- What a change that failed left of the named file: there are files that it would have made of the old ones, and what is
--- left lies between the two.
-pub record IsLeft (made_so : World → World → Type 0) (between : (old after left : Option (List ℕ)) → Type 0) (name : List ℕ) (old new : World) : Type 0 where
+-- What a change that failed left of the named file: there are files that it would have made of the old ones, of which the
+-- named one stands for the changed value, and what is left lies between the two.
+pub record IsLeft (made_so : World → World → Type 0) (stands_so : List ℕ → Type 0) (between : (old after left : Option (List ℕ)) → Type 0) (name : List ℕ) (old new : World) : Type 0 where
   pub after : World
   pub made : made_so old after
+  pub stands : IsSomeAnd (after name) stands_so
   pub left : between (old name) (after name) (new name)

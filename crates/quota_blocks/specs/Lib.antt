@@ -3,6 +3,7 @@ pub mod FileChange
 pub mod FileUse
 pub mod Listed
 pub mod Load
+pub mod LooksUp
 pub mod Opening
 pub mod QuotaFile
 pub mod QuotaValue
@@ -12,6 +13,7 @@ pub use Rattle.quota_types.specs.Kept
 pub use Rattle.quota_types.specs.Range
 pub use Rattle.quota_types.specs.Rec
 pub use Rattle.quota_types.specs.Damage
+pub use Rattle.quota_types.specs.Span
 pub use Rattle.quota_types.specs.Times
 pub use Rattle.outside.specs.Behind
 pub use Rattle.outside.specs.Count
@@ -33,4 +35,3 @@ pub use Rattle.input_text.specs.Words
 pub use Rattle.file_blocks.specs.Block
 pub use Rattle.file_blocks.specs.BlockSet
 pub use Rattle.file_blocks.specs.CheckFault
-pub use Rattle.file_blocks.specs.Span

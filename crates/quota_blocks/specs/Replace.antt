@@ -1,5 +1,5 @@
 -- A file that is written under another name first, and then takes the place of the old one.
-use Rattle.std.specs.Prelude.{◌≡◌, ℕ, ◌+◌, ◌/◌, List, ◌++◌, None, Some, IsSomeAnd, codes, ⊤}
+use Rattle.std.specs.Prelude.{◌≡◌, ℕ, ◌+◌, ◌/◌, List, None, IsSomeAnd, ⊤}
 use Rattle.outside.specs.Count.{Rose}
 use Rattle.outside.specs.Replacement.{replacement_name}
 use Rattle.outside.specs.World.{World}

@@ -1,5 +1,4 @@
-ghost use Rattle.std.specs.Prelude.{◌≡◌, ◌+◌, ◌≤◌, ◌^◌, ℕ, length, not, true, IsTrue, IfErr, OnErr, OnOk};
-ghost use Rattle.std.specs.String.{string_bytes};
+ghost use Rattle.std.specs.Prelude.{◌≡◌, ◌+◌, ◌≤◌, ◌^◌, ℕ, List, length, not, true, IsTrue, IfErr, OnErr, OnOk};
 ghost use Rattle.quota_types.specs.declared.file_kind.Format.{Format};
 ghost use Rattle.quota_blocks.specs.FileUse.{seen_in};
 ghost use Rattle.outside.specs.Frame.{IsSynced, OnlyReads, ReplacesOne};
@@ -11,23 +10,21 @@ ghost use Rattle.outside.specs.World.{KeepsOthers};
 use crate::{FileFault, Store, replace};
 use std::alloc::Global;
 
-/// What an opened quota file keeps besides its bytes, whatever its format: its name, whether it may still be used, and how
+/// What an opened quota file keeps besides its name and its bytes, whatever its format: whether it may still be used, and how
 /// many calls were refused.
 #[derive(Debug, Drop)]
 pub struct FileUse {
-    pub(crate) name: String,
     pub(crate) usable: bool,
     pub(crate) refusals: u64,
 }
 
 impl FileUse {
-    /// The file of this name, which may be used, and of which no call was refused.
-    pub fn new(name: String) -> Self
-        ensures { (format : Format) (limit : ℕ) → seen_in result format limit
-            ≡ record { name = string_bytes name; format = format; usable = true; limit = limit; refusals = 0 } }
+    /// A file that may be used, and of which no call was refused.
+    pub fn new() -> Self
+        ensures { (name : List ℕ) (format : Format) (limit : ℕ) → seen_in result name format limit
+            ≡ record { name = name; format = format; usable = true; limit = limit; refusals = 0 } }
     {
         FileUse {
-            name,
             usable: true,
             refusals: 0,
         }
@@ -44,15 +41,15 @@ impl FileUse {
     pub fn refused(&mut self, fault: FileFault) -> FileFault
         requires { IsTrue self.old.usable }
         ensures same { result ≡ fault }
-        ensures counted { (format : Format) (limit : ℕ) → CountsRefusal (not (is_store_fault fault))
-            (seen_in self.old format limit) (seen_in self.new format limit) }
+        ensures counted { (name : List ℕ) (format : Format) (limit : ℕ) → CountsRefusal (not (is_store_fault fault))
+            (seen_in self.old name format limit) (seen_in self.new name format limit) }
     {
         self.usable = fault != FileFault::Store;
         self.refusals = self.refusals.saturating_add(1);
         fault
     }
 
-    /// Puts a file of these bytes in the place of the named one.
+    /// Puts a file of these bytes in the place of the one of this name, which is the opened file's.
     ///
     /// # Errors
     ///
@@ -61,27 +58,28 @@ impl FileUse {
         &mut self,
         alloc: Global,
         store: &mut S,
+        name: &str,
         bytes: &[u8],
     ) -> Result<(), FileFault>
         requires usable { IsTrue self.old.usable }
         requires size { length bytes.now ≤ 2 ^ 42 }
         ensures replaced { OnOk result (IsTrue S.tells → (S.seen store.new).files
-            ≡ replaced_files (S.seen store.old).files (string_bytes self.old.name) bytes.now) }
+            ≡ replaced_files (S.seen store.old).files name.now bytes.now) }
         ensures synced { OnOk result (IsTrue S.tells
-            → IsSynced (string_bytes self.old.name) (S.seen store.old) (S.seen store.new)) }
+            → IsSynced name.now (S.seen store.old) (S.seen store.new)) }
         ensures same { OnOk result (self.new ≡ self.old) }
         ensures refused { IfErr result (IsRewriteFault (S.seen store.old).faults (S.seen store.new).faults) }
-        ensures unchanged { OnErr result (KeepsOthers (replacement_name (string_bytes self.old.name))
+        ensures unchanged { OnErr result (KeepsOthers (replacement_name name.now)
             (S.seen store.old).files (S.seen store.new).files) }
         ensures unwritten { IfErr result (λ fault. UnlessStoreFailed fault
-            (OnlyReads true (string_bytes self.old.name) (S.seen store.old) (S.seen store.new))) }
-        ensures counted { IfErr result (λ fault. (format : Format) (limit : ℕ) → CountsRefusal (not (is_store_fault fault))
-            (seen_in self.old format limit) (seen_in self.new format limit)) }
-        ensures leaves { ReplacesOne (string_bytes self.old.name) (S.seen store.old) (S.seen store.new) }
+            (OnlyReads true name.now (S.seen store.old) (S.seen store.new))) }
+        ensures counted { IfErr result (λ fault. (any : List ℕ) (format : Format) (limit : ℕ)
+            → CountsRefusal (not (is_store_fault fault)) (seen_in self.old any format limit) (seen_in self.new any format limit)) }
+        ensures leaves { ReplacesOne name.now (S.seen store.old) (S.seen store.new) }
         ensures reads { (S.seen store.new).reads ≡ (S.seen store.old).reads }
         ensures writes { (S.seen store.new).writes ≤ (S.seen store.old).writes + pieces_of (length bytes.now) }
     {
-        match replace(alloc, store, self.name.as_str(), bytes) {
+        match replace(alloc, store, name, bytes) {
             Ok(()) => Ok(()),
             Err(fault) => Err(self.refused(FileFault::from(fault))),
         }

@@ -20,7 +20,7 @@ pub use file_blocks::{
 pub use file_use::FileUse;
 pub use input_text::{
     LineFault, LineReader, StoreInput, StoreSource, TextBuffer, after_words, has_no_word,
-    has_words, next_word, number_in, words,
+    has_words, next_word, number_in, read_number, words,
 };
 pub use memory_objects::{MemLink, MemSink, MemSource, MemStore};
 pub use outside::{Got, Link, LinkFault, Sink, SinkFault, Source, SourceFault, Store, StoreFault};

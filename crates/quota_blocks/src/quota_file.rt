@@ -1,4 +1,4 @@
-ghost use Rattle.std.specs.Prelude.{◌≡◌, ◌^◌, ◌<◌, ◌≤◌, ◌+◌, ℕ, List, Option, None, true, IsTrue, IfOk, IfErr, IfSome, OnOk, OnErr, is_ok};
+ghost use Rattle.std.specs.Prelude.{◌≡◌, ◌^◌, ◌<◌, ℕ, List, Option, None, Some, IsTrue, IfOk, IfSome, IsSomeAnd};
 ghost use Rattle.std.specs.FinMap.{get};
 ghost use Rattle.quota_types.specs.declared.file_kind.Format.{Format};
 ghost use Rattle.quota_types.specs.Kept.{IsKept};
@@ -6,8 +6,8 @@ ghost use Rattle.quota_types.specs.Range.{grace_unfit};
 ghost use Rattle.quota_types.specs.Rec.{IsNull};
 ghost use Rattle.quota_blocks.specs.Changes.{Changes, file_at, laws_of};
 ghost use Rattle.quota_blocks.specs.FileChange.{FileChange, Put, Remove, SetGrace};
-ghost use Rattle.outside.specs.Frame.{OnlyReads};
-ghost use Rattle.quota_blocks.specs.QuotaFile.{CountsRefusal, FileSeen, IsLookupFault};
+ghost use Rattle.quota_blocks.specs.LooksUp.{LooksUp};
+ghost use Rattle.quota_blocks.specs.QuotaFile.{FileSeen};
 ghost use Rattle.quota_blocks.specs.QuotaValue.{QuotaValue, IsAfter, IsNextAfter};
 ghost use Rattle.outside.specs.World.{World};
 ghost use Rattle.quota_blocks.specs.declared.quota_file.FileFault.{FileFault};
@@ -99,8 +99,9 @@ impl From<CheckFault> for OpenFault {
 /// What a change needs of memory is taken from the allocator that the opened file keeps. A change for which there is no
 /// room writes nothing, whatever else fails, and one that is refused for anything but a fault of the store has changed
 /// nothing. After one in which the store failed the opened file is not used again, and the named file is as it was, or as
-/// `may_leave` says, which rests on how the type writes: one that writes the whole file anew and then renames it leaves the
-/// old one, and one that writes in place may have written some blocks.
+/// `may_leave` says, between the old file and one that stands for the changed value. That rests on how the type writes: one
+/// that writes the whole file anew and then renames it leaves the old one, and one that writes in place may have written some
+/// blocks. After a look-up in which the store failed the opened file may be used again.
 ///
 /// No refusal is lost: `seen` has a count of them, which each refused call raises and no other call changes.
 pub trait QuotaFile<S: Store> {
@@ -114,15 +115,19 @@ pub trait QuotaFile<S: Store> {
     /// The faults that a call on a file of this format may answer, whatever the store tells.
     ghost may_refuse: { Format → FileFault → Type 0 };
 
-    /// The named file, as it is, has no room for the value: it would need so many blocks, and may have only so many.
-    ghost lacks_room: { FileSeen → Option (List ℕ) → QuotaValue → ℕ → ℕ → Type 0 };
+    /// A file of these bytes, as one of this format, stands for the value.
+    ghost stands_for: { Format → List ℕ → QuotaValue → Type 0 };
+
+    /// The named file, as it is, has no room for a change of it to the value: it would need so many blocks, and may have only
+    /// so many.
+    ghost lacks_room: { FileSeen → Option (List ℕ) → FileChange → QuotaValue → ℕ → ℕ → Type 0 };
 
     /// What a change of the file of this name, which has this format, makes of the files, as far as the format says more
     /// than which value the file stands for.
     ghost makes: { Format → FileChange → List ℕ → World → World → Type 0 };
 
     /// What a change that failed may leave the file as, between the bytes before and those that it would have made.
-    ghost may_leave: { Format → Option (List ℕ) → Option (List ℕ) → Option (List ℕ) → Type 0 };
+    ghost may_leave: { Format → FileChange → Option (List ℕ) → Option (List ℕ) → Option (List ℕ) → Type 0 };
 
     /// How many calls of `read` one call of `get` makes at most.
     ghost get_reads: { Format → ℕ };
@@ -130,11 +135,11 @@ pub trait QuotaFile<S: Store> {
     /// How many calls of `read` one call of `next_after` makes at most, on a file of these bytes.
     ghost next_reads: { FileSeen → Option (List ℕ) → ℕ };
 
-    /// How many calls of `read` one change makes at most.
-    ghost change_reads: { FileSeen → ℕ };
+    /// How many calls of `read` a change makes at most.
+    ghost change_reads: { FileSeen → FileChange → ℕ };
 
-    /// How many calls of `write` one change makes at most.
-    ghost change_writes: { FileSeen → ℕ };
+    /// How many calls of `write` a change makes at most.
+    ghost change_writes: { FileSeen → FileChange → ℕ };
 
     /// The format of the file.
     fn format(&self) -> Format
@@ -161,14 +166,10 @@ pub trait QuotaFile<S: Store> {
         ensures found { IfOk result (λ found. (value : QuotaValue) → holds self.old store.old value
             → found ≡ get value.records id) }
         ensures kept { IfOk result (λ found. IfSome found (IsKept (seen self.old).format id)) }
-        ensures refused { IfErr result (IsLookupFault (S.seen store.old).faults (S.seen store.new).faults
-            (holds self.old store.old)) }
-        ensures may { IfErr result (may_refuse (seen self.old).format) }
-        ensures stays { (value : QuotaValue) → holds self.old store.old value → holds self.new store.new value }
-        ensures leaves { OnlyReads (is_ok result) (seen self.old).name (S.seen store.old) (S.seen store.new) }
-        ensures reads { (S.seen store.new).reads ≤ (S.seen store.old).reads + get_reads (seen self.old).format }
-        ensures same { OnOk result (seen self.new ≡ seen self.old) }
-        ensures counted { OnErr result (CountsRefusal true (seen self.old) (seen self.new)) };
+        ensures looks { LooksUp Some (laws_of S.tells stands_for makes may_leave lacks_room may_refuse
+            change_reads change_writes)
+            (file_at (holds self.old store.old) (seen self.old) (S.seen store.old))
+            (file_at (holds self.new store.new) (seen self.new) (S.seen store.new)) (get_reads (seen self.old).format) result };
 
     /// The least identifier after another one, or the least of all, with its record; `None` where there is none.
     /// Whatever the store tells, an identifier that is answered comes after the one that was given and is below 2^32,
@@ -184,15 +185,11 @@ pub trait QuotaFile<S: Store> {
         ensures ascends { IfOk result (λ found. IfSome found (λ entry. IsAfter after entry.id)) }
         ensures narrow { IfOk result (λ found. IfSome found (λ entry. entry.id < 2 ^ 32)) }
         ensures kept { IfOk result (λ found. IfSome found (λ entry. IsKept (seen self.old).format entry.id entry.rec)) }
-        ensures refused { IfErr result (IsLookupFault (S.seen store.old).faults (S.seen store.new).faults
-            (holds self.old store.old)) }
-        ensures may { IfErr result (may_refuse (seen self.old).format) }
-        ensures stays { (value : QuotaValue) → holds self.old store.old value → holds self.new store.new value }
-        ensures leaves { OnlyReads (is_ok result) (seen self.old).name (S.seen store.old) (S.seen store.new) }
-        ensures reads { (S.seen store.new).reads
-            ≤ (S.seen store.old).reads + next_reads (seen self.old) ((S.seen store.old).files (seen self.old).name) }
-        ensures same { OnOk result (seen self.new ≡ seen self.old) }
-        ensures counted { OnErr result (CountsRefusal true (seen self.old) (seen self.new)) };
+        ensures looks { LooksUp Some (laws_of S.tells stands_for makes may_leave lacks_room may_refuse
+            change_reads change_writes)
+            (file_at (holds self.old store.old) (seen self.old) (S.seen store.old))
+            (file_at (holds self.new store.new) (seen self.new) (S.seen store.new)) (next_reads (seen self.old)
+            ((S.seen store.old).files (seen self.old).name)) result };
 
     /// Gives an identifier this record, in place of the one that it may have. All other records stay. The record limits
     /// or counts something, and the format keeps it as it is. What was written is synced then.
@@ -204,7 +201,7 @@ pub trait QuotaFile<S: Store> {
         requires usable { IsTrue (seen self.old).usable }
         requires not_null { ¬ (IsNull rec) }
         requires kept { IsKept (seen self.old).format id rec }
-        ensures changes { Changes (Put id rec) (laws_of S.tells makes may_leave lacks_room may_refuse
+        ensures changes { Changes (Put id rec) (laws_of S.tells stands_for makes may_leave lacks_room may_refuse
             change_reads change_writes)
             (file_at (holds self.old store.old) (seen self.old) (S.seen store.old))
             (file_at (holds self.new store.new) (seen self.new) (S.seen store.new)) result };
@@ -217,7 +214,7 @@ pub trait QuotaFile<S: Store> {
     /// The store failed, the file is damaged or full, or there is not enough memory.
     fn remove(&mut self, store: &mut S, id: u32) -> Result<(), FileFault>
         requires { IsTrue (seen self.old).usable }
-        ensures changes { Changes (Remove id) (laws_of S.tells makes may_leave lacks_room may_refuse
+        ensures changes { Changes (Remove id) (laws_of S.tells stands_for makes may_leave lacks_room may_refuse
             change_reads change_writes)
             (file_at (holds self.old store.old) (seen self.old) (S.seen store.old))
             (file_at (holds self.new store.new) (seen self.new) (S.seen store.new)) result };
@@ -231,7 +228,7 @@ pub trait QuotaFile<S: Store> {
     fn set_grace(&mut self, store: &mut S, grace: Grace) -> Result<(), FileFault>
         requires usable { IsTrue (seen self.old).usable }
         requires fits { grace_unfit (seen self.old).format grace ≡ None }
-        ensures changes { Changes (SetGrace grace) (laws_of S.tells makes may_leave lacks_room may_refuse
+        ensures changes { Changes (SetGrace grace) (laws_of S.tells stands_for makes may_leave lacks_room may_refuse
             change_reads change_writes)
             (file_at (holds self.old store.old) (seen self.old) (S.seen store.old))
             (file_at (holds self.new store.new) (seen self.new) (S.seen store.new)) result };
@@ -240,4 +237,8 @@ pub trait QuotaFile<S: Store> {
     ghost rests_on_named: { (file : Self) (one other : S) (value : QuotaValue)
         → (S.seen other).files (seen file).name ≡ (S.seen one).files (seen file).name
         → holds file one value → holds file other value };
+
+    /// The named file stands for what an opened file with its store holds.
+    ghost held_stands: { (file : Self) (store : S) (value : QuotaValue) → holds file store value
+        → IsSomeAnd ((S.seen store).files (seen file).name) (λ bytes. stands_for (seen file).format bytes value) };
 }

@@ -4,6 +4,7 @@ ghost use Rattle.outside.specs.Frame.{OnlyReads};
 ghost use Rattle.quota_blocks.specs.Load.{IsLoadFault, IsReadFault};
 ghost use Rattle.quota_blocks.specs.Replace.{pieces_of};
 ghost use Rattle.outside.specs.World.{bytes_from};
+ghost use Rattle.file_blocks.specs.Block.{bytes_of};
 ghost use Rattle.quota_blocks.specs.declared.whole_file.LoadFault.TheVariants.{Store as StoreFailed, Memory};
 
 use crate::{Store, StoreFault};
@@ -38,7 +39,8 @@ impl From<AllocError> for LoadFault {
     }
 }
 
-/// Reads a whole file, of at most `most` bytes.
+/// Reads a whole file, of at most `most` bytes. Each 1,024 of its bytes are read once at most, also
+/// where it is refused.
 ///
 /// # Errors
 ///
@@ -54,8 +56,8 @@ pub fn load<S: Store>(
     ensures refused { IfErr result (IsLoadFault (S.seen store.old).faults (S.seen store.new).faults S.tells
         ((S.seen store.old).files name.now) most) }
     ensures leaves { OnlyReads (is_ok result) name.now (S.seen store.old) (S.seen store.new) }
-    ensures reads { IfOk result (λ bytes. IsTrue S.tells
-        → (S.seen store.new).reads ≤ (S.seen store.old).reads + pieces_of (length bytes.items)) }
+    ensures reads { IsTrue S.tells → (S.seen store.new).reads
+        ≤ (S.seen store.old).reads + pieces_of (length (bytes_of ((S.seen store.old).files name.now))) }
 {
     let Some(size) = store.size(name)? else {
         return Err(LoadFault::NoFile);

@@ -9,12 +9,9 @@ use Rattle.std.specs.List.Sorted.{IsStrictlyIncreasing}
 use Rattle.std.specs.Ordering.{nat_cmp}
 use Rattle.quota_types.specs.declared.record.Entry.{Entry}
 use Rattle.quota_types.specs.declared.record.Rec.{Rec}
-use Rattle.quota_blocks.specs.Frame.{OnlyReads}
 use Rattle.quota_blocks.specs.Listed.{records_of}
-use Rattle.quota_blocks.specs.QuotaFile.{FileSeen}
 use Rattle.quota_blocks.specs.QuotaValue.{IsAfter, IsNextAfter, Records}
-use Rattle.quota_blocks.specs.Seen.{StoreSeen}
-use Rattle.quota_blocks.proofs.EntriesLemmas.{entries_after, entries_after-all, entries_after-end, entries_after-next}
+use Rattle.quota_blocks.proofs.EntriesLemmas.{entries_after, entries_after-all, entries_after-end, entries_after-next, ids_after}
 use Rattle.quota_blocks.proofs.ListedLemmas.{pairs_of}
 
 -- the entries that were read, and those that come after, are all
@@ -80,6 +77,7 @@ ascend_more after ids next to is =
       ];
     }
 
--- a call on a file of the same name only reads it
-pub only_reads-of : {done : Bool} (one other : FileSeen) (old new : StoreSeen) → one ≡ other → OnlyReads done one.name old new → OnlyReads done other.name old new
-only_reads-of {done} one other old new same only = subst (λ (seen : FileSeen). OnlyReads done seen.name old new) same only
+-- an entry that comes after those that were read leaves room for no more than the identifiers behind it
+pub more_few : (after : Option ℕ) (id count more : ℕ) → count + ids_after after ≤ 2 ^ 32 → IsAfter after id → id < 2 ^ 32 → more ≡ count + 1 → more + ids_after (Some id) ≤ 2 ^ 32
+more_few None id count more few is narrow one = omega arith
+more_few (Some last) id count more few is narrow one = omega arith

@@ -1,5 +1,5 @@
 -- What is seen of a quota file of any format, and of one that is opened.
-use Rattle.std.proofs.Common.{◌≡◌, ℕ, ◌<◌, ◌≤◌, Bool, IsTrue, List, Option, Some, None, Ok, Err, refl, sym, subst, ap, ◌∙◌, arith}
+use Rattle.std.proofs.Common.{◌≡◌, ℕ, ◌<◌, ◌≤◌, Bool, IsTrue, List, length, Option, Some, None, Ok, Err, refl, sym, subst, ap, ◌∙◌, arith}
 use Rattle.std.specs.Prelude.{⊤}
 use Rattle.std.specs.Option.{IsSomeAnd}
 use Rattle.std.proofs.lemmas.Option.{none-some}
@@ -60,7 +60,7 @@ tree_refused kind (Some wanted) limit file value (FormatMismatch found) few stan
 tree_refused kind asked limit file value (Damaged damage) few stands is as_asked fits refused =
     let same : Some value.format ≡ Some refused.format = sym stands.version ∙ refused.header.version in
     let format : value.format ≡ refused.format = cc in
-    no_defect_of_sound refused.format file (header_of file) (subst (λ (f : Format). IsSound f file (header_of file)) format stands.sound) damage refused.defect
+    no_defect_of_sound refused.format file (header_of file) (subst (λ (f : Format). IsSound f file (length file) (header_of file)) format stands.sound) damage refused.defect
 
 -- a tree file is not both seen as a value and refused
 tree_seen_or_refused : (named : Option (List ℕ)) (kind : Kind) (asked : Option Format) (limit : ℕ) (value : QuotaValue) (fault : OpenFault)
@@ -178,8 +178,8 @@ pub any_held_seen : (tells : Bool) (files : World) (file : AnyFile) (value : Quo
     → IsView (files name) value.kind (Some value.format) (Ok value)
 any_held_seen tells files (FlatFile file) value name format seen held =
     subst (λ (n : List ℕ). IsView (files n) value.kind (Some value.format) (Ok value)) (ap (λ (s : FileSeen). s.name) seen)
-    (flat_held_seen tells (files (string_bytes file.opened.name)) file.bytes.items value held)
+    (flat_held_seen tells (files (string_bytes file.name)) file.bytes.items value held)
 any_held_seen tells files (TreeFile file) value name format seen held =
     subst (λ (n : List ℕ). IsView (files n) value.kind (Some value.format) (Ok value)) (ap (λ (s : FileSeen). s.name) seen)
-    (tree_held_seen tells (files (string_bytes file.opened.name)) file.tree.bytes.items file.limit value
-    (tree_limit tells (files (string_bytes file.opened.name)) file.tree.bytes.items file.limit value format (ap (λ (s : FileSeen). s.limit) seen) held) held)
+    (tree_held_seen tells (files (string_bytes file.name)) file.tree.bytes.items file.limit value
+    (tree_limit tells (files (string_bytes file.name)) file.tree.bytes.items file.limit value format (ap (λ (s : FileSeen). s.limit) seen) held) held)

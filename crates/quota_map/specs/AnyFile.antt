@@ -1,6 +1,7 @@
 -- An opened quota file of any format: what it holds with its store, what is seen of it, and what is said of all its calls.
-use Rattle.std.specs.Prelude.{◌≡◌, Bool, List, Option, ℕ}
+use Rattle.std.specs.Prelude.{◌≡◌, Bool, true, List, Option, ℕ}
 use Rattle.std.specs.String.{string_bytes}
+use Rattle.quota_types.specs.Format.{IsTreeFormat, is_flat}
 use Rattle.quota_types.specs.declared.file_kind.Format.{Format}
 use Rattle.quota_types.specs.declared.file_kind.Format.TheVariants.{V1 as Flat, V2R0, V2R1}
 use Rattle.quota_blocks.specs.Changes.{FileAt, FileLaws, file_at, laws_of}
@@ -15,18 +16,19 @@ use Rattle.tree_file.specs.Opened.{HoldsTree, LacksRoom, MayRefuse as MayRefuseT
 use Rattle.tree_file.specs.TreeChange.{TreeMakes}
 use Rattle.quota_v1.specs.Change.{FlatMakes, MayRefuse as MayRefuseFlat}
 use Rattle.quota_v1.specs.Opened.{HoldsFlat, flat_seen, most_pieces}
+use Rattle.quota_map.specs.StandsFor.{StandsForAs}
 use Rattle.quota_map.specs.declared.any_file.AnyFile.{AnyFile}
 use Rattle.quota_map.specs.declared.any_file.AnyFile.TheVariants.{V1, Tree}
 
 -- the opened file, with a store that tells its files or does not, holds a value as one of its format does
 abbrev pub HoldsAny : (tells : Bool) (files : World) → AnyFile → QuotaValue → Type 0
-HoldsAny tells files (V1 file) value = HoldsFlat tells (files (string_bytes file.opened.name)) file.bytes.items value
-HoldsAny tells files (Tree file) value = HoldsTree tells (files (string_bytes file.opened.name)) file.tree.bytes.items file.limit value
+HoldsAny tells files (V1 file) value = HoldsFlat tells (files (string_bytes file.name)) file.bytes.items value
+HoldsAny tells files (Tree file) value = HoldsTree tells (files (string_bytes file.name)) file.tree.bytes.items file.limit value
 
 -- what is seen of it
 abbrev pub any_seen : AnyFile → FileSeen
-any_seen (V1 file) = flat_seen file.opened
-any_seen (Tree file) = seen_in file.opened file.tree.header.format file.limit
+any_seen (V1 file) = flat_seen file.opened (string_bytes file.name)
+any_seen (Tree file) = seen_in file.opened (string_bytes file.name) file.tree.header.format file.limit
 
 -- the opened file with what is seen of its store
 abbrev pub any_at : (tells : Bool) → StoreSeen → AnyFile → FileAt
@@ -34,13 +36,13 @@ any_at tells store file = file_at (HoldsAny tells store.files file) (any_seen fi
 
 -- The faults that a call on a file of this format may answer: those of a flat file, or those of a tree file.
 pub record MayRefuse (format : Format) (fault : FileFault) : Type 0 where
-  pub flat : format ≡ Flat → MayRefuseFlat fault
-  pub tree : ¬ (format ≡ Flat) → MayRefuseTree fault
+  pub flat : is_flat format ≡ true → MayRefuseFlat fault
+  pub tree : IsTreeFormat format → MayRefuseTree fault
 
 -- A change of a file of this format makes what one of a flat file makes, or what one of a tree file makes.
 pub record AnyMakes (format : Format) (change : FileChange) (name : List ℕ) (old new : World) : Type 0 where
-  pub flat : format ≡ Flat → FlatMakes change name old new
-  pub tree : ¬ (format ≡ Flat) → TreeMakes change name old new
+  pub flat : is_flat format ≡ true → FlatMakes change name old new
+  pub tree : IsTreeFormat format → TreeMakes change name old new
 
 -- what a change of a file of this format that failed may leave it as
 abbrev pub AnyLeaves : Format → (old after left : Option (List ℕ)) → Type 0
@@ -52,8 +54,13 @@ most_writes Flat blocks = most_pieces
 most_writes V2R0 blocks = blocks
 most_writes V2R1 blocks = blocks
 
+-- How many calls of `read` one call of `next_after` makes at most, on a file of these bytes: none, since all blocks are kept.
+-- What is said of calls that stand on it holds for any number in its place.
+unfoldable pub any_next_reads : FileSeen → Option (List ℕ) → ℕ
+any_next_reads seen file = 0
+
 -- what is said of all calls on one: a change writes it anew, so that one that failed leaves it as it was
 abbrev pub any_laws : (tells : Bool) → FileLaws
 any_laws tells =
-    laws_of tells AnyMakes AnyLeaves (λ seen _ value blocks limit. LacksRoom seen value blocks limit) MayRefuse
-    (λ _. 0) (λ seen. most_writes seen.format seen.limit)
+    laws_of tells StandsForAs AnyMakes (λ format _. AnyLeaves format) (λ seen _ _ value blocks limit. LacksRoom seen value blocks limit) MayRefuse
+    (λ _ _. 0) (λ seen _. most_writes seen.format seen.limit)

@@ -4,6 +4,7 @@ pub mod Replacing
 pub mod Rests
 pub mod StandsFor
 pub mod View
+pub use Rattle.quota_types.specs.Format
 pub use Rattle.quota_types.specs.Kept
 pub use Rattle.quota_types.specs.Range
 pub use Rattle.quota_types.specs.Rec
@@ -13,6 +14,7 @@ pub use Rattle.quota_blocks.specs.FileChange
 pub use Rattle.quota_blocks.specs.FileUse
 pub use Rattle.quota_blocks.specs.Frame
 pub use Rattle.quota_blocks.specs.Listed
+pub use Rattle.quota_blocks.specs.LooksUp
 pub use Rattle.quota_blocks.specs.QuotaFile
 pub use Rattle.quota_blocks.specs.QuotaValue
 pub use Rattle.quota_blocks.specs.Replace

@@ -1,6 +1,7 @@
 -- What is seen of a quota file by whoever opens it: as a flat file exactly where that format is asked for, and else as a tree
 -- file. Source: quotaon(8) and setquota(8) on formats, of which only vfsold has no magic number.
-use Rattle.std.specs.Prelude.{◌≡◌, ℕ, Bool, true, List, length, Option, Some, None, Result}
+use Rattle.std.specs.Prelude.{◌≡◌, ℕ, Bool, true, false, List, length, max, Option, Some, None, Result}
+use Rattle.quota_types.specs.Format.{IsTreeFormat, is_flat}
 use Rattle.quota_types.specs.declared.file_kind.Format.{Format}
 use Rattle.quota_types.specs.declared.file_kind.Format.TheVariants.{V1, V2R0, V2R1}
 use Rattle.quota_types.specs.declared.file_kind.Kind.{Kind}
@@ -15,6 +16,11 @@ use Rattle.quota_v1.specs.View.{IsFlatFault, IsFlatView}
 -- how many blocks a tree file may have
 abbrev pub most_blocks : ℕ
 most_blocks = 1048576
+
+-- a flat file is asked for
+abbrev pub asks_flat : Option Format → Bool
+asks_flat None = false
+asks_flat (Some format) = is_flat format
 
 -- the file stands for a value of the kind, in the format that was asked for, where one was; or it is refused
 abbrev pub IsView : Option (List ℕ) → Kind → Option Format → Result QuotaValue OpenFault → Type 0
@@ -42,11 +48,13 @@ fresh_seen name format = record { name = name; format = format; usable = true; l
 
 -- The format of an opened file is the one that was asked for, and one of a tree file where none was.
 abbrev pub IsOpenedAs : Option Format → Format → Type 0
-IsOpenedAs None format = ¬ (format ≡ V1)
+IsOpenedAs None format = IsTreeFormat format
 IsOpenedAs (Some wanted) format = format ≡ wanted
 
--- how many calls of `read` the opening of a file of these bytes makes at most, by its format
-abbrev pub opening_reads : Format → List ℕ → ℕ
-opening_reads V1 bytes = pieces_of (length bytes)
-opening_reads V2R0 bytes = (header_of bytes).blocks
-opening_reads V2R1 bytes = (header_of bytes).blocks
+-- how many calls of `read` the opening of a file of these bytes makes at most, also where it is refused, by the format that was
+-- asked for: one for each 1,024 bytes of a flat file, and one for each block that the header of a tree file states, or the first
+abbrev pub opening_reads : Option Format → List ℕ → ℕ
+opening_reads None bytes = max 1 (header_of bytes).blocks
+opening_reads (Some V1) bytes = pieces_of (length bytes)
+opening_reads (Some V2R0) bytes = max 1 (header_of bytes).blocks
+opening_reads (Some V2R1) bytes = max 1 (header_of bytes).blocks

@@ -33,8 +33,9 @@ impl AnyFile {
 
 impl<S: Store> QuotaFile<S> for AnyFile {
     ghost use Rattle.tree_file.specs.Opened.{LacksRoom};
-    ghost use Rattle.quota_map.specs.AnyFile.{AnyLeaves, AnyMakes, HoldsAny, MayRefuse, any_seen, most_writes};
-    ghost use Rattle.quota_map.specs.Rests.{rests_on_named};
+    ghost use Rattle.quota_map.specs.AnyFile.{AnyLeaves, AnyMakes, HoldsAny, MayRefuse, any_next_reads, any_seen, most_writes};
+    ghost use Rattle.quota_map.specs.Rests.{held_stands, rests_on_named};
+    ghost use Rattle.quota_map.specs.StandsFor.{StandsForAs};
 
     ghost holds = { λ file store value. HoldsAny S.tells (S.seen store).files file value };
 
@@ -42,22 +43,26 @@ impl<S: Store> QuotaFile<S> for AnyFile {
 
     ghost may_refuse = { MayRefuse };
 
-    ghost lacks_room = { λ seen _ value blocks limit. LacksRoom seen value blocks limit };
+    ghost stands_for = { StandsForAs };
+
+    ghost lacks_room = { λ seen _ _ value blocks limit. LacksRoom seen value blocks limit };
 
     ghost makes = { AnyMakes };
 
-    ghost may_leave = { AnyLeaves };
+    ghost may_leave = { λ format _. AnyLeaves format };
 
     ghost get_reads = { λ _. 0 };
 
-    ghost next_reads = { λ _ _. 0 };
+    ghost next_reads = { any_next_reads };
 
-    ghost change_reads = { λ _. 0 };
+    ghost change_reads = { λ _ _. 0 };
 
-    ghost change_writes = { λ seen. most_writes seen.format seen.limit };
+    ghost change_writes = { λ seen _. most_writes seen.format seen.limit };
 
     ghost rests_on_named = { λ file one other value named held.
         rests_on_named S.tells (S.seen one).files (S.seen other).files file value named held };
+
+    ghost held_stands = { λ file store value held. held_stands S.tells (S.seen store).files file value held };
 
     fn format(&self) -> Format {
         match self {

@@ -2,7 +2,7 @@ ghost use Rattle.std.specs.Prelude.{◌≡◌, ◌+◌, ◌≤◌, Ok, IsTrue, I
 ghost use Rattle.quota_blocks.specs.Frame.{OnlyReads};
 ghost use Rattle.quota_blocks.specs.QuotaValue.{QuotaValue};
 ghost use Rattle.quota_blocks.specs.Block.{bytes_of};
-ghost use Rattle.quota_map.specs.View.{IsOpenFault, IsOpenedAs, IsView, fresh_seen, opening_reads};
+ghost use Rattle.quota_map.specs.View.{IsOpenFault, IsOpenedAs, IsView, asks_flat, fresh_seen, opening_reads};
 
 use crate::AnyFile;
 use quota_blocks::{OpenFault, QuotaFile, Store};
@@ -38,11 +38,21 @@ pub fn open_file<S: Store>(
     ensures refused { IfErr result (IsOpenFault (S.seen store.old).faults (S.seen store.new).faults S.tells
         ((S.seen store.old).files name.now) kind format) }
     ensures leaves { OnlyReads (is_ok result) name.now (S.seen store.old) (S.seen store.new) }
-    ensures reads { IfOk result (λ file. IsTrue S.tells → (S.seen store.new).reads ≤ (S.seen store.old).reads
-        + opening_reads (⟦<AnyFile as QuotaFile<S>>⟧.seen file).format (bytes_of ((S.seen store.old).files name.now))) }
+    ensures reads { IsTrue S.tells → (S.seen store.new).reads ≤ (S.seen store.old).reads
+        + opening_reads format (bytes_of ((S.seen store.old).files name.now)) }
 {
-    if format == Some(Format::V1) {
+    if asks_flat(format) {
         return Ok(AnyFile::V1(open_v1(alloc, store, name)?));
     }
     Ok(AnyFile::Tree(open_tree(alloc, store, name, kind, format, MOST_BLOCKS)?))
+}
+
+/// Whether a flat file is asked for.
+fn asks_flat(format: Option<Format>) -> bool
+    ensures { result ≡ asks_flat format }
+{
+    match format {
+        Some(format) => format.is_flat(),
+        None => false,
+    }
 }

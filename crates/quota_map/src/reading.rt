@@ -1,10 +1,12 @@
-ghost use Rattle.std.specs.Prelude.{◌≡◌, ◌^◌, ◌<◌, IsTrue, All, IfOk, IfErr, OnOk, is_ok};
+ghost use Rattle.std.specs.Prelude.{◌≡◌, ◌+◌, ◌*◌, ◌^◌, ◌<◌, ◌≤◌, IsTrue, All, IfOk, length};
+ghost use Rattle.std.specs.FinMap.{entries};
 ghost use Rattle.std.specs.List.Sorted.{IsStrictlyIncreasing};
 ghost use Rattle.quota_types.specs.Kept.{IsKept};
-ghost use Rattle.quota_blocks.specs.Frame.{OnlyReads};
 ghost use Rattle.quota_blocks.specs.Listed.{ids_of, records_of};
 ghost use Rattle.quota_blocks.specs.QuotaValue.{QuotaValue};
-ghost use Rattle.quota_map.specs.Reading.{CountsReadFault, IsReadFault, UnlessMemory};
+ghost use Rattle.quota_blocks.specs.LooksUp.{LooksUp};
+ghost use Rattle.quota_map.specs.AnyFile.{HoldsAny, any_at, any_laws, any_next_reads, any_seen};
+ghost use Rattle.quota_map.specs.Reading.{file_refusal};
 
 use crate::AnyFile;
 use quota_blocks::{FileFault, QuotaFile, Store};
@@ -28,13 +30,15 @@ pub fn read_all<S: Store>(
     ensures ascends { IfOk result (λ list. IsStrictlyIncreasing (ids_of list.items)) }
     ensures narrow { IfOk result (λ list. All (λ entry. entry.id < 2 ^ 32) list.items) }
     ensures kept { IfOk result (λ list. All (λ entry. IsKept (⟦<AnyFile as QuotaFile<S>>⟧.seen file.old).format entry.id entry.rec) list.items) }
-    ensures refused { IfErr result (IsReadFault (S.seen store.old).faults (S.seen store.new).faults
-        (⟦<AnyFile as QuotaFile<S>>⟧.holds file.old store.old)) }
-    ensures may { IfErr result (λ fault. UnlessMemory fault (⟦<AnyFile as QuotaFile<S>>⟧.may_refuse (⟦<AnyFile as QuotaFile<S>>⟧.seen file.old).format fault)) }
-    ensures stays { (value : QuotaValue) → ⟦<AnyFile as QuotaFile<S>>⟧.holds file.old store.old value → ⟦<AnyFile as QuotaFile<S>>⟧.holds file.new store.new value }
-    ensures leaves { OnlyReads (is_ok result) (⟦<AnyFile as QuotaFile<S>>⟧.seen file.old).name (S.seen store.old) (S.seen store.new) }
-    ensures same { OnOk result (⟦<AnyFile as QuotaFile<S>>⟧.seen file.new ≡ ⟦<AnyFile as QuotaFile<S>>⟧.seen file.old) }
-    ensures counted { IfErr result (CountsReadFault (⟦<AnyFile as QuotaFile<S>>⟧.seen file.old) (⟦<AnyFile as QuotaFile<S>>⟧.seen file.new)) }
+    ensures looks { LooksUp file_refusal (any_laws S.tells) (any_at S.tells (S.seen store.old) file.old)
+        (any_at S.tells (S.seen store.new) file.new)
+        (any_next_reads (any_seen file.old) ((S.seen store.old).files (any_seen file.old).name) * (2 ^ 32 + 1)) result }
+    // There is one look-up for each record, and one that finds no more.
+    ensures reads { IfOk result (λ list. (S.seen store.new).reads ≤ (S.seen store.old).reads
+        + any_next_reads (any_seen file.old) ((S.seen store.old).files (any_seen file.old).name) * (length list.items + 1)) }
+    ensures few { (value : QuotaValue) → HoldsAny S.tells (S.seen store.old).files file.old value
+        → (S.seen store.new).reads ≤ (S.seen store.old).reads
+        + any_next_reads (any_seen file.old) ((S.seen store.old).files (any_seen file.old).name) * (length (entries value.records) + 1) }
 {
     let mut list = Vec::new(alloc);
     let mut after = None;

@@ -1,5 +1,6 @@
-ghost use Rattle.std.specs.Prelude.{◌≡◌, ◌≢◌, ◌*◌, ◌^◌, ◌≤◌, false, None, Ok, Some, All, length, vec_len, IsTrue, IfOk, IfErr, OnOk, OnErr};
+ghost use Rattle.std.specs.Prelude.{◌≡◌, ◌*◌, ◌^◌, ◌≤◌, true, false, None, Ok, Some, All, length, vec_len, IsTrue, IfOk, IfErr, OnOk, OnErr};
 ghost use Rattle.std.specs.List.Sorted.{IsStrictlyIncreasing};
+ghost use Rattle.quota_types.specs.Format.{is_flat};
 ghost use Rattle.quota_types.specs.Kept.{kept_of};
 ghost use Rattle.quota_types.specs.Range.{grace_unfit, unfit};
 ghost use Rattle.quota_types.specs.Rec.{is_zeros};
@@ -42,7 +43,7 @@ pub fn replace_file<S: Store>(
     requires ascending { IsStrictlyIncreasing (ids_of list.now) }
     requires fits { All (λ entry. unfit format entry.id entry.rec ≡ None) list.now }
     requires kept { All (λ entry. kept_of format entry.id entry.rec ≡ entry.rec) list.now }
-    requires not_zeros { format ≡ Format.V1 → All (λ entry. is_zeros entry.rec ≡ false) list.now }
+    requires not_zeros { is_flat format ≡ true → All (λ entry. is_zeros entry.rec ≡ false) list.now }
     ensures replaced { OnOk result (IsTrue S.tells
         → IsReplacedBy name.now (value_of kind format grace (flags_in format flags) list.now) (ids_of list.now)
         (built_size format (ids_of list.now)) (S.seen store.old).files (S.seen store.new).files) }
@@ -81,7 +82,7 @@ fn built(
     requires ascending { IsStrictlyIncreasing (ids_of list.now) }
     requires fits { All (λ entry. unfit format entry.id entry.rec ≡ None) list.now }
     requires kept { All (λ entry. kept_of format entry.id entry.rec ≡ entry.rec) list.now }
-    requires not_zeros { format ≡ Format.V1 → All (λ entry. is_zeros entry.rec ≡ false) list.now }
+    requires not_zeros { is_flat format ≡ true → All (λ entry. is_zeros entry.rec ≡ false) list.now }
     ensures stands { IfOk result (λ file. StandsFor file.items
         (value_of kind format grace (flags_in format flags) list.now)) }
     ensures plain { IfOk result (λ file. IsPlain format grace (ids_of list.now) file.items) }

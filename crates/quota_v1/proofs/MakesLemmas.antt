@@ -1,5 +1,5 @@
 -- What the changes of a flat file make of its bytes.
-use Rattle.std.proofs.Common.{◌≡◌, ℕ, ◌+◌, ◌*◌, ◌%◌, ◌≤◌, List, length, Option, Some, None, Result, Ok, Err, IfOk, sym, ap, ◌∙◌, max, refl, arith}
+use Rattle.std.proofs.Common.{◌≡◌, ℕ, ◌+◌, ◌*◌, ◌%◌, List, length, Option, Some, None, Result, Ok, Err, IfOk, sym, ap, ◌∙◌, max, refl, arith}
 use Rattle.std.specs.Prelude.{false, true, is_none, is_some}
 use Rattle.std.specs.FinMap.{get}
 use Rattle.quota_types.specs.Bytes.{number_at}

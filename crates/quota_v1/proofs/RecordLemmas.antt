@@ -17,7 +17,8 @@ use Rattle.quota_blocks.specs.QuotaValue.{QuotaValue, with_record, without_recor
 use Rattle.quota_blocks.specs.Span.{KeepsOutside}
 use Rattle.quota_v1.specs.Opened.{HoldsFlat}
 use Rattle.quota_v1.specs.FlatFile.{FlatStandsFor, flat_record, flat_grace, or_week, stored_record, timed_record, unless_zeros}
-use Rattle.quota_v1.proofs.ChangeLemmas.{number_at-same, number_before, number_behind}
+use Rattle.quota_types.proofs.BytesLemmas.{number_same}
+use Rattle.quota_types.proofs.NumberLemmas.{number_before, number_behind}
 
 -- an identifier above 0 has timers
 timed_record-other : (file : List ℕ) (id : ℕ) → (id == 0) ≡ false → timed_record file id ≡ stored_record file id
@@ -41,11 +42,11 @@ written_record file id rec other kept e1 e2 e3 e4 e5 e6 e7 e8 =
 pub timed_record-same : (old new : List ℕ) (q : ℕ) → ((k : ℕ) → 40 * q ≤ k → k < 40 * q + 24 → byte_at new k ≡ byte_at old k)
     → (0 < q → (k : ℕ) → 40 * q + 24 ≤ k → k < 40 * q + 40 → byte_at new k ≡ byte_at old k) → timed_record new q ≡ timed_record old q
 timed_record-same old new zero numbers times =
-    let same : (width at : ℕ) → at + width ≤ 24 → number_at width new at ≡ number_at width old at = λ width at h. number_at-same width at old new (λ k a b. numbers k (omega arith) (omega arith)) in
+    let same : (width at : ℕ) → at + width ≤ 24 → number_at width new at ≡ number_at width old at = λ width at h. number_same width at new old (λ k a b. numbers k (omega arith) (omega arith)) in
     rw (same 4 0 (omega arith), same 4 4 (omega arith), same 4 8 (omega arith), same 4 12 (omega arith), same 4 16 (omega arith), same 4 20 (omega arith))
 timed_record-same old new (suc n) numbers times =
-    let same : (width at : ℕ) → 40 * suc n ≤ at → at + width ≤ 40 * suc n + 24 → number_at width new at ≡ number_at width old at = λ width at g h. number_at-same width at old new (λ k a b. numbers k (omega arith) (omega arith)) in
-    let same_time : (width at : ℕ) → 40 * suc n + 24 ≤ at → at + width ≤ 40 * suc n + 40 → number_at width new at ≡ number_at width old at = λ width at g h. number_at-same width at old new (λ k a b. times (omega arith) k (omega arith) (omega arith)) in
+    let same : (width at : ℕ) → 40 * suc n ≤ at → at + width ≤ 40 * suc n + 24 → number_at width new at ≡ number_at width old at = λ width at g h. number_same width at new old (λ k a b. numbers k (omega arith) (omega arith)) in
+    let same_time : (width at : ℕ) → 40 * suc n + 24 ≤ at → at + width ≤ 40 * suc n + 40 → number_at width new at ≡ number_at width old at = λ width at g h. number_same width at new old (λ k a b. times (omega arith) k (omega arith) (omega arith)) in
     let stored : stored_record new (suc n) ≡ stored_record old (suc n) =
     rw (
       same 4 (40 * suc n) (omega arith) (omega arith),

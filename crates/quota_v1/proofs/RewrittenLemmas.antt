@@ -1,7 +1,6 @@
 -- A flat file that is written anew for a change of it.
-use Rattle.std.proofs.Common.{◌≡◌, ℕ, ◌+◌, ◌≤◌, Bool, true, false, IsTrue, List, length, Option, Some, Ok, Err, IfErr, OnErr, refl, sym, ap, subst, ◌∙◌, arith}
+use Rattle.std.proofs.Common.{◌≡◌, ℕ, ◌+◌, ◌≤◌, Bool, true, false, IsTrue, List, length, Ok, Err, refl, sym, ap, subst, arith}
 use Rattle.std.specs.Prelude.{not}
-use Rattle.std.specs.String.{string_bytes}
 use Rattle.quota_types.specs.declared.file_kind.Format.{Format}
 use Rattle.quota_types.specs.declared.file_kind.Format.TheVariants.{V1}
 use Rattle.quota_blocks.specs.Changes.{Changes}
@@ -30,29 +29,28 @@ use Rattle.quota_v1.specs.View.{flat_limit}
 abbrev pub IsBusy : FileChange → List ℕ → Type 0
 IsBusy change before = (value : QuotaValue) → FlatStandsFor before value → has_nothing_to_do change value ≡ false
 
-wanted : (change : FileChange) (tells : Bool) (store : StoreSeen) (opened : FileUse) (before : List ℕ) → IsBusy change before → IsWanted change (flat_laws tells) (flat_at tells store opened before)
-wanted change tells store opened before busy = record { busy = λ value held. busy value held.stands; room = λ needs value blocks limit held lacks. lacks }
+wanted : (change : FileChange) (tells : Bool) (store : StoreSeen) (name : List ℕ) (opened : FileUse) (before : List ℕ) → IsBusy change before → IsWanted change (flat_laws tells) (flat_at tells store name opened before)
+wanted change tells store name opened before busy = record { busy = λ value held. busy value held.stands; room = λ needs value blocks limit held lacks. lacks }
 
 -- the same file is held once nothing but the count of its refusals has changed
-still_held : (tells : Bool) (old new : World) (name name' before : List ℕ) → name' ≡ name → new ≡ old → (value : QuotaValue) → HoldsFlat tells (old name) before value → HoldsFlat tells (new name') before value
-still_held tells old new name name' before named same value held =
-    rests_on_named tells (old name) (new name') before value (ap new named ∙ ap (λ (files : World). files name) same) held
+still_held : (tells : Bool) (old new : World) (name before : List ℕ) → new ≡ old → (value : QuotaValue) → HoldsFlat tells (old name) before value → HoldsFlat tells (new name) before value
+still_held tells old new name before same value held =
+    rests_on_named tells (old name) (new name) before value (ap (λ (files : World). files name) same) held
 
 -- what a file of so many bytes at most makes of calls
-bounded : (tells : Bool) (old new : StoreSeen) (opened opened' : FileUse) (before after : List ℕ) (long : ℕ) → long ≤ flat_limit → new.reads ≡ old.reads → new.writes ≤ old.writes + pieces_of long
-    → IsBounded (flat_laws tells) (flat_at tells old opened before) (flat_at tells new opened' after)
-bounded tells old new opened opened' before after long few reads writes = record { reads = omega (arith, reads); writes = omega (arith, few, writes) }
+bounded : (change : FileChange) (tells : Bool) (old new : StoreSeen) (name : List ℕ) (opened opened' : FileUse) (before after : List ℕ) (long : ℕ) → long ≤ flat_limit → new.reads ≡ old.reads → new.writes ≤ old.writes + pieces_of long
+    → IsBounded change (flat_laws tells) (flat_at tells old name opened before) (flat_at tells new name opened' after)
+bounded change tells old new name opened opened' before after long few reads writes = record { reads = omega (arith, reads); writes = omega (arith, few, writes) }
 
 -- it was written
-pub flat-done : (change : FileChange) (tells : Bool) (old new : StoreSeen) (opened opened' : FileUse) (before bytes : List ℕ) (told : Unit {0}) → opened' ≡ opened
-    → (IsTrue tells → new.files ≡ replaced_files old.files (string_bytes opened.name) bytes) → (IsTrue tells → IsSynced (string_bytes opened.name) old new)
-    → ReplacesOne (string_bytes opened.name) old new → new.reads ≡ old.reads → new.writes ≤ old.writes + pieces_of (length bytes)
+pub flat-done : (change : FileChange) (tells : Bool) (old new : StoreSeen) (name : List ℕ) (opened opened' : FileUse) (before bytes : List ℕ) (told : Unit {0}) → opened' ≡ opened
+    → (IsTrue tells → new.files ≡ replaced_files old.files name bytes) → (IsTrue tells → IsSynced name old new)
+    → ReplacesOne name old new → new.reads ≡ old.reads → new.writes ≤ old.writes + pieces_of (length bytes)
     → length bytes ≤ flat_limit → IsBusy change before → IsFlatChange change before bytes
-    → Changes change (flat_laws tells) (flat_at tells old opened before) (flat_at tells new opened' bytes) (Ok told)
-flat-done change tells old new opened opened' before bytes told is replaced synced leaves reads writes few busy so =
-    let name = string_bytes opened.name in
-    subst (λ (o : FileUse). Changes change (flat_laws tells) (flat_at tells old opened before) (flat_at tells new o bytes) (Ok told)) (sym is)
-    (changes-done change (flat_laws tells) (flat_at tells old opened before) (flat_at tells new opened bytes) told (wanted change tells old opened before busy)
+    → Changes change (flat_laws tells) (flat_at tells old name opened before) (flat_at tells new name opened' bytes) (Ok told)
+flat-done change tells old new name opened opened' before bytes told is replaced synced leaves reads writes few busy so =
+    subst (λ (o : FileUse). Changes change (flat_laws tells) (flat_at tells old name opened before) (flat_at tells new name o bytes) (Ok told)) (sym is)
+    (changes-done change (flat_laws tells) (flat_at tells old name opened before) (flat_at tells new name opened bytes) told (wanted change tells old name opened before busy)
     (λ value held. record {
       told = held.told;
       same = replaced-named old.files new.files name bytes (replaced held.told);
@@ -60,30 +58,29 @@ flat-done change tells old new opened opened' before bytes told is replaced sync
       stands = so.stands value held.stands;
     })
     (λ value held. writes_anew (FlatChanged change) old.files new.files name before bytes held.same (replaced held.told) so.changed)
-    synced refl leaves (bounded tells old new opened opened before bytes (length bytes) few reads writes))
+    synced refl leaves (bounded change tells old new name opened opened before bytes (length bytes) few reads writes))
 
 -- the store failed, or memory was wanting
-pub flat-failed : (change : FileChange) (tells : Bool) (old new : StoreSeen) (opened opened' : FileUse) (before : List ℕ) (fault : FileFault) (long : ℕ) → long ≤ flat_limit → new.reads ≡ old.reads → new.writes ≤ old.writes + pieces_of long
-    → IsRewriteFault old.faults new.faults fault → KeepsOthers (replacement_name (string_bytes opened.name)) old.files new.files
-    → UnlessStoreFailed fault (OnlyReads true (string_bytes opened.name) old new)
-    → ((format : Format) (limit : ℕ) → CountsRefusal (not (is_store_fault fault)) (seen_in opened format limit) (seen_in opened' format limit))
-    → ReplacesOne (string_bytes opened.name) old new → IsBusy change before
-    → Changes change (flat_laws tells) (flat_at tells old opened before) (flat_at tells new opened' before) (Err fault)
-flat-failed change tells old new opened opened' before fault long few reads writes refused kept unwritten counted leaves busy =
-    let name = string_bytes opened.name in
-    changes-anew change (flat_laws tells) (flat_at tells old opened before) (flat_at tells new opened' before) (Err fault) (wanted change tells old opened before busy)
+pub flat-failed : (change : FileChange) (tells : Bool) (old new : StoreSeen) (name : List ℕ) (opened opened' : FileUse) (before : List ℕ) (fault : FileFault) (long : ℕ) → long ≤ flat_limit → new.reads ≡ old.reads → new.writes ≤ old.writes + pieces_of long
+    → IsRewriteFault old.faults new.faults fault → KeepsOthers (replacement_name name) old.files new.files
+    → UnlessStoreFailed fault (OnlyReads true name old new)
+    → ((any : List ℕ) (format : Format) (limit : ℕ) → CountsRefusal (not (is_store_fault fault)) (seen_in opened any format limit) (seen_in opened' any format limit))
+    → ReplacesOne name old new → IsBusy change before
+    → Changes change (flat_laws tells) (flat_at tells old name opened before) (flat_at tells new name opened' before) (Err fault)
+flat-failed change tells old new name opened opened' before fault long few reads writes refused kept unwritten counted leaves busy =
+    changes-anew change (flat_laws tells) (flat_at tells old name opened before) (flat_at tells new name opened' before) (Err fault) (wanted change tells old name opened before busy)
     tt tt tt tt tt tt refused
     (kept name (λ same. replacement_name-ne name (sym same)))
-    (λ same. still_held tells old.files new.files name (string_bytes opened'.name) before (counted V1 0).name same)
-    unwritten (counted V1 0) leaves (bounded tells old new opened opened' before before long few reads writes)
+    (λ same. still_held tells old.files new.files name before same)
+    unwritten (counted name V1 0) leaves (bounded change tells old new name opened opened' before before long few reads writes)
 
 -- memory was wanting before
-pub flat-refused : (change : FileChange) (tells : Bool) (store : StoreSeen) (opened opened' : FileUse) (before : List ℕ)
-    → ((format : Format) (limit : ℕ) → CountsRefusal true (seen_in opened format limit) (seen_in opened' format limit)) → IsBusy change before
-    → Changes change (flat_laws tells) (flat_at tells store opened before) (flat_at tells store opened' before) (Err Memory)
-flat-refused change tells store opened opened' before counted busy =
-    changes-refused change (flat_laws tells) (flat_at tells store opened before) (flat_at tells store opened' before) Memory refl tt tt tt
-    (λ value held. busy value held.stands) (counted V1 0)
-    (still_held tells store.files store.files (string_bytes opened.name) (string_bytes opened'.name) before (counted V1 0).name refl)
+pub flat-refused : (change : FileChange) (tells : Bool) (store : StoreSeen) (name : List ℕ) (opened opened' : FileUse) (before : List ℕ)
+    → ((any : List ℕ) (format : Format) (limit : ℕ) → CountsRefusal true (seen_in opened any format limit) (seen_in opened' any format limit)) → IsBusy change before
+    → Changes change (flat_laws tells) (flat_at tells store name opened before) (flat_at tells store name opened' before) (Err Memory)
+flat-refused change tells store name opened opened' before counted busy =
+    changes-refused change (flat_laws tells) (flat_at tells store name opened before) (flat_at tells store name opened' before) Memory refl tt tt tt
+    (λ value held. busy value held.stands) (counted name V1 0)
+    (still_held tells store.files store.files name before refl)
     (only_reads-none _ _)
-    (bounded-none (flat_laws tells) (flat_at tells store opened before) (flat_at tells store opened' before) refl refl)
+    (bounded-none change (flat_laws tells) (flat_at tells store name opened before) (flat_at tells store name opened' before) refl refl)

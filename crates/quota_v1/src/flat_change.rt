@@ -8,28 +8,20 @@ ghost use Rattle.quota_blocks.specs.Span.{KeepsOutside};
 ghost use Rattle.quota_v1.specs.FlatFile.{timed_record};
 
 use crate::flat_record::RECORD;
-use byteorder::{ByteOrder, LittleEndian};
-use quota_types::{Grace, Rec};
+use quota_types::{Grace, Rec, set_le32_at, set_le64_at};
 use std::alloc::{AllocError, Global};
 
 /// Where the two times of a record begin.
 pub(crate) const TIMES: usize = 24;
 
+/// Writes a number of four bytes.
 fn write4(bytes: &mut [u8], at: usize, number: u64)
     requires within { at + 4 ≤ length bytes.old }
     requires small { number < 2 ^ 32 }
     ensures value { number_at 4 bytes.new at ≡ number }
     ensures kept { KeepsOutside at (at + 4) bytes.old bytes.new }
 {
-    LittleEndian::write_u32(&mut bytes[at..], number as u32);
-}
-
-fn write8(bytes: &mut [u8], at: usize, number: u64)
-    requires { at + 8 ≤ length bytes.old }
-    ensures value { number_at 8 bytes.new at ≡ number }
-    ensures kept { KeepsOutside at (at + 8) bytes.old bytes.new }
-{
-    LittleEndian::write_u64(&mut bytes[at..], number);
+    set_le32_at(bytes, at, number as u32);
 }
 
 /// Writes a hard limit, a soft limit and a usage.
@@ -55,8 +47,8 @@ pub(crate) fn write_times(bytes: &mut [u8], at: usize, block: u64, inode: u64)
     ensures inode { number_at 8 bytes.new (at + 8) ≡ inode }
     ensures kept { KeepsOutside at (at + 16) bytes.old bytes.new }
 {
-    write8(bytes, at, block);
-    write8(bytes, at + 8, inode);
+    set_le64_at(bytes, at, block);
+    set_le64_at(bytes, at + 8, inode);
 }
 
 /// Writes the record of an identifier, but its times.

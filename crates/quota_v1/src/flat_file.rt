@@ -1,4 +1,5 @@
 ghost use Rattle.std.specs.Prelude.{◌≡◌, ◌%◌, ◌≤◌, vec_len, false, IfOk, IsTrue};
+ghost use Rattle.std.specs.String.{string_bytes};
 ghost use Rattle.quota_blocks.specs.Changes.{Changes};
 ghost use Rattle.quota_blocks.specs.FileChange.{FileChange, has_nothing_to_do};
 ghost use Rattle.quota_blocks.specs.QuotaValue.{QuotaValue};
@@ -13,12 +14,13 @@ use quota_blocks::{FileFault, FileUse, QuotaFile, Store};
 use quota_types::{Entry, Format, Grace, Rec};
 use std::alloc::AllocError;
 
-/// An opened flat file, which keeps its bytes.
+/// An opened flat file, which keeps its name and its bytes.
 ///
 /// A change writes the whole file anew and renames it, so that a fault leaves the named file as it was. A look-up reads
 /// nothing of the store.
 #[derive(Debug, Drop)]
 pub struct V1File {
+    pub(crate) name: String,
     pub(crate) opened: FileUse,
     pub(crate) bytes: Vec<u8>,
     ghost whole: { vec_len bytes % 40 ≡ 0 },
@@ -39,12 +41,15 @@ impl V1File {
         ensures changes { (change : FileChange)
             → ((value : QuotaValue) → FlatStandsFor self.old.bytes.items value → has_nothing_to_do change value ≡ false)
             → IfOk bytes (λ bytes. IsFlatChange change self.old.bytes.items bytes.items)
-            → Changes change (flat_laws S.tells) (flat_at S.tells (S.seen store.old) self.old.opened self.old.bytes.items)
-            (flat_at S.tells (S.seen store.new) self.new.opened self.new.bytes.items) result }
+            → Changes change (flat_laws S.tells)
+            (flat_at S.tells (S.seen store.old) (string_bytes self.old.name) self.old.opened self.old.bytes.items)
+            (flat_at S.tells (S.seen store.new) (string_bytes self.new.name) self.new.opened self.new.bytes.items) result }
     {
         match bytes {
             Ok(bytes) => {
-                self.opened.replace(*self.bytes.allocator(), store, &bytes)?;
+                let name = self.name.as_str();
+                self.opened
+                    .replace(*self.bytes.allocator(), store, name, &bytes)?;
                 self.bytes = bytes;
                 Ok(())
             }
@@ -54,33 +59,36 @@ impl V1File {
 }
 
 impl<S: Store> QuotaFile<S> for V1File {
-    ghost use Rattle.std.specs.String.{string_bytes};
     ghost use Rattle.quota_v1.specs.Change.{FlatMakes, MayRefuse};
     ghost use Rattle.quota_v1.specs.Opened.{HoldsFlat, flat_seen, most_pieces};
-    ghost use Rattle.quota_v1.specs.Rests.{rests_on_named};
+    ghost use Rattle.quota_v1.specs.Rests.{held_stands, rests_on_named};
 
-    ghost holds = { λ file store value. HoldsFlat S.tells ((S.seen store).files (string_bytes file.opened.name))
+    ghost holds = { λ file store value. HoldsFlat S.tells ((S.seen store).files (string_bytes file.name))
         file.bytes.items value };
 
-    ghost seen = { λ file. flat_seen file.opened };
+    ghost seen = { λ file. flat_seen file.opened (string_bytes file.name) };
 
     ghost may_refuse = { λ _ fault. MayRefuse fault };
 
-    ghost lacks_room = { λ _ _ _ _ _. ⊥ };
+    ghost stands_for = { λ _ file value. FlatStandsFor file value };
+
+    ghost lacks_room = { λ _ _ _ _ _ _. ⊥ };
 
     ghost makes = { λ _ change. FlatMakes change };
 
-    ghost may_leave = { λ _ old _ left. left ≡ old };
+    ghost may_leave = { λ _ _ old _ left. left ≡ old };
 
     ghost get_reads = { λ _. 0 };
 
     ghost next_reads = { λ _ _. 0 };
 
-    ghost change_reads = { λ _. 0 };
+    ghost change_reads = { λ _ _. 0 };
 
-    ghost change_writes = { λ _. most_pieces };
+    ghost change_writes = { λ _ _. most_pieces };
 
     ghost rests_on_named = { λ file one other value named held. rests_on_named _ _ _ file.bytes.items value named held };
+
+    ghost held_stands = { λ file store value held. held_stands _ _ file.bytes.items value held };
 
     fn format(&self) -> Format {
         Format::V1

@@ -8,8 +8,7 @@ ghost use Rattle.quota_blocks.specs.QuotaValue.{IsAfter};
 ghost use Rattle.quota_v1.specs.FlatFile.{flat_grace, flat_record, IsNextRecord, or_week, stored_record, timed_record};
 ghost use Rattle.quota_v1.specs.View.{flat_limit};
 
-use byteorder::{ByteOrder, LittleEndian};
-use quota_types::{Entry, Grace, Rec};
+use quota_types::{Entry, Grace, Rec, le32_at, le64_at};
 
 /// The size of a record in bytes (`struct v1_disk_dqblk` with fields of 32 bits and times of 64).
 pub(crate) const RECORD: usize = 40;
@@ -24,19 +23,13 @@ fn or_week(seconds: u64) -> u64
     if seconds == 0 { WEEK } else { seconds }
 }
 
+/// A number of four bytes.
 fn number4(bytes: &[u8], at: usize) -> u64
     requires { at + 4 ≤ length bytes.now }
     ensures value { result ≡ number_at 4 bytes.now at }
     ensures small { result < 2 ^ 32 }
 {
-    u64::from(LittleEndian::read_u32(&bytes[at..]))
-}
-
-fn number8(bytes: &[u8], at: usize) -> u64
-    requires { at + 8 ≤ length bytes.now }
-    ensures { result ≡ number_at 8 bytes.now at }
-{
-    LittleEndian::read_u64(&bytes[at..])
+    u64::from(le32_at(bytes, at))
 }
 
 /// The bytes of an identifier, as a record.
@@ -54,8 +47,8 @@ fn stored_record(bytes: &[u8], id: usize) -> Rec
         ihard: number4(bytes, start + 12),
         isoft: number4(bytes, start + 16),
         inodes: number4(bytes, start + 20),
-        btime: number8(bytes, start + 24),
-        itime: number8(bytes, start + 32),
+        btime: le64_at(bytes, start + 24),
+        itime: le64_at(bytes, start + 32),
     }
 }
 
@@ -138,7 +131,7 @@ pub(crate) fn grace_of(bytes: &[u8]) -> Grace
         };
     }
     Grace {
-        block: or_week(number8(bytes, 24)),
-        inode: or_week(number8(bytes, 32)),
+        block: or_week(le64_at(bytes, 24)),
+        inode: or_week(le64_at(bytes, 32)),
     }
 }

@@ -18,7 +18,7 @@ use std::alloc::Global;
 /// How many bytes a flat file may have: a record for each identifier below 1,048,576.
 pub(crate) const LIMIT: u64 = 41_943_040;
 
-/// Opens a flat file, which is loaded whole, by one call of `read` for each 1,024 bytes.
+/// Opens a flat file, which is loaded whole, by one call of `read` for each 1,024 bytes; where it is refused there were no more.
 ///
 /// # Errors
 ///
@@ -35,8 +35,8 @@ pub fn open_v1<S: Store>(alloc: Global, store: &mut S, name: &str) -> Result<V1F
     ensures refused { IfErr result (IsFlatFault (S.seen store.old).faults (S.seen store.new).faults S.tells
         ((S.seen store.old).files name.now)) }
     ensures leaves { OnlyReads (is_ok result) name.now (S.seen store.old) (S.seen store.new) }
-    ensures reads { OnOk result (IsTrue S.tells → (S.seen store.new).reads
-        ≤ (S.seen store.old).reads + pieces_of (length (bytes_of ((S.seen store.old).files name.now)))) }
+    ensures reads { IsTrue S.tells → (S.seen store.new).reads
+        ≤ (S.seen store.old).reads + pieces_of (length (bytes_of ((S.seen store.old).files name.now))) }
 {
     let own_name = match String::from_str(alloc, name) {
         Ok(own_name) => own_name,
@@ -55,7 +55,7 @@ pub fn open_v1<S: Store>(alloc: Global, store: &mut S, name: &str) -> Result<V1F
 fn opened(name: String, bytes: Vec<u8>) -> Result<V1File, OpenFault>
     requires { vec_len bytes ≤ flat_limit }
     ensures bytes { IfOk result (λ file. file.bytes ≡ bytes) }
-    ensures fresh { IfOk result (λ file. flat_seen file.opened
+    ensures fresh { IfOk result (λ file. flat_seen file.opened (string_bytes file.name)
         ≡ record { name = string_bytes name; format = V1; usable = true; limit = 0; refusals = 0 }) }
     ensures whole { OnOk result (length bytes.items % 40 ≡ 0) }
     ensures refused { IfErr result (λ fault. (kind : Kind) → IsFlatView (Some bytes.items) kind (Err fault)) }
@@ -67,8 +67,11 @@ fn opened(name: String, bytes: Vec<u8>) -> Result<V1File, OpenFault>
             id: 0,
         }));
     }
-    let opened = FileUse::new(name);
-    Ok(V1File { opened, bytes })
+    Ok(V1File {
+        name,
+        opened: FileUse::new(),
+        bytes,
+    })
 }
 
 /// Why a file is refused that was found to have too many bytes, with their number.
@@ -77,6 +80,7 @@ fn too_large<S: Store>(store: &mut S, name: &str) -> OpenFault
     ensures refused { IsFlatFault (S.seen store.old).faults (S.seen store.new).faults S.tells
         ((S.seen store.old).files name.now) result }
     ensures leaves { OnlyReads false name.now (S.seen store.old) (S.seen store.new) }
+    ensures reads { (S.seen store.new).reads ≡ (S.seen store.old).reads }
 {
     match store.size(name) {
         Ok(Some(number)) => OpenFault::TooLarge {

@@ -1,3 +1,4 @@
 pub mod GatherLemmas
 pub mod LinesLemmas
+pub mod LookingLemmas
 pub mod PageLemmas

@@ -1,11 +1,12 @@
-ghost use Rattle.std.specs.Prelude.{◌≡◌, ◌≤◌, ◌++◌, true, IsTrue, OnOk, OnErr, IfErr, IfSome, is_ok};
+ghost use Rattle.std.specs.Prelude.{◌≡◌, ◌+◌, ◌*◌, ◌^◌, ◌≤◌, ◌++◌, IsTrue, OnOk, OnErr, IfErr};
 ghost use Rattle.std.specs.FinMap.{entries};
 ghost use Rattle.id_names.specs.FirstMatch.{first_name};
-ghost use Rattle.quota_blocks.specs.Frame.{OnlyReads};
-ghost use Rattle.quota_blocks.specs.QuotaFile.{CountsRefusal};
+ghost use Rattle.quota_blocks.specs.Changes.{file_at, laws_of};
+ghost use Rattle.quota_blocks.specs.Count.{Rose};
+ghost use Rattle.quota_blocks.specs.LooksUp.{LooksUp};
 ghost use Rattle.quota_blocks.specs.QuotaValue.{QuotaValue};
 ghost use Rattle.quota_blocks.specs.Text.{AppendsPrefix, Gathers, WritesPrefix};
-ghost use Rattle.report_text.specs.Fault.{IsReportFault, OnSink, file_fault};
+ghost use Rattle.report_text.specs.Fault.{OnSink, file_fault};
 ghost use Rattle.report_text.specs.Report.{report_of, lines_of};
 
 use crate::entries::put_entry;
@@ -23,7 +24,7 @@ use quota_types::Kind;
 /// # Errors
 ///
 /// After a refusal the sink has a prefix of the report. Each fault of a lookup in the file is answered as it is, and
-/// raises the file's count of refusals.
+/// raises the file's count of refusals. There is one look-up for each record and one that finds no more.
 pub fn report<S: Store, F: QuotaFile<S>, O: Sink>(
     file: &mut F,
     store: &mut S,
@@ -42,15 +43,11 @@ pub fn report<S: Store, F: QuotaFile<S>, O: Sink>(
         → (value : QuotaValue) → F.holds file.old store.old value → value.kind ≡ kind
         → AppendsPrefix (O.seen sink.old).written (O.seen sink.new).written
         (report_of value (first_name names.now) title.now now options.now)) }
-    ensures refused { IfErr result (IsReportFault (O.seen sink.old).faults (O.seen sink.new).faults
-        (S.seen store.old).faults (S.seen store.new).faults (F.holds file.old store.old)) }
-    ensures may { IfErr result (λ fault. IfSome (file_fault fault) (F.may_refuse (F.seen file.old).format)) }
-    ensures stays { (value : QuotaValue) → F.holds file.old store.old value → F.holds file.new store.new value }
-    ensures leaves { OnlyReads (is_ok result) (F.seen file.old).name (S.seen store.old) (S.seen store.new) }
-    ensures same { OnOk result (F.seen file.new ≡ F.seen file.old) }
-    ensures counted { IfErr result (λ fault. IfSome (file_fault fault) (λ _.
-        CountsRefusal true (F.seen file.old) (F.seen file.new))) }
-    ensures uncounted { IfErr result (λ fault. OnSink fault (F.seen file.new ≡ F.seen file.old)) }
+    ensures looks { LooksUp file_fault (laws_of S.tells F.stands_for F.makes F.may_leave F.lacks_room F.may_refuse
+        F.change_reads F.change_writes) (file_at (F.holds file.old store.old) (F.seen file.old) (S.seen store.old))
+        (file_at (F.holds file.new store.new) (F.seen file.new) (S.seen store.new))
+        (F.next_reads (F.seen file.old) ((S.seen store.old).files (F.seen file.old).name) * (2 ^ 32 + 1)) result }
+    ensures unsent { IfErr result (λ fault. OnSink fault (Rose (O.seen sink.old).faults (O.seen sink.new).faults)) }
     ensures sink_later { (O.seen sink.old).faults ≤ (O.seen sink.new).faults }
 {
     let mut text = Page::new();
@@ -77,15 +74,11 @@ fn put_entries<S: Store, F: QuotaFile<S>, O: Sink>(
     ensures fault { OnErr result ((value : QuotaValue) → F.holds file.old store.old value
         → WritesPrefix O.tells (O.seen sink.old).written text.old (O.seen sink.new).written
         (lines_of (first_name names.now) now options.now (entries value.records))) }
-    ensures refused { IfErr result (IsReportFault (O.seen sink.old).faults (O.seen sink.new).faults
-        (S.seen store.old).faults (S.seen store.new).faults (F.holds file.old store.old)) }
-    ensures may { IfErr result (λ fault. IfSome (file_fault fault) (F.may_refuse (F.seen file.old).format)) }
-    ensures stays { (value : QuotaValue) → F.holds file.old store.old value → F.holds file.new store.new value }
-    ensures leaves { OnlyReads (is_ok result) (F.seen file.old).name (S.seen store.old) (S.seen store.new) }
-    ensures same { OnOk result (F.seen file.new ≡ F.seen file.old) }
-    ensures counted { IfErr result (λ fault. IfSome (file_fault fault) (λ _.
-        CountsRefusal true (F.seen file.old) (F.seen file.new))) }
-    ensures uncounted { IfErr result (λ fault. OnSink fault (F.seen file.new ≡ F.seen file.old)) }
+    ensures looks { LooksUp file_fault (laws_of S.tells F.stands_for F.makes F.may_leave F.lacks_room F.may_refuse
+        F.change_reads F.change_writes) (file_at (F.holds file.old store.old) (F.seen file.old) (S.seen store.old))
+        (file_at (F.holds file.new store.new) (F.seen file.new) (S.seen store.new))
+        (F.next_reads (F.seen file.old) ((S.seen store.old).files (F.seen file.old).name) * (2 ^ 32 + 1)) result }
+    ensures unsent { IfErr result (λ fault. OnSink fault (Rose (O.seen sink.old).faults (O.seen sink.new).faults)) }
     ensures sink_later { (O.seen sink.old).faults ≤ (O.seen sink.new).faults }
 {
     let mut after = None;

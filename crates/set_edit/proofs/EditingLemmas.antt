@@ -1,11 +1,12 @@
 -- An edit of an opened file: after a lookup, and from one change of the file.
-use Rattle.std.proofs.Common.{◌≡◌, ℕ, Bool, true, false, IfOk, IsTrue, Some, Result, Ok, Err, inl, refl, sym, ap, subst, ◌∙◌}
+use Rattle.std.proofs.Common.{◌≡◌, ℕ, Bool, false, IfOk, Some, Result, Ok, Err, inl, refl, sym, ap, subst, ◌∙◌}
 use Rattle.std.proofs.lemmas.Bool.{false≢true}
 use Rattle.std.proofs.lemmas.Result.{IfErr-weaker}
 use Rattle.quota_types.specs.declared.field.Field.{Field}
 use Rattle.quota_blocks.specs.Changes.{Changes, FileAt, FileLaws, LacksRoomFor}
 use Rattle.quota_blocks.specs.FileChange.{FileChange, edit_by}
 use Rattle.quota_blocks.specs.Frame.{OnlyReads}
+use Rattle.quota_blocks.specs.LooksUp.{LooksUp}
 use Rattle.quota_blocks.specs.QuotaFile.{CountsRefusal, FileSeen, IfFull, IsChangeFault, IsLookupFault, UnlessStoreFailed}
 use Rattle.quota_blocks.specs.QuotaValue.{QuotaValue}
 use Rattle.quota_blocks.specs.World.{World}
@@ -67,29 +68,27 @@ edits-changed edit change laws old mid new told (Err fault) changes up same = re
 }
 
 -- an edit before which a lookup was refused
-pub edits-unlooked : {T : Type 0} (edit : Edit) (laws : FileLaws) (old new : FileAt) (fault : FileFault) → IsTrue old.seen.usable
-    → IsLookupFault old.store.faults new.store.faults old.holds fault → laws.may_refuse old.seen.format fault
-    → ((value : QuotaValue) → old.holds value → new.holds value) → OnlyReads false old.seen.name old.store new.store → CountsRefusal true old.seen new.seen
+pub edits-unlooked : {T U : Type 0} (edit : Edit) (laws : FileLaws) (old new : FileAt) (most : ℕ) (fault : FileFault) → LooksUp {T = U} Some laws old new most (Err fault)
     → Edits {T = T} edit laws old new (Err (File fault))
-edits-unlooked edit laws old new fault usable cause may stays read counted = record {
+edits-unlooked edit laws old new most fault looked = record {
   value = record {
     done = tt;
     refused = record {
-      cause = lookup_cause old.store.faults new.store.faults old.holds (LacksRoomFor (value_edit edit) laws old) fault cause;
-      may = may;
-      passes = lookup_never_full old.store.faults new.store.faults old.holds _ fault cause;
-      busy = lookup_busy old.store.faults new.store.faults old.holds _ fault cause;
-      counted = subst (λ (still : Bool). CountsRefusal still old.seen new.seen) (sym counted.usable) counted;
-      usable = λ other. counted.usable;
-      stays = λ usable. stays;
-      unwritten = λ usable. read;
-      fits = λ ended. absurd (false≢true (sym ended ∙ counted.usable));
-      left = λ ended. absurd (false≢true (sym ended ∙ counted.usable));
-      between = λ told. inl (ap (λ (files : World). files old.seen.name) read.files);
+      cause = lookup_cause old.store.faults new.store.faults old.holds (LacksRoomFor (value_edit edit) laws old) fault looked.refused;
+      may = looked.may;
+      passes = lookup_never_full old.store.faults new.store.faults old.holds _ fault looked.refused;
+      busy = lookup_busy old.store.faults new.store.faults old.holds _ fault looked.refused;
+      counted = subst (λ (still : Bool). CountsRefusal still old.seen new.seen) (sym looked.counted.usable) looked.counted;
+      usable = λ other. looked.counted.usable;
+      stays = λ usable. looked.stays;
+      unwritten = λ usable. looked.leaves;
+      fits = λ ended. absurd (false≢true (sym ended ∙ looked.counted.usable));
+      left = λ ended. absurd (false≢true (sym ended ∙ looked.counted.usable));
+      between = λ told. inl (ap (λ (files : World). files old.seen.name) looked.leaves.files);
     };
-    idle = λ value holds idle. read;
-    full = λ needs value blocks limit holds. IfOk-all (edit.edited value) _ (λ edited lacks. read);
-    leaves = replaces_one-read old.seen.name old.store new.store read;
+    idle = λ value holds idle. looked.leaves;
+    full = λ needs value blocks limit holds. IfOk-all (edit.edited value) _ (λ edited lacks. looked.leaves);
+    leaves = replaces_one-read old.seen.name old.store new.store looked.leaves;
   };
   no_room = tt;
 }

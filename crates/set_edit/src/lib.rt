@@ -26,7 +26,7 @@ pub use form::print_form;
 pub use form_reading::{FormFault, read_form};
 pub use grace_periods::set_grace_periods;
 pub use limits::Limits;
-pub use number::{read_limit, read_number};
+pub use number::read_limit;
 pub use skipped::Skipped;
 pub use time_word::TimeWord;
 pub use times::set_times;

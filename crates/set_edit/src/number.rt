@@ -4,13 +4,6 @@ ghost use Rattle.set_edit.specs.Number.{factor_of, limit_of, product_of};
 
 use quota_blocks::number_in;
 
-/// Reads a number of 1 to 20 decimal digits with a value below 2^64. Zeros may stand in front.
-pub fn read_number(word: &str) -> Option<u64>
-    ensures { result ≡ number_of word.now }
-{
-    number_in(word.as_bytes())
-}
-
 /// Reads a limit: a number, and behind it nothing or one suffix, with a product below 2^64.
 ///
 /// For blocks `K`, `M`, `G` and `T` stand for 1, 1,024, 1,024^2 and 1,024^3 KiB. For inodes `k`, `m`, `g` and `t` stand
@@ -30,7 +23,7 @@ pub(crate) fn limit_from(word: &[u8], blocks: bool) -> Option<u64>
 }
 
 /// What stands before the suffix of a limit, and the suffix's factor: all of the word and 1 where there is none.
-#[tactic(auto, unfolding(crate::specs::Number::limit_of, quota_blocks::specs::Numeral::number_of))]
+#[tactic(auto, unfolding(crate::specs::Number::limit_of, input_text::specs::Numeral::number_of))]
 fn split_suffix(word: &[u8], blocks: bool) -> (&[u8], u64)
     ensures { limit_of blocks word.now ≡ product_of (number_of result.0.now) (Some result.1) }
 {

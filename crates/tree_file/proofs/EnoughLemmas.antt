@@ -1,27 +1,27 @@
 -- A sound tree file has as many blocks as its identifiers need, or more.
-use Rattle.std.proofs.Common.{◌≡◌, ℕ, suc, ◌+◌, ◌*◌, ◌/◌, ◌^◌, ◌<◌, ◌≤◌, Bool, true, false, cond, not, ◌==◌, nat_lt, if◌then◌else◌, List, [], ◌∷◌, ◌++◌, length, map, refl, sym, ap, subst, ◌∙◌, inl, inr, arith, length-append, None}
+use Rattle.std.proofs.Common.{◌≡◌, ℕ, suc, ◌+◌, ◌*◌, ◌/◌, ◌^◌, ◌<◌, ◌≤◌, Bool, true, false, cond, not, ◌==◌, nat_lt, if◌then◌else◌, List, [], ◌∷◌, ◌++◌, length, map, refl, sym, ap, subst, ◌∙◌, inl, inr, arith, length-append}
 use Rattle.std.proofs.lemmas.List.{length-map}
 use Rattle.std.proofs.Math.Nat.{mul-suc}
 use Rattle.std.proofs.lemmas.Bool.{cases_lt}
 use Rattle.std.proofs.lemmas.Bool.Decides.{eqb_tells, nat_tests}
-use Rattle.std.specs.List.{AllByRecursion, filter, filter_map, flat_map, range_with_len}
+use Rattle.std.specs.List.{AllByRecursion, filter, flat_map, range_with_len}
 use Rattle.std.proofs.lemmas.List.FromFn.{length-range_with_len}
 use Rattle.quota_types.specs.declared.file_kind.Format.{Format}
 use Rattle.quota_types.specs.declared.file_kind.Format.TheVariants.{V1, V2R0, V2R1}
-use Rattle.quota_types.specs.declared.record.Entry.{Entry}
 use Rattle.quota_blocks.specs.QuotaValue.{QuotaValue}
 use Rattle.entry_codec.specs.Entry.{entries_per_block}
 use Rattle.entry_codec.specs.Header.{header_of}
 use Rattle.quota_radix.specs.declared.tree_path.TreePath.{TreePath}
 use Rattle.quota_blocks.specs.Block.{block_of}
 use Rattle.quota_types.specs.Times.{StandsIn, times}
-use Rattle.tree_build.specs.Entries.{entry_bytes, entry_of, used_entries, used_ids}
 use Rattle.quota_radix.specs.Tree.{numbers_of, data_blocks, ids_at, leaves, level, lower_blocks, paths, steps, tree_blocks}
 use Rattle.tree_build.specs.Size.{ids_in, beginnings, blocks_needed, each_once}
+use Rattle.tree_build.specs.Loose.{nothing_loose}
 use Rattle.tree_build.specs.Roles.{Filled, OneRole, roles}
 use Rattle.tree_build.specs.TreeFile.{TreeStandsFor}
 use Rattle.quota_types.proofs.TimesLemmas.{length_of_times, length_same_times, stands_right, times-cons-same, times-filter-no, times-filter-yes, times-range-high, times-range-within, times_cases}
-use Rattle.quota_types.proofs.ListLemmas.{length-filter_map, AllByRecursion-weaker}
+use Rattle.quota_types.proofs.ListLemmas.{AllByRecursion-weaker}
+use Rattle.tree_build.proofs.EntryChangeLemmas.{few_used}
 use Rattle.tree_build.proofs.MeaningLemmas.{one_meaning}
 use Rattle.quota_radix.proofs.OrderLemmas.{length_numbers}
 use Rattle.quota_radix.proofs.PathLemmas.{Rises-steps, data_block_of_id, each-append, leaves_lead, one_with}
@@ -139,15 +139,8 @@ few_paths most (block ∷ bs) ps all few =
     let here : length (ids_at ps block) ≤ most = few block (omega (arith, times-cons-same block bs)) in
     omega (arith, mul-suc most (length bs), rest, here, split block ps)
 
-pub few_used : (format : Format) (block : List ℕ) → length (used_ids format block) ≤ entries_per_block format
-unfolding used_entries
-few_used format block =
-    let count : ℕ = entries_per_block format in
-    let few = length-filter_map (λ place. entry_of format (entry_bytes format block place)) (range_with_len 0 count) in
-    omega (arith, few, length-range_with_len 0 count, length-map (filter_map (λ place. entry_of format (entry_bytes format block place)) (range_with_len 0 count)) (λ (entry : Entry). entry.id))
-
 -- the data blocks have room for all entries
-pub data_enough : (format : Format) (file : List ℕ) (blocks : ℕ) → Filled None format file blocks → length (leaves file blocks) ≤ entries_per_block format * length (data_blocks file blocks)
+pub data_enough : (format : Format) (file : List ℕ) (blocks : ℕ) → Filled nothing_loose format file blocks → length (leaves file blocks) ≤ entries_per_block format * length (data_blocks file blocks)
 data_enough format file blocks filled =
     few_paths (entries_per_block format) (data_blocks file blocks) (leaves file blocks)
     (AllByRecursion-weaker (λ (leaf : TreePath). StandsIn (ids_at (leaves file blocks) leaf.block) leaf.number) (λ (leaf : TreePath). StandsIn (data_blocks file blocks) leaf.block) (leaves file blocks)
@@ -155,11 +148,11 @@ data_enough format file blocks filled =
     (λ block stands. omega (arith, filled.counted block stands, few_used format (block_of file block)))
 
 -- the blocks of all roles are all
-pub all_roles : (file : List ℕ) (blocks free_head : ℕ) (role : OneRole None file blocks free_head)
+pub all_roles : (file : List ℕ) (blocks free_head : ℕ) (role : OneRole nothing_loose file blocks free_head)
     → 2 + length (level file blocks 1) + length (level file blocks 2) + length (level file blocks 3) + length (data_blocks file blocks) + length role.free ≡ blocks
 all_roles file blocks free_head role =
-    let all : length (roles None file blocks role.free) ≡ blocks =
-    length_same_times (roles None file blocks role.free) (range_with_len 0 blocks)
+    let all : length (roles nothing_loose file blocks role.free) ≡ blocks =
+    length_same_times (roles nothing_loose file blocks role.free) (range_with_len 0 blocks)
     (λ n. role.once n ∙ elim (cases_lt n blocks) [
       | inl low ↦ let test : nat_lt n blocks ≡ true = grind (arith, nat_tests) in ap (λ (b : Bool). if b then 1 else 0) test ∙ sym (times-range-within 0 blocks n (omega arith) (omega (arith, low)))
       | inr high ↦ let test : nat_lt n blocks ≡ false = grind (arith, nat_tests) in ap (λ (b : Bool). if b then 1 else 0) test ∙ sym (times-range-high 0 blocks n (omega (arith, high)))

@@ -1,5 +1,6 @@
 -- An entry of some bytes that is written over the one of its identifier, in a file with a header.
 use Rattle.std.proofs.Common.{◌≡◌, ℕ, ◌+◌, ◌*◌, ◌≤◌, List, length, take, drop, Some, refl, sym, ap, subst, ◌∙◌, arith}
+use Rattle.quota_types.specs.Format.{record_size}
 use Rattle.quota_types.specs.declared.file_kind.Format.{Format}
 use Rattle.quota_types.specs.declared.record.Rec.{Rec}
 use Rattle.quota_blocks.specs.FileChange.{Put}
@@ -7,7 +8,7 @@ use Rattle.quota_blocks.specs.QuotaValue.{QuotaValue}
 use Rattle.quota_blocks.specs.Span.{KeepsOutside}
 use Rattle.quota_blocks.specs.World.{overwritten}
 use Rattle.entry_codec.specs.declared.header.Header.{Header}
-use Rattle.entry_codec.specs.Entry.{IsEntry, entry_size}
+use Rattle.entry_codec.specs.Entry.{IsEntry}
 use Rattle.entry_codec.specs.Header.{AreOf, header_of}
 use Rattle.quota_radix.specs.Tree.{numbers_of, leaves}
 use Rattle.tree_build.specs.Size.{ids_in, blocks_needed}
@@ -22,11 +23,11 @@ use Rattle.tree_file.proofs.OverwrittenLemmas.{are_overwritten, stands_overwritt
 use Rattle.tree_file.proofs.SpanLemmas.{keeps-overwritten, length-overwritten, span-overwritten}
 
 module _ (file span : List ℕ) (header : Header) (id at : ℕ) (rec : Rec) (of : AreOf header (header_of file)) (there : HasEntryAt header.format file header.blocks id at)
-    (size : length span ≡ entry_size header.format) (whole : at + entry_size header.format ≤ length file) (entry : IsEntry header.format span id rec) where
+    (size : length span ≡ record_size header.format) (whole : at + record_size header.format ≤ length file) (entry : IsEntry header.format span id rec) where
   within : at + length span ≤ length file
   within = omega (arith, size, whole)
 
-  keeps : KeepsOutside at (at + entry_size header.format) file (overwritten file at span)
+  keeps : KeepsOutside at (at + record_size header.format) file (overwritten file at span)
   keeps = subst (λ (n : ℕ). KeepsOutside at (at + n) file (overwritten file at span)) size (keeps-overwritten file at span within)
 
   -- the header stays
@@ -41,8 +42,8 @@ module _ (file span : List ℕ) (header : Header) (id at : ℕ) (rec : Rec) (of 
       stands_overwritten file (overwritten file at span) value id at rec stands
       (subst (λ (f : Format). HasEntryAt f file (header_of file).blocks id at) format there')
       (length-overwritten file at span within)
-      (subst (λ (f : Format). KeepsOutside at (at + entry_size f) file (overwritten file at span)) format keeps)
-      (subst (λ (f : Format). IsEntry f (take (entry_size f) (drop at (overwritten file at span))) id rec) format
+      (subst (λ (f : Format). KeepsOutside at (at + record_size f) file (overwritten file at span)) format keeps)
+      (subst (λ (f : Format). IsEntry f (take (record_size f) (drop at (overwritten file at span))) id rec) format
       (subst (λ (bytes : List ℕ). IsEntry header.format bytes id rec)
       (sym (span-overwritten file at span within) ∙ ap (λ (n : ℕ). take n (drop at (overwritten file at span))) size) entry))
 

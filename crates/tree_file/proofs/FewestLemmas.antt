@@ -1,30 +1,29 @@
 -- A sound tree file without free blocks, of whose data blocks one at most has room, has no more blocks than its identifiers
 -- need.
-use Rattle.std.proofs.Common.{◌≡◌, ◌≢◌, ℕ, suc, ◌+◌, ◌*◌, ◌/◌, ◌^◌, ◌<◌, ◌≤◌, Bool, true, false, cond, not, ◌==◌, ◌&&◌, ◌||◌, if◌then◌else◌, List, [], ◌∷◌, ◌++◌, length, map, get_or, filter, Option, Some, None, refl, sym, ap, subst, ◌∙◌, inl, inr, arith}
-use Rattle.std.specs.Prelude.{IsSome}
+use Rattle.std.proofs.Common.{◌≡◌, ◌≢◌, ℕ, suc, ◌+◌, ◌*◌, ◌/◌, ◌^◌, ◌<◌, ◌≤◌, Bool, true, false, not, ◌==◌, ◌&&◌, if◌then◌else◌, List, [], ◌∷◌, ◌++◌, length, map, get_or, filter, Some, None, refl, sym, ap, subst, ◌∙◌, inl, inr, arith, true≢false, cond, ◌||◌, Option}
 use Rattle.std.proofs.lemmas.List.{length-map, map-append}
 use Rattle.std.proofs.lemmas.List.Sums.{length-filter}
 use Rattle.std.proofs.lemmas.List.Filters.{length-filter_both}
-use Rattle.std.proofs.lemmas.List.FromFn.{length-range_with_len}
 use Rattle.std.proofs.Math.Nat.{mul-suc}
-use Rattle.std.proofs.lemmas.Bool.{cases_Bool, cases_lt, false≢true, leb-true}
+use Rattle.std.proofs.lemmas.Bool.{cases_Bool, cases_lt, leb-true, lt-ltb}
 use Rattle.std.proofs.lemmas.Bool.Decides.{eqb_tells}
-use Rattle.std.specs.List.{AllByRecursion, filter_map, cons_option, flat_map, list_any, range_with_len}
+use Rattle.std.specs.List.{AllByRecursion, flat_map}
+use Rattle.quota_types.specs.Format.{IsTreeFormat, is_flat}
 use Rattle.quota_types.specs.declared.file_kind.Format.{Format}
 use Rattle.quota_types.specs.declared.file_kind.Format.TheVariants.{V1, V2R0, V2R1}
-use Rattle.quota_types.specs.declared.record.Entry.{Entry}
 use Rattle.quota_types.specs.Times.{StandsIn, times}
 use Rattle.quota_blocks.specs.QuotaValue.{QuotaValue}
 use Rattle.quota_blocks.specs.Block.{block_of, next_of, word_at}
 use Rattle.file_blocks.proofs.LeadsLemmas.{leads_within}
-use Rattle.entry_codec.specs.Entry.{entries_per_block, is_unused}
+use Rattle.entry_codec.specs.Entry.{entries_per_block}
 use Rattle.entry_codec.specs.Header.{AreOf, header_of}
 use Rattle.entry_codec.specs.declared.header.Header.{Header}
 use Rattle.quota_radix.specs.declared.tree_path.TreePath.{TreePath}
 use Rattle.quota_radix.specs.Tree.{blocks_of, data_blocks, is_data, leaves, level, lower_blocks, numbers_of, paths, steps}
 use Rattle.quota_radix.specs.TreeDefect.{IsEmpty}
 use Rattle.free_chains.specs.Chain.{IsChain}
-use Rattle.tree_build.specs.Entries.{entry_bytes, entry_of, has_unused, used_entries, used_ids}
+use Rattle.tree_build.specs.Entries.{has_unused, used_ids}
+use Rattle.tree_build.specs.Loose.{nothing_loose}
 use Rattle.tree_build.specs.Roles.{Chained, Filled}
 use Rattle.tree_build.specs.Size.{beginnings, blocks_needed, each_once, ids_in}
 use Rattle.tree_build.specs.TreeFile.{TreeStandsFor}
@@ -35,6 +34,7 @@ use Rattle.quota_radix.proofs.LinkStepLemmas.{Rises-between}
 use Rattle.quota_radix.proofs.OrderLemmas.{each_at, length_numbers, number_at_place}
 use Rattle.quota_radix.proofs.PathLemmas.{Rises-paths, Rises-steps, times-data_blocks, times_rising}
 use Rattle.quota_radix.proofs.StepLemmas.{none_by}
+use Rattle.tree_build.proofs.EntryChangeLemmas.{few_used, room_by_count}
 use Rattle.tree_file.proofs.EnoughLemmas.{all_roles, enough_blocks, ids_of_value}
 use Rattle.tree_check.proofs.GroupLemmas.{count_ids}
 
@@ -172,33 +172,11 @@ many_but_one most one bs ns some once each many = elim (cases_lt 0 (times bs one
 ]
 
 -- each entry of a block without an unused one is used
-both_false : (b c : Bool) → (b || c) ≡ false → (b ≡ false) × (c ≡ false)
-both_false true c is = absurd (false≢true (sym is))
-both_false false c is = (refl, is)
-
-one_kept : (entry : Option Entry) (entries : List Entry) → (entry ≡ None → ⊥) → length (cons_option entry entries) ≡ suc (length entries)
-one_kept None entries some = absurd (some refl)
-one_kept (Some entry) entries some = refl
-
-all_kept : (test : ℕ → Bool) (f : ℕ → Option Entry) (places : List ℕ) → ((place : ℕ) → test place ≡ false → f place ≡ None → ⊥) → list_any test places ≡ false
-    → length (filter_map f places) ≡ length places
-all_kept test f [] used none = refl
-all_kept test f (place ∷ places) used none =
-    let both = both_false (test place) (list_any test places) none in
-    one_kept (f place) (filter_map f places) (used place both.0) ∙ ap suc (all_kept test f places used both.1)
-
-not_none : (unused : Bool) (entry : Entry) → unused ≡ false → cond unused None (Some entry) ≡ None → ⊥
-not_none true entry used none = false≢true (sym used)
-not_none false entry used none = false≢true (subst IsSome none refl)
-
 all_used : (format : Format) (block : List ℕ) → has_unused format block ≡ false → length (used_ids format block) ≡ entries_per_block format
-unfolding used_entries has_unused
-all_used format block none =
-    let places : List ℕ = range_with_len 0 (entries_per_block format) in
-    let f : ℕ → Option Entry = λ place. entry_of format (entry_bytes format block place) in
-    length-map (filter_map f places) (λ (entry : Entry). entry.id)
-    ∙ all_kept (λ place. is_unused (entry_bytes format block place)) f places (λ place used absent. not_none (is_unused (entry_bytes format block place)) _ used absent) none
-    ∙ length-range_with_len 0 (entries_per_block format)
+all_used format block none = elim (cases_lt (length (used_ids format block)) (entries_per_block format)) [
+  | inl low ↦ absurd (true≢false (sym (lt-ltb (length (used_ids format block)) (entries_per_block format) low) ∙ sym (room_by_count format block) ∙ none))
+  | inr high ↦ omega (arith, high, few_used format block)
+]
 
 -- a list that begins with 0 has no block
 begins : (file : List ℕ) (blocks first block : ℕ) (behind : List ℕ) → IsChain file blocks first (block ∷ behind) 0 → (block ≡ first) × (0 < block)
@@ -220,20 +198,20 @@ only_first file blocks first (c ∷ d ∷ behind) block is (inr ends) stands =
     let inside = leads_within blocks d (is.inside d (stands_right (c ∷ []) (d ∷ behind) d (omega (arith, times-cons-same d behind)))) in
     absurd (omega (arith, second, ap (next_of file) head.0, ends, inside.0))
 
-some_per_block : (format : Format) → (format ≡ V1 → ⊥) → 1 ≤ entries_per_block format
-some_per_block V1 tree = absurd (tree refl)
+some_per_block : (format : Format) → IsTreeFormat format → 1 ≤ entries_per_block format
+some_per_block V1 tree = absurd (true≢false tree)
 some_per_block V2R0 tree = omega arith
 some_per_block V2R1 tree = omega arith
 
 -- a file has no more blocks than it needs, by the counts of its parts
-no_more : (format : Format) (ids : List ℕ) (blocks one two three data_count : ℕ) → (format ≡ V1 → ⊥) → 2 + one + two + three + data_count ≡ blocks
+no_more : (format : Format) (ids : List ℕ) (blocks one two three data_count : ℕ) → IsTreeFormat format → 2 + one + two + three + data_count ≡ blocks
     → one ≤ beginnings 3 ids → two ≤ beginnings 2 ids → three ≤ beginnings 1 ids → entries_per_block format * data_count + 1 ≤ length ids + entries_per_block format → blocks ≤ blocks_needed format ids
-no_more V1 ids blocks one two three data_count tree all a b c d = absurd (tree refl)
+no_more V1 ids blocks one two three data_count tree all a b c d = absurd (true≢false tree)
 no_more V2R0 ids blocks one two three data_count tree all a b c d = omega (arith, all, a, b, c, d)
 no_more V2R1 ids blocks one two three data_count tree all a b c d = omega (arith, all, a, b, c, d)
 
 -- the data blocks are each full, but for the one that the entry list begins with
-data_few : (format : Format) (file : List ℕ) (blocks first : ℕ) → (format ≡ V1 → ⊥) → Chained None format file blocks first → Filled None format file blocks → IsListOfOne file first
+data_few : (format : Format) (file : List ℕ) (blocks first : ℕ) → IsTreeFormat format → Chained nothing_loose format file blocks first → Filled nothing_loose format file blocks → IsListOfOne file first
     → entries_per_block format * length (data_blocks file blocks) + 1 ≤ length (leaves file blocks) + entries_per_block format
 data_few format file blocks first tree chained filled one =
     let ns : List ℕ = blocks_of (leaves file blocks) in
@@ -256,7 +234,7 @@ data_few format file blocks first tree chained filled one =
     omega (arith, result, length-map (leaves file blocks) (λ (p : TreePath). p.block))
 
 -- such a file has as many blocks as it needs
-fewest : (file : List ℕ) (value : QuotaValue) → TreeStandsFor file value → (value.format ≡ V1 → ⊥) → (header_of file).free ≡ 0 → IsListOfOne file (header_of file).first
+fewest : (file : List ℕ) (value : QuotaValue) → TreeStandsFor file value → IsTreeFormat value.format → (header_of file).free ≡ 0 → IsListOfOne file (header_of file).first
     → (header_of file).blocks ≡ blocks_needed value.format (ids_in value.records)
 fewest file value stands tree no_free one =
     let blocks : ℕ = (header_of file).blocks in
@@ -281,9 +259,9 @@ fewest file value stands tree no_free one =
     omega (arith, enough_blocks file value stands, subst (λ (ids : List ℕ). blocks ≤ blocks_needed value.format ids) (sym same) few)
 
 -- the same of a file that begins with a header
-pub fewest_of : (header : Header) (file : List ℕ) (value : QuotaValue) → AreOf header (header_of file) → header.format ≢ V1 → TreeStandsFor file value → header.free ≡ 0 → IsListOfOne file header.first
+pub fewest_of : (header : Header) (file : List ℕ) (value : QuotaValue) → AreOf header (header_of file) → IsTreeFormat header.format → TreeStandsFor file value → header.free ≡ 0 → IsListOfOne file header.first
     → header.blocks ≡ blocks_needed value.format (ids_in value.records)
 fewest_of header file value of tree stands no_free one =
     let same : Some value.format ≡ Some header.format = sym stands.version ∙ of.version in
     let format : value.format ≡ header.format = cc in
-    sym of.blocks ∙ fewest file value stands (λ v1. tree (sym format ∙ v1)) (of.free ∙ no_free) (subst (IsListOfOne file) (sym of.first) one)
+    sym of.blocks ∙ fewest file value stands (ap is_flat format ∙ tree) (of.free ∙ no_free) (subst (IsListOfOne file) (sym of.first) one)

@@ -1,6 +1,6 @@
 -- A file whose header and blocks are those of another one, but maybe for the grace periods, stands for the same value with
 -- other grace periods.
-use Rattle.std.proofs.Common.{◌≡◌, ℕ, ◌*◌, ◌<◌, ◌≤◌, List, length, take, drop, sym, ap, subst, ◌∙◌, inl, inr, arith, None}
+use Rattle.std.proofs.Common.{◌≡◌, ℕ, ◌*◌, ◌<◌, ◌≤◌, List, length, take, drop, sym, ap, subst, ◌∙◌, inl, inr, arith}
 use Rattle.std.proofs.lemmas.Bool.{cases_lt}
 use Rattle.std.proofs.lemmas.List.{length-take-le, take_all, take-append-drop}
 use Rattle.quota_types.proofs.BytesLemmas.{number_at-take}
@@ -11,6 +11,7 @@ use Rattle.entry_codec.specs.Header.{HeaderNumbers, format_of, header_of}
 use Rattle.quota_blocks.specs.Block.{block_of}
 use Rattle.tree_build.specs.NewFile.{KeepsBlocks}
 use Rattle.tree_file.specs.Opened.{whole_blocks}
+use Rattle.tree_build.specs.Loose.{nothing_loose}
 use Rattle.tree_build.specs.Roles.{Chained, Filled, OneRole}
 use Rattle.tree_build.specs.TreeFile.{IsSound, TreeStandsFor, record_in, tree_record}
 use Rattle.tree_build.proofs.NewFileLemmas.{kept_append}
@@ -37,16 +38,16 @@ same_numbers old new same = record {
 }
 
 -- a file is sound with the tree and the lists of a sound one
-pub sound_kept : (format : Format) (old new : List ℕ) → IsSound format old (header_of old) → KeepsHeader (header_of old) (header_of new) → KeepsTree format (header_of old).blocks old new
-    → (2 < (header_of old).blocks → 1024 * (header_of old).blocks ≤ length new) → IsSound format new (header_of new)
+pub sound_kept : (format : Format) (old new : List ℕ) → IsSound format old (length old) (header_of old) → KeepsHeader (header_of old) (header_of new) → KeepsTree format (header_of old).blocks old new
+    → (2 < (header_of old).blocks → 1024 * (header_of old).blocks ≤ length new) → IsSound format new (length new) (header_of new)
 sound_kept format old new sound kept same long = record {
   two = subst (λ (n : ℕ). 2 ≤ n) (sym kept.blocks) sound.two;
   long = subst (λ (n : ℕ). 2 < n → 1024 * n ≤ length new) (sym kept.blocks) long;
-  roles = subst (λ (n : ℕ). OneRole None new n (header_of new).free) (sym kept.blocks)
-      (subst (λ (n : ℕ). OneRole None new (header_of old).blocks n) (sym kept.free) (one_role_same format old new (header_of old).blocks sound.two same (header_of old).free sound.roles));
-  chained = subst (λ (n : ℕ). Chained None format new n (header_of new).first) (sym kept.blocks)
-      (subst (λ (n : ℕ). Chained None format new (header_of old).blocks n) (sym kept.first) (chained_same format old new (header_of old).blocks sound.two same (header_of old).first sound.chained));
-  filled = subst (λ (n : ℕ). Filled None format new n) (sym kept.blocks) (filled_same format old new (header_of old).blocks sound.two same sound.filled);
+  roles = subst (λ (n : ℕ). OneRole nothing_loose new n (header_of new).free) (sym kept.blocks)
+      (subst (λ (n : ℕ). OneRole nothing_loose new (header_of old).blocks n) (sym kept.free) (one_role_same format old new (header_of old).blocks sound.two same (header_of old).free sound.roles));
+  chained = subst (λ (n : ℕ). Chained nothing_loose format new n (header_of new).first) (sym kept.blocks)
+      (subst (λ (n : ℕ). Chained nothing_loose format new (header_of old).blocks n) (sym kept.first) (chained_same format old new (header_of old).blocks sound.two same (header_of old).first sound.chained));
+  filled = subst (λ (n : ℕ). Filled nothing_loose format new n) (sym kept.blocks) (filled_same format old new (header_of old).blocks sound.two same sound.filled);
 }
 
 pub stands_kept : (old new : List ℕ) (value : QuotaValue) (grace : Grace) → TreeStandsFor old value → KeepsHeader (header_of old) (header_of new) → SameBlocks (header_of old).blocks old new

@@ -5,6 +5,7 @@ pub mod GracedLemmas
 pub mod HeaderKeptLemmas
 pub mod ListingLemmas
 pub mod LoadingLemmas
+pub mod LoadedLookupLemmas
 pub mod LookupLemmas
 pub mod MakesLemmas
 pub mod OpenLemmas

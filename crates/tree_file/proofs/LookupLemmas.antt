@@ -6,7 +6,6 @@ use Rattle.std.specs.List.{AllByRecursion}
 use Rattle.quota_types.specs.declared.damage.Damage.{Damage}
 use Rattle.quota_types.specs.declared.damage.DamageKind.TheVariants.{MissingEntry}
 use Rattle.quota_types.specs.declared.file_kind.Format.{Format}
-use Rattle.quota_types.specs.declared.record.Entry.{Entry}
 use Rattle.quota_types.specs.declared.record.Rec.{Rec}
 use Rattle.quota_blocks.specs.QuotaValue.{IsAfter, IsNextAfter, QuotaValue}
 use Rattle.entry_codec.specs.Header.{AreOf, HeaderNumbers, header_of}
@@ -16,7 +15,7 @@ use Rattle.quota_blocks.specs.Block.{block_of}
 use Rattle.quota_types.specs.Times.{StandsIn, times}
 use Rattle.tree_build.specs.Defect.{IsTreeDefect}
 use Rattle.quota_radix.specs.Descent.{leaf_from}
-use Rattle.tree_build.specs.Entries.{IsRecordIn, used_entries, used_ids}
+use Rattle.tree_build.specs.Entries.{IsRecordIn, used_ids}
 use Rattle.tree_file.specs.Leaf.{IsLeafFault, IsNextId}
 use Rattle.quota_radix.specs.Tree.{ids_at, leaves}
 use Rattle.tree_build.specs.TreeFile.{TreeStandsFor, record_in, tree_record}
@@ -24,7 +23,7 @@ use Rattle.tree_build.proofs.DefectLemmas.{no_defect_of_sound}
 use Rattle.quota_radix.proofs.DescentLemmas.{IsPathFrom, find_above, leaf_is_from, no_leaf_from, not_some, option_cases, some_same}
 use Rattle.quota_radix.proofs.LeafLemmas.{IsLeaf}
 use Rattle.quota_radix.proofs.PathLemmas.{Rises-paths, leaves_lead}
-use Rattle.tree_build.proofs.ValueLemmas.{found_entry}
+use Rattle.tree_build.proofs.ValueLemmas.{found_used}
 use Rattle.tree_file.proofs.UsedLemmas.{one_is_first}
 
 -- a file stands for no value
@@ -43,14 +42,13 @@ each_found P test (q ∷ ps) p found all = elim (cases_Bool (test q)) [
 leaf_defect : (format : Format) (file : List ℕ) (numbers : HeaderNumbers) (leaf : TreePath) (damage : Damage) → IsLeaf file numbers.blocks leaf → IsLeafFault format file leaf damage
     → IsTreeDefect format file numbers damage
 leaf_defect format file numbers leaf damage is fault =
-    let entries : List Entry = used_entries format (block_of file leaf.block) in
     let same : damage ≡ record { kind = MissingEntry; block = leaf.block; id = leaf.number } = λ i. record { kind = fault.kind i; block = fault.block i; id = fault.id i } in
     let leads : StandsIn (ids_at (leaves file numbers.blocks) leaf.block) leaf.number =
     each_found (λ (other : TreePath). StandsIn (ids_at (leaves file numbers.blocks) other.block) other.number) (λ (other : TreePath). other.number == leaf.number)
     (leaves file numbers.blocks) leaf is (leaves_lead file numbers.blocks) in
     let none : times (used_ids format (block_of file leaf.block)) leaf.number ≡ 0 = elim (cases_lt 0 (times (used_ids format (block_of file leaf.block)) leaf.number)) [
       | inl some ↦
-          let found = found_entry entries leaf.number some in
+          let found = found_used format (block_of file leaf.block) leaf.number some in
           absurd (let no : Some found.0 ≡ None = sym found.1 ∙ fault.none in cc)
       | inr over ↦ omega (arith, over)
     ] in

@@ -3,7 +3,6 @@ use Rattle.std.proofs.Common.{◌≡◌, ℕ, ◌+◌, ◌*◌, ◌<◌, ◌≤�
 use Rattle.std.proofs.lemmas.Bool.{false≢true}
 use Rattle.std.proofs.lemmas.List.{take_all}
 use Rattle.std.specs.Prelude.{not}
-use Rattle.std.specs.String.{string_bytes}
 use Rattle.quota_types.specs.declared.file_kind.Format.{Format}
 use Rattle.quota_types.specs.declared.record.Rec.{Rec}
 use Rattle.quota_blocks.specs.Changes.{Changes, FileAt, LacksRoomFor, file_at}
@@ -27,7 +26,6 @@ use Rattle.entry_codec.specs.declared.header.Header.{Header}
 use Rattle.tree_file.specs.Opened.{HoldsTree, LacksRoom, MayRefuse, whole_blocks}
 use Rattle.tree_build.specs.Size.{ids_in, blocks_needed}
 use Rattle.tree_file.specs.Rebuilt.{IsRebuildFault, value_changed}
-use Rattle.tree_file.specs.Rests.{rests_on_named}
 use Rattle.tree_file.specs.TreeChange.{IsChangedTree, IsSmallest, TreeChanged, record_change, tree_laws}
 use Rattle.tree_build.specs.TreeFile.{TreeStandsFor}
 use Rattle.tree_file.proofs.HeaderKeptLemmas.{whole_blocks_stand}
@@ -47,12 +45,12 @@ has_room (Remove id) loaded bytes file seen value blocks limit is few needs stan
     omega (arith, (is.made value file stands same).needed _ (is.stands value stands), few, lacks.needs, lacks.may, lacks.passes)
 has_room (SetGrace grace) loaded bytes file seen value blocks limit is few needs stands same lacks = absurd (false≢true needs)
 
-module _ (change : FileChange) (tells : Bool) (limit : ℕ) (opened now : FileUse) (format of : Format) (loaded kept bytes : List ℕ) (store store' : StoreSeen) where
+module _ (change : FileChange) (tells : Bool) (limit : ℕ) (name : List ℕ) (opened now : FileUse) (format of : Format) (loaded kept bytes : List ℕ) (store store' : StoreSeen) where
   abbrev old : FileAt
-  old = file_at (HoldsTree tells (store.files (string_bytes opened.name)) loaded limit) (seen_in opened format limit) store
+  old = file_at (HoldsTree tells (store.files name) loaded limit) (seen_in opened name format limit) store
 
   abbrev new : FileAt
-  new = file_at (HoldsTree tells (store'.files (string_bytes now.name)) kept limit) (seen_in now of limit) store'
+  new = file_at (HoldsTree tells (store'.files name) kept limit) (seen_in now name of limit) store'
 
   wanted : IsChangedTree change loaded bytes → (header_of bytes).blocks ≤ limit → IsWanted change (tree_laws tells) old
   wanted is few = record {
@@ -64,14 +62,14 @@ module _ (change : FileChange) (tells : Bool) (limit : ℕ) (opened now : FileUs
   pub changes-rewritten : (result : Result (Unit {0}) FileFault) → of ≡ format → IsChangedTree change loaded bytes → (header : Header) → AreOf header (header_of bytes)
       → header.blocks ≤ limit → length bytes ≤ 1024 * header.blocks
       → OnOk result (kept ≡ bytes) → OnErr result (kept ≡ loaded)
-      → OnOk result (IsTrue tells → store'.files ≡ replaced_files store.files (string_bytes opened.name) bytes)
-      → OnOk result (IsTrue tells → IsSynced (string_bytes opened.name) store store')
+      → OnOk result (IsTrue tells → store'.files ≡ replaced_files store.files name bytes)
+      → OnOk result (IsTrue tells → IsSynced name store store')
       → OnOk result (now ≡ opened)
       → IfErr result (IsRewriteFault store.faults store'.faults)
-      → OnErr result (KeepsOthers (replacement_name (string_bytes opened.name)) store.files store'.files)
-      → IfErr result (λ fault. UnlessStoreFailed fault (OnlyReads true (string_bytes opened.name) store store'))
-      → IfErr result (λ fault. (any : Format) (most : ℕ) → CountsRefusal (not (is_store_fault fault)) (seen_in opened any most) (seen_in now any most))
-      → ReplacesOne (string_bytes opened.name) store store'
+      → OnErr result (KeepsOthers (replacement_name name) store.files store'.files)
+      → IfErr result (λ fault. UnlessStoreFailed fault (OnlyReads true name store store'))
+      → IfErr result (λ fault. (any : List ℕ) (sort : Format) (most : ℕ) → CountsRefusal (not (is_store_fault fault)) (seen_in opened any sort most) (seen_in now any sort most))
+      → ReplacesOne name store store'
       → store'.reads ≡ store.reads → store'.writes ≤ store.writes + pieces_of (length bytes)
       → Changes change (tree_laws tells) old new result
   changes-rewritten (Ok told) formats is header are few long written unloaded replaced synced same refused unchanged unwritten counted leaves reads writes =
@@ -79,28 +77,27 @@ module _ (change : FileChange) (tells : Bool) (limit : ℕ) (opened now : FileUs
       (λ value held. record {
         told = held.told;
         file = bytes;
-        there = ap (λ (file : FileUse). store'.files (string_bytes file.name)) same ∙ replaced-named store.files store'.files (string_bytes opened.name) bytes (replaced held.told);
+        there = replaced-named store.files store'.files name bytes (replaced held.told);
         stands = is.stands value (loaded_stands _ _ loaded limit value held);
         few = omega (arith, are.blocks, few);
         same = take_all (1024 * (header_of bytes).blocks) bytes (omega (arith, are.blocks, long)) ∙ sym written;
       })
-      (λ value held. writes_anew (TreeChanged change) store.files store'.files (string_bytes opened.name) held.file bytes held.there (replaced held.told)
+      (λ value held. writes_anew (TreeChanged change) store.files store'.files name held.file bytes held.there (replaced held.told)
       (is.made value held.file (loaded_stands _ _ loaded limit value held) held.same))
-      synced (λ i. seen_in (same i) (formats i) limit) leaves
+      synced (λ i. seen_in (same i) name (formats i) limit) leaves
       (record { reads = omega (arith, reads); writes = omega (arith, few, long, writes) })
   changes-rewritten (Err fault) formats is header are few long written unloaded replaced synced same refused unchanged unwritten counted leaves reads writes =
-      let name : string_bytes now.name ≡ string_bytes opened.name = (counted format limit).name in
       changes-anew change (tree_laws tells) old new (Err fault) (wanted is (omega (arith, are.blocks, few))) tt tt tt tt tt tt refused
-      (unchanged (string_bytes opened.name) (λ one. replacement_name-ne (string_bytes opened.name) (sym one)))
+      (unchanged name (λ one. replacement_name-ne name (sym one)))
       (λ files value held. record {
         told = held.told;
         file = held.file;
-        there = ap store'.files name ∙ ap (λ (f : World). f (string_bytes opened.name)) files ∙ held.there;
+        there = ap (λ (f : World). f name) files ∙ held.there;
         stands = held.stands;
         few = held.few;
         same = held.same ∙ sym unloaded;
       })
-      unwritten (subst (λ (f : Format). CountsRefusal (not (is_store_fault fault)) old.seen (seen_in now f limit)) (sym formats) (counted format limit)) leaves
+      unwritten (subst (λ (f : Format). CountsRefusal (not (is_store_fault fault)) old.seen (seen_in now name f limit)) (sym formats) (counted name format limit)) leaves
       (record { reads = omega (arith, reads); writes = omega (arith, few, long, writes) })
 
 -- A file that has as many blocks as its identifiers need, and no byte behind them, is one that a change makes which gives a
@@ -130,41 +127,41 @@ pub built_changed : (id : ℕ) (rec : Option Rec) (loaded bytes : List ℕ) (hea
 built_changed id (Some rec) loaded bytes header busy stands are long needed = smallest_changed (Put id rec) loaded bytes header (λ file is. is) busy stands are long needed
 built_changed id None loaded bytes header busy stands are long needed = smallest_changed (Remove id) loaded bytes header (λ file is. is) busy stands are long needed
 
-module _ (change : FileChange) (tells : Bool) (opened now : FileUse) (format : Format) (limit : ℕ) (loaded : List ℕ) (store : StoreSeen) where
+module _ (change : FileChange) (tells : Bool) (name : List ℕ) (opened now : FileUse) (format : Format) (limit : ℕ) (loaded : List ℕ) (store : StoreSeen) where
   abbrev at : FileUse → FileAt
-  at file = file_at (HoldsTree tells (store.files (string_bytes file.name)) loaded limit) (seen_in file format limit) store
+  at file = file_at (HoldsTree tells (store.files name) loaded limit) (seen_in file name format limit) store
 
   -- nothing was done to the files, and the refusal was counted
   pub changes-left : (fault : FileFault) → is_store_fault fault ≡ false
       → IsChangeFault store.faults store.faults (at opened).holds (LacksRoomFor (edit_by change) (tree_laws tells) (at opened)) fault → MayRefuse fault
       → IfFull fault (λ blocks most. (most ≡ limit) × (most < blocks))
       → ((value : QuotaValue) → TreeStandsFor loaded value → has_nothing_to_do change value ≡ false)
-      → CountsRefusal true (seen_in opened format limit) (seen_in now format limit) → Changes change (tree_laws tells) (at opened) (at now) (Err fault)
+      → CountsRefusal true (seen_in opened name format limit) (seen_in now name format limit) → Changes change (tree_laws tells) (at opened) (at now) (Err fault)
   changes-left fault other cause may passes busy counted =
       changes-refused change (tree_laws tells) (at opened) (at now) fault other cause may passes (λ value held. busy value (loaded_stands _ _ loaded limit value held)) counted
-      (λ value held. rests_on_named tells _ _ loaded limit value (ap store.files counted.name) held) (only_reads-none (string_bytes opened.name) store)
-      (bounded-none (tree_laws tells) (at opened) (at now) refl refl)
+      (λ value held. held) (only_reads-none name store)
+      (bounded-none change (tree_laws tells) (at opened) (at now) refl refl)
 
 -- the file would need so many blocks of so many
-lacks_room : (id : ℕ) (rec : Option Rec) (tells : Bool) (opened : FileUse) (format : Format) (limit : ℕ) (loaded : List ℕ) (store : StoreSeen) (blocks most : ℕ)
+lacks_room : (id : ℕ) (rec : Option Rec) (tells : Bool) (name : List ℕ) (opened : FileUse) (format : Format) (limit : ℕ) (loaded : List ℕ) (store : StoreSeen) (blocks most : ℕ)
     → IsRebuildFault loaded limit id rec (Full blocks most)
-    → LacksRoomFor (edit_by (record_change id rec)) (tree_laws tells) (at (record_change id rec) tells opened opened format limit loaded store opened) blocks most
-lacks_room id (Some rec) tells opened format limit loaded store blocks most cause =
+    → LacksRoomFor (edit_by (record_change id rec)) (tree_laws tells) (at (record_change id rec) tells name opened opened format limit loaded store opened) blocks most
+lacks_room id (Some rec) tells name opened format limit loaded store blocks most cause =
     (refl, λ value held. record { needs = cause.2 value (loaded_stands _ _ loaded limit value held); may = cause.0; passes = cause.1 })
-lacks_room id None tells opened format limit loaded store blocks most cause =
+lacks_room id None tells name opened format limit loaded store blocks most cause =
     (refl, λ value held. record { needs = cause.2 value (loaded_stands _ _ loaded limit value held); may = cause.0; passes = cause.1 })
 
 -- a file could not be built anew
-pub changes-unbuilt : (id : ℕ) (rec : Option Rec) (tells : Bool) (opened now : FileUse) (format : Format) (limit : ℕ) (loaded : List ℕ) (store : StoreSeen) (fault : FileFault)
+pub changes-unbuilt : (id : ℕ) (rec : Option Rec) (tells : Bool) (name : List ℕ) (opened now : FileUse) (format : Format) (limit : ℕ) (loaded : List ℕ) (store : StoreSeen) (fault : FileFault)
     → IsRebuildFault loaded limit id rec fault
     → ((value : QuotaValue) → TreeStandsFor loaded value → has_nothing_to_do (record_change id rec) value ≡ false)
-    → CountsRefusal (not (is_store_fault fault)) (seen_in opened format limit) (seen_in now format limit)
-    → Changes (record_change id rec) (tree_laws tells) (at (record_change id rec) tells opened now format limit loaded store opened)
-    (at (record_change id rec) tells opened now format limit loaded store now) (Err fault)
-changes-unbuilt id rec tells opened now format limit loaded store Store cause busy counted = absurd cause
-changes-unbuilt id rec tells opened now format limit loaded store (Damage damage) cause busy counted =
-    changes-left (record_change id rec) tells opened now format limit loaded store (Damage damage) refl (λ value held. cause.1 value (loaded_stands _ _ loaded limit value held)) cause.0 tt busy counted
-changes-unbuilt id rec tells opened now format limit loaded store (Full blocks most) cause busy counted =
-    changes-left (record_change id rec) tells opened now format limit loaded store (Full blocks most) refl (lacks_room id rec tells opened format limit loaded store blocks most cause) tt (cause.0, cause.1) busy counted
-changes-unbuilt id rec tells opened now format limit loaded store Memory cause busy counted =
-    changes-left (record_change id rec) tells opened now format limit loaded store Memory refl tt tt tt busy counted
+    → CountsRefusal (not (is_store_fault fault)) (seen_in opened name format limit) (seen_in now name format limit)
+    → Changes (record_change id rec) (tree_laws tells) (at (record_change id rec) tells name opened now format limit loaded store opened)
+    (at (record_change id rec) tells name opened now format limit loaded store now) (Err fault)
+changes-unbuilt id rec tells name opened now format limit loaded store Store cause busy counted = absurd cause
+changes-unbuilt id rec tells name opened now format limit loaded store (Damage damage) cause busy counted =
+    changes-left (record_change id rec) tells name opened now format limit loaded store (Damage damage) refl (λ value held. cause.1 value (loaded_stands _ _ loaded limit value held)) cause.0 tt busy counted
+changes-unbuilt id rec tells name opened now format limit loaded store (Full blocks most) cause busy counted =
+    changes-left (record_change id rec) tells name opened now format limit loaded store (Full blocks most) refl (lacks_room id rec tells name opened format limit loaded store blocks most cause) tt (cause.0, cause.1) busy counted
+changes-unbuilt id rec tells name opened now format limit loaded store Memory cause busy counted =
+    changes-left (record_change id rec) tells name opened now format limit loaded store Memory refl tt tt tt busy counted

@@ -1,15 +1,16 @@
 -- Two files with the same blocks, but maybe for the header's, have the same tree, the same lists and the same records. So
 -- have two files that differ in records only, but for those.
-use Rattle.std.proofs.Common.{◌≡◌, ℕ, zero, suc, ◌*◌, ◌<◌, ◌≤◌, Bool, true, false, cond, ◌&&◌, ◌==◌, nat_le, IsTrue, List, [], ◌∷◌, ◌++◌, length, map, find, Some, option_and_then, refl, sym, ap, subst, ◌∙◌, inl, inr, arith, leb-true, if◌then◌else◌, None}
+use Rattle.std.proofs.Common.{◌≡◌, ℕ, zero, suc, ◌*◌, ◌<◌, ◌≤◌, Bool, true, false, cond, ◌&&◌, ◌==◌, nat_le, IsTrue, List, [], ◌∷◌, ◌++◌, length, map, find, Some, option_and_then, refl, sym, ap, subst, ◌∙◌, inl, inr, arith, leb-true, if◌then◌else◌}
 use Rattle.std.proofs.lemmas.Bool.{cases_Bool}
 use Rattle.std.specs.List.{AllByRecursion, filter, flat_map, range_with_len}
 use Rattle.quota_types.specs.Bytes.{number_at}
 use Rattle.quota_types.specs.declared.file_kind.Format.{Format}
 use Rattle.quota_radix.specs.declared.tree_path.TreePath.{TreePath}
-use Rattle.quota_blocks.specs.Block.{block_of, next_of, previous_of, stated_count, leads}
+use Rattle.quota_blocks.specs.Block.{block_of, next_of, previous_of, leads}
 use Rattle.free_chains.specs.Chain.{IsChain}
 use Rattle.quota_types.specs.Times.{StandsIn, times}
-use Rattle.tree_build.specs.Entries.{has_unused, used_ids}
+use Rattle.tree_build.specs.Entries.{has_unused, stated_count, used_ids}
+use Rattle.tree_build.specs.Loose.{nothing_loose}
 use Rattle.tree_build.specs.Roles.{Chained, Filled, OneRole, has_room}
 use Rattle.quota_radix.specs.Tree.{data_blocks, ids_at, is_data, leaves, level, lower_blocks, paths, steps, tree_blocks}
 use Rattle.tree_build.specs.TreeFile.{record_in, tree_record}
@@ -136,7 +137,7 @@ module _ (format : Format) (old new : List ℕ) (blocks : ℕ) (two : 2 ≤ bloc
   is_data_same block = ap (λ (leaf_blocks : List ℕ). nat_le 1 (times leaf_blocks block)) (level_same 4 (omega arith))
 
   -- each block has one role in both files
-  pub one_role_same : (head : ℕ) → OneRole None old blocks head → OneRole None new blocks head
+  pub one_role_same : (head : ℕ) → OneRole nothing_loose old blocks head → OneRole nothing_loose new blocks head
   one_role_same head role = record {
     references = λ block stands digit low.
         let there : StandsIn (tree_blocks old blocks) block = subst (λ (xs : List ℕ). StandsIn xs block) tree_same stands in
@@ -146,7 +147,7 @@ module _ (format : Format) (old new : List ℕ) (blocks : ℕ) (two : 2 ≤ bloc
     once = λ block. (λ i. times (0 ∷ tree_same i ++ data_same i ++ role.free) block) ∙ role.once block;
   }
 
-  pub has_room_same : (block : ℕ) → has_room None format new blocks block ≡ has_room None format old blocks block
+  pub has_room_same : (block : ℕ) → has_room nothing_loose format new blocks block ≡ has_room nothing_loose format old blocks block
   has_room_same block =
       ap (λ (b : Bool). b && has_unused format (block_of new block)) (is_data_same block)
       ∙ elim (is_data old blocks block) as (λ b. is_data old blocks block ≡ b → (b && has_unused format (block_of new block)) ≡ (b && has_unused format (block_of old block))) [
@@ -155,7 +156,7 @@ module _ (format : Format) (old new : List ℕ) (blocks : ℕ) (two : 2 ≤ bloc
       ] refl
 
   -- the entry list is one of both files
-  pub chained_same : (first : ℕ) → Chained None format old blocks first → Chained None format new blocks first
+  pub chained_same : (first : ℕ) → Chained nothing_loose format old blocks first → Chained nothing_loose format new blocks first
   chained_same first c = record {
     chain = c.chain;
     is_chain = chain_same first c.chain 0 c.is_chain;
@@ -169,7 +170,7 @@ module _ (format : Format) (old new : List ℕ) (blocks : ℕ) (two : 2 ≤ bloc
   ids_same block = ap (λ (ps : List TreePath). ids_at ps block) (paths_same 4 (omega arith))
 
   -- the tree and the data blocks are filled in both files
-  pub filled_same : Filled None format old blocks → Filled None format new blocks
+  pub filled_same : Filled nothing_loose format old blocks → Filled nothing_loose format new blocks
   filled_same filled = record {
     not_empty = λ block stands empty.
         let there : StandsIn (lower_blocks old blocks) block = subst (λ (xs : List ℕ). StandsIn xs block) lower_same stands in

@@ -1,20 +1,20 @@
 -- The entries at some places of a block, and the one that an identifier uses.
-use Rattle.std.proofs.Common.{◌≡◌, ℕ, zero, suc, ◌+◌, ◌<◌, ◌≤◌, Bool, false, cond, ◌||◌, ◌==◌, List, [], ◌∷◌, map, find, Option, Some, None, option_and_then, option_map, refl, sym, ap, subst, ◌∙◌, inl, inr, arith, eq-eqb}
-use Rattle.std.proofs.lemmas.Bool.{cases_Bool, cases_eq}
+use Rattle.std.proofs.Common.{◌≡◌, ℕ, zero, suc, ◌+◌, ◌<◌, ◌≤◌, Bool, cond, ◌==◌, List, [], ◌∷◌, map, find, Option, Some, None, option_and_then, option_map, refl, sym, ap, subst, ◌∙◌, inl, inr, arith, eq-eqb}
+use Rattle.std.proofs.lemmas.Bool.{cases_eq}
 use Rattle.std.proofs.lemmas.Bool.Decides.{eqb_tells}
-use Rattle.std.specs.List.{cons_option, filter_map, list_any, range_with_len}
+use Rattle.std.specs.List.{cons_option, filter_map, range_with_len}
 use Rattle.std.specs.Option.{option_or}
 use Rattle.std.specs.Prelude.{IsSome}
-use Rattle.quota_types.specs.Kept.{without_marker}
 use Rattle.quota_types.specs.declared.file_kind.Format.{Format}
 use Rattle.quota_types.specs.declared.record.Entry.{Entry}
 use Rattle.quota_types.specs.declared.record.Rec.{Rec}
-use Rattle.entry_codec.specs.Entry.{entries_per_block, is_unused, stored_id}
+use Rattle.entry_codec.specs.Entry.{entries_per_block}
 use Rattle.quota_types.specs.Times.{StandsIn, times}
 use Rattle.quota_types.proofs.TimesLemmas.{times-cons, times-cons-other, times-cons-same, stands_right}
-use Rattle.tree_build.specs.Entries.{IsRecordIn, entry_bytes, entry_of, stored_record, used_by, used_entries, used_ids}
+use Rattle.tree_build.specs.Entries.{IsRecordIn, entry_bytes, entry_of, used_by, used_entries, used_ids}
 use Rattle.tree_build.specs.TreeFile.{record_in}
-use Rattle.tree_build.proofs.RecordLemmas.{found_or_later}
+use Rattle.tree_build.proofs.EntryLemmas.{used_ids-entries}
+use Rattle.tree_build.proofs.RecordLemmas.{found_or_later, used_there}
 
 -- the identifier of an entry, where there is one
 abbrev pub id_of : Option Entry → Option ℕ
@@ -30,35 +30,6 @@ rec_from id f low count = option_map (λ (entry : Entry). entry.rec) (find (λ (
 pub ids_cons : (o : Option Entry) (entries : List Entry) → map (λ (entry : Entry). entry.id) (cons_option o entries) ≡ cons_option (id_of o) (map (λ (entry : Entry). entry.id) entries)
 ids_cons None entries = refl
 ids_cons (Some e) entries = refl
-
--- places with the same identifiers
-pub ids_of_same : (f g : ℕ → Option Entry) (low count : ℕ) → ((k : ℕ) → low ≤ k → k < low + count → id_of (f k) ≡ id_of (g k)) → ids_from f low count ≡ ids_from g low count
-ids_of_same f g low zero same = refl
-ids_of_same f g low (suc count) same =
-    let here : id_of (f low) ≡ id_of (g low) = same low (omega arith) (omega arith) in
-    let rest : ids_from f (low + 1) count ≡ ids_from g (low + 1) count = ids_of_same f g (low + 1) count (λ k from to. same k (omega arith) (omega arith)) in
-    ids_cons (f low) (filter_map f (range_with_len (low + 1) count))
-    ∙ (λ i. cons_option (here i) (rest i))
-    ∙ sym (ids_cons (g low) (filter_map g (range_with_len (low + 1) count)))
-
--- places at which two tests agree
-pub any_same : (f g : ℕ → Bool) (low count : ℕ) → ((k : ℕ) → low ≤ k → k < low + count → f k ≡ g k) → list_any f (range_with_len low count) ≡ list_any g (range_with_len low count)
-any_same f g low zero same = refl
-any_same f g low (suc count) same =
-    let here : f low ≡ g low = same low (omega arith) (omega arith) in
-    let rest : list_any f (range_with_len (low + 1) count) ≡ list_any g (range_with_len (low + 1) count) = any_same f g (low + 1) count (λ k from to. same k (omega arith) (omega arith)) in
-    λ i. here i || rest i
-
--- places with the same records of an identifier
-pub rec_of_same : (id : ℕ) (f g : ℕ → Option Entry) (low count : ℕ) → ((k : ℕ) → low ≤ k → k < low + count → option_and_then (used_by id) (f k) ≡ option_and_then (used_by id) (g k))
-    → rec_from id f low count ≡ rec_from id g low count
-rec_of_same id f g low zero same = refl
-rec_of_same id f g low (suc count) same =
-    let here : option_and_then (used_by id) (f low) ≡ option_and_then (used_by id) (g low) = same low (omega arith) (omega arith) in
-    let rest : rec_from id f (low + 1) count ≡ rec_from id g (low + 1) count = rec_of_same id f g (low + 1) count (λ k from to. same k (omega arith) (omega arith)) in
-    found_or_later id (f low) (filter_map f (range_with_len (low + 1) count))
-    ∙ (λ i. option_or (here i) (rest i))
-    ∙ sym (found_or_later id (g low) (filter_map g (range_with_len (low + 1) count)))
 
 -- an identifier that uses an entry is one of those of the entries
 pub used_stands : (id : ℕ) (rec : Rec) (f : ℕ → Option Entry) (low count k : ℕ) → low ≤ k → k < low + count → f k ≡ Some (record { id = id; rec = rec }) → StandsIn (ids_from f low count) id
@@ -106,24 +77,6 @@ used_found id rec f low (suc count) k from to is once =
       | inr other ↦ ap (λ (b : Bool). option_or (cond b (Some e.rec) None) found) other.0 ∙ next (omega (arith, few, times-cons-other e.id xs id other.1))
     ]
 
--- the entry that an identifier uses
-pub used_there : (format : Format) (bytes : List ℕ) (id : ℕ) → IsSome (option_and_then (used_by id) (entry_of format bytes))
-    → (is_unused bytes ≡ false) × ((rec : Rec) × (entry_of format bytes ≡ Some (record { id = id; rec = rec })))
-used_there format bytes id some =
-    let e : Entry = record { id = stored_id bytes; rec = without_marker (stored_id bytes) (stored_record format bytes) } in
-    elim (cases_Bool (is_unused bytes)) [
-      | inl unused ↦ absurd (not_there (subst (λ (b : Bool). IsSome (option_and_then (used_by id) (cond b None (Some e)))) unused some))
-      | inr used ↦
-          let there : IsSome (cond (e.id == id) (Some e.rec) None) = subst (λ (b : Bool). IsSome (option_and_then (used_by id) (cond b None (Some e)))) used some in
-          elim (eqb_tells e.id id) [
-            | inl same ↦ (used, (e.rec, ap (λ (b : Bool). cond b None (Some e)) used ∙ ap (λ (n : ℕ). Some (record { id = n; rec = e.rec })) same.1))
-            | inr other ↦ absurd (not_there (subst (λ (b : Bool). IsSome (cond b (Some e.rec) None)) other.0 there))
-          ]
-    ]
-  where
-    not_there : IsSome {T = Rec} None → ⊥
-    not_there h = absurd cc
-
 -- the record that an entry has for its identifier is the entry's
 given_is : (o : Option Entry) (id : ℕ) (rec own : Rec) → option_and_then (used_by id) o ≡ Some rec → o ≡ Some (record { id = id; rec = own }) → own ≡ rec
 given_is o id rec own gives is =
@@ -140,4 +93,5 @@ one_is_first format block id rec once there =
     let used = used_there format (entry_bytes format block there.place) id some in
     let same : used.1.0 ≡ rec = given_is entry id rec used.1.0 there.is used.1.1 in
     let is : entry ≡ Some (record { id = id; rec = rec }) = used.1.1 ∙ ap (λ (r : Rec). Some (record { id = id; rec = r })) same in
-    used_found id rec (λ at. entry_of format (entry_bytes format block at)) 0 (entries_per_block format) there.place (omega arith) (omega (arith, there.low)) is (omega (arith, once))
+    used_found id rec (λ at. entry_of format (entry_bytes format block at)) 0 (entries_per_block format) there.place (omega arith) (omega (arith, there.low)) is
+    (omega (arith, once, ap (λ (ids : List ℕ). times ids id) (used_ids-entries format block)))

@@ -1,5 +1,5 @@
 -- What holds of the whole blocks of a file holds of the file: what it stands for, and what is wrong with it.
-use Rattle.std.proofs.Common.{◌≡◌, ℕ, ◌*◌, ◌<◌, ◌≤◌, List, ◌∷◌, ◌++◌, length, take, sym, ap, subst, ◌∙◌, inl, inr, arith, None}
+use Rattle.std.proofs.Common.{◌≡◌, ℕ, ◌*◌, ◌<◌, ◌≤◌, List, ◌∷◌, ◌++◌, length, take, sym, ap, subst, ◌∙◌, inl, inr, arith}
 use Rattle.std.proofs.lemmas.Bool.{cases_lt}
 use Rattle.std.proofs.lemmas.List.{length-take-le, take_all}
 use Rattle.quota_types.specs.Bytes.{number_at}
@@ -13,6 +13,7 @@ use Rattle.quota_blocks.specs.Block.{block_of}
 use Rattle.entry_codec.specs.Header.{HeaderNumbers, header_of}
 use Rattle.tree_build.specs.Defect.{IsDefectOf, IsShort, IsTreeDefect}
 use Rattle.tree_build.specs.Entries.{used_ids}
+use Rattle.tree_build.specs.Loose.{nothing_loose}
 use Rattle.tree_build.specs.Roles.{roles}
 use Rattle.tree_build.specs.TreeFile.{TreeStandsFor}
 use Rattle.free_chains.specs.ChainDefect.{IsOut, IsLoop}
@@ -25,7 +26,7 @@ use Rattle.tree_file.proofs.SameBlocksLemmas.{IsInside, KeepsTree, chain_same, d
 use Rattle.tree_file.proofs.HeaderKeptLemmas.{first_blocks_same, header_of-take, same_numbers, stands_kept}
 
 module _ (format : Format) (old new : List ℕ) (numbers : HeaderNumbers) (two : 2 ≤ numbers.blocks) (kept : KeepsTree format numbers.blocks old new) where
-  roles_same : (free : List ℕ) → roles None old numbers.blocks free ≡ roles None new numbers.blocks free
+  roles_same : (free : List ℕ) → roles nothing_loose old numbers.blocks free ≡ roles nothing_loose new numbers.blocks free
   roles_same free = λ i. 0 ∷ sym (tree_same format old new numbers.blocks two kept) i ++ sym (data_same format old new numbers.blocks two kept) i ++ free
 
   out_kept : (head block : ℕ) → IsOut old numbers.blocks head block → IsOut new numbers.blocks head block
@@ -49,7 +50,7 @@ module _ (format : Format) (old new : List ℕ) (numbers : HeaderNumbers) (two :
   ids_kept block stands = let inside : IsInside numbers.blocks block = listed_inside old numbers.blocks block stands in sym (kept.ids block inside.0 inside.1)
 
   -- what is wrong with the old file is wrong with the new one
-  pub defect_kept : (kind : DamageKind) (block id : ℕ) → (IsShort old numbers.blocks block → IsShort new numbers.blocks block)
+  pub defect_kept : (kind : DamageKind) (block id : ℕ) → (IsShort (length old) numbers.blocks block → IsShort (length new) numbers.blocks block)
       → IsDefectOf format old numbers kind block id → IsDefectOf format new numbers kind block id
   defect_kept Short block id short is = short is
   defect_kept RefOut block id short is = record {
@@ -124,9 +125,9 @@ module _ (format : Format) (old new : List ℕ) (numbers : HeaderNumbers) (two :
   defect_kept PartialRecord block id short is = absurd is
 
 -- a file whose blocks are cut is short itself
-short_kept : (file : List ℕ) (blocks block : ℕ) → IsShort (take (1024 * blocks) file) blocks block → IsShort file blocks block
+short_kept : (file : List ℕ) (blocks block : ℕ) → IsShort (length (take (1024 * blocks) file)) blocks block → IsShort (length file) blocks block
 short_kept file blocks block is = elim (cases_lt (length file) (1024 * blocks)) [
-  | inl short ↦ subst (λ (f : List ℕ). IsShort f blocks block) (take_all (1024 * blocks) file (omega arith)) is
+  | inl short ↦ subst (λ (n : ℕ). IsShort n blocks block) (ap (λ (bytes : List ℕ). length bytes) (take_all (1024 * blocks) file (omega arith))) is
   | inr long ↦ absurd (omega (arith, is.short, length-take-le (1024 * blocks) file long))
 ]
 

@@ -7,6 +7,7 @@ pub mod Rests
 pub mod TreeChange
 pub mod View
 pub use Rattle.quota_types.specs.Bytes
+pub use Rattle.quota_types.specs.Format
 pub use Rattle.quota_types.specs.Kept
 pub use Rattle.quota_types.specs.Range
 pub use Rattle.quota_types.specs.Rec

@@ -1,6 +1,5 @@
 -- What a change of a tree file makes of the files.
 use Rattle.std.specs.Prelude.{◌≡◌, ℕ, ◌*◌, Bool, false, List, length, Option, Some, None}
-use Rattle.std.specs.String.{string_bytes}
 use Rattle.quota_types.specs.declared.record.Grace.{Grace}
 use Rattle.quota_types.specs.declared.record.Rec.{Rec}
 use Rattle.quota_types.specs.Bytes.{number_at}
@@ -51,12 +50,12 @@ record_change id None = Remove id
 -- what is said of all changes of opened tree files, whose store tells its files or doesn't
 abbrev pub tree_laws : Bool → FileLaws
 tree_laws tells =
-    laws_of tells (λ _ change. TreeMakes change) (λ _ old _ left. left ≡ old) (λ seen _ value blocks limit. LacksRoom seen value blocks limit)
-    (λ _ fault. MayRefuse fault) (λ _. 0) (λ seen. seen.limit)
+    laws_of tells (λ _ file value. TreeStandsFor file value) (λ _ change. TreeMakes change) (λ _ _ old _ left. left ≡ old)
+    (λ seen _ _ value blocks limit. LacksRoom seen value blocks limit) (λ _ fault. MayRefuse fault) (λ _ _. 0) (λ seen _. seen.limit)
 
--- an opened tree file with these blocks, which may have so many, with its store
-abbrev pub tree_at : Bool → FileUse → LoadedTree → ℕ → StoreSeen → FileAt
-tree_at tells opened tree limit store = file_at (HoldsTree tells (store.files (string_bytes opened.name)) tree.bytes.items limit) (seen_in opened tree.header.format limit) store
+-- an opened tree file of this name with these blocks, which may have so many, with its store
+abbrev pub tree_at : Bool → (name : List ℕ) → FileUse → LoadedTree → ℕ → StoreSeen → FileAt
+tree_at tells name opened tree limit store = file_at (HoldsTree tells (store.files name) tree.bytes.items limit) (seen_in opened name tree.header.format limit) store
 
 -- Bytes are those to which a change that has something to do brings a file whose blocks were loaded: they stand for what the
 -- change makes of its value, and are what it makes of the bytes of each file with these blocks.

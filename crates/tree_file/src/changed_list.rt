@@ -12,7 +12,6 @@ ghost use Rattle.tree_build.specs.TreeFile.{TreeStandsFor};
 ghost use Rattle.tree_file.specs.declared.changed_list.ListFault.TheVariants.{Damage as Damaged, Memory};
 
 use crate::loaded::{LoadedTree, Near};
-use entry_codec::entry_size;
 use quota_types::{Damage, Entry, Rec};
 use std::alloc::{AllocError, AllocFailed, Global};
 
@@ -67,7 +66,7 @@ pub(crate) fn changed_entries(
         list.items) }
     ensures refused { IfErr result (IsListFault ((value : QuotaValue) → ¬ (TreeStandsFor tree.now.bytes.items value))) }
 {
-    let room = tree.bytes.len() / entry_size(tree.header.format) + 1;
+    let room = tree.bytes.len() / tree.header.format.record_size() + 1;
     let mut list = Vec::with_capacity(alloc, room)?;
     let mut after = None;
     let mut near = Near::none();

@@ -4,7 +4,6 @@ ghost use Rattle.quota_types.specs.Bytes.{number_at};
 ghost use Rattle.quota_types.specs.Kept.{IsKept};
 ghost use Rattle.quota_types.specs.Range.{grace_unfit};
 ghost use Rattle.quota_blocks.specs.QuotaValue.{QuotaValue};
-ghost use Rattle.quota_blocks.specs.Span.{KeepsOutside};
 ghost use Rattle.tree_build.specs.Size.{ids_in, blocks_needed};
 ghost use Rattle.tree_file.specs.Rebuilt.{IsRebuildFault, value_changed};
 ghost use Rattle.tree_build.specs.TreeFile.{TreeStandsFor};
@@ -13,10 +12,9 @@ use crate::changed_list::{ListFault, changed_entries};
 use crate::file_header::header_in;
 use crate::loaded::LoadedTree;
 use crate::{BuildFault, build};
-use byteorder::{ByteOrder, LittleEndian};
 use entry_codec::Header;
 use quota_blocks::FileFault;
-use quota_types::{Grace, Kind, Rec};
+use quota_types::{Grace, Kind, Rec, set_le32_at};
 use std::alloc::Global;
 
 /// Where the grace periods stand in a file.
@@ -75,18 +73,9 @@ pub(crate) fn grace_bytes(grace: Grace) -> [u8; 8]
     ensures inode { number_at 4 result 4 ≡ grace.inode }
 {
     let mut bytes = [0; 8];
-    write4(&mut bytes, 0, grace.block as u32);
-    write4(&mut bytes, 4, grace.inode as u32);
+    set_le32_at(&mut bytes, 0, grace.block as u32);
+    set_le32_at(&mut bytes, 4, grace.inode as u32);
     bytes
-}
-
-/// Writes a number of four bytes at a place, the lowest first.
-fn write4(bytes: &mut [u8], at: usize, number: u32)
-    requires { at + 4 ≤ length bytes.old }
-    ensures value { number_at 4 bytes.new at ≡ number }
-    ensures kept { KeepsOutside at (at + 4) bytes.old bytes.new }
-{
-    LittleEndian::write_u32(&mut bytes[at..], number);
 }
 
 /// The blocks of a file whose header is one of this kind.

@@ -1,5 +1,6 @@
 ghost use Rattle.std.specs.Prelude.{◌≡◌, ◌≢◌, ◌≤◌, None, Some, IfErr, IfOk, OnOk};
 ghost use Rattle.entry_codec.specs.Header.{AreOf, header_fault, header_of};
+ghost use Rattle.quota_types.specs.Format.{IsTreeFormat};
 ghost use Rattle.quota_types.specs.Range.{grace_unfit};
 
 use entry_codec::{Header, HeaderFault, read_header};
@@ -14,7 +15,7 @@ pub(crate) fn header_in(bytes: &[u8], kind: Kind) -> Result<Header, HeaderFault>
     ensures numbers { IfOk result (λ header. AreOf header (header_of bytes.now)) }
     ensures grace { IfOk result (λ header. grace_unfit header.format header.grace ≡ None) }
     ensures blocks { IfOk result (λ header. 2 ≤ header.blocks) }
-    ensures tree { IfOk result (λ header. header.format ≢ Format.V1) }
+    ensures tree { IfOk result (λ header. IsTreeFormat header.format) }
 {
     let mut block = [0; BLOCK];
     let count = bytes.len().min(BLOCK);

@@ -1,10 +1,10 @@
 ghost use Rattle.std.specs.Prelude.{◌≡◌, ◌≢◌, ◌+◌, ◌^◌, ◌<◌, ◌≤◌, ℕ, None, Some, IfErr, IfNone, IfOk, IfSome, OnErr, drop, length, take, vec_len};
 ghost use Rattle.std.specs.FinMap.{get};
+ghost use Rattle.quota_types.specs.Format.{IsTreeFormat, record_size};
 ghost use Rattle.quota_types.specs.Kept.{IsKept};
 ghost use Rattle.quota_types.specs.declared.file_kind.Format.TheVariants.{V1};
 ghost use Rattle.quota_blocks.specs.QuotaValue.{IsAfter, IsNextAfter, QuotaValue};
 ghost use Rattle.quota_blocks.specs.World.{overwritten};
-ghost use Rattle.entry_codec.specs.Entry.{entry_size};
 ghost use Rattle.entry_codec.specs.Header.{AreOf, header_of};
 ghost use Rattle.quota_blocks.specs.Block.{block_of};
 ghost use Rattle.tree_build.specs.Defect.{IsTreeDefect};
@@ -14,7 +14,7 @@ ghost use Rattle.tree_file.specs.Leaf.{IsLeafFault, IsNear, IsNextId};
 ghost use Rattle.tree_file.specs.Overwritten.{HasEntryAt};
 ghost use Rattle.tree_build.specs.TreeFile.{TreeStandsFor, record_in};
 
-use entry_codec::{Header, entry_size};
+use entry_codec::Header;
 use quota_blocks::{block_of, whole_block};
 use quota_radix::{TreePath, first_leaf, leaf_beside, leaf_block};
 use quota_types::{Damage, DamageKind, Entry, Format, Grace, Rec};
@@ -47,7 +47,7 @@ impl Near {
 pub(crate) struct LoadedTree {
     pub(crate) bytes: Vec<u8>,
     pub(crate) header: Header,
-    ghost tree: { header.format ≢ V1 },
+    ghost tree: { IsTreeFormat header.format },
     ghost of: { AreOf header (header_of bytes.items) },
 }
 
@@ -80,13 +80,13 @@ impl LoadedTree {
     /// entry, or the way to it is damaged.
     pub(crate) fn place_of(&self, id: u32) -> Option<usize>
         ensures there { IfSome result (HasEntryAt self.now.header.format self.now.bytes.items self.now.header.blocks id) }
-        ensures whole { IfSome result (λ at. at + entry_size self.now.header.format ≤ vec_len self.now.bytes) }
+        ensures whole { IfSome result (λ at. at + record_size self.now.header.format ≤ vec_len self.now.bytes) }
     {
         let Ok(Some(block)) = leaf_block(&self.bytes, self.header.blocks, id) else {
             return None;
         };
         let place = find_place(self.header.format, &block_of(&self.bytes, block), id)?;
-        let size = entry_size(self.header.format);
+        let size = self.header.format.record_size();
         let at = 1024 * block as usize + (16 + size * place);
         if at + size <= self.bytes.len() {
             Some(at)
@@ -206,7 +206,7 @@ fn first_after(after: Option<u32>) -> Option<u32>
 /// The block has no entry of the leaf's identifier.
 #[inline(always)]
 fn record_at(format: Format, file: &[u8], leaf: TreePath) -> Result<Rec, Damage>
-    requires tree { format ≢ V1 }
+    requires tree { IsTreeFormat format }
     ensures found { IfOk result (λ rec. record_in format (block_of file.now leaf.block) leaf.number ≡ Some rec) }
     ensures kept { IfOk result (IsKept format leaf.number) }
     ensures refused { IfErr result (IsLeafFault format file.now leaf) }
@@ -225,7 +225,7 @@ fn record_at(format: Format, file: &[u8], leaf: TreePath) -> Result<Rec, Damage>
 /// The block has no entry of the leaf's identifier.
 #[inline(always)]
 fn record_near(format: Format, file: &[u8], leaf: TreePath, near: &mut usize) -> Result<Rec, Damage>
-    requires tree { format ≢ V1 }
+    requires tree { IsTreeFormat format }
     ensures there { IfOk result (IsRecordIn format (block_of file.now leaf.block) leaf.number) }
     ensures kept { IfOk result (IsKept format leaf.number) }
     ensures refused { IfErr result (IsLeafFault format file.now leaf) }
@@ -244,7 +244,7 @@ fn record_near(format: Format, file: &[u8], leaf: TreePath, near: &mut usize) ->
 /// The same in a block that the file may not have whole, which is copied.
 #[inline(never)]
 fn find_near_past_end(format: Format, file: &[u8], leaf: TreePath, near: &mut usize) -> Option<Rec>
-    requires tree { format ≢ V1 }
+    requires tree { IsTreeFormat format }
     ensures there { IfSome result (IsRecordIn format (block_of file.now leaf.block) leaf.number) }
     ensures none { IfNone result (record_in format (block_of file.now leaf.block) leaf.number ≡ None) }
     ensures kept { IfSome result (IsKept format leaf.number) }
@@ -254,7 +254,7 @@ fn find_near_past_end(format: Format, file: &[u8], leaf: TreePath, near: &mut us
 
 /// The record of the first entry of a block that is used by an identifier.
 fn find_in(format: Format, file: &[u8], block: u32, id: u32) -> Option<Rec>
-    requires tree { format ≢ V1 }
+    requires tree { IsTreeFormat format }
     ensures value { result ≡ record_in format (block_of file.now block) id }
     ensures kept { IfSome result (IsKept format id) }
 {
@@ -266,7 +266,7 @@ fn find_in(format: Format, file: &[u8], block: u32, id: u32) -> Option<Rec>
 
 /// The same in a block that the file may not have whole, which is copied.
 fn find_past_end(format: Format, file: &[u8], block: u32, id: u32) -> Option<Rec>
-    requires tree { format ≢ V1 }
+    requires tree { IsTreeFormat format }
     ensures value { result ≡ record_in format (block_of file.now block) id }
     ensures kept { IfSome result (IsKept format id) }
 {

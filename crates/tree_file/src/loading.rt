@@ -22,7 +22,7 @@ pub(crate) fn append_block<S: Store>(
     ensures front { OnOk result (0 < block → take 1024 bytes.new.items ≡ take 1024 bytes.old.items) }
     ensures refused { IfErr result (IsCheckFault (S.seen store.old).faults (S.seen store.new).faults (λ _. ⊥)) }
     ensures leaves { OnlyReads (is_ok result) name.now (S.seen store.old) (S.seen store.new) }
-    ensures reads { OnOk result ((S.seen store.new).reads ≤ (S.seen store.old).reads + 1) }
+    ensures reads { (S.seen store.new).reads ≤ (S.seen store.old).reads + 1 }
 {
     if bytes.len() < BLOCK * block as usize {
         return Ok(());
@@ -49,7 +49,7 @@ pub(crate) fn load_rest<S: Store>(
     ensures front { OnOk result (take 1024 bytes.new.items ≡ bytes.old.items) }
     ensures refused { IfErr result (IsCheckFault (S.seen store.old).faults (S.seen store.new).faults (λ _. ⊥)) }
     ensures leaves { OnlyReads (is_ok result) name.now (S.seen store.old) (S.seen store.new) }
-    ensures reads { OnOk result ((S.seen store.new).reads + 1 ≤ (S.seen store.old).reads + blocks) }
+    ensures reads { (S.seen store.new).reads + 1 ≤ (S.seen store.old).reads + blocks }
 {
     bytes.reserve_exact(BLOCK * blocks as usize - bytes.len())?;
     let mut piece = [0; BLOCK];

@@ -1,4 +1,5 @@
 ghost use Rattle.std.specs.Prelude.{◌≡◌, ◌+◌, ◌*◌, ◌^◌, ◌<◌, ◌≤◌, ℕ, Bool, false, List, Option, length, None, vec_len, IsTrue, IfSome};
+ghost use Rattle.std.specs.String.{string_bytes};
 ghost use Rattle.quota_types.specs.Kept.{IsKept};
 ghost use Rattle.quota_types.specs.Range.{grace_unfit};
 ghost use Rattle.quota_blocks.specs.Changes.{Changes};
@@ -14,7 +15,7 @@ ghost use Rattle.tree_build.specs.TreeFile.{TreeStandsFor};
 use crate::changed_tree::{GRACE_AT, grace_bytes, rebuilt};
 use crate::loaded::{LoadedTree, Near};
 use crate::overwriting::place_to_overwrite;
-use entry_codec::{entry_size, write_entry};
+use entry_codec::write_entry;
 use quota_blocks::{FileFault, FileUse, QuotaFile, Store};
 use quota_types::{Damage, Entry, Format, Grace, Rec};
 
@@ -27,6 +28,7 @@ use quota_types::{Damage, Entry, Format, Grace, Rec};
 /// is held.
 #[derive(Debug, Drop)]
 pub struct TreeFile {
+    pub(crate) name: String,
     pub(crate) opened: FileUse,
     pub(crate) tree: LoadedTree,
     pub(crate) limit: u32,
@@ -58,11 +60,13 @@ impl TreeFile {
         requires format { tree.header.format ≡ self.old.tree.header.format }
         ensures { (change : FileChange) → IsChangedTree change self.old.tree.bytes.items tree.bytes.items
             → Changes change (tree_laws S.tells)
-            (tree_at S.tells self.old.opened self.old.tree self.old.limit (S.seen store.old))
-            (tree_at S.tells self.new.opened self.new.tree self.new.limit (S.seen store.new)) result }
+            (tree_at S.tells (string_bytes self.old.name) self.old.opened self.old.tree self.old.limit (S.seen store.old))
+            (tree_at S.tells (string_bytes self.new.name) self.new.opened self.new.tree self.new.limit (S.seen store.new)) result }
     {
         let alloc = *self.tree.bytes.allocator();
-        self.opened.replace(alloc, store, tree.bytes.as_slice())?;
+        let name = self.name.as_str();
+        self.opened
+            .replace(alloc, store, name, tree.bytes.as_slice())?;
         self.near = Near::none();
         self.tree = tree;
         Ok(())
@@ -85,15 +89,16 @@ impl TreeFile {
         ensures { (change : FileChange)
             → IsChangedTree change self.old.tree.bytes.items (overwritten self.old.tree.bytes.items at span.old)
             → Changes change (tree_laws S.tells)
-            (tree_at S.tells self.old.opened self.old.tree self.old.limit (S.seen store.old))
-            (tree_at S.tells self.new.opened self.new.tree self.new.limit (S.seen store.new)) result }
+            (tree_at S.tells (string_bytes self.old.name) self.old.opened self.old.tree self.old.limit (S.seen store.old))
+            (tree_at S.tells (string_bytes self.new.name) self.new.opened self.new.tree self.new.limit (S.seen store.new)) result }
     {
         let mut grace = grace;
         self.near = Near::none();
         self.tree.exchange(at, span, &mut grace);
         let alloc = *self.tree.bytes.allocator();
         let bytes = self.tree.bytes.as_slice();
-        match self.opened.replace(alloc, store, bytes) {
+        let name = self.name.as_str();
+        match self.opened.replace(alloc, store, name, bytes) {
             Ok(()) => Ok(()),
             Err(fault) => {
                 self.tree.exchange(at, span, &mut grace);
@@ -115,14 +120,14 @@ impl TreeFile {
         requires busy { (value : QuotaValue) → TreeStandsFor self.old.tree.bytes.items value
             → has_nothing_to_do (record_change id rec) value ≡ false }
         ensures { Changes (record_change id rec) (tree_laws S.tells)
-            (tree_at S.tells self.old.opened self.old.tree self.old.limit (S.seen store.old))
-            (tree_at S.tells self.new.opened self.new.tree self.new.limit (S.seen store.new)) result }
+            (tree_at S.tells (string_bytes self.old.name) self.old.opened self.old.tree self.old.limit (S.seen store.old))
+            (tree_at S.tells (string_bytes self.new.name) self.new.opened self.new.tree self.new.limit (S.seen store.new)) result }
     {
         if let Some(rec) = &rec {
             if let Some(at) = place_to_overwrite(&self.tree, id) {
                 let format = self.tree.header.format;
                 let mut entry = [0; 72];
-                let span = &mut entry[..entry_size(format)];
+                let span = &mut entry[..format.record_size()];
                 write_entry(format, id, rec, span);
                 return self.rewrite_span(store, at, span, self.tree.header.grace);
             }
@@ -136,35 +141,38 @@ impl TreeFile {
 }
 
 impl<S: Store> QuotaFile<S> for TreeFile {
-    ghost use Rattle.std.specs.String.{string_bytes};
     ghost use Rattle.quota_blocks.specs.FileUse.{seen_in};
     ghost use Rattle.tree_file.specs.Opened.{HoldsTree, LacksRoom, MayRefuse};
-    ghost use Rattle.tree_file.specs.Rests.{rests_on_named};
+    ghost use Rattle.tree_file.specs.Rests.{held_stands, rests_on_named};
     ghost use Rattle.tree_file.specs.TreeChange.{TreeMakes};
 
-    ghost holds = { λ file store value. HoldsTree S.tells ((S.seen store).files (string_bytes file.opened.name))
+    ghost holds = { λ file store value. HoldsTree S.tells ((S.seen store).files (string_bytes file.name))
         file.tree.bytes.items file.limit value };
 
-    ghost seen = { λ file. seen_in file.opened file.tree.header.format file.limit };
+    ghost seen = { λ file. seen_in file.opened (string_bytes file.name) file.tree.header.format file.limit };
 
     ghost may_refuse = { λ _ fault. MayRefuse fault };
 
-    ghost lacks_room = { λ seen _ value blocks limit. LacksRoom seen value blocks limit };
+    ghost stands_for = { λ _ file value. TreeStandsFor file value };
+
+    ghost lacks_room = { λ seen _ _ value blocks limit. LacksRoom seen value blocks limit };
 
     ghost makes = { λ _ change. TreeMakes change };
 
-    ghost may_leave = { λ _ old _ left. left ≡ old };
+    ghost may_leave = { λ _ _ old _ left. left ≡ old };
 
     ghost get_reads = { λ _. 0 };
 
     ghost next_reads = { λ _ _. 0 };
 
-    ghost change_reads = { λ _. 0 };
+    ghost change_reads = { λ _ _. 0 };
 
-    ghost change_writes = { λ seen. seen.limit };
+    ghost change_writes = { λ seen _. seen.limit };
 
     ghost rests_on_named = { λ file one other value named held.
         rests_on_named _ _ _ file.tree.bytes.items file.limit value named held };
+
+    ghost held_stands = { λ file store value held. held_stands _ _ file.tree.bytes.items file.limit value held };
 
     fn format(&self) -> Format {
         self.tree.header.format

@@ -1,5 +1,6 @@
-ghost use Rattle.std.specs.Prelude.{◌≡◌, ◌≢◌, ◌+◌, ◌*◌, ◌<◌, ◌≤◌, ℕ, List, Option, take, true, vec_len, None, Ok, Some, IsTrue, IfErr, IfOk, IsSome, IsSomeAnd, OnOk, is_ok};
+ghost use Rattle.std.specs.Prelude.{◌≡◌, ◌≢◌, ◌+◌, ◌*◌, ◌<◌, ◌≤◌, ℕ, List, Option, take, true, vec_len, None, Ok, Some, IsTrue, IfErr, IfOk, IfSome, IsSome, IsSomeAnd, OnOk, is_ok, max};
 ghost use Rattle.entry_codec.specs.Header.{AreOf, header_of};
+ghost use Rattle.quota_types.specs.Format.{IsTreeFormat};
 ghost use Rattle.quota_types.specs.Range.{grace_unfit};
 ghost use Rattle.quota_types.specs.declared.damage.Damage.{Damage};
 ghost use Rattle.quota_types.specs.declared.file_kind.Format.{Format};
@@ -25,8 +26,8 @@ use tree_check::{check_length, check_loaded};
 
 /// Opens a tree file, whose blocks are loaded and then checked. Bytes behind the last block are left out.
 ///
-/// It has one of the kind, of the format that is asked for, where one is, and at most `limit` blocks. Each block is read at
-/// most once.
+/// It has one of the kind, of the format that is asked for, where one is, and at most `limit` blocks. The first block and each
+/// other one that the header states is read once at most, also where the file is refused.
 ///
 /// # Errors
 ///
@@ -41,7 +42,7 @@ pub fn open_tree<S: Store>(
     format: Option<Format>,
     limit: u32,
 ) -> Result<TreeFile, OpenFault>
-    requires { format ≢ Some Format.V1 }
+    requires { IfSome format IsTreeFormat }
     ensures seen { OnOk result (IsTrue S.tells → (value : QuotaValue)
         × IsTreeView ((S.seen store.old).files name.now) kind format limit (Ok value)) }
     ensures held { IfOk result (λ file. IsTrue S.tells → (value : QuotaValue)
@@ -54,13 +55,13 @@ pub fn open_tree<S: Store>(
       limit = limit;
       refusals = 0;
     }) }
-    ensures tree { IfOk result (λ file. (⟦<TreeFile as QuotaFile<S>>⟧.seen file).format ≢ Format.V1) }
+    ensures tree { IfOk result (λ file. IsTreeFormat (⟦<TreeFile as QuotaFile<S>>⟧.seen file).format) }
     ensures as_asked { IfOk result (λ file. IsAsAsked format (⟦<TreeFile as QuotaFile<S>>⟧.seen file).format) }
     ensures refused { IfErr result (IsTreeFault (S.seen store.old).faults (S.seen store.new).faults S.tells
         ((S.seen store.old).files name.now) kind format limit) }
     ensures leaves { OnlyReads (is_ok result) name.now (S.seen store.old) (S.seen store.new) }
-    ensures reads { OnOk result (IsTrue S.tells → (S.seen store.new).reads
-        ≤ (S.seen store.old).reads + (header_of (bytes_of ((S.seen store.old).files name.now))).blocks) }
+    ensures reads { IsTrue S.tells → (S.seen store.new).reads
+        ≤ (S.seen store.old).reads + max 1 (header_of (bytes_of ((S.seen store.old).files name.now))).blocks }
 {
     let own_name = match String::from_str(alloc, name) {
         Ok(own_name) => own_name,
@@ -70,7 +71,8 @@ pub fn open_tree<S: Store>(
     let header = accepted_header(first.as_slice(), kind, format, limit)?;
     let tree = checked_tree(alloc, store, name, first, header)?;
     Ok(TreeFile {
-        opened: FileUse::new(own_name),
+        name: own_name,
+        opened: FileUse::new(),
         tree,
         limit,
         near: Near::none(),
@@ -87,7 +89,7 @@ fn first_block<S: Store>(alloc: Global, store: &mut S, name: &str) -> Result<Vec
         → IsTreeFault (S.seen store.old).faults (S.seen store.new).faults S.tells
         ((S.seen store.old).files name.now) kind asked limit fault) }
     ensures leaves { OnlyReads (is_ok result) name.now (S.seen store.old) (S.seen store.new) }
-    ensures reads { OnOk result ((S.seen store.new).reads ≤ (S.seen store.old).reads + 1) }
+    ensures reads { (S.seen store.new).reads ≤ (S.seen store.old).reads + 1 }
 {
     match store.size(name) {
         Ok(Some(_)) => {}
@@ -112,7 +114,7 @@ fn accepted_header(
     ensures as_asked { IfOk result (λ header. IsAsAsked format header.format) }
     ensures numbers { IfOk result (λ header. AreOf header (header_of first.now)) }
     ensures grace { IfOk result (λ header. grace_unfit header.format header.grace ≡ None) }
-    ensures tree { IfOk result (λ header. header.format ≢ Format.V1) }
+    ensures tree { IfOk result (λ header. IsTreeFormat header.format) }
     ensures two { IfOk result (λ header. 2 ≤ header.blocks) }
     ensures few { IfOk result (λ header. header.blocks ≤ limit) }
     ensures fits { IfErr result (FitsRequest format limit) }
@@ -160,7 +162,7 @@ fn checked_tree<S: Store>(
     header: Header,
 ) -> Result<LoadedTree, CheckFault>
     requires numbers { AreOf header (header_of first.items) }
-    requires tree { header.format ≢ Format.V1 }
+    requires tree { IsTreeFormat header.format }
     requires two { 2 ≤ header.blocks }
     requires within { vec_len first ≤ 1024 }
     ensures header { IfOk result (λ tree. tree.header ≡ header) }
@@ -177,7 +179,7 @@ fn checked_tree<S: Store>(
         → IsTreeDefect header.format (bytes_of ((S.seen store.old).files name.now))
         (header_of (bytes_of ((S.seen store.old).files name.now))) damage)) }
     ensures leaves { OnlyReads (is_ok result) name.now (S.seen store.old) (S.seen store.new) }
-    ensures reads { OnOk result ((S.seen store.new).reads + 1 ≤ (S.seen store.old).reads + header.blocks) }
+    ensures reads { (S.seen store.new).reads + 1 ≤ (S.seen store.old).reads + header.blocks }
 {
     check_length(store, name, header.blocks)?;
     let mut bytes = first;

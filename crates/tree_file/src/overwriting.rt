@@ -1,11 +1,11 @@
 ghost use Rattle.std.specs.Prelude.{◌≡◌, ◌+◌, ◌*◌, ◌≤◌, IfOk, IfSome, IsSome, vec_len};
 ghost use Rattle.std.specs.Bool.{OnTrue};
-ghost use Rattle.entry_codec.specs.Entry.{entry_size};
 ghost use Rattle.quota_blocks.specs.QuotaValue.{QuotaValue};
 ghost use Rattle.tree_build.specs.Needed.{HasMet};
 ghost use Rattle.tree_build.specs.Size.{ids_in, blocks_needed};
 ghost use Rattle.tree_file.specs.Overwritten.{HasEntryAt, IsListOfOne};
 ghost use Rattle.tree_build.specs.TreeFile.{TreeStandsFor};
+ghost use Rattle.quota_types.specs.Format.{record_size};
 
 use crate::loaded::LoadedTree;
 use quota_blocks::{le32, whole_block};
@@ -15,7 +15,7 @@ use tree_build::Needed;
 /// Where in a file that would not have fewer blocks if it was built anew the entry of an identifier begins, where it has one.
 pub(crate) fn place_to_overwrite(tree: &LoadedTree, id: u32) -> Option<usize>
     ensures there { IfSome result (HasEntryAt tree.now.header.format tree.now.bytes.items tree.now.header.blocks id) }
-    ensures whole { IfSome result (λ at. at + entry_size tree.now.header.format ≤ vec_len tree.now.bytes) }
+    ensures whole { IfSome result (λ at. at + record_size tree.now.header.format ≤ vec_len tree.now.bytes) }
     ensures long { IsSome result → vec_len tree.now.bytes ≡ 1024 * tree.now.header.blocks }
     ensures needed { IsSome result → (value : QuotaValue) → TreeStandsFor tree.now.bytes.items value
         → tree.now.header.blocks ≡ blocks_needed value.format (ids_in value.records) }

@@ -1,12 +1,12 @@
-use Rattle.std.proofs.Common.{◌≡◌, ◌^◌, ◌<◌, IsTrue, true}
+use Rattle.std.proofs.Common.{◌≡◌, ◌+◌, ◌*◌, ◌^◌, ◌<◌, ◌≤◌, IsTrue, length, Ok, Some}
 use Rattle.std.specs.List.{All}
 use Rattle.quota_types.specs.Kept.{IsKept}
 use Rattle.quota_types.specs.declared.record.Entry.{Entry}
-use Rattle.quota_blocks.specs.Frame.{OnlyReads}
 use Rattle.quota_blocks.specs.Listed.{ids_of}
+use Rattle.quota_blocks.specs.LooksUp.{LooksUp}
 use Rattle.quota_blocks.specs.QuotaValue.{QuotaValue}
 use Rattle.quota_blocks.proofs.EntriesLemmas.{ids_after}
-use Rattle.quota_map.specs.AnyFile.{HoldsAny, any_seen}
+use Rattle.quota_map.specs.AnyFile.{HoldsAny, any_at, any_laws, any_next_reads, any_seen}
 use Rattle.quota_map.proofs.ReadingLemmas.{AscendTo, IsReadUpTo}
 use Rattle.quota_map.proofs.reading.read_all.Given as goal
 
@@ -18,10 +18,10 @@ invariant-loop-list g l =
       ascends : AscendTo l.after (ids_of l.list.items);
       narrow : All (λ (entry : Entry). entry.id < 2 ^ 32) l.list.items;
       kept : All (λ (entry : Entry). IsKept (any_seen l.fn.file).format entry.id entry.rec) l.list.items;
-      stays : (value : QuotaValue) → HoldsAny S.tells (S.seen l.fn.store).files l.fn.file value → HoldsAny S.tells (S.seen l.store).files l.file value;
-      same : any_seen l.file ≡ any_seen l.fn.file;
       usable : IsTrue (any_seen l.file).usable;
-      leaves : OnlyReads true (any_seen l.fn.file).name (S.seen l.fn.store) (S.seen l.store);
+      few : length l.list.items + ids_after l.after ≤ 2 ^ 32;
+      up : LooksUp Some (any_laws S.tells) (any_at S.tells (S.seen l.fn.store) l.fn.file) (any_at S.tells (S.seen l.store) l.file)
+          (any_next_reads (any_seen l.fn.file) ((S.seen l.fn.store).files (any_seen l.fn.file).name) * length l.list.items) (Ok (tt {0}));
     }
 
 abbrev pub decreases-loop-list : goal.decreases-loop-list

@@ -1,5 +1,5 @@
 use Rattle.std.proofs.Common.{◌∙◌, arith}
-use Rattle.quota_v1.proofs.ChangeLemmas.{number_before}
+use Rattle.quota_types.proofs.NumberLemmas.{number_before}
 use Rattle.quota_v1.proofs.flat_change.write_limits.Goals as goal
 
 pub returns-clause-hard : goal.returns-clause-hard

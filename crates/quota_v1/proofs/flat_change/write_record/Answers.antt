@@ -1,7 +1,7 @@
 use Rattle.std.proofs.Common.{ℕ, ap, ◌∙◌, arith}
 use Rattle.quota_types.specs.Bytes.{number_at}
 use Rattle.std.proofs.lemmas.Bool.Decides.{nat_tests}
-use Rattle.quota_v1.proofs.ChangeLemmas.{number_before}
+use Rattle.quota_types.proofs.NumberLemmas.{number_before}
 use Rattle.quota_v1.proofs.RecordLemmas.{written_record}
 use Rattle.quota_v1.proofs.flat_change.write_record.Goals as goal
 

@@ -2,4 +2,4 @@ use Rattle.quota_types.specs.declared.file_kind.Format.TheVariants.{V1}
 use Rattle.quota_v1.proofs.opening.opened.Goals as goal
 
 pub returns-clause-fresh : goal.returns-clause-fresh
-returns-clause-fresh g = g.new-opened.ensures V1 0
+returns-clause-fresh c = c.new.ensures _ V1 0

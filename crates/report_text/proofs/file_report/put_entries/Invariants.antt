@@ -1,6 +1,7 @@
-use Rattle.std.proofs.Common.{◌≡◌, ◌≤◌, IsTrue, true}
+use Rattle.std.proofs.Common.{◌≡◌, ◌*◌, ◌-◌, ◌^◌, ◌≤◌, IsTrue, Ok, Some}
 use Rattle.id_names.specs.FirstMatch.{first_name}
-use Rattle.quota_blocks.specs.Frame.{OnlyReads}
+use Rattle.quota_blocks.specs.Changes.{file_at, laws_of}
+use Rattle.quota_blocks.specs.LooksUp.{LooksUp}
 use Rattle.quota_blocks.specs.QuotaValue.{QuotaValue}
 use Rattle.quota_blocks.proofs.EntriesLemmas.{ids_after}
 use Rattle.report_text.proofs.LinesLemmas.{IsPutUpTo}
@@ -14,10 +15,10 @@ invariant-loop-entry g l =
     record {
       lines : (value : QuotaValue) → F.holds l.fn.file l.fn.store value
           → IsPutUpTo (first_name l.names) l.now l.options O.tells (O.seen l.fn.sink).written l.fn.text (O.seen l.sink).written l.text value.records l.after;
-      stays : (value : QuotaValue) → F.holds l.fn.file l.fn.store value → F.holds l.file l.store value;
-      same : F.seen l.file ≡ F.seen l.fn.file;
       usable : IsTrue (F.seen l.file).usable;
-      leaves : OnlyReads true (F.seen l.fn.file).name (S.seen l.fn.store) (S.seen l.store);
+      up : LooksUp Some (laws_of S.tells F.stands_for F.makes F.may_leave F.lacks_room F.may_refuse F.change_reads F.change_writes)
+          (file_at (F.holds l.fn.file l.fn.store) (F.seen l.fn.file) (S.seen l.fn.store)) (file_at (F.holds l.file l.store) (F.seen l.file) (S.seen l.store))
+          (F.next_reads (F.seen l.fn.file) ((S.seen l.fn.store).files (F.seen l.fn.file).name) * (2 ^ 32 - ids_after l.after)) (Ok (tt {0}));
       sink_later : (O.seen l.fn.sink).faults ≤ (O.seen l.sink).faults;
     }
 

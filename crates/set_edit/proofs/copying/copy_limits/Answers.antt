@@ -3,6 +3,7 @@ use Rattle.std.proofs.lemmas.Result.{err_from_is_err_and}
 use Rattle.set_edit.specs.Edited.{limits_change, limits_set}
 use Rattle.set_edit.specs.Edits.{LimitsMayLack, copy_edit, limits_edit, limits_idle, limits_of}
 use Rattle.set_edit.specs.declared.limits.Limits.{Limits}
+use Rattle.quota_blocks.proofs.LooksUpLemmas.{is_looked_up}
 use Rattle.set_edit.proofs.EditingLemmas.{edits-after, edits-unlooked}
 use Rattle.set_edit.proofs.copying.copy_limits.Goals as goal
 
@@ -14,7 +15,7 @@ returns g c =
     let copied = c.limits_of.ensures in
     record {
       edits = edits-after (copy_edit c.args.from to now) (limits_edit to c.limits_of.result now) _ _ _ _ c.set_limits.result c.set_limits.ensures.edits
-          (record { stays = looked_up.stays; leaves = looked_up.leaves; same = looked_up.same })
+          (is_looked_up _ _ _ _ _ _ looked_up.looks)
           (record {
             value = record {
               edited = λ value holds. ap (λ (limits : Limits). limits_set value to limits now) (sym (copied ∙ ap limits_of (looked_up.found value holds)));
@@ -37,5 +38,5 @@ returns-in_err-source g c =
     let looked_up = c.in_err-source.ensures in
     record {
       edits = rw (p.1, p.2)
-          (edits-unlooked (copy_edit c.args.from c.args.to c.args.now) _ _ _ c.in_err-source.field-0.0 c.requires looked_up.refused looked_up.may looked_up.stays looked_up.leaves looked_up.counted);
+          (edits-unlooked (copy_edit c.args.from c.args.to c.args.now) _ _ _ _ c.in_err-source.field-0.0 looked_up.looks);
     }

@@ -1,5 +1,6 @@
 use Rattle.std.proofs.Common.{Ok, Err}
 use Rattle.std.proofs.lemmas.Result.{err_from_is_err_and}
+use Rattle.quota_blocks.proofs.LooksUpLemmas.{is_looked_up}
 use Rattle.set_edit.proofs.EditsLemmas.{limits-edits}
 use Rattle.set_edit.proofs.edit.set_limits.Goals as goal
 
@@ -10,7 +11,7 @@ returns g c =
     record {
       edits = limits-edits c.args.id c.args.limits.now c.args.now _ _ _ _ (Ok tt) _ _ _ _ c.in_ok-next.next c.in_ok-put_or_remove.ensures.changes
           (record {
-            up = record { stays = looked_up.stays; leaves = looked_up.leaves; same = looked_up.same };
+            up = is_looked_up _ _ _ _ _ _ looked_up.looks;
             looked = looked_up.found;
             value = c.format.ensures.value _;
           })
@@ -25,7 +26,7 @@ returns-in_err-put_or_remove g c =
     record {
       edits = rw (p.1, p.2) (limits-edits c.args.id c.args.limits.now c.args.now _ _ _ _ (Err c.in_err-put_or_remove.field-0.0) _ _ _ _ c.in_ok-next.next c.in_err-put_or_remove.ensures.changes
           (record {
-            up = record { stays = looked_up.stays; leaves = looked_up.leaves; same = looked_up.same };
+            up = is_looked_up _ _ _ _ _ _ looked_up.looks;
             looked = looked_up.found;
             value = c.format.ensures.value _;
           })

@@ -3,6 +3,7 @@ use Rattle.std.proofs.lemmas.Result.{err_from_is_err_and}
 use Rattle.set_edit.specs.Times.{skips_both}
 use Rattle.set_edit.specs.declared.skipped.Skipped.{Skipped}
 use Rattle.set_edit.specs.Edits.{times_edit}
+use Rattle.quota_blocks.proofs.LooksUpLemmas.{is_looked_up}
 use Rattle.set_edit.proofs.EditingLemmas.{edits-unlooked}
 use Rattle.set_edit.proofs.EditsLemmas.{times-edits}
 use Rattle.set_edit.proofs.times.set_times.Goals as goal
@@ -13,7 +14,7 @@ returns-clause-edits g c =
     let next = c.in_ok-next.ensures in
     times-edits c.args.id c.args.block c.args.inode c.args.now _ _ _ _ c.skipped_times-skipped.result (Ok tt) _ _ _ c.in_ok-next.next c.in_ok-put_or_remove.ensures.changes
     (record {
-      up = record { stays = looked_up.stays; leaves = looked_up.leaves; same = looked_up.same };
+      up = is_looked_up _ _ _ _ _ _ looked_up.looks;
       looked = looked_up.found;
       value = c.format.ensures.value _;
     })
@@ -27,7 +28,7 @@ returns-in_err-put_or_remove-clause-edits g c =
     let next = c.in_ok-next.ensures in
     rw (p.1, p.2) (times-edits c.args.id c.args.block c.args.inode c.args.now _ _ _ _ c.skipped_times-skipped.result (Err c.in_err-put_or_remove.field-0.0) _ _ _ c.in_ok-next.next c.in_err-put_or_remove.ensures.changes
     (record {
-      up = record { stays = looked_up.stays; leaves = looked_up.leaves; same = looked_up.same };
+      up = is_looked_up _ _ _ _ _ _ looked_up.looks;
       looked = looked_up.found;
       value = c.format.ensures.value _;
     })
@@ -39,4 +40,4 @@ returns-in_err-get-clause-edits g c =
     let p = err_from_is_err_and c.from_residual.result c.from_residual.ensures.1 in
     let looked_up = c.in_err-get.ensures in
     rw (p.1, p.2)
-    (edits-unlooked (times_edit c.args.id c.args.block c.args.inode c.args.now) _ _ _ c.in_err-get.field-0.0 c.requires looked_up.refused looked_up.may looked_up.stays looked_up.leaves looked_up.counted)
+    (edits-unlooked (times_edit c.args.id c.args.block c.args.inode c.args.now) _ _ _ _ c.in_err-get.field-0.0 looked_up.looks)

@@ -1,6 +1,5 @@
 use Rattle.std.proofs.Common.{◌∙◌, ap, arith}
 use Rattle.std.proofs.lemmas.Result.{err_from_is_err_and}
-use Rattle.quota_blocks.specs.QuotaFile.{FileSeen}
 use Rattle.quota_blocks.specs.World.{World}
 use Rattle.quota_blocks.specs.Block.{bytes_of}
 use Rattle.tree_file.proofs.OpenLemmas.{Begins, are_seen, checked_refused, header_refused, opened_holds, value_seen}
@@ -61,14 +60,12 @@ returns-clause-held g c = λ told value view.
       few = c.in_ok-header.ensures.few;
     } in
     let same = ap (λ (files : World). files c.args.name.now) c.in_ok-first.ensures.leaves.files in
-    rw (ap (λ (seen : FileSeen). seen.name) (c.new.ensures c.in_ok-header.header.format c.args.limit) ∙ c.in-Ok.ensures.ok)
+    rw c.in-Ok.ensures.ok
     (opened_holds g.S.Store.tells _ _ _ c.args.kind c.args.format c.args.limit c.in_ok-first.first.items c.in_ok-tree.tree.bytes.items c.in_ok-header.header value begins same
     (ap (λ (files : World). files c.args.name.now) (c.in_ok-tree.ensures.leaves.files ∙ c.in_ok-first.ensures.leaves.files)) told (c.in_ok-tree.ensures.loaded told) view)
 
 pub returns-clause-fresh : goal.returns-clause-fresh
-returns-clause-fresh g c =
-    let fresh = c.new.ensures c.in_ok-tree.tree.header.format c.args.limit in
-    rw c.in-Ok.ensures.ok at fresh
+returns-clause-fresh g c = rw c.in-Ok.ensures.ok (c.new.ensures c.args.name.now c.in_ok-tree.tree.header.format c.args.limit)
 
 pub returns-clause-reads : goal.returns-clause-reads
 returns-clause-reads g c = λ told.
@@ -84,3 +81,18 @@ returns-clause-reads g c = λ told.
     let same = ap (λ (files : World). files c.args.name.now) c.in_ok-first.ensures.leaves.files in
     let are = are_seen c.in_ok-first.first.items (bytes_of ((g.S.Store.seen c.args.store.now).files c.args.name.now)) c.in_ok-header.header (begins.is told) begins.are in
     omega (arith, are.blocks, c.in_ok-first.ensures.reads, c.in_ok-tree.ensures.reads)
+
+pub returns-in_err-tree-clause-reads : goal.returns-in_err-tree-clause-reads
+returns-in_err-tree-clause-reads g c = λ told.
+    let begins : Begins g.S.Store.tells ((g.S.Store.seen c.args.store.now).files c.args.name.now) c.args.kind c.args.format c.args.limit c.in_ok-first.first.items c.in_ok-header.header = record {
+      there = c.in_ok-first.ensures.there;
+      is = c.in_ok-first.ensures.loaded;
+      are = rw c.as_slice.ensures.value at c.in_ok-header.ensures.numbers;
+      accepted = rw c.as_slice.ensures.value at c.in_ok-header.ensures.accepted;
+      of_kind = c.in_ok-header.ensures.kind;
+      as_asked = c.in_ok-header.ensures.as_asked;
+      few = c.in_ok-header.ensures.few;
+    } in
+    let same = ap (λ (files : World). files c.args.name.now) c.in_ok-first.ensures.leaves.files in
+    let are = are_seen c.in_ok-first.first.items (bytes_of ((g.S.Store.seen c.args.store.now).files c.args.name.now)) c.in_ok-header.header (begins.is told) begins.are in
+    omega (arith, are.blocks, c.in_ok-first.ensures.reads, c.in_err-tree.ensures.reads)

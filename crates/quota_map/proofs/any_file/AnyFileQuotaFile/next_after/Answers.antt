@@ -1,4 +1,10 @@
+use Rattle.std.proofs.Common.{arith}
+use Rattle.quota_map.proofs.AnyLemmas.{flat_looks, tree_looks}
 use Rattle.quota_map.proofs.any_file.AnyFileQuotaFile.next_after.Goals as goal
 
-pub returns-in-V1-clause-stays : goal.returns-in-V1-clause-stays
-returns-in-V1-clause-stays g c = λ value held. c.next_after.ensures.stays value (rw c.in-V1.is at held)
+pub returns-in-V1-clause-looks : goal.returns-in-V1-clause-looks
+returns-in-V1-clause-looks g c = flat_looks c.args.self.now c.in-V1.file c.next_after.new.self g.S.Store.tells _ _ 0 _ c.next_after.result c.in-V1.is (omega arith) c.next_after.ensures.looks
+
+pub returns-in-Tree-clause-looks : goal.returns-in-Tree-clause-looks
+returns-in-Tree-clause-looks g c =
+    tree_looks c.args.self.now c.in-Tree.file c.next_after-in-Tree.new.self g.S.Store.tells _ _ 0 _ c.next_after-in-Tree.result c.in-Tree.is c.in-Tree.file.tree.tree (omega arith) c.next_after-in-Tree.ensures.looks

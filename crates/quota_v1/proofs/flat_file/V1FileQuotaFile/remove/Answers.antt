@@ -1,4 +1,5 @@
-use Rattle.std.proofs.Common.{◌≡◌, None, IsTrue, refl, arith}
+use Rattle.std.proofs.Common.{◌≡◌, None, refl, arith}
+use Rattle.std.specs.String.{string_bytes}
 use Rattle.quota_blocks.proofs.ChangesLemmas.{bounded-none, changes-idle}
 use Rattle.outside.proofs.FrameLemmas.{only_reads-none}
 use Rattle.quota_blocks.specs.FileChange.{Remove}
@@ -11,13 +12,13 @@ use Rattle.quota_v1.proofs.flat_file.V1FileQuotaFile.remove.Goals as goal
 pub returns-then-is_none : goal.returns-then-is_none
 returns-then-is_none g c =
     let S = g.S.Store in
-    let at = flat_at S.tells (S.seen c.args.store.now) c.args.self.now.opened c.args.self.now.bytes.items in
+    let at = flat_at S.tells (S.seen c.args.store.now) (string_bytes c.args.self.now.name) c.args.self.now.opened c.args.self.now.bytes.items in
     let is = rw c.deref.ensures.value at c.record_of.ensures.value in
     record {
       changes = changes-idle (Remove c.args.id) (flat_laws S.tells) at at tt
           (λ value held. value_absent _ value c.args.id c.record_of.result is c.if-is_none.ensures held.stands)
           (λ value held. holds_absent _ _ _ value c.args.id c.record_of.result is c.if-is_none.ensures held)
-          (only_reads-none _ _) refl (bounded-none (flat_laws S.tells) at at refl refl);
+          (only_reads-none _ _) refl (bounded-none (Remove c.args.id) (flat_laws S.tells) at at refl refl);
     }
 
 pub returns : goal.returns

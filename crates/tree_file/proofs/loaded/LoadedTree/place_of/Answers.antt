@@ -17,5 +17,5 @@ returns-then-at-size-clause-there c =
       low = c.in_ok-place.ensures.low;
       used = subst (λ (f : List ℕ). IsSome (record_by c.args.self.now.header.format (block_of f c.in-Ok-Some.block) c.args.id c.in_ok-place.place)) c.deref-2.ensures.value
           (subst (λ (block : List ℕ). IsSome (record_by c.args.self.now.header.format block c.args.id c.in_ok-place.place)) c.block_of.ensures c.in_ok-place.ensures.used);
-      begins = ap (λ (size : ℕ). 1024 * c.in-Ok-Some.block + (16 + size * c.in_ok-place.place)) c.entry_size-size.ensures;
+      begins = ap (λ (size : ℕ). 1024 * c.in-Ok-Some.block + (16 + size * c.in_ok-place.place)) c.record_size-size.ensures;
     }

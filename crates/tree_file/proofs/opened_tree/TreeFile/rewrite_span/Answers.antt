@@ -2,6 +2,7 @@ use Rattle.std.proofs.Common.{◌≡◌, ◌+◌, ◌∙◌, ◌≤◌, Ok, Err,
 use Rattle.quota_blocks.specs.World.{overwritten}
 use Rattle.entry_codec.specs.Header.{AreOf, header_of}
 use Rattle.entry_codec.specs.declared.header.Header.{Header}
+use Rattle.std.specs.String.{string_bytes}
 use Rattle.tree_file.proofs.MakesLemmas.{changes-rewritten}
 use Rattle.tree_file.proofs.SpanLemmas.{length-overwritten, overwritten-back}
 use Rattle.tree_file.proofs.opened_tree.TreeFile.rewrite_span.Goals as goal
@@ -18,18 +19,20 @@ exchange-requires-in-Err-clause-of g c =
 pub returns-in-Ok : goal.returns-in-Ok
 returns-in-Ok g c = λ change is.
     let was = c.args.self.now in
+    let did = rw c.as_str-name.ensures.value at c.in-Ok.ensures in
     let file = was.tree.bytes.items in
     let bytes : List ℕ = overwritten file c.args.at c.args.span.now in
     let long : length bytes ≡ length file = length-overwritten file c.args.at c.args.span.now (omega (arith, c.requires.inside, was.tree.bytes.ok.0)) in
-    changes-rewritten change _ was.limit was.opened c.replace.new.self was.tree.header.format c.exchange.new.self.header.format file c.exchange.new.self.bytes.items bytes _ _ (Ok tt)
+    changes-rewritten change _ was.limit (string_bytes was.name) was.opened c.replace.new.self was.tree.header.format c.exchange.new.self.header.format file c.exchange.new.self.bytes.items bytes _ _ (Ok tt)
     (ap (λ (header : Header). header.format) c.exchange.ensures.header)
     is _ c.requires.of was.few (omega (arith, long, was.limited, was.tree.bytes.ok.0)) c.exchange.ensures.bytes tt
-    (rw (sym c.exchange.ensures.bytes) (rw c.as_slice-bytes.ensures.value at c.in-Ok.ensures.replaced)) c.in-Ok.ensures.synced c.in-Ok.ensures.same tt tt tt tt c.replace.ensures.leaves
-    c.replace.ensures.reads (rw (sym c.exchange.ensures.bytes) (rw c.as_slice-bytes.ensures.value at c.replace.ensures.writes))
+    (rw (sym c.exchange.ensures.bytes) (rw c.as_slice-bytes.ensures.value at did.replaced)) did.synced did.same tt tt tt tt did.leaves
+    did.reads (rw (sym c.exchange.ensures.bytes) (rw c.as_slice-bytes.ensures.value at did.writes))
 
 pub returns-in-Err : goal.returns-in-Err
 returns-in-Err g c = λ change is.
     let was = c.args.self.now in
+    let did = rw c.as_str-name.ensures.value at c.in-Err.ensures in
     let file = was.tree.bytes.items in
     let within : c.args.at + length c.args.span.now ≤ length file = omega (arith, c.requires.inside, was.tree.bytes.ok.0) in
     let bytes : List ℕ = overwritten file c.args.at c.args.span.now in
@@ -37,7 +40,7 @@ returns-in-Err g c = λ change is.
     ∙ (λ i. overwritten (c.exchange.ensures.bytes i) c.args.at (c.exchange.ensures.span i)) ∙ overwritten-back file c.args.at c.args.span.now within in
     let formats : c.exchange-in-Err.new.self.header.format ≡ was.tree.header.format =
     ap (λ (header : Header). header.format) c.exchange-in-Err.ensures.header ∙ ap (λ (header : Header). header.format) c.exchange.ensures.header in
-    changes-rewritten change _ was.limit was.opened c.replace.new.self was.tree.header.format c.exchange-in-Err.new.self.header.format file c.exchange-in-Err.new.self.bytes.items bytes _ _ (Err c.in-Err.fault) formats
+    changes-rewritten change _ was.limit (string_bytes was.name) was.opened c.replace.new.self was.tree.header.format c.exchange-in-Err.new.self.header.format file c.exchange-in-Err.new.self.bytes.items bytes _ _ (Err c.in-Err.fault) formats
     is _ c.requires.of was.few (omega (arith, length-overwritten file c.args.at c.args.span.now within, was.limited, was.tree.bytes.ok.0)) tt back
-    tt tt tt c.in-Err.ensures.refused c.in-Err.ensures.unchanged c.in-Err.ensures.unwritten c.in-Err.ensures.counted c.replace.ensures.leaves
-    c.replace.ensures.reads (rw (sym c.exchange.ensures.bytes) (rw c.as_slice-bytes.ensures.value at c.replace.ensures.writes))
+    tt tt tt did.refused did.unchanged did.unwritten did.counted did.leaves
+    did.reads (rw (sym c.exchange.ensures.bytes) (rw c.as_slice-bytes.ensures.value at did.writes))
