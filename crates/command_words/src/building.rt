@@ -10,8 +10,8 @@ use crate::copies::{common_of, copy_given, exports_of, word_of};
 use crate::mode::{Mode, kind_asked, options_of};
 use crate::{Command, UsageFault};
 use option_words::{Fault, Given, OperandWord, is_file_name, lines_of};
+use quota_blocks::read_number;
 use refusals::{UsageKind, Word};
-use set_edit::read_number;
 use std::alloc::Global;
 
 /// The command that a mode asks for by its operands.

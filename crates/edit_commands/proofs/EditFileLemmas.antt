@@ -7,6 +7,7 @@ use Rattle.std.specs.String.{string_bytes}
 use Rattle.quota_types.specs.Kept.{kept_of}
 use Rattle.quota_types.specs.Rec.{is_null_of}
 use Rattle.quota_types.specs.declared.field.Field.{Field}
+use Rattle.quota_types.specs.Format.{is_flat}
 use Rattle.quota_types.specs.declared.file_kind.Format.{Format}
 use Rattle.quota_types.specs.declared.file_kind.Format.TheVariants.{V1}
 use Rattle.quota_types.specs.declared.record.Rec.{Rec}
@@ -73,7 +74,7 @@ lacking : (tells : Bool) (files : World) (file : AnyFile) (value new : QuotaValu
     → HoldsAny tells files file value → new.format ≡ value.format → LacksRoom (any_seen file) new blocks limit → IsLacking new blocks limit
 lacking tells files (FlatFile file) value new name format blocks limit seen held same lacks = absurd (omega (arith, lacks.passes, lacks.needs, flat_blocks new value.format same held.stands.format))
 lacking tells files (TreeFile file) value new name format blocks limit seen held same lacks =
-    let most = lacks.may ∙ tree_limit tells (files (string_bytes file.opened.name)) file.tree.bytes.items file.limit value format (ap (λ (s : FileSeen). s.limit) seen) held in
+    let most = lacks.may ∙ tree_limit tells (files (string_bytes file.name)) file.tree.bytes.items file.limit value format (ap (λ (s : FileSeen). s.limit) seen) held in
     (lacks.needs, most, subst (λ (l : ℕ). l < blocks) most lacks.passes)
 
 -- an opened file has no room for a value that needs more than the most blocks
@@ -82,7 +83,7 @@ lacks_most : (tells : Bool) (files : World) (file : AnyFile) (value new : QuotaV
 lacks_most tells files (FlatFile file) value new name format seen held same more = absurd (omega (arith, more, flat_blocks new value.format same held.stands.format))
 lacks_most tells files (TreeFile file) value new name format seen held same more = record {
   needs = refl;
-  may = sym (tree_limit tells (files (string_bytes file.opened.name)) file.tree.bytes.items file.limit value format (ap (λ (s : FileSeen). s.limit) seen) held);
+  may = sym (tree_limit tells (files (string_bytes file.name)) file.tree.bytes.items file.limit value format (ap (λ (s : FileSeen). s.limit) seen) held);
   passes = more;
 }
 
@@ -140,7 +141,7 @@ pub any_unchanged : {T : Type 0} (edit : Edit) (tells : Bool) (opened file : Any
     → AnyEdits {T = T} edit tells opened file before after (Err fault) → IsTrue tells → after.files (any_seen opened).name ≡ before.files (any_seen opened).name
 any_unchanged edit tells opened file before after (File fault) edits told = elim (edits.value.refused.between told) [
   | inl same ↦ same
-  | inr both ↦ both.1
+  | inr both ↦ both.2
 ]
 any_unchanged edit tells opened file before after (Unfit out) edits told = ap (λ (files : World). files (any_seen opened).name) edits.no_room.unwritten.files
 
@@ -213,7 +214,7 @@ any_cause tells edit opened file before after name format (Unfit out) keeps was 
 full_asked : (asked : Option Format) (format : Format) (blocks limit : ℕ) → IsOpenedAs asked format → MayRefuse format (Full blocks limit)
     → IsTrue (asks_tree asked) × (blocks_allowed format ≡ most_blocks)
 full_asked asked V1 blocks limit asks may = absurd (may.flat refl)
-full_asked (Some V1) format blocks limit asks may = absurd (may.flat asks)
+full_asked (Some V1) format blocks limit asks may = absurd (may.flat (ap is_flat asks))
 full_asked asked format blocks limit asks may = (refl, refl)
 
 -- for what an edit may be refused, whatever is told

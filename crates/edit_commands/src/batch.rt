@@ -22,8 +22,7 @@ use run_steps::{opening_cause, read_names};
 use set_edit::set_limits;
 use std::alloc::Global;
 
-/// Sets the limits that the lines of an input ask for, up to the first line that is refused, at the moment `now`, in seconds
-/// since 1970.
+/// Sets the limits that lines of an input ask for, up to the first that is refused, at the moment `now` in seconds since 1970.
 ///
 /// # Errors
 ///

@@ -43,8 +43,7 @@ enum InputFault {
     Memory,
 }
 
-/// Reads the edits that an input asks for, which stands in the file of this name, or in the standard input where no file is
-/// named.
+/// Reads the edits that an input asks for: the file of this name, or the standard input where none is named.
 ///
 /// # Errors
 ///

@@ -1,6 +1,6 @@
 -- Listings that become the usage of a file: why one was not read, which value it leaves, and why a file was not read.
 use Rattle.std.proofs.Common.{◌≡◌, ◌≢◌, ℕ, ◌<◌, ◌≤◌, Bool, true, false, IsTrue, List, [], ◌∷◌, Option, None, Some, Err, Result, ◌⊎◌, inl, inr, refl, sym, ap, subst, ◌∙◌, arith}
-use Rattle.std.specs.Prelude.{T, cond, slice_get}
+use Rattle.std.specs.Prelude.{IfSome, T, cond, slice_get}
 use Rattle.std.specs.Cmp.{unsigned_tied}
 use Rattle.std.specs.FinMap.{entries, entries_sorted, find, get, get-entries, is_sorted}
 use Rattle.std.specs.FinMap.Entries.{below_all}
@@ -25,7 +25,8 @@ use Rattle.outside.proofs.FrameLemmas.{only_reads-none}
 use Rattle.quota_blocks.specs.declared.quota_file.FileFault.{FileFault}
 use Rattle.quota_blocks.specs.declared.quota_file.FileFault.TheVariants.{Store as StoreFailed, Damage as FileDamaged, Full as NoBlocks, Memory as NoMemory}
 use Rattle.quota_map.specs.AnyFile.{MayRefuse}
-use Rattle.quota_map.specs.Reading.{IsReadFault, UnlessMemory}
+use Rattle.quota_blocks.specs.QuotaFile.{IsLookupFault}
+use Rattle.quota_map.specs.Reading.{file_refusal}
 use Rattle.tree_build.specs.Size.{ids_in}
 use Rattle.quota_map.specs.Replacing.{IsReplacedBy, built_size, flags_in}
 use Rattle.quota_map.specs.View.{IsOpenedAs}
@@ -168,14 +169,14 @@ check_unfit name value usage now out tells old is =
 
 read_reason : (uses : Uses) (old new : RunSeen) (tells : RunTells) (stated : Type 0) (before : ℕ) (holds : QuotaValue → Type 0) (fault : FileFault)
     → old.store.faults ≤ before → (IsTrue tells.store → ((value : QuotaValue) → holds value → ⊥) → ⊥)
-    → IsReadFault before new.store.faults holds fault → HasReason uses old new (IsWorldTold tells → stated) (file_cause fault)
+    → IfSome (file_refusal fault) (IsLookupFault before new.store.faults holds) → HasReason uses old new (IsWorldTold tells → stated) (file_cause fault)
 read_reason uses old new tells stated before holds StoreFailed le seen cause = omega (arith, le, cause)
 read_reason uses old new tells stated before holds (FileDamaged damage) le seen cause = λ told. absurd (seen told.store cause)
 read_reason uses old new tells stated before holds (NoBlocks blocks limit) le seen cause = absurd cause
 read_reason uses old new tells stated before holds NoMemory le seen cause = tt
 
 read_may : (asked : Option Format) (name : List ℕ) (format : Format) (before now : ℕ) (holds : QuotaValue → Type 0) (fault : FileFault) → IsOpenedAs asked format
-    → IsReadFault before now holds fault → UnlessMemory fault (MayRefuse format fault) → MayRefuseOpening asked name (file_cause fault) name
+    → IfSome (file_refusal fault) (IsLookupFault before now holds) → IfSome (file_refusal fault) (MayRefuse format) → MayRefuseOpening asked name (file_cause fault) name
 read_may asked name format before now holds StoreFailed asks cause may = tt
 read_may asked name format before now holds (FileDamaged damage) asks cause may = (damage_may asked format damage asks may, refl)
 read_may asked name format before now holds (NoBlocks blocks limit) asks cause may = absurd cause
@@ -185,7 +186,7 @@ read_may asked name format before now holds NoMemory asks cause may = tt
 pub not_read_whole : {done : Bool} (kind : Kind) (asked : Option Format) (name : List ℕ) (next : QuotaValue → Steps) (uses : Uses) (may : Cause → List ℕ → Type 0) (tells : RunTells) (old : RunSeen) (store : StoreSeen)
     (format : Format) (before : ℕ) (holds : QuotaValue → Type 0) (fault : FileFault)
     → IsOpenedAs asked format → OnlyReads done name old.store store → old.store.faults ≤ before → (IsTrue tells.store → ((value : QuotaValue) → holds value → ⊥) → ⊥)
-    → IsReadFault before store.faults holds fault → UnlessMemory fault (MayRefuse format fault) → ((cause : Cause) → MayRefuseOpening asked name cause name → may cause name)
+    → IfSome (file_refusal fault) (IsLookupFault before store.faults holds) → IfSome (file_refusal fault) (MayRefuse format) → ((cause : Cause) → MayRefuseOpening asked name cause name → may cause name)
     → CarriesOut (Opening kind asked name next) uses may tells old (with_store old store) (Err (refusal_of (file_cause fault) name))
 not_read_whole kind asked name next uses may tells old store format before holds fault asks reads le seen cause may_be allowed =
     refused_reads name (Opening kind asked name next) uses may tells old store (refusal_of (file_cause fault) name) reads

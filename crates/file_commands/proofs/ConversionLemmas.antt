@@ -4,6 +4,7 @@ use Rattle.std.specs.Prelude.{IsSome}
 use Rattle.std.specs.Str.{bytes_eq}
 use Rattle.std.specs.List.{slice_get}
 use Rattle.quota_types.specs.declared.field.NoRoom.{NoRoom as NoRoomFor}
+use Rattle.quota_types.specs.Format.{is_flat}
 use Rattle.quota_types.specs.declared.file_kind.Format.{Format}
 use Rattle.quota_types.specs.declared.file_kind.Kind.{Kind}
 use Rattle.quota_blocks.specs.Count.{Rose}
@@ -226,7 +227,7 @@ module _ (kind : Kind) (before after : Format) (source target : List ℕ) (invoc
       carries_made is.made (Err (refusal_of (Full blocks limit) target)) is.free is.converts
       (looked_refused source target Says tells old store looks (made source target (Ok is.made)) (λ (acts : List Act). DoingAll acts Finish) (refusal_of (Full blocks limit) target)
       (λ told. no_room_for target is.made blocks limit is.cause.0 is.cause.1 is.cause.2) (λ stated fact. fact)
-      ((λ flat. no_flat_blocks is.made.format (ids_in is.made.records) most_blocks is.cause.0 (format_is ∙ flat)), is.cause.2, omega (arith, is.cause.0, is.cause.1, is.cause.2), refl)
+      (ap is_flat (sym format_is) ∙ no_flat_blocks is.made.format (ids_in is.made.records) most_blocks is.cause.0, is.cause.2, omega (arith, is.cause.0, is.cause.1, is.cause.2), refl)
       (nowhere_placed (Full blocks limit) target))
   not_made NoMemoryToMake is looks same leaves = looked_wanting source target Says tells old store looks steps target tt
 

@@ -2,8 +2,9 @@
 use Rattle.std.proofs.Common.{◌≡◌, ℕ, ◌<◌, ◌≤◌, Bool, true, false, IsTrue, nat_lt, List, [], ◌∷◌, None, Some, Ok, Err, Result, refl, sym, ap, subst, ◌∙◌, arith}
 use Rattle.std.proofs.lemmas.Bool.{false≢true, le-ltb, lt-ltb}
 use Rattle.quota_types.specs.declared.field.NoRoom.{NoRoom}
+use Rattle.quota_types.specs.Format.{IsTreeFormat}
 use Rattle.quota_types.specs.declared.file_kind.Format.{Format}
-use Rattle.quota_types.specs.declared.file_kind.Format.TheVariants.{V1}
+use Rattle.quota_types.specs.declared.file_kind.Format.TheVariants.{V1, V2R0, V2R1}
 use Rattle.quota_blocks.specs.Count.{Rose}
 use Rattle.quota_blocks.specs.Frame.{ReplacesOne}
 use Rattle.quota_blocks.specs.Listed.{ids_of}
@@ -111,8 +112,10 @@ replace_wanting name new may tells old store same allowed =
     (nothing_carried (ReplaceSteps name new) (edit_uses false) may tells old (refusal_of Memory name) tt allowed (record { line = λ no. refl; input_line = λ no. refl }))
 
 -- a flat file needs no blocks
-pub no_flat_blocks : (format : Format) (ids : List ℕ) (most : ℕ) → most < blocks_needed format ids → ¬ (format ≡ V1)
-no_flat_blocks format ids most passes flat = omega (arith, subst (λ (f : Format). most < blocks_needed f ids) flat passes)
+pub no_flat_blocks : (format : Format) (ids : List ℕ) (most : ℕ) → most < blocks_needed format ids → IsTreeFormat format
+no_flat_blocks V1 ids most passes = absurd (omega (arith, passes))
+no_flat_blocks V2R0 ids most passes = refl
+no_flat_blocks V2R1 ids most passes = refl
 
 -- the file was not replaced
 pub replace_refused : (name : List ℕ) (value : FileValue) (tells : RunTells) (old : RunSeen) (store : StoreSeen) (fault : ReplaceFault) → IsInOrder value

@@ -7,8 +7,8 @@ use Rattle.quota_types.specs.Range.{grace_unfit}
 use Rattle.quota_types.specs.Rec.{is_null_of}
 use Rattle.quota_blocks.specs.Listed.{ids_of, value_of}
 use Rattle.quota_blocks.specs.QuotaValue.{QuotaValue}
+use Rattle.quota_types.specs.Format.{IsTreeFormat}
 use Rattle.quota_types.specs.declared.file_kind.Format.{Format}
-use Rattle.quota_types.specs.declared.file_kind.Format.TheVariants.{V1}
 use Rattle.quota_types.specs.declared.file_kind.Kind.{Kind}
 use Rattle.quota_blocks.specs.World.{World}
 use Rattle.tree_build.specs.Size.{ids_in}
@@ -46,7 +46,7 @@ replace_cause NoMemory = Memory
 abbrev pub WritingMayRefuse : Format → List ℕ → Cause → List ℕ → Type 0
 WritingMayRefuse format file StoreFault name = ⊤
 WritingMayRefuse format file Memory name = ⊤
-WritingMayRefuse format file (Full blocks limit) name = (¬ (format ≡ V1)) × (limit ≡ most_blocks) × (limit < blocks) × (name ≡ file)
+WritingMayRefuse format file (Full blocks limit) name = IsTreeFormat format × (limit ≡ most_blocks) × (limit < blocks) × (name ≡ file)
 WritingMayRefuse format file _ name = ⊥
 
 -- the named file was built anew for some value of this kind and of such a format, also where it stood for that value before

@@ -1,8 +1,9 @@
-ghost use Rattle.std.specs.Prelude.{◌≡◌, Bool, IfErr, IfOk, IsTrue, Ok, OnErr, OnOk, false, is_ok};
+ghost use Rattle.std.specs.Prelude.{◌≡◌, Bool, IfErr, IfOk, IfSome, IsTrue, Ok, OnErr, OnOk, false, is_ok};
 ghost use Rattle.quota_blocks.specs.Frame.{AreSynced, OnlyReads};
 ghost use Rattle.quota_blocks.specs.QuotaValue.{QuotaValue};
 ghost use Rattle.quota_blocks.specs.Seen.{LinkSeen, SinkSeen, SourceSeen};
-ghost use Rattle.quota_map.specs.Reading.{IsReadFault, UnlessMemory};
+ghost use Rattle.quota_blocks.specs.QuotaFile.{IsLookupFault};
+ghost use Rattle.quota_map.specs.Reading.{file_refusal};
 ghost use Rattle.run_steps.specs.Done.{seen_of, tells_of};
 ghost use Rattle.run_steps.specs.Run.{CarriesOut};
 ghost use Rattle.file_commands.specs.Check.{HasKept, ReplaceSteps, new_format, new_value};
@@ -72,10 +73,10 @@ pub fn read_value<S: Store>(
     ensures kept { IfOk result (λ read. HasKept (value_in read)) }
     ensures kind { IfOk result (λ read. read.kind ≡ kind) }
     ensures format { IfOk result (λ read. read.format ≡ (⟦<AnyFile as QuotaFile<S>>⟧.seen opened).format) }
-    ensures refused { IfErr result (IsReadFault (S.seen store.old).faults (S.seen store.new).faults
-        (⟦<AnyFile as QuotaFile<S>>⟧.holds opened store.old)) }
-    ensures may { IfErr result (λ fault. UnlessMemory fault
-        (⟦<AnyFile as QuotaFile<S>>⟧.may_refuse (⟦<AnyFile as QuotaFile<S>>⟧.seen opened).format fault)) }
+    ensures refused { IfErr result (λ fault. IfSome (file_refusal fault) (IsLookupFault (S.seen store.old).faults
+        (S.seen store.new).faults (⟦<AnyFile as QuotaFile<S>>⟧.holds opened store.old))) }
+    ensures may { IfErr result (λ fault. IfSome (file_refusal fault)
+        (⟦<AnyFile as QuotaFile<S>>⟧.may_refuse (⟦<AnyFile as QuotaFile<S>>⟧.seen opened).format)) }
     ensures leaves { OnlyReads (is_ok result) (⟦<AnyFile as QuotaFile<S>>⟧.seen opened).name (S.seen store.old) (S.seen store.new) }
 {
     let format = QuotaFile::<S>::format(&opened);

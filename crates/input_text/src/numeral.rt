@@ -22,3 +22,10 @@ pub fn number_in(word: &[u8]) -> Option<u64>
     }
     Some(number)
 }
+
+/// Reads a word as a number of 1 to 20 decimal digits with a value below 2^64. Zeros may stand in front.
+pub fn read_number(word: &str) -> Option<u64>
+    ensures { result ≡ number_of word.now }
+{
+    number_in(word.as_bytes())
+}

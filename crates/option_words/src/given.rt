@@ -1,16 +1,18 @@
 ghost use Rattle.std.specs.Prelude.{◌≡◌, false, Ok, Err, IsTrue, MatchResult};
-ghost use Rattle.refusals.specs.declared.cause.UsageKind.TheVariants.{BadValue, BadFileName};
-ghost use Rattle.option_words.specs.Fault.{fault, with_value};
+ghost use Rattle.refusals.specs.declared.cause.UsageKind.TheVariants.{BadFileName};
+ghost use Rattle.option_words.specs.Fault.{fault};
 ghost use Rattle.option_words.specs.FileName.{is_file_name};
 ghost use Rattle.option_words.specs.Given.{exports_told, has, is_exported, kind_word, nothing_told, put, told, with_item};
 ghost use Rattle.option_words.specs.Items.{Raised, Set, Exported};
 
-use crate::values::{calls_of, conversion_of, format_of, is_export_path, kind_of, port_of};
+use crate::values::{
+    checked, conversion_of, is_export_path, read_calls, read_format, read_kind, read_port,
+};
 use crate::{Fault, Flag, Flags, Setting, is_file_name};
 use arrayvec::ArrayVec;
+use quota_blocks::read_number;
 use quota_types::{Format, Kind};
 use refusals::UsageKind;
-use set_edit::read_number;
 
 /// How many exports there may be.
 const MAX_EXPORTS: usize = 16;
@@ -118,7 +120,7 @@ impl<'a> Given<'a> {
     {
         match setting {
             Setting::QuotaFormat => {
-                self.format = Some(checked(format_of(value), word)?);
+                self.format = Some(read_format(value, word)?);
                 Ok(())
             }
             Setting::Names => {
@@ -142,11 +144,11 @@ impl<'a> Given<'a> {
                 Ok(())
             }
             Setting::Calls => {
-                self.calls = Some(checked(calls_of(value), word)?);
+                self.calls = Some(read_calls(value, word)?);
                 Ok(())
             }
             Setting::Port => {
-                self.port = Some(checked(port_of(value), word)?);
+                self.port = Some(read_port(value, word)?);
                 Ok(())
             }
         }
@@ -173,9 +175,7 @@ impl<'a> Given<'a> {
         if !is_export_path(path) {
             return Err(Fault::at(UsageKind::BadValue, word));
         }
-        let Some(kind) = kind_of(kind) else {
-            return Err(Fault::at(UsageKind::BadValue, word));
-        };
+        let kind = read_kind(kind, word)?;
         if self.exports.len() >= MAX_EXPORTS {
             return Err(Fault::at(UsageKind::BadValue, word));
         }
@@ -200,16 +200,6 @@ impl<'a> Given<'a> {
             Setting::Calls => self.calls.is_some(),
             Setting::Port => self.port.is_some(),
         }
-    }
-}
-
-/// The value, or the fault of a value that is not of its form or range.
-fn checked<V: Copy>(value: Option<V>, word: usize) -> Result<V, Fault>
-    ensures { result ≡ with_value value (fault BadValue word) (λ v. Ok v) }
-{
-    match value {
-        Some(value) => Ok(value),
-        None => Err(Fault::at(UsageKind::BadValue, word)),
     }
 }
 

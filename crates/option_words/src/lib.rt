@@ -20,4 +20,4 @@ pub use given::{Conversion, ExportWords, Given};
 pub use scan::{OperandWord, Scan, scan_words};
 pub use switch::{Flag, Flags, Setting, Switch};
 pub use tool::Tool;
-pub use values::lines_of;
+pub use values::{lines_of, read_calls, read_format, read_kind, read_port};

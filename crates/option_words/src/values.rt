@@ -1,13 +1,70 @@
-ghost use Rattle.std.specs.Prelude.{◌≡◌, ◌≤◌, IfSome};
+ghost use Rattle.std.specs.Prelude.{◌≡◌, ◌≤◌, IfSome, Ok};
+ghost use Rattle.refusals.specs.declared.cause.UsageKind.TheVariants.{BadValue};
+ghost use Rattle.option_words.specs.Fault.{fault, with_value};
 ghost use Rattle.option_words.specs.Values.{conversion, conversion_of, format_of, is_export_path, kind_of, number_within};
 
-use crate::Conversion;
 use crate::parts::parted;
+use crate::{Conversion, Fault};
+use quota_blocks::read_number;
 use quota_types::{Format, Kind};
-use set_edit::read_number;
+use refusals::UsageKind;
+
+/// Reads the name of a format: `vfsold`, `vfsv0` or `vfsv1`.
+///
+/// # Errors
+///
+/// `BadValue` at `word`, the number of the word in its command, where it is no such name.
+pub fn read_format(value: &str, word: usize) -> Result<Format, Fault>
+    ensures { result ≡ with_value (format_of value.now) (fault BadValue word) (λ format. Ok format) }
+{
+    checked(format_of(value), word)
+}
+
+/// Reads the kind of files that is exported under a word: `user` or `group`.
+///
+/// # Errors
+///
+/// `BadValue` at `word`, the number of the word in its command, where it is neither.
+pub fn read_kind(value: &str, word: usize) -> Result<Kind, Fault>
+    ensures { result ≡ with_value (kind_of value.now) (fault BadValue word) (λ kind. Ok kind) }
+{
+    checked(kind_of(value), word)
+}
+
+/// Reads how many calls a word asks for: a number from 1 to 4,294,967,295.
+///
+/// # Errors
+///
+/// `BadValue` at `word`, the number of the word in its command, where it is no such number.
+pub fn read_calls(value: &str, word: usize) -> Result<u32, Fault>
+    ensures { result ≡ with_value (number_within 1 4294967295 value.now) (fault BadValue word) (λ calls. Ok calls) }
+{
+    checked(calls_of(value), word)
+}
+
+/// Reads a port: a number from 0 to 65,535.
+///
+/// # Errors
+///
+/// `BadValue` at `word`, the number of the word in its command, where it is no such number.
+pub fn read_port(value: &str, word: usize) -> Result<u16, Fault>
+    ensures { result ≡ with_value (number_within 0 65535 value.now) (fault BadValue word) (λ port. Ok port) }
+{
+    checked(port_of(value), word)
+}
+
+/// The value, or the fault of a value that is not of its form or range.
+pub(crate) fn checked<V: Copy>(value: Option<V>, word: usize) -> Result<V, Fault>
+    ensures { result ≡ with_value value (fault BadValue word) (λ v. Ok v) }
+{
+    match value {
+        Some(value) => Ok(value),
+        None => Err(Fault::at(UsageKind::BadValue, word)),
+    }
+}
 
 /// The format of a name.
-pub fn format_of(word: &str) -> Option<Format>
+fn format_of(word: &str) -> Option<Format>
     ensures { result ≡ format_of word.now }
 {
     match word {
@@ -19,7 +76,7 @@ pub fn format_of(word: &str) -> Option<Format>
 }
 
 /// The kind of files that is exported under a word.
-pub fn kind_of(word: &str) -> Option<Kind>
+fn kind_of(word: &str) -> Option<Kind>
     ensures { result ≡ kind_of word.now }
 {
     match word {
@@ -50,7 +107,7 @@ fn conversion(old: Option<Format>, new: Option<Format>) -> Option<Conversion>
 }
 
 /// How many calls a word asks for.
-pub fn calls_of(word: &str) -> Option<u32>
+fn calls_of(word: &str) -> Option<u32>
     ensures { result ≡ number_within 1 4294967295 word.now }
 {
     match number_within(1, 4_294_967_295, word) {
@@ -60,7 +117,7 @@ pub fn calls_of(word: &str) -> Option<u32>
 }
 
 /// The port that a word names.
-pub fn port_of(word: &str) -> Option<u16>
+fn port_of(word: &str) -> Option<u16>
     ensures { result ≡ number_within 0 65535 word.now }
 {
     match number_within(0, 65_535, word) {

@@ -15,16 +15,20 @@ use Rattle.std.specs.Result.{IsErrAnd}
 use Rattle.std.specs.Str.{bytes_eq}
 use Rattle.std.specs.String.{string_bytes}
 use Rattle.quota_types.specs.declared.file_kind.Kind.{Kind}
-use Rattle.quota_types.specs.declared.file_kind.Kind.TheVariants.{User, Group}
+use Rattle.quota_types.specs.Kind.{kinds_eq}
+use Rattle.quota_types.proofs.KindLemmas.{kinds_eq-same, kinds_eq-true}
 use Rattle.quota_types.specs.declared.record.Rec.{Rec}
 use Rattle.quota_blocks.specs.Frame.{OnlyReads}
-use Rattle.quota_blocks.specs.QuotaFile.{CountsRefusal, FileSeen}
+use Rattle.quota_blocks.specs.QuotaFile.{CountsRefusal, FileSeen, IsLookupFault}
+use Rattle.quota_blocks.specs.declared.quota_file.FileFault.{FileFault}
+use Rattle.quota_blocks.specs.declared.quota_file.FileFault.TheVariants.{Store as CallFailed, Damage as Damaged, Full, Memory as NoMemory}
 use Rattle.quota_blocks.specs.QuotaValue.{QuotaValue}
 use Rattle.quota_blocks.specs.Seen.{StoreSeen}
 use Rattle.quota_blocks.specs.World.{World}
-use Rattle.quota_map.specs.AnyFile.{HoldsAny, any_seen}
-use Rattle.rquota_serve.specs.Exported.{Exported, kinds_eq, names_eq, nothing_exported, with_export}
+use Rattle.quota_map.specs.AnyFile.{HoldsAny, any_seen, MayRefuse}
+use Rattle.rquota_serve.specs.Exported.{Exported, names_eq, nothing_exported, with_export}
 use Rattle.rquota_serve.specs.Exports.{CountsOne, ExportSeen, IsServed, OnlyLooksUp, Serves, export_seen, exports_seen, is_exported, is_named, kept_in, may_add}
+use Rattle.rquota_serve.specs.Refusal.{IsAnswerFault, MayRefuseOne}
 use Rattle.rquota_serve.specs.Reply.{record_of, record_under}
 use Rattle.rquota_serve.specs.declared.export.Export.{Export}
 use Rattle.rquota_serve.specs.declared.exports.Exports.{Exports}
@@ -57,12 +61,6 @@ looks-one seen place export old new at leaves few = record {
 
 -- Names.
 
-kind-is : (one other : Kind) → kinds_eq one other ≡ true → one ≡ other
-kind-is User User is = refl
-kind-is User Group is = absurd (cc)
-kind-is Group User is = absurd (cc)
-kind-is Group Group is = refl
-
 path-is : (path : List ℕ) (kind : Kind) (path' : List ℕ) (kind' : Kind) → names_eq path kind path' kind' ≡ true → path ≡ path'
 path-is path kind path' kind' is = (bytes_eq-Decides path path').0 (and_parts (bytes_eq path path') (kinds_eq kind kind') is).0
 
@@ -71,7 +69,7 @@ pub under-same : {T : Type 0} (exported : List ℕ → Kind → T) (path : List 
     → exported path kind ≡ exported path' kind'
 under-same exported path kind path' kind' is =
     ap (λ (p : List ℕ). exported p kind) (path-is path kind path' kind' is)
-    ∙ ap (exported path') (kind-is kind kind' (and_parts (bytes_eq path path') (kinds_eq kind kind') is).1)
+    ∙ ap (exported path') (kinds_eq-true kind kind' (and_parts (bytes_eq path path') (kinds_eq kind kind') is).1)
 
 -- a name and what is under it
 abbrev key : Export → List ℕ × Kind
@@ -93,12 +91,8 @@ exported-set list place was export path kind at same_path same_kind =
     (map-set key list place export ∙ ap (set (map key list) place) (same ∙ there) ∙ set-get_or (map key list) place (key export))
     ∙ sym (any-keys path kind list)
 
-kind-same : (kind : Kind) → kinds_eq kind kind ≡ true
-kind-same User = refl
-kind-same Group = refl
-
 names-same : (path : List ℕ) (kind : Kind) → names_eq path kind path kind ≡ true
-names-same path kind = ap (λ (b : Bool). b && kinds_eq kind kind) ((bytes_eq-Decides path path).1 refl) ∙ kind-same kind
+names-same path kind = ap (λ (b : Bool). b && kinds_eq kind kind) ((bytes_eq-Decides path path).1 refl) ∙ kinds_eq-same kind
 
 names-flip : (path : List ℕ) (kind : Kind) (path' : List ℕ) (kind' : Kind) → names_eq path kind path' kind' ≡ false → names_eq path' kind' path kind ≡ false
 names-flip path kind path' kind' other = by (names_eq path' kind' path kind) refl
@@ -237,6 +231,19 @@ found-at tells files exports exported place seen export path kind id rec there n
     let served = served-at tells files exports exported place export at serves in
     ap (λ (r : Rec). Some r) (found served.value served.held)
     ∙ sym (ap (option_map (record_of id)) (sym (under-same exported (string_bytes export.path) export.kind path kind (named-at exports place seen export path kind there named at)) ∙ served.there))
+
+-- a look-up in one of the files is refused since the exports stand for nothing, or the store failed
+pub refused-at : (tells : Bool) (before now : ℕ) (files : World) (exports : Exports) (place : ℕ) (export : Export) (fault : FileFault) → slice_get (kept_in exports) place ≡ Some export
+    → IsLookupFault before now (HoldsAny tells files export.file) fault → IsAnswerFault before now (Serves tells files exports) fault
+refused-at tells before now files exports place export CallFailed at cause = cause
+refused-at tells before now files exports place export (Damaged damage) at cause = λ exported serves.
+    let served = served-at tells files exports exported place export at serves in cause served.value served.held
+refused-at tells before now files exports place export (Full blocks limit) at cause = cause
+refused-at tells before now files exports place export NoMemory at cause = cause
+
+pub may-at : (exports : Exports) (place : ℕ) (export : Export) (fault : FileFault) → slice_get (kept_in exports) place ≡ Some export → MayRefuse (any_seen export.file).format fault
+    → MayRefuseOne (exports_seen exports) fault
+may-at exports place export fault at may = (place, export_seen export, seen-at exports place export at, may)
 
 -- one look-up
 pub looks-at : {done : Bool} (exports : Exports) (place : ℕ) (export : Export) (old new : StoreSeen) → slice_get (kept_in exports) place ≡ Some export → OnlyReads done (any_seen export.file).name old new → new.reads ≤ old.reads

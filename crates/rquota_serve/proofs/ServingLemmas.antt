@@ -4,16 +4,10 @@ use Rattle.std.proofs.lemmas.List.{append-nil, map-append}
 use Rattle.std.proofs.lemmas.List.Elements.{filter_map-append}
 use Rattle.std.specs.List.{cons_option, filter_map}
 use Rattle.std.specs.Option.{option_to_list}
-use Rattle.quota_blocks.specs.Count.{Rose}
 use Rattle.quota_blocks.specs.Seen.{Datagram, LinkSeen}
-use Rattle.quota_blocks.specs.declared.quota_file.FileFault.TheVariants.{Store as CallFailed, Damage as Damaged, Full, Memory as NoMemory}
-use Rattle.outside.proofs.CountLemmas.{Rose-since}
 use Rattle.rquota_xdr.specs.Reply.{spelling_of}
 use Rattle.rquota_xdr.specs.declared.reply.Reply.{Reply}
 use Rattle.rquota_serve.specs.Exported.{Exported}
-use Rattle.rquota_serve.specs.Refusal.{IsServeFault}
-use Rattle.rquota_serve.specs.declared.fault.ServeFault.{ServeFault}
-use Rattle.rquota_serve.specs.declared.fault.ServeFault.TheVariants.{Link as LinkFailed, File as FileFailed}
 use Rattle.rquota_serve.specs.Serving.{HasReply, Served, Stopped, answers_of, datagram_reply}
 
 -- no datagrams have no answers
@@ -127,12 +121,3 @@ served-one serves datagram reply old new left sent is = record {
   number = refl;
   answers = λ exported serve. sent ∙ ap (λ (l : List (List ℕ)). old.answers ++ l) (answers-one exported datagram reply (is exported serve));
 }
-
--- a cause of a later step is one of all
-pub refused-since : (before after : Exported → Type 0) (store between now : ℕ) (link link_between link_now : ℕ) (fault : ServeFault) → store ≤ between → link ≤ link_between
-    → ((exported : Exported) → before exported → after exported) → IsServeFault between now link_between link_now after fault → IsServeFault store now link link_now before fault
-refused-since before after store between now link link_between link_now LinkFailed later link_later stays cause = Rose-since link link_between link_now link_later cause
-refused-since before after store between now link link_between link_now (FileFailed CallFailed) later link_later stays cause = Rose-since store between now later cause
-refused-since before after store between now link link_between link_now (FileFailed (Damaged damage)) later link_later stays cause = λ exported is. cause exported (stays exported is)
-refused-since before after store between now link link_between link_now (FileFailed (Full blocks limit)) later link_later stays cause = cause
-refused-since before after store between now link link_between link_now (FileFailed NoMemory) later link_later stays cause = cause

@@ -1,8 +1,8 @@
 -- What is exported: quota values by paths and kinds.
-use Rattle.std.specs.Prelude.{ℕ, Bool, true, false, ◌&&◌, if◌then◌else◌, List, Option, None, Some}
+use Rattle.std.specs.Prelude.{ℕ, Bool, ◌&&◌, if◌then◌else◌, List, Option, None, Some}
 use Rattle.std.specs.Str.{bytes_eq}
+use Rattle.quota_types.specs.Kind.{kinds_eq}
 use Rattle.quota_types.specs.declared.file_kind.Kind.{Kind}
-use Rattle.quota_types.specs.declared.file_kind.Kind.TheVariants.{User, Group}
 use Rattle.quota_blocks.specs.QuotaValue.{QuotaValue}
 
 -- the quota value that is exported under a path, which is its bytes, for users or for groups; or none
@@ -12,13 +12,6 @@ Exported = List ℕ → Kind → Option QuotaValue
 -- nothing is exported
 abbrev pub nothing_exported : Exported
 nothing_exported path kind = None
-
--- the two are one kind
-abbrev pub kinds_eq : Kind → Kind → Bool
-kinds_eq User User = true
-kinds_eq User Group = false
-kinds_eq Group User = false
-kinds_eq Group Group = true
 
 -- the two are one path, for one kind
 abbrev pub names_eq : (path : List ℕ) (kind : Kind) → (path' : List ℕ) (kind' : Kind) → Bool

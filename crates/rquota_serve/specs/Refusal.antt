@@ -7,7 +7,7 @@ use Rattle.quota_map.specs.AnyFile.{MayRefuse}
 use Rattle.rquota_xdr.specs.declared.reply.Reply.{Reply}
 use Rattle.rquota_xdr.specs.declared.reply.Reply.TheVariants as reply
 use Rattle.rquota_serve.specs.Exported.{Exported}
-use Rattle.rquota_serve.specs.Exports.{CountsOne, ExportSeen}
+use Rattle.rquota_serve.specs.Exports.{ExportSeen}
 use Rattle.rquota_serve.specs.declared.fault.ServeFault.{ServeFault}
 use Rattle.rquota_serve.specs.declared.fault.ServeFault.TheVariants.{Link as LinkFailed, File as FileFailed}
 
@@ -39,7 +39,12 @@ abbrev pub OnFile : ServeFault → (FileFault → Type 0) → Type 0
 OnFile LinkFailed P = ⊤
 OnFile (FileFailed fault) P = P fault
 
--- Where a file refused a look-up it counts that; where the link failed no file has refused one.
-abbrev pub CountsServeFault : (old new : List ExportSeen) → ServeFault → Type 0
-CountsServeFault old new LinkFailed = new ≡ old
-CountsServeFault old new (FileFailed _) = CountsOne old new
+-- a fact where the link failed
+abbrev pub OnLink : ServeFault → Type 0 → Type 0
+OnLink LinkFailed P = P
+OnLink (FileFailed fault) P = ⊤
+
+-- the fault of a file, where there was one
+abbrev pub file_in : ServeFault → Option FileFault
+file_in LinkFailed = None
+file_in (FileFailed fault) = Some fault

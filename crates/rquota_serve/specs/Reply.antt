@@ -3,6 +3,7 @@
 use Rattle.std.specs.Prelude.{ℕ, Bool, ◌||◌, ◌==◌, if◌then◌else◌, ◌+◌, List, slice_range, Option, None, Some, option_map, unwrap_or}
 use Rattle.std.specs.FinMap.{get}
 use Rattle.std.specs.List.{list_any}
+use Rattle.quota_types.specs.Kind.{kind_numbered}
 use Rattle.quota_types.specs.declared.file_kind.Kind.{Kind}
 use Rattle.quota_types.specs.declared.file_kind.Kind.TheVariants.{User, Group}
 use Rattle.quota_types.specs.declared.record.Rec.{Rec}
@@ -19,7 +20,7 @@ use Rattle.rquota_serve.specs.Quota.{quota_of_record}
 
 -- whose usage a type names: 0 is a user's, 1 a group's, and any other number names none
 abbrev pub kind_named : ℕ → Option Kind
-kind_named type = if type == 0 then Some User else if type == 1 then Some Group else None
+kind_named type = kind_numbered type
 
 -- the caller is this user, or is in this group, by its first group or a further one
 abbrev pub is_owner : Kind → Caller → (id : ℕ) → Bool

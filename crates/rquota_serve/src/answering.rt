@@ -1,10 +1,10 @@
-ghost use Rattle.std.specs.Prelude.{◌≡◌, ◌↔◌, None, IfErr, IfOk, OnErr, OnOk, length};
-ghost use Rattle.quota_blocks.specs.Unsynced.{AddsNone};
+ghost use Rattle.std.specs.Prelude.{◌≡◌, ◌↔◌, None, Some, IfOk, OnErr, length};
 ghost use Rattle.rquota_xdr.specs.Call.{HasPathWithin, call_of};
 ghost use Rattle.rquota_xdr.specs.declared.call.Call.TheVariants.{Silent};
 ghost use Rattle.rquota_serve.specs.Exported.{Exported};
-ghost use Rattle.rquota_serve.specs.Exports.{CountsOne, HasPaths, OnlyLooksUp, Serves, exports_seen};
-ghost use Rattle.rquota_serve.specs.Refusal.{IsAnswerFault, IsQuota, MayRefuseOne};
+ghost use Rattle.rquota_serve.specs.Exports.{HasPaths, Serves, exports_seen};
+ghost use Rattle.rquota_serve.specs.Looking.{LooksUpIn, exports_at};
+ghost use Rattle.rquota_serve.specs.Refusal.{IsQuota};
 ghost use Rattle.rquota_serve.specs.Reply.{plain_reply, reply_of, reply_to, reply_with};
 
 use crate::asking::{kind_named, may_ask};
@@ -34,15 +34,8 @@ pub fn answer<S: Store>(
     // Whatever the store tells, it is refused only where limits would be told.
     ensures asked { OnErr result ((exported : Exported) → HasPaths (exports_seen exports.old) exported
         → IsQuota (reply_of exported datagram.now now)) }
-    ensures refused { IfErr result (IsAnswerFault (S.seen store.old).faults (S.seen store.new).faults
-        (Serves S.tells (S.seen store.old).files exports.old)) }
-    ensures may { IfErr result (MayRefuseOne (exports_seen exports.old)) }
-    ensures stays { (exported : Exported) → Serves S.tells (S.seen store.old).files exports.old exported
-        → Serves S.tells (S.seen store.new).files exports.new exported }
-    ensures leaves { OnlyLooksUp (exports_seen exports.old) (S.seen store.old) (S.seen store.new) }
-    ensures synced { OnOk result (AddsNone (S.seen store.old).unsynced (S.seen store.new).unsynced) }
-    ensures same { OnOk result (exports_seen exports.new ≡ exports_seen exports.old) }
-    ensures counted { OnErr result (CountsOne (exports_seen exports.old) (exports_seen exports.new)) }
+    ensures looks { LooksUpIn Some (exports_at S.tells (S.seen store.old) exports.old)
+        (exports_at S.tells (S.seen store.new) exports.new) result }
 {
     answer_call(exports, store, datagram, now, read_call(datagram))
 }
@@ -62,15 +55,8 @@ fn answer_call<S: Store>(
         × (reply ≡ reply_to exported datagram.now now call)) }
     ensures asked { OnErr result ((exported : Exported) → HasPaths (exports_seen exports.old) exported
         → IsQuota (reply_to exported datagram.now now call)) }
-    ensures refused { IfErr result (IsAnswerFault (S.seen store.old).faults (S.seen store.new).faults
-        (Serves S.tells (S.seen store.old).files exports.old)) }
-    ensures may { IfErr result (MayRefuseOne (exports_seen exports.old)) }
-    ensures stays { (exported : Exported) → Serves S.tells (S.seen store.old).files exports.old exported
-        → Serves S.tells (S.seen store.new).files exports.new exported }
-    ensures leaves { OnlyLooksUp (exports_seen exports.old) (S.seen store.old) (S.seen store.new) }
-    ensures synced { OnOk result (AddsNone (S.seen store.old).unsynced (S.seen store.new).unsynced) }
-    ensures same { OnOk result (exports_seen exports.new ≡ exports_seen exports.old) }
-    ensures counted { OnErr result (CountsOne (exports_seen exports.old) (exports_seen exports.new)) }
+    ensures looks { LooksUpIn Some (exports_at S.tells (S.seen store.old) exports.old)
+        (exports_at S.tells (S.seen store.new) exports.new) result }
 {
     match call {
         Call::Get {

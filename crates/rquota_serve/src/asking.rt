@@ -8,11 +8,7 @@ use rquota_xdr::Caller;
 pub(crate) fn kind_named(number: u32) -> Option<Kind>
     ensures { result ≡ kind_named number }
 {
-    match number {
-        0 => Some(Kind::User),
-        1 => Some(Kind::Group),
-        _ => None,
-    }
+    Kind::numbered(number)
 }
 
 /// Whether the caller is this user, or is in this group.

@@ -16,16 +16,15 @@ pub(crate) struct Export {
 }
 
 impl Export {
-    ghost use Rattle.std.specs.Prelude.{◌≡◌, ◌≢◌, ◌+◌, ◌*◌, ◌≤◌, Option, None, Some, Ok, true, IfOk, IfErr, OnErr, OnOk};
+    ghost use Rattle.std.specs.Prelude.{◌≡◌, ◌+◌, ◌≤◌, Option, None, Some, Ok, true, IfOk, IfErr, OnErr, OnOk};
     ghost use Rattle.std.specs.FinMap.{get};
     ghost use Rattle.std.specs.String.{string_bytes};
     ghost use Rattle.quota_types.specs.declared.file_kind.Format.{Format};
-    ghost use Rattle.entry_codec.specs.Header.{header_of};
     ghost use Rattle.quota_blocks.specs.Frame.{OnlyReads};
-    ghost use Rattle.quota_blocks.specs.QuotaFile.{CountsRefusal, IsLookupFault};
+    ghost use Rattle.quota_blocks.specs.LooksUp.{LooksUp};
     ghost use Rattle.quota_blocks.specs.QuotaValue.{QuotaValue};
-    ghost use Rattle.quota_map.specs.AnyFile.{HoldsAny, MayRefuse};
-    ghost use Rattle.quota_map.specs.View.{IsOpenFault, IsOpenedAs, IsView};
+    ghost use Rattle.quota_map.specs.AnyFile.{HoldsAny, any_at, any_laws};
+    ghost use Rattle.quota_map.specs.View.{IsOpenFault, IsOpenedAs, IsView, opening_reads};
     ghost use Rattle.quota_blocks.specs.Block.{bytes_of};
     ghost use Rattle.rquota_serve.specs.Exports.{export_seen, fresh_export, is_named};
     ghost use Rattle.rquota_serve.specs.Reply.{record_of};
@@ -53,8 +52,8 @@ impl Export {
         ensures refused { IfErr result (IsOpenFault (S.seen store.old).faults (S.seen store.new).faults S.tells
             ((S.seen store.old).files file.now) kind format) }
         ensures leaves { OnlyReads (is_ok result) file.now (S.seen store.old) (S.seen store.new) }
-        ensures reads { OnOk result (format ≢ Some Format.V1 → IsTrue S.tells → (S.seen store.new).reads
-            ≤ (S.seen store.old).reads + 3 * (header_of (bytes_of ((S.seen store.old).files file.now))).blocks) }
+        ensures reads { IsTrue S.tells → (S.seen store.new).reads
+            ≤ (S.seen store.old).reads + opening_reads format (bytes_of ((S.seen store.old).files file.now)) }
     {
         let Ok(path) = String::from_str(alloc, path) else {
             return Err(OpenFault::Memory);
@@ -67,7 +66,7 @@ impl Export {
     pub(crate) fn is_named(&self, path: &[u8], kind: Kind) -> bool
         ensures { result ≡ is_named path.now kind (export_seen self.now) }
     {
-        self.path.as_bytes() == path && self.kind == kind
+        self.path.as_bytes() == path && self.kind.number() == kind.number()
     }
 
     /// The record of an identifier, which is one of zeros where it has none.
@@ -78,17 +77,10 @@ impl Export {
     pub(crate) fn record_of<S: Store>(&mut self, store: &mut S, id: u32) -> Result<Rec, FileFault>
         ensures found { IfOk result (λ rec. (value : QuotaValue) → HoldsAny S.tells (S.seen store.old).files self.old.file value
             → rec ≡ record_of id value) }
-        ensures refused { IfErr result (IsLookupFault (S.seen store.old).faults (S.seen store.new).faults
-            (HoldsAny S.tells (S.seen store.old).files self.old.file)) }
-        ensures may { IfErr result (MayRefuse (any_seen self.old.file).format) }
-        ensures stays { (value : QuotaValue) → HoldsAny S.tells (S.seen store.old).files self.old.file value
-            → HoldsAny S.tells (S.seen store.new).files self.new.file value }
-        ensures leaves { OnlyReads (is_ok result) (any_seen self.old.file).name (S.seen store.old) (S.seen store.new) }
-        ensures reads { (S.seen store.new).reads ≤ (S.seen store.old).reads }
+        ensures looks { LooksUp Some (any_laws S.tells) (any_at S.tells (S.seen store.old) self.old.file)
+            (any_at S.tells (S.seen store.new) self.new.file) 0 result }
         ensures path { string_bytes self.new.path ≡ string_bytes self.old.path }
         ensures kind { self.new.kind ≡ self.old.kind }
-        ensures same { OnOk result (any_seen self.new.file ≡ any_seen self.old.file) }
-        ensures counted { OnErr result (CountsRefusal true (any_seen self.old.file) (any_seen self.new.file)) }
     {
         let found = self.file.get(store, id)?;
         Ok(found.unwrap_or_default())

@@ -1,4 +1,6 @@
 use crate::export::Export;
+use crate::new_export::one_later;
+use crate::{AddFault, NewExport};
 use quota_blocks::{FileFault, OpenFault, Store};
 use quota_types::{Format, Kind, Rec};
 use std::alloc::Global;
@@ -13,18 +15,17 @@ pub struct Exports {
 }
 
 impl Exports {
-    ghost use Rattle.std.specs.Prelude.{Bool, ◌≡◌, ◌≢◌, ◌+◌, ◌*◌, ◌≤◌, ◌∷◌, ◌++◌, [], Ok, Option, None, Some, IsTrue, IfOk, IfErr, IfSome, IfNone, OnErr, OnOk, is_some, position, slice_get, is_ok};
+    ghost use Rattle.std.specs.Prelude.{Bool, ◌≡◌, ◌+◌, ◌<◌, ◌≤◌, ◌∷◌, ◌++◌, [], Ok, Option, None, Some, IsTrue, IfOk, IfErr, IfSome, IfNone, OnErr, OnOk, is_some, position, slice_get, is_ok, length};
     ghost use Rattle.quota_types.specs.declared.file_kind.Format.{Format};
-    ghost use Rattle.entry_codec.specs.Header.{header_of};
     ghost use Rattle.quota_blocks.specs.Frame.{OnlyReads};
     ghost use Rattle.quota_blocks.specs.QuotaValue.{QuotaValue};
-    ghost use Rattle.quota_blocks.specs.Unsynced.{AddsNone};
     ghost use Rattle.quota_blocks.specs.World.{World};
-    ghost use Rattle.quota_map.specs.View.{IsOpenFault, IsOpenedAs, IsView};
+    ghost use Rattle.quota_map.specs.View.{IsOpenFault, IsOpenedAs, IsView, opening_reads};
     ghost use Rattle.quota_blocks.specs.Block.{bytes_of};
+    ghost use Rattle.rquota_serve.specs.Adding.{AreAdded, AreToldOf, IsRefusedAt, MayAddAll, ReadsEach, added_of, news_seen, reads_of};
     ghost use Rattle.rquota_serve.specs.Exported.{Exported, nothing_exported, with_export};
-    ghost use Rattle.rquota_serve.specs.Exports.{CountsOne, ExportSeen, OnlyLooksUp, Serves, export_seen, exports_seen, fresh_export, is_exported, is_named, kept_in, may_add};
-    ghost use Rattle.rquota_serve.specs.Refusal.{IsAnswerFault, MayRefuseOne};
+    ghost use Rattle.rquota_serve.specs.Exports.{ExportSeen, Serves, export_seen, exports_seen, fresh_export, is_exported, is_named, kept_in, may_add};
+    ghost use Rattle.rquota_serve.specs.Looking.{LooksUpIn, exports_at};
     ghost use Rattle.rquota_serve.specs.Reply.{record_under};
 
     /// No exports.
@@ -72,14 +73,49 @@ impl Exports {
             ((S.seen store.old).files file.now) kind format) }
         ensures unchanged { OnErr result (kept_in self.new ≡ kept_in self.old) }
         ensures leaves { OnlyReads (is_ok result) file.now (S.seen store.old) (S.seen store.new) }
-        ensures reads { OnOk result (format ≢ Some Format.V1 → IsTrue S.tells → (S.seen store.new).reads
-            ≤ (S.seen store.old).reads + 3 * (header_of (bytes_of ((S.seen store.old).files file.now))).blocks) }
+        ensures reads { IsTrue S.tells → (S.seen store.new).reads
+            ≤ (S.seen store.old).reads + opening_reads format (bytes_of ((S.seen store.old).files file.now)) }
     {
         let export = Export::open(alloc, store, path, kind, file, format)?;
         if self.list.push(export).is_err() {
             return Err(OpenFault::Memory);
         }
         Ok(())
+    }
+
+    /// Exports quota files in their order, behind those that are exported already, each as `add` does.
+    ///
+    /// # Errors
+    ///
+    /// The first file that is refused, by its place and with its refusal. Those before it are exported, and those behind it
+    /// were not tried.
+    pub fn add_all<S: Store>(
+        &mut self,
+        alloc: Global,
+        store: &mut S,
+        list: &[NewExport<'_>],
+        format: Option<Format>,
+    ) -> Result<(), AddFault>
+        requires { MayAddAll (exports_seen self.old) (news_seen list.now) }
+        ensures added { AreAdded format (added_of (news_seen list.now) result) (exports_seen self.old) (exports_seen self.new) }
+        ensures serves { IsTrue S.tells → (before : Exported) → Serves S.tells (S.seen store.old).files self.old before
+            → (exported : Exported)
+            × AreToldOf format (S.seen store.old).files (added_of (news_seen list.now) result) before exported
+            × Serves S.tells (S.seen store.new).files self.new exported }
+        ensures leaves { OnOk result (ReadsEach (news_seen list.now) (S.seen store.old) (S.seen store.new)) }
+        ensures reads { OnOk result (IsTrue S.tells → (S.seen store.new).reads
+            ≤ (S.seen store.old).reads + reads_of format (S.seen store.old).files (news_seen list.now)) }
+        ensures refused { IfErr result (λ met. IsRefusedAt S.tells format met.place (news_seen list.now) met.fault
+            (S.seen store.old) (S.seen store.new)) }
+        ensures within { IfErr result (λ met. met.place < length list.now) }
+    {
+        let Some((first, behind)) = list.split_first() else {
+            return Ok(());
+        };
+        match self.add(alloc, store, first.path, first.kind, first.file, format) {
+            Ok(()) => one_later(self.add_all(alloc, store, behind, format)),
+            Err(fault) => Err(AddFault { place: 0, fault }),
+        }
     }
 
     /// The place of the export of this path and kind, where there is one.
@@ -117,15 +153,8 @@ impl Exports {
             → found ≡ record_under exported path.now kind id) }
         ensures told { IfOk result (λ found. is_some found ≡ is_exported (exports_seen self.old) path.now kind) }
         ensures there { OnErr result (IsTrue (is_exported (exports_seen self.old) path.now kind)) }
-        ensures refused { IfErr result (IsAnswerFault (S.seen store.old).faults (S.seen store.new).faults
-            (Serves S.tells (S.seen store.old).files self.old)) }
-        ensures may { IfErr result (MayRefuseOne (exports_seen self.old)) }
-        ensures stays { (exported : Exported) → Serves S.tells (S.seen store.old).files self.old exported
-            → Serves S.tells (S.seen store.new).files self.new exported }
-        ensures leaves { OnlyLooksUp (exports_seen self.old) (S.seen store.old) (S.seen store.new) }
-        ensures synced { OnOk result (AddsNone (S.seen store.old).unsynced (S.seen store.new).unsynced) }
-        ensures same { OnOk result (exports_seen self.new ≡ exports_seen self.old) }
-        ensures counted { OnErr result (CountsOne (exports_seen self.old) (exports_seen self.new)) }
+        ensures looks { LooksUpIn Some (exports_at S.tells (S.seen store.old) self.old)
+            (exports_at S.tells (S.seen store.new) self.new) result }
     {
         let Some(place) = self.place_of(path, kind) else {
             return Ok(None);

@@ -12,11 +12,13 @@ mod asking;
 mod export;
 mod exports;
 mod fault;
+mod new_export;
 mod numbers;
 mod serving;
 
 pub use answering::answer;
 pub use exports::{Exports, MOST_EXPORTS};
 pub use fault::ServeFault;
+pub use new_export::{AddFault, NewExport};
 pub use numbers::quota_of;
 pub use serving::serve;

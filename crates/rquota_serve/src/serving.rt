@@ -1,11 +1,10 @@
 ghost use Rattle.std.specs.Prelude.{◌≡◌, ◌≤◌, ◌∷◌, ◌++◌, [], map, IsSome, IsTrue, IfErr, OnErr, OnOk};
 ghost use Rattle.std.specs.Option.{option_to_list};
 ghost use Rattle.quota_blocks.specs.Count.{Rose};
-ghost use Rattle.quota_blocks.specs.Unsynced.{AddsNone};
 ghost use Rattle.rquota_xdr.specs.Reply.{spelling_of};
-ghost use Rattle.rquota_serve.specs.Exported.{Exported};
-ghost use Rattle.rquota_serve.specs.Exports.{OnlyLooksUp, Serves, exports_seen};
-ghost use Rattle.rquota_serve.specs.Refusal.{CountsServeFault, IsServeFault, MayRefuseOne, OnFile};
+ghost use Rattle.rquota_serve.specs.Exports.{Serves};
+ghost use Rattle.rquota_serve.specs.Looking.{LooksUpIn, exports_at};
+ghost use Rattle.rquota_serve.specs.Refusal.{OnLink, file_in};
 ghost use Rattle.rquota_serve.specs.Serving.{Served, Stopped};
 
 use crate::{Exports, ServeFault, answer};
@@ -29,15 +28,9 @@ pub fn serve<S: Store, L: Link>(
         (L.seen link.old) (L.seen link.new)) }
     ensures stopped { OnErr result (IsTrue L.tells → Stopped (Serves S.tells (S.seen store.old).files exports.old) calls
         (L.seen link.old) (L.seen link.new)) }
-    ensures refused { IfErr result (IsServeFault (S.seen store.old).faults (S.seen store.new).faults
-        (L.seen link.old).faults (L.seen link.new).faults (Serves S.tells (S.seen store.old).files exports.old)) }
-    ensures may { IfErr result (λ fault. OnFile fault (MayRefuseOne (exports_seen exports.old))) }
-    ensures stays { (exported : Exported) → Serves S.tells (S.seen store.old).files exports.old exported
-        → Serves S.tells (S.seen store.new).files exports.new exported }
-    ensures leaves { OnlyLooksUp (exports_seen exports.old) (S.seen store.old) (S.seen store.new) }
-    ensures synced { OnOk result (AddsNone (S.seen store.old).unsynced (S.seen store.new).unsynced) }
-    ensures same { OnOk result (exports_seen exports.new ≡ exports_seen exports.old) }
-    ensures counted { IfErr result (CountsServeFault (exports_seen exports.old) (exports_seen exports.new)) }
+    ensures looks { LooksUpIn file_in (exports_at S.tells (S.seen store.old) exports.old)
+        (exports_at S.tells (S.seen store.new) exports.new) result }
+    ensures unlinked { IfErr result (λ fault. OnLink fault (Rose (L.seen link.old).faults (L.seen link.new).faults)) }
     ensures later { (L.seen link.old).faults ≤ (L.seen link.new).faults }
 {
     let mut buf = [0; 4096];
@@ -58,15 +51,9 @@ fn serve_one<S: Store, L: Link>(
         (L.seen link.old) (L.seen link.new)) }
     ensures stopped { OnErr result (IsTrue L.tells → Stopped (Serves S.tells (S.seen store.old).files exports.old) 1
         (L.seen link.old) (L.seen link.new)) }
-    ensures refused { IfErr result (IsServeFault (S.seen store.old).faults (S.seen store.new).faults
-        (L.seen link.old).faults (L.seen link.new).faults (Serves S.tells (S.seen store.old).files exports.old)) }
-    ensures may { IfErr result (λ fault. OnFile fault (MayRefuseOne (exports_seen exports.old))) }
-    ensures stays { (exported : Exported) → Serves S.tells (S.seen store.old).files exports.old exported
-        → Serves S.tells (S.seen store.new).files exports.new exported }
-    ensures leaves { OnlyLooksUp (exports_seen exports.old) (S.seen store.old) (S.seen store.new) }
-    ensures synced { OnOk result (AddsNone (S.seen store.old).unsynced (S.seen store.new).unsynced) }
-    ensures same { OnOk result (exports_seen exports.new ≡ exports_seen exports.old) }
-    ensures counted { IfErr result (CountsServeFault (exports_seen exports.old) (exports_seen exports.new)) }
+    ensures looks { LooksUpIn file_in (exports_at S.tells (S.seen store.old) exports.old)
+        (exports_at S.tells (S.seen store.new) exports.new) result }
+    ensures unlinked { IfErr result (λ fault. OnLink fault (Rose (L.seen link.old).faults (L.seen link.new).faults)) }
     ensures later { (L.seen link.old).faults ≤ (L.seen link.new).faults }
 {
     let got = link.next(buf)?;

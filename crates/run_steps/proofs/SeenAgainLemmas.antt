@@ -1,5 +1,7 @@
 -- Whoever sees a value of a file sees another one of the same kind and format too, once the file stands for that.
-use Rattle.std.proofs.Common.{◌≡◌, ℕ, Bool, true, false, List, Option, None, Some, Ok, if◌then◌else◌, refl, sym, ap, subst, ◌∙◌}
+use Rattle.std.proofs.Common.{◌≡◌, ℕ, Bool, true, false, List, Option, None, Some, Ok, if◌then◌else◌, refl, sym, ap, subst, ◌∙◌, true≢false}
+use Rattle.std.proofs.lemmas.Option.{none-some, same_Some}
+use Rattle.quota_types.specs.Format.{IsTreeFormat, is_flat}
 use Rattle.quota_types.specs.declared.file_kind.Format.{Format}
 use Rattle.quota_types.specs.declared.file_kind.Format.TheVariants.{V1, V2R0, V2R1}
 use Rattle.quota_types.specs.declared.file_kind.Kind.{Kind}
@@ -8,16 +10,16 @@ use Rattle.quota_map.specs.View.{IsOpenedAs, IsView, most_blocks}
 use Rattle.quota_v1.specs.View.{IsFlatView}
 use Rattle.tree_file.specs.View.{IsTreeView}
 
--- no version of a tree file is that of flat files
-version_if : (zero one : Bool) → (if zero then Some V2R0 else if one then Some V2R1 else None) ≡ Some V1 → ⊥
-version_if true one is = absurd (cc)
-version_if false true is = absurd (cc)
-version_if false false is = absurd (cc)
+-- the version of a tree file is that of a tree format
+version_if : (zero one : Bool) (format : Format) → (if zero then Some V2R0 else if one then Some V2R1 else None) ≡ Some format → IsTreeFormat format
+version_if true one format is = ap is_flat (sym (same_Some V2R0 format is))
+version_if false true format is = ap is_flat (sym (same_Some V2R1 format is))
+version_if false false format is = absurd (none-some format is)
 
 -- a file that is seen in the format that was asked for, or as a tree file, is one of the kind and of such a format
-tree_as_asked : (named : Option (List ℕ)) (kind : Kind) (value : QuotaValue) → IsTreeView named kind None most_blocks (Ok value) → value.format ≡ V1 → ⊥
-tree_as_asked None kind value view flat = absurd view.0
-tree_as_asked (Some file) kind value view flat = version_if _ _ (view.0.1.version ∙ ap (λ (f : Format). Some f) flat)
+tree_as_asked : (named : Option (List ℕ)) (kind : Kind) (value : QuotaValue) → IsTreeView named kind None most_blocks (Ok value) → IsTreeFormat value.format
+tree_as_asked None kind value view = absurd view.0
+tree_as_asked (Some file) kind value view = version_if _ _ value.format view.0.1.version
 
 flat_as_asked : (named : Option (List ℕ)) (kind : Kind) (value : QuotaValue) → IsFlatView named kind (Ok value) → value.format ≡ V1
 flat_as_asked None kind value view = absurd view.0
@@ -31,7 +33,7 @@ as_asked kind (Some V2R1) named value view = (view.1, sym view.2)
 
 seen_as : (kind : Kind) (asked : Option Format) (named : Option (List ℕ)) (value : QuotaValue) (format : Format) → value.kind ≡ kind → IsOpenedAs asked format → IsView named value.kind (Some format) (Ok value)
     → IsView named kind asked (Ok value)
-seen_as kind None named value V1 same opened view = absurd (opened refl)
+seen_as kind None named value V1 same opened view = absurd (true≢false opened)
 seen_as kind None named value _ same opened view = (view.0, same, tt)
 seen_as kind (Some V1) named value V1 same opened view = (view.0, same)
 seen_as kind (Some V2R0) named value V2R0 same opened view = (view.0, same, view.2)

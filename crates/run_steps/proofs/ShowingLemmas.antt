@@ -2,6 +2,7 @@
 use Rattle.std.proofs.Common.{None, Some, ◌≡◌, ℕ, ◌≤◌, IsTrue, List, [], ◌∷◌, ◌++◌, Option, Ok, Err, inl, inr, refl, sym, ap, subst, ◌∙◌, arith, append-nil, false}
 use Rattle.quota_types.specs.declared.damage.Damage.{Damage}
 use Rattle.quota_types.specs.declared.file_kind.Kind.{Kind}
+use Rattle.quota_types.specs.Format.{is_flat}
 use Rattle.quota_types.specs.declared.file_kind.Format.{Format}
 use Rattle.quota_types.specs.declared.file_kind.Format.TheVariants.{V1, V2R0, V2R1}
 use Rattle.quota_blocks.specs.Frame.{OnlyReads}
@@ -114,9 +115,9 @@ shown_in_part kind asked name text tells old store out cause showing unshown =
 -- a damage that a call on an opened file answers is one of the format that was asked for
 pub damage_may : (asked : Option Format) (format : Format) (damage : Damage) → IsOpenedAs asked format → MayRefuse format (FileDamaged damage) → IsDamageAs asked damage
 damage_may None format damage asks may = may.tree asks
-damage_may (Some V1) format damage asks may = absurd (may.flat asks)
-damage_may (Some V2R0) format damage asks may = may.tree (λ flat. cc)
-damage_may (Some V2R1) format damage asks may = may.tree (λ flat. cc)
+damage_may (Some V1) format damage asks may = absurd (may.flat (ap is_flat asks))
+damage_may (Some V2R0) format damage asks may = may.tree (ap is_flat asks)
+damage_may (Some V2R1) format damage asks may = may.tree (ap is_flat asks)
 
 -- the reason for which a look-up was refused
 pub lookup_reason : (uses : Uses) (old new : RunSeen) (tells : RunTells) (stated : Type 0) (before : ℕ) (holds : QuotaValue → Type 0) (fault : FileFault)

@@ -1,14 +1,14 @@
 -- What is said where a file is not opened, or where a call on an opened file was refused.
-use Rattle.std.specs.Prelude.{◌≡◌, ℕ, Bool, true, false, IsTrue, IsSome, List, Option, Some, ⊤}
+use Rattle.std.specs.Prelude.{◌≡◌, ℕ, Bool, not, IsTrue, IsSome, MatchBool, List, Option, ⊤}
 use Rattle.quota_types.specs.declared.damage.Damage.{Damage}
 use Rattle.quota_types.specs.declared.damage.DamageKind.TheVariants.{PartialRecord}
 use Rattle.quota_types.specs.declared.file_kind.Format.{Format}
-use Rattle.quota_types.specs.declared.file_kind.Format.TheVariants.{V1}
 use Rattle.quota_blocks.specs.declared.quota_file.FileFault.{FileFault}
 use Rattle.quota_blocks.specs.declared.quota_file.FileFault.TheVariants.{Store as StoreFailed, Damage as FileDamaged, Full as NoBlocks, Memory as NoMemory}
 use Rattle.quota_blocks.specs.declared.quota_file.OpenFault.{OpenFault}
 use Rattle.quota_blocks.specs.declared.quota_file.OpenFault.TheVariants.{Store, NoFile, TooLarge, Memory, NotQuota, WrongKind, UnknownVersion, BadBlockCount, FormatMismatch, Damage as NotWhole}
 use Rattle.quota_types.specs.Damage.{NamesItsId}
+use Rattle.quota_map.specs.View.{asks_flat}
 use Rattle.refusals.specs.declared.cause.Cause.{Cause}
 use Rattle.refusals.specs.declared.cause.Cause.TheVariants.{StoreFault, NoFile as NoSuchFile, TooLarge as FileTooLarge, Memory as WantOfMemory, NotQuota as NoQuotaFile, WrongKind as OtherKind, UnknownVersion as OtherVersion, BadBlockCount as TooFewBlocks, OtherFormat, Damaged, Full}
 
@@ -35,13 +35,11 @@ file_cause NoMemory = WantOfMemory
 -- A damage of a flat file is a record that is cut off, which names no identifier, and one of a tree file names an
 -- identifier where its kind does.
 abbrev pub IsDamageAs : Option Format → Damage → Type 0
-IsDamageAs (Some V1) damage = (damage.kind ≡ PartialRecord) × (damage.id ≡ 0)
-IsDamageAs _ damage = NamesItsId damage.kind damage.id
+IsDamageAs asked damage = MatchBool (asks_flat asked) ((damage.kind ≡ PartialRecord) × (damage.id ≡ 0)) (NamesItsId damage.kind damage.id)
 
 -- a file that is no flat file is asked for
 abbrev pub asks_tree : Option Format → Bool
-asks_tree (Some V1) = false
-asks_tree _ = true
+asks_tree asked = not (asks_flat asked)
 
 -- The causes for which the opening of a file of this name, in the format that is asked for, may be refused, whatever is
 -- told, with the name that is said. A header is read of a tree file alone.

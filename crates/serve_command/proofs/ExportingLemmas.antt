@@ -1,8 +1,10 @@
 -- Files that are exported one after another.
-use Rattle.std.proofs.Common.{◌≡◌, ◌⊎◌, ℕ, Bool, true, false, IsTrue, List, [], ◌∷◌, length, Option, Result, Ok, Err, OnErr, IfErr, inl, inr, refl, sym, subst, ◌∙◌, arith}
+use Rattle.std.proofs.Common.{◌≡◌, ◌⊎◌, ℕ, Bool, true, false, IsTrue, ◌+◌, ◌<◌, ◌++◌, length, List, [], ◌∷◌, zero, suc, get_or, take, Option, Result, Ok, Err, OnErr, IfErr, inl, inr, refl, sym, ap, subst, ◌∙◌}
 use Rattle.std.specs.FinMap.{empty}
 use Rattle.std.specs.List.{All}
 use Rattle.std.proofs.lemmas.Bool.{false≢true}
+use Rattle.std.proofs.lemmas.Grind.{take_at_read}
+use Rattle.std.proofs.lemmas.List.{map-append}
 use Rattle.std.proofs.lemmas.List.Elements.{All-nil}
 use Rattle.quota_types.specs.declared.file_kind.Format.{Format}
 use Rattle.quota_types.specs.declared.file_kind.Format.TheVariants.{V1}
@@ -14,6 +16,8 @@ use Rattle.quota_blocks.specs.World.{World}
 use Rattle.quota_blocks.specs.declared.quota_file.OpenFault.{OpenFault}
 use Rattle.quota_map.specs.View.{IsOpenFault, IsView}
 use Rattle.option_words.specs.declared.export.Export.{Export}
+use Rattle.rquota_serve.specs.Adding.{IsRefusedAt, NewSeen, ReadsEach, new_seen, news_seen}
+use Rattle.rquota_serve.specs.declared.new_export.NewExport.{NewExport}
 use Rattle.rquota_serve.specs.Exported.{Exported, nothing_exported, with_export}
 use Rattle.rquota_serve.specs.Exports.{IsServed, Serves, kept_in}
 use Rattle.rquota_serve.specs.declared.export.Export.{Export as OpenedExport}
@@ -27,13 +31,28 @@ use Rattle.run_steps.specs.Run.{CarriesOut}
 use Rattle.run_steps.specs.Steps.{Opening, Steps}
 use Rattle.run_steps.specs.Opening.{opening_cause}
 use Rattle.run_steps.proofs.OpeningLemmas.{not_opened}
-use Rattle.run_steps.proofs.PhaseLemmas.{carries_on, carries_opening, leads_opening}
+use Rattle.outside.proofs.FrameLemmas.{only_reads-none}
+use Rattle.run_steps.proofs.PhaseLemmas.{carries_on, carries_opening, leads_opening, leads_same}
+use Rattle.rquota_serve.proofs.AddingLemmas.{AllSeen}
 use Rattle.run_steps.proofs.SeenOnceLemmas.{seen_once}
-use Rattle.serve_command.specs.Serve.{AnsweringMayRefuse, AreExported, ExportingMayRefuse, OpeningAll, serve_uses}
+use Rattle.serve_command.specs.Serve.{AnsweringMayRefuse, AreExported, ExportingMayRefuse, OpeningAll, new_of, news_of, serve_uses}
 
 -- the steps behind the first file, by its value
 abbrev pub behind_first : Option Format → Export → List Export → Exported → (Exported → Steps) → QuotaValue → Steps
 behind_first format export behind before next value = OpeningAll format behind (with_export before export.path export.kind value) next
+
+-- one more file that words name, as it is seen by who exports it
+pub named_more : (list : List Export) (at : ℕ) (export : Export) (news pushed : List NewExport) (new : NewExport) → at < length list → export ≡ get_or list at export
+    → news_seen news ≡ news_of (take at list) → pushed ≡ news ++ new ∷ []
+    → new.path.now ≡ export.path → new.kind ≡ export.kind → new.file.now ≡ export.file → news_seen pushed ≡ news_of (take (at + 1) list)
+named_more list at export news pushed new low is named push path kind file =
+    let seen : new_seen new ≡ new_of export = λ i. record { path = path i; kind = kind i; file = file i } in
+    let taken : take (at + 1) list ≡ take at list ++ export ∷ [] = (take_at_read list at export low).1 ∙ ap (λ (e : Export). take at list ++ e ∷ []) (sym is) in
+    ap news_seen push
+    ∙ map-append new_seen news (new ∷ [])
+    ∙ ap (λ (l : List NewSeen). l ++ new_seen new ∷ []) named
+    ∙ ap (λ (s : NewSeen). news_of (take at list) ++ s ∷ []) seen
+    ∙ sym (ap news_of taken ∙ map-append new_of (take at list) (export ∷ []))
 
 -- Files were exported: what is exported then, which the opened files serve, and what is carried out of it is carried out of all steps.
 abbrev pub IsOpened : Option Format → List Export → (tells : Bool) → (old new : StoreSeen) → (serves : Exported → Type 0) → Exported → Type 0
@@ -48,13 +67,6 @@ IsOpened format list tells old new serves before =
     → CarriesOut (OpeningAll format list before next) serve_uses (AnsweringMayRefuse format file) (tells_of tells input_tells out_tells err_tells link_tells)
     (seen_of old input out err link) to ended)
 
--- there is no file to export
-pub opened_none : (format : Option Format) (list : List Export) (tells : Bool) (store : StoreSeen) (serves : Exported → Type 0) (before : Exported) → length list ≡ 0 → (IsTrue tells → serves before)
-    → IsOpened format list tells store store serves before
-opened_none format [] tells store serves before none is =
-    (before, λ told. refl, is, λ next file input out err link input_tells out_tells err_tells link_tells to ended carries. carries)
-opened_none format (export ∷ list) tells store serves before none is = absurd (omega (arith, none))
-
 -- a value, for where none is seen
 nothing_value : QuotaValue
 nothing_value = record { kind = User; format = V1; grace = record { block = 0; inode = 0 }; flags = 0; records = empty }
@@ -64,42 +76,48 @@ some_value : (tells : Bool) (sees : QuotaValue → Type 0) → (IsTrue tells →
 some_value true sees seen = let one = seen refl in (one.0, λ told. one.1)
 some_value false sees seen = (nothing_value, λ told. absurd (false≢true told))
 
--- the first file was exported, and so were the others
-pub opened_more : {done : Bool} (format : Option Format) (export : Export) (behind list : List Export) (tells : Bool) (old store new : StoreSeen) (middle_serves serves : Exported → Type 0) (before : Exported)
-    → list ≡ export ∷ behind → OnlyReads done export.file old store → (IsTrue tells → (value : QuotaValue) × IsView (old.files export.file) export.kind format (Ok value))
-    → (IsTrue tells → (value : QuotaValue) → IsView (old.files export.file) export.kind format (Ok value) → middle_serves (with_export before export.path export.kind value))
-    → ((middle : Exported) → (IsTrue tells → middle_serves middle) → IsOpened format behind tells store new serves middle)
-    → IsOpened format list tells old new serves before
-opened_more format export behind list tells old store new middle_serves serves before is reads seen first each =
-    let some = some_value tells (λ (value : QuotaValue). IsView (old.files export.file) export.kind format (Ok value)) seen in
+-- all files were exported: what is carried out of all that is exported is carried out of all steps
+pub opened_all : (format : Option Format) (list : List Export) (tells : Bool) (old new : StoreSeen) (before exported : Exported) (next : Exported → Steps) (file : List ℕ)
+    (input : SourceSeen) (out err : SinkSeen) (link : LinkSeen) (input_tells out_tells err_tells link_tells : Bool) (to : RunSeen) (ended : Result (Unit {0}) Refusal)
+    → ReadsEach (news_of list) old new → (IsTrue tells → AreExported format old.files list before exported)
+    → CarriesOut (next exported) serve_uses (AnsweringMayRefuse format file) (tells_of tells input_tells out_tells err_tells link_tells) (seen_of new input out err link) to ended
+    → CarriesOut (OpeningAll format list before next) serve_uses (AnsweringMayRefuse format file) (tells_of tells input_tells out_tells err_tells link_tells) (seen_of old input out err link) to ended
+opened_all format [] tells old new before exported next file input out err link input_tells out_tells err_tells link_tells to ended same is carries =
+    subst (λ (s : StoreSeen). CarriesOut (next before) serve_uses (AnsweringMayRefuse format file) (tells_of tells input_tells out_tells err_tells link_tells) (seen_of s input out err link) to ended) same
+    (carries_on [] (next exported) (next before) serve_uses (AnsweringMayRefuse format file) (AnsweringMayRefuse format file) (tells_of tells input_tells out_tells err_tells link_tells)
+    (seen_of new input out err link) new to ended (only_reads-none {done = true} [] new)
+    (λ told. leads_same (next exported) (next before) (outside_of (seen_of new input out err link)) (ap next (is told.store)))
+    (λ cause said may. may) carries)
+opened_all format (export ∷ list) tells old new before exported next file input out err link input_tells out_tells err_tells link_tells to ended reads is carries =
+    let between = reads.0 in
+    let Behind : QuotaValue → Type 0 = λ value. AreExported format old.files list (with_export before export.path export.kind value) exported in
+    let some = some_value tells (λ (value : QuotaValue). IsView (old.files export.file) export.kind format (Ok value) × Behind value) (λ told. let seen = is told in (seen.0, (seen.1, seen.2))) in
     let middle = with_export before export.path export.kind some.0 in
-    let rest = each middle (λ told. first told some.0 (some.1 told)) in
-    subst (λ (l : List Export). IsOpened format l tells old new serves before) (sym is) (
-      rest.0,
-      λ told. (some.0, some.1 told, subst (λ (w : World). AreExported format w behind middle rest.0) reads.files (rest.1 told)),
-      rest.2,
-      λ next file input out err link input_tells out_tells err_tells link_tells to ended carries.
-          carries_on export.file (OpeningAll format behind middle next) (Opening export.kind format export.file (behind_first format export behind before next)) serve_uses (AnsweringMayRefuse format file) (AnsweringMayRefuse format file)
-          (tells_of tells input_tells out_tells err_tells link_tells) (seen_of old input out err link) store to ended reads
-          (λ told. leads_opening export.kind format export.file (behind_first format export behind before next) some.0 (outside_of (seen_of old input out err link)) (some.1 told.store))
-          (λ cause said may. may)
-          (rest.3 next file input out err link input_tells out_tells err_tells link_tells to ended carries),
-    )
+    carries_on export.file (OpeningAll format list middle next) (Opening export.kind format export.file (behind_first format export list before next)) serve_uses (AnsweringMayRefuse format file) (AnsweringMayRefuse format file)
+    (tells_of tells input_tells out_tells err_tells link_tells) (seen_of old input out err link) between to ended reads.1
+    (λ told. leads_opening export.kind format export.file (behind_first format export list before next) some.0 (outside_of (seen_of old input out err link)) (some.1 told.store).0)
+    (λ cause said may. may)
+    (opened_all format list tells between new middle exported next file input out err link input_tells out_tells err_tells link_tells to ended reads.2
+    (λ told. subst (λ (w : World). AreExported format w list middle exported) (sym reads.1.files) (some.1 told).1) carries)
 
--- the first file was exported, and one behind it was not
-pub unopened_more : {done : Bool} (format : Option Format) (export : Export) (behind list : List Export) (old store new : StoreSeen) (middle_serves : Exported → Type 0) (before : Exported) (next : Exported → Steps)
-    (input : SourceSeen) (out err : SinkSeen) (link : LinkSeen) (tells input_tells out_tells err_tells link_tells : Bool) (result : Result (Unit {0}) Refusal)
-    → list ≡ export ∷ behind → OnlyReads done export.file old store → (IsTrue tells → (value : QuotaValue) × IsView (old.files export.file) export.kind format (Ok value))
-    → (IsTrue tells → (value : QuotaValue) → IsView (old.files export.file) export.kind format (Ok value) → middle_serves (with_export before export.path export.kind value))
-    → ((middle : Exported) → (IsTrue tells → middle_serves middle) → CarriesOut (OpeningAll format behind middle next) serve_uses (ExportingMayRefuse format behind)
-    (tells_of tells input_tells out_tells err_tells link_tells) (seen_of store input out err link) (seen_of new input out err link) result)
-    → CarriesOut (OpeningAll format list before next) serve_uses (ExportingMayRefuse format list) (tells_of tells input_tells out_tells err_tells link_tells) (seen_of old input out err link) (seen_of new input out err link) result
-unopened_more format export behind list old store new middle_serves before next input out err link tells input_tells out_tells err_tells link_tells result is reads seen first each =
-    subst (λ (l : List Export). CarriesOut (OpeningAll format l before next) serve_uses (ExportingMayRefuse format l) (tells_of tells input_tells out_tells err_tells link_tells) (seen_of old input out err link) (seen_of new input out err link) result) (sym is)
-    (carries_opening export.file export.kind format (behind_first format export behind before next) serve_uses (ExportingMayRefuse format behind) (ExportingMayRefuse format (export ∷ behind))
-    (tells_of tells input_tells out_tells err_tells link_tells) (seen_of old input out err link) store (seen_of new input out err link) result
-    reads seen (λ cause said may. inr may)
-    (λ value view. each (with_export before export.path export.kind value) (λ told. first told value (view told))))
+-- Files were exported: what is exported then, which the opened files serve, and what is carried out of it is carried out of all steps.
+pub opened_now : (format : Option Format) (list : List Export) (tells : Bool) (old new : StoreSeen) (serves : Exported → Type 0) (before : Exported) → ReadsEach (news_of list) old new
+    → (IsTrue tells → (exported : Exported) × AreExported format old.files list before exported × serves exported) → IsOpened format list tells old new serves before
+opened_now format list true old new serves before reads is =
+    let some = is refl in (
+      some.0,
+      λ told. some.1,
+      λ told. some.2,
+      λ next file input out err link input_tells out_tells err_tells link_tells to ended carries.
+          opened_all format list true old new before some.0 next file input out err link input_tells out_tells err_tells link_tells to ended reads (λ told. some.1) carries,
+    )
+opened_now format list false old new serves before reads is = (
+  before,
+  λ told. absurd (false≢true told),
+  λ told. absurd (false≢true told),
+  λ next file input out err link input_tells out_tells err_tells link_tells to ended carries.
+      opened_all format list false old new before before next file input out err link input_tells out_tells err_tells link_tells to ended reads (λ told. absurd (false≢true told)) carries,
+)
 
 -- a refusal whose name could not be copied is one for want of memory
 unnamed : (steps : Steps) (may : Cause → List ℕ → Type 0) (tells : RunTells) (old new : RunSeen) (refusal : Refusal) → may Memory []
@@ -135,6 +153,23 @@ unopened_first format export behind list old store before next input out err lin
     subst (λ (l : List Export). CarriesOut (OpeningAll format l before next) serve_uses (ExportingMayRefuse format l) told from to (Err said)) (sym is)
     (refused_carried (OpeningAll format (export ∷ behind) before next) (ExportingMayRefuse format (export ∷ behind)) told from to (refusal_of (opening_cause fault) export.file) said says (inl tt)
     (not_opened export.kind format export.file (behind_first format export behind before next) serve_uses (ExportingMayRefuse format (export ∷ behind)) told from store fault cause reads (λ cause may. inl may)))
+
+-- the file at a place was not exported, and those before it were
+pub unopened_all : (format : Option Format) (list : List Export) (place : ℕ) (export : Export) (tells : Bool) (old new : StoreSeen) (before : Exported) (next : Exported → Steps)
+    (input : SourceSeen) (out err : SinkSeen) (link : LinkSeen) (input_tells out_tells err_tells link_tells : Bool) (fault : OpenFault) (said : Refusal)
+    → IsRefusedAt tells format place (news_of list) fault old new → (IsTrue tells → AllSeen format old.files (take place (news_of list)))
+    → export ≡ get_or list place export → (said ≡ refusal_of (opening_cause fault) export.file) ⊎ (said ≡ refusal_of Memory [])
+    → CarriesOut (OpeningAll format list before next) serve_uses (ExportingMayRefuse format list) (tells_of tells input_tells out_tells err_tells link_tells) (seen_of old input out err link) (seen_of new input out err link) (Err said)
+unopened_all format [] place export tells old new before next input out err link input_tells out_tells err_tells link_tells fault said refused seen at says = absurd refused
+unopened_all format (first ∷ list) zero export tells old new before next input out err link input_tells out_tells err_tells link_tells fault said refused seen at says =
+    unopened_first format first list (first ∷ list) old new before next input out err link tells input_tells out_tells err_tells link_tells fault said refl refused.1 refused.0
+    (subst (λ (e : Export). (said ≡ refusal_of (opening_cause fault) e.file) ⊎ (said ≡ refusal_of Memory [])) at says)
+unopened_all format (first ∷ list) (suc place) export tells old new before next input out err link input_tells out_tells err_tells link_tells fault said refused seen at says =
+    carries_opening first.file first.kind format (behind_first format first list before next) serve_uses (ExportingMayRefuse format list) (ExportingMayRefuse format (first ∷ list))
+    (tells_of tells input_tells out_tells err_tells link_tells) (seen_of old input out err link) refused.0 (seen_of new input out err link) (Err said)
+    refused.1 (λ told. (seen told).0) (λ cause said may. inr may)
+    (λ value view. unopened_all format list place export tells refused.0 new (with_export before first.path first.kind value) next input out err link input_tells out_tells err_tells link_tells fault said
+    refused.2 (λ told. subst (λ (w : World). AllSeen format w (take place (news_of list))) (sym refused.1.files) (seen told).1) at says)
 
 -- where nothing is kept nothing is exported
 pub serves_nothing : (tells : Bool) (files : World) (exports : Exports) → kept_in exports ≡ [] → Serves tells files exports nothing_exported

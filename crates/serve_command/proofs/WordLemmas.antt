@@ -7,12 +7,16 @@ use Rattle.std.specs.Str.{bytes_eq}
 use Rattle.std.proofs.lemmas.Bool.Decides.{nat_tests}
 use Rattle.std.proofs.lemmas.List.Folds.{list_any-append}
 use Rattle.std.proofs.lemmas.Bool.{or_from, or_parts}
+use Rattle.std.proofs.lemmas.Option.{same_Some}
+use Rattle.std.proofs.lemmas.Slice.Eq.{bytes_eq-Decides}
+use Rattle.quota_types.specs.Kind.{kinds_eq}
+use Rattle.quota_types.proofs.KindLemmas.{kinds_eq-same, kinds_eq-true}
 use Rattle.quota_types.specs.declared.file_kind.Kind.{Kind}
 use Rattle.quota_types.specs.declared.file_kind.Kind.TheVariants.{User, Group}
 use Rattle.quota_blocks.specs.Numeral.{number_of}
 use Rattle.quota_blocks.specs.QuotaFile.{FileSeen}
 use Rattle.outside.proofs.WorldLemmas.{bytes_eq-true}
-use Rattle.rquota_serve.specs.Exported.{kinds_eq, names_eq}
+use Rattle.rquota_serve.specs.Exported.{names_eq}
 use Rattle.rquota_serve.specs.Exports.{ExportSeen, is_exported as is_served, is_named}
 use Rattle.refusals.specs.declared.cause.UsageKind.TheVariants.{BadValue, BadFileName, Repeated}
 use Rattle.option_words.specs.declared.export.Export.{Export}
@@ -70,11 +74,24 @@ kind_words word kind is = by (bytes_eq (codes "user") word) (bytes_eq (codes "gr
     by false true here there same = let kinds : Group ≡ kind = cc in subst (λ (k : Kind). kind_word k ≡ word) kinds (bytes_eq-true _ _ there)
     by false false here other same = absurd (cc)
 
+word_kind : (kind : Kind) → kind_of (kind_word kind) ≡ Some kind
+word_kind User = refl
+word_kind Group = refl
+
+-- two kinds have one word where they are one
+one_kind : (one kind : Kind) → kind_word one ≡ kind_word kind → one ≡ kind
+one_kind one kind same = same_Some one kind (sym (word_kind one) ∙ ap kind_of same ∙ word_kind kind)
+
 kinds_by : (one kind : Kind) → bytes_eq (kind_word one) (kind_word kind) ≡ kinds_eq one kind
-kinds_by User User = refl
-kinds_by User Group = refl
-kinds_by Group User = refl
-kinds_by Group Group = refl
+kinds_by one kind = by (bytes_eq (kind_word one) (kind_word kind)) (kinds_eq one kind) refl refl
+  where
+    by : (words kinds : Bool) → bytes_eq (kind_word one) (kind_word kind) ≡ words → kinds_eq one kind ≡ kinds → words ≡ kinds
+    by true true same also = refl
+    by false false other also = refl
+    by true false same other =
+        sym (kinds_eq-same one) ∙ ap (kinds_eq one) (one_kind one kind (bytes_eq-true _ _ same)) ∙ other
+    by false true other same =
+        sym other ∙ (bytes_eq-Decides (kind_word one) (kind_word kind)).1 (ap kind_word (kinds_eq-true one kind same))
 
 same_named : (path word : List ℕ) (kind : Kind) (list : List Export) → kind_word kind ≡ word → is_exported path word list ≡ named_so path kind list
 same_named path word kind [] is = refl

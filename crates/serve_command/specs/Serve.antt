@@ -1,6 +1,6 @@
 -- `rquotad`. Source: the manual page of rpc.rquotad; that so many calls are answered, and that quota files are named together with
 -- the paths under which they are told of, is this project's own.
-use Rattle.std.specs.Prelude.{◌≡◌, ◌⊎◌, ℕ, zero, suc, true, false, IsTrue, List, [], ◌∷◌, ◌++◌, Option, Some, None, Ok, ⊤}
+use Rattle.std.specs.Prelude.{◌≡◌, ◌⊎◌, ℕ, zero, suc, true, false, IsTrue, List, [], ◌∷◌, map, Option, Some, None, Ok, ⊤}
 use Rattle.quota_types.specs.declared.file_kind.Format.{Format}
 use Rattle.quota_blocks.specs.QuotaFile.{FileSeen}
 use Rattle.quota_blocks.specs.QuotaValue.{QuotaValue}
@@ -9,8 +9,9 @@ use Rattle.quota_blocks.specs.World.{World}
 use Rattle.quota_map.specs.View.{IsOpenedAs, IsView}
 use Rattle.rquota_xdr.specs.Reply.{spelling_of}
 use Rattle.rquota_xdr.specs.declared.reply.Reply.{Reply}
+use Rattle.rquota_serve.specs.Adding.{AreToldOf, MayAddAll, NewSeen}
 use Rattle.rquota_serve.specs.Exported.{Exported, nothing_exported, with_export}
-use Rattle.rquota_serve.specs.Exports.{ExportSeen, may_add}
+use Rattle.rquota_serve.specs.Exports.{ExportSeen}
 use Rattle.rquota_serve.specs.Serving.{datagram_reply}
 use Rattle.rquota_serve.specs.declared.fault.ServeFault.{ServeFault}
 use Rattle.rquota_serve.specs.declared.fault.ServeFault.TheVariants.{Link as LinkFailed, File as FileFailed}
@@ -56,20 +57,22 @@ serve_uses = record { input = false; out = false; link = true; changes = false; 
 
 -- What is exported.
 
+-- a file that words name, as it is seen by who exports it
+abbrev pub new_of : Export → NewSeen
+new_of export = record { path = export.path; kind = export.kind; file = export.file }
+
+-- all of them
+abbrev pub news_of : List Export → List NewSeen
+news_of exports = map new_of exports
+
 -- These files are exported beside what is exported before: each is seen as a value, which is exported under its path for its kind.
 abbrev pub AreExported : Option Format → World → List Export → (before exported : Exported) → Type 0
-AreExported format files [] before exported = exported ≡ before
-AreExported format files (export ∷ exports) before exported =
-    (value : QuotaValue) × IsView (files export.file) export.kind format (Ok value)
-    × AreExported format files exports (with_export before export.path export.kind value) exported
+AreExported format files exports before exported = AreToldOf format files (news_of exports) before exported
 
 -- These files may be exported one after another behind those that are exported before: there are 16 at most, and no two have the same
 -- path and kind.
 abbrev pub MayExport : (before : List ExportSeen) → List Export → Type 0
-MayExport before [] = ⊤
-MayExport before (export ∷ exports) =
-    IsTrue (may_add before export.path export.kind)
-    × ((file : FileSeen) → MayExport (before ++ record { path = export.path; kind = export.kind; file = file } ∷ []) exports)
+MayExport before exports = MayAddAll before (news_of exports)
 
 -- the file of an export is opened in the format that is asked for, or as one that needs no asking
 abbrev pub IsAsAsked : Option Format → ExportSeen → Type 0

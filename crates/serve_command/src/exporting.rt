@@ -1,4 +1,4 @@
-ghost use Rattle.std.specs.Prelude.{ℕ, Option, [], ◌≡◌, ◌≤◌, ◌⊎◌, Bool, List, Result, IsTrue, IfOk, OnOk, OnErr};
+ghost use Rattle.std.specs.Prelude.{ℕ, Option, [], ◌≡◌, ◌≤◌, ◌⊎◌, Bool, List, Result, IsTrue, IfOk, OnOk, OnErr, length};
 ghost use Rattle.std.specs.List.{All};
 ghost use Rattle.quota_blocks.specs.Seen.{LinkSeen, SinkSeen, SourceSeen};
 ghost use Rattle.quota_blocks.specs.Unsynced.{AddsNone};
@@ -8,15 +8,17 @@ ghost use Rattle.refusals.specs.declared.reason.Refusal.{Refusal};
 ghost use Rattle.run_steps.specs.Done.{IsUnwritten, RunSeen, seen_of, tells_of};
 ghost use Rattle.run_steps.specs.Run.{CarriesOut};
 ghost use Rattle.run_steps.specs.Steps.{Steps};
+ghost use Rattle.rquota_serve.specs.Adding.{news_seen};
 ghost use Rattle.rquota_serve.specs.Exported.{Exported};
 ghost use Rattle.rquota_serve.specs.Exports.{Serves, exports_seen};
-ghost use Rattle.serve_command.specs.Serve.{AnsweringMayRefuse, AreExported, ExportingMayRefuse, IsAsAsked, MayExport, OpeningAll, serve_uses};
+ghost use Rattle.serve_command.specs.Serve.{AnsweringMayRefuse, AreExported, ExportingMayRefuse, IsAsAsked, MayExport, OpeningAll, news_of, serve_uses};
 
+use arrayvec::ArrayVec;
 use option_words::Export;
 use quota_blocks::Store;
 use quota_types::Format;
 use refusals::{Cause, Refusal, Word};
-use rquota_serve::Exports;
+use rquota_serve::{Exports, MOST_EXPORTS, NewExport};
 use run_steps::opening_cause;
 use std::alloc::Global;
 
@@ -56,20 +58,30 @@ pub(crate) fn add_all<S: Store>(
     ensures later { (S.seen store.old).faults ≤ (S.seen store.new).faults }
     ensures synced { OnOk result (AddsNone (S.seen store.old).unsynced (S.seen store.new).unsynced) }
 {
-    let Some((export, behind)) = list.split_first() else {
-        return Ok(());
-    };
-    match exports.add(
-        alloc,
-        store,
-        export.path.as_str(),
-        export.kind,
-        export.file.as_str(),
-        format,
-    ) {
-        Ok(()) => add_all(alloc, format, behind, exports, store),
-        Err(fault) => Err(refused(alloc, opening_cause(fault), &export.file)),
+    let news = news_of(list);
+    match exports.add_all(alloc, store, news.as_slice(), format) {
+        Ok(()) => Ok(()),
+        Err(met) => {
+            let export = &list[met.place];
+            Err(refused(alloc, opening_cause(met.fault), &export.file))
+        }
     }
+}
+
+/// The files that words name, as `Exports` takes them.
+fn news_of(list: &[Export]) -> ArrayVec<NewExport<'_>, MOST_EXPORTS>
+    requires { length list.now ≤ 16 }
+    ensures { news_seen result.items ≡ news_of list.now }
+{
+    let mut news = ArrayVec::new();
+    for export in list {
+        news.push(NewExport {
+            path: export.path.as_str(),
+            kind: export.kind,
+            file: export.file.as_str(),
+        });
+    }
+    news
 }
 
 /// The refusal for a cause about the file of this name; or for want of memory, where the name can't be copied.

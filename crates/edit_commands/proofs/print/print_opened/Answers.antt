@@ -28,7 +28,7 @@ returns-in-Ok-write_form-clause-carries g c = λ input err link input_tells err_
     (record {
       seen = λ told. rw file at (opened.seen told);
       reads = only_reads-any c.args.file _ _ _ (rw file at opened.leaves)
-          (rw (ap (λ (s : FileSeen). s.name) opened.fresh ∙ file) at got.leaves);
+          (rw (ap (λ (s : FileSeen). s.name) opened.fresh ∙ file) at got.looks.leaves);
       prefix = λ told out_told value view. appends_whole _ _ _ (written told out_told value view);
       later = wrote.later;
     })
@@ -46,7 +46,7 @@ returns-in-Err-write_form-clause-carries g c = λ input err link input_tells err
     (record {
       seen = λ told. rw file at (opened.seen told);
       reads = only_reads-any c.args.file _ _ _ (rw file at opened.leaves)
-          (rw (ap (λ (s : FileSeen). s.name) opened.fresh ∙ file) at got.leaves);
+          (rw (ap (λ (s : FileSeen). s.name) opened.fresh ∙ file) at got.looks.leaves);
       prefix = λ told out_told value view.
           rw (got.found value (opened.held told value (rw (sym file) at view))) at rw c.as_str-in-Ok-get.ensures at (wrote.fault out_told);
       later = wrote.later;
@@ -66,16 +66,16 @@ returns-in-Err-get-clause-carries g c = λ input err link input_tells err_tells 
     (record {
       seen = λ told. rw file at (opened.seen told);
       reads = only_reads-any c.args.file _ _ _ (rw file at opened.leaves)
-          (rw (ap (λ (s : FileSeen). s.name) opened.fresh ∙ file) at got.leaves);
+          (rw (ap (λ (s : FileSeen). s.name) opened.fresh ∙ file) at got.looks.leaves);
       prefix = λ told out_told value view. appends_nothing _ _ _ refl;
       later = omega arith;
     })
     (record {
       reason = λ stated.
           lookup_reason showing_uses old (with_out old after (g.O.Sink.seen c.args.out.now)) _ stated _ _ c.in-Err-get.fault opened.leaves.later
-          (λ told none. let good = opened.seen told in none good.0 (opened.held told good.0 good.1)) got.refused;
-      may = inr (lookup_may c.args.format c.args.file (any_seen c.in-Ok.opened).format _ _ _ c.in-Err-get.fault opened.as_asked got.refused
-          got.may);
+          (λ told none. let good = opened.seen told in none good.0 (opened.held told good.0 good.1)) got.looks.refused;
+      may = inr (lookup_may c.args.format c.args.file (any_seen c.in-Ok.opened).format _ _ _ c.in-Err-get.fault opened.as_asked got.looks.refused
+          got.looks.may);
     }))
 
 pub returns-in-Err-clause-carries : goal.returns-in-Err-clause-carries

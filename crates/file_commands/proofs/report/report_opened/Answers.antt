@@ -26,7 +26,7 @@ returns-in-Ok-report-clause-carries g c = λ input err link input_tells err_tell
     (record {
       seen = λ told. rw file at (opened.seen told);
       reads = only_reads-any c.args.file _ _ _ (rw file at opened.leaves)
-          (rw (ap (λ (s : FileSeen). s.name) opened.fresh ∙ file) at reported.leaves);
+          (rw (ap (λ (s : FileSeen). s.name) opened.fresh ∙ file) at reported.looks.leaves);
       prefix = λ told out_told value view. appends_whole _ _ _ (written told out_told value view);
       later = reported.sink_later;
     })
@@ -46,7 +46,7 @@ returns-in-Err-report-clause-carries g c = λ input err link input_tells err_tel
     (record {
       seen = λ told. rw file at (opened.seen told);
       reads = only_reads-any c.args.file _ _ _ (rw file at opened.leaves)
-          (rw (ap (λ (s : FileSeen). s.name) opened.fresh ∙ file) at reported.leaves);
+          (rw (ap (λ (s : FileSeen). s.name) opened.fresh ∙ file) at reported.looks.leaves);
       prefix = λ told out_told value view.
           rw c.as_str-in-Ok.ensures at (reported.fault out_told value (opened.held told value (rw (sym file) at view))
           (view_kind _ c.args.kind c.args.format value view));
@@ -54,7 +54,7 @@ returns-in-Err-report-clause-carries g c = λ input err link input_tells err_tel
     })
     (report_unshown c.args.format c.args.file _ old after out (any_seen c.in-Ok.opened).format _ _ c.in-Err-report.fault opened.as_asked
     opened.leaves.later
-    (λ told none. let good = opened.seen told in none good.0 (opened.held told good.0 good.1)) reported.refused reported.may))
+    (λ told none. let good = opened.seen told in none good.0 (opened.held told good.0 good.1)) reported.unsent reported.looks.refused reported.looks.may))
 
 pub returns-in-Err-clause-carries : goal.returns-in-Err-clause-carries
 returns-in-Err-clause-carries g c = λ input err link input_tells err_tells link_tells.

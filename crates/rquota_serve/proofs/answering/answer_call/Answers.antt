@@ -1,4 +1,4 @@
-use Rattle.std.proofs.Common.{◌≡◌, ℕ, List, ◌+◌, Option, Some, refl, sym, ap, ◌∙◌}
+use Rattle.std.proofs.Common.{◌≡◌, ℕ, List, ◌+◌, Option, Some, sym, ap, ◌∙◌}
 use Rattle.std.specs.List.{slice_range}
 use Rattle.std.specs.Option.{unwrap_or}
 use Rattle.quota_types.specs.declared.file_kind.Kind.{Kind}
@@ -7,7 +7,7 @@ use Rattle.rquota_xdr.specs.declared.reply.Reply.{Reply}
 use Rattle.rquota_serve.specs.Exported.{Exported}
 use Rattle.rquota_serve.specs.Exports.{exports_seen}
 use Rattle.rquota_serve.specs.Reply.{plain_reply, reply_for, reply_to}
-use Rattle.rquota_serve.proofs.ExportLemmas.{looks-none}
+use Rattle.rquota_serve.proofs.LookingLemmas.{looks_in-none}
 use Rattle.rquota_serve.proofs.ReplyLemmas.{plain-reply, reply-allowed, reply-denied, told-found, told-paths, told_by}
 use Rattle.rquota_serve.proofs.answering.answer_call.Goals as goal
 
@@ -62,11 +62,5 @@ returns-in_default g c =
       reply = λ exported serves. plain exported;
       told = (told_by seen 0 zero_record, told-paths seen 0 zero_record, plain (told_by seen 0 zero_record));
       asked = tt;
-      refused = tt;
-      may = tt;
-      stays = λ exported serves. serves;
-      leaves = looks-none _ _;
-      synced = λ name is. is;
-      same = refl;
-      counted = tt;
+      looks = looks_in-none Some _ _;
     }

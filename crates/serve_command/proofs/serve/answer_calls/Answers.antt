@@ -2,6 +2,7 @@ use Rattle.std.proofs.Common.{sym, ◌∙◌, arith}
 use Rattle.quota_blocks.specs.Count.{Rose}
 use Rattle.run_steps.specs.Done.{seen_of, tells_of}
 use Rattle.rquota_serve.specs.Exports.{Serves, exports_seen}
+use Rattle.rquota_serve.proofs.LookingLemmas.{on_file, serve_fault}
 use Rattle.serve_command.proofs.AnsweringLemmas.{nothing_stopped, of_refused, served_carried, served_since, stopped_carried, stopped_since, unstarted_carried}
 use Rattle.serve_command.proofs.serve.answer_calls.Goals as goal
 
@@ -25,7 +26,7 @@ returns-in-Ok-clause-carries g c = λ exported input out err input_tells out_tel
     let served = c.in-Ok.ensures in
     served_carried exported c.args.calls _ (Serves S.tells (S.seen c.args.store.now).files c.args.opened.now) (tells_of S.tells input_tells out_tells err_tells L.tells)
     (seen_of (S.seen c.args.store.now) input out err (L.seen c.args.link.now)) (S.seen c.serve.new.store) (L.seen c.serve.new.link)
-    (record { files = served.leaves.files; writes = served.leaves.writes; store_later = served.leaves.later; link_later = omega (arith, c.start.ensures.later, served.later) })
+    (record { files = served.looks.leaves.files; writes = served.looks.leaves.writes; store_later = served.looks.leaves.later; link_later = omega (arith, c.start.ensures.later, served.later) })
     serves
     (λ told. served_since _ c.args.calls (L.seen c.args.link.now) (L.seen c.start.new.self) (L.seen c.serve.new.link) c.start.ensures.left c.start.ensures.answers (served.served told))
 
@@ -38,7 +39,7 @@ returns-in-Err-clause-carries g c = λ exported input out err input_tells out_te
     (stopped_carried exported c.args.calls c.args.format c.args.file (exports_seen c.args.opened.now) c.in-Err.fault (L.seen c.start.new.self).faults (Serves S.tells (S.seen c.args.store.now).files c.args.opened.now)
     (tells_of S.tells input_tells out_tells err_tells L.tells)
     (seen_of (S.seen c.args.store.now) input out err (L.seen c.args.link.now)) (S.seen c.serve.new.store) (L.seen c.serve.new.link)
-    (record { files = stopped.leaves.files; writes = stopped.leaves.writes; store_later = stopped.leaves.later; link_later = omega (arith, c.start.ensures.later, stopped.later) })
+    (record { files = stopped.looks.leaves.files; writes = stopped.looks.leaves.writes; store_later = stopped.looks.leaves.later; link_later = omega (arith, c.start.ensures.later, stopped.later) })
     c.start.ensures.later serves
     (λ told. stopped_since _ c.args.calls (L.seen c.args.link.now) (L.seen c.start.new.self) (L.seen c.serve.new.link) c.start.ensures.left c.start.ensures.answers (stopped.stopped told))
-    stopped.refused c.requires.asked stopped.may)
+    (serve_fault _ _ _ _ _ c.in-Err.fault stopped.unlinked stopped.looks.refused) c.requires.asked (on_file _ c.in-Err.fault stopped.looks.may))

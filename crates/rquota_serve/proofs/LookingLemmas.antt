@@ -1,0 +1,76 @@
+-- Look-ups in the files of exports: none, and two in a row.
+use Rattle.std.proofs.Common.{◌≡◌, ℕ, ◌≤◌, IfErr, IfSome, List, Option, None, Some, Result, Ok, Err, refl, sym, subst, arith}
+use Rattle.std.proofs.lemmas.Option.{IfSome_then}
+use Rattle.quota_blocks.specs.Count.{Rose}
+use Rattle.quota_blocks.specs.Seen.{StoreSeen}
+use Rattle.quota_blocks.specs.declared.quota_file.FileFault.{FileFault}
+use Rattle.quota_blocks.specs.declared.quota_file.FileFault.TheVariants.{Store as CallFailed, Damage as Damaged, Full, Memory as NoMemory}
+use Rattle.outside.proofs.FrameLemmas.{adds_none-then}
+use Rattle.rquota_serve.specs.Exported.{Exported}
+use Rattle.rquota_serve.specs.Exports.{ExportSeen}
+use Rattle.rquota_serve.specs.Looking.{ExportsAt, LooksUpIn}
+use Rattle.rquota_serve.specs.Refusal.{IsAnswerFault, IsServeFault, MayRefuseOne, OnFile, OnLink, file_in}
+use Rattle.rquota_serve.specs.declared.fault.ServeFault.{ServeFault}
+use Rattle.rquota_serve.specs.declared.fault.ServeFault.TheVariants.{Link as LinkFailed, File as FileFailed}
+use Rattle.rquota_serve.proofs.ExportLemmas.{looks-none, looks-then}
+
+-- nothing was looked up
+pub looks_in-none : {T E : Type 0} (fault_of : E → Option FileFault) (at : ExportsAt) (told : T) → LooksUpIn fault_of at at (Ok told)
+looks_in-none fault_of at told = record {
+  refused = tt;
+  may = tt;
+  stays = λ exported serves. serves;
+  leaves = looks-none at.seen at.store;
+  synced = λ name is. is;
+  same = refl;
+  counted = tt;
+}
+
+answer_fault-after : (before between now : ℕ) (serves serves_between : Exported → Type 0) (fault : FileFault) → before ≤ between → ((exported : Exported) → serves exported → serves_between exported)
+    → IsAnswerFault between now serves_between fault → IsAnswerFault before now serves fault
+answer_fault-after before between now serves serves_between CallFailed later stays cause = omega arith
+answer_fault-after before between now serves serves_between (Damaged damage) later stays cause = λ exported is. cause exported (stays exported is)
+answer_fault-after before between now serves serves_between (Full blocks limit) later stays cause = cause
+answer_fault-after before between now serves serves_between NoMemory later stays cause = cause
+
+looks_in-mid : {T U E G : Type 0} (fault_in : G → Option FileFault) (fault_of : E → Option FileFault) (old new : ExportsAt) (told : U) (held : Exported → Type 0) (store : StoreSeen) (result : Result T E)
+    → LooksUpIn fault_in old (record { serves = held; seen = old.seen; store = store }) (Ok told) → LooksUpIn fault_of (record { serves = held; seen = old.seen; store = store }) new result
+    → LooksUpIn fault_of old new result
+looks_in-mid fault_in fault_of old new told held store (Ok done) first second = record {
+  refused = tt;
+  may = tt;
+  stays = λ exported serves. second.stays exported (first.stays exported serves);
+  leaves = looks-then old.seen old.store store new.store first.leaves second.leaves;
+  synced = adds_none-then old.store.unsynced store.unsynced new.store.unsynced first.synced second.synced;
+  same = second.same;
+  counted = tt;
+}
+looks_in-mid fault_in fault_of old new told held store (Err out) first second = record {
+  refused = IfSome_then (fault_of out) second.refused
+      (λ fault cause. answer_fault-after old.store.faults store.faults new.store.faults old.serves held fault first.leaves.later first.stays cause);
+  may = second.may;
+  stays = λ exported serves. second.stays exported (first.stays exported serves);
+  leaves = looks-then old.seen old.store store new.store first.leaves second.leaves;
+  synced = tt;
+  same = tt;
+  counted = second.counted;
+}
+
+-- look-ups, and more of them
+pub looks_in-then : {T U E G : Type 0} (fault_in : G → Option FileFault) (fault_of : E → Option FileFault) (old mid new : ExportsAt) (told : U) (result : Result T E)
+    → LooksUpIn fault_in old mid (Ok told) → LooksUpIn fault_of mid new result → LooksUpIn fault_of old new result
+looks_in-then fault_in fault_of old mid new told result first second =
+    let P : List ExportSeen → Type 0 = λ seen. LooksUpIn fault_in old (record { serves = mid.serves; seen = seen; store = mid.store }) (Ok told)
+    × LooksUpIn fault_of (record { serves = mid.serves; seen = seen; store = mid.store }) new result in
+    let moved : P old.seen = subst P first.same (first, second) in
+    looks_in-mid fault_in fault_of old new told mid.serves mid.store result moved.0 moved.1
+
+-- why serving ended: the link failed, or a file did
+pub serve_fault : (before now link link_now : ℕ) (serves : Exported → Type 0) (fault : ServeFault) → OnLink fault (Rose link link_now) → IfSome (file_in fault) (IsAnswerFault before now serves)
+    → IsServeFault before now link link_now serves fault
+serve_fault before now link link_now serves LinkFailed unlinked refused = unlinked
+serve_fault before now link link_now serves (FileFailed fault) unlinked refused = refused
+
+pub on_file : (P : FileFault → Type 0) (fault : ServeFault) → IfSome (file_in fault) P → OnFile fault P
+on_file P LinkFailed may = tt
+on_file P (FileFailed fault) may = may
