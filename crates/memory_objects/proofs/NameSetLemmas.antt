@@ -5,7 +5,7 @@ use Rattle.std.specs.String.{string_bytes}
 use Rattle.std.specs.declared.alloc.Global.{Global}
 use Rattle.std.proofs.lemmas.Bool.{cases_Bool, true≢false}
 use Rattle.memory_objects.specs.NameSet.{names_in}
-use Rattle.outside.specs.Unsynced.{Names, with_name}
+use Rattle.outside.specs.Unsynced.{with_name}
 use Rattle.outside.proofs.UnsyncedLemmas.{same_names}
 use Rattle.outside.proofs.WorldLemmas.{bytes_eq-true}
 

@@ -1,5 +1,5 @@
 -- Files in memory, as a list of names and bytes.
-use Rattle.std.proofs.Common.{◌≡◌, ◌≢◌, inl, inr, ℕ, zero, suc, ◌<◌, Bool, true, false, cond, not, List, [], ◌∷◌, ◌++◌, length, get_or, set, length-set, get_or-set_same, get_or-set_other, Option, Some, None, refl, sym, ap, subst, ◌∙◌, arith, position, filter, find, nat_lt, String, Vec}
+use Rattle.std.proofs.Common.{◌≡◌, ◌≢◌, inl, inr, ℕ, zero, suc, ◌+◌, ◌<◌, take, add-one, length-take, Bool, true, false, cond, not, List, [], ◌∷◌, ◌++◌, length, get_or, set, length-set, get_or-set_same, get_or-set_other, Option, Some, None, refl, sym, ap, subst, ◌∙◌, arith, position, filter, find, nat_lt, String, Vec}
 use Rattle.std.specs.Option.{is_some, option_copied, option_map, option_map_or, unwrap_or}
 use Rattle.std.specs.List.{position_or_len}
 use Rattle.std.specs.declared.alloc.Global.{Global}
@@ -10,6 +10,8 @@ use Rattle.std.proofs.lemmas.Bool.{cases_Bool, cond-true, cond-false, both_ways,
 use Rattle.std.proofs.lemmas.Option.{none-some, slice_get_past}
 use Rattle.std.proofs.lemmas.List.Quantifiers.{position-Some, all_pairs_push}
 use Rattle.std.proofs.lemmas.List.Kept.{AllPairs-filter}
+use Rattle.std.proofs.lemmas.List.{get_or-take, get_or_default}
+use Rattle.std.proofs.Math.Seq.{take-suc}
 use denote.Ref.{Bor}
 use Rattle.memory_objects.specs.MemStore.{NamedFile, file_named, HaveDistinctNames}
 use Rattle.outside.specs.World.{overwritten, with_bytes, with_file, with_new_name}
@@ -250,3 +252,21 @@ file_named-renamed_found from to files place was file distinct e read named same
 pub found_from_some : (found : Option (Bor (List ℕ))) (file : Option (List ℕ)) → is_some found ≡ true → option_copied found ≡ file → (bytes : List ℕ) × (file ≡ Some bytes)
 found_from_some None file some is = absurd (false≢true some)
 found_from_some (Some bytes) file some is = (bytes.now, sym is)
+
+-- the files in front of one, where the names differ, have none of its name
+pub file_named-front : (files : List NamedFile) (place : ℕ) (file : NamedFile) → HaveDistinctNames files → place < length files → file ≡ get_or files place file → file_named (take place files) (string_bytes file.0) ≡ None
+file_named-front files place file distinct within is =
+    absent_from_names (string_bytes file.0) (take place files) (λ k d inside same.
+    let before : k < place = omega (arith, length-take place files, inside) in
+    let short : get_or (take place files) k d ≡ get_or files k d = get_or-take place files k d before in
+    let here : get_or files place d ≡ file = get_or_default files place d file within ∙ sym is in
+    distinct k place d before within
+    (ap (λ (f : NamedFile). string_bytes f.0) (sym short) ∙ same ∙ ap (λ (f : NamedFile). string_bytes f.0) (sym here)))
+
+-- the files up to one, and that one
+pub file_named-next : (files : List NamedFile) (place : ℕ) (file : NamedFile) → HaveDistinctNames files → place < length files → file ≡ get_or files place file → file_named (take (place + 1) files) ≡ with_file (file_named (take place files)) (string_bytes file.0) (Some file.1.items)
+file_named-next files place file distinct within is =
+    ap (λ (k : ℕ). file_named (take k files)) (add-one place)
+    ∙ ap (λ (f : List NamedFile). file_named f) (take-suc files place file within)
+    ∙ ap (λ (f : NamedFile). file_named (take place files ++ f ∷ [])) (sym is)
+    ∙ file_named-added (string_bytes file.0) (take place files) file refl (file_named-front files place file distinct within is)

@@ -6,7 +6,7 @@ use std::alloc::AllocError;
 
 /// Which calls of an object in memory are to fail, and how many did.
 #[derive(Debug, Drop)]
-pub(crate) struct Failures {
+pub struct Failures {
     /// The numbers of the calls that are to fail, counted from 1.
     pub failing: Vec<u64>,
     /// How many calls there were.
@@ -17,7 +17,7 @@ pub(crate) struct Failures {
 
 impl Failures {
     /// No call yet.
-    pub(crate) fn new(failing: Vec<u64>) -> Self
+    pub fn new(failing: Vec<u64>) -> Self
         ensures failing { result.failing.items ≡ failing.items }
         ensures calls { result.calls ≡ 0 }
         ensures faults { result.faults ≡ 0 }
@@ -30,7 +30,7 @@ impl Failures {
     }
 
     /// Counts one more call, and says whether it is to fail, which is then counted too.
-    pub(crate) fn next_fails(&mut self) -> bool
+    pub fn next_fails(&mut self) -> bool
         ensures planned { IsTrue result ↔ Contains self.old.failing.items (counted self.old.calls) }
         ensures failing { self.new.failing.items ≡ self.old.failing.items }
         ensures calls { self.new.calls ≡ counted self.old.calls }
@@ -46,7 +46,7 @@ impl Failures {
     }
 
     /// Counts a fault.
-    pub(crate) fn count_fault(&mut self)
+    pub fn count_fault(&mut self)
         ensures failing { self.new.failing ≡ self.old.failing }
         ensures calls { self.new.calls ≡ self.old.calls }
         ensures faults { self.new.faults ≡ counted self.old.faults }
@@ -56,7 +56,7 @@ impl Failures {
     }
 
     /// What a store answers that has done its work, or that could not get the memory for it, which is a fault.
-    pub(crate) fn outcome(&mut self, done: Result<(), AllocError>) -> Result<(), StoreFault>
+    pub fn outcome(&mut self, done: Result<(), AllocError>) -> Result<(), StoreFault>
         ensures same { is_ok result ≡ is_ok done }
         ensures failing { self.new.failing ≡ self.old.failing }
         ensures calls { self.new.calls ≡ self.old.calls }

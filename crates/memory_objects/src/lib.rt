@@ -14,7 +14,10 @@ mod mem_store;
 mod name_set;
 mod named_files;
 
+pub use failures::Failures;
 pub use mem_link::MemLink;
 pub use mem_sink::MemSink;
 pub use mem_source::MemSource;
 pub use mem_store::MemStore;
+pub use name_set::NameSet;
+pub use named_files::NamedFiles;

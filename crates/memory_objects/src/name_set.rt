@@ -6,13 +6,14 @@ use std::alloc::{AllocError, Global};
 
 /// A set of names in memory.
 #[derive(Debug, Drop)]
-pub(crate) struct NameSet {
-    names: Vec<String>,
+pub struct NameSet {
+    /// Each name of the set.
+    pub names: Vec<String>,
 }
 
 impl NameSet {
     /// No name.
-    pub(crate) fn new(alloc: Global) -> Self
+    pub fn new(alloc: Global) -> Self
         ensures { result.names.items ≡ [] }
     {
         NameSet {
@@ -21,14 +22,14 @@ impl NameSet {
     }
 
     /// Whether a name is in the set.
-    pub(crate) fn contains(&self, name: &str) -> bool
+    pub fn contains(&self, name: &str) -> bool
         ensures { result ≡ names_in self.now.names.items name.now }
     {
         self.names.iter().any(|text| text.as_str() == name)
     }
 
     /// Puts a name into the set.
-    pub(crate) fn add(&mut self, name: &str) -> Result<(), AllocError>
+    pub fn add(&mut self, name: &str) -> Result<(), AllocError>
         ensures ok { OnOk result (names_in self.new.names.items ≡ with_name (names_in self.old.names.items) name.now true) }
         ensures err { OnErr result (names_in self.new.names.items ≡ names_in self.old.names.items) }
     {
@@ -41,14 +42,14 @@ impl NameSet {
     }
 
     /// Takes a name out of the set.
-    pub(crate) fn remove(&mut self, name: &str)
+    pub fn remove(&mut self, name: &str)
         ensures { names_in self.new.names.items ≡ with_name (names_in self.old.names.items) name.now false }
     {
         self.names.retain(|text| text.as_str() != name);
     }
 
     /// Takes one name out of the set, and puts another one there exactly where that one was in it.
-    pub(crate) fn hand_over(&mut self, from: &str, to: &str) -> Result<(), AllocError>
+    pub fn hand_over(&mut self, from: &str, to: &str) -> Result<(), AllocError>
         requires { from.now ≢ to.now }
         ensures ok { OnOk result (names_in self.new.names.items
             ≡ with_name (with_name (names_in self.old.names.items) from.now false) to.now

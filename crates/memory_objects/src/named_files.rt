@@ -1,4 +1,4 @@
-ghost use Rattle.std.specs.Prelude.{◌≡◌, ◌≢◌, ◌+◌, ◌-◌, ◌<◌, ◌≤◌, ◌^◌, ◌++◌, [], length, take, drop, replicate, position, None, Some, OnOk, OnErr};
+ghost use Rattle.std.specs.Prelude.{◌≡◌, ◌≢◌, ◌+◌, ◌-◌, ◌<◌, ◌≤◌, ◌^◌, ◌++◌, [], length, take, drop, replicate, position, None, Some, IfOk, OnOk, OnErr};
 ghost use Rattle.std.specs.Option.{option_copied, option_map};
 ghost use Rattle.std.specs.Str.{bytes_eq};
 ghost use Rattle.std.specs.String.{string_bytes};
@@ -9,14 +9,15 @@ use std::alloc::AllocError;
 
 /// Files in memory, each with a name of its own. New names and bytes are made on the allocator of the list.
 #[derive(Debug, Drop)]
-pub(crate) struct NamedFiles {
-    entries: Vec<(String, Vec<u8>)>,
+pub struct NamedFiles {
+    /// Each name with the bytes of its file.
+    pub entries: Vec<(String, Vec<u8>)>,
     ghost distinct: { HaveDistinctNames entries.items },
 }
 
 impl NamedFiles {
     /// These files.
-    pub(crate) fn new(entries: Vec<(String, Vec<u8>)>) -> Self
+    pub fn new(entries: Vec<(String, Vec<u8>)>) -> Self
         requires { HaveDistinctNames entries.items }
         ensures { result.entries.items ≡ entries.items }
     {
@@ -24,7 +25,7 @@ impl NamedFiles {
     }
 
     /// The bytes of a file, or `None` where there is none of this name.
-    pub(crate) fn find(&self, name: &str) -> Option<&[u8]>
+    pub fn find(&self, name: &str) -> Option<&[u8]>
         ensures { option_copied result ≡ file_named self.now.entries.items name.now }
     {
         self.entries
@@ -34,7 +35,7 @@ impl NamedFiles {
     }
 
     /// The bytes of a file, or `None` where there is none of this name. They are not copied, and no memory is taken.
-    pub(crate) fn into_file(self, name: &str) -> Option<Vec<u8>>
+    pub fn into_file(self, name: &str) -> Option<Vec<u8>>
         ensures { option_map (λ file. file.items) result ≡ file_named self.entries.items name.now }
     {
         let place = self.position(name)?;
@@ -49,7 +50,7 @@ impl NamedFiles {
     }
 
     /// Makes a file empty that is there, or makes an empty one.
-    pub(crate) fn create(&mut self, name: &str) -> Result<(), AllocError>
+    pub fn create(&mut self, name: &str) -> Result<(), AllocError>
         ensures ok { OnOk result (file_named self.new.entries.items ≡ with_file (file_named self.old.entries.items) name.now (Some [])) }
         ensures err { OnErr result (file_named self.new.entries.items ≡ file_named self.old.entries.items) }
     {
@@ -72,7 +73,7 @@ impl NamedFiles {
     }
 
     /// Writes bytes into a file at place `at`. A file that is not there is made, and a gap is filled with zeros.
-    pub(crate) fn write(&mut self, name: &str, at: usize, bytes: &[u8]) -> Result<(), AllocError>
+    pub fn write(&mut self, name: &str, at: usize, bytes: &[u8]) -> Result<(), AllocError>
         requires { at + length bytes.now < 2 ^ 63 }
         ensures ok { OnOk result (file_named self.new.entries.items ≡ with_bytes (file_named self.old.entries.items) name.now at bytes.now) }
         ensures err { OnErr result (file_named self.new.entries.items ≡ file_named self.old.entries.items) }
@@ -86,7 +87,7 @@ impl NamedFiles {
     }
 
     /// Gives a file another name, in place of the file that had it.
-    pub(crate) fn rename(&mut self, from: &str, to: &str) -> Result<(), AllocError>
+    pub fn rename(&mut self, from: &str, to: &str) -> Result<(), AllocError>
         requires { from.now ≢ to.now }
         ensures ok { OnOk result (file_named self.new.entries.items ≡ with_new_name (file_named self.old.entries.items) from.now to.now) }
         ensures err { OnErr result (file_named self.new.entries.items ≡ file_named self.old.entries.items) }
@@ -100,7 +101,39 @@ impl NamedFiles {
         Ok(())
     }
 
-    fn remove(&mut self, name: &str)
+    /// Cuts a file to a length. One that is no longer stays, and one that is not there is not made.
+    pub fn cut(&mut self, name: &str, len: usize)
+        ensures { file_named self.new.entries.items ≡ with_file (file_named self.old.entries.items) name.now
+            (option_map (take len) (file_named self.old.entries.items name.now)) }
+    {
+        if let Some(place) = self.position(name) {
+            self.entries[place].1.truncate(len);
+        }
+    }
+
+    /// The same files once more.
+    pub fn copied(&self) -> Result<NamedFiles, AllocError>
+        ensures { IfOk result (λ copy. file_named copy.entries.items ≡ file_named self.now.entries.items) }
+    {
+        let mut copy = NamedFiles::new(Vec::new(*self.entries.allocator()));
+        for file in &self.entries {
+            copy.add(file.0.as_str(), file.1.to_vec(*self.entries.allocator())?)?;
+        }
+        Ok(copy)
+    }
+
+    /// Gives a name a file of these bytes, in place of the one that had it.
+    pub fn put(&mut self, name: &str, bytes: &[u8]) -> Result<(), AllocError>
+        ensures { OnOk result (file_named self.new.entries.items ≡ with_file (file_named self.old.entries.items) name.now (Some bytes.now)) }
+    {
+        let copy = bytes.to_vec(*self.entries.allocator())?;
+        self.remove(name);
+        self.add(name, copy)?;
+        Ok(())
+    }
+
+    /// Removes the file of a name, where there is one.
+    pub fn remove(&mut self, name: &str)
         ensures { file_named self.new.entries.items ≡ with_file (file_named self.old.entries.items) name.now None }
     {
         self.entries.retain(|file| file.0.as_str() != name);

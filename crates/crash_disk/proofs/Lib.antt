@@ -1,0 +1,4 @@
+pub mod HalfLemmas
+pub mod StepLemmas
+pub mod StopLemmas
+pub mod ToldLemmas

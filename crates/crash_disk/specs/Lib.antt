@@ -1,0 +1,11 @@
+pub mod Calls
+pub mod DiskSeen
+pub mod Images
+pub mod MemDisk
+pub mod Recorded
+pub mod Steps
+pub mod Told
+pub use Rattle.memory_objects.specs.MemStore
+pub use Rattle.outside.specs.Count
+pub use Rattle.outside.specs.Unsynced
+pub use Rattle.outside.specs.World
