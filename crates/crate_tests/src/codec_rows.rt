@@ -1,6 +1,5 @@
 use entry_codec::{
-    Header, HeaderFault, entries_per_block, entry_size, read_entry, read_header, write_entry,
-    write_header,
+    Header, HeaderFault, entries_per_block, read_entry, read_header, write_entry, write_header,
 };
 use quota_types::{Format, Grace, Kind, Rec, check_record, kept};
 use std::process::Abort;
@@ -72,7 +71,7 @@ fn reads_a_header_or_names_its_first_fault(rt: HostRuntime) {
 fn block_with(header: &Header) -> Option<[u8; 1024]> {
     let mut block = [0xff; 1024];
     let narrow = u64::from(u32::MAX);
-    if header.format == Format::V1
+    if header.format.is_flat()
         || header.blocks < 2
         || header.grace.block > narrow
         || header.grace.inode > narrow
@@ -150,7 +149,7 @@ const READ: &[ReadRow] = &[
 
 /// Whether the bytes have the size of an entry and this is read there.
 fn reads(format: Format, bytes: &[u8], want: Option<(u32, Rec)>) -> bool {
-    if format == Format::V1 || bytes.len() != entry_size(format) {
+    if format.is_flat() || bytes.len() != format.record_size() {
         return false;
     }
     read_entry(format, bytes) == want
@@ -180,7 +179,7 @@ const WRITTEN: &[WriteRow] = &[
 /// Writes what the format keeps of an identifier's record, and answers whether it did: the format has room for it, and
 /// the bytes have the size of an entry.
 fn writes(format: Format, id: u32, rec: Rec, bytes: &mut [u8]) -> bool {
-    if format == Format::V1 || bytes.len() != entry_size(format) {
+    if format.is_flat() || bytes.len() != format.record_size() {
         return false;
     }
     match check_record(format, id, &rec) {
@@ -216,8 +215,8 @@ const SIZES: &[(Format, usize, usize)] = &[(Format::V2R0, 48, 21), (Format::V2R1
 
 fn expect_sizes(rt: &impl Abort, rows: &[(Format, usize, usize)]) {
     for row in rows {
-        let as_wanted = row.0 != Format::V1
-            && entry_size(row.0) == row.1
+        let as_wanted = !row.0.is_flat()
+            && row.0.record_size() == row.1
             && entries_per_block(row.0) == row.2;
         assert!(rt; as_wanted, "{:?}", row.0);
     }

@@ -1,4 +1,4 @@
-//! Rows of names, listings, edits, forms, periods, reports and conversions.
+//! Rows of names, listings, edits, forms, periods and reports.
 //!
 //! The crate has tests and nothing else: a row is an element of a constant, and one small function plays all rows of a
 //! kind.
@@ -6,8 +6,6 @@
 
 #[cfg(test)]
 mod apply_rows;
-#[cfg(test)]
-mod convert_rows;
 #[cfg(test)]
 mod edit_rows;
 #[cfg(test)]

@@ -1,4 +1,5 @@
-use set_edit::{read_limit, read_number};
+use quota_blocks::read_number;
+use set_edit::read_limit;
 use std::process::Abort;
 
 /// A word, with the number that it is.

@@ -108,7 +108,7 @@ fn built(
     limit: u32,
 ) -> Result<Option<Result<Vec<u8>, BuildFault>>, AllocError> {
     let entries = ordered(alloc, format, list)?;
-    if format == Format::V1 || entries.len() != list.len() {
+    if format.is_flat() || entries.len() != list.len() {
         return Ok(None);
     }
     let file = build(
@@ -126,7 +126,7 @@ fn built(
 /// Whether a file has nothing wrong, no free block, and these entries.
 fn is_of(alloc: Global, file: &[u8], format: Format, list: &[Entry]) -> Result<bool, AllocError> {
     let (answer, _) = checked(alloc, file)?;
-    if answer != found(list.len() as u64, 0) || format == Format::V1 {
+    if answer != found(list.len() as u64, 0) || format.is_flat() {
         return Ok(false);
     }
     let mut store = store_of(alloc, file, &[])?;

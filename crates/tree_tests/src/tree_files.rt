@@ -251,7 +251,7 @@ pub(crate) fn checked_failing(
 
 /// What a check answers that is given this header.
 fn check_by(alloc: Global, store: &mut MemStore, header: &Header) -> Result<Checked, CheckFault> {
-    if header.format == Format::V1 || header.blocks < 2 {
+    if header.format.is_flat() || header.blocks < 2 {
         return Err(CheckFault::Memory);
     }
     check(alloc, store, "q", header)

@@ -1,3 +1,7 @@
+ghost use Rattle.std.specs.Prelude.{IfSome};
+ghost use Rattle.std.specs.Bool.{OnTrue};
+ghost use Rattle.quota_types.specs.Format.{IsTreeFormat};
+
 use crate::tree_files::*;
 use quota_blocks::{MemStore, OpenFault, QuotaFile};
 use quota_types::{Damage, DamageKind, Entry, Format, Grace, Kind, Rec};
@@ -33,12 +37,22 @@ fn answer_of(alloc: Global, row: &OpenRow) -> Option<Result<Said, OpenFault>> {
     let (len, changes) = row.file;
     let file = made(alloc, len, changes).ok()?;
     let mut store = store_of(alloc, file.as_slice(), &[]).ok()?;
-    if row.format == Some(Format::V1) {
+    if !may_be_asked_for(row.format) {
         return None;
     }
     match open_tree(alloc, &mut store, row.name, row.kind, row.format, row.limit) {
         Ok(file) => Some(Ok(said_by(&file))),
         Err(fault) => Some(Err(fault)),
+    }
+}
+
+/// Whether a tree file may be asked for in this format.
+fn may_be_asked_for(format: Option<Format>) -> bool
+    ensures { OnTrue result (IfSome format IsTreeFormat) }
+{
+    match format {
+        Some(format) => !format.is_flat(),
+        None => true,
     }
 }
 

@@ -1,6 +1,6 @@
 use Rattle.std.proofs.Common.{ap, arith, length}
 use Rattle.quota_blocks.specs.Replacement.{replacement_name}
-use Rattle.edit_tests.proofs.convert_rows.converts.Goals as goal
+use Rattle.serve_tests.proofs.convert_rows.converts.Goals as goal
 
 pub convert-answer-requires : goal.convert-answer-requires
 unfolding replacement_name
