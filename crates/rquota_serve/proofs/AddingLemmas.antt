@@ -10,14 +10,13 @@ use Rattle.quota_types.specs.declared.file_kind.Format.{Format}
 use Rattle.quota_types.specs.declared.file_kind.Format.TheVariants.{V1}
 use Rattle.quota_blocks.specs.Block.{bytes_of}
 use Rattle.quota_blocks.specs.Frame.{OnlyReads}
-use Rattle.quota_blocks.specs.QuotaFile.{FileSeen}
 use Rattle.quota_blocks.specs.QuotaValue.{QuotaValue}
 use Rattle.quota_blocks.specs.Seen.{StoreSeen}
 use Rattle.quota_blocks.specs.Unsynced.{AddsNone}
 use Rattle.quota_blocks.specs.World.{World}
 use Rattle.quota_blocks.specs.declared.quota_file.OpenFault.{OpenFault}
 use Rattle.quota_map.specs.View.{IsOpenFault, IsOpenedAs, IsView, opening_reads, fresh_seen}
-use Rattle.rquota_serve.specs.Adding.{AreAdded, AreToldOf, IsRefusedAt, MayAddAll, NewSeen, ReadsEach, added_of, new_seen, news_seen, one_later, reads_of}
+use Rattle.rquota_serve.specs.Adding.{AreAdded, AreToldOf, IsRefusedAt, MayAddAll, NewSeen, ReadsEach, added_of, new_seen, news_seen, one_later, reads_of, tried_of}
 use Rattle.rquota_serve.specs.Exported.{Exported, with_export}
 use Rattle.rquota_serve.specs.Exports.{ExportSeen, IsServed, Serves, export_seen, fresh_export, is_exported, kept_in, may_add}
 use Rattle.rquota_serve.specs.declared.export.Export.{Export}
@@ -90,7 +89,7 @@ pub record AllAdded (tells : Bool) (asked : Option Format) (news : List NewSeen)
   pub added : AreAdded asked (added_of news result) was is
   pub serves : IsTrue tells → (before : Exported) → served before → (exported : Exported) × AreToldOf asked old.files (added_of news result) before exported × serving exported
   pub leaves : OnOk result (ReadsEach news old new)
-  pub reads : OnOk result (IsTrue tells → new.reads ≤ old.reads + reads_of asked old.files news)
+  pub reads : IsTrue tells → new.reads ≤ old.reads + reads_of asked old.files (tried_of news result)
   pub refused : IfErr result (λ met. IsRefusedAt tells asked met.place news met.fault old new)
   pub within : IfErr result (λ met. met.place < length news)
 
@@ -107,6 +106,10 @@ all_none tells asked was served store = record {
 added_later : (one : NewSeen) (news : List NewSeen) (result : Result (Unit {0}) AddFault) → added_of (one ∷ news) (one_later result) ≡ one ∷ added_of news result
 added_later one news (Ok done) = refl
 added_later one news (Err met) = ap (λ (n : ℕ). take n (one ∷ news)) (add-one met.place)
+
+tried_later : (one : NewSeen) (news : List NewSeen) (result : Result (Unit {0}) AddFault) → tried_of (one ∷ news) (one_later result) ≡ one ∷ tried_of news result
+tried_later one news (Ok done) = refl
+tried_later one news (Err met) = ap (λ (n : ℕ). take n (one ∷ news)) (add-one (met.place + 1))
 
 on_later : (P Q : Type 0) (result : Result (Unit {0}) AddFault) → (P → Q) → OnOk result P → OnOk (one_later result) Q
 on_later P Q (Ok done) so on = so on
@@ -136,9 +139,11 @@ all_more tells asked one news result was between is served middle serves old mid
         rest.2,
       );
   leaves = on_later _ _ result (λ each. (mid, leaves, each)) all.leaves;
-  reads = on_later _ _ result (λ few told.
-      let same : reads_of asked mid.files news ≡ reads_of asked old.files news = ap (λ (w : World). reads_of asked w news) leaves.files in
-      omega (arith, few told, reads told, same)) all.reads;
+  reads = λ told.
+      let same : reads_of asked mid.files (tried_of news result) ≡ reads_of asked old.files (tried_of news result) = ap (λ (w : World). reads_of asked w (tried_of news result)) leaves.files in
+      let more : reads_of asked old.files (tried_of (one ∷ news) (one_later result)) ≡ opening_reads asked (bytes_of (old.files one.file)) + reads_of asked old.files (tried_of news result) =
+      ap (λ (l : List NewSeen). reads_of asked old.files l) (tried_later one news result) in
+      omega (arith, all.reads told, reads told, same, more);
   refused = err_later _ _ result (λ met refused.
       subst (λ (n : ℕ). IsRefusedAt tells asked n (one ∷ news) met.fault old new) (sym (add-one met.place)) (mid, leaves, refused)) all.refused;
   within = err_later _ _ result (λ met low. omega (arith, low)) all.within;
@@ -147,12 +152,13 @@ all_more tells asked one news result was between is served middle serves old mid
 -- the first one was not added
 pub all_refused : (tells : Bool) (asked : Option Format) (one : NewSeen) (news : List NewSeen) (fault : OpenFault) (was is : List ExportSeen) (served serves : Exported → Type 0) (old new : StoreSeen)
     → OnlyReads false one.file old new → IsOpenFault old.faults new.faults tells (old.files one.file) one.kind asked fault → is ≡ was → ((before : Exported) → served before → serves before)
+    → (IsTrue tells → new.reads ≤ old.reads + opening_reads asked (bytes_of (old.files one.file)))
     → AllAdded tells asked (one ∷ news) (Err (record { place = 0; fault = fault })) was is served serves old new
-all_refused tells asked one news fault was is served serves old new leaves refused same stays = record {
+all_refused tells asked one news fault was is served serves old new leaves refused same stays reads = record {
   added = same;
   serves = λ told before serving. (before, refl, stays before serving);
   leaves = tt;
-  reads = tt;
+  reads = λ told. omega (arith, reads told);
   refused = (leaves, refused);
   within = omega arith;
 }

@@ -1,5 +1,5 @@
 -- Look-ups in the files of exports: none, and two in a row.
-use Rattle.std.proofs.Common.{◌≡◌, ℕ, ◌≤◌, IfErr, IfSome, List, Option, None, Some, Result, Ok, Err, refl, sym, subst, arith}
+use Rattle.std.proofs.Common.{ℕ, ◌≤◌, IfSome, List, Option, Result, Ok, Err, refl, subst, arith}
 use Rattle.std.proofs.lemmas.Option.{IfSome_then}
 use Rattle.quota_blocks.specs.Count.{Rose}
 use Rattle.quota_blocks.specs.Seen.{StoreSeen}
@@ -9,7 +9,7 @@ use Rattle.outside.proofs.FrameLemmas.{adds_none-then}
 use Rattle.rquota_serve.specs.Exported.{Exported}
 use Rattle.rquota_serve.specs.Exports.{ExportSeen}
 use Rattle.rquota_serve.specs.Looking.{ExportsAt, LooksUpIn}
-use Rattle.rquota_serve.specs.Refusal.{IsAnswerFault, IsServeFault, MayRefuseOne, OnFile, OnLink, file_in}
+use Rattle.rquota_serve.specs.Refusal.{IsAnswerFault, IsServeFault, OnFile, OnLink, file_in}
 use Rattle.rquota_serve.specs.declared.fault.ServeFault.{ServeFault}
 use Rattle.rquota_serve.specs.declared.fault.ServeFault.TheVariants.{Link as LinkFailed, File as FileFailed}
 use Rattle.rquota_serve.proofs.ExportLemmas.{looks-none, looks-then}

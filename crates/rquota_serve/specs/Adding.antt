@@ -42,6 +42,11 @@ abbrev pub added_of : List NewSeen → Result (Unit {0}) AddFault → List NewSe
 added_of news (Ok _) = news
 added_of news (Err met) = take met.place news
 
+-- those that were tried: all of them, or those up to the first one that was refused
+abbrev pub tried_of : List NewSeen → Result (Unit {0}) AddFault → List NewSeen
+tried_of news (Ok _) = news
+tried_of news (Err met) = take (met.place + 1) news
+
 -- what came of adding files, told of these behind one more
 abbrev pub one_later : Result (Unit {0}) AddFault → Result (Unit {0}) AddFault
 one_later (Ok done) = Ok done

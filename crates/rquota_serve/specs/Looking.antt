@@ -1,6 +1,6 @@
 -- What is said of every call that only looks something up in the files of exports, whatever it answers. Source: this project's
 -- own.
-use Rattle.std.specs.Prelude.{◌≡◌, ℕ, Bool, IfErr, IfSome, OnOk, List, Option, None, Some, Result}
+use Rattle.std.specs.Prelude.{◌≡◌, Bool, IfErr, IfSome, OnOk, List, Option, None, Some, Result}
 use Rattle.quota_blocks.specs.Seen.{StoreSeen}
 use Rattle.quota_blocks.specs.Unsynced.{AddsNone}
 use Rattle.quota_blocks.specs.declared.quota_file.FileFault.{FileFault}

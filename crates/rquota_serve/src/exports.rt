@@ -22,7 +22,7 @@ impl Exports {
     ghost use Rattle.quota_blocks.specs.World.{World};
     ghost use Rattle.quota_map.specs.View.{IsOpenFault, IsOpenedAs, IsView, opening_reads};
     ghost use Rattle.quota_blocks.specs.Block.{bytes_of};
-    ghost use Rattle.rquota_serve.specs.Adding.{AreAdded, AreToldOf, IsRefusedAt, MayAddAll, ReadsEach, added_of, news_seen, reads_of};
+    ghost use Rattle.rquota_serve.specs.Adding.{AreAdded, AreToldOf, IsRefusedAt, MayAddAll, ReadsEach, added_of, news_seen, reads_of, tried_of};
     ghost use Rattle.rquota_serve.specs.Exported.{Exported, nothing_exported, with_export};
     ghost use Rattle.rquota_serve.specs.Exports.{ExportSeen, Serves, export_seen, exports_seen, fresh_export, is_exported, is_named, kept_in, may_add};
     ghost use Rattle.rquota_serve.specs.Looking.{LooksUpIn, exports_at};
@@ -103,8 +103,8 @@ impl Exports {
             × AreToldOf format (S.seen store.old).files (added_of (news_seen list.now) result) before exported
             × Serves S.tells (S.seen store.new).files self.new exported }
         ensures leaves { OnOk result (ReadsEach (news_seen list.now) (S.seen store.old) (S.seen store.new)) }
-        ensures reads { OnOk result (IsTrue S.tells → (S.seen store.new).reads
-            ≤ (S.seen store.old).reads + reads_of format (S.seen store.old).files (news_seen list.now)) }
+        ensures reads { IsTrue S.tells → (S.seen store.new).reads ≤ (S.seen store.old).reads
+            + reads_of format (S.seen store.old).files (tried_of (news_seen list.now) result) }
         ensures refused { IfErr result (λ met. IsRefusedAt S.tells format met.place (news_seen list.now) met.fault
             (S.seen store.old) (S.seen store.new)) }
         ensures within { IfErr result (λ met. met.place < length list.now) }

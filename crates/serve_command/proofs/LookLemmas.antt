@@ -1,5 +1,5 @@
 -- What the command looks at: that it looks at no file but by opening it, and which files it comes to open.
-use Rattle.std.proofs.Common.{◌≡◌, ℕ, zero, suc, List, [], ◌∷◌, map, Option, None, Some, inl, inr, refl, subst, sym}
+use Rattle.std.proofs.Common.{ℕ, zero, suc, List, [], ◌∷◌, map, Option, None, Some, subst, sym}
 use Rattle.std.specs.Prelude.{Contains}
 use Rattle.std.proofs.lemmas.List.Elements.{Contains-append_left, Contains-append_right, Contains-push}
 use Rattle.quota_types.specs.declared.file_kind.Format.{Format}

@@ -1,12 +1,11 @@
 -- `rquotad`. Source: the manual page of rpc.rquotad; that so many calls are answered, and that quota files are named together with
 -- the paths under which they are told of, is this project's own.
-use Rattle.std.specs.Prelude.{◌≡◌, ◌⊎◌, ℕ, zero, suc, true, false, IsTrue, List, [], ◌∷◌, map, Option, Some, None, Ok, ⊤}
+use Rattle.std.specs.Prelude.{◌≡◌, ◌⊎◌, ℕ, zero, suc, true, false, List, [], ◌∷◌, map, Option, Some, None, ⊤}
 use Rattle.quota_types.specs.declared.file_kind.Format.{Format}
-use Rattle.quota_blocks.specs.QuotaFile.{FileSeen}
 use Rattle.quota_blocks.specs.QuotaValue.{QuotaValue}
 use Rattle.quota_blocks.specs.Seen.{Datagram}
 use Rattle.quota_blocks.specs.World.{World}
-use Rattle.quota_map.specs.View.{IsOpenedAs, IsView}
+use Rattle.quota_map.specs.View.{IsOpenedAs}
 use Rattle.rquota_xdr.specs.Reply.{spelling_of}
 use Rattle.rquota_xdr.specs.declared.reply.Reply.{Reply}
 use Rattle.rquota_serve.specs.Adding.{AreToldOf, MayAddAll, NewSeen}

@@ -1,7 +1,7 @@
 use Rattle.std.proofs.Common.{[], ◌∷◌, map, Result, Ok, Err, refl, ap}
 use Rattle.rquota_serve.specs.Adding.{new_seen, news_seen}
 use Rattle.rquota_serve.specs.declared.new_export.AddFault.{AddFault}
-use Rattle.rquota_serve.specs.Exports.{Serves, exports_seen, kept_in, export_seen}
+use Rattle.rquota_serve.specs.Exports.{Serves, exports_seen, export_seen}
 use Rattle.rquota_serve.proofs.AddingLemmas.{all_more, all_none, all_of, all_refused, no_news, serves_kept, within_list, within_news}
 use Rattle.rquota_serve.proofs.exports.Exports.+add_all.Goals as goal
 
@@ -53,7 +53,8 @@ returns-in-Err g t c =
     let answered : Result (Unit {0}) AddFault = Err (record { place = 0; fault = c.in-Err.fault }) in
     let all = all_refused S.tells c.args.format one (news_seen behind) c.in-Err.fault was is served serves old new
     added.leaves added.refused (ap (map export_seen) added.unchanged)
-    (λ before serving. serves_kept S.tells old.files new.files c.args.self.now c.add.new.self before added.unchanged added.leaves.files serving) in
+    (λ before serving. serves_kept S.tells old.files new.files c.args.self.now c.add.new.self before added.unchanged added.leaves.files serving)
+    added.reads in
     let whole = all_of S.tells c.args.format (one ∷ news_seen behind) (news_seen c.args.list.now) answered answered was is served serves old new
     (ap news_seen c.in-Some.ensures.cases.0) refl all in
     record { added = whole.added; serves = whole.serves; leaves = whole.leaves; reads = whole.reads; refused = whole.refused; within = within_list c.args.list.now answered whole.within }
