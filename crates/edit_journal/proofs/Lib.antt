@@ -1,0 +1,10 @@
+pub mod CommitLemmas
+pub mod CommitStepLemmas
+pub mod LaidLemmas
+pub mod LoopLemmas
+pub mod MakeLemmas
+pub mod NameLemmas
+pub mod RecoveredLemmas
+pub mod SavedLemmas
+pub mod TornLemmas
+pub mod WrittenLemmas

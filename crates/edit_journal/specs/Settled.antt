@@ -1,0 +1,45 @@
+-- What a change in place leaves of a file and its undo file.
+use Rattle.std.specs.Prelude.{◌≡◌, ◌≢◌, ◌<◌, ◌≤◌, ◌⊎◌, ℕ, List, [], length, Some, replicate, unwrap_or}
+use Rattle.outside.specs.World.{KeepsOtherTwo, World}
+use Rattle.crash_disk.specs.DiskSeen.{DiskSeen, EachImage}
+use Rattle.crash_disk.specs.Steps.{ChangesFile, Torn}
+use Rattle.quota_types.specs.Bytes.{byte_at}
+use Rattle.edit_journal.specs.Spans.{IsOutsideAll, Span}
+use Rattle.edit_journal.specs.Undo.{IsClosed, recovered}
+
+-- A file is settled: each image has it so, and an undo file whose gate is closed.
+pub record IsSettled (name undo file : List ℕ) (disk : DiskSeen) : Type 0 where
+  pub whole : EachImage (λ image. image name ≡ Some file) disk
+  pub closed : EachImage (λ image. IsClosed (image undo)) disk
+
+-- A commit can start: each image has the file so, and an undo file whose gate is closed, or none; and each of them has
+-- room for the head of an undo file, or the one that is read has not.
+pub record CanCommit (name undo file : List ℕ) (disk : DiskSeen) : Type 0 where
+  pub whole : EachImage (λ image. image name ≡ Some file) disk
+  pub closed : EachImage (λ image. byte_at (unwrap_or (image undo) []) 0 ≢ 1) disk
+  pub room : (length (unwrap_or (disk.files undo) []) < 1024) ⊎ EachImage (λ image. 1024 ≤ length (unwrap_or (image undo) [])) disk
+
+-- a recovery of these files makes this file of that name
+abbrev pub RecoversTo : (name undo : List ℕ) → List ℕ → World → Type 0
+RecoversTo name undo file image = recovered (image name) (image undo) ≡ Some file
+
+-- a recovery of these files makes one of two files
+abbrev pub RecoversToEither : (name undo : List ℕ) → (old new : List ℕ) → World → Type 0
+RecoversToEither name undo old new image = RecoversTo name undo old image ⊎ RecoversTo name undo new image
+
+-- one name's file is torn within these ranges, and past its end
+abbrev pub TearsRanges : List ℕ → List Span → World → World → Type 0
+TearsRanges name ranges = ChangesFile (Torn (IsOutsideAll ranges)) name
+
+-- one name's file is torn but for its first bytes, up to this place
+abbrev pub TearsFrom : List ℕ → ℕ → World → World → Type 0
+TearsFrom name place = ChangesFile (Torn (λ other. other < place)) name
+
+-- A new undo file takes its name, or does not: it is 1,024 bytes 0 then, or as it was. The file under its first name may
+-- be anything, and all others stay.
+abbrev pub MakesUndo : (und undo : List ℕ) → World → World → Type 0
+MakesUndo und undo old new = KeepsOtherTwo und undo old new × ((new undo ≡ old undo) ⊎ (new undo ≡ Some (replicate 1024 0)))
+
+-- what each name but these three has is as before
+abbrev pub KeepsOtherThree : (one two three : List ℕ) → World → World → Type 0
+KeepsOtherThree one two three old new = (other : List ℕ) → other ≢ one → other ≢ two → other ≢ three → new other ≡ old other

@@ -1,0 +1,37 @@
+-- Ranges of bytes at places of a file, and a file over which they are laid.
+use Rattle.std.specs.Prelude.{ℕ, List, [], ◌∷◌, length, map, take, drop}
+use Rattle.outside.specs.World.{overwritten}
+use Rattle.crash_disk.specs.Steps.{IsOutside}
+use Rattle.edit_journal.specs.declared.kept.KeptRange.{KeptRange}
+
+-- bytes, and the place of a file at which the first of them stands
+pub record Span : Type 0 where
+  pub at : ℕ
+  pub bytes : List ℕ
+
+-- a file once bytes were laid over it at a place; no bytes change nothing
+abbrev pub with_laid : List ℕ → ℕ → List ℕ → List ℕ
+with_laid file at [] = file
+with_laid file at (byte ∷ rest) = overwritten file at (byte ∷ rest)
+
+-- a file once ranges were laid over it, one after the other
+abbrev pub laid : List Span → List ℕ → List ℕ
+laid [] file = file
+laid (span ∷ rest) file = laid rest (with_laid file span.at span.bytes)
+
+-- a kept range
+abbrev pub span_of : KeptRange → Span
+span_of range = record { at = range.at; bytes = range.bytes.items }
+
+-- kept ranges
+abbrev pub spans_of : List KeptRange → List Span
+spans_of ranges = map span_of ranges
+
+-- a place that is in none of these ranges
+abbrev pub IsOutsideAll : List Span → ℕ → Type 0
+IsOutsideAll [] place = Unit {0}
+IsOutsideAll (span ∷ rest) place = IsOutside span.at (length span.bytes) place × IsOutsideAll rest place
+
+-- the bytes that a file has in a range, as far as the file goes
+abbrev pub saved_bytes : List ℕ → (at len : ℕ) → List ℕ
+saved_bytes file at len = take len (drop at file)

@@ -1,0 +1,89 @@
+-- The undo file of a file that is changed in place. Numbers are stored with the lowest byte first, and bytes past the
+-- end of the undo file count as 0.
+--
+-- Byte 0 is the gate: 1 is open, and any other value is closed, as is the gate of an undo file that is not there. At
+-- byte 8 stands the length of the old file in eight bytes, and at byte 16 the number of saved ranges in four. Range k,
+-- counted from 0, stands at byte 1,024 + 1,040 k: its place in eight bytes, the number of its saved bytes in two, six
+-- bytes 0, and the saved bytes.
+use Rattle.std.specs.Prelude.{◌≡◌, ◌≢◌, ℕ, zero, suc, ◌+◌, ◌*◌, ◌^◌, ◌≤◌, Bool, ◌&&◌, ◌||◌, true, nat_eq, nat_le, if◌then◌else◌, List, [], ◌∷◌, length, take, Option, None, Some, unwrap_or}
+use Rattle.quota_types.specs.Bytes.{byte_at, number_at}
+use Rattle.edit_journal.specs.Spans.{Span, laid, saved_bytes}
+
+-- the bytes from a place on, so many of them
+abbrev pub bytes_at : List ℕ → ℕ → ℕ → List ℕ
+bytes_at file at zero = []
+bytes_at file at (suc count) = byte_at file at ∷ bytes_at file (suc at) count
+
+-- where a saved range stands
+abbrev pub range_at : ℕ → ℕ
+range_at k = 1024 + 1040 * k
+
+-- a saved range
+abbrev pub saved_span : List ℕ → ℕ → Span
+saved_span undo k = record { at = number_at 8 undo (range_at k); bytes = bytes_at undo (range_at k + 16) (number_at 2 undo (range_at k + 8)) }
+
+-- so many saved ranges, from one on
+abbrev pub saved_spans : List ℕ → ℕ → ℕ → List Span
+saved_spans undo k zero = []
+saved_spans undo k (suc count) = saved_span undo k ∷ saved_spans undo (suc k) count
+
+-- whether a saved range has at most 1,024 bytes and a place of at most 2^42, and stands within the old length where it
+-- has any byte
+abbrev pub span_fits : ℕ → Span → Bool
+span_fits old_length span =
+    nat_le (length span.bytes) 1024
+    && nat_le span.at (2 ^ 42)
+    && (nat_eq (length span.bytes) 0 || nat_le (span.at + length span.bytes) old_length)
+
+-- whether all these ranges do
+abbrev pub spans_fit : ℕ → List Span → Bool
+spans_fit old_length [] = true
+spans_fit old_length (span ∷ rest) = span_fits old_length span && spans_fit old_length rest
+
+-- Whether an undo file changes a file: its gate is open, the file is no shorter than the old one was, there are at most
+-- 12 saved ranges, and each of them fits.
+abbrev pub is_usable : List ℕ → List ℕ → Bool
+is_usable file undo =
+    nat_eq (byte_at undo 0) 1
+    && nat_le (number_at 8 undo 8) (length file)
+    && nat_le (number_at 4 undo 16) 12
+    && spans_fit (number_at 8 undo 8) (saved_spans undo 0 (number_at 4 undo 16))
+
+-- a file with the saved ranges of an undo file laid over it in order, and cut to the old length
+abbrev pub undone : List ℕ → List ℕ → List ℕ
+undone file undo = take (number_at 8 undo 8) (laid (saved_spans undo 0 (number_at 4 undo 16)) file)
+
+-- The file that a recovery makes of a file and its undo file: the old one where the undo file says how it was, and else
+-- the file as it stands.
+abbrev pub recovered : Option (List ℕ) → Option (List ℕ) → Option (List ℕ)
+recovered None undo = None
+recovered (Some file) None = Some file
+recovered (Some file) (Some undo) = Some (if is_usable file undo then undone file undo else file)
+
+-- an undo file with room for its head, and a gate that is closed
+abbrev pub IsClosed : Option (List ℕ) → Type 0
+IsClosed undo = (1024 ≤ length (unwrap_or undo [])) × (byte_at (unwrap_or undo []) 0 ≢ 1)
+
+-- range k of an undo file saves what the old file has in a range
+pub record SavesOne (old : List ℕ) (k at len : ℕ) (undo : List ℕ) : Type 0 where
+  pub low : at ≤ 2 ^ 42
+  pub few : len ≤ 1024
+  pub place : number_at 8 undo (range_at k) ≡ at
+  pub number : number_at 2 undo (range_at k + 8) ≡ length (saved_bytes old at len)
+  pub rest : number_at 6 undo (range_at k + 10) ≡ 0
+  pub bytes : bytes_at undo (range_at k + 16) (length (saved_bytes old at len)) ≡ saved_bytes old at len
+  pub whole : range_at k + 16 + length (saved_bytes old at len) ≤ length undo
+
+-- the ranges of an undo file from range k on save what the old file has in these ranges
+abbrev pub SavesFrom : List ℕ → ℕ → List Span → List ℕ → Type 0
+SavesFrom old k [] undo = Unit {0}
+SavesFrom old k (range ∷ rest) undo = SavesOne old k range.at (length range.bytes) undo × SavesFrom old (suc k) rest undo
+
+-- An undo file saves what the old file has in these ranges, and its length; where the ranges go past the end of the old
+-- file nothing is saved, since a recovery cuts the file.
+pub record Saves (old : List ℕ) (ranges : List Span) (undo : List ℕ) : Type 0 where
+  pub long : 1024 ≤ length undo
+  pub old_length : number_at 8 undo 8 ≡ length old
+  pub count : number_at 4 undo 16 ≡ length ranges
+  pub most : length ranges ≤ 12
+  pub saved : SavesFrom old 0 ranges undo

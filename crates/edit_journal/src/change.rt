@@ -1,0 +1,51 @@
+//! The ranges that are written into the file itself.
+
+ghost use Rattle.std.specs.Prelude.{◌≡◌, ◌≤◌, [], List, ℕ, Some, length, unwrap_or, IsTrue, OnOk, OnErr};
+ghost use Rattle.crash_disk.specs.DiskSeen.{IsKept, Passes};
+ghost use Rattle.crash_disk.specs.Steps.{TearsRange};
+ghost use Rattle.edit_journal.specs.Settled.{TearsRanges};
+ghost use Rattle.edit_journal.specs.Spans.{laid, spans_of, with_laid};
+ghost use Rattle.outside.specs.Count.{Rose};
+ghost use Rattle.outside.specs.World.{with_bytes};
+
+use crate::KeptRange;
+use crash_disk::{Disk, DiskFault};
+
+/// Writes a range into a file.
+///
+/// # Errors
+///
+/// The disk failed. A stop may leave any bytes in the range.
+pub fn write_range<D: Disk>(disk: &mut D, name: &str, range: &KeptRange) -> Result<(), DiskFault>
+    ensures written { OnOk result (IsTrue D.tells → (D.seen disk.new).files name.now
+        ≡ Some (with_laid (unwrap_or ((D.seen disk.old).files name.now) []) range.now.at range.now.bytes.items)) }
+    ensures passes { Passes (TearsRange name.now range.now.at (length range.now.bytes.items)) (D.seen disk.old) (D.seen disk.new) }
+    ensures cause { OnErr result (Rose (D.seen disk.old).faults (D.seen disk.new).faults) }
+    ensures counted { (D.seen disk.old).faults ≤ (D.seen disk.new).faults }
+{
+    disk.write(name, range.at, range.bytes.as_slice())
+}
+
+/// Writes ranges into a file, one after the other, and waits until the file is kept.
+///
+/// # Errors
+///
+/// The disk failed. A stop may leave any bytes in the ranges, and past the old end.
+pub fn write_ranges<D: Disk>(
+    disk: &mut D,
+    name: &str,
+    ranges: &[KeptRange],
+) -> Result<(), DiskFault>
+    ensures written { OnOk result (IsTrue D.tells → (old : List ℕ) → (D.seen disk.old).files name.now ≡ Some old
+        → (D.seen disk.new).files name.now ≡ Some (laid (spans_of ranges.now) old)) }
+    ensures kept { OnOk result (IsTrue D.tells → IsKept name.now (D.seen disk.new)) }
+    ensures passes { Passes (TearsRanges name.now (spans_of ranges.now)) (D.seen disk.old) (D.seen disk.new) }
+    ensures cause { OnErr result (Rose (D.seen disk.old).faults (D.seen disk.new).faults) }
+    ensures counted { (D.seen disk.old).faults ≤ (D.seen disk.new).faults }
+{
+    for range in ranges {
+        write_range(disk, name, range)?;
+    }
+    disk.sync(name)?;
+    Ok(())
+}

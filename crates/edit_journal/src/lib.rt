@@ -1,0 +1,22 @@
+//! A rollback journal, by which a file is changed in place so that a stop of the machine leaves the old file or the new
+//! one.
+//!
+//! Before ranges of a file are written, what the file has there is saved in an undo file beside it, and the gate of the
+//! undo file is opened. Once the ranges are kept on the disk the gate is closed. A recovery lays the saved ranges back
+//! where it finds the gate open.
+//!
+//! The one promise: at each moment of a commit, whatever a stop may leave recovers to the old file or to the new one.
+#![tactic(auto)]
+
+mod change;
+mod commit;
+mod kept;
+pub mod names;
+mod new_undo;
+mod undo_file;
+
+pub use change::{write_range, write_ranges};
+pub use commit::{commit_file, commit_ranges};
+pub use kept::KeptRange;
+pub use new_undo::{make_undo, ready_undo};
+pub use undo_file::{CLOSED, OPEN, save_range, save_ranges, set_gate};
