@@ -3,7 +3,9 @@ pub mod CommitStepLemmas
 pub mod LaidLemmas
 pub mod LoopLemmas
 pub mod MakeLemmas
+pub mod MendLemmas
 pub mod NameLemmas
+pub mod ReadLemmas
 pub mod RecoveredLemmas
 pub mod SavedLemmas
 pub mod TornLemmas

@@ -1,3 +1,4 @@
+pub mod Recovery
 pub mod Settled
 pub mod Spans
 pub mod Undo

@@ -14,6 +14,7 @@ mod kept;
 pub mod names;
 mod new_undo;
 mod undo_file;
+mod undo_reads;
 
 pub use change::{write_range, write_ranges};
 pub use commit::{commit_file, commit_ranges};

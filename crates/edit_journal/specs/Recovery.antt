@@ -1,0 +1,33 @@
+-- What a recovery makes of a file, call by call.
+use Rattle.std.specs.Prelude.{◌≡◌, ◌<◌, ◌≤◌, ℕ, Bool, false, min, List, [], length, Option, None, Some, IsSome, slice_index, unwrap_or}
+use Rattle.outside.specs.World.{World}
+use Rattle.crash_disk.specs.DiskSeen.{DiskSeen}
+use Rattle.crash_disk.specs.Steps.{ChangesFile}
+use Rattle.quota_types.specs.Bytes.{number_at}
+use Rattle.edit_journal.specs.Spans.{IsOutsideAll, Span}
+use Rattle.edit_journal.specs.Undo.{is_usable, recovered, saved_spans}
+
+-- no file changes
+abbrev pub IsSame : World → World → Type 0
+IsSame old new = new ≡ old
+
+-- whether a recovery changes a file
+abbrev pub is_mended : Option (List ℕ) → Option (List ℕ) → Bool
+is_mended None undo = false
+is_mended (Some file) None = false
+is_mended (Some file) (Some undo) = is_usable file undo
+
+-- A file is mended within ranges, and cut to a length: it is there if it was, it has at least the lesser of both lengths,
+-- and below the length it is the same outside of the ranges.
+pub record Mends (len : ℕ) (ranges : List Span) (old new : Option (List ℕ)) : Type 0 where
+  pub there : IsSome old → IsSome new
+  pub no_shorter : min len (length (unwrap_or old [])) ≤ length (unwrap_or new [])
+  pub same : (place : ℕ) → place < len → place < length (unwrap_or old []) → IsOutsideAll ranges place → slice_index (unwrap_or new []) place ≡ slice_index (unwrap_or old []) place
+
+-- one name's file is mended by what an undo file saves
+abbrev pub MendsFile : List ℕ → List ℕ → World → World → Type 0
+MendsFile name undo = ChangesFile (Mends (number_at 8 undo 8) (saved_spans undo 0 (number_at 4 undo 16))) name
+
+-- a recovery of these files makes what one of some image of a disk makes
+abbrev pub RecoversAsBefore : (name undo : List ℕ) → DiskSeen → World → Type 0
+RecoversAsBefore name undo disk image = (before : World) × disk.images before × (recovered (image name) (image undo) ≡ recovered (before name) (before undo))

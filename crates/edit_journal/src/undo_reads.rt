@@ -1,0 +1,120 @@
+//! What is read of an undo file.
+
+ghost use Rattle.std.specs.Prelude.{◌≡◌, ◌<◌, ◌≤◌, ◌+◌, ◌^◌, ◌&&◌, ◌||◌, [], ℕ, length, nat_eq, nat_le, slice_index, unwrap_or, IfOk, IsTrue, OnOk, OnErr};
+ghost use Rattle.crash_disk.specs.DiskSeen.{Passes};
+ghost use Rattle.edit_journal.specs.Recovery.{IsSame};
+ghost use Rattle.edit_journal.specs.Undo.{range_at, saved_spans, spans_fit};
+ghost use Rattle.outside.specs.Count.{Rose};
+ghost use Rattle.quota_types.specs.Bytes.{byte_at, number_at};
+
+use crash_disk::{Disk, DiskFault};
+use quota_types::{le16_at, le32_at, le64_at};
+
+/// The gate of an undo file, the length of the old file, and the number of saved ranges.
+#[derive(Clone, Copy)]
+pub(crate) struct UndoHead {
+    pub gate: u8,
+    pub old_length: u64,
+    pub count: u32,
+}
+
+/// The place of a saved range, and the number of its saved bytes.
+#[derive(Clone, Copy)]
+pub(crate) struct SpanHead {
+    pub at: u64,
+    pub saved: u16,
+}
+
+/// Reads bytes of a file from a place on; those past its end are 0.
+pub(crate) fn read_padded<D: Disk>(
+    disk: &mut D,
+    name: &str,
+    at: u64,
+    buf: &mut [u8],
+) -> Result<(), DiskFault>
+    requires { length buf.old ≤ 1024 }
+    ensures same { OnOk result (IsTrue D.tells → (j : ℕ) → j < length buf.old
+        → slice_index buf.new j ≡ byte_at (unwrap_or ((D.seen disk.old).files name.now) []) (at + j)) }
+    ensures cause { OnErr result (Rose (D.seen disk.old).faults (D.seen disk.new).faults) }
+    ensures counted { (D.seen disk.old).faults ≤ (D.seen disk.new).faults }
+    ensures looks { Passes IsSame (D.seen disk.old) (D.seen disk.new) }
+{
+    let count = disk.read(name, at, buf)?;
+    for place in count..buf.len() {
+        buf[place] = 0;
+    }
+    Ok(())
+}
+
+/// Reads the head of an undo file.
+pub(crate) fn read_head<D: Disk>(disk: &mut D, undo: &str) -> Result<UndoHead, DiskFault>
+    ensures gate { IfOk result (λ head. IsTrue D.tells
+        → head.gate ≡ byte_at (unwrap_or ((D.seen disk.old).files undo.now) []) 0) }
+    ensures old_length { IfOk result (λ head. IsTrue D.tells
+        → head.old_length ≡ number_at 8 (unwrap_or ((D.seen disk.old).files undo.now) []) 8) }
+    ensures count { IfOk result (λ head. IsTrue D.tells
+        → head.count ≡ number_at 4 (unwrap_or ((D.seen disk.old).files undo.now) []) 16) }
+    ensures cause { OnErr result (Rose (D.seen disk.old).faults (D.seen disk.new).faults) }
+    ensures counted { (D.seen disk.old).faults ≤ (D.seen disk.new).faults }
+    ensures looks { Passes IsSame (D.seen disk.old) (D.seen disk.new) }
+{
+    let mut bytes = [0; 20];
+    read_padded(disk, undo, 0, &mut bytes)?;
+    Ok(UndoHead {
+        gate: bytes[0],
+        old_length: le64_at(&bytes, 8),
+        count: le32_at(&bytes, 16),
+    })
+}
+
+/// Reads the head of a saved range.
+pub(crate) fn read_span<D: Disk>(disk: &mut D, undo: &str, k: u32) -> Result<SpanHead, DiskFault>
+    requires { k < 12 }
+    ensures place { IfOk result (λ span. IsTrue D.tells
+        → span.at ≡ number_at 8 (unwrap_or ((D.seen disk.old).files undo.now) []) (range_at k)) }
+    ensures number { IfOk result (λ span. IsTrue D.tells
+        → span.saved ≡ number_at 2 (unwrap_or ((D.seen disk.old).files undo.now) []) (range_at k + 8)) }
+    ensures cause { OnErr result (Rose (D.seen disk.old).faults (D.seen disk.new).faults) }
+    ensures counted { (D.seen disk.old).faults ≤ (D.seen disk.new).faults }
+    ensures looks { Passes IsSame (D.seen disk.old) (D.seen disk.new) }
+{
+    let mut bytes = [0; 16];
+    read_padded(disk, undo, 1024 + 1040 * u64::from(k), &mut bytes)?;
+    Ok(SpanHead {
+        at: le64_at(&bytes, 0),
+        saved: le16_at(&bytes, 8),
+    })
+}
+
+/// Whether a saved range fits.
+fn fits(old_length: u64, span: SpanHead) -> bool
+    ensures { result ≡ (nat_le span.saved 1024 && nat_le span.at (2 ^ 42)
+        && (nat_eq span.saved 0 || nat_le (span.at + span.saved) old_length)) }
+{
+    span.saved <= 1024
+        && span.at <= 1 << 42
+        && (span.saved == 0 || span.at + u64::from(span.saved) <= old_length)
+}
+
+/// Whether all saved ranges fit.
+pub(crate) fn all_fit<D: Disk>(
+    disk: &mut D,
+    undo: &str,
+    old_length: u64,
+    count: u32,
+) -> Result<bool, DiskFault>
+    requires { count ≤ 12 }
+    ensures fit { IfOk result (λ fit. IsTrue D.tells → fit
+        ≡ spans_fit old_length (saved_spans (unwrap_or ((D.seen disk.old).files undo.now) []) 0 count)) }
+    ensures cause { OnErr result (Rose (D.seen disk.old).faults (D.seen disk.new).faults) }
+    ensures counted { (D.seen disk.old).faults ≤ (D.seen disk.new).faults }
+    ensures looks { Passes IsSame (D.seen disk.old) (D.seen disk.new) }
+{
+    for k in 0..count {
+        let span = read_span(disk, undo, k)?;
+        if !fits(old_length, span) {
+            return Ok(false);
+        }
+    }
+    Ok(true)
+}
