@@ -1,6 +1,7 @@
 pub mod CommitLemmas
 pub mod CommitStepLemmas
 pub mod LaidLemmas
+pub mod LayLemmas
 pub mod LoopLemmas
 pub mod MakeLemmas
 pub mod MendLemmas

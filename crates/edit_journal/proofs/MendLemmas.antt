@@ -1,17 +1,17 @@
 -- A file that is mended by what an undo file saves.
-use Rattle.std.proofs.Common.{◌≡◌, ◌≢◌, ◌⊎◌, inl, inr, ⊎_elim, ℕ, zero, suc, ◌+◌, ◌-◌, ◌<◌, ◌≤◌, min, Bool, true, false, ◌&&◌, get_or, refl, List, [], ◌∷◌, ◌++◌, length, take, Option, Some, None, unwrap_or, IsSome, sym, ap, ◌∙◌, subst, arith, length-take}
+use Rattle.std.proofs.Common.{◌≡◌, inl, inr, ℕ, zero, suc, ◌+◌, ◌-◌, ◌<◌, ◌≤◌, Bool, true, false, ◌&&◌, get_or, refl, List, [], ◌∷◌, ◌++◌, length, take, Option, Some, None, unwrap_or, sym, ap, ◌∙◌, subst, arith, length-take}
 use Rattle.std.specs.Prelude.{nat_eq, nat_le}
-use Rattle.std.proofs.lemmas.Bool.{cases_lt, cond-false, cond-true, eq-eqb, eqb-true, false≢true, le-leb, leb-true}
+use Rattle.std.proofs.lemmas.Bool.{cases_lt, cond-true, eq-eqb, eqb-true, false≢true, le-leb, leb-true}
 use Rattle.std.proofs.lemmas.List.{ext_get_or, get_or-take}
 use Rattle.outside.proofs.FrameLemmas.{keeps_others-then}
 use Rattle.outside.specs.World.{World}
 use Rattle.crash_disk.specs.DiskSeen.{DiskSeen, Passes}
-use Rattle.crash_disk.specs.Steps.{ChangesFile, CutShort, IsOutside, TearsRange, Torn}
+use Rattle.crash_disk.specs.Steps.{ChangesFile, CutShort, IsOutside, TearsRange}
 use Rattle.crash_disk.proofs.StopLemmas.{passes-then, passes-wider}
 use Rattle.quota_types.specs.Bytes.{byte_at, number_at}
 use Rattle.edit_journal.specs.Recovery.{Mends, MendsFile, is_mended}
 use Rattle.edit_journal.specs.Spans.{IsOutsideAll, Span, laid, with_laid}
-use Rattle.edit_journal.specs.Undo.{is_usable, recovered, saved_span, saved_spans, spans_fit, undone}
+use Rattle.edit_journal.specs.Undo.{is_usable, recovered, saved_span, saved_spans, spans_fit}
 use Rattle.edit_journal.proofs.LaidLemmas.{get_or-with_laid_before, get_or-with_laid_behind, get_or-with_laid_inside, laid-more, length-laid}
 
 -- one range that is laid over two files that are the same outside of it

@@ -1,5 +1,5 @@
 -- What is read of an undo file.
-use Rattle.std.proofs.Common.{◌≡◌, ◌⊎◌, inl, inr, ℕ, zero, suc, ◌+◌, ◌-◌, ◌<◌, ◌≤◌, ◌^◌, Bool, true, false, ◌&&◌, ◌||◌, get_or, refl, List, [], ◌∷◌, length, take, drop, sym, ap, ◌∙◌, subst, arith, length-take, length-drop}
+use Rattle.std.proofs.Common.{◌≡◌, ℕ, zero, suc, ◌+◌, ◌<◌, ◌≤◌, ◌^◌, Bool, true, false, ◌&&◌, ◌||◌, get_or, refl, List, length, take, drop, sym, ap, ◌∙◌, subst, arith, length-take, length-drop}
 use Rattle.std.specs.Prelude.{nat_eq, nat_le}
 use Rattle.std.proofs.lemmas.Bool.{false≢true}
 use Rattle.std.proofs.lemmas.List.{get_or-drop, get_or-take, get_or_past}
@@ -9,9 +9,9 @@ use Rattle.crash_disk.proofs.StopLemmas.{passes-nothing, passes-then, passes-wid
 use Rattle.quota_types.specs.Bytes.{byte_at, number_at}
 use Rattle.quota_types.proofs.BytesLemmas.{number_at-drop, number_same}
 use Rattle.edit_journal.specs.Recovery.{IsSame}
-use Rattle.edit_journal.specs.Spans.{Span}
-use Rattle.edit_journal.specs.Undo.{range_at, saved_span, saved_spans, span_fits, spans_fit}
+use Rattle.edit_journal.specs.Undo.{bytes_at, range_at, saved_span, saved_spans, span_fits, spans_fit}
 use Rattle.edit_journal.proofs.SavedLemmas.{length-bytes_at}
+use Rattle.edit_journal.proofs.WrittenLemmas.{bytes_at-list}
 
 -- bytes that were read
 pub padded-read : (file : List ℕ) (at len count : ℕ) (buf : List ℕ) → count ≡ length (take len (drop at file)) → take count buf ≡ take len (drop at file) → (j : ℕ) → j < count → get_or buf j 0 ≡ byte_at file (at + j)
@@ -87,3 +87,8 @@ fit-each old_length undo k (suc count) fit zero below =
 fit-each old_length undo k (suc count) fit (suc i) below =
     let there : k + suc i ≡ suc k + i = omega arith in
     ap (λ (n : ℕ). span_fits old_length (saved_span undo n)) there ∙ fit-each old_length undo (suc k) count (and_second _ _ fit) i (omega (arith, below))
+
+-- bytes that were read, as those of the file
+pub padded-bytes : (file buf : List ℕ) (at len : ℕ) → length buf ≡ len → ((j : ℕ) → j < len → get_or buf j 0 ≡ byte_at file (at + j)) → buf ≡ bytes_at file at len
+padded-bytes file buf at len long same =
+    sym (bytes_at-list file at buf (λ j below. sym (same j (omega (arith, below, long))))) ∙ ap (λ (n : ℕ). bytes_at file at n) long

@@ -20,7 +20,7 @@ get_or-bytes_at file at (suc count) (suc j) below =
     get_or-bytes_at file (suc at) count j (omega (arith, below)) ∙ ap (λ (p : ℕ). byte_at file p) same
 
 -- the bytes from a place on, as a list that has the same ones
-bytes_at-list : (file : List ℕ) (at : ℕ) (bytes : List ℕ) → ((j : ℕ) → j < length bytes → get_or file (at + j) 0 ≡ get_or bytes j 0) → bytes_at file at (length bytes) ≡ bytes
+pub bytes_at-list : (file : List ℕ) (at : ℕ) (bytes : List ℕ) → ((j : ℕ) → j < length bytes → get_or file (at + j) 0 ≡ get_or bytes j 0) → bytes_at file at (length bytes) ≡ bytes
 bytes_at-list file at bytes same =
     ext_get_or 0 (bytes_at file at (length bytes)) bytes (length-bytes_at file at (length bytes))
     (λ j below. let inside : j < length bytes = omega (arith, below, length-bytes_at file at (length bytes)) in get_or-bytes_at file at (length bytes) j inside ∙ same j inside)

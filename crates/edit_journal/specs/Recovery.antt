@@ -1,11 +1,11 @@
 -- What a recovery makes of a file, call by call.
-use Rattle.std.specs.Prelude.{◌≡◌, ◌<◌, ◌≤◌, ℕ, Bool, false, min, List, [], length, Option, None, Some, IsSome, slice_index, unwrap_or}
+use Rattle.std.specs.Prelude.{◌≡◌, ◌<◌, ◌≤◌, ℕ, Bool, true, false, min, List, [], length, Option, None, Some, IsSome, slice_index, unwrap_or}
 use Rattle.outside.specs.World.{World}
 use Rattle.crash_disk.specs.DiskSeen.{DiskSeen}
 use Rattle.crash_disk.specs.Steps.{ChangesFile}
 use Rattle.quota_types.specs.Bytes.{number_at}
 use Rattle.edit_journal.specs.Spans.{IsOutsideAll, Span}
-use Rattle.edit_journal.specs.Undo.{is_usable, recovered, saved_spans}
+use Rattle.edit_journal.specs.Undo.{is_usable, recovered, saved_spans, spans_fit}
 
 -- no file changes
 abbrev pub IsSame : World → World → Type 0
@@ -31,3 +31,9 @@ MendsFile name undo = ChangesFile (Mends (number_at 8 undo 8) (saved_spans undo 
 -- a recovery of these files makes what one of some image of a disk makes
 abbrev pub RecoversAsBefore : (name undo : List ℕ) → DiskSeen → World → Type 0
 RecoversAsBefore name undo disk image = (before : World) × disk.images before × (recovered (image name) (image undo) ≡ recovered (before name) (before undo))
+
+-- an undo file says that the old file had this length, and saves so many ranges, each of which fits
+pub record Heads (old_length count : ℕ) (undo : List ℕ) : Type 0 where
+  pub long : number_at 8 undo 8 ≡ old_length
+  pub many : number_at 4 undo 16 ≡ count
+  pub fit : spans_fit old_length (saved_spans undo 0 count) ≡ true

@@ -13,6 +13,7 @@ mod commit;
 mod kept;
 pub mod names;
 mod new_undo;
+mod recovery;
 mod undo_file;
 mod undo_reads;
 

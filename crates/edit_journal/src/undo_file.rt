@@ -39,7 +39,12 @@ pub fn set_gate<D: Disk>(disk: &mut D, undo: &str, gate: u8) -> Result<(), DiskF
 }
 
 /// Writes bytes into a file, if there are any.
-fn write_some<D: Disk>(disk: &mut D, name: &str, at: u64, bytes: &[u8]) -> Result<(), DiskFault>
+pub(crate) fn write_some<D: Disk>(
+    disk: &mut D,
+    name: &str,
+    at: u64,
+    bytes: &[u8],
+) -> Result<(), DiskFault>
     requires few { length bytes.now ≤ 1024 }
     requires place { at ≤ 2 ^ 42 }
     ensures written { OnOk result (IsTrue D.tells → unwrap_or ((D.seen disk.new).files name.now) []

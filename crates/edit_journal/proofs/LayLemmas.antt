@@ -1,0 +1,77 @@
+-- A saved range that is laid back.
+use Rattle.std.proofs.Common.{◌≡◌, ℕ, ◌+◌, ◌<◌, ◌≤◌, ◌^◌, Bool, true, false, ◌&&◌, ◌||◌, refl, List, [], length, take, Option, Some, None, IsSome, unwrap_or, option_map, sym, ap, ◌∙◌, subst, arith}
+use Rattle.std.specs.Prelude.{nat_eq, nat_le}
+use Rattle.std.proofs.lemmas.Bool.{false≢true, leb-true}
+use Rattle.outside.proofs.WorldLemmas.{with_file-at}
+use Rattle.outside.specs.World.{World}
+use Rattle.crash_disk.specs.DiskSeen.{DiskSeen, Passes}
+use Rattle.crash_disk.specs.Steps.{IsOutside, TearsRange, with_cut}
+use Rattle.quota_types.specs.Bytes.{number_at}
+use Rattle.edit_journal.specs.Recovery.{IsSame, MendsFile}
+use Rattle.edit_journal.specs.Spans.{Span, laid, with_laid}
+use Rattle.edit_journal.specs.Undo.{bytes_at, saved_span, saved_spans, span_fits, spans_fit, undone}
+use Rattle.edit_journal.proofs.MendLemmas.{laid_back-more, mends_file-span, mends_file-then}
+use Rattle.edit_journal.proofs.ReadLemmas.{fit-each, looks-wider}
+use Rattle.edit_journal.proofs.TornLemmas.{tears-then}
+
+and_two : (a b c : Bool) → (a && b && c) ≡ true → (a ≡ true) × (b ≡ true)
+and_two true true c is = (refl, refl)
+and_two false b c is = absurd (false≢true is)
+and_two true false c is = absurd (false≢true is)
+
+-- a saved range that fits has few bytes and a low place
+pub span-parts : (old_length : ℕ) (span : Span) → span_fits old_length span ≡ true → (length span.bytes ≤ 1024) × (span.at ≤ 2 ^ 42)
+span-parts old_length span fit =
+    let two = and_two (nat_le (length span.bytes) 1024) (nat_le span.at (2 ^ 42)) (nat_eq (length span.bytes) 0 || nat_le (span.at + length span.bytes) old_length) fit in
+    (leb-true _ _ two.0, leb-true _ _ two.1)
+
+-- a file that is torn within a range once other files were read
+pub tears-looks : (name : List ℕ) (at len place count : ℕ) (a b c : DiskSeen) → Passes IsSame a b → at ≡ place → len ≡ count → Passes (TearsRange name at len) b c → Passes (TearsRange name place count) a c
+tears-looks name at len place count a b c looks here many tears =
+    tears-then (IsOutside place count) name a b c
+    (looks-wider (TearsRange name place count) a b (λ files. (record { there = λ is. is; no_shorter = omega arith; same = λ p stays below. refl }, λ other differ. refl)) looks)
+    (subst (λ (p : ℕ). Passes (TearsRange name p count) b c) here (subst (λ (n : ℕ). Passes (TearsRange name at n) b c) many tears))
+
+-- a range that is laid over a file once other files were read
+pub laid-looks : (a b c : DiskSeen) (name undo : List ℕ) (at place from start len count : ℕ) → Passes IsSame a b → at ≡ place → from ≡ start → len ≡ count
+    → unwrap_or (c.files name) [] ≡ with_laid (unwrap_or (b.files name) []) at (bytes_at (unwrap_or (b.files undo) []) from len)
+    → unwrap_or (c.files name) [] ≡ with_laid (unwrap_or (a.files name) []) place (bytes_at (unwrap_or (a.files undo) []) start count)
+laid-looks a b c name undo at place from start len count looks here there many laid =
+    laid
+    ∙ ap (λ (f : World). with_laid (unwrap_or (f name) []) at (bytes_at (unwrap_or (f undo) []) from len)) looks.follows.read
+    ∙ ap (λ (p : ℕ). with_laid (unwrap_or (a.files name) []) p (bytes_at (unwrap_or (a.files undo) []) from len)) here
+    ∙ ap (λ (p : ℕ). with_laid (unwrap_or (a.files name) []) place (bytes_at (unwrap_or (a.files undo) []) p len)) there
+    ∙ ap (λ (n : ℕ). with_laid (unwrap_or (a.files name) []) place (bytes_at (unwrap_or (a.files undo) []) start n)) many
+
+-- one of the saved ranges fits, as an undo file has it that is the same
+pub fit-here : (old_length : ℕ) (undo there : List ℕ) (k count : ℕ) → there ≡ undo → spans_fit old_length (saved_spans undo 0 count) ≡ true → k < count → span_fits old_length (saved_span there k) ≡ true
+fit-here old_length undo there k count same fit below =
+    let here : k ≡ 0 + k = omega arith in
+    ap (λ (f : List ℕ). span_fits old_length (saved_span f k)) same
+    ∙ ap (λ (n : ℕ). span_fits old_length (saved_span undo n)) here
+    ∙ fit-each old_length undo 0 count fit k below
+
+-- a file that was mended is mended still once one more saved range is laid back
+pub spans-mended : (name undo there : List ℕ) (k count : ℕ) (a b c : DiskSeen) → there ≡ undo → number_at 4 undo 16 ≡ count → k < count → Passes (MendsFile name undo) a b
+    → Passes (TearsRange name (saved_span there k).at (length (saved_span there k).bytes)) b c → Passes (MendsFile name undo) a c
+spans-mended name undo there k count a b c same counts below before tears =
+    mends_file-then name undo a b c before
+    (mends_file-span name undo k b c (omega (arith, below, counts)) (subst (λ (f : List ℕ). Passes (TearsRange name (saved_span f k).at (length (saved_span f k).bytes)) b c) same tears))
+
+-- the same of the bytes that are read
+pub spans-laid : (undo there file mid new : List ℕ) (k : ℕ) → there ≡ undo → mid ≡ laid (saved_spans undo 0 k) file → new ≡ with_laid mid (saved_span there k).at (saved_span there k).bytes → new ≡ laid (saved_spans undo 0 (k + 1)) file
+spans-laid undo there file mid new k same before one =
+    laid_back-more undo file mid new k before (one ∙ ap (λ (f : List ℕ). with_laid mid (saved_span f k).at (saved_span f k).bytes) same)
+
+some-take : (len : ℕ) (file : Option (List ℕ)) → IsSome file → option_map (take len) file ≡ Some (take len (unwrap_or file []))
+some-take len (Some file) is = refl
+some-take len None is = absurd (false≢true is)
+
+-- a file that was laid back and cut to the old length is what its undo file makes of it
+pub undone-cut : (name undo file : List ℕ) (a b c : World) → a name ≡ Some file → (IsSome (a name) → IsSome (b name))
+    → unwrap_or (b name) [] ≡ laid (saved_spans undo 0 (number_at 4 undo 16)) (unwrap_or (a name) []) → c ≡ with_cut b name (number_at 8 undo 8) → c name ≡ Some (undone file undo)
+undone-cut name undo file a b c was there laid_back cut =
+    ap (λ (f : World). f name) cut
+    ∙ with_file-at b name (option_map (take (number_at 8 undo 8)) (b name))
+    ∙ some-take (number_at 8 undo 8) (b name) (there (subst (λ (f : Option (List ℕ)). IsSome f) (sym was) refl))
+    ∙ ap (λ (f : List ℕ). Some (take (number_at 8 undo 8) f)) (laid_back ∙ ap (λ (f : Option (List ℕ)). laid (saved_spans undo 0 (number_at 4 undo 16)) (unwrap_or f [])) was)
