@@ -64,7 +64,7 @@ changes-idle change laws old new told idle set read same bounded = record {
 -- it was done
 pub changes-done : (change : FileChange) (laws : FileLaws) (old new : FileAt) (told : Unit {0}) → IsWanted change laws old
     → ((value : QuotaValue) → old.holds value → new.holds (changed_value change value))
-    → ((value : QuotaValue) → old.holds value → laws.makes old.seen.format change old.seen.name old.store.files new.store.files)
+    → ((value : QuotaValue) → old.holds value → laws.makes old.seen change old.seen.name old.store.files new.store.files)
     → (IsTrue laws.tells → IsSynced old.seen.name old.store new.store) → new.seen ≡ old.seen → ReplacesOne old.seen.name old.store new.store
     → IsBounded change laws old new → Changes change laws old new (Ok told)
 changes-done change laws old new told wanted set makes synced same leaves bounded = record {
@@ -127,7 +127,7 @@ changes-refused change laws old new fault other cause may passes busy counted st
 -- old file and one that the change would have made and that stands for the changed value.
 pub record IsTorn (change : FileChange) (laws : FileLaws) (old : FileAt) (files : World) : Type 0 where
   pub left : (value : QuotaValue) → old.holds value → (files old.seen.name ≡ old.store.files old.seen.name)
-      ⊎ IsLeft (laws.makes old.seen.format change old.seen.name) (λ bytes. laws.stands_for old.seen.format bytes (changed_value change value))
+      ⊎ IsLeft (laws.makes old.seen change old.seen.name) (λ bytes. laws.stands_for old.seen.format bytes (changed_value change value))
       (laws.may_leave old.seen.format change) old.seen.name old.store.files files
   pub between : IsTrue laws.tells → (files old.seen.name ≡ old.store.files old.seen.name)
       ⊎ ((after : Option (List ℕ)) × laws.may_leave old.seen.format change (old.store.files old.seen.name) after (files old.seen.name))
@@ -216,7 +216,7 @@ changes-failed change laws old new wanted rose may counted same leaves bounded =
 pub changes-anew : (change : FileChange) (laws : FileLaws) (old new : FileAt) (result : Result (Unit {0}) FileFault) → IsWanted change laws old
     → laws.may_refuse old.seen.format Store → laws.may_refuse old.seen.format Memory
     → OnOk result ((value : QuotaValue) → old.holds value → new.holds (changed_value change value))
-    → OnOk result ((value : QuotaValue) → old.holds value → laws.makes old.seen.format change old.seen.name old.store.files new.store.files)
+    → OnOk result ((value : QuotaValue) → old.holds value → laws.makes old.seen change old.seen.name old.store.files new.store.files)
     → OnOk result (IsTrue laws.tells → IsSynced old.seen.name old.store new.store)
     → OnOk result (new.seen ≡ old.seen)
     → IfErr result (IsRewriteFault old.store.faults new.store.faults)
@@ -242,7 +242,7 @@ pub record IsWiderAt (change : FileChange) (laws wider : FileLaws) (old : FileAt
   pub stands_for : (bytes : List ℕ) (value : QuotaValue) → laws.stands_for old.seen.format bytes value → wider.stands_for old.seen.format bytes value
   pub reads : laws.change_reads old.seen change ≤ wider.change_reads old.seen change
   pub writes : laws.change_writes old.seen change ≤ wider.change_writes old.seen change
-  pub makes : (files : World) → laws.makes old.seen.format change old.seen.name old.store.files files → wider.makes old.seen.format change old.seen.name old.store.files files
+  pub makes : (files : World) → laws.makes old.seen change old.seen.name old.store.files files → wider.makes old.seen change old.seen.name old.store.files files
   pub may_leave : (any : FileChange) (before after left : Option (List ℕ)) → laws.may_leave old.seen.format any before after left → wider.may_leave old.seen.format any before after left
   pub may_refuse : (fault : FileFault) → laws.may_refuse old.seen.format fault → wider.may_refuse old.seen.format fault
   pub lacks : (value : QuotaValue) (blocks limit : ℕ) → old.holds value → LacksRoom laws old change (changed_value change value) blocks limit → LacksRoom wider old change (changed_value change value) blocks limit
@@ -260,8 +260,8 @@ some_stands None P Q map stands = stands
 some_stands (Some bytes) P Q map stands = map bytes stands
 
 left-wider : (change : FileChange) (laws wider : FileLaws) (old : FileAt) (new : World) (value : QuotaValue) → IsWiderAt change laws wider old
-    → IsLeft (laws.makes old.seen.format change old.seen.name) (StandsForEdited (edit_by change) laws old value) (laws.may_leave old.seen.format change) old.seen.name old.store.files new
-    → IsLeft (wider.makes old.seen.format change old.seen.name) (StandsForEdited (edit_by change) wider old value) (wider.may_leave old.seen.format change) old.seen.name old.store.files new
+    → IsLeft (laws.makes old.seen change old.seen.name) (StandsForEdited (edit_by change) laws old value) (laws.may_leave old.seen.format change) old.seen.name old.store.files new
+    → IsLeft (wider.makes old.seen change old.seen.name) (StandsForEdited (edit_by change) wider old value) (wider.may_leave old.seen.format change) old.seen.name old.store.files new
 left-wider change laws wider old new value so left = record {
   after = left.after;
   made = so.makes left.after left.made;

@@ -116,7 +116,7 @@ module _ (edit next : ValueEdit) (laws : FileLaws) (old new : FileAt) (held : Qu
     left = λ ended value holds.
         rw (same.change value holds)
         (subst (λ (edited : Result QuotaValue (Field × ℕ)). (new.store.files old.seen.name ≡ old.store.files old.seen.name)
-        ⊎ IsLeft (laws.makes old.seen.format (next.change value) old.seen.name) (λ bytes. IsOkAnd edited (laws.stands_for old.seen.format bytes))
+        ⊎ IsLeft (laws.makes old.seen (next.change value) old.seen.name) (λ bytes. IsOkAnd edited (laws.stands_for old.seen.format bytes))
         (laws.may_leave old.seen.format (next.change value)) old.seen.name old.store.files new.store.files)
         (sym (same.edited value holds)) (refused.left ended value (up.stays value holds)));
     between = refused.between;

@@ -11,13 +11,13 @@ use Rattle.outside.specs.World.{World}
 use Rattle.quota_blocks.specs.declared.quota_file.FileFault.{FileFault}
 
 -- What the type of an opened file and that of its store say of all their calls: whether the store tells its files, for
--- which value a file of a format stands, what a change makes of the files of a format, what one that failed may leave, for
--- which values a change lacks room in a file, the faults that may come, and how many calls of `read` and of `write` a change
--- makes at most.
+-- which value a file of a format stands, what a change of an opened file makes of the files, what one that failed may leave,
+-- for which values a change lacks room in a file, the faults that may come, and how many calls of `read` and of `write` a
+-- change makes at most.
 pub record FileLaws : Type 1 where
   pub tells : Bool
   pub stands_for : Format → List ℕ → QuotaValue → Type 0
-  pub makes : Format → FileChange → List ℕ → World → World → Type 0
+  pub makes : FileSeen → FileChange → List ℕ → World → World → Type 0
   pub may_leave : Format → FileChange → (old after left : Option (List ℕ)) → Type 0
   pub lacks_room : FileSeen → Option (List ℕ) → FileChange → QuotaValue → ℕ → ℕ → Type 0
   pub may_refuse : Format → FileFault → Type 0
@@ -25,7 +25,7 @@ pub record FileLaws : Type 1 where
   pub change_writes : FileSeen → FileChange → ℕ
 
 -- these laws
-abbrev pub laws_of : Bool → (Format → List ℕ → QuotaValue → Type 0) → (Format → FileChange → List ℕ → World → World → Type 0)
+abbrev pub laws_of : Bool → (Format → List ℕ → QuotaValue → Type 0) → (FileSeen → FileChange → List ℕ → World → World → Type 0)
     → (Format → FileChange → Option (List ℕ) → Option (List ℕ) → Option (List ℕ) → Type 0)
     → (FileSeen → Option (List ℕ) → FileChange → QuotaValue → ℕ → ℕ → Type 0) → (Format → FileFault → Type 0)
     → (change_reads change_writes : FileSeen → FileChange → ℕ) → FileLaws
@@ -73,7 +73,7 @@ StandsForEdited edit laws old value = λ bytes. IsOkAnd (edit.edited value) (law
 pub record IsDone (edit : ValueEdit) (laws : FileLaws) (old new : FileAt) : Type 0 where
   pub set : (value : QuotaValue) → old.holds value → IsOkAnd (edit.edited value) new.holds
   pub makes : (value : QuotaValue) → old.holds value → edit.is_idle value ≡ false
-      → laws.makes old.seen.format (edit.change value) old.seen.name old.store.files new.store.files
+      → laws.makes old.seen (edit.change value) old.seen.name old.store.files new.store.files
   pub room : IsTrue edit.needs_room → (value : QuotaValue) (blocks limit : ℕ) → old.holds value → edit.is_idle value ≡ false
       → IfOk (edit.edited value) (λ edited. ¬ (LacksRoom laws old (edit.change value) edited blocks limit))
   pub synced : IsTrue laws.tells → IsSynced old.seen.name old.store new.store
@@ -98,7 +98,7 @@ pub record IsRefused (edit : ValueEdit) (laws : FileLaws) (old new : FileAt) (fa
   pub fits : new.seen.usable ≡ false → (value : QuotaValue) → old.holds value → IsOk (edit.edited value)
   pub left : new.seen.usable ≡ false → (value : QuotaValue) → old.holds value
       → (new.store.files old.seen.name ≡ old.store.files old.seen.name)
-      ⊎ IsLeft (laws.makes old.seen.format (edit.change value) old.seen.name) (StandsForEdited edit laws old value)
+      ⊎ IsLeft (laws.makes old.seen (edit.change value) old.seen.name) (StandsForEdited edit laws old value)
       (laws.may_leave old.seen.format (edit.change value)) old.seen.name old.store.files new.store.files
   pub between : IsTrue laws.tells → (new.store.files old.seen.name ≡ old.store.files old.seen.name)
       ⊎ ((change : FileChange) × (after : Option (List ℕ))

@@ -49,6 +49,17 @@ impl FileUse {
         fault
     }
 
+    /// Counts a refused look-up, and answers its fault. The file may be used again, also where the store failed.
+    pub fn refused_look_up(&mut self, fault: FileFault) -> FileFault
+        requires { IsTrue self.old.usable }
+        ensures same { result ≡ fault }
+        ensures counted { (name : List ℕ) (format : Format) (limit : ℕ) → CountsRefusal true
+            (seen_in self.old name format limit) (seen_in self.new name format limit) }
+    {
+        self.refusals = self.refusals.saturating_add(1);
+        fault
+    }
+
     /// Puts a file of these bytes in the place of the one of this name, which is the opened file's.
     ///
     /// # Errors

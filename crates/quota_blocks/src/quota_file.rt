@@ -122,9 +122,9 @@ pub trait QuotaFile<S: Store> {
     /// so many.
     ghost lacks_room: { FileSeen → Option (List ℕ) → FileChange → QuotaValue → ℕ → ℕ → Type 0 };
 
-    /// What a change of the file of this name, which has this format, makes of the files, as far as the format says more
-    /// than which value the file stands for.
-    ghost makes: { Format → FileChange → List ℕ → World → World → Type 0 };
+    /// What a change of a file that is seen so, and has this name, makes of the files, as far as its format says more than which
+    /// value the file stands for.
+    ghost makes: { FileSeen → FileChange → List ℕ → World → World → Type 0 };
 
     /// What a change that failed may leave the file as, between the bytes before and those that it would have made.
     ghost may_leave: { Format → FileChange → Option (List ℕ) → Option (List ℕ) → Option (List ℕ) → Type 0 };

@@ -20,12 +20,13 @@ pub struct Pages {
 
 #[tactic(auto, unfolding(crate::specs::Pages::name_of, crate::specs::Pages::pages_of))]
 impl Pages {
-    ghost use Rattle.std.specs.Prelude.{ℕ, ◌+◌, ◌<◌, ◌⊎◌, List, [], true, false, IsOk, IfOk, OnOk, OnErr, MatchOption, slice_index_or, if◌then◌else◌, ◌∷◌, replicate};
+    ghost use Rattle.std.specs.Prelude.{ℕ, ◌+◌, ◌<◌, ◌⊎◌, Bool, List, [], true, false, is_some, IfSome, IsOk, IfOk, OnOk, OnErr, MatchOption, slice_index_or, if◌then◌else◌, ◌∷◌, replicate};
     ghost use Rattle.std.specs.Borrow.{sem};
     ghost use Rattle.std.specs.String.{string_bytes};
     ghost use Rattle.arrayvec.specs.ArrayVec.{array_vec_len};
     ghost use Rattle.outside.specs.Count.{Rose, counted};
     ghost use Rattle.outside.specs.Frame.{ChangesOne, OnlyReads};
+    ghost use Rattle.outside.specs.Seen.{StoreSeen};
     ghost use Rattle.file_blocks.specs.Block.{block_of};
     ghost use Rattle.quota_pages.specs.Flushed.{IsPartlyFlushed, counted_by, flushed_files, flushed_names};
     ghost use Rattle.quota_pages.specs.Page.{HasRoomFor, IsClean, is_buffered, is_lent, is_some_lent, lent_count, shown};
@@ -56,6 +57,16 @@ impl Pages {
         ensures { result + length (pages_of self.now) ≡ 12 }
     {
         ROOM - self.held.count()
+    }
+
+    /// Lends block `n` for reading where it is buffered, and reads nothing.
+    pub fn buffered(&self, n: u32) -> Option<&[u8; 1024]>
+        ensures there { is_some result ≡ is_buffered (pages_of self.now) n }
+        ensures block { IfSome result (λ block. (tells : Bool) (seen : StoreSeen) → IsKnown tells seen self.now
+            → block.now ≡ block_of (shown_over seen self.now) n) }
+    {
+        let place = self.held.place_of(n)?;
+        Some(self.held.block(place))
     }
 
     /// Lends block `n` for reading: the one that is buffered, or else the file's, which is buffered then.

@@ -1,6 +1,7 @@
 ghost use Rattle.std.specs.Prelude.{◌≡◌, ◌+◌, ◌<◌, ◌≤◌, length, min, take, true, false, slice_get, IfErr, IfOk, OnErr, OnOk, is_ok};
 ghost use Rattle.file_blocks.specs.Block.{word_at};
 ghost use Rattle.quota_types.specs.declared.damage.DamageKind.TheVariants.{RefOut};
+ghost use Rattle.quota_pages.specs.Page.{is_buffered};
 ghost use Rattle.quota_pages.specs.Pages.{pages_of};
 ghost use Rattle.quota_pages.specs.Used.{IsKnown, LooksAtSome, shown_over};
 ghost use Rattle.quota_radix.specs.Descent.{leaf_block};
@@ -56,7 +57,7 @@ pub(crate) fn reference_in<C, B: LendsBlocks<C>>(
 /// # Errors
 ///
 /// `Store` where the store failed, and `Damage` where a reference on the way leads past the last block: `RefOut` with
-/// the block that has it.
+/// the block that has it, which was read.
 pub fn find_path<S: Store>(
     pages: &mut Pages,
     store: &mut S,
@@ -72,7 +73,8 @@ pub fn find_path<S: Store>(
     ensures inside { OnOk result (IsKnown S.tells (S.seen store.old) pages.old
         → IsInsideOnWay (shown_over (S.seen store.old) pages.old) blocks id) }
     ensures refused { IfErr result (IsWalkFault (S.seen store.old).faults (S.seen store.new).faults
-        (λ damage. (damage.kind ≡ RefOut) × (IsKnown S.tells (S.seen store.old) pages.old
+        (λ damage. (damage.kind ≡ RefOut) × (is_buffered (pages_of pages.new) damage.block ≡ true)
+        × (IsKnown S.tells (S.seen store.old) pages.old
         → IsOutOnWay (shown_over (S.seen store.old) pages.old) blocks id damage.block))) }
     ensures looked { IfOk result (λ path. LooksAtSome S.tells true (min 4 (length path.found.items))
         (S.seen store.old) (S.seen store.new) pages.old pages.new) }
@@ -92,14 +94,11 @@ pub fn find_path<S: Store>(
     Ok(Path { found })
 }
 
-/// The data block to which an identifier leads by its four digits, or None where one of them leads nowhere.
-///
-/// The file has so many blocks. At most 4 of them are read.
+/// As `leaf`, of any file that lends its blocks.
 ///
 /// # Errors
 ///
-/// `Store` where the store failed, and `Damage` where a reference on the way leads past the last block: `RefOut` with
-/// the block that has it.
+/// The store failed, or a reference on the way leads past the last block.
 pub(crate) fn leaf_in<C, B: LendsBlocks<C>>(
     file: &mut B,
     context: &mut C,
@@ -112,7 +111,7 @@ pub(crate) fn leaf_in<C, B: LendsBlocks<C>>(
     ensures inside { OnOk result (B.known file.old context.old
         → IsInsideOnWay (B.shows file.old context.old) blocks id) }
     ensures refused { IfErr result (IsWalkFault (B.seen context.old).faults (B.seen context.new).faults
-        (λ damage. (damage.kind ≡ RefOut) × (B.known file.old context.old
+        (λ damage. (damage.kind ≡ RefOut) × (B.missing file.new damage.block ≡ 0) × (B.known file.old context.old
         → IsOutOnWay (B.shows file.old context.old) blocks id damage.block))) }
     ensures looked { B.looked (is_ok result) 4 context.old context.new file.old file.new }
 {
@@ -133,7 +132,7 @@ pub(crate) fn leaf_in<C, B: LendsBlocks<C>>(
 /// # Errors
 ///
 /// `Store` where the store failed, and `Damage` where a reference on the way leads past the last block: `RefOut` with
-/// the block that has it.
+/// the block that has it, which was read.
 pub fn leaf<S: Store>(
     pages: &mut Pages,
     store: &mut S,
@@ -146,7 +145,8 @@ pub fn leaf<S: Store>(
     ensures inside { OnOk result (IsKnown S.tells (S.seen store.old) pages.old
         → IsInsideOnWay (shown_over (S.seen store.old) pages.old) blocks id) }
     ensures refused { IfErr result (IsWalkFault (S.seen store.old).faults (S.seen store.new).faults
-        (λ damage. (damage.kind ≡ RefOut) × (IsKnown S.tells (S.seen store.old) pages.old
+        (λ damage. (damage.kind ≡ RefOut) × (is_buffered (pages_of pages.new) damage.block ≡ true)
+        × (IsKnown S.tells (S.seen store.old) pages.old
         → IsOutOnWay (shown_over (S.seen store.old) pages.old) blocks id damage.block))) }
     ensures looked { LooksAtSome S.tells (is_ok result) 4 (S.seen store.old) (S.seen store.new) pages.old pages.new }
 {

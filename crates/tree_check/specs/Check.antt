@@ -2,8 +2,6 @@
 use Rattle.std.specs.Prelude.{◌≡◌, ℕ, List, length}
 use Rattle.std.specs.FinMap.{len}
 use Rattle.quota_blocks.specs.QuotaValue.{QuotaValue}
-use Rattle.file_blocks.specs.declared.check_fault.CheckFault.{CheckFault}
-use Rattle.file_blocks.specs.declared.check_fault.CheckFault.TheVariants.{Store, Damage as Damaged, Memory}
 use Rattle.entry_codec.specs.Header.{header_of}
 use Rattle.tree_check.specs.declared.checked.Checked.{Checked}
 use Rattle.free_chains.specs.Chain.{IsChain}
@@ -17,9 +15,3 @@ pub record IsChecked (file : List ℕ) (checked : Checked) : Type 0 where
   pub free : List ℕ
   pub is_free : IsChain file (header_of file).blocks (header_of file).free free 0
   pub free_count : checked.free ≡ length free
-
--- why a check is refused that was refused over a store in memory, which fails only where it gets no memory
-abbrev pub without_store : CheckFault → CheckFault
-without_store Store = Memory
-without_store (Damaged damage) = Damaged damage
-without_store Memory = Memory

@@ -6,24 +6,20 @@ ghost use Rattle.quota_types.specs.declared.file_kind.Format.TheVariants.{V1};
 ghost use Rattle.quota_blocks.specs.Frame.{OnlyReads};
 ghost use Rattle.quota_blocks.specs.QuotaValue.{QuotaValue};
 ghost use Rattle.file_blocks.specs.declared.check_fault.CheckFault.TheVariants.{Damage as Damaged, Memory};
-ghost use Rattle.tree_check.specs.Check.{IsChecked, without_store};
-ghost use Rattle.quota_blocks.specs.CheckFault.{IsCheckFault, IsStepFault};
+ghost use Rattle.tree_check.specs.Check.{IsChecked};
+ghost use Rattle.quota_blocks.specs.CheckFault.{IsCheckFault};
 ghost use Rattle.quota_blocks.specs.Block.{bytes_of};
 ghost use Rattle.tree_build.specs.Defect.{IsTreeDefect};
 ghost use Rattle.tree_check.specs.Found.{IsLengthDefect};
 ghost use Rattle.tree_build.specs.TreeFile.{TreeStandsFor};
 
-use crate::block_check::{ChecksBlock, HeldBlocks, ReadBlocks};
 use crate::checked::Checked;
 use crate::lists::check_lists;
 use crate::roles::check_roles;
 use entry_codec::Header;
-use quota_blocks::{CheckFault, MemStore, Store};
+use quota_blocks::{CheckFault, Store};
 use quota_types::{DamageKind, damage_at};
 use std::alloc::Global;
-
-/// The name of the one file of a store that has what was loaded.
-const LOADED: &str = "";
 
 /// Checks a tree file whose header is this one, and tells how many records it has and how many blocks are free.
 ///
@@ -57,81 +53,13 @@ pub fn check<S: Store>(
     ensures leaves { OnlyReads (is_ok result) name.now (S.seen store.old) (S.seen store.new) }
     ensures reads { (S.seen store.new).reads ≤ (S.seen store.old).reads + 2 * header.now.blocks }
 {
-    check_by(alloc, store, name, &mut ReadBlocks::new(), header)
-}
-
-/// As `check`, with the data blocks checked by `checks`.
-fn check_by<S: Store, B: ChecksBlock<S>>(
-    alloc: Global,
-    store: &mut S,
-    name: &str,
-    checks: &mut B,
-    header: &Header,
-) -> Result<Checked, CheckFault>
-    requires tree { IsTreeFormat header.now.format }
-    requires two { 2 ≤ header.now.blocks }
-    ensures checked { IfOk result (λ checked. IsTrue S.tells
-        → AreOf header.now (header_of (bytes_of ((S.seen store.old).files name.now)))
-        → IsChecked (bytes_of ((S.seen store.old).files name.now)) checked) }
-    ensures refused { IfErr result (IsCheckFault (S.seen store.old).faults (S.seen store.new).faults
-        (λ damage. IsTrue S.tells
-        → AreOf header.now (header_of (bytes_of ((S.seen store.old).files name.now)))
-        → IsTreeDefect header.now.format (bytes_of ((S.seen store.old).files name.now))
-        (header_of (bytes_of ((S.seen store.old).files name.now))) damage)) }
-    ensures only_damaged { IfErr result (λ fault. (damage : Damage) → fault ≡ Damaged damage → IsTrue S.tells
-        → AreOf header.now (header_of (bytes_of ((S.seen store.old).files name.now)))
-        → (value : QuotaValue) → ¬ TreeStandsFor (bytes_of ((S.seen store.old).files name.now)) value) }
-    ensures leaves { OnlyReads (is_ok result) name.now (S.seen store.old) (S.seen store.new) }
-    ensures reads { (S.seen store.new).reads ≤ (S.seen store.old).reads + 2 * header.now.blocks }
-{
     check_length(store, name, header.blocks)?;
     let roles = check_roles(alloc, store, name, header.blocks, header.free)?;
-    check_lists(alloc, store, name, checks, header, roles.leaves.as_slice())?;
+    check_lists(alloc, store, name, header, roles.leaves.as_slice())?;
     Ok(Checked {
         used: roles.used,
         free: roles.free,
     })
-}
-
-/// Checks the bytes of a tree file whose header is this one, and gives them back. They are not copied.
-///
-/// # Errors
-///
-/// `Damage` where they are damaged, and `Memory` where there was not enough memory.
-pub fn check_loaded(alloc: Global, bytes: Vec<u8>, header: &Header) -> Result<Vec<u8>, CheckFault>
-    requires tree { IsTreeFormat header.now.format }
-    requires two { 2 ≤ header.now.blocks }
-    ensures same { IfOk result (λ checked. checked.items ≡ bytes.items) }
-    ensures stands { OnOk result (AreOf header.now (header_of bytes.items)
-        → (value : QuotaValue) × TreeStandsFor bytes.items value) }
-    ensures refused { IfErr result (IsStepFault (λ damage. AreOf header.now (header_of bytes.items)
-        → IsTreeDefect header.now.format bytes.items (header_of bytes.items) damage)) }
-{
-    let mut store = store_of(alloc, bytes)?;
-    if let Err(fault) = check_by(alloc, &mut store, LOADED, &mut HeldBlocks, header) {
-        return Err(without_store(fault));
-    }
-    Ok(store.into_file(LOADED).unwrap())
-}
-
-/// A store of one file of these bytes.
-fn store_of(alloc: Global, bytes: Vec<u8>) -> Result<MemStore, CheckFault>
-    ensures seen { IfOk result (λ store. (⟦<MemStore as Store>⟧.seen store).files [] ≡ Some bytes.items) }
-    ensures refused { IfErr result (λ fault. fault ≡ Memory) }
-{
-    let mut files = Vec::new(alloc);
-    files.push((String::new(alloc), bytes))?;
-    Ok(MemStore::new(files, Vec::new(alloc)))
-}
-
-/// Why a check is refused that was refused over a store in memory, which fails only where it gets no memory.
-fn without_store(fault: CheckFault) -> CheckFault
-    ensures { result ≡ without_store fault }
-{
-    match fault {
-        CheckFault::Damage(damage) => CheckFault::Damage(damage),
-        CheckFault::Store | CheckFault::Memory => CheckFault::Memory,
-    }
 }
 
 /// Checks that a file of more blocks than header and root is as long as they, by its length alone.

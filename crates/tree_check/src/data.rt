@@ -13,20 +13,19 @@ ghost use Rattle.tree_check.specs.Reads.{led_blocks};
 ghost use Rattle.tree_check.specs.EntryList.{AreListed, IsListDefect, NamesOther};
 ghost use Rattle.free_chains.specs.Walk.{IsWalk, linked_blocks, previous_in};
 
-use crate::block_check::ChecksBlock;
+use crate::block_check::check_block;
 use crate::groups::{list_numbers, part};
 use free_chains::{Link, Walk};
-use quota_blocks::{BlockSet, CheckFault, Store};
+use quota_blocks::{BLOCK, BlockSet, CheckFault, Store};
 use quota_radix::TreePath;
 use quota_types::{Damage, DamageKind, Format, damage_at};
 use std::alloc::Global;
 
 /// Checks the data blocks, which are those that leaves name, and answers those that have room.
-pub(crate) fn check_data<S: Store, B: ChecksBlock<S>>(
+pub(crate) fn check_data<S: Store>(
     alloc: Global,
     store: &mut S,
     name: &str,
-    checks: &mut B,
     format: Format,
     blocks: u32,
     leaves: &[TreePath],
@@ -48,6 +47,7 @@ pub(crate) fn check_data<S: Store, B: ChecksBlock<S>>(
 {
     let mut room = BlockSet::new(alloc, blocks)?;
     let mut ids = Vec::new(alloc);
+    let mut bytes = [0; BLOCK];
     let mut rest = leaves;
     for block in 0..blocks {
         let (here, behind) = part(rest, block);
@@ -56,7 +56,7 @@ pub(crate) fn check_data<S: Store, B: ChecksBlock<S>>(
         check_group(
             store,
             name,
-            checks,
+            &mut bytes,
             format,
             block,
             ids.as_slice(),
@@ -66,12 +66,12 @@ pub(crate) fn check_data<S: Store, B: ChecksBlock<S>>(
     Ok(room)
 }
 
-/// Checks a block against the identifiers that lead to it, where there are some, and adds it to those that have room where
-/// it has room.
-fn check_group<S: Store, B: ChecksBlock<S>>(
+/// Checks a block, by way of `bytes`, against the identifiers that lead to it, where there are some, and adds it to those that
+/// have room where it has room.
+fn check_group<S: Store>(
     store: &mut S,
     name: &str,
-    checks: &mut B,
+    bytes: &mut [u8; BLOCK],
     format: Format,
     number: u32,
     ids: &[u32],
@@ -95,7 +95,7 @@ fn check_group<S: Store, B: ChecksBlock<S>>(
     if ids.is_empty() {
         return Ok(());
     }
-    if checks.check_block(store, name, format, number, ids)? {
+    if check_block(store, name, bytes, format, number, ids)? {
         room.insert(number);
     }
     Ok(())

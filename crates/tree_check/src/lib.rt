@@ -14,5 +14,5 @@ mod marking;
 mod roles;
 
 pub use checked::Checked;
-pub use checking::{check, check_length, check_loaded};
+pub use checking::{check, check_length};
 pub use quota_blocks::CheckFault;

@@ -1,4 +1,4 @@
-ghost use Rattle.std.specs.Prelude.{◌≡◌, ◌≢◌, ◌+◌, ◌≤◌, length, map, IsTrue, OnOk, IfErr, is_ok};
+ghost use Rattle.std.specs.Prelude.{◌≡◌, ◌≢◌, ◌+◌, ◌≤◌, length, IsTrue, OnOk, IfErr, is_ok};
 ghost use Rattle.quota_types.specs.Format.{IsTreeFormat};
 ghost use Rattle.quota_types.specs.declared.file_kind.Format.TheVariants.{V1};
 ghost use Rattle.quota_blocks.specs.Frame.{OnlyReads};
@@ -11,7 +11,6 @@ ghost use Rattle.tree_build.specs.Loose.{nothing_loose};
 ghost use Rattle.tree_build.specs.Roles.{Chained, Filled};
 ghost use Rattle.quota_radix.specs.Tree.{leaves};
 
-use crate::block_check::ChecksBlock;
 use crate::data::{check_data, check_listed};
 use entry_codec::Header;
 use free_chains::walk_chain;
@@ -20,11 +19,10 @@ use quota_radix::TreePath;
 use std::alloc::Global;
 
 /// Checks the entry list, and the entries of each data block against the identifiers of the leaves that name it.
-pub(crate) fn check_lists<S: Store, B: ChecksBlock<S>>(
+pub(crate) fn check_lists<S: Store>(
     alloc: Global,
     store: &mut S,
     name: &str,
-    checks: &mut B,
     header: &Header,
     by_block: &[TreePath],
 ) -> Result<(), CheckFault>
@@ -51,7 +49,7 @@ pub(crate) fn check_lists<S: Store, B: ChecksBlock<S>>(
 {
     let blocks = header.blocks;
     let listed = walk_chain(alloc, store, name, blocks, header.first)?;
-    let room = check_data(alloc, store, name, checks, header.format, blocks, by_block)?;
+    let room = check_data(alloc, store, name, header.format, blocks, by_block)?;
     check_listed(&listed, &room, blocks)?;
     Ok(())
 }

@@ -65,6 +65,7 @@ returns-in_err-block-clause-refused g c =
     let digit_is = nth c.digits-digit-items.result c.args.id index c.digits-digit-items.ensures.digits in
     rw (p.1, p.2) (walk_refused _ _ _ _ _ kept.looked.leaves.later (λ damage out. (
       ap (λ (d : Damage). d.kind) out.0,
+      ap (λ (d : Damage). is_buffered (pages_of c.reference_in.new.file) d.block) out.0 ∙ there-missing (pages_of c.reference_in.new.file) c.loop-digit.block out.1,
       λ known. along_out _ c.args.blocks c.args.id index c.loop-digit.block digit _ damage c.loop-digit-test.true digit_is (kept.along known) out.0
           (since (pages_stay kept.looked) (λ (file : List ℕ). c.args.blocks ≤ word_at file c.loop-digit.block digit) out.2 known),
     )) _ c.in_err-block.ensures.refused)

@@ -1,4 +1,4 @@
-use Rattle.std.proofs.Common.{◌≡◌, ℕ, ◌≤◌, List, [], ◌∷◌, ◌++◌, get_or, refl, ap, arith}
+use Rattle.std.proofs.Common.{◌≡◌, ℕ, ◌≤◌, List, [], ◌∷◌, ◌++◌, get_or, refl, ap, ◌∙◌, arith}
 use Rattle.std.proofs.lemmas.Result.{err_from_is_err_and}
 use Rattle.quota_types.specs.declared.damage.Damage.{Damage}
 use Rattle.file_blocks.specs.Block.{word_at}
@@ -27,6 +27,7 @@ returns-in_err-block-clause-refused g c =
     let digit_is = nth c.digits-digit-items.result c.args.id index c.digits-digit-items.ensures.digits in
     rw (p.1, p.2) (walk_refused _ _ _ _ _ (B.later kept.looked) (λ damage out. (
       ap (λ (d : Damage). d.kind) out.0,
+      ap (λ (d : Damage). g.B.LendsBlocks.missing c.reference_in.new.file d.block) out.0 ∙ out.1,
       λ known. along_out _ c.args.blocks c.args.id index c.loop-digit.block word _ damage c.loop-digit-test.true digit_is (kept.along known).1 out.0
           (since (B.stays kept.looked) (λ (file : List ℕ). c.args.blocks ≤ word_at file c.loop-digit.block word) out.2 known),
     )) _ c.in_err-block.ensures.refused)

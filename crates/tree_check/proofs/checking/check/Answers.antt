@@ -9,7 +9,7 @@ use Rattle.quota_radix.specs.declared.tree_path.TreePath.{TreePath}
 use Rattle.quota_radix.specs.Tree.{leaves}
 use Rattle.tree_check.proofs.CheckedLemmas.{is_checked, length_refused, lists_refused, only_damaged, roles_refused}
 use Rattle.tree_check.proofs.FoundLemmas.{same_bytes}
-use Rattle.tree_check.proofs.checking.check_by.Goals as goal
+use Rattle.tree_check.proofs.checking.check.Goals as goal
 
 pub returns-in_err-check_length-clause-refused : goal.returns-in_err-check_length-clause-refused
 returns-in_err-check_length-clause-refused g c =
