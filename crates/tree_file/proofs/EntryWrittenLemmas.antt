@@ -1,9 +1,8 @@
 -- An entry of some bytes that is written over the one of its identifier, in a file with a header.
-use Rattle.std.proofs.Common.{◌≡◌, ℕ, ◌+◌, ◌*◌, ◌≤◌, List, length, take, drop, Some, refl, sym, ap, subst, ◌∙◌, arith}
+use Rattle.std.proofs.Common.{◌≡◌, ℕ, ◌+◌, ◌*◌, ◌≤◌, List, length, take, drop, Some, sym, ap, subst, ◌∙◌, arith}
 use Rattle.quota_types.specs.Format.{record_size}
 use Rattle.quota_types.specs.declared.file_kind.Format.{Format}
 use Rattle.quota_types.specs.declared.record.Rec.{Rec}
-use Rattle.quota_blocks.specs.FileChange.{Put}
 use Rattle.quota_blocks.specs.QuotaValue.{QuotaValue}
 use Rattle.quota_blocks.specs.Span.{KeepsOutside}
 use Rattle.quota_blocks.specs.World.{overwritten}
@@ -14,7 +13,7 @@ use Rattle.quota_radix.specs.Tree.{numbers_of, leaves}
 use Rattle.tree_build.specs.Size.{ids_in, blocks_needed}
 use Rattle.tree_file.specs.Overwritten.{HasEntryAt}
 use Rattle.tree_file.specs.Rebuilt.{value_changed}
-use Rattle.tree_file.specs.TreeChange.{IsChangedTree}
+use Rattle.tree_file.specs.TreeChange.{IsChangedTree, record_change}
 use Rattle.tree_build.specs.TreeFile.{TreeStandsFor}
 use Rattle.tree_file.proofs.EnoughLemmas.{ids_of_value}
 use Rattle.tree_build.proofs.MeaningLemmas.{header_format}
@@ -61,7 +60,7 @@ module _ (file span : List ℕ) (header : Header) (id at : ℕ) (rec : Rec) (of 
 
   -- so it is the file that is built anew with the record, where it had as few blocks as it needs
   pub written_changed : length file ≡ 1024 * header.blocks → ((value : QuotaValue) → TreeStandsFor file value → header.blocks ≡ blocks_needed value.format (ids_in value.records))
-      → IsChangedTree (Put id rec) file (overwritten file at span)
+      → IsChangedTree (record_change id (Some rec)) file (overwritten file at span)
   written_changed long least =
-      smallest_changed (Put id rec) file (overwritten file at span) header (λ before is. is) (λ value stands. refl) (λ value stands. (both value stands).0) written_of
+      smallest_changed id (Some rec) file (overwritten file at span) header (λ value stands. (both value stands).0) written_of
       (length-overwritten file at span within ∙ long) (λ value stands. written_needed value stands (least value stands))

@@ -1,30 +1,21 @@
 -- A tree file of which the bytes of the two grace periods were written.
-use Rattle.std.proofs.Common.{◌≡◌, ℕ, zero, suc, ◌+◌, ◌*◌, ◌<◌, ◌≤◌, List, ◌++◌, length, take, drop, replicate, get_or, min, ◌-◌, refl, sym, ap, subst, ◌∙◌, arith, inl, inr, length-drop, length-take}
+use Rattle.std.proofs.Common.{◌≡◌, ℕ, zero, suc, ◌+◌, ◌*◌, ◌<◌, ◌≤◌, List, ◌++◌, length, take, drop, replicate, get_or, min, ◌-◌, refl, sym, ap, ◌∙◌, arith, inl, inr, length-take}
 use Rattle.std.proofs.lemmas.Bool.{cases_lt}
 use Rattle.std.proofs.lemmas.List.{ext_get_or, get_or-drop, get_or-take, get_or_append_left, get_or_past}
 use Rattle.std.proofs.Math.Seq.{get_or-append_right}
 use Rattle.quota_types.specs.Bytes.{byte_at, number_at}
 use Rattle.quota_types.specs.declared.record.Grace.{Grace}
-use Rattle.quota_blocks.specs.FileChange.{SetGrace}
+use Rattle.quota_blocks.specs.QuotaValue.{QuotaValue, with_grace}
 use Rattle.quota_blocks.specs.Span.{KeepsOutside}
-use Rattle.quota_blocks.specs.World.{overwritten}
-use Rattle.quota_types.proofs.BytesLemmas.{number_at-drop, number_at-take, number_at-past}
 use Rattle.entry_codec.specs.declared.header.Header.{Header}
 use Rattle.entry_codec.specs.Header.{AreOf, format_of, header_of}
 use Rattle.quota_blocks.specs.Block.{block_of}
-use Rattle.tree_file.specs.TreeChange.{IsChangedTree}
-use Rattle.file_blocks.proofs.WordLemmas.{number_same}
+use Rattle.tree_file.specs.TreeChange.{IsGraced}
+use Rattle.tree_build.specs.TreeFile.{TreeStandsFor}
+use Rattle.quota_pages.specs.Overlay.{with_block}
+use Rattle.quota_pages.proofs.BlockLemmas.{byte_at-with_block_behind, byte_at-with_block_inside, length-with_block}
+use Rattle.file_blocks.proofs.WordLemmas.{byte_at-block_of, length-block_of, number_same}
 use Rattle.tree_file.proofs.HeaderKeptLemmas.{KeepsHeader, stands_kept}
-use Rattle.tree_file.proofs.SpanLemmas.{keeps-overwritten, length-overwritten, span-overwritten}
-
--- the blocks behind the header stay
-graced_block : (old new : List ℕ) (block : ℕ) → length new ≡ length old → KeepsOutside 8 16 old new → 0 < block → block_of new block ≡ block_of old block
-unfolding block_of
-graced_block old new block long keeps some =
-    let from : ℕ = 1024 * block in
-    let rest : drop from new ≡ drop from old = ext_get_or 0 (drop from new) (drop from old) (omega (arith, length-drop from new, length-drop from old, long))
-    (λ i lt. get_or-drop from new i 0 ∙ keeps.behind (from + i) (omega (arith, some)) ∙ sym (get_or-drop from old i 0)) in
-    ap (λ (bytes : List ℕ). take 1024 (bytes ++ replicate 1024 0)) rest
 
 before : (old new : List ℕ) (at : ℕ) → KeepsOutside 8 16 old new → at + 4 ≤ 8 → number_at 4 new at ≡ number_at 4 old at
 before old new at keeps le = number_same 4 at new old (λ k from to. keeps.before k (omega (arith, le)))
@@ -32,7 +23,8 @@ before old new at keeps le = number_same 4 at new old (λ k from to. keeps.befor
 behind : (old new : List ℕ) (at : ℕ) → KeepsOutside 8 16 old new → 16 ≤ at → number_at 4 new at ≡ number_at 4 old at
 behind old new at keeps le = number_same 4 at new old (λ k from to. keeps.behind k (omega (arith, le)))
 
-graced_header : (old new : List ℕ) → KeepsOutside 8 16 old new → KeepsHeader (header_of old) (header_of new)
+-- the header, but for the grace periods
+pub graced_header : (old new : List ℕ) → KeepsOutside 8 16 old new → KeepsHeader (header_of old) (header_of new)
 graced_header old new keeps = record {
   magic = before old new 0 keeps (omega arith);
   version = before old new 4 keeps (omega arith);
@@ -42,63 +34,67 @@ graced_header old new keeps = record {
   first = behind old new 28 keeps (omega arith);
 }
 
--- a file that has blocks has the bytes that say so
-pub has_blocks : (file : List ℕ) (header : Header) → AreOf header (header_of file) → 2 ≤ header.blocks → 20 < length file
-has_blocks file header are two = elim (cases_lt 20 (length file)) [
-  | inl long ↦ long
-  | inr short ↦ absurd (omega (arith, two, are.blocks, number_at-past 4 20 file short))
-]
+-- a block that was laid over the first one of a file, and has all its bytes but those of the two periods
+module _ (old bytes : List ℕ) (grace : Grace) (keeps : KeepsOutside 8 16 (block_of old 0) bytes)
+    (first : number_at 4 bytes 8 ≡ grace.block) (second : number_at 4 bytes 12 ≡ grace.inode) where
+  abbrev laid : List ℕ
+  laid = with_block old 0 bytes
 
-module _ (file span : List ℕ) (header : Header) (grace : Grace) (are : AreOf header (header_of file)) (two : 2 ≤ header.blocks) (size : length span ≡ 8)
-    (first : number_at 4 span 0 ≡ grace.block) (second : number_at 4 span 4 ≡ grace.inode) where
-  abbrev after : List ℕ
-  after = overwritten file 8 span
+  within : (at : ℕ) → at < 1024 → byte_at laid at ≡ byte_at bytes at
+  within at low =
+      byte_at-with_block_inside old 0 bytes at (omega arith) (omega (arith, low))
+      ∙ ap (byte_at bytes) (let same : at - 1024 * 0 ≡ at = omega arith in same)
 
-  within : 8 + length span ≤ length file
-  within = omega (arith, size, has_blocks file header are two)
+  first_block : (at : ℕ) → at < 1024 → byte_at (block_of old 0) at ≡ byte_at old at
+  first_block at low = byte_at-block_of old 0 at low ∙ ap (byte_at old) (let same : 1024 * 0 + at ≡ at = omega arith in same)
 
-  keeps : KeepsOutside 8 16 file after
-  keeps = subst (λ (n : ℕ). KeepsOutside 8 (8 + n) file after) size (keeps-overwritten file 8 span within)
-
-  read : (at : ℕ) → at + 4 ≤ 8 → number_at 4 after (8 + at) ≡ number_at 4 span at
-  read at low =
-      sym (number_at-take 4 8 (drop 8 after) at low ∙ number_at-drop 4 8 after at)
-      ∙ ap (λ (bytes : List ℕ). number_at 4 bytes at) (ap (λ (n : ℕ). take n (drop 8 after)) (sym size) ∙ span-overwritten file 8 span within)
-
-  block : number_at 4 after 8 ≡ grace.block
-  block = read 0 (omega arith) ∙ first
-
-  inode : number_at 4 after 12 ≡ grace.inode
-  inode = read 4 (omega arith) ∙ second
-
-  -- once the bytes of the two periods were written over those of a file, its header has them
-  pub graced_of : AreOf (record header { grace = grace }) (header_of after)
-  graced_of =
-      let kept : KeepsHeader (header_of file) (header_of after) = graced_header file after keeps in
-      record {
-        magic = kept.magic ∙ are.magic;
-        version = ap format_of kept.version ∙ are.version;
-        block_grace = block;
-        inode_grace = inode;
-        flags = kept.flags ∙ are.flags;
-        blocks = kept.blocks ∙ are.blocks;
-        free = kept.free ∙ are.free;
-        first = kept.first ∙ are.first;
-      }
-
-  -- and it is what the change of the grace periods makes
-  pub graced_changed : IsChangedTree (SetGrace grace) file after
-  graced_changed = record {
-    busy = λ value stands. refl;
-    stands = λ value stands. stands_kept file after value grace stands (graced_header file after keeps) (λ number some low. graced_block file after number (length-overwritten file 8 span within) keeps some)
-        (λ more. subst (λ (n : ℕ). 1024 * (header_of file).blocks ≤ n) (sym (length-overwritten file 8 span within)) (stands.sound.long more)) (sym block) (sym inode);
-    made = λ value before stands same. record {
-      long = length-overwritten file 8 span within ∙ ap (λ (bytes : List ℕ). length bytes) (sym same);
-      others = subst (λ (bytes : List ℕ). KeepsOutside 8 16 bytes after) (sym same) keeps;
-      block_grace = block;
-      inode_grace = inode;
+  pub graced_laid : IsGraced grace old laid
+  graced_laid = record {
+    long = length-with_block old 0 bytes ∙ omega arith;
+    others = record {
+      before = λ at low. within at (omega (arith, low)) ∙ keeps.before at low ∙ first_block at (omega (arith, low));
+      behind = λ at past. elim (cases_lt at 1024) [
+        | inl low ↦ within at low ∙ keeps.behind at past ∙ first_block at low
+        | inr over ↦ byte_at-with_block_behind old 0 bytes at (omega (arith, over))
+      ];
     };
+    block_grace = number_same 4 8 laid bytes (λ k from to. within k (omega (arith, to))) ∙ first;
+    inode_grace = number_same 4 12 laid bytes (λ k from to. within k (omega (arith, to))) ∙ second;
   }
+
+-- a block whose bytes are the same
+block_same : (new old : List ℕ) (block : ℕ) → ((at : ℕ) → at < 1024 → byte_at new (1024 * block + at) ≡ byte_at old (1024 * block + at)) → block_of new block ≡ block_of old block
+block_same new old block same =
+    ext_get_or 0 (block_of new block) (block_of old block) (length-block_of new block ∙ sym (length-block_of old block))
+    (λ at lt.
+    let low : at < 1024 = omega (arith, lt, length-block_of new block) in
+    byte_at-block_of new block at low ∙ same at low ∙ sym (byte_at-block_of old block at low))
+
+-- the blocks behind the header stay
+graced_block : (grace : Grace) (old new : List ℕ) (block : ℕ) → IsGraced grace old new → 0 < block → block_of new block ≡ block_of old block
+graced_block grace old new block graced some =
+    block_same new old block (λ at low. graced.others.behind (1024 * block + at) (omega (arith, some)))
+
+-- once its grace periods were set a file stands for the value with them
+pub graced_stands : (grace : Grace) (old new : List ℕ) (value : QuotaValue) → IsGraced grace old new → TreeStandsFor old value → TreeStandsFor new (with_grace value grace)
+graced_stands grace old new value graced stands =
+    stands_kept old new value grace stands (graced_header old new graced.others) (λ number some low. graced_block grace old new number graced some)
+    (λ more. omega (arith, stands.sound.long more, graced.long)) (sym graced.block_grace) (sym graced.inode_grace)
+
+-- and its header has them
+pub graced_of : (grace : Grace) (old new : List ℕ) (header : Header) → IsGraced grace old new → AreOf header (header_of old) → AreOf (record header { grace = grace }) (header_of new)
+graced_of grace old new header graced are =
+    let kept : KeepsHeader (header_of old) (header_of new) = graced_header old new graced.others in
+    record {
+      magic = kept.magic ∙ are.magic;
+      version = ap format_of kept.version ∙ are.version;
+      block_grace = graced.block_grace;
+      inode_grace = graced.inode_grace;
+      flags = kept.flags ∙ are.flags;
+      blocks = kept.blocks ∙ are.blocks;
+      free = kept.free ∙ are.free;
+      first = kept.first ∙ are.first;
+    }
 
 -- two beginnings with the same bytes have the same header
 pub same_header : (one other : List ℕ) → ((k : ℕ) → k < 32 → byte_at one k ≡ byte_at other k) → header_of one ≡ header_of other

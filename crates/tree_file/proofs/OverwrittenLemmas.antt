@@ -1,5 +1,5 @@
 -- An entry that is overwritten where it stands changes the record of its identifier and nothing else.
-use Rattle.std.proofs.Common.{◌≡◌, ◌≢◌, ℕ, suc, ◌+◌, ◌*◌, ◌<◌, ◌≤◌, Bool, true, false, ◌==◌, List, [], ◌++◌, length, find, take, drop, Option, Some, None, option_and_then, sym, ap, subst, ◌∙◌, inl, inr, arith, if◌then◌else◌, length-take, length-drop}
+use Rattle.std.proofs.Common.{◌≡◌, ◌≢◌, ℕ, suc, ◌+◌, ◌*◌, ◌<◌, ◌≤◌, Bool, true, false, ◌==◌, List, [], ◌++◌, length, find, take, drop, Option, Some, option_and_then, sym, ap, subst, ◌∙◌, inl, inr, arith, if◌then◌else◌, length-take, length-drop}
 use Rattle.std.proofs.Math.Nat.{mul-le-mul_left}
 use Rattle.std.proofs.lemmas.Bool.{cases_eq, cases_lt}
 use Rattle.std.proofs.lemmas.Bool.Decides.{eqb_tells}

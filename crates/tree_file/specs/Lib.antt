@@ -1,9 +1,13 @@
+pub mod Coming
+pub mod Faults
+pub mod GraceChange
 pub mod Leaf
 pub mod Listing
 pub mod Opened
 pub mod Overwritten
 pub mod Rebuilt
 pub mod Rests
+pub mod Room
 pub mod TreeChange
 pub mod View
 pub use Rattle.quota_types.specs.Bytes

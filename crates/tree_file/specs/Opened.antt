@@ -4,28 +4,33 @@ use Rattle.quota_blocks.specs.QuotaFile.{FileSeen}
 use Rattle.quota_blocks.specs.QuotaValue.{QuotaValue}
 use Rattle.quota_blocks.specs.declared.quota_file.FileFault.{FileFault}
 use Rattle.quota_blocks.specs.declared.quota_file.FileFault.TheVariants.{Store, Damage, Full, Memory}
-use Rattle.entry_codec.specs.Header.{header_of}
+use Rattle.entry_codec.specs.Header.{AreOf, header_of}
+use Rattle.entry_codec.specs.declared.header.Header.{Header}
 use Rattle.quota_types.specs.Damage.{NamesItsId}
-use Rattle.tree_build.specs.Size.{blocks_needed, ids_in}
+use Rattle.tree_build.specs.Size.{ids_in}
 use Rattle.tree_build.specs.TreeFile.{TreeStandsFor}
+use Rattle.tree_file.specs.Coming.{HoldsComing}
+use Rattle.tree_file.specs.Room.{blocks_wanted}
+use Rattle.tree_file.specs.declared.coming.Coming.{Coming}
 
 -- the blocks of a file, or what it has of them; bytes after the last block are left out
 abbrev pub whole_blocks : List ℕ → List ℕ
 whole_blocks file = take (1024 * (header_of file).blocks) file
 
--- The store tells its files, the named file stands for the value and has no more blocks than it may have, and its blocks are
--- the bytes that were loaded.
-pub record HoldsTree (tells : Bool) (named : Option (List ℕ)) (loaded : List ℕ) (limit : ℕ) (value : QuotaValue) : Type 0 where
+-- The store tells its files, the named file stands for the value and has no more blocks than it may have, the header that is
+-- kept is the file's, and the answers that are kept are those that come next.
+pub record HoldsTree (tells : Bool) (named : Option (List ℕ)) (header : Header) (coming : Coming) (limit : ℕ) (value : QuotaValue) : Type 0 where
   pub told : IsTrue tells
   pub file : List ℕ
   pub there : named ≡ Some file
   pub stands : TreeStandsFor file value
   pub few : (header_of file).blocks ≤ limit
-  pub same : whole_blocks file ≡ loaded
+  pub same : AreOf header (header_of file)
+  pub next : HoldsComing value.records coming
 
--- A file that is written whole has no room for a value: it needs so many blocks and may have only so many.
-pub record LacksRoom (seen : FileSeen) (value : QuotaValue) (blocks limit : ℕ) : Type 0 where
-  pub needs : blocks ≡ blocks_needed value.format (ids_in value.records)
+-- A file, as it is, has no room for a value: it wants so many blocks and may have only so many.
+pub record LacksRoom (seen : FileSeen) (file : Option (List ℕ)) (value : QuotaValue) (blocks limit : ℕ) : Type 0 where
+  pub needs : blocks ≡ blocks_wanted value.format file (ids_in value.records)
   pub may : limit ≡ seen.limit
   pub passes : limit < blocks
 

@@ -1,24 +1,79 @@
-ghost use Rattle.std.specs.Prelude.{◌≡◌, ◌≢◌, ◌+◌, ◌*◌, ◌^◌, ◌<◌, ◌≤◌, length, None, IfErr, IfOk, IfSome, vec_len};
+ghost use Rattle.std.specs.Prelude.{◌≡◌, ◌≢◌, ◌+◌, ◌*◌, ◌^◌, ◌<◌, ◌≤◌, length, None, Some, IfErr, IfOk, IfSome, vec_len};
 ghost use Rattle.entry_codec.specs.Header.{header_fault, header_of};
-ghost use Rattle.quota_types.specs.Bytes.{number_at};
+ghost use Rattle.quota_types.specs.Format.{record_size};
 ghost use Rattle.quota_types.specs.Kept.{IsKept};
 ghost use Rattle.quota_types.specs.Range.{grace_unfit};
 ghost use Rattle.quota_blocks.specs.QuotaValue.{QuotaValue};
 ghost use Rattle.tree_build.specs.Size.{ids_in, blocks_needed};
+ghost use Rattle.tree_file.specs.Overwritten.{HasEntryAt};
 ghost use Rattle.tree_file.specs.Rebuilt.{IsRebuildFault, value_changed};
+ghost use Rattle.tree_file.specs.TreeChange.{IsChangedTree, record_change};
 ghost use Rattle.tree_build.specs.TreeFile.{TreeStandsFor};
 
 use crate::changed_list::{ListFault, changed_entries};
 use crate::file_header::header_in;
 use crate::loaded::LoadedTree;
+use crate::overwriting::place_to_overwrite;
 use crate::{BuildFault, build};
-use entry_codec::Header;
+use entry_codec::{Header, write_entry};
 use quota_blocks::FileFault;
-use quota_types::{Grace, Kind, Rec, set_le32_at};
+use quota_types::{Kind, Rec};
 use std::alloc::Global;
 
-/// Where the grace periods stand in a file.
-pub(crate) const GRACE_AT: usize = 8;
+/// The blocks of a file in which the record of an identifier is this one, or is not there, and which has as few of them as can
+/// be. All else that the header says stays. A record that is put in the place of another one, in a file that has so few blocks
+/// already, is written over it.
+///
+/// # Errors
+///
+/// The file is damaged, it would need more blocks than `limit`, or there is not enough memory.
+pub(crate) fn changed(
+    alloc: Global,
+    tree: LoadedTree,
+    limit: u32,
+    id: u32,
+    rec: Option<Rec>,
+) -> Result<LoadedTree, FileFault>
+    requires grace { grace_unfit tree.header.format tree.header.grace ≡ None }
+    requires kept { IfSome rec (IsKept tree.header.format id) }
+    requires two { 2 ≤ tree.header.blocks }
+    requires few { tree.header.blocks ≤ limit }
+    ensures changed { IfOk result (λ new. IsChangedTree (record_change id rec) tree.bytes.items new.bytes.items) }
+    ensures long { IfOk result (λ new. vec_len new.bytes ≡ 1024 * new.header.blocks) }
+    ensures two { IfOk result (λ new. 2 ≤ new.header.blocks) }
+    ensures few { IfOk result (λ new. new.header.blocks ≤ limit) }
+    ensures format { IfOk result (λ new. new.header.format ≡ tree.header.format) }
+    ensures fits { IfOk result (λ new. grace_unfit new.header.format new.header.grace ≡ None) }
+    ensures refused { IfErr result (IsRebuildFault tree.bytes.items limit id rec) }
+{
+    if let Some(rec) = &rec {
+        if let Some(at) = place_to_overwrite(&tree, id) {
+            return Ok(with_entry(tree, at, id, rec));
+        }
+    }
+    rebuilt(alloc, &tree, limit, id, rec)
+}
+
+/// The blocks of a file once the entry of an identifier, which begins at a place, has this record.
+fn with_entry(tree: LoadedTree, at: usize, id: u32, rec: &Rec) -> LoadedTree
+    requires kept { IsKept tree.header.format id rec.now }
+    requires there { HasEntryAt tree.header.format tree.bytes.items tree.header.blocks id at }
+    requires whole { at + record_size tree.header.format ≤ vec_len tree.bytes }
+    requires long { vec_len tree.bytes ≡ 1024 * tree.header.blocks }
+    requires needed { (value : QuotaValue) → TreeStandsFor tree.bytes.items value
+        → tree.header.blocks ≡ blocks_needed value.format (ids_in value.records) }
+    ensures changed { IsChangedTree (record_change id (Some rec.now)) tree.bytes.items result.bytes.items }
+    ensures header { result.header ≡ tree.header }
+    ensures long { vec_len result.bytes ≡ vec_len tree.bytes }
+{
+    let mut tree = tree;
+    let format = tree.header.format;
+    let mut entry = [0; 72];
+    let span = &mut entry[..format.record_size()];
+    write_entry(format, id, rec, span);
+    tree.overwrite(at, span);
+    tree
+}
 
 /// The blocks of the file that is built anew once the record of an identifier is this one, or is not there. All else that
 /// the header says stays.
@@ -26,7 +81,7 @@ pub(crate) const GRACE_AT: usize = 8;
 /// # Errors
 ///
 /// The file is damaged, it would need more blocks than `limit`, or there is not enough memory.
-pub(crate) fn rebuilt(
+fn rebuilt(
     alloc: Global,
     tree: &LoadedTree,
     limit: u32,
@@ -63,19 +118,6 @@ pub(crate) fn rebuilt(
         Err(BuildFault::Full { blocks, limit }) => Err(FileFault::Full { blocks, limit }),
         Err(BuildFault::Memory) => Err(FileFault::Memory),
     }
-}
-
-/// The bytes of the grace periods, as they stand in a file.
-pub(crate) fn grace_bytes(grace: Grace) -> [u8; 8]
-    requires block { grace.block < 2 ^ 32 }
-    requires inode { grace.inode < 2 ^ 32 }
-    ensures block { number_at 4 result 0 ≡ grace.block }
-    ensures inode { number_at 4 result 4 ≡ grace.inode }
-{
-    let mut bytes = [0; 8];
-    set_le32_at(&mut bytes, 0, grace.block as u32);
-    set_le32_at(&mut bytes, 4, grace.inode as u32);
-    bytes
 }
 
 /// The blocks of a file whose header is one of this kind.

@@ -6,10 +6,14 @@
 
 mod changed_list;
 mod changed_tree;
+mod coming;
 mod file_header;
+mod finishing;
+mod grace_change;
 pub mod laws;
 mod loaded;
 mod loading;
+mod lookup;
 mod opened_tree;
 mod opening;
 mod overwriting;

@@ -17,9 +17,8 @@ ghost use Rattle.tree_build.specs.TreeFile.{TreeStandsFor, record_in};
 use entry_codec::Header;
 use quota_blocks::{block_of, whole_block};
 use quota_radix::{TreePath, first_leaf, leaf_beside, leaf_block};
-use quota_types::{Damage, DamageKind, Entry, Format, Grace, Rec};
-use std::mem::swap;
-use tree_build::{find_near, find_place, find_record};
+use quota_types::{Damage, DamageKind, Entry, Format, Rec};
+use tree_build::{find_near, find_place};
 
 /// What look-ups of records one after another have met, and where the next one looks first.
 #[derive(Clone, Copy, Debug)]
@@ -52,30 +51,6 @@ pub(crate) struct LoadedTree {
 }
 
 impl LoadedTree {
-    /// The record of an identifier, or None where it has none.
-    ///
-    /// It goes down the tree by the digits of the identifier, and reads one reference a level and one data block.
-    ///
-    /// # Errors
-    ///
-    /// The file is damaged: a reference on the way leads past the last block, or the data block has no entry of the
-    /// identifier.
-    pub(crate) fn record_of(&self, id: u32) -> Result<Option<Rec>, Damage>
-        ensures found { IfOk result (λ found. (value : QuotaValue) → TreeStandsFor self.now.bytes.items value
-            → found ≡ get value.records id) }
-        ensures kept { IfOk result (λ found. IfSome found (IsKept self.now.header.format id)) }
-        ensures damage { IfErr result (IsTreeDefect self.now.header.format self.now.bytes.items
-            (header_of self.now.bytes.items)) }
-        ensures refused { OnErr result ((value : QuotaValue) → ¬ (TreeStandsFor self.now.bytes.items value)) }
-    {
-        let Some(block) = leaf_block(&self.bytes, self.header.blocks, id)? else {
-            return Ok(None);
-        };
-        let leaf = TreePath { number: id, block };
-        let rec = record_at(self.header.format, &self.bytes, leaf)?;
-        Ok(Some(rec))
-    }
-
     /// Where in the file the entry of an identifier begins, where the file has the whole of it; None where there is no such
     /// entry, or the way to it is damaged.
     pub(crate) fn place_of(&self, id: u32) -> Option<usize>
@@ -95,18 +70,14 @@ impl LoadedTree {
         }
     }
 
-    /// Exchanges bytes with those that the file has from a place on, and grace periods with those of the header.
-    pub(crate) fn exchange(&mut self, at: usize, span: &mut [u8], grace: &mut Grace)
-        requires inside { at + length span.old ≤ vec_len self.old.bytes }
-        requires of { AreOf (record self.old.header { grace = grace.old })
-            (header_of (overwritten self.old.bytes.items at span.old)) }
-        ensures bytes { self.new.bytes.items ≡ overwritten self.old.bytes.items at span.old }
-        ensures header { self.new.header ≡ record self.old.header { grace = grace.old } }
-        ensures span { span.new ≡ take (length span.old) (drop at self.old.bytes.items) }
-        ensures grace { grace.new ≡ self.old.header.grace }
+    /// Writes bytes over those that the file has from a place on.
+    pub(crate) fn overwrite(&mut self, at: usize, span: &[u8])
+        requires inside { at + length span.now ≤ vec_len self.old.bytes }
+        requires of { AreOf self.old.header (header_of (overwritten self.old.bytes.items at span.now)) }
+        ensures bytes { self.new.bytes.items ≡ overwritten self.old.bytes.items at span.now }
+        ensures header { self.new.header ≡ self.old.header }
     {
-        exchange(&mut self.bytes, at, span);
-        swap(&mut self.header.grace, grace);
+        overwrite(&mut self.bytes, at, span);
     }
 
     /// The least identifier after another one, or the least of all, with its record; None where there is none.
@@ -199,25 +170,6 @@ fn first_after(after: Option<u32>) -> Option<u32>
     }
 }
 
-/// The record in the data block of a leaf.
-///
-/// # Errors
-///
-/// The block has no entry of the leaf's identifier.
-#[inline(always)]
-fn record_at(format: Format, file: &[u8], leaf: TreePath) -> Result<Rec, Damage>
-    requires tree { IsTreeFormat format }
-    ensures found { IfOk result (λ rec. record_in format (block_of file.now leaf.block) leaf.number ≡ Some rec) }
-    ensures kept { IfOk result (IsKept format leaf.number) }
-    ensures refused { IfErr result (IsLeafFault format file.now leaf) }
-{
-    find_in(format, file, leaf.block, leaf.number).ok_or(Damage {
-        kind: DamageKind::MissingEntry,
-        block: leaf.block,
-        id: leaf.number,
-    })
-}
-
 /// The record in the data block of a leaf, which is looked for at a place first.
 ///
 /// # Errors
@@ -252,32 +204,10 @@ fn find_near_past_end(format: Format, file: &[u8], leaf: TreePath, near: &mut us
     find_near(format, &block_of(file, leaf.block), leaf.number, near)
 }
 
-/// The record of the first entry of a block that is used by an identifier.
-fn find_in(format: Format, file: &[u8], block: u32, id: u32) -> Option<Rec>
-    requires tree { IsTreeFormat format }
-    ensures value { result ≡ record_in format (block_of file.now block) id }
-    ensures kept { IfSome result (IsKept format id) }
+/// Writes bytes over those that a file has from a place on.
+fn overwrite(file: &mut [u8], at: usize, span: &[u8])
+    requires { at + length span.now ≤ length file.old }
+    ensures { file.new ≡ overwritten file.old at span.now }
 {
-    match whole_block(file, block) {
-        Some(block) => find_record(format, block, id),
-        None => find_past_end(format, file, block, id),
-    }
-}
-
-/// The same in a block that the file may not have whole, which is copied.
-fn find_past_end(format: Format, file: &[u8], block: u32, id: u32) -> Option<Rec>
-    requires tree { IsTreeFormat format }
-    ensures value { result ≡ record_in format (block_of file.now block) id }
-    ensures kept { IfSome result (IsKept format id) }
-{
-    find_record(format, &block_of(file, block), id)
-}
-
-/// Exchanges bytes with those that a file has from a place on.
-fn exchange(file: &mut [u8], at: usize, span: &mut [u8])
-    requires { at + length span.old ≤ length file.old }
-    ensures file { file.new ≡ overwritten file.old at span.old }
-    ensures span { span.new ≡ take (length span.old) (drop at file.old) }
-{
-    file[at..at + span.len()].swap_with_slice(span);
+    file[at..at + span.len()].copy_from_slice(span);
 }

@@ -15,19 +15,20 @@ ghost use Rattle.tree_build.specs.TreeFile.{TreeStandsFor};
 ghost use Rattle.tree_file.specs.View.{FitsRequest, HasHeader, IsAsAsked, IsRefusedHeader, IsTreeFault, IsTreeView};
 
 use crate::TreeFile;
+use crate::coming::Coming;
 use crate::file_header::header_in;
-use crate::loaded::{LoadedTree, Near};
-use crate::loading::{append_block, load_rest};
+use crate::loading::append_block;
 use entry_codec::{Header, HeaderFault};
-use quota_blocks::{BLOCK, CheckFault, FileUse, OpenFault, QuotaFile, Store};
+use quota_blocks::{BLOCK, FileUse, OpenFault, QuotaFile, Store};
+use quota_pages::Pages;
 use quota_types::{Format, Kind};
 use std::alloc::Global;
-use tree_check::{check_length, check_loaded};
+use tree_check::check;
 
-/// Opens a tree file, whose blocks are loaded and then checked. Bytes behind the last block are left out.
+/// Opens a tree file, which is checked block by block as the store has it. Nothing but its header is kept.
 ///
-/// It has one of the kind, of the format that is asked for, where one is, and at most `limit` blocks. The first block and each
-/// other one that the header states is read once at most, also where the file is refused.
+/// It has one of the kind, of the format that is asked for, where one is, and at most `limit` blocks. The first block is read,
+/// and then each block that the header states twice at most, also where the file is refused.
 ///
 /// # Errors
 ///
@@ -61,7 +62,7 @@ pub fn open_tree<S: Store>(
         ((S.seen store.old).files name.now) kind format limit) }
     ensures leaves { OnlyReads (is_ok result) name.now (S.seen store.old) (S.seen store.new) }
     ensures reads { IsTrue S.tells → (S.seen store.new).reads
-        ≤ (S.seen store.old).reads + max 1 (header_of (bytes_of ((S.seen store.old).files name.now))).blocks }
+        ≤ (S.seen store.old).reads + 1 + 2 * (header_of (bytes_of ((S.seen store.old).files name.now))).blocks }
 {
     let own_name = match String::from_str(alloc, name) {
         Ok(own_name) => own_name,
@@ -69,13 +70,14 @@ pub fn open_tree<S: Store>(
     };
     let first = first_block(alloc, store, name)?;
     let header = accepted_header(first.as_slice(), kind, format, limit)?;
-    let tree = checked_tree(alloc, store, name, first, header)?;
+    check(alloc, store, name, &header)?;
     Ok(TreeFile {
-        name: own_name,
+        pages: Pages::new(own_name),
         opened: FileUse::new(),
-        tree,
+        header,
+        coming: Coming::none(),
         limit,
-        near: Near::none(),
+        alloc,
     })
 }
 
@@ -150,40 +152,4 @@ fn is_other(asked: Option<Format>, format: Format) -> bool
         Some(wanted) => wanted != format,
         None => false,
     }
-}
-
-/// The blocks of a file, of which the first one was loaded and begins with this header, once they were checked. That the
-/// file is long enough is checked before memory is taken for them.
-fn checked_tree<S: Store>(
-    alloc: Global,
-    store: &mut S,
-    name: &str,
-    first: Vec<u8>,
-    header: Header,
-) -> Result<LoadedTree, CheckFault>
-    requires numbers { AreOf header (header_of first.items) }
-    requires tree { IsTreeFormat header.format }
-    requires two { 2 ≤ header.blocks }
-    requires within { vec_len first ≤ 1024 }
-    ensures header { IfOk result (λ tree. tree.header ≡ header) }
-    ensures stands { OnOk result (IsTrue S.tells
-        → first.items ≡ take 1024 (bytes_of ((S.seen store.old).files name.now))
-        → (value : QuotaValue) × TreeStandsFor (bytes_of ((S.seen store.old).files name.now)) value) }
-    ensures loaded { IfOk result (λ tree. IsTrue S.tells
-        → first.items ≡ take 1024 (bytes_of ((S.seen store.old).files name.now))
-        → tree.bytes.items ≡ take (1024 * header.blocks) (bytes_of ((S.seen store.old).files name.now))) }
-    ensures few { IfOk result (λ tree. vec_len tree.bytes ≤ 1024 * header.blocks) }
-    ensures refused { IfErr result (IsCheckFault (S.seen store.old).faults (S.seen store.new).faults
-        (λ damage. IsTrue S.tells
-        → first.items ≡ take 1024 (bytes_of ((S.seen store.old).files name.now))
-        → IsTreeDefect header.format (bytes_of ((S.seen store.old).files name.now))
-        (header_of (bytes_of ((S.seen store.old).files name.now))) damage)) }
-    ensures leaves { OnlyReads (is_ok result) name.now (S.seen store.old) (S.seen store.new) }
-    ensures reads { (S.seen store.new).reads + 1 ≤ (S.seen store.old).reads + header.blocks }
-{
-    check_length(store, name, header.blocks)?;
-    let mut bytes = first;
-    load_rest(store, name, header.blocks, &mut bytes)?;
-    let bytes = check_loaded(alloc, bytes, &header)?;
-    Ok(LoadedTree { bytes, header })
 }

@@ -9,6 +9,8 @@ mod build_rows;
 #[cfg(test)]
 mod check_rows;
 #[cfg(test)]
+mod grace_rows;
+#[cfg(test)]
 mod other_records;
 #[cfg(test)]
 mod plain;

@@ -1,6 +1,6 @@
 use crate::tree_files::*;
 use quota_blocks::{FileFault, MemStore, OpenFault, QuotaFile};
-use quota_types::{Format, Grace, Kind, Rec};
+use quota_types::{Format, Kind, Rec};
 use row_files::{Act, get, make, store_of};
 use std::alloc::Global;
 use std::process::Abort;
@@ -140,11 +140,6 @@ const ENTRY_WITH_LIMITS: &[Change] = &[
     (ENTRY + 48, 0),
 ];
 
-/// Grace periods, and the numbers of the header once it has them.
-const PERIODS: Grace = Grace { block: 7, inode: 9 };
-
-const WITH_PERIODS: &[Change] = &[(BLOCK_GRACE, 7), (INODE_GRACE, 9)];
-
 const CHANGED: &[ChangeRow] = &[
     ChangeRow {
         title: "a record is written over the old one",
@@ -187,36 +182,6 @@ const CHANGED: &[ChangeRow] = &[
         records: &[(7, Some(LIMITS)), (1000, Some(NULL))],
     },
     ChangeRow {
-        title: "grace periods are eight bytes",
-        file: (6144, &[]),
-        limit: 100,
-        acts: &[Act::SetGrace(PERIODS)],
-        fault: None,
-        after: Is((6144, &[WITH_PERIODS])),
-        flags: 0,
-        records: &[(1000, Some(USED))],
-    },
-    ChangeRow {
-        title: "grace periods are eight bytes, and what is behind the last block goes",
-        file: (6200, &[]),
-        limit: 100,
-        acts: &[Act::SetGrace(PERIODS)],
-        fault: None,
-        after: Is((6144, &[WITH_PERIODS])),
-        flags: 0,
-        records: &[(1000, Some(USED))],
-    },
-    ChangeRow {
-        title: "grace periods of the header alone",
-        file: (32, &[EMPTY]),
-        limit: 100,
-        acts: &[Act::SetGrace(PERIODS)],
-        fault: None,
-        after: Is((32, &[EMPTY, WITH_PERIODS])),
-        flags: 0,
-        records: &[(1000, None)],
-    },
-    ChangeRow {
         title: "a file is full past its limit, and may still be used",
         file: (6144, &[]),
         limit: 8,
@@ -246,12 +211,8 @@ fn a_change_is_made_as_it_is_asked_for(rt: HostRuntime) {
     expect_changes(&rt, rt.alloc(), CHANGED);
 }
 
-/// Changes of the six-block file: a new record, one over the old one, and the grace periods.
-const TRIED: &[Act] = &[
-    Act::Put(7, LIMITS),
-    Act::Put(1000, LIMITS),
-    Act::SetGrace(PERIODS),
-];
+/// Changes of the six-block file that put another file in its place: a new record, and one over the old one.
+const TRIED: &[Act] = &[Act::Put(7, LIMITS), Act::Put(1000, LIMITS)];
 
 /// More calls than opening and a change make.
 const CALLS: u64 = 40;
@@ -312,9 +273,6 @@ fn done_with(alloc: Global, store: &mut MemStore, change: &Act) -> End {
     }
     if QuotaFile::<MemStore>::usable(&opened) {
         return Wrong("the file may still be used");
-    }
-    if QuotaFile::<MemStore>::grace(&opened).block != 604_800 {
-        return Wrong("the grace periods of the opened file");
     }
     Refused
 }

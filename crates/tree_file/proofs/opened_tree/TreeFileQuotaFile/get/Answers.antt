@@ -1,12 +1,20 @@
-use Rattle.std.specs.String.{string_bytes}
-use Rattle.tree_file.proofs.LoadedLookupLemmas.{looks_up-damaged}
-use Rattle.tree_file.proofs.MakesLemmas.{loaded_stands}
+use Rattle.std.proofs.Common.{◌∙◌}
+use Rattle.tree_file.proofs.LooksUpLemmas.{held_known, held_of, held_stands, looks_up-failed}
 use Rattle.tree_file.proofs.opened_tree.TreeFileQuotaFile.get.Goals as goal
 
 pub returns-in-Ok-clause-found : goal.returns-in-Ok-clause-found
-returns-in-Ok-clause-found g c = λ value held. c.in-Ok.ensures.found value (loaded_stands _ _ _ _ value held)
+returns-in-Ok-clause-found g c = λ value held.
+    let was = c.args.self.now in
+    let seen = g.S.Store.seen c.args.store.now in
+    c.in-Ok.ensures.found (held_known g.S.Store.tells seen was.pages was.header was.coming was.limit value was.empty held)
+    (held_of g.S.Store.tells seen was.pages was.header was.coming was.limit value was.empty held)
+    value (held_stands g.S.Store.tells seen was.pages was.header was.coming was.limit value was.empty held)
 
 pub returns-in-Err-clause-looks : goal.returns-in-Err-clause-looks
 returns-in-Err-clause-looks g c =
-    looks_up-damaged _ (string_bytes c.args.self.now.name) c.args.self.now.opened c.refused.new.self _ _ _ _ c.refused.result c.in-Err.damage c.refused.ensures.same
-    (λ value stands. c.in-Err.ensures.refused value stands) c.in-Err.ensures.damage.1 (c.refused.ensures.counted _ _ _)
+    let was = c.args.self.now in
+    let up = c.in-Err.ensures.looked in
+    rw c.refused_look_up.ensures.same (rw c.look_up_fault.ensures
+    (looks_up-failed g.S.Store.tells (g.S.Store.seen c.args.store.now) (g.S.Store.seen c.record_of-found.new.store) was.pages c.record_of-found.new.pages c.clear.new.self
+    was.opened c.refused_look_up.new.self was.header was.coming was.coming was.limit 5 was.empty (c.clear.ensures.name ∙ up.name) up.reads (λ value held. held.next)
+    c.in-Err.fault c.in-Err.ensures.refused up.leaves (c.refused_look_up.ensures.counted _ _ _)))

@@ -1,12 +1,36 @@
-use Rattle.std.specs.String.{string_bytes}
-use Rattle.tree_file.proofs.LoadedLookupLemmas.{looks_up-damaged}
-use Rattle.tree_file.proofs.MakesLemmas.{loaded_stands}
+use Rattle.std.proofs.Common.{◌∙◌}
+use Rattle.tree_file.proofs.LooksUpLemmas.{held_known, held_of, held_stands, looks_up-done, looks_up-failed}
 use Rattle.tree_file.proofs.opened_tree.TreeFileQuotaFile.next_after.Goals as goal
 
 pub returns-in-Ok-clause-found : goal.returns-in-Ok-clause-found
-returns-in-Ok-clause-found g c = λ value held. c.in-Ok.ensures.found value (loaded_stands _ _ _ _ value held)
+returns-in-Ok-clause-found g c = λ value held.
+    let was = c.args.self.now in
+    let seen = g.S.Store.seen c.args.store.now in
+    c.in-Ok.ensures.found (held_known g.S.Store.tells seen was.pages was.header was.coming was.limit value was.empty held)
+    (held_of g.S.Store.tells seen was.pages was.header was.coming was.limit value was.empty held)
+    value (held_stands g.S.Store.tells seen was.pages was.header was.coming was.limit value was.empty held)
+
+pub returns-in-Ok-clause-looks : goal.returns-in-Ok-clause-looks
+returns-in-Ok-clause-looks g c =
+    let was = c.args.self.now in
+    let seen = g.S.Store.seen c.args.store.now in
+    let up = c.in-Ok.ensures.looked in
+    looks_up-done g.S.Store.tells seen (g.S.Store.seen c.next_record-found.new.store) was.pages c.clear.new.self was.opened was.opened was.header was.coming c.next_record-found.new.coming was.limit 8 was.empty
+    (c.clear.ensures.name ∙ up.name) up.reads
+    (λ value held. c.in-Ok.ensures.next (held_known g.S.Store.tells seen was.pages was.header was.coming was.limit value was.empty held)
+    (held_of g.S.Store.tells seen was.pages was.header was.coming was.limit value was.empty held)
+    value (held_stands g.S.Store.tells seen was.pages was.header was.coming was.limit value was.empty held))
+    c.in-Ok.found up.leaves
 
 pub returns-in-Err-clause-looks : goal.returns-in-Err-clause-looks
 returns-in-Err-clause-looks g c =
-    looks_up-damaged _ (string_bytes c.args.self.now.name) c.args.self.now.opened c.refused.new.self _ _ _ _ c.refused.result c.in-Err.damage c.refused.ensures.same
-    (λ value stands. c.in-Err.ensures.refused value stands) c.in-Err.ensures.damage.1 (c.refused.ensures.counted _ _ _)
+    let was = c.args.self.now in
+    let seen = g.S.Store.seen c.args.store.now in
+    let up = c.in-Err.ensures.looked in
+    rw c.refused_look_up.ensures.same (rw c.look_up_fault.ensures
+    (looks_up-failed g.S.Store.tells seen (g.S.Store.seen c.next_record-found.new.store) was.pages c.next_record-found.new.pages c.clear.new.self
+    was.opened c.refused_look_up.new.self was.header was.coming c.next_record-found.new.coming was.limit 8 was.empty (c.clear.ensures.name ∙ up.name) up.reads
+    (λ value held. c.in-Err.ensures.next (held_known g.S.Store.tells seen was.pages was.header was.coming was.limit value was.empty held)
+    (held_of g.S.Store.tells seen was.pages was.header was.coming was.limit value was.empty held)
+    value (held_stands g.S.Store.tells seen was.pages was.header was.coming was.limit value was.empty held))
+    c.in-Err.fault c.in-Err.ensures.refused up.leaves (c.refused_look_up.ensures.counted _ _ _)))

@@ -1,22 +1,23 @@
-use Rattle.std.proofs.Common.{arith}
-use Rattle.quota_blocks.specs.FileChange.{SetGrace}
-use Rattle.tree_file.proofs.GracedLemmas.{graced_changed, graced_of, has_blocks}
+use Rattle.quota_pages.specs.Pages.{name_of}
+use Rattle.tree_file.proofs.GraceChangeLemmas.{changes_graced, changes_not_graced}
 use Rattle.tree_file.proofs.opened_tree.TreeFileQuotaFile.set_grace.Goals as goal
 
-pub rewrite_span-requires-clause-inside : goal.rewrite_span-requires-clause-inside
-rewrite_span-requires-clause-inside g c =
-    let tree = c.args.self.now.tree in
-    grind (arith, has_blocks tree.bytes.items tree.header tree.of c.args.self.now.two, tree.bytes.ok.0)
-
-pub rewrite_span-requires-clause-of : goal.rewrite_span-requires-clause-of
-rewrite_span-requires-clause-of g c =
-    let tree = c.args.self.now.tree in
-    graced_of tree.bytes.items c.grace_bytes.result tree.header c.args.grace tree.of c.args.self.now.two (grind arith) c.grace_bytes.ensures.block c.grace_bytes.ensures.inode
-
-pub returns : goal.returns
-returns g c =
-    let tree = c.args.self.now.tree in
+pub returns-in-Ok : goal.returns-in-Ok
+returns-in-Ok g c =
+    let S = g.S.Store in
+    let opened = c.args.self.now in
+    let done = c.in-Ok.ensures in
     record {
-      changes = c.rewrite_span.ensures (SetGrace c.args.grace)
-          (graced_changed tree.bytes.items c.grace_bytes.result tree.header c.args.grace tree.of c.args.self.now.two (grind arith) c.grace_bytes.ensures.block c.grace_bytes.ensures.inode);
+      changes = changes_graced S.tells c.args.grace (name_of opened.pages) (name_of c.set_grace_in.new.pages) opened.opened opened.header opened.coming c.none-self.result opened.limit (S.seen c.args.store.now) (S.seen c.set_grace_in.new.store) tt
+          done.name done.graced done.synced done.leaves done.reads done.writes c.none-self.ensures.holds;
+    }
+
+pub returns-in-Err : goal.returns-in-Err
+returns-in-Err g c =
+    let S = g.S.Store in
+    let opened = c.args.self.now in
+    let failed = c.in-Err.ensures in
+    record {
+      changes = changes_not_graced S.tells c.args.grace (name_of opened.pages) (name_of c.set_grace_in.new.pages) opened.opened c.refused.new.self opened.header opened.coming opened.limit (S.seen c.args.store.now) (S.seen c.set_grace_in.new.store)
+          c.refused.result c.refused.ensures.same failed.name failed.torn failed.cause failed.leaves failed.reads failed.writes (λ name. c.refused.ensures.counted name opened.header.format opened.limit);
     }

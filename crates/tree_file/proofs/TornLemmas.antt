@@ -1,0 +1,84 @@
+-- A file of which a flush wrote some blocks: each is the old or the new one.
+use Rattle.std.proofs.Common.{◌≡◌, ℕ, Bool, true, false, ◌&&◌, ◌||◌, List, [], ◌∷◌, take, drop, Option, Some, inl, inr, sym, ap, subst, ◌∙◌, refl}
+use Rattle.std.specs.Prelude.{◌==◌, IsSome}
+use Rattle.std.proofs.lemmas.Bool.{cases_Bool, cond-true, cond-false, false≢true}
+use Rattle.std.proofs.lemmas.List.{take-append-drop}
+use Rattle.std.proofs.lemmas.List.Folds.{list_any-append}
+use Rattle.quota_types.specs.Times.{StandsIn}
+use Rattle.file_blocks.specs.Block.{block_of, bytes_of}
+use Rattle.outside.specs.World.{World, with_file}
+use Rattle.outside.proofs.WorldLemmas.{with_file-at}
+use Rattle.quota_pages.specs.Flushed.{IsPartlyFlushed, flushed_files}
+use Rattle.quota_pages.specs.Page.{Page, is_lent, is_some_lent, lent_numbers, shown}
+use Rattle.quota_pages.specs.Pages.{name_of, pages_of}
+use Rattle.quota_pages.specs.Used.{KeepsBlocksBut}
+use Rattle.quota_pages.specs.declared.page_buffer.Pages.{Pages}
+use Rattle.quota_pages.proofs.BufferLemmas.{block_left}
+use Rattle.quota_pages.proofs.FlushLemmas.{bytes_flushed}
+use Rattle.quota_pages.proofs.LentLemmas.{few_numbers, keeps_flushed, lent_of_stands, lent_stands}
+use Rattle.quota_pages.proofs.UsedLemmas.{keeps_more}
+use Rattle.tree_file.specs.TreeChange.{IsTorn, TreeLeaves}
+
+-- where some page was lent for writing the named file is what was shown, and else nothing has changed
+pub flushed_some : (files : World) (name : List ℕ) (pages : List Page) → is_some_lent pages ≡ true → flushed_files files name pages ≡ with_file files name (Some (shown pages (bytes_of (files name))))
+unfolding flushed_files
+flushed_some files name pages some = cond-true _ _ _ some
+
+pub flushed_not : (files : World) (name : List ℕ) (pages : List Page) → is_some_lent pages ≡ false → flushed_files files name pages ≡ files
+unfolding flushed_files
+flushed_not files name pages none = cond-false _ _ _ none
+
+one_lent : (lent same rest some : Bool) → (rest ≡ true → some ≡ true) → ((lent && same) || rest) ≡ true → (lent || some) ≡ true
+one_lent true same rest some passed is = refl
+one_lent false same rest some passed is = passed is
+
+-- where a block was lent for writing some page was
+pub some_lent : (pages : List Page) (number : ℕ) → is_lent pages number ≡ true → is_some_lent pages ≡ true
+some_lent [] number lent = absurd (false≢true lent)
+some_lent (page ∷ pages) number lent = one_lent page.lent (page.number == number) (is_lent pages number) (is_some_lent pages) (some_lent pages number) lent
+
+-- a block that was lent for writing among the first pages was among all
+lent_in_part : (pages : List Page) (count number : ℕ) → is_lent (take count pages) number ≡ true → is_lent pages number ≡ true
+lent_in_part pages count number lent =
+    ap (λ (ps : List Page). is_lent ps number) (sym (take-append-drop count pages))
+    ∙ list_any-append (λ (page : Page). page.lent && page.number == number) (take count pages) (drop count pages)
+    ∙ ap (λ (b : Bool). b || is_lent (drop count pages) number) lent
+
+stands_in_part : (pages : List Page) (count number : ℕ) → StandsIn (lent_numbers (take count pages)) number → StandsIn (lent_numbers pages) number
+stands_in_part pages count number stands = lent_stands pages number (lent_in_part pages count number (lent_of_stands (take count pages) number stands))
+
+-- of the blocks that were lent for writing each is the old or the new one, and all others stay
+pub torn_flushed : (buffer : Pages) (old new : World) → IsPartlyFlushed (name_of buffer) (pages_of buffer) old new
+    → IsTorn (bytes_of (old (name_of buffer))) (bytes_of (flushed_files old (name_of buffer) (pages_of buffer) (name_of buffer))) (bytes_of (new (name_of buffer)))
+torn_flushed buffer old new partly =
+    let name = name_of buffer in
+    let pages = pages_of buffer in
+    record {
+      numbers = lent_numbers pages;
+      few = few_numbers buffer;
+      others =
+          subst (λ (file : List ℕ). KeepsBlocksBut (lent_numbers pages) (bytes_of (old name)) file) (sym (ap (λ (files : World). bytes_of (files name)) partly.files))
+          (keeps_more (lent_numbers pages) (stands_in_part pages partly.count) (keeps_flushed old name (take partly.count pages)));
+      each = λ number. elim (block_left buffer old new number partly) [
+        | inl kept ↦ inl kept
+        | inr shows ↦ inr (shows ∙ sym (ap (λ (file : List ℕ). block_of file number) (bytes_flushed old name pages)))
+      ];
+    }
+
+some_file : (file : Option (List ℕ)) (bytes : List ℕ) → file ≡ Some bytes → IsSome file
+some_file file bytes is = subst IsSome (sym is) refl
+
+-- a flush that failed leaves the old file, or one that lies between it and the one that was shown
+pub leaves_flushed : (buffer : Pages) (old new : World) → IsPartlyFlushed (name_of buffer) (pages_of buffer) old new
+    → TreeLeaves (old (name_of buffer)) (flushed_files old (name_of buffer) (pages_of buffer) (name_of buffer)) (new (name_of buffer))
+leaves_flushed buffer old new partly =
+    let name = name_of buffer in
+    let part : List Page = take partly.count (pages_of buffer) in
+    elim (cases_Bool (is_some_lent part)) [
+      | inl some ↦ inr (
+        some_file (new name) (shown part (bytes_of (old name)))
+            (ap (λ (files : World). files name) (partly.files ∙ flushed_some old name part some) ∙ with_file-at old name (Some (shown part (bytes_of (old name))))),
+        torn_flushed buffer old new partly,
+      )
+      | inr none ↦ inl (ap (λ (files : World). files name) (partly.files ∙ flushed_not old name part none))
+    ]

@@ -1,0 +1,23 @@
+use Rattle.std.proofs.Common.{length, List, sym, ap, ◌∙◌, arith}
+use Rattle.std.proofs.lemmas.List.{take_all}
+use Rattle.quota_pages.specs.Flushed.{flushed_files}
+use Rattle.quota_pages.specs.Page.{Page, lent_count}
+use Rattle.quota_pages.specs.Pages.{name_of, pages_of}
+use Rattle.quota_pages.proofs.FlushLemmas.{counted_by-most, on_err}
+use Rattle.tree_file.proofs.finishing.finish.Goals as goal
+
+-- what was not synced was written whole, which is a part too
+pub returns-clause-torn : goal.returns-clause-torn
+returns-clause-torn g c =
+    let pages = pages_of c.args.pages.now in
+    on_err c.sync.result _ (λ told. record {
+      count = length pages;
+      files = c.sync.ensures.leaves.files
+          ∙ c.in_ok-flushed.ensures.flushed told
+          ∙ ap (λ (ps : List Page). flushed_files (g.S.Store.seen c.args.store.now).files (name_of c.args.pages.now) ps) (sym (take_all (length pages) pages (omega arith)));
+    })
+
+pub returns-clause-writes : goal.returns-clause-writes
+returns-clause-writes g c =
+    let pages = pages_of c.args.pages.now in
+    omega (arith, c.sync.ensures.leaves.writes, c.in_ok-flushed.ensures.writes, counted_by-most (g.S.Store.seen c.args.store.now).writes (lent_count pages))

@@ -1,0 +1,94 @@
+ghost use Rattle.std.specs.Prelude.{◌≡◌, ◌+◌, ◌∷◌, ◌^◌, ◌<◌, ◌≤◌, [], length, true, false, IsTrue, OnErr, OnOk};
+ghost use Rattle.outside.specs.Count.{Rose};
+ghost use Rattle.outside.specs.Frame.{IsSynced, ReplacesOne};
+ghost use Rattle.quota_blocks.specs.Span.{KeepsOutside};
+ghost use Rattle.quota_pages.specs.Page.{is_lent};
+ghost use Rattle.quota_pages.specs.Pages.{name_of, pages_of};
+ghost use Rattle.quota_pages.specs.Used.{IsKnown, LendsSome, LooksAtSome, shown_over};
+ghost use Rattle.quota_types.specs.Bytes.{number_at};
+ghost use Rattle.tree_file.specs.GraceChange.{GracesFile, IsGraceLeft};
+ghost use Rattle.tree_file.specs.TreeChange.{IsGraced};
+
+use crate::finishing::finish;
+use quota_blocks::{Store, StoreFault, set_le32};
+use quota_pages::Pages;
+use quota_types::Grace;
+
+/// The block of the header.
+const HEADER: u32 = 0;
+
+/// Where the period for blocks stands in it.
+const BLOCK_GRACE_AT: usize = 8;
+
+/// Where the one for inodes does.
+const INODE_GRACE_AT: usize = 12;
+
+/// Sets the two periods in the block of a header. All its other bytes stay.
+fn set_periods(block: &mut [u8; 1024], grace: Grace)
+    requires block { grace.block < 2 ^ 32 }
+    requires inode { grace.inode < 2 ^ 32 }
+    ensures others { KeepsOutside 8 16 block.old block.new }
+    ensures block_grace { number_at 4 block.new 8 ≡ grace.block }
+    ensures inode_grace { number_at 4 block.new 12 ≡ grace.inode }
+{
+    set_le32(block, BLOCK_GRACE_AT, grace.block as u32);
+    set_le32(block, INODE_GRACE_AT, grace.inode as u32);
+}
+
+/// Lends the first block for writing, and sets the two periods in it.
+///
+/// # Errors
+///
+/// The store failed. The buffer shows what it showed.
+fn lend_periods<S: Store>(pages: &mut Pages, store: &mut S, grace: Grace) -> Result<(), StoreFault>
+    requires block { grace.block < 2 ^ 32 }
+    requires inode { grace.inode < 2 ^ 32 }
+    requires room { length (pages_of pages.old) < 12 }
+    ensures set { OnOk result (IsKnown S.tells (S.seen store.old) pages.old
+        → IsGraced grace (shown_over (S.seen store.old) pages.old) (shown_over (S.seen store.new) pages.new)) }
+    ensures lends { OnOk result (LendsSome S.tells true 1 (0 ∷ [])
+        (S.seen store.old) (S.seen store.new) pages.old pages.new) }
+    ensures marked { OnOk result (is_lent (pages_of pages.new) 0 ≡ true) }
+    ensures kept { OnErr result (LooksAtSome S.tells false 1
+        (S.seen store.old) (S.seen store.new) pages.old pages.new) }
+    ensures cause { OnErr result (Rose (S.seen store.old).faults (S.seen store.new).faults) }
+{
+    let block = pages.page(store, HEADER)?;
+    set_periods(block, grace);
+    Ok(())
+}
+
+/// Sets the two periods of a file where they stand in its first block, and syncs it. The buffer is empty before and then.
+///
+/// # Errors
+///
+/// The store failed. The first block is the old or the new one.
+pub(crate) fn set_grace_in<S: Store>(
+    pages: &mut Pages,
+    store: &mut S,
+    grace: Grace,
+) -> Result<(), StoreFault>
+    requires block { grace.block < 2 ^ 32 }
+    requires inode { grace.inode < 2 ^ 32 }
+    requires empty { pages_of pages.old ≡ [] }
+    ensures graced { OnOk result (IsTrue S.tells
+        → GracesFile grace (name_of pages.old) (S.seen store.old).files (S.seen store.new).files) }
+    ensures synced { OnOk result (IsTrue S.tells
+        → IsSynced (name_of pages.old) (S.seen store.old) (S.seen store.new)) }
+    ensures torn { OnErr result (IsTrue S.tells
+        → IsGraceLeft grace (name_of pages.old) (S.seen store.old).files (S.seen store.new).files) }
+    ensures cause { OnErr result (Rose (S.seen store.old).faults (S.seen store.new).faults) }
+    ensures leaves { ReplacesOne (name_of pages.old) (S.seen store.old) (S.seen store.new) }
+    ensures reads { (S.seen store.new).reads ≤ (S.seen store.old).reads + 1 }
+    ensures writes { (S.seen store.new).writes ≤ (S.seen store.old).writes + 1 }
+    ensures name { name_of pages.new ≡ name_of pages.old }
+    ensures empty { pages_of pages.new ≡ [] }
+{
+    match lend_periods(pages, store, grace) {
+        Ok(()) => finish(pages, store),
+        Err(fault) => {
+            pages.clear();
+            Err(fault)
+        }
+    }
+}
