@@ -276,11 +276,6 @@ carried_alone d invocation tells old new result finished one same carries named 
   unbegun = λ reads. absurd (false≢true (sym one ∙ reads));
 }
 
--- what follows from a fact of every refusal holds of the one that was answered
-pub of_every_refusal : (result : Result (Unit {0}) Refusal) {fact : Type 0} {holds : Refusal → Type 0} → ((refusal : Refusal) → fact → holds refusal) → OnErr result fact → IfErr result holds
-of_every_refusal (Ok value) so is = tt
-of_every_refusal (Err refusal) so is = so refusal is
-
 -- what follows from a fact of a refusal holds of the one that was answered
 pub of_refusal_weaker : (result : Result (Unit {0}) Refusal) (one other : Refusal → Type 0) → ((refusal : Refusal) → one refusal → other refusal) → IfErr result one → IfErr result other
 of_refusal_weaker (Ok value) one other so is = tt

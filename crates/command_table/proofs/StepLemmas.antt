@@ -1,10 +1,11 @@
--- Steps of commands, row by row of the table: that they look at files before they change one, and that they read the standard
--- input to its end.
-use Rattle.std.proofs.Common.{true, IsTrue, None}
+-- Steps of commands, row by row of the table: that they look at files before they change one, but for looks that find whether there
+-- is room for further edits, and that they read the standard input to its end.
+use Rattle.std.proofs.Common.{true, IsTrue, None, refl}
 use Rattle.command_words.specs.declared.command.Command.{Command}
 use Rattle.command_words.specs.declared.command.Command.TheVariants.{Report, SetLimits, CopyLimits, SetGrace, SetTimes, Batch, PrintForm, ApplyForm, Check, Convert, Serve, Script, Generate}
-use Rattle.run_steps.specs.OneCommand.{LooksFirst, ReadsToEnd}
+use Rattle.run_steps.specs.OneCommand.{LooksFirstBy, ReadsToEnd}
 use Rattle.run_steps.specs.declared.invocation.Invocation.{Invocation}
+use Rattle.run_steps.proofs.MeaningLemmas.{looks_wider}
 use Rattle.edit_commands.specs.declared.edit.EditWords.TheVariants.{Limits, Copy, Grace, Times}
 use Rattle.edit_commands.proofs.MeaningLemmas.{apply_looks, apply_reads, batch_looks, batch_reads, edit_looks, print_looks}
 use Rattle.file_commands.proofs.GenerateStepLemmas.{generate_looks}
@@ -13,8 +14,10 @@ use Rattle.rquota_serve.specs.Exported.{Exported, nothing_exported}
 use Rattle.serve_command.specs.Serve.{AnsweringSteps}
 use Rattle.serve_command.proofs.StepLemmas.{looks_answering, looks_opening_all}
 use Rattle.command_table.specs.Table.{described}
+use Rattle.command_table.specs.Views.{edits_records}
 
-pub command_looks : (command : Command) (invocation : Invocation) → LooksFirst true true ((described command).steps invocation)
+-- only one that reads edits looks for room behind a change
+pub command_looks : (command : Command) (invocation : Invocation) → LooksFirstBy (described command).uses.reads_edits true true ((described command).steps invocation)
 command_looks (Report common options file) invocation = report_looks common options file invocation
 command_looks (SetLimits common name limits file) invocation = edit_looks common (Limits name limits) file invocation
 command_looks (CopyLimits common proto name file) invocation = edit_looks common (Copy proto name) file invocation
@@ -29,6 +32,15 @@ command_looks (Serve format calls port exports) invocation =
     looks_opening_all true format exports nothing_exported (λ (exported : Exported). AnsweringSteps exported calls) (λ exported. looks_answering true exported calls)
 command_looks Script invocation = tt
 command_looks (Generate seed count file) invocation = generate_looks seed count file invocation.now
+
+-- one that reads edits edits records
+reads_records : (command : Command) → IsTrue (described command).uses.reads_edits → IsTrue (edits_records command)
+reads_records (Batch common input file) reads = refl
+reads_records _ reads = absurd (cc)
+
+pub looks_for_room : (command : Command) (invocation : Invocation) → LooksFirstBy (edits_records command) true true ((described command).steps invocation)
+looks_for_room command invocation =
+    looks_wider (described command).uses.reads_edits (edits_records command) true true ((described command).steps invocation) (reads_records command) (command_looks command invocation)
 
 pub command_reads : (command : Command) (invocation : Invocation) → IsTrue (described command).uses.input → ReadsToEnd ((described command).steps invocation)
 command_reads (Batch common None file) invocation uses = batch_reads common file invocation

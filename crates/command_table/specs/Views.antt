@@ -1,14 +1,13 @@
 -- What a command looks at, and which worlds are alike for it: those in which it sees the same.
-use Rattle.std.specs.Prelude.{◌≡◌, ◌⊎◌, ℕ, Bool, true, false, IsTrue, List, [], ◌∷◌, map, Option, Some, None, ⊤}
+use Rattle.std.specs.Prelude.{◌≡◌, ℕ, Bool, true, false, List, [], ◌∷◌, map, Option, Some, None}
 use Rattle.quota_types.specs.declared.file_kind.Format.{Format}
-use Rattle.refusals.specs.declared.cause.Cause.{Cause}
-use Rattle.refusals.specs.declared.cause.Cause.TheVariants.{Full}
 use Rattle.refusals.specs.declared.reason.Refusal.{Refusal}
 use Rattle.option_words.specs.declared.export.Export.{Export}
 use Rattle.command_words.specs.declared.command.Command.{Command}
 use Rattle.command_words.specs.declared.command.Command.TheVariants.{Report, SetLimits, CopyLimits, SetGrace, SetTimes, Batch, PrintForm, ApplyForm, Check, Convert, Serve, Script, Generate}
 use Rattle.command_words.specs.declared.command.Common.{Common}
 use Rattle.run_steps.specs.Done.{Outside}
+use Rattle.run_steps.specs.OneCommand.{UnlessOneFull}
 use Rattle.run_steps.specs.SameViews.{FileAsked, IsFileAlike, IsSameFile, IsThereAlike, Opens}
 use Rattle.run_steps.specs.declared.invocation.Invocation.{Invocation}
 use Rattle.command_table.specs.Table.{described}
@@ -70,7 +69,7 @@ pub record AreAlike (command : Command) (invocation : Invocation) (one other : O
 
 -- Effects that are the same.
 
--- A command edits records of a file, for which there may be no room in its blocks.
+-- a command edits records of a file, for which there may be no room in its blocks
 abbrev pub edits_records : Command → Bool
 edits_records (SetLimits common name limits file) = true
 edits_records (CopyLimits common proto name file) = true
@@ -79,17 +78,7 @@ edits_records (Batch common input file) = true
 edits_records (ApplyForm common input name file) = true
 edits_records _ = false
 
--- a cause is want of room in the blocks of a file
-abbrev pub IsFullCause : Cause → Type 0
-IsFullCause (Full blocks limit) = ⊤
-IsFullCause _ = ⊥
-
--- such a refusal
-abbrev pub IsFull : Option Refusal → Type 0
-IsFull None = ⊥
-IsFull (Some refusal) = IsFullCause refusal.cause
-
 -- Two effects of a command are the same, unless it edits records and one of the two is a refusal for want of room in blocks, which may
 -- rest on more of a file than its value.
 abbrev pub SameUnlessFull : Command → (refusal stop : Option Refusal) → (same : Type 0) → Type 0
-SameUnlessFull command refusal stop same = same ⊎ (IsTrue (edits_records command) × (IsFull refusal ⊎ IsFull stop))
+SameUnlessFull command = UnlessOneFull (edits_records command)

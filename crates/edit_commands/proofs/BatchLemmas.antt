@@ -1,6 +1,6 @@
 -- Edits of lines, one after another: what they have done up to one of them, what a command does that makes them, and for what the
 -- edit of one may fail.
-use Rattle.std.proofs.Common.{◌≡◌, ◌⊎◌, ℕ, Bool, IsTrue, List, [], ◌∷◌, ◌++◌, Option, None, Some, Ok, Err, Result, inl, inr, refl, sym, ap, subst, ◌∙◌, arith, append_assoc, true}
+use Rattle.std.proofs.Common.{◌≡◌, ◌⊎◌, ℕ, Bool, IsTrue, List, [], ◌∷◌, ◌++◌, Option, None, Some, Ok, Err, Result, inl, inr, refl, sym, subst, ◌∙◌, arith, true}
 use Rattle.std.specs.Prelude.{IsOkAnd, is_none}
 use Rattle.std.proofs.lemmas.Bool.{false≢true}
 use Rattle.id_names.specs.NamesFile.{NameLine}
@@ -20,26 +20,26 @@ use Rattle.edit_commands.specs.declared.batch_line.LineEdit.{LineEdit}
 use Rattle.refusals.specs.declared.cause.Cause.{Cause}
 use Rattle.refusals.specs.declared.cause.Cause.TheVariants.{StoreFault, SourceFault, SinkFault, LinkFault, Memory as NoMemory}
 use Rattle.refusals.specs.declared.reason.Refusal.{Refusal}
-use Rattle.refusals.specs.Outcome.{Outcome, Passed}
+use Rattle.refusals.specs.Outcome.{Outcome}
 use Rattle.refusals.specs.Refusals.{refusal_of}
 use Rattle.run_steps.specs.Act.{Act}
-use Rattle.run_steps.specs.Done.{RunSeen, RunTells, outside_of}
+use Rattle.run_steps.specs.Done.{Outside, RunSeen, RunTells, outside_of}
 use Rattle.run_steps.specs.Meaning.{EndsBy}
 use Rattle.run_steps.specs.Opening.{MayRefuseOpening}
-use Rattle.run_steps.specs.Run.{CarriesOut, HasReason, HasSteps, IsDoneInPart}
-use Rattle.run_steps.specs.Steps.{AreDoneThen, Steps}
-use Rattle.edit_commands.specs.Batch.{Applying, Asked, IsOfLine, LineEditMayRefuse, LineSteps, LineMayRefuse, at_line, edit_of, line_uses, met_at, value_left}
-use Rattle.edit_commands.specs.Edits.{ChangeMayRefuse, edit_cause}
-use Rattle.run_steps.proofs.DoingLemmas.{AreWritten, done_of, done_steps, doing_begun, doing_ended, doing_ends, written_both, written_none}
-use Rattle.run_steps.proofs.LookingLemmas.{only_carried, only_carries}
-use Rattle.run_steps.proofs.OpeningLemmas.{store_later, with_store}
-use Rattle.run_steps.proofs.PartLemmas.{acts_in_part, carried_whole, part_from}
+use Rattle.run_steps.specs.Run.{CarriesOut, HasReason, HasSteps}
+use Rattle.run_steps.specs.Steps.{DoingAll, Then}
+use Rattle.edit_commands.specs.Batch.{Applying, Asked, EditsThen, IsOfLine, LineEditMayRefuse, LineSteps, LineMayRefuse, at_line, edit_of, line_uses, met_at, value_left}
+use Rattle.edit_commands.specs.Edits.{ChangeMayRefuse, edit_cause, edit_step}
+use Rattle.run_steps.proofs.DoingLemmas.{AreWritten, done_of, written_both, written_none}
+use Rattle.run_steps.proofs.LookingLemmas.{AddsEnd, adds_looking, adds_none, adds_then, leads_doing, part_adding, steps_adding}
+use Rattle.run_steps.proofs.OpeningLemmas.{refused_steps, store_later, with_store}
+use Rattle.run_steps.proofs.PartLemmas.{carried_whole, part_from}
 use Rattle.run_steps.proofs.ReasonLemmas.{reason_but_stated}
-use Rattle.edit_commands.proofs.AppliedLemmas.{Applied, AppliedThen, applied, does_then, edits_only, first_of, lines_only, step_same}
+use Rattle.run_steps.proofs.RowLemmas.{LeadsBy, led_both, part_led, steps_led}
 use Rattle.edit_commands.proofs.BatchInputLemmas.{unnamed}
 use Rattle.edit_commands.proofs.EditFileLemmas.{AnyEdits, edit_may}
 use Rattle.edit_commands.proofs.EditLemmas.{IsMade, acts_of, acts_written, step_made}
-use Rattle.edit_commands.proofs.RefusedEditLemmas.{HasEditCause, IsRefusedAt, edit_reason, refused_part}
+use Rattle.edit_commands.proofs.RefusedEditLemmas.{HasEditCause, IsRefusedAt, edit_reason, met_part, refused_part}
 
 -- the value that an edit left is held
 pub left_held : (holds : QuotaValue → Type 0) (edited : Result QuotaValue (Field × ℕ)) (value : QuotaValue) → IsOkAnd edited holds → holds (value_left edited value)
@@ -48,29 +48,40 @@ left_held holds (Err out) value held = absurd held
 
 -- Edits that were made, one after another.
 
--- what edits of lines do from this value
-abbrev Does : List ℕ → ℕ → List LineEdit → QuotaValue → Steps
-Does file now lines value = AreDoneThen (applied file now lines value).acts (applied file now lines value).refusal
-
--- acts, and then what other edits do
-abbrev pub acts_then : List Act → Applied → Applied
-acts_then acts more = does_then (Passed acts) more
-
--- Of the lines these are left: the edits of those before them were made, and the file holds the value that they left.
+-- Of the lines these are left: the edits of those before them were made, the file holds the value that they left, and the steps of
+-- all lines go on with those of these.
 pub record AreMade (file : List ℕ) (now : ℕ) (lines rest : List LineEdit) (start : QuotaValue) (old store : StoreSeen) (holds : QuotaValue → Type 0) : Type 0 where
   pub value : QuotaValue
   pub held : holds value
   pub acts : List Act
   pub done : AreWritten acts old store
-  pub whole : applied file now lines start ≡ acts_then acts (applied file now rest value)
+  pub leads : (from : Outside) → from.files ≡ old.files
+      → LeadsBy acts (LineSteps file now rest value) (record from { files = store.files }) (LineSteps file now lines start) from
 
 -- none was made yet
 pub made_none : {done : Bool} (file : List ℕ) (now : ℕ) (lines : List LineEdit) (start : QuotaValue) (name : List ℕ) (old store : StoreSeen) (holds : QuotaValue → Type 0) → OnlyReads done name old store → holds start
     → AreMade file now lines lines start old store holds
-made_none file now lines start name old store holds reads held = record { value = start; held = held; acts = []; done = written_none name old store reads; whole = refl }
+made_none file now lines start name old store holds reads held = record {
+  value = start;
+  held = held;
+  acts = [];
+  done = written_none name old store reads;
+  leads = λ from same. leads_doing [] (LineSteps file now lines start) from store.files (reads.files ∙ sym same);
+}
 
-acts_both : (acts more : List Act) (rest : Applied) → acts_then acts (acts_then more rest) ≡ acts_then (acts ++ more) rest
-acts_both acts more rest = ap (λ (l : List Act). record { acts = l; refusal = rest.refusal }) (sym (append_assoc acts more rest.acts))
+-- the steps of a line whose edit was made go on with those of the lines behind it
+line_leads : (file : List ℕ) (now : ℕ) (line : LineEdit) (rest : List LineEdit) (value : QuotaValue) (told : Type 0) (before after : StoreSeen) (from : Outside) → IsMade file (edit_of line now) value told before after → told
+    → LeadsBy (acts_of file (edit_of line now) value) (LineSteps file now rest (value_left ((edit_of line now).edited value) value)) (record from { files = after.files })
+    (LineSteps file now (line ∷ rest) value) (record from { files = before.files })
+line_leads file now line rest value told before after from made is =
+    let edit = edit_of line now in
+    let acts = acts_of file edit value in
+    let next = LineSteps file now rest (value_left (edit.edited value) value) in
+    let here = record from { files = before.files } in
+    let leads = subst (λ (o : Outcome (List Act)). LeadsBy acts next (record from { files = after.files }) (Then (met_at line.number o) (λ (a : List Act). DoingAll a next)) here)
+    (sym (step_made file edit value told before after made is))
+    (leads_doing acts next here after.files (acts_written file edit value told before after made is).files) in
+    record { ends = leads.ends; begun = leads.begun }
 
 -- one more was made
 pub made_more : (file : List ℕ) (now : ℕ) (lines : List LineEdit) (line : LineEdit) (rest : List LineEdit) (start : QuotaValue) (old before after : StoreSeen) (holds after_holds : QuotaValue → Type 0) (told : Type 0) → told
@@ -79,26 +90,25 @@ pub made_more : (file : List ℕ) (now : ℕ) (lines : List LineEdit) (line : Li
 made_more file now lines line rest start old before after holds after_holds told is are made held =
     let edit = edit_of line now in
     let acts = acts_of file edit are.value in
-    let more = applied file now rest (value_left (edit.edited are.value) are.value) in
+    let left = value_left (edit.edited are.value) are.value in
     record {
-      value = value_left (edit.edited are.value) are.value;
+      value = left;
       held = left_held after_holds (edit.edited are.value) are.value held;
       acts = are.acts ++ acts;
       done = written_both are.acts acts old before after are.done (acts_written file edit are.value told before after made is);
-      whole = are.whole
-          ∙ ap (λ (o : Outcome (List Act)). acts_then are.acts (does_then (met_at line.number o) more))
-          (step_same file edit None (before.files file) are.value ∙ step_made file edit are.value told before after made is)
-          ∙ acts_both are.acts acts more;
+      leads = λ from same.
+          led_both are.acts acts (LineSteps file now rest left) (LineSteps file now (line ∷ rest) are.value) (LineSteps file now lines start)
+          (record from { files = after.files }) (record from { files = before.files }) from (are.leads from same)
+          (line_leads file now line rest are.value told before after from made is);
     }
 
--- acts behind those of the edits that were made were done where the store is as it was, and then this end
-made_then : {done : Bool} (file : List ℕ) (now : ℕ) (lines rest : List LineEdit) (start : QuotaValue) (tells : RunTells) (old : RunSeen) (before after : StoreSeen) (holds : QuotaValue → Type 0) (end : Option Refusal)
-    → (are : AreMade file now lines rest start old.store before holds) → OnlyReads done file before after → applied file now rest are.value ≡ record { acts = []; refusal = end }
-    → HasSteps (Does file now lines start) tells end old (with_store old after)
-made_then file now lines rest start tells old before after holds end are reads is =
-    subst (λ (d : Applied). HasSteps (AreDoneThen d.acts d.refusal) tells end old (with_store old after)) (sym (are.whole ∙ ap (λ (d : Applied). acts_then are.acts d) is))
-    (done_steps (are.acts ++ []) end tells old (with_store old after) refl refl
-    (done_of (are.acts ++ []) tells old after (written_both are.acts [] old.store before after are.done (written_none file before after reads))))
+-- What the steps of the lines that are left do, those of all lines do.
+made_steps : (file : List ℕ) (now : ℕ) (lines rest : List LineEdit) (start : QuotaValue) (tells : RunTells) (old : RunSeen) (before after : StoreSeen) (holds : QuotaValue → Type 0) (ended : Option Refusal)
+    → (are : AreMade file now lines rest start old.store before holds) → HasSteps (LineSteps file now rest are.value) tells ended (with_store old before) (with_store old after)
+    → HasSteps (LineSteps file now lines start) tells ended old (with_store old after)
+made_steps file now lines rest start tells old before after holds ended are has =
+    steps_led are.acts (LineSteps file now rest are.value) (LineSteps file now lines start) tells ended old (with_store old before) (with_store old after) (are.leads (outside_of old) refl)
+    (done_of are.acts tells old before are.done) has
 
 -- All edits were made.
 
@@ -106,53 +116,54 @@ pub all_carried : (file : List ℕ) (now : ℕ) (lines : List LineEdit) (start :
     → (IsTrue tells.store → AreMade file now lines [] start old.store store holds) → ReplacesOne file old.store store
     → CarriesOut (LineSteps file now lines start) line_uses may tells old (with_store old store) (Ok tt)
 all_carried file now lines start may tells old store holds made leaves =
-    only_carried _ _ (LineSteps file now lines start) line_uses may tells old (with_store old store) (Ok tt) (edits_only file now lines start)
-    (carried_whole (Does file now lines start) line_uses may tells old (with_store old store) tt
-    (λ told. made_then file now lines [] start tells old store store holds None (made told.store) (only_reads-none {done = true} file store) refl)
-    (λ only. absurd (false≢true (sym only))) (λ no. refl) (store_later old store leaves.later))
+    carried_whole (LineSteps file now lines start) line_uses may tells old (with_store old store) tt
+    (λ told. made_steps file now lines [] start tells old store store holds None (made told.store) (record {
+      acts = [];
+      by_steps = record { acts_none = refl; same = refl; ends = refl };
+      done = done_of [] tells (with_store old store) store (written_none file store store (only_reads-none {done = true} file store));
+    }))
+    (λ only. absurd (false≢true (sym only))) (λ no. refl) (store_later old store leaves.later)
 
 -- An edit was refused.
-
-does_refused : (file : List ℕ) (now : ℕ) (lines : List LineEdit) (line : LineEdit) (rest : List LineEdit) (start : QuotaValue) (may : Cause → List ℕ → Type 0) (tells : RunTells) (old : RunSeen) (before after : StoreSeen)
-    (holds : QuotaValue → Type 0) (fault : EditFault)
-    → (IsTrue tells.store → AreMade file now lines (line ∷ rest) start old.store before holds)
-    → ((value : QuotaValue) → holds value → IsRefusedAt file (edit_of line now) value (IsTrue tells.store) before after (edit_cause fault))
-    → HasEditCause (edit_of line now) before.faults after.faults holds fault
-    → ReplacesOne file old.store before → ReplacesOne file before after → may (edit_cause fault) file
-    → CarriesOut (Does file now lines start) line_uses may tells old (with_store old after) (Err (at_line line.number (refusal_of (edit_cause fault) file)))
-does_refused file now lines line rest start may tells old before after holds fault made refused cause first leaves allowed = record {
-  done = tt;
-  refused = reason_but_stated line_uses old (with_store old after) _ _ (edit_cause fault) (λ step told.
-      let are = made told.store in
-      let is = step are.value are.held in
-      let more = applied file now rest (value_left ((edit_of line now).edited are.value) are.value) in
-      made_then file now lines (line ∷ rest) start tells old before after holds (Some (at_line line.number (refusal_of (edit_cause fault) file))) are ((refused are.value are.held).whole is.1)
-      (ap (λ (o : Outcome (List Act)). does_then (met_at line.number o) more) is.0))
-      (edit_reason file (edit_of line now) None line_uses old (with_store old after) before.faults holds fault first.later cause);
-  part = λ told.
-      let are = made told.store in
-      let more = applied file now rest (value_left ((edit_of line now).edited are.value) are.value) in
-      subst (λ (d : Applied). IsDoneInPart (AreDoneThen d.acts d.refusal) tells old (with_store old after)) (sym are.whole)
-      (acts_in_part _ _ tells old (with_store old after) refl
-      (refused_part are.acts file (edit_of line now) None are.value line.number more tells old before after (edit_cause fault) are.done (refused are.value are.held) told.store));
-  may_refuse = allowed;
-  placed = record { line = λ no. refl; input_line = λ no. unnamed line.number (edit_cause fault) no };
-  only_reads = λ only. absurd (cc);
-  all_or_nothing = λ whole. absurd (false≢true whole);
-  quiet = λ no. refl;
-  later = record { store = omega (arith, first.later, leaves.later); input = omega arith; out = omega arith; err = omega arith; link = omega arith };
-}
 
 pub line_refused : (file : List ℕ) (now : ℕ) (lines : List LineEdit) (line : LineEdit) (rest : List LineEdit) (start : QuotaValue) (may : Cause → List ℕ → Type 0) (tells : RunTells) (old : RunSeen) (before after : StoreSeen)
     (holds : QuotaValue → Type 0) (fault : EditFault)
     → (IsTrue tells.store → AreMade file now lines (line ∷ rest) start old.store before holds)
     → ((value : QuotaValue) → holds value → IsRefusedAt file (edit_of line now) value (IsTrue tells.store) before after (edit_cause fault))
-    → HasEditCause (edit_of line now) before.faults after.faults holds fault
+    → HasEditCause (edit_of line now) (before.files file) before.faults after.faults holds fault
     → ReplacesOne file old.store before → ReplacesOne file before after → may (edit_cause fault) file
     → CarriesOut (LineSteps file now lines start) line_uses may tells old (with_store old after) (Err (at_line line.number (refusal_of (edit_cause fault) file)))
 line_refused file now lines line rest start may tells old before after holds fault made refused cause first leaves allowed =
-    only_carried _ _ (LineSteps file now lines start) line_uses may tells old (with_store old after) _ (edits_only file now lines start)
-    (does_refused file now lines line rest start may tells old before after holds fault made refused cause first leaves allowed)
+    let edit = edit_of line now in
+    let said = at_line line.number (refusal_of (edit_cause fault) file) in
+    let behind = λ (value : QuotaValue) (acts : List Act). DoingAll acts (LineSteps file now rest (value_left (edit.edited value) value)) in
+    let own = λ (value : QuotaValue). edit_step file edit (before.files file) value in
+    record {
+      done = tt;
+      refused = reason_but_stated line_uses old (with_store old after) _ _ (edit_cause fault) (λ step told.
+          let are = made told.store in
+          let is = step are.value are.held in
+          made_steps file now lines (line ∷ rest) start tells old before after holds (Some said) are
+          (refused_steps file (LineSteps file now (line ∷ rest) are.value) tells (with_store old before) after said ((refused are.value are.held).whole is.1) (λ new same.
+          subst (λ (o : Outcome (List Act)). EndsBy (Then (met_at line.number o) (behind are.value)) (outside_of (with_store old before)) [] new (Some said)) (sym is.0)
+          (record { acts_none = refl; same = same; ends = refl }))))
+          (edit_reason file edit (before.files file) line_uses old (with_store old after) before.faults holds fault first.later cause);
+      part = λ told.
+          let are = made told.store in
+          let here = with_store old before in
+          let steps = LineSteps file now (line ∷ rest) are.value in
+          part_led are.acts steps (LineSteps file now lines start) tells old here (with_store old after) (are.leads (outside_of old) refl) (done_of are.acts tells old before are.done)
+          (part_from (Then (met_at line.number (own are.value)) (behind are.value)) steps tells here before old.input (with_store old after) refl (λ done hand now by. by)
+          (met_part line.number (own are.value) (behind are.value) tells here (with_store old after)
+          (refused_part file edit are.value (behind are.value) tells here after (edit_cause fault) (λ act from. inl (record { done_none = refl; at_hand = refl; same = refl }))
+          (refused are.value are.held) told.store)));
+      may_refuse = allowed;
+      placed = record { line = λ no. refl; input_line = λ no. unnamed line.number (edit_cause fault) no };
+      only_reads = λ only. absurd (cc);
+      all_or_nothing = λ whole. absurd (false≢true whole);
+      quiet = λ no. refl;
+      later = record { store = omega (arith, first.later, leaves.later); input = omega arith; out = omega arith; err = omega arith; link = omega arith };
+    }
 
 -- What comes behind the edits.
 
@@ -165,85 +176,66 @@ line_is_reason names place old new stated LinkFault said may so = absurd may
 line_is_reason names place old new stated NoMemory said may so = absurd may
 line_is_reason names place old new stated _ said may so = so
 
--- where edits ended, so do they with another refusal behind their own
-has_behind : (acts : List Act) (own other ended : Option Refusal) (tells : RunTells) (old new : RunSeen) → HasSteps (AreDoneThen acts own) tells ended old new
-    → HasSteps (AreDoneThen acts (first_of own other)) tells (first_of ended other) old new
-has_behind acts own other ended tells old new has = record {
-  acts = has.acts;
-  by_steps = subst (λ (r : Option Refusal). EndsBy (AreDoneThen acts (first_of own other)) (outside_of old) has.acts (outside_of new) (first_of r other))
-      (sym (doing_ends acts own (outside_of old) has.acts (outside_of new) ended has.by_steps))
-      (doing_ended acts own (first_of own other) (outside_of old) has.acts (outside_of new) ended has.by_steps);
-  done = has.done;
-}
-
--- and where they were done in part
-part_behind : (acts : List Act) (own other : Option Refusal) (tells : RunTells) (old new : RunSeen) → IsDoneInPart (AreDoneThen acts own) tells old new → IsDoneInPart (AreDoneThen acts other) tells old new
-part_behind acts own other tells old new part =
-    part_from (AreDoneThen acts own) (AreDoneThen acts other) tells old old.store old.input new refl
-    (doing_begun acts own other (outside_of old)) part
-
--- the steps of lines carry out what their edits do, and the refusal behind them
-behind_carried : (file : List ℕ) (now : ℕ) (start : QuotaValue) (asked : Asked) (may : Cause → List ℕ → Type 0) (tells : RunTells) (old new : RunSeen) (result : Result (Unit {0}) Refusal)
-    → CarriesOut (AppliedThen (applied file now asked.edits start) asked.refusal) line_uses may tells old new result → CarriesOut (Applying file now start asked) line_uses may tells old new result
-behind_carried file now start asked may tells old new result carries =
-    only_carried _ _ (Applying file now start asked) line_uses may tells old new result (lines_only file now asked.edits start asked.refusal) carries
-
--- and what was carried out of them was done by their edits
-edits_carry : (file : List ℕ) (now : ℕ) (start : QuotaValue) (lines : List LineEdit) (may : Cause → List ℕ → Type 0) (tells : RunTells) (old new : RunSeen) (result : Result (Unit {0}) Refusal)
-    → CarriesOut (LineSteps file now lines start) line_uses may tells old new result → CarriesOut (Does file now lines start) line_uses may tells old new result
-edits_carry file now start lines may tells old new result carries =
-    only_carries _ _ (LineSteps file now lines start) line_uses may tells old new result (edits_only file now lines start) carries
+-- lines behind which a refusal comes do what the lines do, and then end with it
+lines_add : (file : List ℕ) (now : ℕ) (lines : List LineEdit) (value : QuotaValue) (behind : Option Refusal) → AddsEnd behind (LineSteps file now lines value) (EditsThen file now lines value behind)
+lines_add file now [] value behind = adds_none behind
+lines_add file now (line ∷ lines) value behind =
+    let edit = edit_of line now in
+    let left = value_left (edit.edited value) value in
+    let adds = lines_add file now lines left behind in
+    adds_looking behind _ _ (λ files. adds_then behind (met_at line.number (edit_step file edit (files file) value)) (LineSteps file now lines left) (EditsThen file now lines left behind) adds)
 
 -- the edits before a refused line were made, and then comes its refusal
 pub then_refused : (file : List ℕ) (now : ℕ) (start : QuotaValue) (names : List NameLine) (place : List ℕ) (asked : Asked) (refusal : Refusal) (may more : Cause → List ℕ → Type 0) (tells : RunTells) (old new : RunSeen)
     → asked.refusal ≡ Some refusal → IsOfLine names place refusal → more refusal.cause refusal.name
     → CarriesOut (LineSteps file now asked.edits start) line_uses may tells old new (Ok tt) → CarriesOut (Applying file now start asked) line_uses more tells old new (Err refusal)
-then_refused file now start names place asked refusal may more tells old new is line_may allowed all_done =
-    let all = applied file now asked.edits start in
-    let carries = edits_carry file now start asked.edits may tells old new (Ok tt) all_done in
-    behind_carried file now start asked more tells old new (Err refusal) (record {
+then_refused file now start names place asked refusal may more tells old new is line_may allowed carries =
+    let steps = LineSteps file now asked.edits start in
+    let all = Applying file now start asked in
+    let adds = lines_add file now asked.edits start asked.refusal in
+    record {
       done = tt;
       refused = line_is_reason names place old new _ refusal.cause refusal.name line_may.may (λ told.
-          subst (λ (r : Option Refusal). HasSteps (AppliedThen all asked.refusal) tells r old new) is (has_behind all.acts all.refusal asked.refusal None tells old new (carries.done told)));
-      part = λ told. part_behind all.acts all.refusal (first_of all.refusal asked.refusal) tells old new (carries.part told);
+          subst (λ (r : Option Refusal). HasSteps all tells r old new) is (steps_adding asked.refusal steps all tells None old new adds (carries.done told)));
+      part = λ told. part_adding asked.refusal steps all tells old new adds (carries.part told);
       may_refuse = allowed;
       placed = record { line = λ no. line_may.line; input_line = line_may.input_line };
       only_reads = λ only. absurd (cc);
       all_or_nothing = λ whole. absurd (false≢true whole);
       quiet = carries.quiet;
       later = carries.later;
-    })
+    }
 
 -- the edits of all lines were made
 pub then_ended : (file : List ℕ) (now : ℕ) (start : QuotaValue) (asked : Asked) (may more : Cause → List ℕ → Type 0) (tells : RunTells) (old new : RunSeen)
     → asked.refusal ≡ None → CarriesOut (LineSteps file now asked.edits start) line_uses may tells old new (Ok tt) → CarriesOut (Applying file now start asked) line_uses more tells old new (Ok tt)
-then_ended file now start asked may more tells old new is all_done =
-    let all = applied file now asked.edits start in
-    let carries = edits_carry file now start asked.edits may tells old new (Ok tt) all_done in
-    behind_carried file now start asked more tells old new (Ok tt)
-    (carried_whole (AppliedThen all asked.refusal) line_uses more tells old new tt
-    (λ told. subst (λ (r : Option Refusal). HasSteps (AppliedThen all asked.refusal) tells r old new) is
-    (has_behind all.acts all.refusal asked.refusal None tells old new (carries.done told)))
-    (λ only. absurd (false≢true (sym only))) carries.quiet carries.later)
+then_ended file now start asked may more tells old new is carries =
+    let steps = LineSteps file now asked.edits start in
+    let all = Applying file now start asked in
+    carried_whole all line_uses more tells old new tt
+    (λ told. subst (λ (r : Option Refusal). HasSteps all tells r old new) is
+    (steps_adding asked.refusal steps all tells None old new (lines_add file now asked.edits start asked.refusal) (carries.done told)))
+    (λ only. absurd (false≢true (sym only))) carries.quiet carries.later
 
 -- an edit was refused, whatever comes behind the edits
 pub then_stopped : (file : List ℕ) (now : ℕ) (start : QuotaValue) (asked : Asked) (refusal : Refusal) (may more : Cause → List ℕ → Type 0) (tells : RunTells) (old new : RunSeen)
     → ((cause : Cause) (said : List ℕ) → may cause said → more cause said)
     → CarriesOut (LineSteps file now asked.edits start) line_uses may tells old new (Err refusal) → CarriesOut (Applying file now start asked) line_uses more tells old new (Err refusal)
-then_stopped file now start asked refusal may more tells old new allows one_refused =
-    let all = applied file now asked.edits start in
-    let carries = edits_carry file now start asked.edits may tells old new (Err refusal) one_refused in
-    behind_carried file now start asked more tells old new (Err refusal) (record {
+then_stopped file now start asked refusal may more tells old new allows carries =
+    let steps = LineSteps file now asked.edits start in
+    let all = Applying file now start asked in
+    let adds = lines_add file now asked.edits start asked.refusal in
+    record {
       done = tt;
-      refused = reason_but_stated line_uses old new _ _ refusal.cause (λ stated told. has_behind all.acts all.refusal asked.refusal (Some refusal) tells old new (stated told)) carries.refused;
-      part = λ told. part_behind all.acts all.refusal (first_of all.refusal asked.refusal) tells old new (carries.part told);
+      refused = reason_but_stated line_uses old new _ _ refusal.cause (λ stated told. steps_adding asked.refusal steps all tells (Some refusal) old new adds (stated told)) carries.refused;
+      part = λ told. part_adding asked.refusal steps all tells old new adds (carries.part told);
       may_refuse = allows refusal.cause refusal.name carries.may_refuse;
       placed = carries.placed;
       only_reads = λ only. absurd (cc);
       all_or_nothing = λ whole. absurd (false≢true whole);
       quiet = carries.quiet;
       later = carries.later;
-    })
+    }
 
 -- an input is read to its end where there is no refusal
 pub ends_none : (refusal : Option Refusal) → IsTrue (is_none refusal) → refusal ≡ None

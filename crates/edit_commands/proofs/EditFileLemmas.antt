@@ -11,6 +11,8 @@ use Rattle.quota_types.specs.Format.{is_flat}
 use Rattle.quota_types.specs.declared.file_kind.Format.{Format}
 use Rattle.quota_types.specs.declared.file_kind.Format.TheVariants.{V1}
 use Rattle.quota_types.specs.declared.record.Rec.{Rec}
+use Rattle.quota_blocks.specs.FileChange.{IsLeft}
+use Rattle.quota_blocks.specs.Frame.{OnlyReads}
 use Rattle.quota_blocks.specs.QuotaFile.{FileSeen, is_store_fault}
 use Rattle.quota_blocks.specs.QuotaValue.{QuotaValue}
 use Rattle.quota_blocks.specs.Seen.{StoreSeen}
@@ -19,11 +21,14 @@ use Rattle.quota_blocks.specs.declared.quota_file.FileFault.{FileFault}
 use Rattle.quota_blocks.specs.declared.quota_file.FileFault.TheVariants.{Store, Damage, Full, Memory}
 use Rattle.quota_blocks.proofs.LookupLemmas.{change_fault-after}
 use Rattle.tree_file.specs.Opened.{LacksRoom}
-use Rattle.tree_build.specs.Size.{blocks_needed, ids_in}
-use Rattle.quota_map.specs.AnyFile.{HoldsAny, MayRefuse, any_at, any_laws, any_seen}
+use Rattle.tree_file.specs.Room.{blocks_wanted}
+use Rattle.tree_build.specs.Size.{ids_in}
+use Rattle.quota_map.specs.AnyFile.{AnyLeaves, AnyMakes, HoldsAny, MayRefuse, any_at, any_laws, any_seen}
+use Rattle.quota_map.specs.StandsFor.{StandsForAs}
 use Rattle.quota_map.specs.declared.any_file.AnyFile.{AnyFile}
 use Rattle.quota_map.specs.declared.any_file.AnyFile.TheVariants.{V1 as FlatFile, Tree as TreeFile}
 use Rattle.quota_map.specs.View.{IsOpenedAs, blocks_allowed, fresh_seen, most_blocks}
+use Rattle.quota_map.proofs.LeftLemmas.{held_format, left_seen}
 use Rattle.quota_map.proofs.SeenLemmas.{any_held_seen, tree_limit}
 use Rattle.set_edit.specs.Edited.{with_kept}
 use Rattle.set_edit.specs.Editing.{Edit, Edits}
@@ -35,9 +40,10 @@ use Rattle.edit_commands.specs.declared.edit.FileEdit.TheVariants.{Limits, Copy,
 use Rattle.refusals.specs.Status.{status_of}
 use Rattle.set_edit.specs.declared.skipped.Skipped.{Skipped}
 use Rattle.refusals.specs.declared.cause.Cause.{Cause}
+use Rattle.run_steps.specs.Act.{MayBeLeft}
 use Rattle.run_steps.specs.Opening.{MayRefuseOpening, asks_tree}
-use Rattle.edit_commands.specs.Edits.{ChangeMayRefuse, FileEditMayRefuse, edit_cause, is_too_large, unskipped}
-use Rattle.run_steps.specs.Changing.{blocks_of}
+use Rattle.edit_commands.specs.Edits.{ChangeMayRefuse, FileEditMayRefuse, IsLeftFor, edit_cause, is_too_large, unskipped}
+use Rattle.run_steps.specs.Changing.{blocks_after}
 use Rattle.edit_commands.specs.EditWords.{MaySkip, edit_meant, edit_warns, skips_none}
 use Rattle.edit_commands.proofs.EditLemmas.{EditedSeen, IsMade}
 use Rattle.run_steps.proofs.ShowingLemmas.{damage_may}
@@ -66,24 +72,25 @@ keeps_format (Times id block inode) now = λ value new is.
 -- Room in an opened file.
 
 -- a flat file needs no blocks
-flat_blocks : (new : QuotaValue) (format : Format) → new.format ≡ format → format ≡ V1 → blocks_of new ≡ 0
-flat_blocks new format is flat = ap (λ (f : Format). blocks_needed f (ids_in new.records)) (is ∙ flat)
+flat_blocks : (bytes : Option (List ℕ)) (new : QuotaValue) (format : Format) → new.format ≡ format → format ≡ V1 → blocks_after bytes new ≡ 0
+flat_blocks bytes new format is flat = ap (λ (f : Format). blocks_wanted f bytes (ids_in new.records)) (is ∙ flat)
 
--- what an opened file that has no room tells of the value
-lacking : (tells : Bool) (files : World) (file : AnyFile) (value new : QuotaValue) (name : List ℕ) (format : Format) (blocks limit : ℕ) → any_seen file ≡ fresh_seen name format
-    → HoldsAny tells files file value → new.format ≡ value.format → LacksRoom (any_seen file) new blocks limit → IsLacking new blocks limit
-lacking tells files (FlatFile file) value new name format blocks limit seen held same lacks = absurd (omega (arith, lacks.passes, lacks.needs, flat_blocks new value.format same held.stands.format))
-lacking tells files (TreeFile file) value new name format blocks limit seen held same lacks =
-    let most = lacks.may ∙ tree_limit tells (files (string_bytes file.name)) file.tree.bytes.items file.limit value format (ap (λ (s : FileSeen). s.limit) seen) held in
+-- what an opened file that has no room tells of the value, whatever bytes are in its place
+lacking : (tells : Bool) (files : World) (file : AnyFile) (bytes : Option (List ℕ)) (value new : QuotaValue) (name : List ℕ) (format : Format) (blocks limit : ℕ) → any_seen file ≡ fresh_seen name format
+    → HoldsAny tells files file value → new.format ≡ value.format → LacksRoom (any_seen file) bytes new blocks limit → IsLacking bytes new blocks limit
+lacking tells files (FlatFile file) bytes value new name format blocks limit seen held same lacks =
+    absurd (omega (arith, lacks.passes, lacks.needs, flat_blocks bytes new value.format same held.stands.format))
+lacking tells files (TreeFile file) bytes value new name format blocks limit seen held same lacks =
+    let most = lacks.may ∙ tree_limit tells _ _ _ file.limit value format (ap (λ (s : FileSeen). s.limit) seen) held in
     (lacks.needs, most, subst (λ (l : ℕ). l < blocks) most lacks.passes)
 
--- an opened file has no room for a value that needs more than the most blocks
-lacks_most : (tells : Bool) (files : World) (file : AnyFile) (value new : QuotaValue) (name : List ℕ) (format : Format) → any_seen file ≡ fresh_seen name format
-    → HoldsAny tells files file value → new.format ≡ value.format → most_blocks < blocks_of new → LacksRoom (any_seen file) new (blocks_of new) most_blocks
-lacks_most tells files (FlatFile file) value new name format seen held same more = absurd (omega (arith, more, flat_blocks new value.format same held.stands.format))
-lacks_most tells files (TreeFile file) value new name format seen held same more = record {
+-- an opened file has no room for a value with which it would have more than the most blocks
+lacks_most : (tells : Bool) (files : World) (file : AnyFile) (bytes : Option (List ℕ)) (value new : QuotaValue) (name : List ℕ) (format : Format) → any_seen file ≡ fresh_seen name format
+    → HoldsAny tells files file value → new.format ≡ value.format → most_blocks < blocks_after bytes new → LacksRoom (any_seen file) bytes new (blocks_after bytes new) most_blocks
+lacks_most tells files (FlatFile file) bytes value new name format seen held same more = absurd (omega (arith, more, flat_blocks bytes new value.format same held.stands.format))
+lacks_most tells files (TreeFile file) bytes value new name format seen held same more = record {
   needs = refl;
-  may = sym (tree_limit tells (files (string_bytes file.name)) file.tree.bytes.items file.limit value format (ap (λ (s : FileSeen). s.limit) seen) held);
+  may = sym (tree_limit tells _ _ _ file.limit value format (ap (λ (s : FileSeen). s.limit) seen) held);
   passes = more;
 }
 
@@ -110,14 +117,15 @@ AnyEdits edit tells opened file before after result = Edits edit (any_laws tells
 edited_seen : (tells : Bool) (edit : Edit) (opened file : AnyFile) (before after : StoreSeen) (name : List ℕ) (format : Format) (value : QuotaValue) (edited : Result QuotaValue (Field × ℕ))
     → edit.edited value ≡ edited → KeepsFormat edit → any_seen opened ≡ fresh_seen name format → any_seen file ≡ fresh_seen name format → HoldsAny tells before.files opened value
     → IsOkAnd edited (λ (new : QuotaValue). HoldsAny tells after.files file new)
-    → (IsTrue edit.needs_room → (blocks limit : ℕ) → edit.is_idle value ≡ false → IfOk edited (λ (new : QuotaValue). ¬ LacksRoom (any_seen opened) new blocks limit))
+    → (IsTrue edit.needs_room → (blocks limit : ℕ) → edit.is_idle value ≡ false → IfOk edited (λ (new : QuotaValue). ¬ LacksRoom (any_seen opened) (before.files name) new blocks limit))
     → EditedSeen name (before.files name) after edit value edited
 edited_seen tells edit opened file before after name format value (Ok new) set keeps was is held holds room = (
   any_held_seen tells after.files file new name format is holds,
   λ some. not_so (is_too_large edit (before.files name) new) (λ large.
-      let both = both_of edit.needs_room (nat_lt most_blocks (blocks_of new)) large in
-      room both.0 (blocks_of new) most_blocks some
-      (lacks_most tells before.files opened value new name format was held (keeps value new set) (less_of most_blocks (blocks_of new) both.1))),
+      let blocks = blocks_after (before.files name) new in
+      let both = both_of edit.needs_room (nat_lt most_blocks blocks) large in
+      room both.0 blocks most_blocks some
+      (lacks_most tells before.files opened (before.files name) value new name format was held (keeps value new set) (less_of most_blocks blocks both.1))),
 )
 edited_seen tells edit opened file before after name format value (Err out) set keeps was is held holds room = absurd holds
 
@@ -130,20 +138,72 @@ any_made tells edit opened file before after name format value told keeps was he
     record {
       idle = λ told is. rw named at (edits.value.idle value (held told) is);
       set = λ told. edited_seen tells edit opened file before after name format value (edit.edited value) refl keeps was (done.same ∙ was) (held told) (done.set value (held told))
-          (λ needs blocks limit some. done.room needs value blocks limit (held told) some);
+          (λ needs blocks limit some. subst (λ (n : List ℕ). IfOk (edit.edited value) (λ (new : QuotaValue). ¬ LacksRoom (any_seen opened) (before.files n) new blocks limit)) named
+          (done.room needs value blocks limit (held told) some));
       leaves = rw named at edits.value.leaves;
     }
 
 -- Refused edits.
 
--- the named file is as it was, where an edit was refused
-pub any_unchanged : {T : Type 0} (edit : Edit) (tells : Bool) (opened file : AnyFile) (before after : StoreSeen) (fault : EditFault)
-    → AnyEdits {T = T} edit tells opened file before after (Err fault) → IsTrue tells → after.files (any_seen opened).name ≡ before.files (any_seen opened).name
-any_unchanged edit tells opened file before after (File fault) edits told = elim (edits.value.refused.between told) [
-  | inl same ↦ same
-  | inr both ↦ both.2
-]
-any_unchanged edit tells opened file before after (Unfit out) edits told = ap (λ (files : World). files (any_seen opened).name) edits.no_room.unwritten.files
+-- a fact that holds while a file may be used, or else another one
+while_usable : (usable : Bool) (same left : Type 0) → (IsTrue usable → same) → (usable ≡ false → left) → same ⊎ left
+while_usable true same left kept ended = inl (kept refl)
+while_usable false same left kept ended = inr (ended refl)
+
+-- what an edit to a value that failed left of the file that is seen so
+abbrev EditLeft : Edit → QuotaValue → Result QuotaValue (Field × ℕ) → FileSeen → (old new : World) → Type 0
+EditLeft edit value edited seen old new =
+    (new seen.name ≡ old seen.name)
+    ⊎ IsLeft (AnyMakes seen (edit.change value) seen.name) (λ bytes. IsOkAnd edited (λ (one : QuotaValue). StandsForAs seen.format bytes one)) (AnyLeaves seen.format) seen.name old new
+
+-- of a file that was just opened it is what an edit to the edited value that failed may leave
+left_may_be : (edit : Edit) (value new : QuotaValue) (format : Format) (name : List ℕ) (before after : World) → new.format ≡ format
+    → EditLeft edit value (Ok new) (fresh_seen name format) before after → MayBeLeft new (before name) (after name)
+left_may_be edit value new format name before after is (inl same) = inl same
+left_may_be edit value new format name before after is (inr left) = left_seen format (edit.change value) name before after new is left
+
+-- where only was read any file is as it was
+read_named : {done : Bool} (name opened : List ℕ) (before after : StoreSeen) → OnlyReads done opened before after → after.files name ≡ before.files name
+read_named name opened before after read = ap (λ (files : World). files name) read.files
+
+-- where an edit was refused that makes a value of the one that is held, the named file is what an edit to that value that failed may leave
+any_left : {T : Type 0} (name : List ℕ) (edit : Edit) (tells : Bool) (opened file : AnyFile) (before after : StoreSeen) (format : Format) (value new : QuotaValue) (fault : FileFault)
+    → KeepsFormat edit → any_seen opened ≡ fresh_seen name format → HoldsAny tells before.files opened value → edit.edited value ≡ Ok new
+    → AnyEdits {T = T} edit tells opened file before after (Err (File fault)) → MayBeLeft new (before.files name) (after.files name)
+any_left name edit tells opened file before after format value new fault keeps was held set edits =
+    let refused = edits.value.refused in
+    let formats : new.format ≡ format = keeps value new set ∙ held_format tells before.files opened value held ∙ ap (λ (s : FileSeen). s.format) was in
+    elim (while_usable (any_seen file).usable _ _ refused.unwritten (λ ended. refused.left ended value held)) [
+      | inl read ↦ inl (read_named name (any_seen opened).name before after read)
+      | inr left ↦
+          left_may_be edit value new format name before.files after.files formats
+          (subst (λ (s : FileSeen). EditLeft edit value (Ok new) s before.files after.files) was
+          (subst (λ (edited : Result QuotaValue (Field × ℕ)). EditLeft edit value edited (any_seen opened) before.files after.files) set left))
+    ]
+
+-- a value that an edit makes, where it makes one
+value_made : (edited : Result QuotaValue (Field × ℕ)) → IsOk edited → (new : QuotaValue) × (edited ≡ Ok new)
+value_made (Ok new) some = (new, refl)
+value_made (Err out) some = absurd (false≢true some)
+
+-- where an edit was refused, the named file is left so for its cause
+pub any_left_for : {T : Type 0} (name : List ℕ) (edit : Edit) (tells : Bool) (opened file : AnyFile) (before after : StoreSeen) (format : Format) (value : QuotaValue) (fault : EditFault)
+    → KeepsFormat edit → any_seen opened ≡ fresh_seen name format → HoldsAny tells before.files opened value
+    → AnyEdits {T = T} edit tells opened file before after (Err fault) → IsLeftFor (edit_cause fault) (before.files name) (after.files name)
+any_left_for {T} name edit tells opened file before after format value (File Store) keeps was held edits =
+    let refused = edits.value.refused in
+    elim (while_usable (any_seen file).usable _ _ refused.unwritten (λ ended. value_made (edit.edited value) (refused.fits ended value held))) [
+      | inl read ↦ inl (read_named name (any_seen opened).name before after read)
+      | inr made ↦ inr (refl, (made.0, any_left {T = T} name edit tells opened file before after format value made.0 Store keeps was held made.1 edits))
+    ]
+any_left_for name edit tells opened file before after format value (File (Damage damage)) keeps was held edits =
+    inl (read_named name (any_seen opened).name before after (edits.value.refused.unwritten (edits.value.refused.usable refl)))
+any_left_for name edit tells opened file before after format value (File (Full blocks limit)) keeps was held edits =
+    inl (read_named name (any_seen opened).name before after (edits.value.refused.unwritten (edits.value.refused.usable refl)))
+any_left_for name edit tells opened file before after format value (File Memory) keeps was held edits =
+    inl (read_named name (any_seen opened).name before after (edits.value.refused.unwritten (edits.value.refused.usable refl)))
+any_left_for name edit tells opened file before after format value (Unfit out) keeps was held edits =
+    inl (read_named name (any_seen opened).name before after edits.no_room.unwritten)
 
 -- but for a fault of the store the file may still be used
 whole_unless_fault : (fault : FileFault) (same : Type 0) → (is_store_fault fault ≡ false → same) → status_of (edit_cause (File fault)) ≢ 4 → same
@@ -168,19 +228,22 @@ same_where_full same (Err out) lacks new full is lacks_it = absurd (cc)
 pub any_refused : {T : Type 0} (name : List ℕ) (edit : Edit) (tells : Bool) (opened file : AnyFile) (before after : StoreSeen) (format : Format) (value : QuotaValue) (fault : EditFault)
     → KeepsFormat edit → any_seen opened ≡ fresh_seen name format → (IsTrue tells → HoldsAny tells before.files opened value) → AnyEdits {T = T} edit tells opened file before after (Err fault)
     → IsRefusedAt name edit value (IsTrue tells) before after (edit_cause fault)
-any_refused name edit tells opened file before after format value (File fault) keeps was held edits =
+any_refused {T} name edit tells opened file before after format value (File fault) keeps was held edits =
     let named : (any_seen opened).name ≡ name = ap (λ (s : FileSeen). s.name) was in
     let refused = edits.value.refused in
     record {
       whole = λ other. rw named at (whole_unless_fault fault _ (λ not_store. refused.unwritten (refused.usable not_store)) other);
       idle = λ told is. rw named at (edits.value.idle value (held told) is);
-      named = λ told. rw named at (any_unchanged edit tells opened file before after (File fault) edits told);
+      named = λ told new set. any_left {T = T} name edit tells opened file before after format value new fault keeps was (held told) set edits;
       unfit = λ told out is. rw named at (same_where_unfit _ _ _ out refused.unwritten (λ ended. refused.fits ended value (held told)) is);
       full = λ told new is large.
-          let both = both_of edit.needs_room (nat_lt most_blocks (blocks_of new)) large in
-          rw named at (same_where_full _ (edit.edited value) (λ (v : QuotaValue). LacksRoom (any_seen opened) v (blocks_of new) most_blocks) new
-          (edits.value.full both.0 value (blocks_of new) most_blocks (held told)) is
-          (lacks_most tells before.files opened value new name format was (held told) (keeps value new is) (less_of most_blocks (blocks_of new) both.1)));
+          let bytes = before.files (any_seen opened).name in
+          let blocks = blocks_after bytes new in
+          let both = both_of edit.needs_room (nat_lt most_blocks blocks)
+          (subst (λ (n : List ℕ). IsTrue (is_too_large edit (before.files n) new)) (sym named) large) in
+          rw named at (same_where_full _ (edit.edited value) (λ (v : QuotaValue). LacksRoom (any_seen opened) bytes v blocks most_blocks) new
+          (edits.value.full both.0 value blocks most_blocks (held told)) is
+          (lacks_most tells before.files opened bytes value new name format was (held told) (keeps value new is) (less_of most_blocks blocks both.1)));
       leaves = rw named at edits.value.leaves;
     }
 any_refused name edit tells opened file before after format value (Unfit out) keeps was held edits =
@@ -188,22 +251,23 @@ any_refused name edit tells opened file before after format value (Unfit out) ke
     refused_read name edit value (IsTrue tells) before after (edit_cause (Unfit out)) (rw named at edits.no_room.unwritten)
 
 -- an edited value that is lacking
-set_lacking : (tells : Bool) (files : World) (opened : AnyFile) (name : List ℕ) (format : Format) (value : QuotaValue) (edit : Edit) (edited : Result QuotaValue (Field × ℕ)) (blocks limit : ℕ)
+set_lacking : (tells : Bool) (files : World) (opened : AnyFile) (bytes : Option (List ℕ)) (name : List ℕ) (format : Format) (value : QuotaValue) (edit : Edit) (edited : Result QuotaValue (Field × ℕ)) (blocks limit : ℕ)
     → edit.edited value ≡ edited → KeepsFormat edit → any_seen opened ≡ fresh_seen name format → HoldsAny tells files opened value
-    → IsOkAnd edited (λ (new : QuotaValue). LacksRoom (any_seen opened) new blocks limit) → IsOkAnd edited (λ (new : QuotaValue). IsLacking new blocks limit)
-set_lacking tells files opened name format value edit (Ok new) blocks limit set keeps was held lacks = lacking tells files opened value new name format blocks limit was held (keeps value new set) lacks
-set_lacking tells files opened name format value edit (Err out) blocks limit set keeps was held lacks = lacks
+    → IsOkAnd edited (λ (new : QuotaValue). LacksRoom (any_seen opened) bytes new blocks limit) → IsOkAnd edited (λ (new : QuotaValue). IsLacking bytes new blocks limit)
+set_lacking tells files opened bytes name format value edit (Ok new) blocks limit set keeps was held lacks = lacking tells files opened bytes value new name format blocks limit was held (keeps value new set) lacks
+set_lacking tells files opened bytes name format value edit (Err out) blocks limit set keeps was held lacks = lacks
 
 pub any_cause : {T : Type 0} (tells : Bool) (edit : Edit) (opened file : AnyFile) (before after : StoreSeen) (name : List ℕ) (format : Format) (fault : EditFault) → KeepsFormat edit
     → any_seen opened ≡ fresh_seen name format → AnyEdits {T = T} edit tells opened file before after (Err fault)
-    → HasEditCause edit before.faults after.faults (HoldsAny tells before.files opened) fault
+    → HasEditCause edit (before.files name) before.faults after.faults (HoldsAny tells before.files opened) fault
 any_cause tells edit opened file before after name format (File fault) keeps was edits = record {
   no_room = tt;
   id = tt;
   refused = change_fault-after before.faults before.faults after.faults (HoldsAny tells before.files opened) (HoldsAny tells before.files opened) _ _ fault (omega arith) (λ value holds. holds)
       (λ blocks limit lacks. (
         lacks.0,
-        λ value holds. set_lacking tells before.files opened name format value edit (edit.edited value) blocks limit refl keeps was holds (lacks.1 value holds),
+        λ value holds. subst (λ (n : List ℕ). IsOkAnd (edit.edited value) (λ (new : QuotaValue). IsLacking (before.files n) new blocks limit)) (ap (λ (s : FileSeen). s.name) was)
+            (set_lacking tells before.files opened (before.files (any_seen opened).name) name format value edit (edit.edited value) blocks limit refl keeps was holds (lacks.1 value holds)),
       )) edits.value.refused.cause;
   wanted = edits.value.refused.busy;
 }

@@ -20,7 +20,7 @@ use Rattle.run_steps.specs.Act.{Act, Change, Follows, ToErr, answers, err_bytes,
 use Rattle.run_steps.specs.Done.{AreDone, AreDoneInPart, RunSeen, RunTells}
 use Rattle.run_steps.specs.Run.{CarriesOut, HasSteps, IsDoneInPart}
 use Rattle.run_steps.specs.Steps.{DoingAll, Finish, Steps, Then}
-use Rattle.run_steps.specs.Changing.{edit_uses, written}
+use Rattle.run_steps.specs.Changing.{blocks_after, edit_uses, written}
 use Rattle.edit_commands.specs.Batch.{value_left}
 use Rattle.edit_commands.specs.Edits.{IsSaidInPart, changed, edit_step, is_too_large, said_acts}
 use Rattle.run_steps.proofs.ActLemmas.{answers-append, appends_nothing, changes_none_before, err_bytes-append, follows-append, none_in_part, out_bytes-append}
@@ -117,15 +117,15 @@ pub record IsMade (name : List ℕ) (edit : Edit) (value : QuotaValue) (told : T
   pub leaves : ReplacesOne name old new
 
 -- where there is room, a change passes with its acts
-pub written_passes : (name : List ℕ) (new : QuotaValue) (idle large : Bool) → (idle ≡ false → large ≡ false) → written name new idle large ≡ Passed (change_acts name new idle)
-written_passes name new true large room = refl
-written_passes name new false true room = let no = room refl in absurd (cc)
-written_passes name new false false room = refl
+pub written_passes : (name : List ℕ) (blocks : ℕ) (new : QuotaValue) (idle large : Bool) → (idle ≡ false → large ≡ false) → written name blocks new idle large ≡ Passed (change_acts name new idle)
+written_passes name blocks new true large room = refl
+written_passes name blocks new false true room = let no = room refl in absurd (cc)
+written_passes name blocks new false false room = refl
 
 -- the step of an edit that was made passes with its acts
 step_passes : (name : List ℕ) (edit : Edit) (file : Option (List ℕ)) (value : QuotaValue) (edited : Result QuotaValue (Field × ℕ)) (store : StoreSeen) → EditedSeen name file store edit value edited
     → changed name edit file value edited ≡ Passed (change_acts name (value_left edited value) (edit.is_idle value))
-step_passes name edit file value (Ok new) store seen = written_passes name new (edit.is_idle value) (is_too_large edit file new) seen.1
+step_passes name edit file value (Ok new) store seen = written_passes name (blocks_after file new) new (edit.is_idle value) (is_too_large edit file new) seen.1
 step_passes name edit file value (Err out) store seen = absurd seen
 
 change_written : {done : Bool} (name : List ℕ) (new : QuotaValue) (idle : Bool) (old store : StoreSeen) → (IsTrue idle → OnlyReads done name old store)

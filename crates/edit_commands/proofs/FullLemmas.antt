@@ -28,7 +28,7 @@ use Rattle.refusals.specs.declared.cause.Cause.TheVariants.{Full}
 use Rattle.refusals.specs.declared.reason.Refusal.{Refusal}
 use Rattle.refusals.specs.Outcome.{Outcome, Passed, Refused}
 use Rattle.run_steps.specs.Act.{Act, Change}
-use Rattle.run_steps.specs.Changing.{blocks_of, written}
+use Rattle.run_steps.specs.Changing.{blocks_after, written}
 use Rattle.run_steps.specs.Done.{Outside}
 use Rattle.run_steps.specs.Meaning.{EndsBy}
 use Rattle.run_steps.specs.Naming.{most_names, names_of_file, names_seen, unless_bad}
@@ -161,15 +161,16 @@ taking_passed (Some name) is_whole read next old acts new refusal blocks limit i
 
 -- what is said of a value for which there is no room
 full_for : (kind : Kind) (asked : Option Format) (file : List ℕ) (edit : Edit) (value new : QuotaValue) (files : World) (refusal said : Refusal) (blocks limit : ℕ) → IsView (files file) kind asked (Ok value)
-    → edit.edited value ≡ Ok new → edit.is_idle value ≡ false → is_too_large edit (files file) new ≡ true → refusal.cause ≡ Full blocks limit → Some refusal ≡ Some said → said.cause ≡ Full (blocks_of new) most_blocks → said.name ≡ file
+    → edit.edited value ≡ Ok new → edit.is_idle value ≡ false → is_too_large edit (files file) new ≡ true → refusal.cause ≡ Full blocks limit → Some refusal ≡ Some said → said.cause ≡ Full (blocks_after (files file) new) most_blocks → said.name ≡ file
     → (refusal.name ≡ file) × IsFullFor kind asked edit (files file) blocks limit
 full_for kind asked file edit value new files refusal said blocks limit view set idle large is same cause name =
     let one : refusal ≡ said = cc in
-    let numbers : Full blocks limit ≡ Full (blocks_of new) most_blocks = sym is ∙ ap (λ (r : Refusal). r.cause) one ∙ cause in
-    let needs : blocks ≡ blocks_of new = cc in
+    let needed = blocks_after (files file) new in
+    let numbers : Full blocks limit ≡ Full needed most_blocks = sym is ∙ ap (λ (r : Refusal). r.cause) one ∙ cause in
+    let needs : blocks ≡ needed = cc in
     let allowed : limit ≡ most_blocks = cc in
-    let more = both_of edit.needs_room (nat_lt most_blocks (blocks_of new)) large in
-    let passes : most_blocks < blocks_of new = less_of most_blocks (blocks_of new) more.1 in (
+    let more = both_of edit.needs_room (nat_lt most_blocks needed) large in
+    let passes : most_blocks < needed = less_of most_blocks needed more.1 in (
       ap (λ (r : Refusal). r.name) one ∙ name,
       record {
         value = value;
@@ -190,11 +191,12 @@ never_done acts old done new refusal ends = absurd (none-some refusal (sym (doin
 
 written_full : (kind : Kind) (asked : Option Format) (file : List ℕ) (edit : Edit) (value new : QuotaValue) (lines : List (List ℕ)) (old : Outside) (acts : List Act) (to : Outside) (refusal : Refusal) (blocks limit : ℕ)
     → refusal.cause ≡ Full blocks limit → IsView (old.files file) kind asked (Ok value) → edit.edited value ≡ Ok new
-    → (idle : Bool) → edit.is_idle value ≡ idle → (large : Bool) → is_too_large edit (old.files file) new ≡ large → EndsBy (Saying (written file new idle large) lines) old acts to (Some refusal)
+    → (idle : Bool) → edit.is_idle value ≡ idle → (large : Bool) → is_too_large edit (old.files file) new ≡ large → EndsBy (Saying (written file (blocks_after (old.files file) new) new idle large) lines) old acts to (Some refusal)
     → (refusal.name ≡ file) × IsFullFor kind asked edit (to.files file) blocks limit
 written_full kind asked file edit value new lines old acts to refusal blocks limit is view set true idle large more ends = never_done (said_acts lines) old acts to refusal ends
 written_full kind asked file edit value new lines old acts to refusal blocks limit is view set false idle true more ends =
-    full_for kind asked file edit value new to.files refusal _ blocks limit (subst (λ (o : Outside). IsView (o.files file) kind asked (Ok value)) (sym ends.same) view) set idle more is ends.ends refl refl
+    subst (λ (o : Outside). (refusal.name ≡ file) × IsFullFor kind asked edit (o.files file) blocks limit) (sym ends.same)
+    (full_for kind asked file edit value new old.files refusal _ blocks limit view set idle more is ends.ends refl refl)
 written_full kind asked file edit value new lines old acts to refusal blocks limit is view set false idle false more ends = never_done (Change file new ∷ said_acts lines) old acts to refusal ends
 
 step_full : (kind : Kind) (asked : Option Format) (file : List ℕ) (edit : Edit) (value : QuotaValue) (lines : List (List ℕ)) (old : Outside) (acts : List Act) (to : Outside) (refusal : Refusal) (blocks limit : ℕ)
@@ -262,14 +264,15 @@ line_written : (kind : Kind) (asked : Option Format) (file : List ℕ) (now : �
     (refusal : Refusal) (blocks limit : ℕ) → refusal.cause ≡ Full blocks limit → RestFull kind asked file now lines more to refusal blocks limit
     → IsView (old.files file) kind asked (Ok value) → (edit_of line now).edited value ≡ Ok new
     → (idle : Bool) → (edit_of line now).is_idle value ≡ idle → (large : Bool) → is_too_large (edit_of line now) (old.files file) new ≡ large
-    → EndsBy (Then (met_at line.number (written file new idle large)) (λ (done : List Act). DoingAll done (EditsThen file now lines new more))) old acts to (Some refusal)
+    → EndsBy (Then (met_at line.number (written file (blocks_after (old.files file) new) new idle large)) (λ (done : List Act). DoingAll done (EditsThen file now lines new more))) old acts to (Some refusal)
     → (refusal.name ≡ file) × IsFullForOne kind asked now (line ∷ lines) (to.files file) blocks limit
 line_written kind asked file now line lines more value new old acts to refusal blocks limit is rest view set true idle large over ends =
     let same = idle_same value new line.id line.limits now idle set in
     let found = rest new old acts (subst (λ (v : QuotaValue). IsView (old.files file) kind asked (Ok v)) (sym same) view) ends in
     (found.0, one_more kind asked now line lines (to.files file) blocks limit found.1)
 line_written kind asked file now line lines more value new old acts to refusal blocks limit is rest view set false idle true over ends =
-    let full = full_for kind asked file (edit_of line now) value new to.files refusal _ blocks limit (subst (λ (o : Outside). IsView (o.files file) kind asked (Ok value)) (sym ends.same) view) set idle over is ends.ends refl refl in
+    let full = subst (λ (o : Outside). (refusal.name ≡ file) × IsFullFor kind asked (edit_of line now) (o.files file) blocks limit) (sym ends.same)
+    (full_for kind asked file (edit_of line now) value new old.files refusal _ blocks limit view set idle over is ends.ends refl refl) in
     (full.0, record { before = []; line = line; behind = lines; whole = refl; full = full.1 })
 line_written kind asked file now line lines more value new old acts to refusal blocks limit is rest view set false idle false over ends =
     let kinds = set_kind value new line.id line.limits now set in

@@ -1,4 +1,4 @@
-pub mod AppliedLemmas
+pub mod AlikeLemmas
 pub mod BatchInputLemmas
 pub mod BatchLemmas
 pub mod EditFileLemmas

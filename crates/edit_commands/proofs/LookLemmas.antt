@@ -1,33 +1,36 @@
 -- What the commands of this crate look at: that their looks at the files are alike in two worlds, and which file they come to open.
-use Rattle.std.proofs.Common.{◌≡◌, ℕ, true, List, [], ◌∷◌, ◌++◌, Option, None, ap}
+use Rattle.std.proofs.Common.{◌≡◌, inl, refl, ℕ, Bool, true, false, List, [], ◌∷◌, ◌++◌, Option, None, ap}
 use Rattle.quota_types.specs.declared.file_kind.Kind.{Kind}
 use Rattle.quota_types.specs.declared.file_kind.Format.{Format}
 use Rattle.quota_blocks.specs.QuotaValue.{QuotaValue}
 use Rattle.quota_blocks.specs.World.{World}
+use Rattle.quota_types.specs.declared.record.Grace.{Grace as GracePeriods}
 use Rattle.id_names.specs.NamesFile.{NameLine}
 use Rattle.command_words.specs.declared.command.Common.{Common}
 use Rattle.run_steps.specs.Act.{Act, ToOut}
 use Rattle.run_steps.specs.Done.{Outside}
-use Rattle.run_steps.specs.Numbers.{identifier_of}
-use Rattle.run_steps.specs.SameViews.{FileAsked, IsSameFile, LooksAlike, Opens}
+use Rattle.run_steps.specs.OneCommand.{AreSameSteps}
+use Rattle.run_steps.specs.Numbers.{grace_read, identifier_of}
+use Rattle.run_steps.specs.SameViews.{FileAsked, IsSameFile, LooksAlike, LooksAlikeBy, Opens}
 use Rattle.run_steps.specs.Showing.{ShowingSteps}
 use Rattle.run_steps.specs.Steps.{Doing, DoingAll, Finish, Looking, Opening, Steps, Then}
 use Rattle.run_steps.specs.declared.invocation.Invocation.{Invocation}
 use Rattle.run_steps.proofs.LookLemmas.{alike_done, alike_naming, alike_taking, alike_then, opens_done, opens_naming, opens_opening, opens_taking, opens_then}
-use Rattle.run_steps.proofs.LookingLemmas.{alike_doing, only_opens}
+use Rattle.run_steps.proofs.LookingLemmas.{alike_doing, opens_doing}
 use Rattle.refusals.specs.declared.reason.Refusal.{Refusal}
-use Rattle.refusals.specs.Outcome.{Outcome}
+use Rattle.refusals.specs.Outcome.{Outcome, Passed, Refused, and_then}
 use Rattle.edit_commands.specs.declared.batch_line.LineEdit.{LineEdit}
 use Rattle.edit_commands.specs.declared.edit.EditWords.{EditWords}
 use Rattle.edit_commands.specs.declared.edit.FileEdit.{FileEdit}
-use Rattle.edit_commands.specs.declared.edit.FileEdit.TheVariants.{Limits}
+use Rattle.edit_commands.specs.declared.edit.EditWords.TheVariants.{Grace}
+use Rattle.edit_commands.specs.declared.edit.FileEdit.TheVariants.{Limits, Grace as Periods}
 use Rattle.edit_commands.specs.Apply.{ApplySteps, FormSteps, form_step}
 use Rattle.edit_commands.specs.Batch.{Applying, Asked, BatchSteps, EditsThen, ReadSteps, batch_step, edit_of, is_to_end, met_at, value_left}
 use Rattle.edit_commands.specs.Edits.{EditSteps, FileEditSteps, edit_step, said_acts, warnings}
 use Rattle.edit_commands.specs.EditWords.{edit_meant, edit_read, names_wanted, skipped_by}
 use Rattle.edit_commands.specs.Print.{PrintSteps, form_on}
 use Rattle.set_edit.specs.declared.limits.Limits.{Limits as FourLimits}
-use Rattle.edit_commands.proofs.AppliedLemmas.{lines_only, step_same}
+use Rattle.edit_commands.proofs.AlikeLemmas.{edit_steps_alike, line_steps_alike, step_same}
 
 -- what comes of an edit
 abbrev Edited : FileEdit → List ℕ → Invocation → QuotaValue → List Act → Steps
@@ -35,44 +38,62 @@ Edited edit file invocation value acts = DoingAll (acts ++ said_acts (warnings i
 
 -- Their looks are alike.
 
-file_edit_alike : (one other : World) (kind : Kind) (asked : Option Format) (edit : FileEdit) (file : List ℕ) (invocation : Invocation) → LooksAlike one other (FileEditSteps kind asked edit file invocation)
-file_edit_alike one other kind asked edit file invocation = λ value.
-    let meant = edit_meant edit invocation.now in (
-      ap (λ (o : Outcome (List Act)). Then o (Edited edit file invocation value)) (step_same file meant (one file) (other file) value),
-      alike_then one other (edit_step file meant (one file) value) (Edited edit file invocation value)
-          (λ acts. alike_done one other (acts ++ said_acts (warnings invocation.line (skipped_by edit value))) None),
-    )
+file_edit_alike : (rooms : Bool) (one other : World) (kind : Kind) (asked : Option Format) (edit : FileEdit) (file : List ℕ) (invocation : Invocation)
+    → ((value : QuotaValue) → AreSameSteps rooms (Then (edit_step file (edit_meant edit invocation.now) (one file) value) (Edited edit file invocation value))
+    (Then (edit_step file (edit_meant edit invocation.now) (other file) value) (Edited edit file invocation value)))
+    → LooksAlikeBy rooms one other (FileEditSteps kind asked edit file invocation)
+file_edit_alike rooms one other kind asked edit file invocation same = λ value. (
+  same value,
+  alike_then rooms one other (edit_step file (edit_meant edit invocation.now) (one file) value) (Edited edit file invocation value)
+      (λ acts. alike_done rooms one other (acts ++ said_acts (warnings invocation.line (skipped_by edit value))) None),
+)
+
+-- of an edit, but for want of room
+room_edit_alike : (one other : World) (kind : Kind) (asked : Option Format) (edit : FileEdit) (file : List ℕ) (invocation : Invocation) → LooksAlikeBy true one other (FileEditSteps kind asked edit file invocation)
+room_edit_alike one other kind asked edit file invocation =
+    file_edit_alike true one other kind asked edit file invocation (λ value. edit_steps_alike file (edit_meant edit invocation.now) (one file) (other file) value (Edited edit file invocation value))
 
 pub edit_alike : (one other : World) (common : Common) (words : EditWords) (file : List ℕ) (invocation : Invocation) → IsSameFile one other (names_wanted words common.names)
-    → LooksAlike one other (EditSteps common words file invocation)
-edit_alike one other common words file invocation names = alike_naming one other common.kind (names_wanted words common.names) _ names (λ lines.
-    alike_then one other (edit_read lines words) _ (λ edit. file_edit_alike one other common.kind common.format edit file invocation))
+    → LooksAlikeBy true one other (EditSteps common words file invocation)
+edit_alike one other common words file invocation names = alike_naming true one other common.kind (names_wanted words common.names) _ names (λ lines.
+    alike_then true one other (edit_read lines words) _ (λ edit. room_edit_alike one other common.kind common.format edit file invocation))
+
+-- of new grace periods, which need no room
+periods_alike : (one other : World) (kind : Kind) (asked : Option Format) (file : List ℕ) (invocation : Invocation) (read : Outcome GracePeriods)
+    → LooksAlike one other (Then (and_then read (λ (grace : GracePeriods). Passed (Periods grace))) (λ (edit : FileEdit). FileEditSteps kind asked edit file invocation))
+periods_alike one other kind asked file invocation (Passed grace) =
+    file_edit_alike false one other kind asked (Periods grace) file invocation (λ value.
+    inl (ap (λ (o : Outcome (List Act)). Then o (Edited (Periods grace) file invocation value)) (step_same file (edit_meant (Periods grace) invocation.now) (one file) (other file) value refl)))
+periods_alike one other kind asked file invocation (Refused refusal) = tt
+
+pub grace_alike : (one other : World) (common : Common) (block inode file : List ℕ) (invocation : Invocation) → LooksAlike one other (EditSteps common (Grace block inode) file invocation)
+grace_alike one other common block inode file invocation = (inl refl, periods_alike one other common.kind common.format file invocation (grace_read block inode))
 
 pub print_alike : (one other : World) (common : Common) (word file : List ℕ) (invocation : Invocation) → IsSameFile one other common.names → LooksAlike one other (PrintSteps common word file invocation)
-print_alike one other common word file invocation names = alike_naming one other common.kind common.names _ names (λ lines.
-    alike_then one other (identifier_of lines word) _ (λ id value. tt))
+print_alike one other common word file invocation names = alike_naming false one other common.kind common.names _ names (λ lines.
+    alike_then false one other (identifier_of lines word) _ (λ id value. tt))
 
 pub apply_alike : (one other : World) (common : Common) (from : Option (List ℕ)) (word file : List ℕ) (invocation : Invocation) → IsSameFile one other common.names → IsSameFile one other from
-    → LooksAlike one other (ApplySteps common from word file invocation)
-apply_alike one other common from word file invocation names input = alike_naming one other common.kind common.names _ names (λ lines.
-    alike_then one other (identifier_of lines word) _ (λ id.
-    alike_taking one other from (λ limits. true) (form_step common.kind lines file id from) _ input (λ limits. file_edit_alike one other common.kind common.format (Limits id limits) file invocation)))
+    → LooksAlikeBy true one other (ApplySteps common from word file invocation)
+apply_alike one other common from word file invocation names input = alike_naming true one other common.kind common.names _ names (λ lines.
+    alike_then true one other (identifier_of lines word) _ (λ id.
+    alike_taking true one other from (λ limits. true) (form_step common.kind lines file id from) _ input (λ limits. room_edit_alike one other common.kind common.format (Limits id limits) file invocation)))
 
-lines_alike : (one other : World) (file : List ℕ) (now : ℕ) (lines : List LineEdit) (value : QuotaValue) (behind : Option Refusal) → LooksAlike one other (EditsThen file now lines value behind)
+lines_alike : (one other : World) (file : List ℕ) (now : ℕ) (lines : List LineEdit) (value : QuotaValue) (behind : Option Refusal) → LooksAlikeBy true one other (EditsThen file now lines value behind)
 lines_alike one other file now [] value behind = tt
 lines_alike one other file now (line ∷ lines) value behind =
     let edit = edit_of line now in
     let rest = EditsThen file now lines (value_left (edit.edited value) value) behind in
     let next = λ (acts : List Act). DoingAll acts rest in (
-      ap (λ (o : Outcome (List Act)). Then (met_at line.number o) next) (step_same file edit (one file) (other file) value),
-      alike_then one other (met_at line.number (edit_step file edit (one file) value)) next
-          (λ acts. alike_doing one other acts rest (lines_alike one other file now lines (value_left (edit.edited value) value) behind)),
+      line_steps_alike file edit (one file) (other file) value line.number next,
+      alike_then true one other (met_at line.number (edit_step file edit (one file) value)) next
+          (λ acts. alike_doing true one other acts rest (lines_alike one other file now lines (value_left (edit.edited value) value) behind)),
     )
 
 pub batch_alike : (one other : World) (common : Common) (from : Option (List ℕ)) (file : List ℕ) (invocation : Invocation) → IsSameFile one other common.names → IsSameFile one other from
-    → LooksAlike one other (BatchSteps common from file invocation)
-batch_alike one other common from file invocation names input = alike_naming one other common.kind common.names _ names (λ lines value.
-    alike_taking one other from is_to_end (batch_step lines from) _ input (λ asked. lines_alike one other file invocation.now asked.edits value asked.refusal))
+    → LooksAlikeBy true one other (BatchSteps common from file invocation)
+batch_alike one other common from file invocation names input = alike_naming true one other common.kind common.names _ names (λ lines value.
+    alike_taking true one other from is_to_end (batch_step lines from) _ input (λ asked. lines_alike one other file invocation.now asked.edits value asked.refusal))
 
 -- The file that they open.
 
@@ -115,9 +136,18 @@ apply_opens common from word file invocation old opened opens =
     opens_taking is from (λ limits. true) (form_step common.kind lines file id from) (λ (limits : FourLimits). FileEditSteps common.kind common.format (Limits id limits) file invocation) old opened (λ limits.
     file_edit_opens common (Limits id limits) file invocation old opened))) opens
 
+-- edits of lines open none
+lines_open : (holds : Type 0) (file : List ℕ) (now : ℕ) (lines : List LineEdit) (value : QuotaValue) (behind : Option Refusal) (old : Outside) (opened : FileAsked) → Opens (EditsThen file now lines value behind) old opened → holds
+lines_open holds file now [] value behind old opened opens = absurd opens
+lines_open holds file now (line ∷ lines) value behind old opened opens =
+    let edit = edit_of line now in
+    let left = value_left (edit.edited value) value in
+    let rest = EditsThen file now lines left behind in
+    opens_then holds (met_at line.number (edit_step file edit (old.files file) value)) (λ (acts : List Act). DoingAll acts rest) old opened (λ acts more.
+    lines_open holds file now lines left behind old opened (opens_doing acts rest old opened more)) opens
+
 applying_opens : (holds : Type 0) (file : List ℕ) (now : ℕ) (value : QuotaValue) (asked : Asked) (old : Outside) (opened : FileAsked) → Opens (Applying file now value asked) old opened → holds
-applying_opens holds file now value asked old opened opens =
-    only_opens holds _ _ (Applying file now value asked) old opened (lines_only file now asked.edits value asked.refusal) opens
+applying_opens holds file now value asked old opened opens = lines_open holds file now asked.edits value asked.refusal old opened opens
 
 pub batch_opens : (common : Common) (from : Option (List ℕ)) (file : List ℕ) (invocation : Invocation) (old : Outside) (opened : FileAsked) → Opens (BatchSteps common from file invocation) old opened → IsFileOf common file opened
 batch_opens common from file invocation old opened opens =

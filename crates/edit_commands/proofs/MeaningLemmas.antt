@@ -1,6 +1,6 @@
 -- What the steps of the commands of this crate mean: that they look first, that they read an input to its end, and when they are
 -- sure to succeed.
-use Rattle.std.proofs.Common.{◌≡◌, ◌⊎◌, inl, inr, ℕ, Bool, true, IsTrue, List, [], ◌∷◌, ◌++◌, Option, None, Some, Ok, Result, refl, sym, ap, subst, ◌∙◌}
+use Rattle.std.proofs.Common.{◌≡◌, ◌⊎◌, inl, inr, ℕ, Bool, true, false, IsTrue, List, [], ◌∷◌, ◌++◌, Option, None, Some, Ok, Result, refl, sym, ap, subst, ◌∙◌}
 use Rattle.std.specs.Prelude.{is_none}
 use Rattle.quota_types.specs.declared.file_kind.Kind.{Kind}
 use Rattle.quota_types.specs.declared.file_kind.Format.{Format}
@@ -14,15 +14,16 @@ use Rattle.set_edit.specs.Edits.{limits_edit}
 use Rattle.set_edit.specs.declared.limits.Limits.{Limits as FourLimits}
 use Rattle.command_words.specs.declared.command.Common.{Common}
 use Rattle.refusals.specs.declared.reason.Refusal.{Refusal}
-use Rattle.refusals.specs.Outcome.{Outcome, Passed}
+use Rattle.refusals.specs.Outcome.{Passed}
 use Rattle.run_steps.specs.Act.{Act, ToOut}
+use Rattle.run_steps.specs.Changing.{blocks_after}
 use Rattle.run_steps.specs.Done.{Outside}
 use Rattle.run_steps.specs.Meaning.{IsSure}
 use Rattle.run_steps.specs.Naming.{names_seen}
 use Rattle.run_steps.specs.Numbers.{identifier_of}
-use Rattle.run_steps.specs.OneCommand.{LooksFirst, ReadsToEnd}
+use Rattle.run_steps.specs.OneCommand.{LooksFirst, LooksFirstBy, ReadsToEnd}
 use Rattle.run_steps.specs.Showing.{ShowingSteps}
-use Rattle.run_steps.specs.Steps.{Doing, DoingAll, Finish, Looking, Opening, Steps, Then}
+use Rattle.run_steps.specs.Steps.{Doing, DoingAll, Finish, Looking, Opening, Then}
 use Rattle.run_steps.specs.Taking.{input_said}
 use Rattle.run_steps.specs.declared.invocation.Invocation.{Invocation}
 use Rattle.run_steps.proofs.OneCommandLemmas.{looks_done, looks_naming, looks_taking, looks_then, reads_taking, reads_then, sure_done, sure_naming, sure_opening, sure_taking, sure_then}
@@ -36,8 +37,8 @@ use Rattle.edit_commands.specs.Edits.{EditSteps, FileEditSteps, changed, edit_st
 use Rattle.edit_commands.specs.Room.{AllFit, Fits}
 use Rattle.edit_commands.specs.EditWords.{edit_meant, edit_read, names_wanted, skipped_by}
 use Rattle.edit_commands.specs.Print.{PrintSteps, form_on}
-use Rattle.run_steps.proofs.LookingLemmas.{DoOnly, looks_doing, only_stopped, sure_doing}
-use Rattle.edit_commands.proofs.AppliedLemmas.{applied, first_of, lines_only, step_same}
+use Rattle.run_steps.proofs.LookingLemmas.{looks_doing, reads_doing, sure_doing}
+use Rattle.edit_commands.proofs.AlikeLemmas.{line_steps_alike}
 use Rattle.edit_commands.proofs.EditLemmas.{Saying, change_acts, written_passes}
 
 -- They look first.
@@ -47,42 +48,42 @@ file_edit_looks takes kind asked edit file invocation = (
   refl,
   λ value. (
     inl refl,
-    λ files. looks_then true takes (edit_step file (edit_meant edit invocation.now) (files file) value) _
-        (λ acts. looks_done true takes (acts ++ said_acts (warnings invocation.line (skipped_by edit value))) None),
+    λ files. looks_then false true takes (edit_step file (edit_meant edit invocation.now) (files file) value) _
+        (λ acts. looks_done false true takes (acts ++ said_acts (warnings invocation.line (skipped_by edit value))) None),
   ),
 )
 
 pub edit_looks : (common : Common) (words : EditWords) (file : List ℕ) (invocation : Invocation) → LooksFirst true true (EditSteps common words file invocation)
-edit_looks common words file invocation = looks_naming true common.kind (names_wanted words common.names) _ (λ names.
-    looks_then true true (edit_read names words) _ (λ edit. file_edit_looks true common.kind common.format edit file invocation))
+edit_looks common words file invocation = looks_naming false true common.kind (names_wanted words common.names) _ (λ names.
+    looks_then false true true (edit_read names words) _ (λ edit. file_edit_looks true common.kind common.format edit file invocation))
 
 pub print_looks : (common : Common) (word file : List ℕ) (invocation : Invocation) → LooksFirst true true (PrintSteps common word file invocation)
-print_looks common word file invocation = looks_naming true common.kind common.names _ (λ names.
-    looks_then true true (identifier_of names word) _ (λ id. (refl, λ value. tt)))
+print_looks common word file invocation = looks_naming false true common.kind common.names _ (λ names.
+    looks_then false true true (identifier_of names word) _ (λ id. (refl, λ value. tt)))
 
 pub apply_looks : (common : Common) (from : Option (List ℕ)) (word file : List ℕ) (invocation : Invocation) → LooksFirst true true (ApplySteps common from word file invocation)
-apply_looks common from word file invocation = looks_naming true common.kind common.names _ (λ names.
-    looks_then true true (identifier_of names word) _ (λ id.
-    looks_taking from (λ limits. true) (form_step common.kind names file id from) _ (λ takes limits. file_edit_looks takes common.kind common.format (Limits id limits) file invocation)))
+apply_looks common from word file invocation = looks_naming false true common.kind common.names _ (λ names.
+    looks_then false true true (identifier_of names word) _ (λ id.
+    looks_taking false from (λ limits. true) (form_step common.kind names file id from) _ (λ takes limits. file_edit_looks takes common.kind common.format (Limits id limits) file invocation)))
 
--- what comes of the looks of lines rests on no file
-lines_look : (looks takes : Bool) (file : List ℕ) (now : ℕ) (lines : List LineEdit) (value : QuotaValue) (behind : Option Refusal) → LooksFirst looks takes (EditsThen file now lines value behind)
+-- what comes of the looks of lines rests on no file, but for want of room
+lines_look : (looks takes : Bool) (file : List ℕ) (now : ℕ) (lines : List LineEdit) (value : QuotaValue) (behind : Option Refusal) → LooksFirstBy true looks takes (EditsThen file now lines value behind)
 lines_look looks takes file now [] value behind = tt
 lines_look looks takes file now (line ∷ lines) value behind =
     let edit = edit_of line now in
     let left = value_left (edit.edited value) value in
     let rest = EditsThen file now lines left behind in
     let next = λ (acts : List Act). DoingAll acts rest in (
-      inr (λ one other. ap (λ (o : Outcome (List Act)). Then (met_at line.number o) next) (step_same file edit (one file) (other file) value)),
-      λ files. looks_then looks takes (met_at line.number (edit_step file edit (files file) value)) next
-          (λ acts. looks_doing looks takes acts rest (λ may. lines_look may takes file now lines left behind)),
+      inr (λ one other. line_steps_alike file edit (one file) (other file) value line.number next),
+      λ files. looks_then true looks takes (met_at line.number (edit_step file edit (files file) value)) next
+          (λ acts. looks_doing true looks takes acts rest (λ may. lines_look may takes file now lines left behind)),
     )
 
-pub batch_looks : (common : Common) (from : Option (List ℕ)) (file : List ℕ) (invocation : Invocation) → LooksFirst true true (BatchSteps common from file invocation)
-batch_looks common from file invocation = looks_naming true common.kind common.names _ (λ names. (
+pub batch_looks : (common : Common) (from : Option (List ℕ)) (file : List ℕ) (invocation : Invocation) → LooksFirstBy true true true (BatchSteps common from file invocation)
+batch_looks common from file invocation = looks_naming true true common.kind common.names _ (λ names. (
   refl,
   λ value.
-      looks_taking from is_to_end (batch_step names from) _ (λ takes asked. lines_look true takes file invocation.now asked.edits value asked.refusal),
+      looks_taking true from is_to_end (batch_step names from) _ (λ takes asked. lines_look true takes file invocation.now asked.edits value asked.refusal),
 ))
 
 -- They read the standard input to its end.
@@ -93,28 +94,32 @@ apply_reads common word file invocation = λ files.
     reads_then (identifier_of names word) _ (λ id.
     reads_taking (λ limits. true) (form_step common.kind names file id None) _ (λ limits. inl refl)))
 
-stopped_reads : (acts : List Act) (one : Option Refusal) (refusal : Refusal) (steps : Steps) → DoOnly acts (first_of one (Some refusal)) steps → ReadsToEnd steps
-stopped_reads acts None refusal steps only = only_stopped acts refusal steps only
-stopped_reads acts (Some one) refusal steps only = only_stopped acts one steps only
+-- edits behind which a refusal comes never pass
+lines_stopped : (file : List ℕ) (now : ℕ) (lines : List LineEdit) (value : QuotaValue) (refusal : Refusal) → ReadsToEnd (EditsThen file now lines value (Some refusal))
+lines_stopped file now [] value refusal = tt
+lines_stopped file now (line ∷ lines) value refusal = λ files.
+    let edit = edit_of line now in
+    let rest = EditsThen file now lines (value_left (edit.edited value) value) (Some refusal) in
+    reads_then (met_at line.number (edit_step file edit (files file) value)) (λ (acts : List Act). DoingAll acts rest) (λ acts.
+    reads_doing acts rest (lines_stopped file now lines (value_left (edit.edited value) value) refusal))
 
 -- edits are done behind an input that was read to its end, or end with the refusal of a line
-ended_or_stopped : (acts : List Act) (one other : Option Refusal) (steps : Steps) → DoOnly acts (first_of one other) steps → IsTrue (is_none other) ⊎ ReadsToEnd steps
-ended_or_stopped acts one None steps only = inl refl
-ended_or_stopped acts one (Some refusal) steps only = inr (stopped_reads acts one refusal steps only)
+ended_or_stopped : (file : List ℕ) (now : ℕ) (lines : List LineEdit) (value : QuotaValue) (behind : Option Refusal) → IsTrue (is_none behind) ⊎ ReadsToEnd (EditsThen file now lines value behind)
+ended_or_stopped file now lines value None = inl refl
+ended_or_stopped file now lines value (Some refusal) = inr (lines_stopped file now lines value refusal)
 
 pub batch_reads : (common : Common) (file : List ℕ) (invocation : Invocation) → ReadsToEnd (BatchSteps common None file invocation)
 batch_reads common file invocation = λ files.
     reads_then (names_seen common.kind common.names files) _ (λ names value.
     reads_taking is_to_end (batch_step names None) (Applying file invocation.now value) (λ asked.
-    let done = applied file invocation.now asked.edits value in
-    ended_or_stopped done.acts done.refusal asked.refusal (Applying file invocation.now value asked) (lines_only file invocation.now asked.edits value asked.refusal)))
+    ended_or_stopped file invocation.now asked.edits value asked.refusal))
 
 -- They are sure.
 
 -- the step of an edit that fits passes
 step_fits : (name : List ℕ) (edit : Edit) (file : Option (List ℕ)) (value new : QuotaValue) → Fits edit file value new → edit_step name edit file value ≡ Passed (change_acts name new (edit.is_idle value))
 step_fits name edit file value new fits =
-    ap (λ (r : Result QuotaValue (Field × ℕ)). changed name edit file value r) fits.0 ∙ written_passes name new (edit.is_idle value) (is_too_large edit file new) fits.1
+    ap (λ (r : Result QuotaValue (Field × ℕ)). changed name edit file value r) fits.0 ∙ written_passes name (blocks_after file new) new (edit.is_idle value) (is_too_large edit file new) fits.1
 
 file_edit_sure : (kind : Kind) (asked : Option Format) (edit : FileEdit) (file : List ℕ) (invocation : Invocation) (value new : QuotaValue) (old : Outside)
     → IsView (old.files file) kind asked (Ok value) → Fits (edit_meant edit invocation.now) (old.files file) value new → IsSure (FileEditSteps kind asked edit file invocation) old

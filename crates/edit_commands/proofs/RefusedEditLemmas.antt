@@ -1,5 +1,5 @@
 -- An edit of a file that was refused: its steps and its reason.
-use Rattle.std.proofs.Common.{◌≡◌, ◌≢◌, ℕ, ◌≤◌, Bool, true, false, IsTrue, List, [], ◌++◌, take, Option, None, Some, Ok, Err, Result, inl, refl, sym, ap, subst, ◌∙◌, arith}
+use Rattle.std.proofs.Common.{◌≡◌, ◌≢◌, ℕ, ◌≤◌, Bool, true, false, IsTrue, List, [], ◌∷◌, ◌++◌, Option, Some, Ok, Err, Result, inl, refl, sym, ap, subst, ◌∙◌, append-nil, arith}
 use Rattle.std.specs.Prelude.{◌&&◌, ◌<◌, nat_lt, IfSome, IsOkAnd}
 use Rattle.std.proofs.lemmas.Bool.{false≢true}
 use Rattle.std.proofs.lemmas.Bool.Decides.{nat_tests}
@@ -12,7 +12,7 @@ use Rattle.quota_blocks.specs.Seen.{StoreSeen}
 use Rattle.quota_blocks.specs.World.{World}
 use Rattle.quota_blocks.specs.declared.quota_file.FileFault.{FileFault}
 use Rattle.quota_blocks.specs.declared.quota_file.FileFault.TheVariants.{Store, Damage, Full, Memory}
-use Rattle.outside.proofs.FrameLemmas.{only_reads-none, replaces_one-read}
+use Rattle.outside.proofs.FrameLemmas.{replaces_one-read}
 use Rattle.quota_map.specs.View.{most_blocks}
 use Rattle.set_edit.specs.EditFault.{IfNoRoom, file_fault}
 use Rattle.set_edit.specs.Editing.{Edit}
@@ -23,29 +23,27 @@ use Rattle.refusals.specs.declared.cause.Cause.TheVariants.{Full as FileFull, No
 use Rattle.refusals.specs.Outcome.{Outcome, Passed, Refused}
 use Rattle.refusals.specs.Refusals.{refusal_of}
 use Rattle.refusals.specs.Status.{status_of}
-use Rattle.run_steps.specs.Act.{Act, ChangesNone, FollowsInPart}
-use Rattle.run_steps.specs.Done.{AreDoneInPart, RunSeen, RunTells, outside_of}
-use Rattle.run_steps.specs.Meaning.{EndsBy}
+use Rattle.run_steps.specs.Act.{Act, Change, MayBeLeft}
+use Rattle.run_steps.specs.Done.{Outside, RunSeen, RunTells, outside_of}
+use Rattle.run_steps.specs.Meaning.{EndsBy, HasBegun}
 use Rattle.run_steps.specs.Run.{CarriesOut, HasReason, IsDoneInPart, Uses}
-use Rattle.run_steps.specs.Steps.{AreDoneThen, Steps}
-use Rattle.run_steps.specs.Changing.{blocks_of, edit_uses, written}
+use Rattle.run_steps.specs.Steps.{DoingAll, Finish, Steps, Then}
+use Rattle.run_steps.specs.Changing.{blocks_after, edit_uses, written}
 use Rattle.edit_commands.specs.Batch.{met_at}
-use Rattle.edit_commands.specs.Edits.{changed, edit_cause, edit_step, is_too_large, said_acts}
-use Rattle.run_steps.proofs.ActLemmas.{none_in_part}
-use Rattle.run_steps.proofs.DoingLemmas.{AreWritten, part_of, written_none}
+use Rattle.edit_commands.specs.Edits.{IsLeftFor, changed, edit_cause, edit_step, is_too_large, said_acts}
+use Rattle.run_steps.proofs.ActLemmas.{appends_nothing}
 use Rattle.run_steps.proofs.OpeningLemmas.{refused_steps, unwritten, with_store}
-use Rattle.run_steps.proofs.PartLemmas.{acts_in_part}
+use Rattle.run_steps.proofs.PartLemmas.{nothing_begun, part_from}
 use Rattle.run_steps.proofs.ReasonLemmas.{reason_but_stated}
-use Rattle.edit_commands.proofs.AppliedLemmas.{Applied, does_then}
 use Rattle.edit_commands.proofs.EditLemmas.{Saying}
 
 -- What an edit of a value left that was refused: nothing was written unless the store failed. Where so much is told, nothing was
--- written either where nothing is to be done, the value does not fit or there is no room for it, and the named file is as it was.
--- All files stay but the named one and the one with `.new` added to its name.
+-- written either where nothing is to be done, the value does not fit or there is no room for it, and the named file is what an edit
+-- to the edited value that failed may leave. All files stay but the named one and the one with `.new` added to its name.
 pub record IsRefusedAt (name : List ℕ) (edit : Edit) (value : QuotaValue) (told : Type 0) (old new : StoreSeen) (cause : Cause) : Type 0 where
   pub whole : status_of cause ≢ 4 → OnlyReads false name old new
   pub idle : told → IsTrue (edit.is_idle value) → OnlyReads false name old new
-  pub named : told → new.files name ≡ old.files name
+  pub named : told → (edited : QuotaValue) → edit.edited value ≡ Ok edited → MayBeLeft edited (old.files name) (new.files name)
   pub unfit : told → (out : Field × ℕ) → edit.edited value ≡ Err out → OnlyReads false name old new
   pub full : told → (edited : QuotaValue) → edit.edited value ≡ Ok edited → IsTrue (is_too_large edit (old.files name) edited) → OnlyReads false name old new
   pub leaves : ReplacesOne name old new
@@ -56,57 +54,81 @@ pub refused_read : (name : List ℕ) (edit : Edit) (value : QuotaValue) (told : 
 refused_read name edit value told old new cause read = record {
   whole = λ other. read;
   idle = λ is idle. read;
-  named = λ is. ap (λ (files : World). files name) read.files;
+  named = λ is edited set. inl (ap (λ (files : World). files name) read.files);
   unfit = λ is out unfit. read;
   full = λ is edited set large. read;
   leaves = replaces_one-read name old new read;
 }
 
+-- a file that was only read before an edit that was refused
+pub left_for-read : (cause : Cause) (old between left : Option (List ℕ)) → between ≡ old → IsLeftFor cause between left → IsLeftFor cause old left
+left_for-read cause old between left same is = subst (λ (bytes : Option (List ℕ)). IsLeftFor cause bytes left) same is
+
 -- What was begun.
 
--- acts of which the first may have been begun by a change that failed
-record IsBegun (acts : List Act) (old new : StoreSeen) : Type 0 where
-  files : FollowsInPart acts old.files new.files
-  writes : ChangesNone (take 1 acts) → new.writes ≡ old.writes
+-- steps that begin with an act that they are given
+abbrev pub BeginsWith : (List Act → Steps) → Type 0
+BeginsWith next = (act : Act) (from : Outside) → HasBegun (next (act ∷ [])) from [] (act ∷ []) from
 
-begun_none : {done : Bool} (name : List ℕ) (acts : List Act) (old new : StoreSeen) → OnlyReads done name old new → IsBegun acts old new
-begun_none name acts old new reads = record { files = none_in_part acts old.files new.files reads.files; writes = λ none. reads.writes }
+-- nothing was begun where the store was only read
+read_part : {done : Bool} (name : List ℕ) (steps : Steps) (tells : RunTells) (old : RunSeen) (store : StoreSeen) → OnlyReads done name old.store store → IsDoneInPart steps tells old (with_store old store)
+read_part name steps tells old store reads = nothing_begun steps tells old (with_store old store) reads.files (λ told. refl) (λ told. refl) refl refl reads.writes
 
-begun_written : {done : Bool} (name : List ℕ) (edited : QuotaValue) (idle large : Bool) (number : ℕ) (more : Applied) (old new : StoreSeen) → (IsTrue idle → OnlyReads done name old new)
-    → (IsTrue large → OnlyReads done name old new) → new.files name ≡ old.files name → ReplacesOne name old new
-    → IsBegun (does_then (met_at number (written name edited idle large)) more).acts old new
-begun_written name edited true large number more old new same full named leaves = begun_none name more.acts old new (same refl)
-begun_written name edited false true number more old new same full named leaves = begun_none name [] old new (full refl)
-begun_written name edited false false number more old new same full named leaves = record { files = (inl named, leaves.files); writes = λ none. absurd none }
+written_part : {done : Bool} (name : List ℕ) (blocks : ℕ) (edited : QuotaValue) (idle large : Bool) (next : List Act → Steps) (tells : RunTells) (old : RunSeen) (store : StoreSeen) → BeginsWith next
+    → (IsTrue idle → OnlyReads done name old.store store) → (IsTrue large → OnlyReads done name old.store store) → MayBeLeft edited (old.store.files name) (store.files name) → ReplacesOne name old.store store
+    → IsDoneInPart (Then (written name blocks edited idle large) next) tells old (with_store old store)
+written_part name blocks edited true large next tells old store begins same full named leaves = read_part name (next []) tells old store (same refl)
+written_part name blocks edited false true next tells old store begins same full named leaves =
+    read_part name (Then (written name blocks edited false true) next) tells old store (full refl)
+written_part name blocks edited false false next tells old store begins same full named leaves = record {
+  done = [];
+  hand = Change name edited ∷ [];
+  now = outside_of old;
+  begun = begins (Change name edited) (outside_of old);
+  files = (named, leaves.files);
+  out = λ told. appends_nothing (old.out.written ++ []) old.out.written [] (sym (append-nil old.out.written));
+  err = λ told. appends_nothing (old.err.written ++ []) old.err.written [] (sym (append-nil old.err.written));
+  answered = sym (append-nil old.link.answers);
+  datagrams = refl;
+  writes = λ none. absurd none;
+}
 
-begun_changed : (name : List ℕ) (edit : Edit) (file : Option (List ℕ)) (value : QuotaValue) (edited : Result QuotaValue (Field × ℕ)) (number : ℕ) (more : Applied) (told : Type 0) (old new : StoreSeen) (cause : Cause) → edit.edited value ≡ edited
-    → IsRefusedAt name edit value told old new cause → told → IsBegun (does_then (met_at number (changed name edit file value edited)) more).acts old new
-begun_changed name edit file value (Ok one) number more told old new cause set refused is =
-    begun_written name one (edit.is_idle value) (is_too_large edit file one) number more old new (refused.idle is) (refused.full is one set) (refused.named is) refused.leaves
-begun_changed name edit file value (Err out) number more told old new cause set refused is = begun_none name [] old new (refused.unfit is out set)
+changed_part : (name : List ℕ) (edit : Edit) (value : QuotaValue) (edited : Result QuotaValue (Field × ℕ)) (next : List Act → Steps) (tells : RunTells) (old : RunSeen) (store : StoreSeen) (cause : Cause)
+    → edit.edited value ≡ edited → BeginsWith next → IsRefusedAt name edit value (IsTrue tells.store) old.store store cause → IsTrue tells.store
+    → IsDoneInPart (Then (changed name edit (old.store.files name) value edited) next) tells old (with_store old store)
+changed_part name edit value (Ok one) next tells old store cause set begins refused is =
+    written_part name (blocks_after (old.store.files name) one) one (edit.is_idle value) (is_too_large edit (old.store.files name) one) next tells old store begins (refused.idle is) (refused.full is one set)
+    (refused.named is one set) refused.leaves
+changed_part name edit value (Err out) next tells old store cause set begins refused is =
+    read_part name (Then (changed name edit (old.store.files name) value (Err out)) next) tells old store (refused.unfit is out set)
 
--- acts were done, and of the edit of a value that was refused, and of the acts behind it, the first was begun
-pub refused_part : (acts : List Act) (name : List ℕ) (edit : Edit) (file : Option (List ℕ)) (value : QuotaValue) (number : ℕ) (more : Applied) (tells : RunTells) (old : RunSeen) (before after : StoreSeen) (cause : Cause)
-    → AreWritten acts old.store before → IsRefusedAt name edit value (IsTrue tells.store) before after cause → IsTrue tells.store
-    → AreDoneInPart tells (acts ++ (does_then (met_at number (edit_step name edit file value)) more).acts) old (with_store old after)
-refused_part acts name edit file value number more tells old before after cause are refused told =
-    let begun = begun_changed name edit file value (edit.edited value) number more _ before after cause refl refused told in
-    part_of acts (does_then (met_at number (edit_step name edit file value)) more).acts tells old before after are begun.files begun.writes
+-- of the steps of an edit that was refused the first act was begun at most
+pub refused_part : (name : List ℕ) (edit : Edit) (value : QuotaValue) (next : List Act → Steps) (tells : RunTells) (old : RunSeen) (store : StoreSeen) (cause : Cause)
+    → BeginsWith next → IsRefusedAt name edit value (IsTrue tells.store) old.store store cause → IsTrue tells.store
+    → IsDoneInPart (Then (edit_step name edit (old.store.files name) value) next) tells old (with_store old store)
+refused_part name edit value next tells old store cause begins refused is = changed_part name edit value (edit.edited value) next tells old store cause refl begins refused is
+
+-- and so it was of one that is met at a line
+pub met_part : (number : ℕ) (outcome : Outcome (List Act)) (next : List Act → Steps) (tells : RunTells) (old new : RunSeen) → IsDoneInPart (Then outcome next) tells old new
+    → IsDoneInPart (Then (met_at number outcome) next) tells old new
+met_part number (Passed acts) next tells old new part = part
+met_part number (Refused refusal) next tells old new part =
+    part_from (Then (Refused refusal) next) (Then (met_at number (Refused refusal)) next) tells old old.store old.input new refl (λ done hand now by. by) part
 
 -- Why an edit was refused.
 
--- an edited value needs so many blocks, and may have only so many
-abbrev pub IsLacking : QuotaValue → ℕ → ℕ → Type 0
-IsLacking new blocks limit = (blocks ≡ blocks_of new) × (limit ≡ most_blocks) × (most_blocks < blocks)
+-- this file would have so many blocks with an edited value, and may have only so many
+abbrev pub IsLacking : Option (List ℕ) → QuotaValue → ℕ → ℕ → Type 0
+IsLacking file new blocks limit = (blocks ≡ blocks_after file new) × (limit ≡ most_blocks) × (most_blocks < blocks)
 
 -- a number that is less is found to be
 more_of : (a b : ℕ) → a < b → nat_lt a b ≡ true
 more_of a b less = grind (arith, nat_tests)
 
-written_full : (name : List ℕ) (new : QuotaValue) (idle large : Bool) → idle ≡ false → IsTrue large → written name new idle large ≡ Refused (refusal_of (FileFull (blocks_of new) most_blocks) name)
-written_full name new true large some more = absurd (cc)
-written_full name new false true some more = refl
-written_full name new false false some more = absurd (false≢true more)
+written_full : (name : List ℕ) (blocks : ℕ) (new : QuotaValue) (idle large : Bool) → idle ≡ false → IsTrue large → written name blocks new idle large ≡ Refused (refusal_of (FileFull blocks most_blocks) name)
+written_full name blocks new true large some more = absurd (cc)
+written_full name blocks new false true some more = refl
+written_full name blocks new false false some more = absurd (false≢true more)
 
 -- a value for which there is no room is found to be too large
 too_large : (edit : Edit) (new : QuotaValue) (needs more : Bool) → IsTrue needs → IsTrue more → IsTrue (needs && more)
@@ -116,11 +138,11 @@ too_large edit new false more needs is = absurd (false≢true needs)
 
 -- the refusal of a value for which there is no room
 pub full_changed : (name : List ℕ) (edit : Edit) (file : Option (List ℕ)) (value : QuotaValue) (edited : Result QuotaValue (Field × ℕ)) (blocks limit : ℕ)
-    → IsTrue edit.needs_room → IsOkAnd edited (λ (new : QuotaValue). IsLacking new blocks limit) → edit.is_idle value ≡ false
+    → IsTrue edit.needs_room → IsOkAnd edited (λ (new : QuotaValue). IsLacking file new blocks limit) → edit.is_idle value ≡ false
     → changed name edit file value edited ≡ Refused (refusal_of (FileFull blocks limit) name)
 full_changed name edit file value (Ok new) blocks limit needs lacking wanted =
-    written_full name new (edit.is_idle value) (is_too_large edit file new) wanted
-    (too_large edit new edit.needs_room (nat_lt most_blocks (blocks_of new)) needs (more_of most_blocks (blocks_of new) (subst (λ (b : ℕ). most_blocks < b) lacking.0 lacking.2)))
+    written_full name (blocks_after file new) new (edit.is_idle value) (is_too_large edit file new) wanted
+    (too_large edit new edit.needs_room (nat_lt most_blocks (blocks_after file new)) needs (more_of most_blocks (blocks_after file new) (subst (λ (b : ℕ). most_blocks < b) lacking.0 lacking.2)))
     ∙ ap (λ (b : ℕ). Refused (refusal_of (FileFull b most_blocks) name)) (sym lacking.0)
     ∙ ap (λ (l : ℕ). Refused (refusal_of (FileFull blocks l) name)) (sym lacking.1)
 full_changed name edit file value (Err out) blocks limit needs lacking wanted = absurd lacking
@@ -132,12 +154,12 @@ unfit_refused name edit file value out same is =
     ap (λ (r : Result QuotaValue (Field × ℕ)). changed name edit file value r) is
     ∙ ap (λ (i : ℕ). Refused (refusal_of (NoRoomFor (record { id = i; field = out.field; value = out.value })) name)) (sym same)
 
--- Why an edit was refused: its cause, over the value that the file holds.
-pub record HasEditCause (edit : Edit) (before now : ℕ) (holds : QuotaValue → Type 0) (fault : EditFault) : Type 0 where
+-- Why an edit of this file was refused: its cause, over the value that the file holds.
+pub record HasEditCause (edit : Edit) (file : Option (List ℕ)) (before now : ℕ) (holds : QuotaValue → Type 0) (fault : EditFault) : Type 0 where
   pub no_room : IfNoRoom fault (λ (out : NoRoom). (value : QuotaValue) → holds value → edit.edited value ≡ Err (out.field, out.value))
   pub id : IfNoRoom fault (λ (out : NoRoom). out.id ≡ edit.id)
   pub refused : IfSome (file_fault fault) (IsChangeFault before now holds (λ (blocks limit : ℕ). IsTrue edit.needs_room
-      × ((value : QuotaValue) → holds value → IsOkAnd (edit.edited value) (λ (new : QuotaValue). IsLacking new blocks limit))))
+      × ((value : QuotaValue) → holds value → IsOkAnd (edit.edited value) (λ (new : QuotaValue). IsLacking file new blocks limit))))
   pub wanted : IfSome (file_fault fault) (λ (out : FileFault). UnlessStoreFailed out ((value : QuotaValue) → holds value → edit.is_idle value ≡ false))
 
 -- the step of an edit of the value of this file is refused with a cause that is no fault
@@ -145,7 +167,7 @@ abbrev pub IsStepRefused : List ℕ → Edit → Option (List ℕ) → EditFault
 IsStepRefused name edit file fault value = (edit_step name edit file value ≡ Refused (refusal_of (edit_cause fault) name)) × (status_of (edit_cause fault) ≢ 4)
 
 pub edit_reason : (name : List ℕ) (edit : Edit) (file : Option (List ℕ)) (uses : Uses) (old new : RunSeen) (before : ℕ) (holds : QuotaValue → Type 0) (fault : EditFault) → old.store.faults ≤ before
-    → HasEditCause edit before new.store.faults holds fault → HasReason uses old new ((value : QuotaValue) → holds value → IsStepRefused name edit file fault value) (edit_cause fault)
+    → HasEditCause edit file before new.store.faults holds fault → HasReason uses old new ((value : QuotaValue) → holds value → IsStepRefused name edit file fault value) (edit_cause fault)
 edit_reason name edit file uses old new before holds (File Store) le cause = let rose = cause.refused in omega (arith, le, rose)
 edit_reason name edit file uses old new before holds (File (Damage damage)) le cause = λ value held. absurd (cause.refused value held)
 edit_reason name edit file uses old new before holds (File (Full blocks limit)) le cause = λ value held. (
@@ -155,16 +177,10 @@ edit_reason name edit file uses old new before holds (File (Full blocks limit)) 
 edit_reason name edit file uses old new before holds (File Memory) le cause = tt
 edit_reason name edit file uses old new before holds (Unfit out) le cause = λ value held. (unfit_refused name edit file value out cause.id (cause.no_room value held), λ e. omega (arith, e))
 
--- the steps of an edit are acts, and then its refusal, if there is one
-saying_done : (outcome : Outcome (List Act)) (lines : List (List ℕ))
-    → AreDoneThen (does_then (met_at 0 outcome) (record { acts = said_acts lines; refusal = None })).acts (does_then outcome (record { acts = said_acts lines; refusal = None })).refusal ≡ Saying outcome lines
-saying_done (Passed acts) lines = refl
-saying_done (Refused refusal) lines = refl
-
 -- the edit of a value was refused
 pub edit_unmade : (name : List ℕ) (edit : Edit) (value : QuotaValue) (lines : List (List ℕ)) (warns : Bool) (more : Cause → List ℕ → Type 0) (tells : RunTells) (old : RunSeen) (store : StoreSeen) (holds : QuotaValue → Type 0) (fault : EditFault)
     → (IsTrue tells.store → holds value) → IsRefusedAt name edit value (IsTrue tells.store) old.store store (edit_cause fault)
-    → HasEditCause edit old.store.faults store.faults holds fault → more (edit_cause fault) name
+    → HasEditCause edit (old.store.files name) old.store.faults store.faults holds fault → more (edit_cause fault) name
     → CarriesOut (Saying (edit_step name edit (old.store.files name) value) lines) (edit_uses warns) more tells old (with_store old store) (Err (refusal_of (edit_cause fault) name))
 edit_unmade name edit value lines warns more tells old store holds fault held refused cause allowed = record {
   done = tt;
@@ -175,10 +191,8 @@ edit_unmade name edit value lines warns more tells old store holds fault held re
       (record { acts_none = refl; same = same; ends = refl })))
       (edit_reason name edit (old.store.files name) (edit_uses warns) old (with_store old store) old.store.faults holds fault (omega arith) cause);
   part = λ told.
-      subst (λ (s : Steps). IsDoneInPart s tells old (with_store old store)) (saying_done (edit_step name edit (old.store.files name) value) lines)
-      (acts_in_part _ _ tells old (with_store old store) refl
-      (refused_part [] name edit (old.store.files name) value 0 (record { acts = said_acts lines; refusal = None }) tells old old.store store (edit_cause fault)
-      (written_none name old.store old.store (only_reads-none {done = true} name old.store)) refused told.store));
+      refused_part name edit value (λ (acts : List Act). DoingAll (acts ++ said_acts lines) Finish) tells old store (edit_cause fault)
+      (λ act from. inl (record { done_none = refl; at_hand = refl; same = refl })) refused told.store;
   may_refuse = allowed;
   placed = record { line = λ no. refl; input_line = λ no. refl };
   only_reads = λ only. absurd (cc);

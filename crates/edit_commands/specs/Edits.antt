@@ -20,27 +20,27 @@ use Rattle.refusals.specs.declared.reason.Refusal.{Refusal}
 use Rattle.command_words.specs.declared.command.Common.{Common}
 use Rattle.edit_commands.specs.declared.edit.EditWords.{EditWords}
 use Rattle.edit_commands.specs.declared.edit.FileEdit.{FileEdit}
-use Rattle.run_steps.specs.Act.{Act, ToErr}
+use Rattle.run_steps.specs.Act.{Act, MayBeLeft, ToErr}
 use Rattle.run_steps.specs.Naming.{MayBeNames, NamesMayRefuse}
 use Rattle.run_steps.specs.Opening.{MayRefuseOpening, asks_tree, file_cause}
 use Rattle.refusals.specs.Outcome.{Outcome, Passed, Refused, refusal_in}
 use Rattle.refusals.specs.Line.{front_of}
 use Rattle.refusals.specs.Refusals.{refusal_of}
-use Rattle.run_steps.specs.Changing.{blocks_of, written}
+use Rattle.refusals.specs.Status.{status_of}
+use Rattle.run_steps.specs.Changing.{blocks_after, written}
 use Rattle.run_steps.specs.Steps.{DoingAll, Finish, Looking, Naming, Opening, Steps, Then}
 use Rattle.run_steps.specs.declared.invocation.Invocation.{Invocation}
 use Rattle.edit_commands.specs.EditWords.{edit_meant, edit_read, edit_warns, names_wanted, skipped_by, skips_none}
 
 -- The edit.
 
--- There is no room for the value in this file, as it is. So far that does not rest on the file, since each file that is edited is
--- written anew: there is none for a value that needs more blocks than a file may have.
+-- There is no room for the value in this file, as it is: with its records it would have more blocks than a file may have.
 abbrev pub is_too_large : Edit → Option (List ℕ) → QuotaValue → Bool
-is_too_large edit file new = edit.needs_room && nat_lt most_blocks (blocks_of new)
+is_too_large edit file new = edit.needs_room && nat_lt most_blocks (blocks_after file new)
 
 -- the value of this file was edited, or the format has no room for a field
 abbrev pub changed : List ℕ → Edit → Option (List ℕ) → QuotaValue → Result QuotaValue (Field × ℕ) → Outcome (List Act)
-changed name edit file value (Ok new) = written name new (edit.is_idle value) (is_too_large edit file new)
+changed name edit file value (Ok new) = written name (blocks_after file new) new (edit.is_idle value) (is_too_large edit file new)
 changed name edit file value (Err out) = Refused (refusal_of (NoRoom (record { id = edit.id; field = out.0; value = out.1 })) name)
 
 -- the value is edited that the file of this name, whose bytes are these, stands for
@@ -102,6 +102,11 @@ faulty_edit common words = if is_none (names_wanted words common.names) then ref
 abbrev pub edit_cause : EditFault → Cause
 edit_cause (File fault) = file_cause fault
 edit_cause (Unfit out) = NoRoom out
+
+-- What stands of a file whose edit was refused for this cause: it is as it was, or, where something outside failed, what an edit of it
+-- to some value that failed may leave.
+abbrev pub IsLeftFor : Cause → (old left : Option (List ℕ)) → Type 0
+IsLeftFor cause old left = (left ≡ old) ⊎ ((status_of cause ≡ 4) × ((value : QuotaValue) × MayBeLeft value old left))
 
 -- the causes for which the change of an opened file may be refused, whatever is told: a field of its format for which there
 -- may be no room, or blocks, of which a tree file may have at most as many as the program allows

@@ -13,7 +13,7 @@ use Rattle.set_edit.specs.declared.limits.Limits.{Limits as FourLimits}
 use Rattle.refusals.specs.Outcome.{Passed}
 use Rattle.command_words.specs.declared.command.Common.{Common}
 use Rattle.run_steps.specs.Act.{Act, Follows}
-use Rattle.run_steps.specs.Changing.{blocks_of}
+use Rattle.run_steps.specs.Changing.{blocks_after}
 use Rattle.run_steps.specs.Done.{Outside}
 use Rattle.run_steps.specs.Naming.{names_seen}
 use Rattle.run_steps.specs.Numbers.{identifier_of}
@@ -44,8 +44,7 @@ AllFit name now (line ∷ lines) files value =
 -- A file that is full.
 
 -- A file has no room for an edit: whoever opens it as one of the kind and the format that was asked for sees a value, of which the
--- edit makes another one; something is to be done, and a file of that other value would need so many blocks, more than it may have.
--- Of the file itself only its value counts so far, since each file that is edited is written anew.
+-- edit makes another one; something is to be done, and the file, as it is, would have so many blocks then, more than it may have.
 pub record IsFullFor (kind : Kind) (asked : Option Format) (edit : Edit) (file : Option (List ℕ)) (blocks limit : ℕ) : Type 0 where
   pub value : QuotaValue
   pub new : QuotaValue
@@ -53,7 +52,7 @@ pub record IsFullFor (kind : Kind) (asked : Option Format) (edit : Edit) (file :
   pub edited : edit.edited value ≡ Ok new
   pub wanted : edit.is_idle value ≡ false
   pub changes : IsTrue edit.needs_room
-  pub needs : blocks ≡ blocks_of new
+  pub needs : blocks ≡ blocks_after file new
   pub allowed : limit ≡ most_blocks
   pub passes : limit < blocks
 

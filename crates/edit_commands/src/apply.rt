@@ -1,4 +1,4 @@
-ghost use Rattle.std.specs.Prelude.{ℕ, Option, ◌≡◌, Bool, false, Err, IsSome, IsTrue, OnErr, OnOk, Some};
+ghost use Rattle.std.specs.Prelude.{ℕ, Option, ◌≡◌, Bool, false, Err, IfErr, IsSome, IsTrue, OnOk, Some};
 ghost use Rattle.quota_blocks.specs.Frame.{AreSynced};
 ghost use Rattle.quota_blocks.specs.Seen.{LinkSeen, SinkSeen};
 ghost use Rattle.refusals.specs.declared.reason.Refusal.{Refusal};
@@ -7,6 +7,7 @@ ghost use Rattle.refusals.specs.Outcome.{refusal_in};
 ghost use Rattle.run_steps.specs.Run.{CarriesOut};
 ghost use Rattle.run_steps.specs.Steps.{Then};
 ghost use Rattle.edit_commands.specs.Apply.{ApplyMayRefuse, ApplySteps, FormEditMayRefuse, FormSteps, NamedApplyMayRefuse, apply_uses};
+ghost use Rattle.edit_commands.specs.Edits.{IsLeftFor};
 ghost use Rattle.edit_commands.specs.Print.{faulty_print};
 ghost use Rattle.run_steps.specs.Numbers.{identifier_of};
 
@@ -46,8 +47,9 @@ pub fn apply_by_word<S: Store, I: Source, E: Sink>(
     // A faulty word is refused before anything is read, where its refusal rests on nothing but the words.
     ensures word { (refusal : Refusal) → faulty_print common word ≡ Some refusal → result ≡ Err refusal }
     ensures store { (refusal : Refusal) → faulty_print common word ≡ Some refusal → store.new ≡ store.old }
-    // Where it was refused, for whichever cause, the file is as it was.
-    ensures named { OnErr result (IsTrue S.tells → (S.seen store.new).files file ≡ (S.seen store.old).files file) }
+    // Where it was refused, the file is as it was, or as an edit that failed may leave it.
+    ensures named { IfErr result (λ refusal. IsTrue S.tells
+        → IsLeftFor refusal.cause ((S.seen store.old).files file) ((S.seen store.new).files file)) }
     // Where it was done, what was written has been synced.
     ensures synced { OnOk result (IsTrue S.tells → AreSynced (S.seen store.old) (S.seen store.new)) }
     ensures untouched { IsSome from → input.new ≡ input.old }
@@ -89,7 +91,8 @@ fn apply_named<S: Store, I: Source, E: Sink>(
         (seen_of (S.seen store.new) (I.seen input.new) out (E.seen err.new) link) result }
     ensures word { (refusal : Refusal) → refusal_in (identifier_of names.now word) ≡ Some refusal → result ≡ Err refusal }
     ensures store { (refusal : Refusal) → refusal_in (identifier_of names.now word) ≡ Some refusal → store.new ≡ store.old }
-    ensures named { OnErr result (IsTrue S.tells → (S.seen store.new).files file ≡ (S.seen store.old).files file) }
+    ensures named { IfErr result (λ refusal. IsTrue S.tells
+        → IsLeftFor refusal.cause ((S.seen store.old).files file) ((S.seen store.new).files file)) }
     ensures synced { OnOk result (IsTrue S.tells → AreSynced (S.seen store.old) (S.seen store.new)) }
     ensures untouched { IsSome from → input.new ≡ input.old }
     ensures keeps { I.keeps false input.old input.new }
@@ -122,7 +125,8 @@ fn apply_form<S: Store, I: Source, E: Sink>(
         (tells_of S.tells I.tells out_tells E.tells link_tells)
         (seen_of (S.seen store.old) (I.seen input.old) out (E.seen err.old) link)
         (seen_of (S.seen store.new) (I.seen input.new) out (E.seen err.new) link) result }
-    ensures named { OnErr result (IsTrue S.tells → (S.seen store.new).files file ≡ (S.seen store.old).files file) }
+    ensures named { IfErr result (λ refusal. IsTrue S.tells
+        → IsLeftFor refusal.cause ((S.seen store.old).files file) ((S.seen store.new).files file)) }
     ensures synced { OnOk result (IsTrue S.tells → AreSynced (S.seen store.old) (S.seen store.new)) }
     ensures untouched { IsSome from → input.new ≡ input.old }
     ensures keeps { I.keeps false input.old input.new }

@@ -1,4 +1,4 @@
-ghost use Rattle.std.specs.Prelude.{Option, ◌≡◌, Bool, Err, IfOk, IsTrue, OnErr, OnOk, Some, false};
+ghost use Rattle.std.specs.Prelude.{Option, ◌≡◌, Bool, Err, IfErr, IfOk, IsTrue, OnOk, Some, false};
 ghost use Rattle.quota_blocks.specs.Frame.{AreSynced};
 ghost use Rattle.quota_blocks.specs.QuotaValue.{QuotaValue};
 ghost use Rattle.quota_blocks.specs.Seen.{LinkSeen, SinkSeen, SourceSeen};
@@ -9,7 +9,7 @@ ghost use Rattle.run_steps.specs.Done.{seen_of, tells_of};
 ghost use Rattle.refusals.specs.Outcome.{refusal_in};
 ghost use Rattle.run_steps.specs.Run.{CarriesOut};
 ghost use Rattle.run_steps.specs.Steps.{Then};
-ghost use Rattle.edit_commands.specs.Edits.{EditMayRefuse, EditSteps, FileEditMayRefuse, FileEditSteps, NamedEditMayRefuse, edit_cause, faulty_edit, unskipped};
+ghost use Rattle.edit_commands.specs.Edits.{EditMayRefuse, EditSteps, FileEditMayRefuse, FileEditSteps, IsLeftFor, NamedEditMayRefuse, edit_cause, faulty_edit, unskipped};
 ghost use Rattle.run_steps.specs.Changing.{edit_uses};
 ghost use Rattle.edit_commands.specs.declared.edit.FileEdit.{FileEdit as FileEditOf};
 ghost use Rattle.edit_commands.specs.EditWords.{MaySkip, edit_meant, edit_read, edit_warns, skipped_by, words_warn};
@@ -52,9 +52,9 @@ pub fn edit_by_words<S: Store, E: Sink>(
     ensures word { (refusal : Refusal) → faulty_edit common words ≡ Some refusal → result ≡ Err refusal }
     ensures store { (refusal : Refusal) → faulty_edit common words ≡ Some refusal → store.new ≡ store.old }
     ensures silent { (refusal : Refusal) → faulty_edit common words ≡ Some refusal → err.new ≡ err.old }
-    // Where it was refused, for whichever cause, the file is as it was, unless it warns.
-    ensures named { words_warn words ≡ false → OnErr result (IsTrue S.tells
-        → (S.seen store.new).files file ≡ (S.seen store.old).files file) }
+    // Where it was refused, the file is as it was, or as an edit that failed may leave it, unless it warns.
+    ensures named { words_warn words ≡ false → IfErr result (λ refusal. IsTrue S.tells
+        → IsLeftFor refusal.cause ((S.seen store.old).files file) ((S.seen store.new).files file)) }
     // Where it was done, what was written has been synced.
     ensures synced { OnOk result (IsTrue S.tells → AreSynced (S.seen store.old) (S.seen store.new)) }
     ensures quiet { words_warn words ≡ false → err.new ≡ err.old }
@@ -94,8 +94,8 @@ fn edit_named<S: Store, E: Sink>(
     ensures word { (refusal : Refusal) → refusal_in (edit_read names.now words) ≡ Some refusal → result ≡ Err refusal }
     ensures store { (refusal : Refusal) → refusal_in (edit_read names.now words) ≡ Some refusal → store.new ≡ store.old }
     ensures silent { (refusal : Refusal) → refusal_in (edit_read names.now words) ≡ Some refusal → err.new ≡ err.old }
-    ensures named { words_warn words ≡ false → OnErr result (IsTrue S.tells
-        → (S.seen store.new).files file ≡ (S.seen store.old).files file) }
+    ensures named { words_warn words ≡ false → IfErr result (λ refusal. IsTrue S.tells
+        → IsLeftFor refusal.cause ((S.seen store.old).files file) ((S.seen store.new).files file)) }
     ensures synced { OnOk result (IsTrue S.tells → AreSynced (S.seen store.old) (S.seen store.new)) }
     ensures quiet { words_warn words ≡ false → err.new ≡ err.old }
 {
@@ -125,8 +125,8 @@ pub fn edit_file<S: Store, E: Sink>(
         (tells_of S.tells input_tells out_tells E.tells link_tells)
         (seen_of (S.seen store.old) input out (E.seen err.old) link)
         (seen_of (S.seen store.new) input out (E.seen err.new) link) result }
-    ensures named { edit_warns edit.now ≡ false → OnErr result (IsTrue S.tells
-        → (S.seen store.new).files file ≡ (S.seen store.old).files file) }
+    ensures named { edit_warns edit.now ≡ false → IfErr result (λ refusal. IsTrue S.tells
+        → IsLeftFor refusal.cause ((S.seen store.old).files file) ((S.seen store.new).files file)) }
     ensures synced { OnOk result (IsTrue S.tells → AreSynced (S.seen store.old) (S.seen store.new)) }
     ensures quiet { edit_warns edit.now ≡ false → err.new ≡ err.old }
 {

@@ -28,9 +28,9 @@ use Edit::*;
 /// What an edit answers.
 #[derive(Clone, Copy, Debug)]
 pub(crate) enum Answer {
-    /// It is done, and the file is written anew once.
+    /// It is done, and the file is written once.
     Done,
-    /// It is done but for one of two times, that for blocks or that for inodes, and the file is written anew once.
+    /// It is done but for one of two times, that for blocks or that for inodes, and the file is written once.
     DoneBut(bool, bool),
     /// Both times are skipped, and nothing is written.
     Skips,
@@ -70,7 +70,7 @@ fn wrong_in(alloc: Global, row: &EditRow) -> Option<&'static str> {
     if edited(&mut file, &mut store, &row.edit)? != result_of(row.answer) {
         return Some("the answer");
     }
-    if store.writes() != writes_of(&store, row.answer) {
+    if store.writes() != writes_of(&store, row) {
         return Some("the number of writes");
     }
     if !holds_entries(&mut file, &mut store, after.as_slice()) {
@@ -132,11 +132,13 @@ fn result_of(answer: Answer) -> Result<Skipped, EditFault> {
     }
 }
 
-/// How many writes put the whole file in the place of the old one, or none.
-fn writes_of(store: &MemStore, answer: Answer) -> u64 {
-    match answer {
-        Done | DoneBut(..) => store.file("q").unwrap_or(b"").len().div_ceil(1024) as u64,
-        Skips | Lacks(_) => 0,
+/// How many writes an edit makes: as many as put the whole file in the place of the old one; one where the grace periods of
+/// a tree file are set, which is done where they stand; and none where nothing is changed.
+fn writes_of(store: &MemStore, row: &EditRow) -> u64 {
+    match (row.answer, row.edit) {
+        (Skips | Lacks(_), _) => 0,
+        (_, SetGrace(..)) if !row.format.is_flat() => 1,
+        _ => store.file("q").unwrap_or(b"").len().div_ceil(1024) as u64,
     }
 }
 

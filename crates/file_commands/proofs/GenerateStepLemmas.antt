@@ -1,5 +1,5 @@
 -- The steps of a listing that is made: they are always to make one file, and to write the line on it.
-use Rattle.std.proofs.Common.{◌≡◌, ℕ, ◌^◌, ◌<◌, Bool, true, List, [], ◌∷◌, Some, None, Ok, Err, Result, refl, sym, ap, subst, ◌∙◌, arith}
+use Rattle.std.proofs.Common.{◌≡◌, ℕ, ◌^◌, ◌<◌, Bool, true, false, List, [], ◌∷◌, Some, None, Ok, Err, Result, refl, sym, ap, subst, ◌∙◌, arith}
 use Rattle.std.specs.Prelude.{◌&&◌}
 use Rattle.quota_types.specs.declared.field.NoRoom.{NoRoom as NoRoomFor}
 use Rattle.quota_types.specs.declared.file_kind.Format.TheVariants.{V2R1}
@@ -81,12 +81,12 @@ doing_looks looks takes (act ∷ acts) text = doing_looks (looks && leaves_files
 
 pub generate_looks : (seed count : ℕ) (file : List ℕ) (now : ℕ) → LooksFirst true true (GenerateSteps seed count file now)
 generate_looks seed count file now =
-    looks_then true true (scan_outcome file (scanned User None (generated seed count))) (λ (usage : UsageMap). MadeSteps count file now (checked (new_value User (Some V2R1)) usage now))
+    looks_then false true true (scan_outcome file (scanned User None (generated seed count))) (λ (usage : UsageMap). MadeSteps count file now (checked (new_value User (Some V2R1)) usage now))
     (λ usage. made_looks (checked (new_value User (Some V2R1)) usage now))
   where
     made_looks : (new : Result QuotaValue NoRoomFor) → LooksFirst true true (MadeSteps count file now new)
     made_looks (Ok new) =
-        looks_then true true (replaced file (Ok new)) (λ (acts : List Act). DoingAll acts (Doing (ToOut (summary count file now new)) Finish)) (λ acts. doing_looks true true acts (summary count file now new))
+        looks_then false true true (replaced file (Ok new)) (λ (acts : List Act). DoingAll acts (Doing (ToOut (summary count file now new)) Finish)) (λ acts. doing_looks true true acts (summary count file now new))
     made_looks (Err out) = tt
 
 -- they are always sure, where the count is one of 32 bits

@@ -1,5 +1,5 @@
 -- What the commands of this crate look at: that their looks at the files are alike in two worlds, and which file they come to open.
-use Rattle.std.proofs.Common.{◌≡◌, ℕ, Bool, true, false, List, [], ◌∷◌, Option, None, Some, Result, Ok, Err, refl, ap}
+use Rattle.std.proofs.Common.{◌≡◌, inl, ℕ, Bool, true, false, List, [], ◌∷◌, Option, None, Some, Result, Ok, Err, refl, ap}
 use Rattle.std.specs.Prelude.{is_some}
 use Rattle.quota_types.specs.declared.field.NoRoom.{NoRoom as NoRoomFor}
 use Rattle.quota_types.specs.declared.file_kind.Format.{Format}
@@ -31,16 +31,16 @@ use Rattle.file_commands.specs.Report.{ReportSteps, report_on}
 -- Their looks are alike.
 
 acts_alike : (one other : World) (outcome : Outcome (List Act)) → LooksAlike one other (Then outcome (λ (acts : List Act). DoingAll acts Finish))
-acts_alike one other outcome = alike_then one other outcome (λ (acts : List Act). DoingAll acts Finish) (λ acts. alike_done one other acts None)
+acts_alike one other outcome = alike_then false one other outcome (λ (acts : List Act). DoingAll acts Finish) (λ acts. alike_done false one other acts None)
 
 pub report_alike : (one other : World) (common : Common) (options : Options) (file : List ℕ) (invocation : Invocation) → IsSameFile one other common.names
     → LooksAlike one other (ReportSteps common options file invocation)
-report_alike one other common options file invocation names = alike_naming one other common.kind common.names _ names (λ lines value. tt)
+report_alike one other common options file invocation names = alike_naming false one other common.kind common.names _ names (λ lines value. tt)
 
 usage_alike : (one other : World) (common : Common) (device : Option ℕ) (from : Option (List ℕ)) (file : List ℕ) (now : ℕ) (value : QuotaValue) → IsSameFile one other from
     → LooksAlike one other (UsageSteps common.kind device from file now value)
 usage_alike one other common device from file now value input =
-    alike_taking one other from (λ usage. true) (scan_step common.kind device from) _ input (λ usage. acts_alike one other (replaced file (checked value usage now)))
+    alike_taking false one other from (λ usage. true) (scan_step common.kind device from) _ input (λ usage. acts_alike one other (replaced file (checked value usage now)))
 
 pub check_alike : (one other : World) (common : Common) (fresh : Bool) (device : Option ℕ) (from : Option (List ℕ)) (file : List ℕ) (invocation : Invocation) → IsSameFile one other from
     → LooksAlike one other (CheckSteps common fresh device from file invocation)
@@ -58,8 +58,8 @@ pub convert_alike : (one other : World) (kind : Kind) (before after : Format) (s
     → LooksAlike one other (ConvertSteps kind before after source target invocation)
 convert_alike one other kind before after source target invocation there =
     let opening = Opening kind (Some before) source (λ (value : QuotaValue). MakingSteps source target (converted after value)) in (
-      ap (λ (o : Outcome (Unit {0})). Then (and_then (apart source target) (λ (_ : Unit {0}). o)) (λ (_ : Unit {0}). opening)) (absent_alike target (one target) (other target) there),
-      alike_then one other (targeted source target one) (λ (_ : Unit {0}). opening) (λ apart value. acts_alike one other (made source target (converted after value))),
+      inl (ap (λ (o : Outcome (Unit {0})). Then (and_then (apart source target) (λ (_ : Unit {0}). o)) (λ (_ : Unit {0}). opening)) (absent_alike target (one target) (other target) there)),
+      alike_then false one other (targeted source target one) (λ (_ : Unit {0}). opening) (λ apart value. acts_alike one other (made source target (converted after value))),
     )
 
 -- what is done with a listing that is made rests on no file
@@ -67,7 +67,7 @@ made_alike : (one other : World) (lines : ℕ) (file : List ℕ) (now : ℕ) (ne
 made_alike one other lines file now (Err out) = tt
 made_alike one other lines file now (Ok new) =
     let told = Doing (ToOut (summary lines file now new)) Finish in
-    alike_then one other (replaced file (Ok new)) (λ (acts : List Act). DoingAll acts told) (λ acts. told_alike acts told tt)
+    alike_then false one other (replaced file (Ok new)) (λ (acts : List Act). DoingAll acts told) (λ acts. told_alike acts told tt)
   where
     told_alike : (acts : List Act) (told : Steps) → LooksAlike one other told → LooksAlike one other (DoingAll acts told)
     told_alike [] told alike = alike
@@ -76,7 +76,7 @@ made_alike one other lines file now (Ok new) =
 pub generate_alike : (one other : World) (seed count : ℕ) (file : List ℕ) (now : ℕ) → LooksAlike one other (GenerateSteps seed count file now)
 generate_alike one other seed count file now =
     let next = λ (usage : UsageMap). MadeSteps count file now (checked (new_value User (Some V2R1)) usage now) in
-    alike_then one other (scan_outcome file (scanned User None (generated seed count))) next (λ usage. made_alike one other count file now (checked (new_value User (Some V2R1)) usage now))
+    alike_then false one other (scan_outcome file (scanned User None (generated seed count))) next (λ usage. made_alike one other count file now (checked (new_value User (Some V2R1)) usage now))
 
 -- The file that they open.
 

@@ -1,5 +1,5 @@
 -- Commands that put a file of another value in the place of one: what was done where it was replaced, and where it was not.
-use Rattle.std.proofs.Common.{◌≡◌, ℕ, ◌<◌, ◌≤◌, Bool, true, false, IsTrue, nat_lt, List, [], ◌∷◌, None, Some, Ok, Err, Result, refl, sym, ap, subst, ◌∙◌, arith}
+use Rattle.std.proofs.Common.{◌≡◌, ℕ, ◌<◌, ◌≤◌, Bool, false, IsTrue, List, [], ◌∷◌, None, Some, Ok, Err, Result, refl, sym, ap, subst, ◌∙◌, arith}
 use Rattle.std.proofs.lemmas.Bool.{false≢true, le-ltb, lt-ltb}
 use Rattle.quota_types.specs.declared.field.NoRoom.{NoRoom}
 use Rattle.quota_types.specs.Format.{IsTreeFormat}
@@ -44,13 +44,13 @@ needed_of value order = ap (λ (ids : List ℕ). blocks_needed value.format ids)
 
 -- where there is room, the one act is the change
 pub room_for : (name : List ℕ) (new : QuotaValue) → blocks_of new ≤ most_blocks → replaced name (Ok new) ≡ Passed (Replace name new ∷ [])
-room_for name new few = ap (λ (large : Bool). if_room name new large (Replace name new)) (le-ltb most_blocks (blocks_of new) few)
+room_for name new few = ap (λ (large : Bool). if_room name (blocks_of new) large (Replace name new)) (le-ltb most_blocks (blocks_of new) few)
 
 -- and else the value is refused
 pub no_room_for : (name : List ℕ) (new : QuotaValue) (blocks limit : ℕ) → most_blocks < blocks_of new → blocks ≡ blocks_of new → limit ≡ most_blocks
     → replaced name (Ok new) ≡ Refused (refusal_of (Full blocks limit) name)
 no_room_for name new blocks limit passes needs is =
-    ap (λ (large : Bool). if_room name new large (Replace name new)) (lt-ltb most_blocks (blocks_of new) passes)
+    ap (λ (large : Bool). if_room name (blocks_of new) large (Replace name new)) (lt-ltb most_blocks (blocks_of new) passes)
     ∙ ap (λ (b : ℕ). Refused (refusal_of (Full b most_blocks) name)) (sym needs) ∙ ap (λ (l : ℕ). Refused (refusal_of (Full blocks l) name)) (sym is)
 
 -- what was carried out is known by the outcome of the step

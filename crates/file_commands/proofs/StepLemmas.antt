@@ -30,7 +30,7 @@ use Rattle.file_commands.proofs.ReplacingLemmas.{room_for}
 -- A report.
 
 pub report_looks : (common : Common) (options : Options) (file : List ℕ) (invocation : Invocation) → LooksFirst true true (ReportSteps common options file invocation)
-report_looks common options file invocation = looks_naming true common.kind common.names _ (λ lines. (refl, λ value. tt))
+report_looks common options file invocation = looks_naming false true common.kind common.names _ (λ lines. (refl, λ value. tt))
 
 -- the names are known, and the file is accepted
 pub report_sure : (common : Common) (options : Options) (file : List ℕ) (invocation : Invocation) (lines : List NameLine) (value : QuotaValue) (old : Outside)
@@ -43,7 +43,7 @@ report_sure common options file invocation lines value old names view =
 -- Acts of a step, and then nothing more.
 
 acts_look : (takes : Bool) (outcome : Outcome (List Act)) → LooksFirst true takes (Then outcome (λ (acts : List Act). DoingAll acts Finish))
-acts_look takes outcome = looks_then true takes outcome (λ (acts : List Act). DoingAll acts Finish) (λ acts. looks_done true takes acts None)
+acts_look takes outcome = looks_then false true takes outcome (λ (acts : List Act). DoingAll acts Finish) (λ acts. looks_done false true takes acts None)
 
 acts_sure : (outcome : Outcome (List Act)) (acts : List Act) (old : Outside) → outcome ≡ Passed acts → IsSure (Then outcome (λ (acts : List Act). DoingAll acts Finish)) old
 acts_sure outcome acts old passed = sure_then outcome (λ (acts : List Act). DoingAll acts Finish) acts old passed (sure_done acts old)
@@ -58,7 +58,7 @@ usage_sure common device from file now value usage new old said fits few =
     (λ left. acts_sure (replaced file (checked value usage now)) (Replace file new ∷ []) (record old { input = left }) (ap (replaced file) fits ∙ room_for file new few))
 
 usage_looks : (common : Common) (device : Option ℕ) (from : Option (List ℕ)) (file : List ℕ) (now : ℕ) (value : QuotaValue) → LooksFirst true true (UsageSteps common.kind device from file now value)
-usage_looks common device from file now value = looks_taking from (λ usage. true) (scan_step common.kind device from) _ (λ takes usage. acts_look takes (replaced file (checked value usage now)))
+usage_looks common device from file now value = looks_taking false from (λ usage. true) (scan_step common.kind device from) _ (λ takes usage. acts_look takes (replaced file (checked value usage now)))
 
 pub check_looks : (common : Common) (fresh : Bool) (device : Option ℕ) (from : Option (List ℕ)) (file : List ℕ) (invocation : Invocation) → LooksFirst true true (CheckSteps common fresh device from file invocation)
 check_looks common true device from file invocation = usage_looks common device from file invocation.now _
@@ -81,7 +81,7 @@ check_sure common false device from file invocation value usage new old is said 
 
 pub convert_looks : (kind : Kind) (before after : Format) (source target : List ℕ) (invocation : Invocation) → LooksFirst true true (ConvertSteps kind before after source target invocation)
 convert_looks kind before after source target invocation =
-    (inl refl, λ files. looks_then true true (targeted source target files) _ (λ apart. (refl, λ value. acts_look true (made source target (converted after value)))))
+    (inl refl, λ files. looks_then false true true (targeted source target files) _ (λ apart. (refl, λ value. acts_look true (made source target (converted after value)))))
 
 -- the names are two, there is no file of the second one, the first one is accepted, and its values fit and have room
 pub convert_sure : (kind : Kind) (before after : Format) (source target : List ℕ) (invocation : Invocation) (value new : QuotaValue) (old : Outside)

@@ -66,7 +66,7 @@ checked value usage now = with_applied value (applied value.format value.grace n
 
 -- a file of this name stands for a value from then on, where it has room for it
 abbrev pub replaced : List ℕ → Result QuotaValue NoRoomFor → Outcome (List Act)
-replaced name (Ok new) = if_room name new (nat_lt most_blocks (blocks_of new)) (Replace name new)
+replaced name (Ok new) = if_room name (blocks_of new) (nat_lt most_blocks (blocks_of new)) (Replace name new)
 replaced name (Err out) = Refused (refusal_of (NoRoom out) name)
 
 -- a file is replaced

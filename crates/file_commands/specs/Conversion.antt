@@ -48,7 +48,7 @@ Targeting source target next = Looking (λ (files : World). Then (targeted sourc
 -- A file of the new name stands for the converted value from then on, where it has room for it. A value for which the new
 -- format has no room is said to be one of the file that is converted.
 abbrev pub made : (source target : List ℕ) → Result QuotaValue NoRoomFor → Outcome (List Act)
-made source target (Ok new) = if_room target new (nat_lt most_blocks (blocks_of new)) (Replace target new)
+made source target (Ok new) = if_room target (blocks_of new) (nat_lt most_blocks (blocks_of new)) (Replace target new)
 made source target (Err out) = Refused (refusal_of (NoRoom out) source)
 
 -- the new file is made

@@ -221,7 +221,7 @@ absent r.new
 use empty
 file q
 run convertquota -f vfsv1,vfsold q r
-calls size r; size q; read q; size q; create r.new; write r.new; sync r.new; rename r.new r;
+calls size r; size q; read q; size q; read q; read q; create r.new; write r.new; sync r.new; rename r.new r;
 same q
 record 0 0 0 0 0 0 604800 604800
 holds r

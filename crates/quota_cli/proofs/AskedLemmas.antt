@@ -1,5 +1,5 @@
 -- What words ask for: that it looks at files before it changes one, reads the standard input to its end, and is sure.
-use Rattle.std.proofs.Common.{◌≡◌, ℕ, Bool, true, false, IsTrue, List, Ok, Err, Result}
+use Rattle.std.proofs.Common.{◌≡◌, ℕ, Bool, true, false, IsTrue, List, Ok, Err, Result, subst}
 use Rattle.refusals.specs.declared.reason.Refusal.{Refusal}
 use Rattle.command_words.specs.declared.command.Command.{Command}
 use Rattle.command_words.specs.declared.command.Command.TheVariants.{Script}
@@ -10,7 +10,7 @@ use Rattle.command_words.specs.declared.reading.UsageFault.TheVariants.{Usage as
 use Rattle.script_lines.specs.declared.script.ScriptFault.TheVariants.{Memory as ScriptWantsMemory}
 use Rattle.run_steps.specs.Done.{Outside, RunSeen, RunTells}
 use Rattle.run_steps.specs.Meaning.{IsSure}
-use Rattle.run_steps.specs.OneCommand.{LooksFirst, ReadsToEnd}
+use Rattle.run_steps.specs.OneCommand.{LooksFirst, LooksFirstBy, ReadsToEnd}
 use Rattle.run_steps.specs.declared.invocation.Invocation.{Invocation}
 use Rattle.command_table.specs.Table.{asked_by, described}
 use Rattle.command_table.proofs.CommandLemmas.{Spares, asked_known, read_known, spares_single}
@@ -26,7 +26,7 @@ use Rattle.quota_cli.proofs.ScriptLemmas.{script_sure, unread_stands}
 -- Rows of the table of the command line: a script, or another command.
 
 looks_by : (script : Bool) (command : Command) (invocation : Invocation) → (script_or script (described command)).uses.reads_commands ≡ false
-    → LooksFirst true true ((script_or script (described command)).steps invocation)
+    → LooksFirstBy (script_or script (described command)).uses.reads_edits true true ((script_or script (described command)).steps invocation)
 looks_by true command invocation one = absurd (cc)
 looks_by false command invocation one = command_looks command invocation
 
@@ -74,12 +74,16 @@ words_stand (Ok command) (UsageOf kind word) now tells old is reads = absurd (cc
 words_stand (Ok command) NoMemory now tells old is reads = unread_stands now tells old old ScriptWantsMemory
 words_stand (Err refusal) fault now tells old is reads = absurd (cc)
 
-asked_by_looks : (asks : Result Command Refusal) (invocation : Invocation) → (asked_by commanded asks).uses.reads_commands ≡ false → LooksFirst true true ((asked_by commanded asks).steps invocation)
+asked_by_looks : (asks : Result Command Refusal) (invocation : Invocation) → (asked_by commanded asks).uses.reads_commands ≡ false → LooksFirstBy (asked_by commanded asks).uses.reads_edits true true ((asked_by commanded asks).steps invocation)
 asked_by_looks (Ok command) invocation one = looks_by (is_script command) command invocation one
 asked_by_looks (Err refusal) invocation one = tt
 
-pub setting_looks : (setting : Setting) → (uses_asked setting).reads_commands ≡ false → LooksFirst true true (steps_asked setting)
+pub setting_looks : (setting : Setting) → (uses_asked setting).reads_commands ≡ false → LooksFirstBy (uses_asked setting).reads_edits true true (steps_asked setting)
 setting_looks setting one = asked_by_looks (command_of false setting.words) setting.invocation one
+
+-- where no edits are read, no file is looked at once one was changed
+pub setting_looks_first : (setting : Setting) → (uses_asked setting).reads_commands ≡ false → (uses_asked setting).reads_edits ≡ false → LooksFirst true true (steps_asked setting)
+setting_looks_first setting one none = subst (λ (rooms : Bool). LooksFirstBy rooms true true (steps_asked setting)) none (setting_looks setting one)
 
 asked_by_reads : (asks : Result Command Refusal) (invocation : Invocation) → IsTrue (asked_by commanded asks).uses.input → ReadsToEnd ((asked_by commanded asks).steps invocation)
 asked_by_reads (Ok command) invocation uses = reads_by (is_script command) command invocation uses

@@ -1,24 +1,27 @@
 -- What holds of every effect of words that ask for one command.
-use Rattle.std.proofs.Common.{◌≡◌, ℕ, true, List, Option, None, Some, sym, subst}
+use Rattle.std.proofs.Common.{◌≡◌, ℕ, Bool, true, List, Option, None, Some, sym, subst}
 use Rattle.refusals.specs.declared.reason.Refusal.{Refusal}
 use Rattle.refusals.specs.Status.{end_status, group_of}
 use Rattle.refusals.proofs.GroupLemmas.{status_in-some}
 use Rattle.run_steps.specs.Act.{Act}
 use Rattle.run_steps.specs.Done.{AreDoneInPart, Outside, RunSeen, RunTells, outside_of}
 use Rattle.run_steps.specs.Meaning.{EndsBy, IsSure, closing}
-use Rattle.run_steps.specs.OneCommand.{LooksFirst}
+use Rattle.run_steps.specs.OneCommand.{LooksFirst, LooksFirstBy, UnlessFull}
 use Rattle.run_steps.specs.Run.{IsDoneInPart}
 use Rattle.quota_cli.specs.Headline.{Effect, Setting, steps_asked}
 use Rattle.run_steps.proofs.ActLemmas.{part_of_more}
 use Rattle.run_steps.proofs.MeaningLemmas.{looks_same, passed_sure}
 use Rattle.run_steps.proofs.PartLemmas.{part_of_end}
+use Rattle.run_steps.proofs.RoomLemmas.{unless_full}
 
--- what was done in part is a first part of the acts of every effect
-pub part_of_effect : (setting : Setting) (tells : RunTells) (old new : RunSeen) (acts : List Act) (to : Outside) (ended : ℕ) → LooksFirst true true (steps_asked setting)
-    → IsDoneInPart (steps_asked setting) tells old new → Effect setting (outside_of old) acts to ended → AreDoneInPart tells acts old new
-part_of_effect setting tells old new acts to ended looks part effect =
-    subst (λ (a : List Act). AreDoneInPart tells a old new) (sym effect.acts_all)
-    (part_of_more tells effect.own (closing effect.refusal) old new (part_of_end (steps_asked setting) tells old new effect.own to effect.refusal looks part effect.by_steps))
+-- what was done in part is a first part of the acts of every effect, but for a refusal for want of room
+pub part_of_effect : (rooms : Bool) (setting : Setting) (tells : RunTells) (old new : RunSeen) (acts : List Act) (to : Outside) (ended : ℕ) → LooksFirstBy rooms true true (steps_asked setting)
+    → IsDoneInPart (steps_asked setting) tells old new → (effect : Effect setting (outside_of old) acts to ended) → UnlessFull rooms effect.refusal (AreDoneInPart tells acts old new)
+part_of_effect rooms setting tells old new acts to ended looks part effect =
+    unless_full rooms effect.refusal effect.refusal (λ full. full)
+    (λ (own : AreDoneInPart tells effect.own old new).
+    subst (λ (a : List Act). AreDoneInPart tells a old new) (sym effect.acts_all) (part_of_more tells effect.own (closing effect.refusal) old new own))
+    (part_of_end rooms (steps_asked setting) tells old new effect.own to effect.refusal looks part effect.by_steps)
 
 sure_of_end : (setting : Setting) (old : Outside) (acts : List Act) (to : Outside) (refusal : Option Refusal) → LooksFirst true true (steps_asked setting) → EndsBy (steps_asked setting) old acts to refusal
     → end_status refusal ≡ 0 → IsSure (steps_asked setting) old

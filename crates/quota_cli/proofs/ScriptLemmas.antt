@@ -1,5 +1,5 @@
 -- Lines of a script that were carried out, one after another, and the script that they stand in.
-use Rattle.std.proofs.Common.{◌≡◌, ◌≤◌, ◌<◌, ◌+◌, ◌⊎◌, ℕ, Bool, true, false, cond, IsTrue, List, [], ◌∷◌, Option, None, Some, Ok, Err, Result, inl, inr, refl, sym, ap, subst, ◌∙◌, arith}
+use Rattle.std.proofs.Common.{◌≡◌, ◌≤◌, ◌<◌, ◌+◌, ℕ, Bool, true, false, cond, IsTrue, List, [], ◌∷◌, Option, None, Some, Ok, Err, Result, inl, inr, refl, sym, ap, subst, ◌∙◌, arith}
 use Rattle.std.specs.Prelude.{⊤, ◌&&◌, IfErr, IfSome, IsSome, OnOk, is_none}
 use Rattle.std.specs.Result.{result_err}
 use Rattle.std.specs.Str.{is_utf8}

@@ -1,8 +1,9 @@
 //! Laws of what words mean: what holds of every effect of them, and which conditions make no step refused. For a list of commands
-//! nothing is said of every effect: another choice of bytes for a changed file may give a later command another answer.
+//! nothing is said of every effect: another choice of bytes for a changed file may give a later command another answer. Of a command
+//! that reads edits, each of which is made in the file as the ones before it left it, that is so as far as room counts.
 
 ghost use Rattle.std.specs.Prelude.{◌≡◌, false, map, List, None, Ok, Option, ℕ};
-ghost use Rattle.command_table.specs.Views.{AreAlike, SameUnlessFull};
+ghost use Rattle.command_table.specs.Views.{AreAlike, SameUnlessFull, edits_records};
 ghost use Rattle.command_words.specs.Asked.{command_of};
 ghost use Rattle.command_words.specs.declared.command.Command.{Command};
 ghost use Rattle.quota_cli.specs.Script.{LineSteps, LinesSteps, is_script};
@@ -13,22 +14,25 @@ ghost use Rattle.run_steps.specs.Act.{Act};
 ghost use Rattle.run_steps.specs.Done.{AreDoneInPart, Outside, RunSeen, RunTells, outside_of};
 ghost use Rattle.refusals.specs.declared.reason.Refusal.{Refusal};
 ghost use Rattle.run_steps.specs.Meaning.{EndsBy, IsSure};
+ghost use Rattle.run_steps.specs.OneCommand.{UnlessFull};
 ghost use Rattle.run_steps.specs.Run.{IsDoneInPart};
 
 /// What a run of one command has done in part is a first part of the acts of every effect of its words, whatever such an effect
-/// chooses, and of every way in which its steps end, the error line left out.
+/// chooses, and of every way in which its steps end, the error line left out. Where the command reads edits, that is said of all but
+/// those that are refused for want of room.
 pub fn a_run_does_a_first_part_of_every_effect()
     ensures steps { (setting : Setting) (tells : RunTells) (old new : RunSeen) (acts : List Act) (to : Outside) (refusal : Option Refusal)
         → (uses_asked setting).reads_commands ≡ false → IsDoneInPart (steps_asked setting) tells old new → EndsBy (steps_asked setting) (outside_of old) acts to refusal
-        → AreDoneInPart tells acts old new }
+        → UnlessFull (uses_asked setting).reads_edits refusal (AreDoneInPart tells acts old new) }
     ensures effect { (setting : Setting) (tells : RunTells) (old new : RunSeen) (acts : List Act) (to : Outside) (status : ℕ)
-        → (uses_asked setting).reads_commands ≡ false → IsDoneInPart (steps_asked setting) tells old new → Effect setting (outside_of old) acts to status
-        → AreDoneInPart tells acts old new }
+        → (uses_asked setting).reads_commands ≡ false → IsDoneInPart (steps_asked setting) tells old new → (effect : Effect setting (outside_of old) acts to status)
+        → UnlessFull (uses_asked setting).reads_edits effect.refusal (AreDoneInPart tells acts old new) }
 {}
 
-/// Where one effect of words that ask for one command has status 0, no step is refused, whatever is chosen.
+/// Where one effect of words that ask for one command, which reads no edits, has status 0, no step is refused, whatever is chosen.
 pub fn one_effect_with_status_0_is_enough()
-    ensures { (setting : Setting) (old to : Outside) (acts : List Act) → (uses_asked setting).reads_commands ≡ false → Effect setting old acts to 0
+    ensures { (setting : Setting) (old to : Outside) (acts : List Act) → (uses_asked setting).reads_commands ≡ false → (uses_asked setting).reads_edits ≡ false
+        → Effect setting old acts to 0
         → IsSure (steps_asked setting) old }
 {}
 
@@ -57,6 +61,7 @@ pub fn the_same_views_give_the_same_effects()
     ensures other { (setting : Setting) (command : Command) (one other new : Outside) (acts : List Act) (status : ℕ)
         → command_of false setting.words ≡ Ok command → is_script command ≡ false → AreAlike command setting.invocation one other
         → (effect : Effect setting one acts new status)
-        → (more : List Act) × (to : Outside) × (code : ℕ) × (also : Effect setting other more to code)
-        × SameUnlessFull command effect.refusal also.refusal ((acts ≡ more) × (status ≡ code)) }
+        → UnlessFull (edits_records command) effect.refusal
+        ((more : List Act) × (to : Outside) × (code : ℕ) × (also : Effect setting other more to code)
+        × SameUnlessFull command effect.refusal also.refusal ((acts ≡ more) × (status ≡ code))) }
 {}

@@ -1,5 +1,5 @@
 -- What is said of an opened file of one format is said of it as one of any.
-use Rattle.std.proofs.Common.{◌≡◌, ◌<◌, ◌≤◌, ℕ, Bool, Result, refl, sym, ap, subst, ◌∙◌, arith, true≢false, List, Some}
+use Rattle.std.proofs.Common.{◌≡◌, ◌<◌, ◌≤◌, ℕ, Bool, Result, refl, sym, ap, subst, ◌∙◌, arith, true≢false, List, Option, Some}
 use Rattle.quota_types.specs.Format.{IsTreeFormat}
 use Rattle.quota_types.specs.declared.file_kind.Format.{Format}
 use Rattle.quota_types.specs.declared.file_kind.Format.TheVariants.{V1 as Flat, V2R0, V2R1}
@@ -7,19 +7,22 @@ use Rattle.std.proofs.lemmas.Result.{IfErr-weaker}
 use Rattle.quota_blocks.specs.Changes.{Changes}
 use Rattle.quota_blocks.specs.LooksUp.{LooksUp}
 use Rattle.quota_blocks.specs.FileChange.{FileChange, Put, Remove, SetGrace, changed_value}
+use Rattle.quota_blocks.specs.QuotaFile.{FileSeen}
 use Rattle.quota_blocks.specs.QuotaValue.{QuotaValue}
 use Rattle.quota_blocks.specs.Seen.{StoreSeen}
 use Rattle.quota_blocks.specs.declared.quota_file.FileFault.{FileFault}
 use Rattle.quota_blocks.proofs.ChangesLemmas.{changes-wider}
-use Rattle.tree_build.specs.Size.{blocks_needed, ids_in}
+use Rattle.tree_build.specs.Size.{ids_in}
 use Rattle.tree_build.specs.TreeFile.{TreeStandsFor}
-use Rattle.tree_file.specs.TreeChange.{tree_at, tree_laws}
+use Rattle.quota_pages.specs.Pages.{name_of}
+use Rattle.tree_file.specs.Room.{blocks_wanted}
+use Rattle.tree_file.specs.TreeChange.{TreeLeaves, tree_at, tree_change_reads, tree_change_writes, tree_laws}
 use Rattle.tree_file.specs.declared.opened_tree.TreeFile.{TreeFile}
-use Rattle.quota_v1.specs.Opened.{flat_at, flat_laws}
+use Rattle.quota_v1.specs.Opened.{flat_at, flat_laws, most_pieces}
 use Rattle.quota_v1.specs.declared.flat_file.V1File.{V1File}
 use Rattle.quota_map.specs.declared.any_file.AnyFile.{AnyFile}
 use Rattle.quota_map.specs.declared.any_file.AnyFile.TheVariants.{V1, Tree}
-use Rattle.quota_map.specs.AnyFile.{any_at, any_laws, most_writes}
+use Rattle.quota_map.specs.AnyFile.{AnyLeaves, any_at, any_change_reads, any_change_writes, any_get_reads, any_laws, any_next_reads, any_seen, reads_of_change, reads_of_next, writes_of_change}
 use Rattle.quota_map.specs.Rests.{stands_as_tree}
 use Rattle.quota_map.specs.StandsFor.{StandsForAs}
 use Rattle.std.specs.String.{string_bytes}
@@ -30,17 +33,42 @@ same_format (Put id rec) value = refl
 same_format (Remove id) value = refl
 same_format (SetGrace grace) value = refl
 
--- a flat file needs no blocks
-never_lacks : (value : QuotaValue) (format : Format) (blocks limit : ℕ) → format ≡ Flat → blocks ≡ blocks_needed format (ids_in value.records) → ¬ (limit < blocks)
-never_lacks value format blocks limit is needs passes =
-    let none : blocks ≡ 0 = needs ∙ ap (λ (f : Format). blocks_needed f (ids_in value.records)) is in
+-- a flat file wants no blocks
+never_lacks : (file : Option (List ℕ)) (value : QuotaValue) (format : Format) (blocks limit : ℕ) → format ≡ Flat → blocks ≡ blocks_wanted format file (ids_in value.records) → ¬ (limit < blocks)
+never_lacks file value format blocks limit is needs passes =
+    let none : blocks ≡ 0 = needs ∙ ap (λ (f : Format). blocks_wanted f file (ids_in value.records)) is in
     omega (arith, none, passes)
 
--- a tree file takes no more writes than it may have blocks
-tree_writes : (format : Format) (blocks : ℕ) → IsTreeFormat format → blocks ≤ most_writes format blocks
-tree_writes Flat blocks other = absurd (true≢false other)
-tree_writes V2R0 blocks other = omega arith
-tree_writes V2R1 blocks other = omega arith
+-- a change of a flat file makes no more calls of `write` than one of any file may make
+flat_writes : (seen : FileSeen) (change : FileChange) → seen.format ≡ Flat → most_pieces ≤ any_change_writes seen change
+unfolding any_change_writes
+flat_writes seen change is = subst (λ (f : Format). most_pieces ≤ writes_of_change f seen change) (sym is) (omega arith)
+
+tree_reads_in : (format : Format) (seen : FileSeen) (change : FileChange) → IsTreeFormat format → tree_change_reads seen change ≤ reads_of_change format seen change
+tree_reads_in Flat seen change other = absurd (true≢false other)
+tree_reads_in V2R0 seen change other = omega arith
+tree_reads_in V2R1 seen change other = omega arith
+
+tree_writes_in : (format : Format) (seen : FileSeen) (change : FileChange) → IsTreeFormat format → tree_change_writes seen change ≤ writes_of_change format seen change
+tree_writes_in Flat seen change other = absurd (true≢false other)
+tree_writes_in V2R0 seen change other = omega arith
+tree_writes_in V2R1 seen change other = omega arith
+
+-- a change of a tree file makes no more calls of `read` than one of any file may make
+tree_reads : (seen : FileSeen) (change : FileChange) → IsTreeFormat seen.format → tree_change_reads seen change ≤ any_change_reads seen change
+unfolding any_change_reads
+tree_reads seen change other = tree_reads_in seen.format seen change other
+
+-- and no more calls of `write`
+tree_writes : (seen : FileSeen) (change : FileChange) → IsTreeFormat seen.format → tree_change_writes seen change ≤ any_change_writes seen change
+unfolding any_change_writes
+tree_writes seen change other = tree_writes_in seen.format seen change other
+
+-- what a change of a tree file leaves is left as one of its format
+tree_leaves : (format : Format) (old after left : Option (List ℕ)) → IsTreeFormat format → TreeLeaves old after left → AnyLeaves format old after left
+tree_leaves Flat old after left other leaves = absurd (true≢false other)
+tree_leaves V2R0 old after left other leaves = leaves
+tree_leaves V2R1 old after left other leaves = leaves
 
 -- a tree file stands for a value as one of its format does
 stands_tree : (format : Format) (bytes : List ℕ) (value : QuotaValue) → IsTreeFormat format → TreeStandsFor bytes value → StandsForAs format bytes value
@@ -57,22 +85,22 @@ flat_changes self file file' tells old new change result is changes =
       tells = refl;
       stands_for = λ bytes value stands. stands;
       reads = omega arith;
-      writes = omega arith;
+      writes = flat_writes (any_seen (V1 file)) change refl;
       makes = λ files makes. record { flat = λ same. makes; tree = λ other. absurd (true≢false other) };
       may_leave = λ any before after left same. same;
       may_refuse = λ fault may. record { flat = λ same. may; tree = λ other. absurd (true≢false other) };
       lacks = λ value blocks limit held lacks. absurd lacks;
       has = λ value blocks limit held lacks.
-          absurd (never_lacks (changed_value change value) (changed_value change value).format blocks limit (same_format change value ∙ held.stands.format) lacks.needs lacks.passes);
+          absurd (never_lacks (old.files (string_bytes file.name)) (changed_value change value) (changed_value change value).format blocks limit (same_format change value ∙ held.stands.format) lacks.needs lacks.passes);
     })
     changes)
 
 -- a change of a tree file
 pub tree_changes : (self : AnyFile) (file file' : TreeFile) (tells : Bool) (old new : StoreSeen) (change : FileChange) (result : Result (Unit {0}) FileFault) → self ≡ Tree file
-    → IsTreeFormat file.tree.header.format
+    → IsTreeFormat file.header.format
     → Changes change (tree_laws tells)
-    (tree_at tells (string_bytes file.name) file.opened file.tree file.limit old)
-    (tree_at tells (string_bytes file'.name) file'.opened file'.tree file'.limit new) result
+    (tree_at tells (name_of file.pages) file.opened file.header file.coming file.limit old)
+    (tree_at tells (name_of file'.pages) file'.opened file'.header file'.coming file'.limit new) result
     → Changes change (any_laws tells) (any_at tells old self) (any_at tells new (Tree file')) result
 tree_changes self file file' tells old new change result is other changes =
     subst (λ (f : AnyFile). Changes change (any_laws tells) (any_at tells old f) (any_at tells new (Tree file')) result) (sym is)
@@ -80,16 +108,30 @@ tree_changes self file file' tells old new change result is other changes =
     (any_laws tells) (any_at tells old (Tree file)) (any_at tells new (Tree file')) result
     (record {
       tells = refl;
-      stands_for = λ bytes value. stands_tree file.tree.header.format bytes value other;
-      reads = omega arith;
-      writes = tree_writes file.tree.header.format file.limit other;
+      stands_for = λ bytes value. stands_tree file.header.format bytes value other;
+      reads = tree_reads (any_seen (Tree file)) change other;
+      writes = tree_writes (any_seen (Tree file)) change other;
       makes = λ files makes. record { flat = λ same. absurd (true≢false (sym same ∙ other)); tree = λ other. makes };
-      may_leave = λ any before after left same. same;
+      may_leave = λ any before after left. tree_leaves file.header.format before after left other;
       may_refuse = λ fault may. record { flat = λ same. absurd (true≢false (sym same ∙ other)); tree = λ other. may };
       lacks = λ value blocks limit held lacks. lacks;
       has = λ value blocks limit held lacks. lacks;
     })
     changes)
+
+-- a look-up in a tree file makes no more calls of `read` than one in any file may make
+pub tree_get_few : 5 ≤ any_get_reads
+unfolding any_get_reads
+tree_get_few = omega arith
+
+next_few_in : (format : Format) → IsTreeFormat format → 8 ≤ reads_of_next format
+next_few_in Flat other = absurd (true≢false other)
+next_few_in V2R0 other = omega arith
+next_few_in V2R1 other = omega arith
+
+pub tree_next_few : (seen : FileSeen) (file : Option (List ℕ)) → IsTreeFormat seen.format → 8 ≤ any_next_reads seen file
+unfolding any_next_reads
+tree_next_few seen file other = next_few_in seen.format other
 
 -- a look-up in a flat file
 pub flat_looks : {T : Type 0} (self : AnyFile) (file file' : V1File) (tells : Bool) (old new : StoreSeen) (few most : ℕ) (result : Result T FileFault) → self ≡ V1 file → few ≤ most
@@ -108,9 +150,9 @@ flat_looks {T} self file file' tells old new few most result is within looks =
     })
 
 -- a look-up in a tree file
-pub tree_looks : {T : Type 0} (self : AnyFile) (file file' : TreeFile) (tells : Bool) (old new : StoreSeen) (few most : ℕ) (result : Result T FileFault) → self ≡ Tree file → IsTreeFormat file.tree.header.format
+pub tree_looks : {T : Type 0} (self : AnyFile) (file file' : TreeFile) (tells : Bool) (old new : StoreSeen) (few most : ℕ) (result : Result T FileFault) → self ≡ Tree file → IsTreeFormat file.header.format
     → few ≤ most
-    → LooksUp Some (tree_laws tells) (tree_at tells (string_bytes file.name) file.opened file.tree file.limit old) (tree_at tells (string_bytes file'.name) file'.opened file'.tree file'.limit new) few result
+    → LooksUp Some (tree_laws tells) (tree_at tells (name_of file.pages) file.opened file.header file.coming file.limit old) (tree_at tells (name_of file'.pages) file'.opened file'.header file'.coming file'.limit new) few result
     → LooksUp Some (any_laws tells) (any_at tells old self) (any_at tells new (Tree file')) most result
 tree_looks {T} self file file' tells old new few most result is other within looks =
     subst (λ (f : AnyFile). LooksUp {T = T} Some (any_laws tells) (any_at tells old f) (any_at tells new (Tree file')) most result) (sym is)

@@ -3,3 +3,4 @@ pub mod AnyLemmas
 pub mod ViewLemmas
 pub mod SeenLemmas
 pub mod ReplacedLemmas
+pub mod LeftLemmas

@@ -13,7 +13,10 @@ use Rattle.quota_blocks.specs.declared.quota_file.OpenFault.{OpenFault}
 use Rattle.quota_blocks.specs.declared.quota_file.OpenFault.TheVariants.{Store, NoFile, TooLarge, Memory, NotQuota, WrongKind, UnknownVersion, BadBlockCount, FormatMismatch, Damage as Damaged}
 use Rattle.entry_codec.specs.Header.{HeaderNumbers, format_of, header_fault, header_of, magic_of}
 use Rattle.tree_build.specs.TreeFile.{IsSound, TreeStandsFor}
+use Rattle.quota_pages.specs.Pages.{name_of}
+use Rattle.entry_codec.specs.declared.header.Header.{Header}
 use Rattle.tree_file.specs.Opened.{HoldsTree}
+use Rattle.tree_file.specs.declared.coming.Coming.{Coming}
 use Rattle.tree_file.specs.View.{FitsRequest, IsAsAsked, IsRefusedFor, IsTreeFault, IsTreeView}
 use Rattle.tree_build.proofs.DefectLemmas.{no_defect_of_sound}
 use Rattle.quota_v1.specs.Opened.{HoldsFlat}
@@ -151,9 +154,9 @@ tree_format_seen V2R1 named file value there few stands is =
     (subst (λ (n : Option (List ℕ)). IsSomeAnd n (λ (f : List ℕ). ((header_of f).blocks ≤ most_blocks) × TreeStandsFor f value)) (sym there) (few, stands), refl, sym is)
 
 -- a value that an opened tree file holds is seen of its file, where it may have as many blocks as it may when it is opened
-pub tree_held_seen : (tells : Bool) (named : Option (List ℕ)) (loaded : List ℕ) (limit : ℕ) (value : QuotaValue) → limit ≡ most_blocks → HoldsTree tells named loaded limit value
+pub tree_held_seen : (tells : Bool) (named : Option (List ℕ)) (header : Header) (coming : Coming) (limit : ℕ) (value : QuotaValue) → limit ≡ most_blocks → HoldsTree tells named header coming limit value
     → IsView named value.kind (Some value.format) (Ok value)
-tree_held_seen tells named loaded limit value is held = tree_format_seen value.format named held.file value held.there (subst (λ (l : ℕ). (header_of held.file).blocks ≤ l) is held.few) held.stands refl
+tree_held_seen tells named header coming limit value is held = tree_format_seen value.format named held.file value held.there (subst (λ (l : ℕ). (header_of held.file).blocks ≤ l) is held.few) held.stands refl
 
 -- a value that is seen is one of the kind that was asked for
 pub view_kind : (named : Option (List ℕ)) (kind : Kind) (asked : Option Format) (value : QuotaValue) → IsView named kind asked (Ok value) → value.kind ≡ kind
@@ -169,9 +172,9 @@ most_allowed V2R0 limit blocks is two few = is
 most_allowed V2R1 limit blocks is two few = is
 
 -- an opened tree file may have the most blocks
-pub tree_limit : (tells : Bool) (named : Option (List ℕ)) (loaded : List ℕ) (limit : ℕ) (value : QuotaValue) (format : Format) → limit ≡ blocks_allowed format → HoldsTree tells named loaded limit value
+pub tree_limit : (tells : Bool) (named : Option (List ℕ)) (header : Header) (coming : Coming) (limit : ℕ) (value : QuotaValue) (format : Format) → limit ≡ blocks_allowed format → HoldsTree tells named header coming limit value
     → limit ≡ most_blocks
-tree_limit tells named loaded limit value format is held = most_allowed format limit (header_of held.file).blocks is held.stands.sound.two held.few
+tree_limit tells named header coming limit value format is held = most_allowed format limit (header_of held.file).blocks is held.stands.sound.two held.few
 
 -- a value that an opened file holds is seen of its file
 pub any_held_seen : (tells : Bool) (files : World) (file : AnyFile) (value : QuotaValue) (name : List ℕ) (format : Format) → any_seen file ≡ fresh_seen name format → HoldsAny tells files file value
@@ -181,5 +184,5 @@ any_held_seen tells files (FlatFile file) value name format seen held =
     (flat_held_seen tells (files (string_bytes file.name)) file.bytes.items value held)
 any_held_seen tells files (TreeFile file) value name format seen held =
     subst (λ (n : List ℕ). IsView (files n) value.kind (Some value.format) (Ok value)) (ap (λ (s : FileSeen). s.name) seen)
-    (tree_held_seen tells (files (string_bytes file.name)) file.tree.bytes.items file.limit value
-    (tree_limit tells (files (string_bytes file.name)) file.tree.bytes.items file.limit value format (ap (λ (s : FileSeen). s.limit) seen) held) held)
+    (tree_held_seen tells (files (name_of file.pages)) file.header file.coming file.limit value
+    (tree_limit tells (files (name_of file.pages)) file.header file.coming file.limit value format (ap (λ (s : FileSeen). s.limit) seen) held) held)

@@ -12,8 +12,9 @@ use Rattle.quota_blocks.specs.QuotaValue.{QuotaValue}
 use Rattle.quota_blocks.specs.Seen.{StoreSeen}
 use Rattle.quota_blocks.specs.World.{World}
 use Rattle.quota_blocks.specs.declared.quota_file.FileFault.{FileFault}
+use Rattle.quota_pages.specs.Pages.{name_of}
 use Rattle.tree_file.specs.Opened.{HoldsTree, LacksRoom, MayRefuse as MayRefuseTree}
-use Rattle.tree_file.specs.TreeChange.{TreeMakes}
+use Rattle.tree_file.specs.TreeChange.{TreeLeaves, TreeMakes, tree_change_reads, tree_change_writes}
 use Rattle.quota_v1.specs.Change.{FlatMakes, MayRefuse as MayRefuseFlat}
 use Rattle.quota_v1.specs.Opened.{HoldsFlat, flat_seen, most_pieces}
 use Rattle.quota_map.specs.StandsFor.{StandsForAs}
@@ -23,12 +24,12 @@ use Rattle.quota_map.specs.declared.any_file.AnyFile.TheVariants.{V1, Tree}
 -- the opened file, with a store that tells its files or does not, holds a value as one of its format does
 abbrev pub HoldsAny : (tells : Bool) (files : World) → AnyFile → QuotaValue → Type 0
 HoldsAny tells files (V1 file) value = HoldsFlat tells (files (string_bytes file.name)) file.bytes.items value
-HoldsAny tells files (Tree file) value = HoldsTree tells (files (string_bytes file.name)) file.tree.bytes.items file.limit value
+HoldsAny tells files (Tree file) value = HoldsTree tells (files (name_of file.pages)) file.header file.coming file.limit value
 
 -- what is seen of it
 abbrev pub any_seen : AnyFile → FileSeen
 any_seen (V1 file) = flat_seen file.opened (string_bytes file.name)
-any_seen (Tree file) = seen_in file.opened (string_bytes file.name) file.tree.header.format file.limit
+any_seen (Tree file) = seen_in file.opened (name_of file.pages) file.header.format file.limit
 
 -- the opened file with what is seen of its store
 abbrev pub any_at : (tells : Bool) → StoreSeen → AnyFile → FileAt
@@ -39,28 +40,57 @@ pub record MayRefuse (format : Format) (fault : FileFault) : Type 0 where
   pub flat : is_flat format ≡ true → MayRefuseFlat fault
   pub tree : IsTreeFormat format → MayRefuseTree fault
 
--- A change of a file of this format makes what one of a flat file makes, or what one of a tree file makes.
-pub record AnyMakes (format : Format) (change : FileChange) (name : List ℕ) (old new : World) : Type 0 where
-  pub flat : is_flat format ≡ true → FlatMakes change name old new
-  pub tree : IsTreeFormat format → TreeMakes change name old new
+-- A change of a file that is seen so makes what one of a flat file makes, or what one of a tree file makes.
+pub record AnyMakes (seen : FileSeen) (change : FileChange) (name : List ℕ) (old new : World) : Type 0 where
+  pub flat : is_flat seen.format ≡ true → FlatMakes change name old new
+  pub tree : IsTreeFormat seen.format → TreeMakes seen.limit change name old new
 
--- what a change of a file of this format that failed may leave it as
+-- what a change of a file of this format that failed may leave it as, between the bytes before and those that it would have made:
+-- the old file, where it is a flat one
 abbrev pub AnyLeaves : Format → (old after left : Option (List ℕ)) → Type 0
-AnyLeaves format old after left = left ≡ old
+AnyLeaves Flat old after left = left ≡ old
+AnyLeaves V2R0 old after left = TreeLeaves old after left
+AnyLeaves V2R1 old after left = TreeLeaves old after left
 
--- how many calls of `write` a change of a file of this format makes at most, which may have so many blocks
-abbrev pub most_writes : Format → (blocks : ℕ) → ℕ
-most_writes Flat blocks = most_pieces
-most_writes V2R0 blocks = blocks
-most_writes V2R1 blocks = blocks
+-- how many calls of `read` a change of a file that is seen so makes at most, by its format
+abbrev pub reads_of_change : Format → FileSeen → FileChange → ℕ
+reads_of_change Flat seen change = 0
+reads_of_change V2R0 seen change = tree_change_reads seen change
+reads_of_change V2R1 seen change = tree_change_reads seen change
 
--- How many calls of `read` one call of `next_after` makes at most, on a file of these bytes: none, since all blocks are kept.
--- What is said of calls that stand on it holds for any number in its place.
+-- how many calls of `write` it makes at most, by its format
+abbrev pub writes_of_change : Format → FileSeen → FileChange → ℕ
+writes_of_change Flat seen change = most_pieces
+writes_of_change V2R0 seen change = tree_change_writes seen change
+writes_of_change V2R1 seen change = tree_change_writes seen change
+
+-- How many calls of `read` a change of a file that is seen so makes at most. What is said of calls that stand on it holds for any
+-- number in its place.
+unfoldable pub any_change_reads : FileSeen → FileChange → ℕ
+any_change_reads seen change = reads_of_change seen.format seen change
+
+-- How many calls of `write` it makes at most. What is said of calls that stand on it holds for any number in its place.
+unfoldable pub any_change_writes : FileSeen → FileChange → ℕ
+any_change_writes seen change = writes_of_change seen.format seen change
+
+-- How many calls of `read` one call of `get` makes at most, in a file of any format. What is said of calls that stand on it holds for
+-- any number in its place.
+unfoldable pub any_get_reads : ℕ
+any_get_reads = 5
+
+-- how many calls of `read` one call of `next_after` makes at most, by the format: none where the file is kept whole
+abbrev pub reads_of_next : Format → ℕ
+reads_of_next Flat = 0
+reads_of_next V2R0 = 8
+reads_of_next V2R1 = 8
+
+-- How many calls of `read` one call of `next_after` makes at most, on a file of these bytes. What is said of calls that stand on it
+-- holds for any number in its place.
 unfoldable pub any_next_reads : FileSeen → Option (List ℕ) → ℕ
-any_next_reads seen file = 0
+any_next_reads seen file = reads_of_next seen.format
 
--- what is said of all calls on one: a change writes it anew, so that one that failed leaves it as it was
+-- what is said of all calls on one
 abbrev pub any_laws : (tells : Bool) → FileLaws
 any_laws tells =
-    laws_of tells StandsForAs AnyMakes (λ format _. AnyLeaves format) (λ seen _ _ value blocks limit. LacksRoom seen value blocks limit) MayRefuse
-    (λ _ _. 0) (λ seen _. most_writes seen.format seen.limit)
+    laws_of tells StandsForAs AnyMakes (λ format _. AnyLeaves format) (λ seen file _ value blocks limit. LacksRoom seen file value blocks limit) MayRefuse
+    any_change_reads any_change_writes

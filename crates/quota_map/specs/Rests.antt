@@ -1,5 +1,5 @@
 -- What an opened file of any format holds rests on the named file alone, which stands for it.
-use Rattle.std.specs.Prelude.{◌≡◌, Bool, List, ℕ, Option, None, Some, IsSomeAnd, refl}
+use Rattle.std.specs.Prelude.{◌≡◌, Bool, List, ℕ, Option, IsSomeAnd}
 use Rattle.std.proofs.lemmas.Bool.{true≢false}
 use Rattle.std.specs.String.{string_bytes}
 use Rattle.quota_blocks.specs.QuotaValue.{QuotaValue}
@@ -8,6 +8,7 @@ use Rattle.quota_types.specs.Format.{IsTreeFormat}
 use Rattle.quota_types.specs.declared.file_kind.Format.{Format}
 use Rattle.quota_types.specs.declared.file_kind.Format.TheVariants.{V1 as Flat, V2R0, V2R1}
 use Rattle.tree_build.specs.TreeFile.{TreeStandsFor}
+use Rattle.quota_pages.specs.Pages.{name_of}
 use Rattle.tree_file.specs.Rests.{held_stands as tree_stands, rests_on_named as tree_rests}
 use Rattle.quota_v1.specs.Rests.{held_stands as flat_stands, rests_on_named as flat_rests}
 use Rattle.quota_map.specs.declared.any_file.AnyFile.{AnyFile}
@@ -20,7 +21,7 @@ pub rests_on_named : (tells : Bool) (files files' : World) (file : AnyFile) (val
     → HoldsAny tells files file value → HoldsAny tells files' file value
 rests_on_named tells files files' (V1 file) value named held = flat_rests tells (files (string_bytes file.name)) (files' (string_bytes file.name)) file.bytes.items value named held
 rests_on_named tells files files' (Tree file) value named held =
-    tree_rests tells (files (string_bytes file.name)) (files' (string_bytes file.name)) file.tree.bytes.items file.limit value named held
+    tree_rests tells (files (name_of file.pages)) (files' (name_of file.pages)) file.header file.coming file.limit value named held
 
 -- a tree file stands for a value as one of its format does
 pub stands_as_tree : (format : Format) (file : Option (List ℕ)) (value : QuotaValue) → IsTreeFormat format → IsSomeAnd file (λ bytes. TreeStandsFor bytes value)
@@ -34,5 +35,5 @@ pub held_stands : (tells : Bool) (files : World) (file : AnyFile) (value : Quota
     → IsSomeAnd (files (any_seen file).name) (λ bytes. StandsForAs (any_seen file).format bytes value)
 held_stands tells files (V1 file) value held = flat_stands tells (files (string_bytes file.name)) file.bytes.items value held
 held_stands tells files (Tree file) value held =
-    stands_as_tree file.tree.header.format (files (string_bytes file.name)) value file.tree.tree
-    (tree_stands tells (files (string_bytes file.name)) file.tree.bytes.items file.limit value held)
+    stands_as_tree file.header.format (files (name_of file.pages)) value file.tree
+    (tree_stands tells (files (name_of file.pages)) file.header file.coming file.limit value held)

@@ -1,6 +1,6 @@
 -- What is seen of a quota file by whoever opens it: as a flat file exactly where that format is asked for, and else as a tree
 -- file. Source: quotaon(8) and setquota(8) on formats, of which only vfsold has no magic number.
-use Rattle.std.specs.Prelude.{◌≡◌, ℕ, Bool, true, false, List, length, max, Option, Some, None, Result}
+use Rattle.std.specs.Prelude.{◌≡◌, ℕ, Bool, true, false, List, length, ◌+◌, ◌*◌, Option, Some, None, Result}
 use Rattle.quota_types.specs.Format.{IsTreeFormat, is_flat}
 use Rattle.quota_types.specs.declared.file_kind.Format.{Format}
 use Rattle.quota_types.specs.declared.file_kind.Format.TheVariants.{V1, V2R0, V2R1}
@@ -52,9 +52,9 @@ IsOpenedAs None format = IsTreeFormat format
 IsOpenedAs (Some wanted) format = format ≡ wanted
 
 -- how many calls of `read` the opening of a file of these bytes makes at most, also where it is refused, by the format that was
--- asked for: one for each 1,024 bytes of a flat file, and one for each block that the header of a tree file states, or the first
+-- asked for: one for each 1,024 bytes of a flat file, and of a tree file one, and two for each block that its header states
 abbrev pub opening_reads : Option Format → List ℕ → ℕ
-opening_reads None bytes = max 1 (header_of bytes).blocks
+opening_reads None bytes = 1 + 2 * (header_of bytes).blocks
 opening_reads (Some V1) bytes = pieces_of (length bytes)
-opening_reads (Some V2R0) bytes = max 1 (header_of bytes).blocks
-opening_reads (Some V2R1) bytes = max 1 (header_of bytes).blocks
+opening_reads (Some V2R0) bytes = 1 + 2 * (header_of bytes).blocks
+opening_reads (Some V2R1) bytes = 1 + 2 * (header_of bytes).blocks

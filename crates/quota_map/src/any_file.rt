@@ -8,7 +8,7 @@ use quota_v1::V1File;
 use tree_file::TreeFile;
 
 /// An opened quota file of any format.
-#[derive(Debug, Drop)]
+#[derive(Drop)]
 pub enum AnyFile {
     /// A flat file: vfsold.
     V1(V1File),
@@ -33,7 +33,7 @@ impl AnyFile {
 
 impl<S: Store> QuotaFile<S> for AnyFile {
     ghost use Rattle.tree_file.specs.Opened.{LacksRoom};
-    ghost use Rattle.quota_map.specs.AnyFile.{AnyLeaves, AnyMakes, HoldsAny, MayRefuse, any_next_reads, any_seen, most_writes};
+    ghost use Rattle.quota_map.specs.AnyFile.{AnyLeaves, AnyMakes, HoldsAny, MayRefuse, any_change_reads, any_change_writes, any_get_reads, any_next_reads, any_seen};
     ghost use Rattle.quota_map.specs.Rests.{held_stands, rests_on_named};
     ghost use Rattle.quota_map.specs.StandsFor.{StandsForAs};
 
@@ -45,19 +45,19 @@ impl<S: Store> QuotaFile<S> for AnyFile {
 
     ghost stands_for = { StandsForAs };
 
-    ghost lacks_room = { λ seen _ _ value blocks limit. LacksRoom seen value blocks limit };
+    ghost lacks_room = { λ seen file _ value blocks limit. LacksRoom seen file value blocks limit };
 
     ghost makes = { AnyMakes };
 
     ghost may_leave = { λ format _. AnyLeaves format };
 
-    ghost get_reads = { λ _. 0 };
+    ghost get_reads = { λ _. any_get_reads };
 
     ghost next_reads = { any_next_reads };
 
-    ghost change_reads = { λ _ _. 0 };
+    ghost change_reads = { any_change_reads };
 
-    ghost change_writes = { λ seen _. most_writes seen.format seen.limit };
+    ghost change_writes = { any_change_writes };
 
     ghost rests_on_named = { λ file one other value named held.
         rests_on_named S.tells (S.seen one).files (S.seen other).files file value named held };

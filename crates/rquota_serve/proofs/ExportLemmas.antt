@@ -1,5 +1,5 @@
 -- Exports in a list: their paths, what they stand for, and look-ups in one of them.
-use Rattle.std.proofs.Common.{◌≡◌, ◌≤◌, ◌<◌, ◌+◌, ◌||◌, ◌&&◌, ℕ, suc, Bool, true, false, cond, not, nat_lt, IsTrue, if◌then◌else◌, List, [], ◌∷◌, ◌++◌, length, map, get_or, Option, None, Some, IfSome, Result, Ok, Err, IfErr, OnErr, refl, sym, ap, subst, ◌∙◌, arith}
+use Rattle.std.proofs.Common.{◌≡◌, ◌<◌, ◌+◌, ◌||◌, ◌&&◌, ℕ, suc, Bool, true, false, cond, not, nat_lt, IsTrue, if◌then◌else◌, List, [], ◌∷◌, ◌++◌, length, map, get_or, Option, None, Some, IfSome, Result, Ok, Err, IfErr, OnErr, refl, sym, ap, subst, ◌∙◌, arith}
 use Rattle.std.proofs.Math.ListN.{get_or-map, set}
 use Rattle.std.proofs.lemmas.List.{length-map, map-append, map-set, set-get_or}
 use Rattle.std.proofs.lemmas.List.Elements.{All-cons, All-get_or, All-nil, All-push, All-set, All-weaker}
@@ -37,7 +37,7 @@ use Rattle.rquota_serve.specs.declared.exports.Exports.{Exports}
 
 -- no look-up was made
 pub looks-none : (seen : List ExportSeen) (store : StoreSeen) → OnlyLooksUp seen store store
-looks-none seen store = record { files = refl; unsynced = λ name other. refl; later = omega arith; writes = refl; reads = omega arith }
+looks-none seen store = record { files = refl; unsynced = λ name other. refl; later = omega arith; writes = refl }
 
 pub looks-then : (seen : List ExportSeen) (old between new : StoreSeen) → OnlyLooksUp seen old between → OnlyLooksUp seen between new → OnlyLooksUp seen old new
 looks-then seen old between new first second = record {
@@ -45,18 +45,16 @@ looks-then seen old between new first second = record {
   unsynced = λ name other. second.unsynced name other ∙ first.unsynced name other;
   later = omega (arith, first.later, second.later);
   writes = second.writes ∙ first.writes;
-  reads = omega (arith, first.reads, second.reads);
 }
 
 -- one file was read
-pub looks-one : {done : Bool} (seen : List ExportSeen) (place : ℕ) (export : ExportSeen) (old new : StoreSeen) → slice_get seen place ≡ Some export → OnlyReads done export.file.name old new → new.reads ≤ old.reads
+pub looks-one : {done : Bool} (seen : List ExportSeen) (place : ℕ) (export : ExportSeen) (old new : StoreSeen) → slice_get seen place ≡ Some export → OnlyReads done export.file.name old new
     → OnlyLooksUp seen old new
-looks-one seen place export old new at leaves few = record {
+looks-one seen place export old new at leaves = record {
   files = leaves.files;
   unsynced = λ name other. leaves.unsynced name (λ is. other (place, export, at, sym is));
   later = leaves.later;
   writes = leaves.writes;
-  reads = few;
 }
 
 -- Names.
@@ -246,9 +244,9 @@ pub may-at : (exports : Exports) (place : ℕ) (export : Export) (fault : FileFa
 may-at exports place export fault at may = (place, export_seen export, seen-at exports place export at, may)
 
 -- one look-up
-pub looks-at : {done : Bool} (exports : Exports) (place : ℕ) (export : Export) (old new : StoreSeen) → slice_get (kept_in exports) place ≡ Some export → OnlyReads done (any_seen export.file).name old new → new.reads ≤ old.reads
+pub looks-at : {done : Bool} (exports : Exports) (place : ℕ) (export : Export) (old new : StoreSeen) → slice_get (kept_in exports) place ≡ Some export → OnlyReads done (any_seen export.file).name old new
     → OnlyLooksUp (exports_seen exports) old new
-looks-at exports place export old new at leaves few = looks-one (exports_seen exports) place (export_seen export) old new (seen-at exports place export at) leaves few
+looks-at exports place export old new at leaves = looks-one (exports_seen exports) place (export_seen export) old new (seen-at exports place export at) leaves
 
 seen-is : (was export : Export) → any_seen export.file ≡ any_seen was.file → string_bytes export.path ≡ string_bytes was.path → export.kind ≡ was.kind → export_seen export ≡ export_seen was
 seen-is was export file path kind =

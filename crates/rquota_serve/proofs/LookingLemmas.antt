@@ -1,5 +1,6 @@
 -- Look-ups in the files of exports: none, and two in a row.
-use Rattle.std.proofs.Common.{ℕ, ◌≤◌, IfSome, List, Option, Result, Ok, Err, refl, subst, arith}
+use Rattle.std.proofs.Common.{ℕ, ◌+◌, ◌*◌, ◌≤◌, IfSome, List, Option, Result, Ok, Err, refl, subst, arith}
+use Rattle.std.proofs.Math.Nat.{mul-le-mul_left}
 use Rattle.std.proofs.lemmas.Option.{IfSome_then}
 use Rattle.quota_blocks.specs.Count.{Rose}
 use Rattle.quota_blocks.specs.Seen.{StoreSeen}
@@ -14,9 +15,9 @@ use Rattle.rquota_serve.specs.declared.fault.ServeFault.{ServeFault}
 use Rattle.rquota_serve.specs.declared.fault.ServeFault.TheVariants.{Link as LinkFailed, File as FileFailed}
 use Rattle.rquota_serve.proofs.ExportLemmas.{looks-none, looks-then}
 
--- nothing was looked up
-pub looks_in-none : {T E : Type 0} (fault_of : E → Option FileFault) (at : ExportsAt) (told : T) → LooksUpIn fault_of at at (Ok told)
-looks_in-none fault_of at told = record {
+-- nothing was looked up, whatever number of reads may be made
+pub looks_in-none : {T E : Type 0} (fault_of : E → Option FileFault) (at : ExportsAt) (most : ℕ) (told : T) → LooksUpIn fault_of at at most (Ok told)
+looks_in-none fault_of at most told = record {
   refused = tt;
   may = tt;
   stays = λ exported serves. serves;
@@ -24,6 +25,7 @@ looks_in-none fault_of at told = record {
   synced = λ name is. is;
   same = refl;
   counted = tt;
+  reads = omega arith;
 }
 
 answer_fault-after : (before between now : ℕ) (serves serves_between : Exported → Type 0) (fault : FileFault) → before ≤ between → ((exported : Exported) → serves exported → serves_between exported)
@@ -33,10 +35,10 @@ answer_fault-after before between now serves serves_between (Damaged damage) lat
 answer_fault-after before between now serves serves_between (Full blocks limit) later stays cause = cause
 answer_fault-after before between now serves serves_between NoMemory later stays cause = cause
 
-looks_in-mid : {T U E G : Type 0} (fault_in : G → Option FileFault) (fault_of : E → Option FileFault) (old new : ExportsAt) (told : U) (held : Exported → Type 0) (store : StoreSeen) (result : Result T E)
-    → LooksUpIn fault_in old (record { serves = held; seen = old.seen; store = store }) (Ok told) → LooksUpIn fault_of (record { serves = held; seen = old.seen; store = store }) new result
-    → LooksUpIn fault_of old new result
-looks_in-mid fault_in fault_of old new told held store (Ok done) first second = record {
+looks_in-mid : {T U E G : Type 0} (fault_in : G → Option FileFault) (fault_of : E → Option FileFault) (old new : ExportsAt) (one two : ℕ) (told : U) (held : Exported → Type 0) (store : StoreSeen) (result : Result T E)
+    → LooksUpIn fault_in old (record { serves = held; seen = old.seen; store = store }) one (Ok told) → LooksUpIn fault_of (record { serves = held; seen = old.seen; store = store }) new two result
+    → LooksUpIn fault_of old new (one + two) result
+looks_in-mid fault_in fault_of old new one two told held store (Ok done) first second = record {
   refused = tt;
   may = tt;
   stays = λ exported serves. second.stays exported (first.stays exported serves);
@@ -44,8 +46,9 @@ looks_in-mid fault_in fault_of old new told held store (Ok done) first second = 
   synced = adds_none-then old.store.unsynced store.unsynced new.store.unsynced first.synced second.synced;
   same = second.same;
   counted = tt;
+  reads = omega (arith, first.reads, second.reads);
 }
-looks_in-mid fault_in fault_of old new told held store (Err out) first second = record {
+looks_in-mid fault_in fault_of old new one two told held store (Err out) first second = record {
   refused = IfSome_then (fault_of out) second.refused
       (λ fault cause. answer_fault-after old.store.faults store.faults new.store.faults old.serves held fault first.leaves.later first.stays cause);
   may = second.may;
@@ -54,16 +57,38 @@ looks_in-mid fault_in fault_of old new told held store (Err out) first second = 
   synced = tt;
   same = tt;
   counted = second.counted;
+  reads = omega (arith, first.reads, second.reads);
 }
 
 -- look-ups, and more of them
-pub looks_in-then : {T U E G : Type 0} (fault_in : G → Option FileFault) (fault_of : E → Option FileFault) (old mid new : ExportsAt) (told : U) (result : Result T E)
-    → LooksUpIn fault_in old mid (Ok told) → LooksUpIn fault_of mid new result → LooksUpIn fault_of old new result
-looks_in-then fault_in fault_of old mid new told result first second =
-    let P : List ExportSeen → Type 0 = λ seen. LooksUpIn fault_in old (record { serves = mid.serves; seen = seen; store = mid.store }) (Ok told)
-    × LooksUpIn fault_of (record { serves = mid.serves; seen = seen; store = mid.store }) new result in
+pub looks_in-then : {T U E G : Type 0} (fault_in : G → Option FileFault) (fault_of : E → Option FileFault) (old mid new : ExportsAt) (one two : ℕ) (told : U) (result : Result T E)
+    → LooksUpIn fault_in old mid one (Ok told) → LooksUpIn fault_of mid new two result → LooksUpIn fault_of old new (one + two) result
+looks_in-then fault_in fault_of old mid new one two told result first second =
+    let P : List ExportSeen → Type 0 = λ seen. LooksUpIn fault_in old (record { serves = mid.serves; seen = seen; store = mid.store }) one (Ok told)
+    × LooksUpIn fault_of (record { serves = mid.serves; seen = seen; store = mid.store }) new two result in
     let moved : P old.seen = subst P first.same (first, second) in
-    looks_in-mid fault_in fault_of old new told mid.serves mid.store result moved.0 moved.1
+    looks_in-mid fault_in fault_of old new one two told mid.serves mid.store result moved.0 moved.1
+
+-- no more calls were made than a greater number
+looks_in-within : {T E : Type 0} (fault_of : E → Option FileFault) (old new : ExportsAt) (few most : ℕ) (result : Result T E) → few ≤ most
+    → LooksUpIn fault_of old new few result → LooksUpIn fault_of old new most result
+looks_in-within fault_of old new few most result within looks = record {
+  refused = looks.refused;
+  may = looks.may;
+  stays = looks.stays;
+  leaves = looks.leaves;
+  synced = looks.synced;
+  same = looks.same;
+  counted = looks.counted;
+  reads = omega (arith, looks.reads, within);
+}
+
+-- one more look-up after so many, where each makes so many calls of `read` at most
+pub looks_in-more : {T U E G : Type 0} (fault_in : G → Option FileFault) (fault_of : E → Option FileFault) (old mid new : ExportsAt) (each count most : ℕ) (told : U) (result : Result T E)
+    → count + 1 ≤ most → LooksUpIn fault_in old mid (each * count) (Ok told) → LooksUpIn fault_of mid new each result → LooksUpIn fault_of old new (each * most) result
+looks_in-more fault_in fault_of old mid new each count most told result more first second =
+    looks_in-within fault_of old new (each * count + each) (each * most) result (omega (arith, mul-le-mul_left each more))
+    (looks_in-then fault_in fault_of old mid new (each * count) each told result first second)
 
 -- why serving ended: the link failed, or a file did
 pub serve_fault : (before now link link_now : ℕ) (serves : Exported → Type 0) (fault : ServeFault) → OnLink fault (Rose link link_now) → IfSome (file_in fault) (IsAnswerFault before now serves)

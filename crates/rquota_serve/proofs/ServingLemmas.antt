@@ -1,5 +1,5 @@
 -- Datagrams that are served in a row.
-use Rattle.std.proofs.Common.{◌≡◌, ℕ, ◌+◌, ◌<◌, List, [], ◌∷◌, ◌++◌, map, Option, None, Some, refl, sym, ap, ◌∙◌, append_assoc, length-append, arith}
+use Rattle.std.proofs.Common.{◌≡◌, ℕ, ◌+◌, ◌<◌, ◌≤◌, List, [], ◌∷◌, ◌++◌, map, Option, None, Some, refl, sym, ap, ◌∙◌, append_assoc, length-append, arith}
 use Rattle.std.proofs.lemmas.List.{append-nil, map-append}
 use Rattle.std.proofs.lemmas.List.Elements.{filter_map-append}
 use Rattle.std.specs.List.{cons_option, filter_map}
@@ -8,7 +8,7 @@ use Rattle.quota_blocks.specs.Seen.{Datagram, LinkSeen}
 use Rattle.rquota_xdr.specs.Reply.{spelling_of}
 use Rattle.rquota_xdr.specs.declared.reply.Reply.{Reply}
 use Rattle.rquota_serve.specs.Exported.{Exported}
-use Rattle.rquota_serve.specs.Serving.{HasReply, Served, Stopped, answers_of, datagram_reply}
+use Rattle.rquota_serve.specs.Serving.{HasReply, ReadsForTaken, Served, Stopped, answers_of, datagram_reply}
 
 -- no datagrams have no answers
 answers-none : (exported : Exported) → answers_of exported [] ≡ []
@@ -120,4 +120,26 @@ served-one serves datagram reply old new left sent is = record {
   left = left;
   number = refl;
   answers = λ exported serve. sent ∙ ap (λ (l : List (List ℕ)). old.answers ++ l) (answers-one exported datagram reply (is exported serve));
+}
+
+-- Reads for datagrams that are taken.
+
+-- no datagram was taken, and nothing was read
+pub reads-none : (most : ℕ) (link : LinkSeen) (reads : ℕ) → ReadsForTaken most link link reads reads
+reads-none most link reads = record { taken = []; left = refl; few = omega arith }
+
+-- no datagram was taken by a call that failed
+pub reads-untaken : (most : ℕ) (old new : LinkSeen) (reads : ℕ) → new.left ≡ old.left → ReadsForTaken most old new reads reads
+reads-untaken most old new reads left = record { taken = []; left = sym left; few = omega arith }
+
+-- one datagram was taken
+pub reads-one : (most : ℕ) (datagram : Datagram) (old new : LinkSeen) (before now : ℕ) → old.left ≡ datagram ∷ new.left → now ≤ before + most → ReadsForTaken most old new before now
+reads-one most datagram old new before now left few = record { taken = datagram ∷ []; left = left; few = omega (arith, few) }
+
+-- datagrams, and more of them
+pub reads-then : (most : ℕ) (old between new : LinkSeen) (before mid now : ℕ) → ReadsForTaken most old between before mid → ReadsForTaken most between new mid now → ReadsForTaken most old new before now
+reads-then most old between new before mid now first second = record {
+  taken = first.taken ++ second.taken;
+  left = first.left ∙ ap (λ (l : List Datagram). first.taken ++ l) second.left ∙ sym (append_assoc first.taken second.taken new.left);
+  few = rw (length-append first.taken second.taken) (omega (arith, first.few, second.few));
 }

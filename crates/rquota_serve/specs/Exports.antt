@@ -77,11 +77,10 @@ pub record CountsOne (old new : List ExportSeen) : Type 0 where
 abbrev pub IsOfExport : List ExportSeen → List ℕ → Type 0
 IsOfExport seen name = (place : ℕ) × (export : ExportSeen) × (slice_get seen place ≡ Some export) × (export.file.name ≡ name)
 
--- Look-ups in the files of exports: all files are as before, no call of `write` or `read` was made, and all names but those of
--- these files are as unsynced as they were.
+-- Look-ups in the files of exports: all files are as before, no call of `write` was made, and all names but those of these files
+-- are as unsynced as they were.
 pub record OnlyLooksUp (seen : List ExportSeen) (old new : StoreSeen) : Type 0 where
   pub files : new.files ≡ old.files
   pub unsynced : (name : List ℕ) → ¬ (IsOfExport seen name) → new.unsynced name ≡ old.unsynced name
   pub later : old.faults ≤ new.faults
   pub writes : new.writes ≡ old.writes
-  pub reads : new.reads ≤ old.reads

@@ -1,5 +1,5 @@
 -- Datagrams that are taken from a link, and the answers to them.
-use Rattle.std.specs.Prelude.{◌≡◌, ℕ, ◌<◌, List, ◌++◌, length, map, take, filter_map, Option, IfSome}
+use Rattle.std.specs.Prelude.{◌≡◌, ℕ, ◌+◌, ◌*◌, ◌<◌, ◌≤◌, List, ◌++◌, length, map, take, filter_map, Option, IfSome}
 use Rattle.std.specs.Option.{option_to_list}
 use Rattle.quota_blocks.specs.Seen.{Datagram, LinkSeen}
 use Rattle.rquota_xdr.specs.Call.{call_of}
@@ -41,3 +41,9 @@ pub record Stopped (serves : Exported → Type 0) (calls : ℕ) (old new : LinkS
   pub few : length done < calls
   pub answers : (exported : Exported) → serves exported → new.answers ≡ old.answers ++ answers_of exported done
   pub unsent : IfSome at_hand HasReply
+
+-- Datagrams were taken from a link, and for each of them a store had so many calls of `read` at most.
+pub record ReadsForTaken (most : ℕ) (old new : LinkSeen) (before now : ℕ) : Type 0 where
+  pub taken : List Datagram
+  pub left : old.left ≡ taken ++ new.left
+  pub few : now ≤ before + most * length taken

@@ -1,4 +1,5 @@
 ghost use Rattle.std.specs.Prelude.{◌≡◌, ◌↔◌, None, Some, IfOk, OnErr, length};
+ghost use Rattle.quota_map.specs.AnyFile.{any_get_reads};
 ghost use Rattle.rquota_xdr.specs.Call.{HasPathWithin, call_of};
 ghost use Rattle.rquota_xdr.specs.declared.call.Call.TheVariants.{Silent};
 ghost use Rattle.rquota_serve.specs.Exported.{Exported};
@@ -14,7 +15,7 @@ use quota_types::Rec;
 use rquota_xdr::{Call, Reply, read_call};
 
 /// The reply to a datagram that comes at the moment `now`, in seconds since 1970; none where it is no call. A caller who may
-/// not ask is denied before anything is looked up. No memory is taken, and the store is not read.
+/// not ask is denied before anything is looked up: no call on the store is made unless limits are told. No memory is taken.
 ///
 /// # Errors
 ///
@@ -35,7 +36,9 @@ pub fn answer<S: Store>(
     ensures asked { OnErr result ((exported : Exported) → HasPaths (exports_seen exports.old) exported
         → IsQuota (reply_of exported datagram.now now)) }
     ensures looks { LooksUpIn Some (exports_at S.tells (S.seen store.old) exports.old)
-        (exports_at S.tells (S.seen store.new) exports.new) result }
+        (exports_at S.tells (S.seen store.new) exports.new) any_get_reads result }
+    // The store is looked at only where limits are told.
+    ensures untouched { IfOk result (λ reply. ¬ (IsQuota reply) → S.seen store.new ≡ S.seen store.old) }
 {
     answer_call(exports, store, datagram, now, read_call(datagram))
 }
@@ -56,7 +59,8 @@ fn answer_call<S: Store>(
     ensures asked { OnErr result ((exported : Exported) → HasPaths (exports_seen exports.old) exported
         → IsQuota (reply_to exported datagram.now now call)) }
     ensures looks { LooksUpIn Some (exports_at S.tells (S.seen store.old) exports.old)
-        (exports_at S.tells (S.seen store.new) exports.new) result }
+        (exports_at S.tells (S.seen store.new) exports.new) any_get_reads result }
+    ensures untouched { IfOk result (λ reply. ¬ (IsQuota reply) → S.seen store.new ≡ S.seen store.old) }
 {
     match call {
         Call::Get {

@@ -7,7 +7,7 @@ use quota_types::{Format, Kind, Rec};
 use std::alloc::Global;
 
 /// A quota file that is told of under a path, for users or for groups.
-#[derive(Debug, Drop)]
+#[derive(Drop)]
 pub(crate) struct Export {
     path: String,
     kind: Kind,
@@ -23,7 +23,7 @@ impl Export {
     ghost use Rattle.quota_blocks.specs.Frame.{OnlyReads};
     ghost use Rattle.quota_blocks.specs.LooksUp.{LooksUp};
     ghost use Rattle.quota_blocks.specs.QuotaValue.{QuotaValue};
-    ghost use Rattle.quota_map.specs.AnyFile.{HoldsAny, any_at, any_laws};
+    ghost use Rattle.quota_map.specs.AnyFile.{HoldsAny, any_at, any_get_reads, any_laws};
     ghost use Rattle.quota_map.specs.View.{IsOpenFault, IsOpenedAs, IsView, opening_reads};
     ghost use Rattle.quota_blocks.specs.Block.{bytes_of};
     ghost use Rattle.rquota_serve.specs.Exports.{export_seen, fresh_export, is_named};
@@ -78,7 +78,7 @@ impl Export {
         ensures found { IfOk result (λ rec. (value : QuotaValue) → HoldsAny S.tells (S.seen store.old).files self.old.file value
             → rec ≡ record_of id value) }
         ensures looks { LooksUp Some (any_laws S.tells) (any_at S.tells (S.seen store.old) self.old.file)
-            (any_at S.tells (S.seen store.new) self.new.file) 0 result }
+            (any_at S.tells (S.seen store.new) self.new.file) any_get_reads result }
         ensures path { string_bytes self.new.path ≡ string_bytes self.old.path }
         ensures kind { self.new.kind ≡ self.old.kind }
     {

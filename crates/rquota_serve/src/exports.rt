@@ -9,7 +9,7 @@ use std::alloc::Global;
 pub const MOST_EXPORTS: usize = 16;
 
 /// Quota files that are told of under paths, for users or for groups. Each stays open.
-#[derive(Debug, Drop)]
+#[derive(Drop)]
 pub struct Exports {
     list: Vec<Export>,
 }
@@ -20,6 +20,7 @@ impl Exports {
     ghost use Rattle.quota_blocks.specs.Frame.{OnlyReads};
     ghost use Rattle.quota_blocks.specs.QuotaValue.{QuotaValue};
     ghost use Rattle.quota_blocks.specs.World.{World};
+    ghost use Rattle.quota_map.specs.AnyFile.{any_get_reads};
     ghost use Rattle.quota_map.specs.View.{IsOpenFault, IsOpenedAs, IsView, opening_reads};
     ghost use Rattle.quota_blocks.specs.Block.{bytes_of};
     ghost use Rattle.rquota_serve.specs.Adding.{AreAdded, AreToldOf, IsRefusedAt, MayAddAll, ReadsEach, added_of, news_seen, reads_of, tried_of};
@@ -154,7 +155,8 @@ impl Exports {
         ensures told { IfOk result (λ found. is_some found ≡ is_exported (exports_seen self.old) path.now kind) }
         ensures there { OnErr result (IsTrue (is_exported (exports_seen self.old) path.now kind)) }
         ensures looks { LooksUpIn Some (exports_at S.tells (S.seen store.old) self.old)
-            (exports_at S.tells (S.seen store.new) self.new) result }
+            (exports_at S.tells (S.seen store.new) self.new) any_get_reads result }
+        ensures untouched { IfOk result (λ found. found ≡ None → S.seen store.new ≡ S.seen store.old) }
     {
         let Some(place) = self.place_of(path, kind) else {
             return Ok(None);

@@ -1,11 +1,12 @@
-ghost use Rattle.std.specs.Prelude.{◌≡◌, ◌≤◌, ◌∷◌, ◌++◌, [], map, IsSome, IsTrue, IfErr, OnErr, OnOk};
+ghost use Rattle.std.specs.Prelude.{◌≡◌, ◌*◌, ◌≤◌, ◌∷◌, ◌++◌, [], map, IsSome, IsTrue, IfErr, OnErr, OnOk};
 ghost use Rattle.std.specs.Option.{option_to_list};
 ghost use Rattle.quota_blocks.specs.Count.{Rose};
+ghost use Rattle.quota_map.specs.AnyFile.{any_get_reads};
 ghost use Rattle.rquota_xdr.specs.Reply.{spelling_of};
 ghost use Rattle.rquota_serve.specs.Exports.{Serves};
 ghost use Rattle.rquota_serve.specs.Looking.{LooksUpIn, exports_at};
 ghost use Rattle.rquota_serve.specs.Refusal.{OnLink, file_in};
-ghost use Rattle.rquota_serve.specs.Serving.{Served, Stopped};
+ghost use Rattle.rquota_serve.specs.Serving.{ReadsForTaken, Served, Stopped};
 
 use crate::{Exports, ServeFault, answer};
 use quota_blocks::{Link, LinkFault, Store};
@@ -29,7 +30,10 @@ pub fn serve<S: Store, L: Link>(
     ensures stopped { OnErr result (IsTrue L.tells → Stopped (Serves S.tells (S.seen store.old).files exports.old) calls
         (L.seen link.old) (L.seen link.new)) }
     ensures looks { LooksUpIn file_in (exports_at S.tells (S.seen store.old) exports.old)
-        (exports_at S.tells (S.seen store.new) exports.new) result }
+        (exports_at S.tells (S.seen store.new) exports.new) (any_get_reads * calls) result }
+    // Whatever it answers, only a datagram that was taken makes calls of `read`, and so many at most.
+    ensures reads { IsTrue L.tells → ReadsForTaken any_get_reads (L.seen link.old) (L.seen link.new)
+        (S.seen store.old).reads (S.seen store.new).reads }
     ensures unlinked { IfErr result (λ fault. OnLink fault (Rose (L.seen link.old).faults (L.seen link.new).faults)) }
     ensures later { (L.seen link.old).faults ≤ (L.seen link.new).faults }
 {
@@ -52,7 +56,9 @@ fn serve_one<S: Store, L: Link>(
     ensures stopped { OnErr result (IsTrue L.tells → Stopped (Serves S.tells (S.seen store.old).files exports.old) 1
         (L.seen link.old) (L.seen link.new)) }
     ensures looks { LooksUpIn file_in (exports_at S.tells (S.seen store.old) exports.old)
-        (exports_at S.tells (S.seen store.new) exports.new) result }
+        (exports_at S.tells (S.seen store.new) exports.new) any_get_reads result }
+    ensures reads { IsTrue L.tells → ReadsForTaken any_get_reads (L.seen link.old) (L.seen link.new)
+        (S.seen store.old).reads (S.seen store.new).reads }
     ensures unlinked { IfErr result (λ fault. OnLink fault (Rose (L.seen link.old).faults (L.seen link.new).faults)) }
     ensures later { (L.seen link.old).faults ≤ (L.seen link.new).faults }
 {

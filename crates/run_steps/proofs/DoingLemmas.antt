@@ -1,12 +1,12 @@
 -- Acts that are done in order, and then a refusal, if there is one; and acts that only change files.
-use Rattle.std.proofs.Common.{◌≡◌, ℕ, List, [], ◌∷◌, ◌++◌, take, Option, inl, inr, refl, sym, ap, subst, ◌∙◌, append-nil, Bool}
+use Rattle.std.proofs.Common.{◌≡◌, ℕ, List, [], ◌∷◌, ◌++◌, take, Option, refl, sym, ap, subst, ◌∙◌, append-nil, Bool}
 use Rattle.quota_blocks.specs.Frame.{OnlyReads}
 use Rattle.quota_blocks.specs.Seen.{StoreSeen}
 use Rattle.quota_blocks.specs.World.{World}
 use Rattle.refusals.specs.declared.reason.Refusal.{Refusal}
 use Rattle.run_steps.specs.Act.{Act, Change, Replace, ChangesNone, Follows, FollowsInPart, answers, err_bytes, out_bytes}
 use Rattle.run_steps.specs.Done.{AreDone, AreDoneInPart, Outside, RunSeen, RunTells, outside_of}
-use Rattle.run_steps.specs.Meaning.{EndsBy, HasBegun}
+use Rattle.run_steps.specs.Meaning.{EndsBy}
 use Rattle.run_steps.specs.Run.{HasSteps}
 use Rattle.run_steps.specs.Steps.{AreDoneThen}
 use Rattle.run_steps.proofs.ActLemmas.{answers-append, appends_nothing, changes_none_before, err_bytes-append, follows-append, out_bytes-append}
@@ -16,20 +16,6 @@ use Rattle.run_steps.proofs.OpeningLemmas.{with_store}
 pub doing_ends : (acts : List Act) (end : Option Refusal) (from : Outside) (done : List Act) (to : Outside) (ended : Option Refusal) → EndsBy (AreDoneThen acts end) from done to ended → ended ≡ end
 doing_ends [] end from done to ended is = is.ends
 doing_ends (act ∷ acts) end from done to ended doing = doing_ends acts end (record from { files = doing.1 }) doing.0 to ended doing.4
-
--- the same acts with another end
-pub doing_ended : (acts : List Act) (end other : Option Refusal) (from : Outside) (done : List Act) (to : Outside) (ended : Option Refusal)
-    → EndsBy (AreDoneThen acts end) from done to ended → EndsBy (AreDoneThen acts other) from done to other
-doing_ended [] end other from done to ended is = record { acts_none = is.acts_none; same = is.same; ends = refl }
-doing_ended (act ∷ acts) end other from done to ended doing =
-    (doing.0, doing.1, doing.2, doing.3, doing_ended acts end other (record from { files = doing.1 }) doing.0 to ended doing.4)
-
--- and what has begun of them
-pub doing_begun : (acts : List Act) (end other : Option Refusal) (from : Outside) (done hand : List Act) (now : Outside)
-    → HasBegun (AreDoneThen acts end) from done hand now → HasBegun (AreDoneThen acts other) from done hand now
-doing_begun [] end other from done hand now is = is
-doing_begun (act ∷ acts) end other from done hand now (inl is) = inl is
-doing_begun (act ∷ acts) end other from done hand now (inr by) = inr (by.0, by.1, by.2, by.3, doing_begun acts end other (record from { files = by.1 }) by.0 hand now by.4)
 
 do_then : (acts : List Act) (end : Option Refusal) (from : Outside) (files : World) → Follows acts from.files files → EndsBy (AreDoneThen acts end) from acts (record from { files = files }) end
 do_then [] end from files same = record { acts_none = refl; same = ap (λ (w : World). record from { files = w }) same; ends = refl }

@@ -12,6 +12,7 @@ pub mod OpeningLemmas
 pub mod PartLemmas
 pub mod PhaseLemmas
 pub mod ReasonLemmas
+pub mod RoomLemmas
 pub mod RowLemmas
 pub mod SameViewLemmas
 pub mod SeenAgainLemmas

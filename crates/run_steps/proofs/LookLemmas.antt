@@ -11,33 +11,33 @@ use Rattle.refusals.specs.Outcome.{Outcome, Passed, Refused}
 use Rattle.run_steps.specs.Act.{Act}
 use Rattle.run_steps.specs.Done.{Outside}
 use Rattle.run_steps.specs.Naming.{names_of_file, names_seen}
-use Rattle.run_steps.specs.SameViews.{FileAsked, IsSameFile, LooksAlike, Opens}
+use Rattle.run_steps.specs.SameViews.{FileAsked, IsSameFile, LooksAlikeBy, Opens}
 use Rattle.run_steps.specs.Steps.{AreDoneThen, Naming, Opening, Steps, Then}
 use Rattle.run_steps.specs.Taking.{Taking, file_said}
 
 -- Their looks are alike.
 
-pub alike_then : {V : Type 0} (one other : World) (outcome : Outcome V) (next : V → Steps) → ((value : V) → LooksAlike one other (next value)) → LooksAlike one other (Then outcome next)
-alike_then one other (Passed value) next each = each value
-alike_then one other (Refused refusal) next each = tt
+pub alike_then : {V : Type 0} (rooms : Bool) (one other : World) (outcome : Outcome V) (next : V → Steps) → ((value : V) → LooksAlikeBy rooms one other (next value)) → LooksAlikeBy rooms one other (Then outcome next)
+alike_then rooms one other (Passed value) next each = each value
+alike_then rooms one other (Refused refusal) next each = tt
 
-pub alike_done : (one other : World) (acts : List Act) (end : Option Refusal) → LooksAlike one other (AreDoneThen acts end)
-alike_done one other [] end = tt
-alike_done one other (act ∷ acts) end = alike_done one other acts end
+pub alike_done : (rooms : Bool) (one other : World) (acts : List Act) (end : Option Refusal) → LooksAlikeBy rooms one other (AreDoneThen acts end)
+alike_done rooms one other [] end = tt
+alike_done rooms one other (act ∷ acts) end = alike_done rooms one other acts end
 
 -- the file of names is the same
-pub alike_naming : (one other : World) (kind : Kind) (names : Option (List ℕ)) (next : List NameLine → Steps) → IsSameFile one other names
-    → ((lines : List NameLine) → LooksAlike one other (next lines)) → LooksAlike one other (Naming kind names next)
-alike_naming one other kind None next same each = (refl, each [])
-alike_naming one other kind (Some name) next same each =
-    (ap (λ (file : Option (List ℕ)). Then (names_of_file kind name file) next) same, alike_then one other (names_of_file kind name (one name)) next each)
+pub alike_naming : (rooms : Bool) (one other : World) (kind : Kind) (names : Option (List ℕ)) (next : List NameLine → Steps) → IsSameFile one other names
+    → ((lines : List NameLine) → LooksAlikeBy rooms one other (next lines)) → LooksAlikeBy rooms one other (Naming kind names next)
+alike_naming rooms one other kind None next same each = (inl refl, each [])
+alike_naming rooms one other kind (Some name) next same each =
+    (inl (ap (λ (file : Option (List ℕ)). Then (names_of_file kind name file) next) same), alike_then rooms one other (names_of_file kind name (one name)) next each)
 
 -- the file of an input is the same
-pub alike_taking : {V : Type 0} (one other : World) (from : Option (List ℕ)) (is_whole : V → Bool) (read : List ℕ → Outcome V) (next : V → Steps) → IsSameFile one other from
-    → ((value : V) → LooksAlike one other (next value)) → LooksAlike one other (Taking from is_whole read next)
-alike_taking one other None is_whole read next same each = λ bytes. alike_then one other (read bytes) next each
-alike_taking one other (Some name) is_whole read next same each =
-    (ap (λ (file : Option (List ℕ)). Then (file_said name read file) next) same, alike_then one other (file_said name read (one name)) next each)
+pub alike_taking : {V : Type 0} (rooms : Bool) (one other : World) (from : Option (List ℕ)) (is_whole : V → Bool) (read : List ℕ → Outcome V) (next : V → Steps) → IsSameFile one other from
+    → ((value : V) → LooksAlikeBy rooms one other (next value)) → LooksAlikeBy rooms one other (Taking from is_whole read next)
+alike_taking rooms one other None is_whole read next same each = λ bytes. alike_then rooms one other (read bytes) next each
+alike_taking rooms one other (Some name) is_whole read next same each =
+    (inl (ap (λ (file : Option (List ℕ)). Then (file_said name read file) next) same), alike_then rooms one other (file_said name read (one name)) next each)
 
 -- The files that they open.
 

@@ -1,173 +1,21 @@
--- Steps that do the same acts and end so, whatever their looks at the files see: they mean what these acts do, and then this end.
-use Rattle.std.proofs.Common.{◌≡◌, inl, inr, ℕ, Bool, true, List, [], ◌∷◌, ◌++◌, Option, None, Some, Result, refl, sym, subst, ◌∙◌}
+-- A look at the files, and acts that are done before other steps.
+use Rattle.std.proofs.Common.{inl, inr, ℕ, Bool, true, List, [], ◌∷◌, ◌++◌, Option, None, Some, Result, refl, ap, subst}
 use Rattle.std.specs.Prelude.{◌&&◌}
-use Rattle.std.proofs.lemmas.Option.{none-some}
-use Rattle.std.proofs.lemmas.Result.{IfErr-weaker, on_ok_weaker}
 use Rattle.quota_blocks.specs.World.{World}
 use Rattle.outside.proofs.FrameLemmas.{only_reads-none}
 use Rattle.refusals.specs.declared.cause.Cause.{Cause}
 use Rattle.refusals.specs.declared.reason.Refusal.{Refusal}
+use Rattle.refusals.specs.Outcome.{Outcome, Passed, Refused}
 use Rattle.run_steps.specs.Act.{Act, Follows}
 use Rattle.run_steps.specs.Done.{Outside, RunSeen, RunTells, outside_of}
 use Rattle.run_steps.specs.Meaning.{EndsBy, HasBegun, IsSure}
-use Rattle.run_steps.specs.OneCommand.{LooksFirst, ReadsToEnd, leaves_files}
-use Rattle.run_steps.specs.Run.{CarriesOut, HasSteps, Uses}
-use Rattle.run_steps.specs.SameViews.{FileAsked, LooksAlike, Opens}
-use Rattle.run_steps.specs.Steps.{AreDoneThen, DoingAll, Steps, Ending, Doing, Looking, Opening, Reading, Receiving, Before, InLine}
+use Rattle.run_steps.specs.OneCommand.{LooksFirstBy, ReadsToEnd, leaves_files}
+use Rattle.run_steps.specs.Run.{CarriesOut, HasSteps, IsDoneInPart, Uses}
+use Rattle.run_steps.specs.SameViews.{FileAsked, LooksAlikeBy, Opens}
+use Rattle.run_steps.specs.Steps.{DoingAll, Ending, Looking, Steps, Then}
 use Rattle.run_steps.proofs.PartLemmas.{part_from}
 use Rattle.run_steps.proofs.PhaseLemmas.{carries_on, leads_looking}
-use Rattle.run_steps.proofs.ReasonLemmas.{reason_but_stated}
-
--- whatever their looks see, steps do these acts, and then they end so; they do nothing but look and act
-abbrev pub DoOnly : List Act → Option Refusal → Steps → Type 0
-DoOnly acts end (Ending stated) = (acts ≡ []) × (stated ≡ end)
-DoOnly acts end (Doing act next) = (rest : List Act) × (acts ≡ act ∷ rest) × DoOnly rest end next
-DoOnly acts end (Looking next) = (files : World) → DoOnly acts end (next files)
-DoOnly acts end _ = ⊥
-
--- acts that are done, and then such steps
-pub only_behind : (acts rest : List Act) (end : Option Refusal) (next : Steps) → DoOnly rest end next → DoOnly (acts ++ rest) end (DoingAll acts next)
-only_behind [] rest end next only = only
-only_behind (act ∷ acts) rest end next only = (acts ++ rest, refl, only_behind acts rest end next only)
-
--- How they end.
-
-pub only_ends : (acts : List Act) (end : Option Refusal) (steps : Steps) (old : Outside) (done : List Act) (new : Outside) (refusal : Option Refusal) → DoOnly acts end steps
-    → EndsBy steps old done new refusal → EndsBy (AreDoneThen acts end) old done new refusal
-only_ends acts end (Ending stated) old done new refusal only by =
-    subst (λ (a : List Act). EndsBy (AreDoneThen a end) old done new refusal) (sym only.0)
-    (record { acts_none = by.acts_none; same = by.same; ends = by.ends ∙ only.1 })
-only_ends acts end (Doing act next) old done new refusal only by =
-    subst (λ (a : List Act). EndsBy (AreDoneThen a end) old done new refusal) (sym only.1)
-    (by.0, by.1, by.2, by.3, only_ends only.0 end next (record old { files = by.1 }) by.0 new refusal only.2 by.4)
-only_ends acts end (Looking next) old done new refusal only by = only_ends acts end (next old.files) old done new refusal (only old.files) by
-only_ends acts end (Opening kind asked name next) old done new refusal only by = absurd only
-only_ends acts end (Reading whole next) old done new refusal only by = absurd only
-only_ends acts end (Receiving next) old done new refusal only by = absurd only
-only_ends acts end (Before one others) old done new refusal only by = absurd only
-only_ends acts end (InLine line steps) old done new refusal only by = absurd only
-
-pub only_ended : (acts : List Act) (end : Option Refusal) (steps : Steps) (old : Outside) (done : List Act) (new : Outside) (refusal : Option Refusal) → DoOnly acts end steps
-    → EndsBy (AreDoneThen acts end) old done new refusal → EndsBy steps old done new refusal
-only_ended acts end (Ending stated) old done new refusal only by =
-    let is = subst (λ (a : List Act). EndsBy (AreDoneThen a end) old done new refusal) only.0 by in
-    record { acts_none = is.acts_none; same = is.same; ends = is.ends ∙ sym only.1 }
-only_ended acts end (Doing act next) old done new refusal only by =
-    let is = subst (λ (a : List Act). EndsBy (AreDoneThen a end) old done new refusal) only.1 by in
-    (is.0, is.1, is.2, is.3, only_ended only.0 end next (record old { files = is.1 }) is.0 new refusal only.2 is.4)
-only_ended acts end (Looking next) old done new refusal only by = only_ended acts end (next old.files) old done new refusal (only old.files) by
-only_ended acts end (Opening kind asked name next) old done new refusal only by = absurd only
-only_ended acts end (Reading whole next) old done new refusal only by = absurd only
-only_ended acts end (Receiving next) old done new refusal only by = absurd only
-only_ended acts end (Before one others) old done new refusal only by = absurd only
-only_ended acts end (InLine line steps) old done new refusal only by = absurd only
-
--- How far they have begun.
-
-pub only_begins : (acts : List Act) (end : Option Refusal) (steps : Steps) (old : Outside) (done hand : List Act) (now : Outside) → DoOnly acts end steps
-    → HasBegun steps old done hand now → HasBegun (AreDoneThen acts end) old done hand now
-only_begins acts end (Ending stated) old done hand now only by = subst (λ (a : List Act). HasBegun (AreDoneThen a end) old done hand now) (sym only.0) by
-only_begins acts end (Doing act next) old done hand now only (inl is) = subst (λ (a : List Act). HasBegun (AreDoneThen a end) old done hand now) (sym only.1) (inl is)
-only_begins acts end (Doing act next) old done hand now only (inr by) =
-    subst (λ (a : List Act). HasBegun (AreDoneThen a end) old done hand now) (sym only.1)
-    (inr (by.0, by.1, by.2, by.3, only_begins only.0 end next (record old { files = by.1 }) by.0 hand now only.2 by.4))
-only_begins acts end (Looking next) old done hand now only by = only_begins acts end (next old.files) old done hand now (only old.files) by
-only_begins acts end (Opening kind asked name next) old done hand now only by = absurd only
-only_begins acts end (Reading whole next) old done hand now only by = absurd only
-only_begins acts end (Receiving next) old done hand now only by = absurd only
-only_begins acts end (Before one others) old done hand now only by = absurd only
-only_begins acts end (InLine line steps) old done hand now only by = absurd only
-
-pub only_begun : (acts : List Act) (end : Option Refusal) (steps : Steps) (old : Outside) (done hand : List Act) (now : Outside) → DoOnly acts end steps
-    → HasBegun (AreDoneThen acts end) old done hand now → HasBegun steps old done hand now
-only_begun acts end (Ending stated) old done hand now only by = subst (λ (a : List Act). HasBegun (AreDoneThen a end) old done hand now) only.0 by
-only_begun acts end (Doing act next) old done hand now only by =
-    elim (subst (λ (a : List Act). HasBegun (AreDoneThen a end) old done hand now) only.1 by) [
-      | inl is ↦ inl is
-      | inr more ↦ inr (more.0, more.1, more.2, more.3, only_begun only.0 end next (record old { files = more.1 }) more.0 hand now only.2 more.4)
-    ]
-only_begun acts end (Looking next) old done hand now only by = only_begun acts end (next old.files) old done hand now (only old.files) by
-only_begun acts end (Opening kind asked name next) old done hand now only by = absurd only
-only_begun acts end (Reading whole next) old done hand now only by = absurd only
-only_begun acts end (Receiving next) old done hand now only by = absurd only
-only_begun acts end (Before one others) old done hand now only by = absurd only
-only_begun acts end (InLine line steps) old done hand now only by = absurd only
-
--- Steps of single commands.
-
--- where they end with a refusal, they never pass
-pub only_stopped : (acts : List Act) (refusal : Refusal) (steps : Steps) → DoOnly acts (Some refusal) steps → ReadsToEnd steps
-only_stopped acts refusal (Ending None) only = absurd (none-some refusal only.1)
-only_stopped acts refusal (Ending (Some other)) only = tt
-only_stopped acts refusal (Doing act next) only = only_stopped only.0 refusal next only.2
-only_stopped acts refusal (Looking next) only = λ files. only_stopped acts refusal (next files) (only files)
-only_stopped acts refusal (Opening kind asked name next) only = absurd only
-only_stopped acts refusal (Reading whole next) only = absurd only
-only_stopped acts refusal (Receiving next) only = absurd only
-only_stopped acts refusal (Before one others) only = absurd only
-only_stopped acts refusal (InLine line steps) only = absurd only
-
--- they open no file
-pub only_opens : (holds : Type 0) (acts : List Act) (end : Option Refusal) (steps : Steps) (old : Outside) (file : FileAsked) → DoOnly acts end steps → Opens steps old file → holds
-only_opens holds acts end (Ending stated) old file only opens = absurd opens
-only_opens holds acts end (Doing act next) old file only opens = only_opens holds only.0 end next old file only.2 opens
-only_opens holds acts end (Looking next) old file only opens = only_opens holds acts end (next old.files) old file (only old.files) opens
-only_opens holds acts end (Opening kind asked name next) old file only opens = absurd only
-only_opens holds acts end (Reading whole next) old file only opens = absurd only
-only_opens holds acts end (Receiving next) old file only opens = absurd only
-only_opens holds acts end (Before one others) old file only opens = absurd only
-only_opens holds acts end (InLine line steps) old file only opens = absurd only
-
--- What a command does whose steps are these.
-
-pub only_steps : (acts : List Act) (end : Option Refusal) (steps : Steps) (tells : RunTells) (refusal : Option Refusal) (old new : RunSeen) → DoOnly acts end steps
-    → HasSteps (AreDoneThen acts end) tells refusal old new → HasSteps steps tells refusal old new
-only_steps acts end steps tells refusal old new only has = record {
-  acts = has.acts;
-  by_steps = only_ended acts end steps (outside_of old) has.acts (outside_of new) refusal only has.by_steps;
-  done = has.done;
-}
-
-steps_only : (acts : List Act) (end : Option Refusal) (steps : Steps) (tells : RunTells) (refusal : Option Refusal) (old new : RunSeen) → DoOnly acts end steps
-    → HasSteps steps tells refusal old new → HasSteps (AreDoneThen acts end) tells refusal old new
-steps_only acts end steps tells refusal old new only has = record {
-  acts = has.acts;
-  by_steps = only_ends acts end steps (outside_of old) has.acts (outside_of new) refusal only has.by_steps;
-  done = has.done;
-}
-
-pub only_carried : (acts : List Act) (end : Option Refusal) (steps : Steps) (uses : Uses) (may : Cause → List ℕ → Type 0) (tells : RunTells) (old new : RunSeen) (result : Result (Unit {0}) Refusal) → DoOnly acts end steps
-    → CarriesOut (AreDoneThen acts end) uses may tells old new result → CarriesOut steps uses may tells old new result
-only_carried acts end steps uses may tells old new result only carries = record {
-  done = on_ok_weaker result (λ has told. only_steps acts end steps tells None old new only (has told)) carries.done;
-  refused = IfErr-weaker result _ _ (λ refusal reason.
-      reason_but_stated uses old new _ _ refusal.cause (λ has told. only_steps acts end steps tells (Some refusal) old new only (has told)) reason) carries.refused;
-  part = λ told. part_from (AreDoneThen acts end) steps tells old old.store old.input new refl
-      (λ done hand now by. only_begun acts end steps (outside_of old) done hand now only by) (carries.part told);
-  may_refuse = carries.may_refuse;
-  placed = carries.placed;
-  only_reads = carries.only_reads;
-  all_or_nothing = carries.all_or_nothing;
-  quiet = carries.quiet;
-  later = carries.later;
-}
-
--- and the other way round: what was carried out of these steps was done by the acts
-pub only_carries : (acts : List Act) (end : Option Refusal) (steps : Steps) (uses : Uses) (may : Cause → List ℕ → Type 0) (tells : RunTells) (old new : RunSeen) (result : Result (Unit {0}) Refusal) → DoOnly acts end steps
-    → CarriesOut steps uses may tells old new result → CarriesOut (AreDoneThen acts end) uses may tells old new result
-only_carries acts end steps uses may tells old new result only carries = record {
-  done = on_ok_weaker result (λ has told. steps_only acts end steps tells None old new only (has told)) carries.done;
-  refused = IfErr-weaker result _ _ (λ refusal reason.
-      reason_but_stated uses old new _ _ refusal.cause (λ has told. steps_only acts end steps tells (Some refusal) old new only (has told)) reason) carries.refused;
-  part = λ told. part_from steps (AreDoneThen acts end) tells old old.store old.input new refl
-      (λ done hand now by. only_begins acts end steps (outside_of old) done hand now only by) (carries.part told);
-  may_refuse = carries.may_refuse;
-  placed = carries.placed;
-  only_reads = carries.only_reads;
-  all_or_nothing = carries.all_or_nothing;
-  quiet = carries.quiet;
-  later = carries.later;
-}
+use Rattle.run_steps.proofs.RowLemmas.{LeadsBy}
 
 -- what was carried out of the steps that come of a look was carried out of the look and these steps
 pub carries_looking : (next : World → Steps) (uses : Uses) (may : Cause → List ℕ → Type 0) (tells : RunTells) (old new : RunSeen) (result : Result (Unit {0}) Refusal)
@@ -178,17 +26,101 @@ carries_looking next uses may tells old new result carries =
 
 -- Acts that are done, and then other steps.
 
-pub alike_doing : (one other : World) (acts : List Act) (next : Steps) → LooksAlike one other next → LooksAlike one other (DoingAll acts next)
-alike_doing one other [] next alike = alike
-alike_doing one other (act ∷ acts) next alike = alike_doing one other acts next alike
+-- acts that were done lead to the steps behind them
+pub leads_doing : (acts : List Act) (next : Steps) (from : Outside) (files : World) → Follows acts from.files files → LeadsBy acts next (record from { files = files }) (DoingAll acts next) from
+leads_doing [] next from files same = record {
+  ends = λ more to ended by. subst (λ (w : World). EndsBy next (record from { files = w }) more to ended) same by;
+  begun = λ done hand now by. subst (λ (w : World). HasBegun next (record from { files = w }) done hand now) same by;
+}
+leads_doing (act ∷ acts) next from files follows =
+    let rest = leads_doing acts next (record from { files = follows.0 }) files follows.2 in
+    record {
+      ends = λ more to ended by. (acts ++ more, follows.0, refl, follows.1, rest.ends more to ended by);
+      begun = λ done hand now by. inr (acts ++ done, follows.0, refl, follows.1, rest.begun done hand now by);
+    }
+
+pub alike_doing : (rooms : Bool) (one other : World) (acts : List Act) (next : Steps) → LooksAlikeBy rooms one other next → LooksAlikeBy rooms one other (DoingAll acts next)
+alike_doing rooms one other [] next alike = alike
+alike_doing rooms one other (act ∷ acts) next alike = alike_doing rooms one other acts next alike
 
 -- they look first where the steps behind them do, also if no file may be looked at then
-pub looks_doing : (looks takes : Bool) (acts : List Act) (next : Steps) → ((may : Bool) → LooksFirst may takes next) → LooksFirst looks takes (DoingAll acts next)
-looks_doing looks takes [] next each = each looks
-looks_doing looks takes (act ∷ acts) next each = looks_doing (looks && leaves_files act) takes acts next each
+pub looks_doing : (rooms looks takes : Bool) (acts : List Act) (next : Steps) → ((may : Bool) → LooksFirstBy rooms may takes next) → LooksFirstBy rooms looks takes (DoingAll acts next)
+looks_doing rooms looks takes [] next each = each looks
+looks_doing rooms looks takes (act ∷ acts) next each = looks_doing rooms (looks && leaves_files act) takes acts next each
+
+-- the standard input is read to its end where the steps behind them do so
+pub reads_doing : (acts : List Act) (next : Steps) → ReadsToEnd next → ReadsToEnd (DoingAll acts next)
+reads_doing [] next reads = reads
+reads_doing (act ∷ acts) next reads = reads_doing acts next reads
+
+-- they open the files of the steps behind them
+pub opens_doing : (acts : List Act) (next : Steps) (old : Outside) (file : FileAsked) → Opens (DoingAll acts next) old file → Opens next old file
+opens_doing [] next old file opens = opens
+opens_doing (act ∷ acts) next old file opens = opens_doing acts next old file opens
 
 -- they are sure where the steps behind them are, whatever files the acts leave
 pub sure_doing : (acts : List Act) (next : Steps) (old : Outside) → ((files : World) → Follows acts old.files files → IsSure next (record old { files = files })) → IsSure (DoingAll acts next) old
 sure_doing [] next old each = each old.files refl
 sure_doing (act ∷ acts) next old each = λ middle follows.
     sure_doing acts next (record old { files = middle }) (λ files more. each files (middle, follows, more))
+
+-- Steps that are the same but for what comes behind them.
+
+-- the first of two refusals
+abbrev pub first_of : Option Refusal → Option Refusal → Option Refusal
+first_of (Some refusal) other = Some refusal
+first_of None other = other
+
+-- Other steps do what these do, and where these pass, they end with this refusal, if there is one.
+pub record AddsEnd (behind : Option Refusal) (steps other : Steps) : Type 0 where
+  pub ends : (old : Outside) (acts : List Act) (new : Outside) (refusal : Option Refusal) → EndsBy steps old acts new refusal → EndsBy other old acts new (first_of refusal behind)
+  pub begun : (old : Outside) (done hand : List Act) (now : Outside) → HasBegun steps old done hand now → HasBegun other old done hand now
+
+-- where nothing is left to be done
+pub adds_none : (behind : Option Refusal) → AddsEnd behind (Ending None) (Ending behind)
+adds_none behind = record {
+  ends = λ old acts new refusal is. record { acts_none = is.acts_none; same = is.same; ends = ap (λ (r : Option Refusal). first_of r behind) is.ends };
+  begun = λ old done hand now is. is;
+}
+
+-- behind acts
+adds_doing : (behind : Option Refusal) (acts : List Act) (steps other : Steps) → AddsEnd behind steps other → AddsEnd behind (DoingAll acts steps) (DoingAll acts other)
+adds_doing behind [] steps other adds = adds
+adds_doing behind (act ∷ acts) steps other adds =
+    let rest = adds_doing behind acts steps other adds in
+    record {
+      ends = λ old all new refusal by. (by.0, by.1, by.2, by.3, rest.ends (record old { files = by.1 }) by.0 new refusal by.4);
+      begun = λ old done hand now begun. elim begun [
+        | inl is ↦ inl is
+        | inr by ↦ inr (by.0, by.1, by.2, by.3, rest.begun (record old { files = by.1 }) by.0 hand now by.4)
+      ];
+    }
+
+-- behind the acts of a step that passed
+pub adds_then : (behind : Option Refusal) (outcome : Outcome (List Act)) (steps other : Steps) → AddsEnd behind steps other
+    → AddsEnd behind (Then outcome (λ (acts : List Act). DoingAll acts steps)) (Then outcome (λ (acts : List Act). DoingAll acts other))
+adds_then behind (Passed acts) steps other adds = adds_doing behind acts steps other adds
+adds_then behind (Refused stop) steps other adds = record {
+  ends = λ old acts new refusal is. record { acts_none = is.acts_none; same = is.same; ends = ap (λ (r : Option Refusal). first_of r behind) is.ends };
+  begun = λ old done hand now is. is;
+}
+
+-- behind a look
+pub adds_looking : (behind : Option Refusal) (next also : World → Steps) → ((files : World) → AddsEnd behind (next files) (also files)) → AddsEnd behind (Looking next) (Looking also)
+adds_looking behind next also each = record {
+  ends = λ old acts new refusal by. (each old.files).ends old acts new refusal by;
+  begun = λ old done hand now by. (each old.files).begun old done hand now by;
+}
+
+-- what was done whole
+pub steps_adding : (behind : Option Refusal) (steps other : Steps) (tells : RunTells) (ended : Option Refusal) (old new : RunSeen) → AddsEnd behind steps other → HasSteps steps tells ended old new
+    → HasSteps other tells (first_of ended behind) old new
+steps_adding behind steps other tells ended old new adds has = record {
+  acts = has.acts;
+  by_steps = adds.ends (outside_of old) has.acts (outside_of new) ended has.by_steps;
+  done = has.done;
+}
+
+-- and what was done in part
+pub part_adding : (behind : Option Refusal) (steps other : Steps) (tells : RunTells) (old new : RunSeen) → AddsEnd behind steps other → IsDoneInPart steps tells old new → IsDoneInPart other tells old new
+part_adding behind steps other tells old new adds part = part_from steps other tells old old.store old.input new refl (adds.begun (outside_of old)) part

@@ -15,9 +15,10 @@ use Rattle.refusals.specs.Refusals.{in_line}
 use Rattle.run_steps.specs.Act.{Act, Change, Replace, Follows, FollowsAct}
 use Rattle.run_steps.specs.Done.{Outside}
 use Rattle.run_steps.specs.Meaning.{EndsBy, HasBegun, IsSure}
-use Rattle.run_steps.specs.OneCommand.{AreReceived, IsFirstPart, LooksFirst, ReadsToEnd, Receives, RestsOnNone, leaves_files}
+use Rattle.run_steps.specs.OneCommand.{AreReceived, AreSameSteps, IsFirstPart, LooksFirst, LooksFirstBy, ReadsToEnd, Receives, RestsOnNone, UnlessFull, leaves_files}
 use Rattle.run_steps.specs.Steps.{Steps, Ending, Doing, Looking, Opening, Reading, Receiving, Before, InLine}
 use Rattle.run_steps.proofs.ActLemmas.{follows-append}
+use Rattle.run_steps.proofs.RoomLemmas.{full_begun, full_ended, full_in_line, strictly, unless_full}
 use Rattle.run_steps.proofs.SeenOnceLemmas.{seen_once}
 
 -- What has ended has begun.
@@ -153,50 +154,81 @@ seen_both : (kind : Kind) (asked : Option Format) (name : List ℕ) (one other :
 seen_both kind asked name one other value value' same view view' =
     seen_once (other name) kind asked value value' (subst (λ (w : World). IsView (w name) kind asked (Ok value)) same view) view'
 
--- the same steps come of a look at files that are the same, and of one that rests on none
-pub same_looked : (looks : Bool) (next : World → Steps) (one other : World) → IsTrue looks ⊎ RestsOnNone next → (IsTrue looks → one ≡ other) → next one ≡ next other
-same_looked looks next one other (inl may) same = ap next (same may)
-same_looked looks next one other (inr rests) same = rests one other
+-- the same steps come of a look at files that are the same, and of one that rests on none, but for want of room
+pub same_looked : (rooms looks : Bool) (next : World → Steps) (one other : World) → IsTrue looks ⊎ RestsOnNone rooms next → (IsTrue looks → one ≡ other) → AreSameSteps rooms (next one) (next other)
+same_looked rooms looks next one other (inl may) same = inl (ap next (same may))
+same_looked rooms looks next one other (inr rests) same = rests one other
 
--- what has begun is a first part of every end of the same steps
-pub first_part : (looks takes : Bool) (steps : Steps) (one other : Outside) (done hand acts : List Act) (now new : Outside) (refusal : Option Refusal)
-    → LooksFirst looks takes steps → LooksSame looks takes one other → HasBegun steps one done hand now → EndsBy steps other acts new refusal → IsFirstPart done hand acts
-first_part looks takes (Ending stated) one other done hand acts now new refusal first same begun ends = first_none done hand acts begun.done_none begun.at_hand
-first_part looks takes (Doing act next) one other done hand acts now new refusal first same (inl is) ends = record {
+-- what has begun of a look, and an end of it
+looked_part : (rooms : Bool) (here there : Steps) (one other : Outside) (done hand acts : List Act) (now new : Outside) (refusal : Option Refusal) → AreSameSteps rooms here there
+    → HasBegun here one done hand now → EndsBy there other acts new refusal
+    → (HasBegun there one done hand now → UnlessFull rooms refusal (IsFirstPart done hand acts)) → UnlessFull rooms refusal (IsFirstPart done hand acts)
+looked_part rooms here there one other done hand acts now new refusal (inl same) begun ends rest = rest (subst (λ (s : Steps). HasBegun s one done hand now) same begun)
+looked_part rooms here there one other done hand acts now new refusal (inr (is, inl full)) begun ends rest =
+    let at = full_begun here one done hand now full begun in
+    inl (first_none done hand acts at.done_none at.at_hand)
+looked_part rooms here there one other done hand acts now new refusal (inr (is, inr full)) begun ends rest = inr (is, full_ended there other acts new refusal full ends)
+
+-- what has begun is a first part of every end of the same steps, but for ends for want of room
+pub first_part : (rooms looks takes : Bool) (steps : Steps) (one other : Outside) (done hand acts : List Act) (now new : Outside) (refusal : Option Refusal)
+    → LooksFirstBy rooms looks takes steps → LooksSame looks takes one other → HasBegun steps one done hand now → EndsBy steps other acts new refusal
+    → UnlessFull rooms refusal (IsFirstPart done hand acts)
+first_part rooms looks takes (Ending stated) one other done hand acts now new refusal first same begun ends = inl (first_none done hand acts begun.done_none begun.at_hand)
+first_part rooms looks takes (Doing act next) one other done hand acts now new refusal first same (inl is) ends = inl (record {
   rest = acts;
   whole = ap (λ (d : List Act). d ++ acts) (sym is.done_none);
   next = inr (is.at_hand ∙ ap (λ (a : List Act). take 1 a) (sym ends.2));
-}
-first_part looks takes (Doing act next) one other done hand acts now new refusal first same (inr by) ends =
-    let part = first_part (looks && leaves_files act) takes next (record one { files = by.1 }) (record other { files = ends.1 }) by.0 hand ends.0 now new refusal first
-    (same_done looks takes act one other by.1 ends.1 same by.3 ends.3) by.4 ends.4 in
-    record {
+})
+first_part rooms looks takes (Doing act next) one other done hand acts now new refusal first same (inr by) ends =
+    unless_full rooms refusal refusal (λ full. full) (λ (part : IsFirstPart by.0 hand ends.0). record {
       rest = part.rest;
       whole = ends.2 ∙ ap (λ (a : List Act). act ∷ a) part.whole ∙ ap (λ (d : List Act). d ++ part.rest) (sym by.2);
       next = part.next;
-    }
-first_part looks takes (Looking next) one other done hand acts now new refusal first same begun ends =
-    first_part looks takes (next other.files) one other done hand acts now new refusal (first.1 other.files) same
-    (subst (λ (s : Steps). HasBegun s one done hand now) (same_looked looks next one.files other.files first.0 same.files) begun) ends
-first_part looks takes (Opening kind asked name next) one other done hand acts now new refusal first same (inl is) ends = first_none done hand acts is.done_none is.at_hand
-first_part looks takes (Opening kind asked name next) one other done hand acts now new refusal first same (inr by) (inl seen) =
-    first_part looks takes (next seen.0) one other done hand acts now new refusal (first.1 seen.0) same
+    })
+    (first_part rooms (looks && leaves_files act) takes next (record one { files = by.1 }) (record other { files = ends.1 }) by.0 hand ends.0 now new refusal first
+    (same_done looks takes act one other by.1 ends.1 same by.3 ends.3) by.4 ends.4)
+first_part rooms looks takes (Looking next) one other done hand acts now new refusal first same begun ends =
+    looked_part rooms (next one.files) (next other.files) one other done hand acts now new refusal (same_looked rooms looks next one.files other.files first.0 same.files) begun ends
+    (λ from. first_part rooms looks takes (next other.files) one other done hand acts now new refusal (first.1 other.files) same from ends)
+first_part rooms looks takes (Opening kind asked name next) one other done hand acts now new refusal first same (inl is) ends = inl (first_none done hand acts is.done_none is.at_hand)
+first_part rooms looks takes (Opening kind asked name next) one other done hand acts now new refusal first same (inr by) (inl seen) =
+    first_part rooms looks takes (next seen.0) one other done hand acts now new refusal (first.1 seen.0) same
     (subst (λ (v : QuotaValue). HasBegun (next v) one done hand now) (seen_both kind asked name one.files other.files by.0 seen.0 (same.files first.0) by.1 seen.1) by.2) seen.2
-first_part looks takes (Opening kind asked name next) one other done hand acts now new refusal first same (inr by) (inr bad) =
+first_part rooms looks takes (Opening kind asked name next) one other done hand acts now new refusal first same (inr by) (inr bad) =
     absurd (view_or_refused (other.files name) kind asked by.0 bad.0 (subst (λ (w : World). IsView (w name) kind asked (Ok by.0)) (same.files first.0) by.1) bad.1)
-first_part looks takes (Reading whole next) one other done hand acts now new refusal first same (inl is) ends = first_none done hand acts is.done_none is.at_hand
-first_part looks takes (Reading whole next) one other done hand acts now new refusal first same (inr by) ends =
-    first_part looks false (next other.input) (record one { input = by.0 }) (record other { input = ends.0 }) done hand acts now new refusal (first.1 other.input)
+first_part rooms looks takes (Reading whole next) one other done hand acts now new refusal first same (inl is) ends = inl (first_none done hand acts is.done_none is.at_hand)
+first_part rooms looks takes (Reading whole next) one other done hand acts now new refusal first same (inr by) ends =
+    first_part rooms looks false (next other.input) (record one { input = by.0 }) (record other { input = ends.0 }) done hand acts now new refusal (first.1 other.input)
     (same_taken looks takes one other by.0 ends.0 same)
     (subst (λ (b : List ℕ). HasBegun (next b) (record one { input = by.0 }) done hand now) (same.input first.0) by.2) ends.2
-first_part looks takes (Receiving next) one other done hand acts now new refusal first same (inl is) ends = first_none done hand acts is.done_none is.at_hand
-first_part looks takes (Receiving next) one other done hand acts now new refusal first same (inr by) ends =
+first_part rooms looks takes (Receiving next) one other done hand acts now new refusal first same (inl is) ends = inl (first_none done hand acts is.done_none is.at_hand)
+first_part rooms looks takes (Receiving next) one other done hand acts now new refusal first same (inr by) ends =
     let left = same_received looks takes one other by.0 ends.0 by.1 ends.1 same by.2 ends.2 in
-    first_part looks takes (next ends.0) (record one { datagrams = by.1 }) (record other { datagrams = ends.1 }) done hand acts now new refusal (first ends.0) left.1
+    first_part rooms looks takes (next ends.0) (record one { datagrams = by.1 }) (record other { datagrams = ends.1 }) done hand acts now new refusal (first ends.0) left.1
     (subst (λ (d : Datagram). HasBegun (next d) (record one { datagrams = by.1 }) done hand now) left.0 by.3) ends.3
-first_part looks takes (Before first_steps others) one other done hand acts now new refusal first same begun ends = absurd first
-first_part looks takes (InLine line steps) one other done hand acts now new refusal first same begun ends =
-    first_part looks takes steps one other done hand acts now new ends.0 first same begun ends.2
+first_part rooms looks takes (Before first_steps others) one other done hand acts now new refusal first same begun ends = absurd first
+first_part rooms looks takes (InLine line steps) one other done hand acts now new refusal first same begun ends =
+    unless_full rooms ends.0 refusal (full_in_line line ends.0 refusal ends.1) (λ (part : IsFirstPart done hand acts). part)
+    (first_part rooms looks takes steps one other done hand acts now new ends.0 first same begun ends.2)
+
+-- where room may count, steps that look first do so all the more
+pub looks_wider : (rooms more looks takes : Bool) (steps : Steps) → (IsTrue rooms → IsTrue more) → LooksFirstBy rooms looks takes steps → LooksFirstBy more looks takes steps
+looks_wider rooms more looks takes (Ending stated) wider first = tt
+looks_wider rooms more looks takes (Doing act next) wider first = looks_wider rooms more (looks && leaves_files act) takes next wider first
+looks_wider rooms more looks takes (Looking next) wider first = (looks_or_rests first.0, λ files. looks_wider rooms more looks takes (next files) wider (first.1 files))
+  where
+    rests_wider : (one other : Steps) → AreSameSteps rooms one other → AreSameSteps more one other
+    rests_wider one other (inl same) = inl same
+    rests_wider one other (inr full) = inr (wider full.0, full.1)
+
+    looks_or_rests : IsTrue looks ⊎ RestsOnNone rooms next → IsTrue looks ⊎ RestsOnNone more next
+    looks_or_rests (inl may) = inl may
+    looks_or_rests (inr rests) = inr (λ one other. rests_wider (next one) (next other) (rests one other))
+looks_wider rooms more looks takes (Opening kind asked name next) wider first = (first.0, λ value. looks_wider rooms more looks takes (next value) wider (first.1 value))
+looks_wider rooms more looks takes (Reading whole next) wider first = (first.0, λ bytes. looks_wider rooms more looks false (next bytes) wider (first.1 bytes))
+looks_wider rooms more looks takes (Receiving next) wider first = λ datagram. looks_wider rooms more looks takes (next datagram) wider (first datagram)
+looks_wider rooms more looks takes (Before one others) wider first = absurd first
+looks_wider rooms more looks takes (InLine line steps) wider first = looks_wider rooms more looks takes steps wider first
 
 -- a refusal in a line is none where there is none
 pub none_in_line : (line : ℕ) (own : Option Refusal) → None ≡ in_line line own → own ≡ None
@@ -212,7 +244,7 @@ passed_sure looks takes (Doing act next) one other acts new first same ends = λ
     (same_done looks takes act one other ends.1 middle same ends.3 follows) ends.4
 passed_sure looks takes (Looking next) one other acts new first same ends =
     passed_sure looks takes (next other.files) one other acts new (first.1 other.files) same
-    (subst (λ (s : Steps). EndsBy s one acts new None) (same_looked looks next one.files other.files first.0 same.files) ends)
+    (subst (λ (s : Steps). EndsBy s one acts new None) (strictly (next one.files) (next other.files) (same_looked false looks next one.files other.files first.0 same.files)) ends)
 passed_sure looks takes (Opening kind asked name next) one other acts new first same (inl seen) = (
   λ fault view. view_or_refused (other.files name) kind asked seen.0 fault (subst (λ (w : World). IsView (w name) kind asked (Ok seen.0)) (same.files first.0) seen.1) view,
   λ value view. passed_sure looks takes (next value) one other acts new (first.1 value) same

@@ -13,28 +13,29 @@ use Rattle.run_steps.specs.Act.{Act}
 use Rattle.run_steps.specs.Done.{Outside}
 use Rattle.run_steps.specs.Meaning.{IsSure}
 use Rattle.run_steps.specs.Naming.{names_seen}
-use Rattle.run_steps.specs.OneCommand.{LooksFirst, ReadsToEnd, leaves_files}
+use Rattle.run_steps.specs.OneCommand.{LooksFirstBy, ReadsToEnd, leaves_files}
 use Rattle.run_steps.specs.Steps.{AreDoneThen, Naming, Opening, Steps, Then}
 use Rattle.run_steps.specs.Taking.{Taking, file_said, input_said, reads_whole}
 use Rattle.run_steps.proofs.SeenOnceLemmas.{seen_once}
 
 -- They look first.
 
-pub looks_then : {V : Type 0} (looks takes : Bool) (outcome : Outcome V) (next : V → Steps) → ((value : V) → LooksFirst looks takes (next value)) → LooksFirst looks takes (Then outcome next)
-looks_then looks takes (Passed value) next each = each value
-looks_then looks takes (Refused refusal) next each = tt
+pub looks_then : {V : Type 0} (rooms looks takes : Bool) (outcome : Outcome V) (next : V → Steps) → ((value : V) → LooksFirstBy rooms looks takes (next value)) → LooksFirstBy rooms looks takes (Then outcome next)
+looks_then rooms looks takes (Passed value) next each = each value
+looks_then rooms looks takes (Refused refusal) next each = tt
 
-pub looks_done : (looks takes : Bool) (acts : List Act) (end : Option Refusal) → LooksFirst looks takes (AreDoneThen acts end)
-looks_done looks takes [] end = tt
-looks_done looks takes (act ∷ acts) end = looks_done (looks && leaves_files act) takes acts end
+pub looks_done : (rooms looks takes : Bool) (acts : List Act) (end : Option Refusal) → LooksFirstBy rooms looks takes (AreDoneThen acts end)
+looks_done rooms looks takes [] end = tt
+looks_done rooms looks takes (act ∷ acts) end = looks_done rooms (looks && leaves_files act) takes acts end
 
-pub looks_naming : (takes : Bool) (kind : Kind) (names : Option (List ℕ)) (next : List NameLine → Steps) → ((lines : List NameLine) → LooksFirst true takes (next lines)) → LooksFirst true takes (Naming kind names next)
-looks_naming takes kind names next each = (inl refl, λ files. looks_then true takes (names_seen kind names files) next each)
+pub looks_naming : (rooms takes : Bool) (kind : Kind) (names : Option (List ℕ)) (next : List NameLine → Steps) → ((lines : List NameLine) → LooksFirstBy rooms true takes (next lines))
+    → LooksFirstBy rooms true takes (Naming kind names next)
+looks_naming rooms takes kind names next each = (inl refl, λ files. looks_then rooms true takes (names_seen kind names files) next each)
 
-pub looks_taking : {V : Type 0} (from : Option (List ℕ)) (is_whole : V → Bool) (read : List ℕ → Outcome V) (next : V → Steps) → ((takes : Bool) (value : V) → LooksFirst true takes (next value))
-    → LooksFirst true true (Taking from is_whole read next)
-looks_taking None is_whole read next each = (refl, λ bytes. looks_then true false (read bytes) next (each false))
-looks_taking (Some name) is_whole read next each = (inl refl, λ files. looks_then true true (file_said name read (files name)) next (each true))
+pub looks_taking : {V : Type 0} (rooms : Bool) (from : Option (List ℕ)) (is_whole : V → Bool) (read : List ℕ → Outcome V) (next : V → Steps)
+    → ((takes : Bool) (value : V) → LooksFirstBy rooms true takes (next value)) → LooksFirstBy rooms true true (Taking from is_whole read next)
+looks_taking rooms None is_whole read next each = (refl, λ bytes. looks_then rooms true false (read bytes) next (each false))
+looks_taking rooms (Some name) is_whole read next each = (inl refl, λ files. looks_then rooms true true (file_said name read (files name)) next (each true))
 
 -- They read the standard input to its end.
 

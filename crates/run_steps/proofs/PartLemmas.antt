@@ -1,5 +1,5 @@
 -- Steps that were done in part.
-use Rattle.std.proofs.Common.{◌≡◌, ◌⊎◌, ℕ, true, false, IsTrue, List, [], ◌∷◌, ◌++◌, take, Option, None, Ok, inl, inr, refl, sym, ap, subst, ◌∙◌, append-nil}
+use Rattle.std.proofs.Common.{◌≡◌, ◌⊎◌, ℕ, Bool, true, false, IsTrue, List, [], ◌∷◌, ◌++◌, take, Option, None, Ok, inl, inr, refl, sym, ap, subst, ◌∙◌, append-nil}
 use Rattle.std.proofs.lemmas.Bool.{false≢true}
 use Rattle.quota_blocks.specs.Seen.{SinkSeen, SourceSeen, StoreSeen}
 use Rattle.quota_blocks.specs.Text.{AppendsPrefix}
@@ -9,11 +9,12 @@ use Rattle.refusals.specs.declared.reason.Refusal.{Refusal}
 use Rattle.run_steps.specs.Act.{Act, Change, Replace, ChangesNone, Follows, FollowsInPart, out_bytes, err_bytes}
 use Rattle.run_steps.specs.Done.{AreDoneInPart, IsLater, IsUnwritten, IsWorldTold, Outside, RunSeen, RunTells, outside_of}
 use Rattle.run_steps.specs.Meaning.{EndsBy, HasBegun}
-use Rattle.run_steps.specs.OneCommand.{LooksFirst}
+use Rattle.run_steps.specs.OneCommand.{IsFirstPart, LooksFirstBy, UnlessFull}
 use Rattle.run_steps.specs.Run.{CarriesOut, HasSteps, IsDoneInPart, Uses}
 use Rattle.run_steps.specs.Steps.{AreDoneThen, Steps}
 use Rattle.run_steps.proofs.ActLemmas.{appends_nothing, changes_none_before, none_appended, none_in_part}
 use Rattle.run_steps.proofs.MeaningLemmas.{begun_follow, ended_begun, first_part, looks_same, unbegun}
+use Rattle.run_steps.proofs.RoomLemmas.{unless_full}
 
 -- nothing was done
 pub nothing_begun : (steps : Steps) (tells : RunTells) (old new : RunSeen) → new.store.files ≡ old.store.files → (IsTrue tells.out → new.out.written ≡ old.out.written)
@@ -153,11 +154,10 @@ hand_none done hand rest (inl none) changes =
     subst (λ (a : List Act). ChangesNone (done ++ a)) (sym none) (subst (λ (a : List Act). ChangesNone a) (sym (append-nil done)) (changes_none_before done (take 1 rest) changes))
 hand_none done hand rest (inr first) changes = subst (λ (a : List Act). ChangesNone (done ++ a)) (sym first) changes
 
-pub part_of_end : (steps : Steps) (tells : RunTells) (old new : RunSeen) (acts : List Act) (to : Outside) (refusal : Option Refusal) → LooksFirst true true steps → IsDoneInPart steps tells old new
-    → EndsBy steps (outside_of old) acts to refusal → AreDoneInPart tells acts old new
-part_of_end steps tells old new acts to refusal looks part ends =
-    let first = first_part true true steps (outside_of old) (outside_of old) part.done part.hand acts part.now to refusal looks (looks_same true true (outside_of old)) part.begun ends in
-    record {
+pub part_of_end : (rooms : Bool) (steps : Steps) (tells : RunTells) (old new : RunSeen) (acts : List Act) (to : Outside) (refusal : Option Refusal) → LooksFirstBy rooms true true steps → IsDoneInPart steps tells old new
+    → EndsBy steps (outside_of old) acts to refusal → UnlessFull rooms refusal (AreDoneInPart tells acts old new)
+part_of_end rooms steps tells old new acts to refusal looks part ends =
+    unless_full rooms refusal refusal (λ full. full) (λ (first : IsFirstPart part.done part.hand acts). record {
       done = part.done;
       rest = first.rest;
       whole = first.whole;
@@ -166,4 +166,5 @@ part_of_end steps tells old new acts to refusal looks part ends =
       err = λ told. hand_prefix err_bytes part.hand first.rest (old.err.written ++ err_bytes part.done) new.err.written refl first.next (part.err told);
       answered = part.answered;
       writes = λ none. part.writes (hand_none part.done part.hand first.rest first.next none);
-    }
+    })
+    (first_part rooms true true steps (outside_of old) (outside_of old) part.done part.hand acts part.now to refusal looks (looks_same true true (outside_of old)) part.begun ends)

@@ -4,7 +4,8 @@ use Rattle.quota_blocks.specs.Text.{AppendsPrefix}
 use Rattle.refusals.specs.declared.reason.Refusal.{Refusal}
 use Rattle.refusals.specs.Refusals.{in_line}
 use Rattle.run_steps.specs.Act.{Act, ChangesNone, answers, err_bytes, out_bytes}
-use Rattle.run_steps.specs.Done.{AreDone, RunSeen, RunTells, outside_of}
+use Rattle.run_steps.specs.Done.{AreDone, Outside, RunSeen, RunTells, outside_of}
+use Rattle.run_steps.specs.Meaning.{EndsBy, HasBegun}
 use Rattle.run_steps.specs.Run.{HasSteps, IsDoneInPart}
 use Rattle.run_steps.specs.Steps.{Before, InLine, Steps}
 use Rattle.run_steps.proofs.ActLemmas.{answers-append, changes_none_before, err_bytes-append, follows-append, out_bytes-append}
@@ -24,43 +25,78 @@ done_both tells acts more old middle new one two = record {
   writes = λ none. two.writes (changes_none_behind acts more none) ∙ one.writes (changes_none_before acts more none);
 }
 
--- steps passed, and then the ones behind them ended
-pub steps_before : (one others : Steps) (tells : RunTells) (ended : Option Refusal) (old middle new : RunSeen) → HasSteps one tells None old middle → HasSteps others tells ended middle new
-    → HasSteps (Before one others) tells ended old new
-steps_before one others tells ended old middle new first then = record {
-  acts = first.acts ++ then.acts;
-  by_steps = inr (first.acts, outside_of middle, then.acts, refl, first.by_steps, then.by_steps);
-  done = done_both tells first.acts then.acts old middle new first.done then.done;
+-- Steps that are led to.
+
+-- Acts lead to the next steps at another place: what these do there, behind the acts, steps do from this place.
+pub record LeadsBy (acts : List Act) (next : Steps) (here : Outside) (steps : Steps) (from : Outside) : Type 0 where
+  pub ends : (more : List Act) (to : Outside) (ended : Option Refusal) → EndsBy next here more to ended → EndsBy steps from (acts ++ more) to ended
+  pub begun : (done hand : List Act) (now : Outside) → HasBegun next here done hand now → HasBegun steps from (acts ++ done) hand now
+
+-- steps lead to those to which the next ones lead
+pub led_both : (acts more : List Act) (last next steps : Steps) (there here from : Outside) → LeadsBy acts next here steps from → LeadsBy more last there next here → LeadsBy (acts ++ more) last there steps from
+led_both acts more last next steps there here from first second = record {
+  ends = λ rest to ended by. subst (λ (a : List Act). EndsBy steps from a to ended) (sym (append_assoc acts more rest)) (first.ends (more ++ rest) to ended (second.ends rest to ended by));
+  begun = λ done hand now by. subst (λ (a : List Act). HasBegun steps from a hand now) (sym (append_assoc acts more done)) (first.begun (more ++ done) hand now (second.begun done hand now by));
 }
 
--- steps were refused, and none behind them came
-pub steps_stopped : (one others : Steps) (tells : RunTells) (refusal : Refusal) (old new : RunSeen) → HasSteps one tells (Some refusal) old new → HasSteps (Before one others) tells (Some refusal) old new
-steps_stopped one others tells refusal old new has = record { acts = has.acts; by_steps = inl (refusal, refl, has.by_steps); done = has.done }
+-- the acts were done, and then the next steps ended
+pub steps_led : (acts : List Act) (next steps : Steps) (tells : RunTells) (ended : Option Refusal) (old middle new : RunSeen) → LeadsBy acts next (outside_of middle) steps (outside_of old)
+    → AreDone tells acts old middle → HasSteps next tells ended middle new → HasSteps steps tells ended old new
+steps_led acts next steps tells ended old middle new leads done has = record {
+  acts = acts ++ has.acts;
+  by_steps = leads.ends has.acts (outside_of new) ended has.by_steps;
+  done = done_both tells acts has.acts old middle new done has.done;
+}
 
 -- a prefix behind bytes, and other bytes before them
 prefix_behind : (old before middle new done bytes : List ℕ) → middle ≡ old ++ before → AppendsPrefix (middle ++ done) new bytes → AppendsPrefix (old ++ (before ++ done)) new bytes
 prefix_behind old before middle new done bytes is prefix =
     subst (λ (b : List ℕ). AppendsPrefix b new bytes) (ap (λ (b : List ℕ). b ++ done) is ∙ append_assoc old before done) prefix
 
--- steps passed, and then the ones behind them were done in part
-pub part_before : (one others : Steps) (tells : RunTells) (old middle new : RunSeen) → HasSteps one tells None old middle → IsDoneInPart others tells middle new → IsDoneInPart (Before one others) tells old new
-part_before one others tells old middle new first part = record {
-  done = first.acts ++ part.done;
+-- the acts were done, and then the next steps in part
+pub part_led : (acts : List Act) (next steps : Steps) (tells : RunTells) (old middle new : RunSeen) → LeadsBy acts next (outside_of middle) steps (outside_of old) → AreDone tells acts old middle
+    → IsDoneInPart next tells middle new → IsDoneInPart steps tells old new
+part_led acts next steps tells old middle new leads first part = record {
+  done = acts ++ part.done;
   hand = part.hand;
   now = part.now;
-  begun = inr (first.acts, outside_of middle, part.done, refl, first.by_steps, part.begun);
+  begun = leads.begun part.done part.hand part.now part.begun;
   files = part.files;
-  out = λ told. subst (λ (b : List ℕ). AppendsPrefix (old.out.written ++ b) new.out.written (out_bytes part.hand)) (sym (out_bytes-append first.acts part.done))
-      (prefix_behind old.out.written (out_bytes first.acts) middle.out.written new.out.written (out_bytes part.done) (out_bytes part.hand) (first.done.out told) (part.out told));
-  err = λ told. subst (λ (b : List ℕ). AppendsPrefix (old.err.written ++ b) new.err.written (err_bytes part.hand)) (sym (err_bytes-append first.acts part.done))
-      (prefix_behind old.err.written (err_bytes first.acts) middle.err.written new.err.written (err_bytes part.done) (err_bytes part.hand) (first.done.err told) (part.err told));
-  answered = part.answered ∙ ap (λ (b : List (List ℕ)). b ++ answers part.done) first.done.answered ∙ append_assoc old.link.answers (answers first.acts) (answers part.done)
-      ∙ ap (λ (b : List (List ℕ)). old.link.answers ++ b) (sym (answers-append first.acts part.done));
+  out = λ told. subst (λ (b : List ℕ). AppendsPrefix (old.out.written ++ b) new.out.written (out_bytes part.hand)) (sym (out_bytes-append acts part.done))
+      (prefix_behind old.out.written (out_bytes acts) middle.out.written new.out.written (out_bytes part.done) (out_bytes part.hand) (first.out told) (part.out told));
+  err = λ told. subst (λ (b : List ℕ). AppendsPrefix (old.err.written ++ b) new.err.written (err_bytes part.hand)) (sym (err_bytes-append acts part.done))
+      (prefix_behind old.err.written (err_bytes acts) middle.err.written new.err.written (err_bytes part.done) (err_bytes part.hand) (first.err told) (part.err told));
+  answered = part.answered ∙ ap (λ (b : List (List ℕ)). b ++ answers part.done) first.answered ∙ append_assoc old.link.answers (answers acts) (answers part.done)
+      ∙ ap (λ (b : List (List ℕ)). old.link.answers ++ b) (sym (answers-append acts part.done));
   datagrams = part.datagrams;
   writes = λ none.
-      let all = subst (λ (a : List Act). ChangesNone a) (append_assoc first.acts part.done part.hand) none in
-      part.writes (changes_none_behind first.acts (part.done ++ part.hand) all) ∙ first.done.writes (changes_none_before first.acts (part.done ++ part.hand) all);
+      let all = subst (λ (a : List Act). ChangesNone a) (append_assoc acts part.done part.hand) none in
+      part.writes (changes_none_behind acts (part.done ++ part.hand) all) ∙ first.writes (changes_none_before acts (part.done ++ part.hand) all);
 }
+
+-- Commands one after another.
+
+-- steps that passed lead to those behind them
+led_before : (one others : Steps) (old : Outside) (acts : List Act) (middle : Outside) → EndsBy one old acts middle None → LeadsBy acts others middle (Before one others) old
+led_before one others old acts middle passed = record {
+  ends = λ more to ended by. inr (acts, middle, more, refl, passed, by);
+  begun = λ done hand now by. inr (acts, middle, done, refl, passed, by);
+}
+
+-- steps passed, and then the ones behind them ended
+pub steps_before : (one others : Steps) (tells : RunTells) (ended : Option Refusal) (old middle new : RunSeen) → HasSteps one tells None old middle → HasSteps others tells ended middle new
+    → HasSteps (Before one others) tells ended old new
+steps_before one others tells ended old middle new first then =
+    steps_led first.acts others (Before one others) tells ended old middle new (led_before one others (outside_of old) first.acts (outside_of middle) first.by_steps) first.done then
+
+-- steps passed, and then the ones behind them were done in part
+pub part_before : (one others : Steps) (tells : RunTells) (old middle new : RunSeen) → HasSteps one tells None old middle → IsDoneInPart others tells middle new → IsDoneInPart (Before one others) tells old new
+part_before one others tells old middle new first part =
+    part_led first.acts others (Before one others) tells old middle new (led_before one others (outside_of old) first.acts (outside_of middle) first.by_steps) first.done part
+
+-- steps were refused, and none behind them came
+pub steps_stopped : (one others : Steps) (tells : RunTells) (refusal : Refusal) (old new : RunSeen) → HasSteps one tells (Some refusal) old new → HasSteps (Before one others) tells (Some refusal) old new
+steps_stopped one others tells refusal old new has = record { acts = has.acts; by_steps = inl (refusal, refl, has.by_steps); done = has.done }
 
 -- steps were done in part, and none behind them came
 pub part_stopped : (one others : Steps) (tells : RunTells) (old new : RunSeen) → IsDoneInPart one tells old new → IsDoneInPart (Before one others) tells old new

@@ -1,27 +1,33 @@
 -- Commands that change a file: when a changed value is written, and which objects they use.
-use Rattle.std.specs.Prelude.{ℕ, Bool, true, false, if◌then◌else◌, List, [], ◌∷◌}
+use Rattle.std.specs.Prelude.{ℕ, Bool, true, false, if◌then◌else◌, List, [], ◌∷◌, Option}
 use Rattle.tree_build.specs.Size.{blocks_needed, ids_in}
 use Rattle.quota_blocks.specs.QuotaValue.{QuotaValue}
 use Rattle.quota_map.specs.View.{most_blocks}
+use Rattle.tree_file.specs.Room.{blocks_wanted}
 use Rattle.refusals.specs.declared.cause.Cause.TheVariants.{Full}
 use Rattle.run_steps.specs.Act.{Act, Change}
 use Rattle.refusals.specs.Outcome.{Outcome, Passed, Refused}
 use Rattle.run_steps.specs.Run.{Uses}
 use Rattle.refusals.specs.Refusals.{refusal_of}
 
--- how many blocks a file of the value needs; a flat file has none
+-- how many blocks a whole new file of the value needs; a flat file has none
 abbrev pub blocks_of : QuotaValue → ℕ
 blocks_of value = blocks_needed value.format (ids_in value.records)
 
--- this act makes a file of this name stand for the value, where the file has room for it
-abbrev pub if_room : List ℕ → QuotaValue → (too_large : Bool) → Act → Outcome (List Act)
-if_room name new too_large act =
-    if too_large then Refused (refusal_of (Full (blocks_of new) most_blocks) name)
+-- how many blocks this file, as it is, will have once it is edited to the value; a flat file has none
+abbrev pub blocks_after : Option (List ℕ) → QuotaValue → ℕ
+blocks_after file value = blocks_wanted value.format file (ids_in value.records)
+
+-- this act makes a file of this name stand for another value, where there is room for so many blocks
+abbrev pub if_room : List ℕ → (blocks : ℕ) → (too_large : Bool) → Act → Outcome (List Act)
+if_room name blocks too_large act =
+    if too_large then Refused (refusal_of (Full blocks most_blocks) name)
     else Passed (act ∷ [])
 
--- a file of this name is edited and stands for the value from then on, where it has room for it and something is to be done
-abbrev pub written : List ℕ → QuotaValue → (idle too_large : Bool) → Outcome (List Act)
-written name new idle too_large = if idle then Passed [] else if_room name new too_large (Change name new)
+-- a file of this name is edited and stands for the value from then on, where it has room for so many blocks and something is to be
+-- done
+abbrev pub written : List ℕ → (blocks : ℕ) → QuotaValue → (idle too_large : Bool) → Outcome (List Act)
+written name blocks new idle too_large = if idle then Passed [] else if_room name blocks too_large (Change name new)
 
 -- a change of a file changes the store, and where it is refused it has written nothing, unless something outside failed
 abbrev pub edit_uses : (warns : Bool) → Uses

@@ -1,6 +1,6 @@
 -- Two worlds in which the steps of one command see the same: the files that they open are seen as the same values, or are refused for
 -- the same causes, and from looks at the files as they are the same steps come.
-use Rattle.std.specs.Prelude.{◌≡◌, ◌⊎◌, ℕ, List, ◌∷◌, Option, IfSome, is_some, Result, Ok, Err, ⊤}
+use Rattle.std.specs.Prelude.{◌≡◌, ◌⊎◌, ℕ, Bool, false, IsTrue, List, ◌∷◌, Option, IfSome, is_some, Result, Ok, Err, ⊤}
 use Rattle.quota_types.specs.declared.file_kind.Format.{Format}
 use Rattle.quota_types.specs.declared.file_kind.Kind.{Kind}
 use Rattle.quota_blocks.specs.QuotaValue.{QuotaValue}
@@ -9,7 +9,11 @@ use Rattle.quota_blocks.specs.World.{World}
 use Rattle.quota_blocks.specs.declared.quota_file.OpenFault.{OpenFault}
 use Rattle.quota_blocks.specs.declared.quota_file.OpenFault.TheVariants.{Damage as Damaged}
 use Rattle.quota_map.specs.View.{IsView}
+use Rattle.refusals.specs.declared.reason.Refusal.{Refusal}
+use Rattle.run_steps.specs.Act.{Act}
 use Rattle.run_steps.specs.Done.{Outside}
+use Rattle.run_steps.specs.Meaning.{EndsBy}
+use Rattle.run_steps.specs.OneCommand.{AreSameSteps, IsFull, UnlessOneFull}
 use Rattle.run_steps.specs.Steps.{Steps, Ending, Doing, Looking, Opening, Reading, Receiving, Before, InLine}
 
 -- what is seen of a file is no damage: it is a value, or another refusal
@@ -59,22 +63,35 @@ Opens (Receiving next) old file =
 Opens (Before first others) old file = ⊥
 Opens (InLine line steps) old file = Opens steps old file
 
--- From each look of one command at the files as they are the same steps come in two worlds, whatever is seen of files that are opened,
--- of the input and of the datagrams. Commands one after another are none.
-abbrev pub LooksAlike : (one other : World) → Steps → Type 0
-LooksAlike one other (Ending stated) = ⊤
-LooksAlike one other (Doing act next) = LooksAlike one other next
-LooksAlike one other (Looking next) = (next one ≡ next other) × LooksAlike one other (next one)
-LooksAlike one other (Opening kind asked name next) = (value : QuotaValue) → LooksAlike one other (next value)
-LooksAlike one other (Reading whole next) = (bytes : List ℕ) → LooksAlike one other (next bytes)
-LooksAlike one other (Receiving next) = (datagram : Datagram) → LooksAlike one other (next datagram)
-LooksAlike one other (Before first others) = ⊥
-LooksAlike one other (InLine line steps) = LooksAlike one other steps
+-- From each look of one command at the files as they are the same steps come in two worlds, but for want of room where they may rest
+-- on that, whatever is seen of files that are opened, of the input and of the datagrams. Commands one after another are none.
+abbrev pub LooksAlikeBy : (rooms : Bool) → (one other : World) → Steps → Type 0
+LooksAlikeBy rooms one other (Ending stated) = ⊤
+LooksAlikeBy rooms one other (Doing act next) = LooksAlikeBy rooms one other next
+LooksAlikeBy rooms one other (Looking next) = AreSameSteps rooms (next one) (next other) × LooksAlikeBy rooms one other (next one)
+LooksAlikeBy rooms one other (Opening kind asked name next) = (value : QuotaValue) → LooksAlikeBy rooms one other (next value)
+LooksAlikeBy rooms one other (Reading whole next) = (bytes : List ℕ) → LooksAlikeBy rooms one other (next bytes)
+LooksAlikeBy rooms one other (Receiving next) = (datagram : Datagram) → LooksAlikeBy rooms one other (next datagram)
+LooksAlikeBy rooms one other (Before first others) = ⊥
+LooksAlikeBy rooms one other (InLine line steps) = LooksAlikeBy rooms one other steps
 
--- Steps of one command meet the same outside, from the one and from the other: the same steps come from their looks at the files, each
--- file that they come to open is seen alike, and the standard input and the datagrams are the same.
-pub record MeetsSame (steps : Steps) (one other : Outside) : Type 0 where
-  pub looks : LooksAlike one.files other.files steps
+-- from each look of one command the same steps come in two worlds
+abbrev pub LooksAlike : (one other : World) → Steps → Type 0
+LooksAlike = LooksAlikeBy false
+
+-- Steps of one command meet the same outside, from the one and from the other: the same steps come from their looks at the files, but
+-- for want of room where they may rest on that; each file that they come to open is seen alike; and the standard input and the
+-- datagrams are the same.
+pub record MeetsSame (rooms : Bool) (steps : Steps) (one other : Outside) : Type 0 where
+  pub looks : LooksAlikeBy rooms one.files other.files steps
   pub opened : (file : FileAsked) → Opens steps one file → IsFileAlike one.files other.files file
   pub input : other.input ≡ one.input
   pub datagrams : other.datagrams ≡ one.datagrams
+
+-- Steps end so from here too, with these acts and this refusal; but where they may rest on room, they may end for want of it in the
+-- other place, or this refusal is one for want of it.
+abbrev pub EndsAlso : (rooms : Bool) → Steps → Outside → List Act → Option Refusal → Type 0
+EndsAlso rooms steps here acts refusal =
+    (IsTrue rooms × IsFull refusal)
+    ⊎ ((more : List Act) × (to : Outside) × (stop : Option Refusal) × EndsBy steps here more to stop
+    × UnlessOneFull rooms refusal stop ((acts ≡ more) × (refusal ≡ stop)))

@@ -1,15 +1,15 @@
 //! Laws of what the steps of a command mean.
 
-ghost use Rattle.std.specs.Prelude.{◌≡◌, ◌++◌, ◌∷◌, [], List, Option, ℕ, true};
+ghost use Rattle.std.specs.Prelude.{◌≡◌, ◌++◌, ◌∷◌, [], Bool, List, Option, ℕ, true};
 ghost use Rattle.refusals.specs.Refusals.{in_line};
 ghost use Rattle.refusals.specs.declared.reason.Refusal.{Refusal};
 ghost use Rattle.run_steps.specs.Act.{Act, Follows};
 ghost use Rattle.run_steps.specs.Done.{AreDoneInPart, Outside, RunSeen, RunTells, outside_of};
 ghost use Rattle.run_steps.specs.Meaning.{EndsBy, HasBegun, IsSure};
-ghost use Rattle.run_steps.specs.OneCommand.{AreReceived, IsFirstPart, LooksFirst, ReadsToEnd, Receives};
+ghost use Rattle.run_steps.specs.OneCommand.{AreReceived, IsFirstPart, LooksFirst, LooksFirstBy, ReadsToEnd, Receives, UnlessFull, UnlessOneFull};
 ghost use Rattle.run_steps.specs.Row.{IsBegunAt, IsRefusedAtOne};
 ghost use Rattle.run_steps.specs.Run.{IsDoneInPart};
-ghost use Rattle.run_steps.specs.SameViews.{MeetsSame};
+ghost use Rattle.run_steps.specs.SameViews.{EndsAlso, MeetsSame};
 ghost use Rattle.run_steps.specs.Steps.{InARow, InLine, Steps};
 
 /// What has ended has begun, with all its acts, and none is at hand.
@@ -26,14 +26,16 @@ pub fn files_follow_the_acts()
         → HasBegun steps old done hand now → Follows done old.files now.files }
 {}
 
-/// What has begun of one command is a first part of every end of the same steps, so the output has a prefix of that end's.
+/// What has begun of one command is a first part of every end of the same steps, so the output has a prefix of that end's. Where looks
+/// behind a change may find want of room, that is said of the ends that are not refused for it.
 pub fn what_has_begun_is_a_first_part_of_every_end()
-    ensures acts { (steps : Steps) (old now new : Outside) (done hand acts : List Act) (refusal : Option Refusal)
-        → LooksFirst true true steps → HasBegun steps old done hand now → EndsBy steps old acts new refusal
-        → IsFirstPart done hand acts }
-    ensures seen { (steps : Steps) (tells : RunTells) (old new : RunSeen) (to : Outside) (acts : List Act) (refusal : Option Refusal)
-        → LooksFirst true true steps → IsDoneInPart steps tells old new → EndsBy steps (outside_of old) acts to refusal
-        → AreDoneInPart tells acts old new }
+    ensures acts { (rooms : Bool) (steps : Steps) (old now new : Outside) (done hand acts : List Act) (refusal : Option Refusal)
+        → LooksFirstBy rooms true true steps → HasBegun steps old done hand now → EndsBy steps old acts new refusal
+        → UnlessFull rooms refusal (IsFirstPart done hand acts) }
+    ensures seen { (rooms : Bool) (steps : Steps) (tells : RunTells) (old new : RunSeen) (to : Outside) (acts : List Act)
+        (refusal : Option Refusal)
+        → LooksFirstBy rooms true true steps → IsDoneInPart steps tells old new → EndsBy steps (outside_of old) acts to refusal
+        → UnlessFull rooms refusal (AreDoneInPart tells acts old new) }
 {}
 
 /// Steps are sure exactly where none of their ends has a refusal; for one command one end without a refusal is enough.
@@ -96,13 +98,14 @@ pub fn so_many_datagrams_are_received()
 {}
 
 /// Steps of one command that see the same in two worlds do the same: however they end in each, the acts and the refusal are the
-/// same; and as they end in one, so they may end in the other.
+/// same; and as they end in one, so they may end in the other. Where looks may find want of room, they do the same unless they are
+/// refused for it in one of the worlds.
 pub fn steps_that_see_the_same_do_the_same()
-    ensures acts { (steps : Steps) (one other new to : Outside) (acts more : List Act) (refusal stop : Option Refusal)
-        → LooksFirst true true steps → MeetsSame steps one other
+    ensures acts { (rooms : Bool) (steps : Steps) (one other new to : Outside) (acts more : List Act) (refusal stop : Option Refusal)
+        → LooksFirstBy rooms true true steps → MeetsSame rooms steps one other
         → EndsBy steps one acts new refusal → EndsBy steps other more to stop
-        → (acts ≡ more) × (refusal ≡ stop) }
-    ensures other { (steps : Steps) (one other new : Outside) (acts : List Act) (refusal : Option Refusal)
-        → LooksFirst true true steps → MeetsSame steps one other
-        → EndsBy steps one acts new refusal → (to : Outside) × EndsBy steps other acts to refusal }
+        → UnlessOneFull rooms refusal stop ((acts ≡ more) × (refusal ≡ stop)) }
+    ensures other { (rooms : Bool) (steps : Steps) (one other new : Outside) (acts : List Act) (refusal : Option Refusal)
+        → LooksFirstBy rooms true true steps → MeetsSame rooms steps one other
+        → EndsBy steps one acts new refusal → EndsAlso rooms steps other acts refusal }
 {}

@@ -34,7 +34,10 @@ pub(crate) fn is_wanted(found: Result<Option<Reply>, FileFault>, want: Option<&[
     }
 }
 
-/// Whether a datagram of these bytes gets the reply that is wanted, from files of a format, and none is read for it.
+/// How often the store is read at most for a reply. Where there is none it is not read.
+const READS: u64 = 5;
+
+/// Whether a datagram of these bytes gets the reply that is wanted, from files of a format, with few reads and no writes.
 pub(crate) fn is_answered(
     alloc: Global,
     format: Format,
@@ -50,7 +53,9 @@ pub(crate) fn is_answered(
     };
     let reads = store.reads();
     let found = answer(&mut exports, &mut store, bytes, NOW);
-    is_wanted(found, want) && store.reads() == reads && store.writes() == 0
+    let made = store.reads().saturating_sub(reads);
+    let most = if want.is_some() { READS } else { 0 };
+    is_wanted(found, want) && made <= most && store.writes() == 0
 }
 
 /// The same, from files of each format in turn.

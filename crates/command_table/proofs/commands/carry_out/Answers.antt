@@ -1,6 +1,6 @@
-use Rattle.std.proofs.Common.{ap, inl, refl}
+use Rattle.std.proofs.Common.{ap, refl}
 use Rattle.std.proofs.lemmas.Result.{on_err_weaker}
-use Rattle.command_table.proofs.CommandLemmas.{carried_alone, not_here_carried, of_every_refusal, of_refusal_weaker, read_synced}
+use Rattle.command_table.proofs.CommandLemmas.{carried_alone, not_here_carried, of_refusal_weaker, read_synced}
 use Rattle.command_table.proofs.commands.carry_out.Goals as goal
 
 pub returns-in-Report-clause-carries : goal.returns-in-Report-clause-carries
@@ -12,17 +12,17 @@ returns-in-Report-clause-carries g c =
 pub returns-in-SetLimits-clause-carries : goal.returns-in-SetLimits-clause-carries
 returns-in-SetLimits-clause-carries g c =
     rw c.in-SetLimits.is (carried_alone _ _ _ _ _ _ tt refl refl (c.edit_by_words.ensures.carries _ _ _ _ _ _)
-    tt (of_every_refusal c.edit_by_words.result (λ refusal same told other. inl (same told)) (c.edit_by_words.ensures.named refl)) c.edit_by_words.ensures.synced)
+    tt (of_refusal_weaker c.edit_by_words.result _ _ (λ refusal left told other. left told) (c.edit_by_words.ensures.named refl)) c.edit_by_words.ensures.synced)
 
 pub returns-in-CopyLimits-clause-carries : goal.returns-in-CopyLimits-clause-carries
 returns-in-CopyLimits-clause-carries g c =
     rw c.in-CopyLimits.is (carried_alone _ _ _ _ _ _ tt refl refl (c.edit_by_words-in-CopyLimits.ensures.carries _ _ _ _ _ _)
-    tt (of_every_refusal c.edit_by_words-in-CopyLimits.result (λ refusal same told other. inl (same told)) (c.edit_by_words-in-CopyLimits.ensures.named refl)) c.edit_by_words-in-CopyLimits.ensures.synced)
+    tt (of_refusal_weaker c.edit_by_words-in-CopyLimits.result _ _ (λ refusal left told other. left told) (c.edit_by_words-in-CopyLimits.ensures.named refl)) c.edit_by_words-in-CopyLimits.ensures.synced)
 
 pub returns-in-SetGrace-clause-carries : goal.returns-in-SetGrace-clause-carries
 returns-in-SetGrace-clause-carries g c =
     rw c.in-SetGrace.is (carried_alone _ _ _ _ _ _ tt refl refl (c.edit_by_words-in-SetGrace.ensures.carries _ _ _ _ _ _)
-    tt (of_every_refusal c.edit_by_words-in-SetGrace.result (λ refusal same told other. inl (same told)) (c.edit_by_words-in-SetGrace.ensures.named refl)) c.edit_by_words-in-SetGrace.ensures.synced)
+    tt (of_refusal_weaker c.edit_by_words-in-SetGrace.result _ _ (λ refusal left told other. left told) (c.edit_by_words-in-SetGrace.ensures.named refl)) c.edit_by_words-in-SetGrace.ensures.synced)
 
 pub returns-in-SetTimes-clause-carries : goal.returns-in-SetTimes-clause-carries
 returns-in-SetTimes-clause-carries g c =
@@ -43,7 +43,7 @@ returns-in-Batch-clause-carries g c =
 pub returns-in-ApplyForm-clause-carries : goal.returns-in-ApplyForm-clause-carries
 returns-in-ApplyForm-clause-carries g c =
     rw c.in-ApplyForm.is (carried_alone _ _ _ _ _ _ tt refl refl (c.apply_by_word.ensures.carries _ _ _ _)
-    tt (of_every_refusal c.apply_by_word.result (λ refusal same told other. inl (same told)) c.apply_by_word.ensures.named) c.apply_by_word.ensures.synced)
+    tt (of_refusal_weaker c.apply_by_word.result _ _ (λ refusal left told other. left told) c.apply_by_word.ensures.named) c.apply_by_word.ensures.synced)
 
 pub returns-in-Check-clause-carries : goal.returns-in-Check-clause-carries
 returns-in-Check-clause-carries g c =

@@ -1,7 +1,9 @@
-use Rattle.std.proofs.Common.{inl, inr, ◌∙◌}
-use Rattle.std.proofs.lemmas.Result.{on_ok_weaker}
+use Rattle.std.proofs.Common.{inl, inr, ap, ◌∙◌}
+use Rattle.std.proofs.lemmas.Result.{IfErr-weaker, on_ok_weaker}
+use Rattle.quota_blocks.specs.World.{World}
 use Rattle.outside.proofs.FrameLemmas.{are_synced-read, are_synced-then}
 use Rattle.run_steps.proofs.PhaseLemmas.{carries_naming, naming_refused}
+use Rattle.edit_commands.proofs.RefusedEditLemmas.{left_for-read}
 use Rattle.edit_commands.proofs.WordLemmas.{faulty_word_given, faulty_word_none}
 use Rattle.edit_commands.proofs.apply.apply_by_word.Goals as goal
 
@@ -37,3 +39,10 @@ returns-in-Err-clause-word g c = λ refusal faulty.
 pub returns-in-Err-clause-store : goal.returns-in-Err-clause-store
 returns-in-Err-clause-store g c = λ refusal faulty.
     c.in-Err.ensures.untouched (faulty_word_none c.args.word c.args.common.names refusal faulty)
+
+pub returns-in-Ok-clause-named : goal.returns-in-Ok-clause-named
+returns-in-Ok-clause-named g c =
+    IfErr-weaker c.apply_named.result _ _ (λ refusal left told. left_for-read refusal.cause _ _ _ (ap (λ (w : World). w c.args.file) c.in-Ok.ensures.leaves.files) (left told)) c.apply_named.ensures.named
+
+pub returns-in-Err-clause-named : goal.returns-in-Err-clause-named
+returns-in-Err-clause-named g c = λ told. inl (ap (λ (w : World). w c.args.file) c.in-Err.ensures.leaves.files)

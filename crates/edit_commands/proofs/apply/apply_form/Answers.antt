@@ -1,11 +1,13 @@
-use Rattle.std.proofs.Common.{false, true, inl, inr, ap}
+use Rattle.std.proofs.Common.{false, true, inl, inr, refl, ap}
 use Rattle.std.proofs.lemmas.Bool.{false≢true}
-use Rattle.std.proofs.lemmas.Result.{on_ok_weaker}
+use Rattle.std.proofs.lemmas.Result.{IfErr-weaker, on_ok_weaker}
+use Rattle.quota_blocks.specs.World.{World}
 use Rattle.outside.proofs.FrameLemmas.{are_synced-read, are_synced-then}
 use Rattle.run_steps.specs.Changing.{edit_uses}
 use Rattle.run_steps.specs.Taking.{AForm}
 use Rattle.run_steps.proofs.PhaseLemmas.{placed_nowhere}
 use Rattle.run_steps.proofs.TakingLemmas.{carries_taking, fault_more, has_taken, input_refused}
+use Rattle.edit_commands.proofs.RefusedEditLemmas.{left_for-read}
 use Rattle.edit_commands.proofs.apply.apply_form.Goals as goal
 
 pub returns-in-Ok-clause-carries : goal.returns-in-Ok-clause-carries
@@ -31,3 +33,10 @@ returns-in-Err-clause-carries g c = λ out link out_tells link_tells.
     (λ told. has_taken c.args.from false _ _ (took.behind told.input) (λ all. absurd (false≢true all))
     (λ some. ap (λ i. (g.I.Source.seen i).left) (took.untouched some)))
     took.may (inl took.may) (placed_nowhere (edit_uses false) c.in-Err.refusal took.placed)
+
+pub returns-in-Ok-clause-named : goal.returns-in-Ok-clause-named
+returns-in-Ok-clause-named g c =
+    IfErr-weaker c.edit_file.result _ _ (λ refusal left told. left_for-read refusal.cause _ _ _ (ap (λ (w : World). w c.args.file) c.in-Ok.ensures.leaves.files) (left told)) (c.edit_file.ensures.named refl)
+
+pub returns-in-Err-clause-named : goal.returns-in-Err-clause-named
+returns-in-Err-clause-named g c = λ told. inl (ap (λ (w : World). w c.args.file) c.in-Err.ensures.leaves.files)

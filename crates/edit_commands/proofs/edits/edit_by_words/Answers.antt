@@ -1,9 +1,10 @@
 use Rattle.std.proofs.Common.{inl, inr, ap, ◌∙◌}
-use Rattle.std.proofs.lemmas.Result.{on_err_weaker, on_ok_weaker}
+use Rattle.std.proofs.lemmas.Result.{IfErr-weaker, on_ok_weaker}
 use Rattle.quota_blocks.specs.World.{World}
 use Rattle.outside.proofs.FrameLemmas.{are_synced-read, are_synced-then}
 use Rattle.edit_commands.specs.EditWords.{names_wanted}
 use Rattle.run_steps.proofs.PhaseLemmas.{carries_naming, naming_refused}
+use Rattle.edit_commands.proofs.RefusedEditLemmas.{left_for-read}
 use Rattle.edit_commands.proofs.WordLemmas.{faulty_given, faulty_none}
 use Rattle.edit_commands.proofs.edits.edit_by_words.Goals as goal
 
@@ -32,7 +33,7 @@ returns-in-Ok-clause-silent g c = λ refusal faulty.
 
 pub returns-in-Ok-clause-named : goal.returns-in-Ok-clause-named
 returns-in-Ok-clause-named g c = λ no.
-    on_err_weaker c.edit_named.result (λ same told. same told ∙ ap (λ (w : World). w c.args.file) c.in-Ok.ensures.leaves.files) (c.edit_named.ensures.named no)
+    IfErr-weaker c.edit_named.result _ _ (λ refusal left told. left_for-read refusal.cause _ _ _ (ap (λ (w : World). w c.args.file) c.in-Ok.ensures.leaves.files) (left told)) (c.edit_named.ensures.named no)
 
 pub returns-in-Ok-clause-synced : goal.returns-in-Ok-clause-synced
 returns-in-Ok-clause-synced g c =
@@ -54,4 +55,4 @@ returns-in-Err-clause-store g c = λ refusal faulty.
     c.in-Err.ensures.untouched (c.names_wanted-names.ensures ∙ faulty_none c.args.words (names_wanted c.args.words c.args.common.names) refusal faulty)
 
 pub returns-in-Err-clause-named : goal.returns-in-Err-clause-named
-returns-in-Err-clause-named g c = λ no told. ap (λ (w : World). w c.args.file) c.in-Err.ensures.leaves.files
+returns-in-Err-clause-named g c = λ no told. inl (ap (λ (w : World). w c.args.file) c.in-Err.ensures.leaves.files)

@@ -7,9 +7,9 @@ use Rattle.quota_map.specs.AnyFile.{any_seen}
 use Rattle.quota_map.specs.View.{fresh_seen}
 use Rattle.edit_commands.specs.Edits.{edit_cause, warnings}
 use Rattle.edit_commands.specs.EditWords.{edit_meant, skipped_by}
-use Rattle.edit_commands.proofs.EditFileLemmas.{any_cause, any_made, any_refused, any_unchanged, edit_may, file_edit_may, keeps_format, skips_quiet, skips_warn}
+use Rattle.edit_commands.proofs.EditFileLemmas.{any_cause, any_made, any_left_for, any_refused, edit_may, file_edit_may, keeps_format, skips_quiet, skips_warn}
 use Rattle.edit_commands.proofs.EditLemmas.{edit_made, edit_unsaid}
-use Rattle.edit_commands.proofs.RefusedEditLemmas.{edit_unmade}
+use Rattle.edit_commands.proofs.RefusedEditLemmas.{edit_unmade, left_for-read}
 use Rattle.run_steps.proofs.LookingLemmas.{carries_looking}
 use Rattle.run_steps.proofs.OpeningLemmas.{not_opened}
 use Rattle.run_steps.proofs.PhaseLemmas.{carries_opening}
@@ -80,8 +80,14 @@ pub returns-in-Err-make_edit-clause-named : goal.returns-in-Err-make_edit-clause
 returns-in-Err-make_edit-clause-named g c = λ no told.
     let opened = c.in-Ok.ensures in
     let file = c.as_str.ensures in
-    let named : (any_seen c.in-Ok.opened).name ≡ c.args.file = ap (λ (s : FileSeen). s.name) opened.fresh ∙ file in
-    rw named at (any_unchanged _ _ _ _ _ _ c.in-Err-make_edit.fault c.in-Err-make_edit.ensures.edits told) ∙ ap (λ (w : World). w c.args.file) opened.leaves.files
+    let was = opened.fresh ∙ ap (λ (n : List ℕ). fresh_seen n (any_seen c.in-Ok.opened).format) file in
+    let view = opened.seen told in
+    rw (c.of-in-Err-make_edit.ensures, c.edit_cause.ensures)
+    (left_for-read (edit_cause c.in-Err-make_edit.fault) _ _ _ (ap (λ (w : World). w c.args.file) opened.leaves.files)
+    (any_left_for c.args.file _ _ _ _ _ _ _ view.0 c.in-Err-make_edit.fault (keeps_format c.args.edit.now c.args.invocation.now) was (opened.held told view.0 view.1) c.in-Err-make_edit.ensures.edits))
+
+pub returns-in-Err-clause-named : goal.returns-in-Err-clause-named
+returns-in-Err-clause-named g c = λ no told. inl (ap (λ (w : World). w c.args.file) c.in-Err.ensures.leaves.files)
 
 pub returns-in-Ok-write_warnings-clause-synced : goal.returns-in-Ok-write_warnings-clause-synced
 returns-in-Ok-write_warnings-clause-synced g c = λ told.

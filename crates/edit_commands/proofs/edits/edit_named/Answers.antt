@@ -1,4 +1,4 @@
-use Rattle.std.proofs.Common.{Err, inl, inr, ap, ◌∙◌}
+use Rattle.std.proofs.Common.{Err, inl, inr, refl, ap, ◌∙◌}
 use Rattle.refusals.specs.declared.reason.Refusal.{Refusal}
 use Rattle.edit_commands.specs.EditWords.{edit_read}
 use Rattle.run_steps.proofs.PhaseLemmas.{carries_then}
@@ -34,3 +34,6 @@ returns-in-Err-clause-carries g c = λ input out link input_tells out_tells link
 
 pub returns-in-Err-clause-word : goal.returns-in-Err-clause-word
 returns-in-Err-clause-word g c = λ refusal is. ap (λ (r : Refusal). Err r) (refused_as (edit_read c.args.names.now c.args.words) refusal c.in-Err.refusal is c.in-Err.ensures)
+
+pub returns-in-Err-clause-named : goal.returns-in-Err-clause-named
+returns-in-Err-clause-named g c = λ no told. inl refl

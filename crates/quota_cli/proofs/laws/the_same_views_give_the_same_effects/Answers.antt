@@ -5,9 +5,10 @@ use Rattle.command_words.specs.declared.command.Command.{Command}
 use Rattle.run_steps.specs.Act.{Act}
 use Rattle.run_steps.specs.Done.{Outside}
 use Rattle.run_steps.specs.Meaning.{HasEffectOf}
+use Rattle.run_steps.specs.OneCommand.{UnlessFull}
 use Rattle.run_steps.specs.Steps.{Steps}
 use Rattle.command_table.specs.Table.{asked_by, described}
-use Rattle.command_table.specs.Views.{SameUnlessFull}
+use Rattle.command_table.specs.Views.{SameUnlessFull, edits_records}
 use Rattle.command_table.proofs.LookLemmas.{effects_same, other_effect}
 use Rattle.quota_cli.specs.Headline.{Setting, steps_asked}
 use Rattle.quota_cli.specs.Script.{commanded, is_script, script_or}
@@ -28,5 +29,6 @@ returns-clause-acts c setting command one other new to acts more status code is 
 pub returns-clause-other : goal.returns-clause-other
 returns-clause-other c setting command one other new acts status is single alike =
     subst (λ (steps : Steps). (effect : HasEffectOf steps one acts new status)
-    → (more : List Act) × (to : Outside) × (code : ℕ) × (also : HasEffectOf steps other more to code) × SameUnlessFull command effect.refusal also.refusal ((acts ≡ more) × (status ≡ code)))
+    → UnlessFull (edits_records command) effect.refusal
+    ((more : List Act) × (to : Outside) × (code : ℕ) × (also : HasEffectOf steps other more to code) × SameUnlessFull command effect.refusal also.refusal ((acts ≡ more) × (status ≡ code))))
     (steps_of_one setting command is single) (other_effect command setting.invocation one other new acts status alike)

@@ -1,4 +1,4 @@
-use Rattle.std.proofs.Common.{◌≡◌, ◌+◌, ◌*◌, ◌^◌, ◌<◌, ◌≤◌, IsTrue, length, Ok, Some}
+use Rattle.std.proofs.Common.{◌+◌, ◌*◌, ◌^◌, ◌<◌, ◌≤◌, IsTrue, length, Ok, Some}
 use Rattle.std.specs.List.{All}
 use Rattle.quota_types.specs.Kept.{IsKept}
 use Rattle.quota_types.specs.declared.record.Entry.{Entry}

@@ -1,4 +1,4 @@
-use Rattle.std.proofs.Common.{◌≡◌, ℕ, List, ◌+◌, Option, Some, sym, ap, ◌∙◌}
+use Rattle.std.proofs.Common.{◌≡◌, ℕ, List, ◌+◌, Option, Some, refl, sym, ap, ◌∙◌}
 use Rattle.std.specs.List.{slice_range}
 use Rattle.std.specs.Option.{unwrap_or}
 use Rattle.quota_types.specs.declared.file_kind.Kind.{Kind}
@@ -62,5 +62,6 @@ returns-in_default g c =
       reply = λ exported serves. plain exported;
       told = (told_by seen 0 zero_record, told-paths seen 0 zero_record, plain (told_by seen 0 zero_record));
       asked = tt;
-      looks = looks_in-none Some _ _;
+      looks = looks_in-none Some _ _ _;
+      untouched = λ untold. refl;
     }

@@ -1,17 +1,20 @@
 use Rattle.std.proofs.Common.{Err, arith}
 use Rattle.std.proofs.lemmas.Result.{err_from_is_err_and}
+use Rattle.quota_map.specs.AnyFile.{any_get_reads}
 use Rattle.rquota_serve.specs.Exported.{Exported}
 use Rattle.rquota_serve.specs.Exports.{Serves}
+use Rattle.rquota_serve.specs.Looking.{ExportsAt, exports_at}
 use Rattle.rquota_serve.specs.Refusal.{file_in}
 use Rattle.rquota_serve.proofs.ExportLemmas.{on-err}
-use Rattle.rquota_serve.proofs.LookingLemmas.{looks_in-none, looks_in-then}
-use Rattle.rquota_serve.proofs.ServingLemmas.{served-before, served-none, served-then, stopped-before, stopped-then}
+use Rattle.rquota_serve.proofs.LookingLemmas.{looks_in-more, looks_in-none}
+use Rattle.rquota_serve.proofs.ServingLemmas.{reads-none, reads-then, served-before, served-none, served-then, stopped-before, stopped-then}
 use Rattle.rquota_serve.proofs.serving.serve.Goals as goal
 
 pub loop-call-init : goal.loop-call-init
 loop-call-init g c = record {
   served = λ told. served-none _ _;
-  up = looks_in-none file_in _ (tt {0});
+  up = looks_in-none file_in _ _ (tt {0});
+  reads = λ told. reads-none _ _ _;
   later = omega arith;
 }
 
@@ -27,7 +30,8 @@ loop-call-preserved g c =
       served = λ told.
           served-then before c.loop-call._call (L.seen c.args.link.now) (L.seen c.loop-call.link) (L.seen c.serve_one.new.link) (so_far.served told)
           (served-before before after 1 (L.seen c.loop-call.link) (L.seen c.serve_one.new.link) so_far.up.stays (one.served told));
-      up = looks_in-then file_in file_in _ _ _ (tt {0}) _ so_far.up one.looks;
+      up = looks_in-more file_in file_in _ _ _ any_get_reads c.loop-call._call _ (tt {0}) _ (omega arith) so_far.up one.looks;
+      reads = λ told. reads-then any_get_reads _ _ _ _ _ _ (so_far.reads told) (one.reads told);
       later = omega (arith, so_far.later, one.later);
     }
 
@@ -44,5 +48,15 @@ returns-in_err-serve_one-clause-stopped g c =
 
 pub returns-in_err-serve_one-clause-looks : goal.returns-in_err-serve_one-clause-looks
 returns-in_err-serve_one-clause-looks g c =
+    let S = g.S.Store in
     let p = err_from_is_err_and c.from_residual.result c.from_residual.ensures.1 in
-    rw (p.1, p.2) (looks_in-then file_in file_in _ _ _ (tt {0}) (Err c.in_err-serve_one.field-0.0) c.loop-call.invariant.up c.in_err-serve_one.ensures.looks)
+    let before : ExportsAt = exports_at S.tells (S.seen c.args.store.now) c.args.exports.now in
+    let so_far : ExportsAt = exports_at S.tells (S.seen c.loop-call.store) c.loop-call.exports in
+    let after : ExportsAt = exports_at S.tells (S.seen c.serve_one.new.store) c.serve_one.new.exports in
+    rw (p.1, p.2)
+    (looks_in-more file_in file_in before so_far after any_get_reads c.loop-call._call c.args.calls (tt {0}) (Err c.in_err-serve_one.field-0.0) (omega (arith, c.loop-call-test.true)) c.loop-call.invariant.up
+    c.in_err-serve_one.ensures.looks)
+
+pub returns-in_err-serve_one-clause-reads : goal.returns-in_err-serve_one-clause-reads
+returns-in_err-serve_one-clause-reads g c = λ told.
+    reads-then any_get_reads _ _ _ _ _ _ (c.loop-call.invariant.reads told) (c.in_err-serve_one.ensures.reads told)

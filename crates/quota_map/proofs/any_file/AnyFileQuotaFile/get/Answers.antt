@@ -1,5 +1,5 @@
 use Rattle.std.proofs.Common.{arith}
-use Rattle.quota_map.proofs.AnyLemmas.{flat_looks, tree_looks}
+use Rattle.quota_map.proofs.AnyLemmas.{flat_looks, tree_get_few, tree_looks}
 use Rattle.quota_map.proofs.any_file.AnyFileQuotaFile.get.Goals as goal
 
 pub returns-in-V1-clause-looks : goal.returns-in-V1-clause-looks
@@ -7,4 +7,4 @@ returns-in-V1-clause-looks g c = flat_looks c.args.self.now c.in-V1.file c.get.n
 
 pub returns-in-Tree-clause-looks : goal.returns-in-Tree-clause-looks
 returns-in-Tree-clause-looks g c =
-    tree_looks c.args.self.now c.in-Tree.file c.get-in-Tree.new.self g.S.Store.tells _ _ 0 _ c.get-in-Tree.result c.in-Tree.is c.in-Tree.file.tree.tree (omega arith) c.get-in-Tree.ensures.looks
+    tree_looks c.args.self.now c.in-Tree.file c.get-in-Tree.new.self g.S.Store.tells _ _ 5 _ c.get-in-Tree.result c.in-Tree.is c.in-Tree.file.tree tree_get_few c.get-in-Tree.ensures.looks

@@ -1,5 +1,8 @@
-use Rattle.std.proofs.Common.{arith}
-use Rattle.quota_map.proofs.AnyLemmas.{flat_looks, tree_looks}
+use Rattle.std.proofs.Common.{sym, subst, arith}
+use Rattle.quota_types.specs.Format.{IsTreeFormat}
+use Rattle.quota_map.proofs.AnyLemmas.{flat_looks, tree_looks, tree_next_few}
+use Rattle.quota_map.specs.AnyFile.{any_seen}
+use Rattle.quota_map.specs.declared.any_file.AnyFile.{AnyFile}
 use Rattle.quota_map.proofs.any_file.AnyFileQuotaFile.next_after.Goals as goal
 
 pub returns-in-V1-clause-looks : goal.returns-in-V1-clause-looks
@@ -7,4 +10,4 @@ returns-in-V1-clause-looks g c = flat_looks c.args.self.now c.in-V1.file c.next_
 
 pub returns-in-Tree-clause-looks : goal.returns-in-Tree-clause-looks
 returns-in-Tree-clause-looks g c =
-    tree_looks c.args.self.now c.in-Tree.file c.next_after-in-Tree.new.self g.S.Store.tells _ _ 0 _ c.next_after-in-Tree.result c.in-Tree.is c.in-Tree.file.tree.tree (omega arith) c.next_after-in-Tree.ensures.looks
+    tree_looks c.args.self.now c.in-Tree.file c.next_after-in-Tree.new.self g.S.Store.tells _ _ 8 _ c.next_after-in-Tree.result c.in-Tree.is c.in-Tree.file.tree (tree_next_few (any_seen c.args.self.now) _ (subst (λ (f : AnyFile). IsTreeFormat (any_seen f).format) (sym c.in-Tree.is) c.in-Tree.file.tree)) c.next_after-in-Tree.ensures.looks

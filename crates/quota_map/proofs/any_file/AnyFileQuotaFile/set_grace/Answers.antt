@@ -9,5 +9,5 @@ returns-in-V1 g c = record {
 
 pub returns-in-Tree : goal.returns-in-Tree
 returns-in-Tree g c = record {
-  changes = tree_changes c.args.self.now c.in-Tree.file c.set_grace-in-Tree.new.self g.S.Store.tells _ _ (SetGrace c.args.grace) _ c.in-Tree.is c.in-Tree.file.tree.tree c.set_grace-in-Tree.ensures.changes;
+  changes = tree_changes c.args.self.now c.in-Tree.file c.set_grace-in-Tree.new.self g.S.Store.tells _ _ (SetGrace c.args.grace) _ c.in-Tree.is c.in-Tree.file.tree c.set_grace-in-Tree.ensures.changes;
 }

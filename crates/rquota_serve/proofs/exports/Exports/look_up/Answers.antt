@@ -1,4 +1,4 @@
-use Rattle.std.proofs.Common.{◌≡◌, Some, refl, arith}
+use Rattle.std.proofs.Common.{◌≡◌, Some, refl}
 use Rattle.std.specs.List.{slice_get}
 use Rattle.std.specs.Vec.{with_item}
 use Rattle.std.proofs.lemmas.Result.{err_from_is_err_and}
@@ -26,10 +26,11 @@ returns-in_err-rec-clause-looks g c =
       stays = λ exported serves.
           serves-set S.tells (S.seen c.args.store.now).files (S.seen c.record_of.new.store).files c.args.self.now now exported c.in-Some.place c.index_mut.result.now c.record_of.new.self
           (at_err g c) refl one.looks.leaves.files one.path one.kind one.looks.stays serves;
-      leaves = looks-at c.args.self.now c.in-Some.place c.index_mut.result.now (S.seen c.args.store.now) (S.seen c.record_of.new.store) (at_err g c) one.looks.leaves (omega (arith, one.looks.reads));
+      leaves = looks-at c.args.self.now c.in-Some.place c.index_mut.result.now (S.seen c.args.store.now) (S.seen c.record_of.new.store) (at_err g c) one.looks.leaves;
       synced = tt;
       same = tt;
       counted = counts-set c.args.self.now now c.in-Some.place c.index_mut.result.now c.record_of.new.self (at_err g c) refl one.looks.counted one.path one.kind;
+      reads = one.looks.reads;
     })
 
 pub returns-clause-found : goal.returns-clause-found
@@ -49,8 +50,9 @@ returns-clause-looks g c =
       stays = λ exported serves.
           serves-set S.tells (S.seen c.args.store.now).files (S.seen c.record_of.new.store).files c.args.self.now now exported c.in-Some.place c.index_mut.result.now c.record_of.new.self
           (at_ok g c) refl one.looks.leaves.files one.path one.kind one.looks.stays serves;
-      leaves = looks-at c.args.self.now c.in-Some.place c.index_mut.result.now (S.seen c.args.store.now) (S.seen c.record_of.new.store) (at_ok g c) one.looks.leaves (omega (arith, one.looks.reads));
+      leaves = looks-at c.args.self.now c.in-Some.place c.index_mut.result.now (S.seen c.args.store.now) (S.seen c.record_of.new.store) (at_ok g c) one.looks.leaves;
       synced = one.looks.leaves.synced refl;
       same = same-set c.args.self.now now c.in-Some.place c.index_mut.result.now c.record_of.new.self (at_ok g c) refl one.looks.same one.path one.kind;
       counted = tt;
+      reads = one.looks.reads;
     }

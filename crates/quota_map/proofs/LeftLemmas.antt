@@ -1,0 +1,53 @@
+-- What a change of an opened file that failed left of it, as the file is seen by whoever opens it.
+use Rattle.std.proofs.Common.{◌⊎◌, inl, inr, ◌≡◌, ◌≤◌, ℕ, Bool, List, Option, None, Some, Ok, refl, sym, subst}
+use Rattle.std.specs.Prelude.{IsSomeAnd}
+use Rattle.quota_types.specs.Format.{IsTreeFormat}
+use Rattle.quota_types.specs.declared.file_kind.Format.{Format}
+use Rattle.quota_types.specs.declared.file_kind.Format.TheVariants.{V1, V2R0, V2R1}
+use Rattle.quota_blocks.specs.FileChange.{FileChange, IsLeft}
+use Rattle.quota_blocks.specs.QuotaValue.{QuotaValue}
+use Rattle.quota_blocks.specs.World.{World}
+use Rattle.entry_codec.specs.Header.{header_of}
+use Rattle.tree_build.specs.TreeFile.{TreeStandsFor}
+use Rattle.tree_build.proofs.MeaningLemmas.{header_format}
+use Rattle.tree_file.proofs.FewMadeLemmas.{few_made}
+use Rattle.tree_file.specs.TreeChange.{TreeMakes}
+use Rattle.quota_map.specs.AnyFile.{AnyLeaves, AnyMakes, HoldsAny, any_seen}
+use Rattle.quota_map.specs.StandsFor.{StandsForAs}
+use Rattle.quota_map.specs.View.{IsView, fresh_seen, most_blocks}
+use Rattle.quota_map.specs.declared.any_file.AnyFile.{AnyFile}
+use Rattle.quota_map.specs.declared.any_file.AnyFile.TheVariants.{V1 as FlatFile, Tree as TreeFile}
+
+-- an opened file has the format of each value that it holds
+pub held_format : (tells : Bool) (files : World) (file : AnyFile) (value : QuotaValue) → HoldsAny tells files file value → value.format ≡ (any_seen file).format
+held_format tells files (FlatFile file) value held = held.stands.format
+held_format tells files (TreeFile file) value held =
+    sym (header_format held.file file.header value held.same held.stands)
+
+-- a file of few blocks that stands for a value
+both : (limit : ℕ) (file : Option (List ℕ)) (value : QuotaValue) → IsSomeAnd file (λ bytes. (header_of bytes).blocks ≤ limit) → IsSomeAnd file (λ bytes. TreeStandsFor bytes value)
+    → IsSomeAnd file (λ bytes. ((header_of bytes).blocks ≤ limit) × TreeStandsFor bytes value)
+both limit (Some bytes) value few stands = (few, stands)
+both limit None value few stands = absurd few
+
+-- a tree file that a change made, and that stands for a value, is seen as that value
+made_seen : (format : Format) (change : FileChange) (name : List ℕ) (old new : World) (value : QuotaValue) → value.format ≡ format → IsTreeFormat format
+    → TreeMakes most_blocks change name old new → IsSomeAnd (new name) (λ bytes. TreeStandsFor bytes value) → IsView (new name) value.kind (Some format) (Ok value)
+made_seen V1 change name old new value is other makes stands = absurd (cc (other))
+made_seen V2R0 change name old new value is other makes stands = (both most_blocks (new name) value (few_made most_blocks change name old new makes) stands, refl, sym is)
+made_seen V2R1 change name old new value is other makes stands = (both most_blocks (new name) value (few_made most_blocks change name old new makes) stands, refl, sym is)
+
+-- What a change left that failed is what was there, or lies between that and a file that is seen as the changed value.
+pub left_seen : (format : Format) (change : FileChange) (name : List ℕ) (old new : World) (value : QuotaValue) → value.format ≡ format
+    → IsLeft (AnyMakes (fresh_seen name format) change name) (λ bytes. StandsForAs format bytes value) (AnyLeaves format) name old new
+    → (new name ≡ old name)
+    ⊎ ((after : Option (List ℕ)) × IsView after value.kind (Some value.format) (Ok value) × AnyLeaves value.format (old name) after (new name))
+left_seen V1 change name old new value is left = inl left.left
+left_seen V2R0 change name old new value is left =
+    let view = made_seen V2R0 change name old left.after value is refl (left.made.tree refl) left.stands in
+    inr (subst (λ (f : Format). (after : Option (List ℕ)) × IsView after value.kind (Some f) (Ok value) × AnyLeaves f (old name) after (new name)) (sym is)
+    (left.after name, view, left.left))
+left_seen V2R1 change name old new value is left =
+    let view = made_seen V2R1 change name old left.after value is refl (left.made.tree refl) left.stands in
+    inr (subst (λ (f : Format). (after : Option (List ℕ)) × IsView after value.kind (Some f) (Ok value) × AnyLeaves f (old name) after (new name)) (sym is)
+    (left.after name, view, left.left))
