@@ -1,6 +1,7 @@
 # What the benchmarks share; each of them sources this file. It makes a folder, which is removed when the script ends, and
 # in it a file `q` and a text dump of it, by the script that `maker` names (a full flat file where it names none). `top` is
-# the top of the repository, and `program` the built program. A command that fails ends the benchmark with its status.
+# the top of the repository, and `program` the built program; `awk` is mawk where it is there. A command that fails ends the
+# benchmark with its status.
 set -euo pipefail
 shopt -s inherit_errexit
 top=$(cd "$(dirname "${BASH_SOURCE[0]}")/.." && pwd)
@@ -8,7 +9,13 @@ program=$top/crates/quota_program/out/quota_program
 folder=$(mktemp -d)
 trap 'rm -rf "$folder"' EXIT
 cd "$folder"
-python3 "$top/bench/${maker:-make_flat_file.py}" q dump
+awk=$(command -v mawk || command -v awk)
+
+# make_file WORD..: makes `q` and `dump`, with further words of the script that `maker` names.
+make_file() {
+    python3 "$top/bench/${maker:-make_flat_file.py}" q dump "$@"
+}
+make_file
 
 # time_of WORD..: how many seconds a command takes.
 time_of() {
@@ -50,6 +57,14 @@ ratio() {
     echo "$1 $2" | awk '{ printf "%.2f", $1 / $2 }'
 }
 
+# beside WHAT ONE WITH OTHER: prints the best times of two commands, WHAT and WITH, and their ratio. ONE and OTHER are the
+# names of arrays that have their words.
+beside() {
+    local ours theirs
+    best_of_both "$2" "$4"
+    echo "$1: $ours s, $3: $theirs s, ratio $(ratio "$ours" "$theirs")"
+}
+
 # held WORD..: the most memory, in KiB, that a command holds at a time.
 held() {
     python3 - "$@" <<'PY'
@@ -84,26 +99,79 @@ calls() {
 # file, with the names of a file of names where one is given by `names`. The ratio of their times, the most memory that the
 # program holds, and its calls of the system.
 report_beside_awk() {
-    local ours theirs
     local report=("$program" "$@")
-    local text=(awk -v now="$(date +%s)" -v names="${names:-}" -f "$top/bench/report.awk" dump)
+    local text=("$awk" -v now="$(date +%s)" -v names="${names:-}" -f "$top/bench/report.awk" dump)
     "$top/bin/quota_cli" "$@" >report
     "${text[@]}" >lines
     tail -n +5 report | cmp - lines || echo "the texts differ: the grace column of a timer may have passed a minute between the two"
-    best_of_both report text
-    echo "report: $ours s, awk: $theirs s, ratio $(ratio "$ours" "$theirs")"
+    beside report report awk text
     memory q "$@"
     calls 'pread64|write' "$@"
 }
 
-# change_beside_reading WORD..: a change with these words beside one reading of the file in pieces of 1,024 bytes, likewise.
-change_beside_reading() {
-    local ours theirs
-    local change=("$program" "$@")
+# reading_beside WORD..: a command with these words beside one reading of the file in pieces of 1,024 bytes, likewise.
+reading_beside() {
+    local command=("$program" "$@")
     local reading=(dd if=q of=/dev/null bs=1024)
-    "$top/bin/quota_cli" "$@"
-    best_of_both change reading
-    echo "setquota: $ours s, one reading: $theirs s, ratio $(ratio "$ours" "$theirs")"
+    "$top/bin/quota_cli" "$@" >said
+    beside "$1" command 'one reading' reading
     memory q "$@"
     calls 'pread64|pwrite64|fsync' "$@"
+}
+
+# converted FORMATS SOURCE: converts a file into a new one, `new`.
+converted() {
+    rm -f new
+    "$program" convertquota -f "$1" "$2" new
+}
+
+# copied SOURCE TARGET: reads a file, and writes as many bytes as another one has into a new one, both in pieces of 1,024
+# bytes.
+copied() {
+    rm -f copy
+    dd if="$1" of=/dev/null bs=1024
+    dd if=/dev/zero of=copy bs=1024 count="$(($(stat -c %s "$2") / 1024))"
+}
+
+# conversion_beside_copy FORMATS SOURCE: the conversion of a file, which is left in `new`, beside reading it and writing the
+# target once, likewise but for the memory.
+conversion_beside_copy() {
+    local conversion=(converted "$@")
+    local copy=(copied "$2" target)
+    converted "$@"
+    mv new target
+    beside convertquota conversion dd copy
+    rm new copy
+    calls 'pread64|pwrite64|fsync' convertquota -f "$1" "$2" new
+    rm new target
+}
+
+# seconds WORD..: how long a client takes to ask the server of these words for the limits of `calls` users, each after the
+# answer to the one before. The server gets the port behind its words. The users are multiples of `each`.
+seconds() {
+    local port server
+    port=$("$client" free)
+    case $1 in
+    echo) "$client" echo "$port" "$calls" & ;;
+    *) "$@" rquotad --calls "$calls" --port "$port" --export /home user q & ;;
+    esac
+    server=$!
+    "$client" many "$port" "$calls" "$each"
+    wait "$server"
+}
+client=$top/tests/serve_client.py
+calls=${calls:-100000}
+each=1
+
+# answers_beside_echo: the answers a second of `rquotad` over the loopback, beside a plain UDP server that sends each datagram
+# back; and the program's calls of the system for one answer.
+answers_beside_echo() {
+    local ours theirs
+    ours=$(seconds "$program")
+    theirs=$(seconds echo)
+    echo "rquotad: $ours s, echo: $theirs s for $calls calls; $(echo "$calls $ours" | awk '{ printf "%.0f", $1 / $2 }') a second, ratio of rates $(ratio "$theirs" "$ours")"
+    if command -v strace >/dev/null; then
+        seconds strace -c -f -o counted "$program" >/dev/null
+        awk -v calls="$calls" '$NF == "total" { printf "calls of the system: %.2f an answer\n", $4 / calls }' counted
+    fi
 }

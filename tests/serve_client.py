@@ -3,7 +3,10 @@
 
 serve_client.py free              prints a port that is free
 serve_client.py ask PORT CASE..   sends the call of each case, and prints its reply in a line
-serve_client.py many PORT COUNT   sends so many calls, each after the reply to the one before, and prints the seconds
+serve_client.py many PORT COUNT EACH
+                                  sends so many calls, each after the reply to the one before, and prints the seconds. The
+                                  users are multiples of EACH below 1,000,000 times it, which the recurrence
+                                  x -> (1,664,525 x + 1,013,904,223) mod 2^32 chooses
 serve_client.py echo PORT COUNT   answers so many datagrams by themselves, to be measured beside `rquotad`
 """
 
@@ -39,8 +42,13 @@ def call(xid, arguments, program=PROGRAM, version=1, procedure=1, caller=None):
     return units(xid, 0, 2, program, version, procedure) + caller + arguments
 
 
+def own(uid):
+    """A call of a user for limits of that user."""
+    return call(1, opaque(b"/home") + units(uid), caller=credential(uid, uid))
+
+
 CASES = {
-    "own": call(1, opaque(b"/home") + units(1000)),
+    "own": own(1000),
     "typed": call(2, opaque(b"/home") + units(0, 1000), version=2),
     "group": call(3, opaque(b"/home") + units(1, 1000), version=2,
                   caller=credential(1001, 7, (8, 1000))),
@@ -107,12 +115,21 @@ def ask(port, names):
             print(told(exchange(sock, CASES[name])))
 
 
-def many(port, count):
+def chosen(count, each):
+    """So many users, each of them a multiple."""
+    x, users = 1, []
+    for _ in range(count):
+        x = (1_664_525 * x + 1_013_904_223) % 2**32
+        users.append((x * 1_000_000 >> 32) * each)
+    return users
+
+
+def many(port, count, each):
     sock = connected(port)
-    datagram = CASES["own"]
-    exchange(sock, datagram)
+    datagrams = [own(uid) for uid in chosen(count, each)]
+    exchange(sock, datagrams[0])
     began = time.monotonic()
-    for _ in range(count - 1):
+    for datagram in datagrams[1:]:
         sock.send(datagram)
         sock.recv(4096)
     print("%.3f" % (time.monotonic() - began))
@@ -137,8 +154,8 @@ def main(words):
         free()
     elif len(words) >= 3 and words[0] == "ask":
         ask(int(words[1]), words[2:])
-    elif len(words) == 3 and words[0] == "many":
-        many(int(words[1]), int(words[2]))
+    elif len(words) == 4 and words[0] == "many":
+        many(*map(int, words[1:]))
     elif len(words) == 3 and words[0] == "echo":
         echo(int(words[1]), int(words[2]))
     else:

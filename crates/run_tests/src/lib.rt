@@ -1,4 +1,4 @@
-//! Whole runs over objects in memory, as stories; the words of commands; and a link over UDP.
+//! Whole runs over objects in memory, as stories; the words of commands; a link over UDP; and real files.
 //!
 //! The crate has tests and nothing else, so that quota_cli is proved once, and nothing that the program stands on stands on
 //! the player of stories or on their texts.
@@ -8,6 +8,8 @@
 mod edit_tests;
 #[cfg(test)]
 mod file_tests;
+#[cfg(test)]
+mod files;
 #[cfg(test)]
 mod playing;
 #[cfg(test)]

@@ -15,9 +15,11 @@ const GROUP: u32 = 0o070;
 /// The files of the system as a store, by paths that count from the current folder. It tells nothing of them.
 ///
 /// The file that was used last stays open. Reads of it that go on where the last one ended come from a window of 65,536
-/// bytes, and bytes that are to be written side by side are gathered up to that number, so that both make few calls of the
-/// system. What was gathered is written before the file is read, synced or renamed, before its length is asked for, and
-/// before another file is used; where that fails, the call at hand is the one that failed.
+/// bytes, those of other places from eight blocks of 1,024 bytes, and bytes that are to be written side by side are gathered
+/// up to the number of the window, so that all make few calls of the system. What was read is forgotten where the file is
+/// written, synced or renamed, where another file is used, and where a call fails. What was gathered is written before the
+/// file is read, synced or renamed, before its length is asked for, and before another file is used; where that fails, the
+/// call at hand is the one that failed.
 #[derive(Drop)]
 pub struct FileStore<'a, R> {
     alloc: Global,

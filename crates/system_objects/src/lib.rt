@@ -4,10 +4,12 @@
 #![tactic(auto)]
 
 mod clock;
+mod far_blocks;
 mod file_store;
 mod gathered;
 mod opened;
 mod read_ahead;
+mod span;
 mod stream_sink;
 mod stream_source;
 mod udp_link;
