@@ -7,6 +7,7 @@ pub mod MakeLemmas
 pub mod MendLemmas
 pub mod NameLemmas
 pub mod ReadLemmas
+pub mod RecoverLemmas
 pub mod RecoveredLemmas
 pub mod SavedLemmas
 pub mod TornLemmas

@@ -32,7 +32,7 @@ laid_same-one at bytes one other place same =
     ]
 
 -- ranges that are laid over two files that are the same outside of them
-laid_same : (spans : List Span) (one other : List ℕ) (place : ℕ) → (IsOutsideAll spans place → get_or one place 0 ≡ get_or other place 0) → get_or (laid spans one) place 0 ≡ get_or (laid spans other) place 0
+pub laid_same : (spans : List Span) (one other : List ℕ) (place : ℕ) → (IsOutsideAll spans place → get_or one place 0 ≡ get_or other place 0) → get_or (laid spans one) place 0 ≡ get_or (laid spans other) place 0
 laid_same [] one other place same = same tt
 laid_same (span ∷ rest) one other place same =
     laid_same rest (with_laid one span.at span.bytes) (with_laid other span.at span.bytes) place

@@ -1,9 +1,10 @@
 -- What a recovery makes of a file, call by call.
 use Rattle.std.specs.Prelude.{◌≡◌, ◌<◌, ◌≤◌, ℕ, Bool, true, false, min, List, [], length, Option, None, Some, IsSome, slice_index, unwrap_or}
-use Rattle.outside.specs.World.{World}
+use Rattle.outside.specs.World.{KeepsOthers, World}
 use Rattle.crash_disk.specs.DiskSeen.{DiskSeen}
 use Rattle.crash_disk.specs.Steps.{ChangesFile}
-use Rattle.quota_types.specs.Bytes.{number_at}
+use Rattle.quota_types.specs.Bytes.{byte_at, number_at}
+use Rattle.edit_journal.specs.Settled.{KeepsOtherThree}
 use Rattle.edit_journal.specs.Spans.{IsOutsideAll, Span}
 use Rattle.edit_journal.specs.Undo.{is_usable, recovered, saved_spans, spans_fit}
 
@@ -31,6 +32,21 @@ MendsFile name undo = ChangesFile (Mends (number_at 8 undo 8) (saved_spans undo 
 -- a recovery of these files makes what one of some image of a disk makes
 abbrev pub RecoversAsBefore : (name undo : List ℕ) → DiskSeen → World → Type 0
 RecoversAsBefore name undo disk image = (before : World) × disk.images before × (recovered (image name) (image undo) ≡ recovered (before name) (before undo))
+
+-- A recovery of the new files makes of one what a recovery of the old files makes of it, and all other files stay.
+abbrev pub Restores : (name undo : List ℕ) → World → World → Type 0
+Restores name undo old new = (recovered (new name) (new undo) ≡ recovered (old name) (old undo)) × KeepsOthers name old new
+
+-- A recovery of the new files makes of one what a recovery of the old files makes of it, and all other files but its
+-- undo file, under both its names, stay.
+abbrev pub RecoversSame : (name undo und : List ℕ) → World → World → Type 0
+RecoversSame name undo und old new = (recovered (new name) (new undo) ≡ recovered (old name) (old undo)) × KeepsOtherThree name undo und old new
+
+-- an undo file begins with this gate, this length of the old file and this number of saved ranges
+pub record BeginsSo (gate old_length count : ℕ) (undo : List ℕ) : Type 0 where
+  pub gate_byte : gate ≡ byte_at undo 0
+  pub long : old_length ≡ number_at 8 undo 8
+  pub many : count ≡ number_at 4 undo 16
 
 -- an undo file says that the old file had this length, and saves so many ranges, each of which fits
 pub record Heads (old_length count : ℕ) (undo : List ℕ) : Type 0 where

@@ -1,12 +1,12 @@
 //! The ranges that are written into the file itself.
 
-ghost use Rattle.std.specs.Prelude.{◌≡◌, ◌≤◌, [], List, ℕ, Some, length, unwrap_or, IsTrue, OnOk, OnErr};
+ghost use Rattle.std.specs.Prelude.{◌≡◌, ◌≤◌, [], List, ℕ, Some, length, unwrap_or, IsTrue, OnOk, OnErr, false};
 ghost use Rattle.crash_disk.specs.DiskSeen.{IsKept, Passes};
 ghost use Rattle.crash_disk.specs.Steps.{TearsRange};
 ghost use Rattle.edit_journal.specs.Settled.{TearsRanges};
 ghost use Rattle.edit_journal.specs.Spans.{laid, spans_of, with_laid};
 ghost use Rattle.outside.specs.Count.{Rose};
-ghost use Rattle.outside.specs.World.{with_bytes};
+ghost use Rattle.outside.specs.World.{KeepsOthers, with_bytes};
 
 use crate::KeptRange;
 use crash_disk::{Disk, DiskFault};
@@ -20,6 +20,7 @@ pub fn write_range<D: Disk>(disk: &mut D, name: &str, range: &KeptRange) -> Resu
     ensures written { OnOk result (IsTrue D.tells → (D.seen disk.new).files name.now
         ≡ Some (with_laid (unwrap_or ((D.seen disk.old).files name.now) []) range.now.at range.now.bytes.items)) }
     ensures passes { Passes (TearsRange name.now range.now.at (length range.now.bytes.items)) (D.seen disk.old) (D.seen disk.new) }
+    ensures names { KeepsOthers name.now (D.seen disk.old).unsynced (D.seen disk.new).unsynced }
     ensures cause { OnErr result (Rose (D.seen disk.old).faults (D.seen disk.new).faults) }
     ensures counted { (D.seen disk.old).faults ≤ (D.seen disk.new).faults }
 {
@@ -40,6 +41,8 @@ pub fn write_ranges<D: Disk>(
         → (D.seen disk.new).files name.now ≡ Some (laid (spans_of ranges.now) old)) }
     ensures kept { OnOk result (IsTrue D.tells → IsKept name.now (D.seen disk.new)) }
     ensures passes { Passes (TearsRanges name.now (spans_of ranges.now)) (D.seen disk.old) (D.seen disk.new) }
+    ensures names { KeepsOthers name.now (D.seen disk.old).unsynced (D.seen disk.new).unsynced }
+    ensures synced { OnOk result (IsTrue D.tells → (D.seen disk.new).unsynced name.now ≡ false) }
     ensures cause { OnErr result (Rose (D.seen disk.old).faults (D.seen disk.new).faults) }
     ensures counted { (D.seen disk.old).faults ≤ (D.seen disk.new).faults }
 {

@@ -1,6 +1,6 @@
 //! A commit of ranges to a file.
 
-ghost use Rattle.std.specs.Prelude.{◌≡◌, ◌≢◌, ◌≤◌, List, ℕ, length, IsTrue, OnOk, OnErr};
+ghost use Rattle.std.specs.Prelude.{◌≡◌, ◌≢◌, ◌≤◌, List, ℕ, length, IsTrue, OnOk, OnErr, false};
 ghost use Rattle.crash_disk.specs.DiskSeen.{OnlyLeaves, Passes};
 ghost use Rattle.edit_journal.specs.Settled.{CanCommit, IsSettled, KeepsOtherThree, RecoversToEither};
 ghost use Rattle.edit_journal.specs.Spans.{laid, spans_of};
@@ -30,6 +30,8 @@ pub fn commit_ranges<D: Disk>(
     ensures settled { OnOk result (IsTrue D.tells → (old : List ℕ) → IsSettled name.now undo.now old (D.seen disk.old)
         → IsSettled name.now undo.now (laid (spans_of ranges.now) old) (D.seen disk.new)) }
     ensures others { Passes (KeepsOtherTwo name.now undo.now) (D.seen disk.old) (D.seen disk.new) }
+    ensures names { KeepsOtherTwo name.now undo.now (D.seen disk.old).unsynced (D.seen disk.new).unsynced }
+    ensures synced { OnOk result (IsTrue D.tells → (D.seen disk.new).unsynced name.now ≡ false) }
     ensures cause { OnErr result (Rose (D.seen disk.old).faults (D.seen disk.new).faults) }
     ensures counted { (D.seen disk.old).faults ≤ (D.seen disk.new).faults }
 {
@@ -63,6 +65,8 @@ pub fn commit_file<D: Disk>(
     ensures settled { OnOk result (IsTrue D.tells → (old : List ℕ) → CanCommit name.now undo.now old (D.seen disk.old)
         → IsSettled name.now undo.now (laid (spans_of ranges.now) old) (D.seen disk.new)) }
     ensures others { IsTrue D.tells → Passes (KeepsOtherThree name.now undo.now und.now) (D.seen disk.old) (D.seen disk.new) }
+    ensures names { KeepsOtherThree name.now undo.now und.now (D.seen disk.old).unsynced (D.seen disk.new).unsynced }
+    ensures synced { OnOk result (IsTrue D.tells → (D.seen disk.new).unsynced name.now ≡ false) }
     ensures cause { OnErr result (Rose (D.seen disk.old).faults (D.seen disk.new).faults) }
     ensures counted { (D.seen disk.old).faults ≤ (D.seen disk.new).faults }
 {

@@ -26,4 +26,28 @@ impl KeptRange {
         }
         KeptRange { at, bytes: kept }
     }
+
+    /// The place of the first of the bytes.
+    pub fn at(&self) -> u64
+        ensures value { result ≡ self.now.at }
+        ensures low { result ≤ 2 ^ 42 }
+    {
+        self.at
+    }
+
+    /// The bytes.
+    pub fn bytes(&self) -> &[u8]
+        ensures value { result.now ≡ self.now.bytes.items }
+        ensures some { 1 ≤ length result.now }
+        ensures few { length result.now ≤ 1024 }
+    {
+        self.bytes.as_slice()
+    }
+}
+
+impl Default for KeptRange {
+    /// One byte 0 at place 0.
+    fn default() -> Self {
+        KeptRange::new(0, &[0])
+    }
 }

@@ -11,6 +11,7 @@
 mod change;
 mod commit;
 mod kept;
+pub mod laws;
 pub mod names;
 mod new_undo;
 mod recovery;
@@ -21,4 +22,6 @@ pub use change::{write_range, write_ranges};
 pub use commit::{commit_file, commit_ranges};
 pub use kept::KeptRange;
 pub use new_undo::{make_undo, ready_undo};
+pub use recovery::recover_file;
 pub use undo_file::{CLOSED, OPEN, save_range, save_ranges, set_gate};
+pub use undo_reads::read_padded;

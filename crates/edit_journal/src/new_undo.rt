@@ -4,6 +4,7 @@ ghost use Rattle.std.specs.Prelude.{◌≡◌, ◌≢◌, ◌↔◌, ◌≤◌, 
 ghost use Rattle.crash_disk.specs.DiskSeen.{ChangesNothing, IsKept, OnlyLeaves, Passes};
 ghost use Rattle.edit_journal.specs.Settled.{CanCommit, IsSettled, MakesUndo, RecoversTo};
 ghost use Rattle.outside.specs.Count.{Rose};
+ghost use Rattle.outside.specs.World.{KeepsOtherTwo};
 
 use crash_disk::{Disk, DiskFault};
 
@@ -18,6 +19,7 @@ pub fn make_undo<D: Disk>(disk: &mut D, undo: &str, und: &str) -> Result<(), Dis
     ensures made { OnOk result (IsTrue D.tells → (D.seen disk.new).files undo.now ≡ Some (replicate 1024 0)) }
     ensures kept { OnOk result (IsTrue D.tells → IsKept undo.now (D.seen disk.new)) }
     ensures passes { IsTrue D.tells → Passes (MakesUndo und.now undo.now) (D.seen disk.old) (D.seen disk.new) }
+    ensures names { KeepsOtherTwo und.now undo.now (D.seen disk.old).unsynced (D.seen disk.new).unsynced }
     ensures cause { OnErr result (Rose (D.seen disk.old).faults (D.seen disk.new).faults) }
     ensures counted { (D.seen disk.old).faults ≤ (D.seen disk.new).faults }
 {
@@ -32,6 +34,7 @@ pub fn make_undo<D: Disk>(disk: &mut D, undo: &str, und: &str) -> Result<(), Dis
 fn has_room<D: Disk>(disk: &mut D, undo: &str) -> Result<bool, DiskFault>
     ensures room { IfOk result (λ room. IsTrue D.tells
         → (IsTrue room ↔ (1024 ≤ length (unwrap_or ((D.seen disk.old).files undo.now) [])))) }
+    ensures names { (D.seen disk.new).unsynced ≡ (D.seen disk.old).unsynced }
     ensures cause { OnErr result (Rose (D.seen disk.old).faults (D.seen disk.new).faults) }
     ensures leaves { ChangesNothing (D.seen disk.old) (D.seen disk.new) }
 {
@@ -52,6 +55,7 @@ pub fn ready_undo<D: Disk>(disk: &mut D, undo: &str, und: &str) -> Result<(), Di
     ensures settled { OnOk result (IsTrue D.tells → (name file : List ℕ) → name ≢ und.now → name ≢ undo.now
         → CanCommit name undo.now file (D.seen disk.old) → IsSettled name undo.now file (D.seen disk.new)) }
     ensures passes { IsTrue D.tells → Passes (MakesUndo und.now undo.now) (D.seen disk.old) (D.seen disk.new) }
+    ensures names { KeepsOtherTwo und.now undo.now (D.seen disk.old).unsynced (D.seen disk.new).unsynced }
     ensures cause { OnErr result (Rose (D.seen disk.old).faults (D.seen disk.new).faults) }
     ensures counted { (D.seen disk.old).faults ≤ (D.seen disk.new).faults }
 {

@@ -1,16 +1,19 @@
 //! The recovery of a file.
 
-ghost use Rattle.std.specs.Prelude.{◌≡◌, ◌≢◌, ◌<◌, ◌≤◌, ◌^◌, ◌+◌, [], List, ℕ, Some, length, true, unwrap_or, IfOk, IsTrue, OnOk, OnErr};
-ghost use Rattle.crash_disk.specs.DiskSeen.{IsKept, Passes};
+ghost use Rattle.std.specs.Prelude.{◌≡◌, ◌≢◌, ◌<◌, ◌≤◌, ◌^◌, ◌+◌, [], List, ℕ, Some, length, true, unwrap_or, IfOk, IsTrue, OnOk, OnErr, false};
+ghost use Rattle.crash_disk.specs.DiskSeen.{IsKept, OnlyLeaves, Passes};
 ghost use Rattle.crash_disk.specs.Steps.{TearsRange};
-ghost use Rattle.edit_journal.specs.Recovery.{Heads, IsSame, MendsFile, is_mended};
+ghost use Rattle.edit_journal.specs.Recovery.{BeginsSo, Heads, IsSame, MendsFile, RecoversAsBefore, RecoversSame, Restores, is_mended};
+ghost use Rattle.edit_journal.specs.Settled.{IsRecovered, KeepsOtherThree};
 ghost use Rattle.edit_journal.specs.Spans.{laid, with_laid};
-ghost use Rattle.edit_journal.specs.Undo.{bytes_at, saved_span, saved_spans, span_fits, spans_fit, undone};
+ghost use Rattle.edit_journal.specs.Undo.{bytes_at, recovered, saved_span, saved_spans, span_fits, spans_fit, undone};
 ghost use Rattle.outside.specs.Count.{Rose};
 ghost use Rattle.quota_types.specs.Bytes.{byte_at, number_at};
+ghost use Rattle.outside.specs.World.{KeepsOtherTwo, KeepsOthers};
 
+use crate::make_undo;
 use crate::undo_file::{OPEN, write_some};
-use crate::undo_reads::{SpanHead, UndoHead, all_fit, read_padded, read_span};
+use crate::undo_reads::{SpanHead, UndoHead, all_fit, read_head, read_padded, read_span};
 use crash_disk::{Disk, DiskFault};
 
 /// Writes bytes of an undo file into its file, as many as a buffer has room for.
@@ -28,6 +31,7 @@ fn lay_through<D: Disk>(
         ≡ with_laid (unwrap_or ((D.seen disk.old).files name.now) []) at
         (bytes_at (unwrap_or ((D.seen disk.old).files undo.now) []) from (length buf.old))) }
     ensures passes { Passes (TearsRange name.now at (length buf.old)) (D.seen disk.old) (D.seen disk.new) }
+    ensures names { KeepsOthers name.now (D.seen disk.old).unsynced (D.seen disk.new).unsynced }
     ensures cause { OnErr result (Rose (D.seen disk.old).faults (D.seen disk.new).faults) }
     ensures counted { (D.seen disk.old).faults ≤ (D.seen disk.new).faults }
 {
@@ -63,6 +67,7 @@ fn lay_span<D: Disk>(disk: &mut D, name: &str, undo: &str, k: u32) -> Result<(),
         → Passes (TearsRange name.now
         (saved_span (unwrap_or ((D.seen disk.old).files undo.now) []) k).at
         (length (saved_span (unwrap_or ((D.seen disk.old).files undo.now) []) k).bytes)) (D.seen disk.old) (D.seen disk.new) }
+    ensures names { KeepsOthers name.now (D.seen disk.old).unsynced (D.seen disk.new).unsynced }
     ensures cause { OnErr result (Rose (D.seen disk.old).faults (D.seen disk.new).faults) }
     ensures counted { (D.seen disk.old).faults ≤ (D.seen disk.new).faults }
 {
@@ -93,6 +98,7 @@ fn lay_spans<D: Disk>(disk: &mut D, name: &str, undo: &str, count: u32) -> Resul
         → spans_fit old_length (saved_spans (unwrap_or ((D.seen disk.old).files undo.now) []) 0 count) ≡ true
         → number_at 4 (unwrap_or ((D.seen disk.old).files undo.now) []) 16 ≡ count
         → Passes (MendsFile name.now (unwrap_or ((D.seen disk.old).files undo.now) [])) (D.seen disk.old) (D.seen disk.new) }
+    ensures names { KeepsOthers name.now (D.seen disk.old).unsynced (D.seen disk.new).unsynced }
     ensures cause { OnErr result (Rose (D.seen disk.old).faults (D.seen disk.new).faults) }
     ensures counted { (D.seen disk.old).faults ≤ (D.seen disk.new).faults }
 {
@@ -118,6 +124,8 @@ fn mend<D: Disk>(disk: &mut D, name: &str, undo: &str, head: UndoHead) -> Result
     ensures passes { IsTrue D.tells
         → Heads head.old_length head.count (unwrap_or ((D.seen disk.old).files undo.now) [])
         → Passes (MendsFile name.now (unwrap_or ((D.seen disk.old).files undo.now) [])) (D.seen disk.old) (D.seen disk.new) }
+    ensures names { KeepsOthers name.now (D.seen disk.old).unsynced (D.seen disk.new).unsynced }
+    ensures synced { OnOk result (IsTrue D.tells → (D.seen disk.new).unsynced name.now ≡ false) }
     ensures cause { OnErr result (Rose (D.seen disk.old).faults (D.seen disk.new).faults) }
     ensures counted { (D.seen disk.old).faults ≤ (D.seen disk.new).faults }
 {
@@ -131,6 +139,8 @@ fn mend<D: Disk>(disk: &mut D, name: &str, undo: &str, head: UndoHead) -> Result
 fn keep_both<D: Disk>(disk: &mut D, name: &str, undo: &str) -> Result<(), DiskFault>
     ensures file { OnOk result (IsTrue D.tells → IsKept name.now (D.seen disk.new)) }
     ensures saved { OnOk result (IsTrue D.tells → IsKept undo.now (D.seen disk.new)) }
+    ensures names { KeepsOtherTwo name.now undo.now (D.seen disk.old).unsynced (D.seen disk.new).unsynced }
+    ensures synced { OnOk result (IsTrue D.tells → (D.seen disk.new).unsynced name.now ≡ false) }
     ensures cause { OnErr result (Rose (D.seen disk.old).faults (D.seen disk.new).faults) }
     ensures counted { (D.seen disk.old).faults ≤ (D.seen disk.new).faults }
     ensures looks { Passes IsSame (D.seen disk.old) (D.seen disk.new) }
@@ -153,6 +163,7 @@ fn can_mend<D: Disk>(
         → head.old_length ≡ number_at 8 (unwrap_or ((D.seen disk.old).files undo.now) []) 8
         → head.count ≡ number_at 4 (unwrap_or ((D.seen disk.old).files undo.now) []) 16
         → can ≡ is_mended ((D.seen disk.old).files name.now) ((D.seen disk.old).files undo.now)) }
+    ensures names { (D.seen disk.new).unsynced ≡ (D.seen disk.old).unsynced }
     ensures cause { OnErr result (Rose (D.seen disk.old).faults (D.seen disk.new).faults) }
     ensures counted { (D.seen disk.old).faults ≤ (D.seen disk.new).faults }
     ensures looks { Passes IsSame (D.seen disk.old) (D.seen disk.new) }
@@ -167,4 +178,101 @@ fn can_mend<D: Disk>(
         return Ok(false);
     }
     all_fit(disk, undo, head.old_length, head.count)
+}
+
+/// Mends a file where its undo file says how it was.
+///
+/// # Errors
+///
+/// The disk failed. A recovery makes of the file what it would have before.
+fn restore<D: Disk>(disk: &mut D, name: &str, undo: &str, head: UndoHead) -> Result<(), DiskFault>
+    requires apart { name.now ≢ undo.now }
+    ensures restored { OnOk result (IsTrue D.tells
+        → BeginsSo head.gate head.old_length head.count (unwrap_or ((D.seen disk.old).files undo.now) [])
+        → (D.seen disk.new).files name.now ≡ recovered ((D.seen disk.old).files name.now) ((D.seen disk.old).files undo.now)) }
+    ensures kept { OnOk result (IsTrue D.tells → IsKept name.now (D.seen disk.old) → IsKept name.now (D.seen disk.new)) }
+    ensures passes { IsTrue D.tells
+        → BeginsSo head.gate head.old_length head.count (unwrap_or ((D.seen disk.old).files undo.now) [])
+        → IsKept name.now (D.seen disk.old) → IsKept undo.now (D.seen disk.old)
+        → Passes (Restores name.now undo.now) (D.seen disk.old) (D.seen disk.new) }
+    ensures names { KeepsOthers name.now (D.seen disk.old).unsynced (D.seen disk.new).unsynced }
+    ensures synced { OnOk result (IsTrue D.tells → (D.seen disk.old).unsynced name.now ≡ false → (D.seen disk.new).unsynced name.now ≡ false) }
+    ensures cause { OnErr result (Rose (D.seen disk.old).faults (D.seen disk.new).faults) }
+    ensures counted { (D.seen disk.old).faults ≤ (D.seen disk.new).faults }
+{
+    let usable = can_mend(disk, name, undo, head)?;
+    if !usable {
+        return Ok(());
+    }
+    mend(disk, name, undo, head)?;
+    Ok(())
+}
+
+/// Recovers a file that is kept, as its undo file is, whose gate is open: mends it, and puts a new undo file in the
+/// place of that one.
+///
+/// # Errors
+///
+/// The disk failed. A recovery makes of the file what it would have before.
+fn recover_kept<D: Disk>(
+    disk: &mut D,
+    name: &str,
+    undo: &str,
+    und: &str,
+    head: UndoHead,
+) -> Result<(), DiskFault>
+    requires apart { name.now ≢ undo.now }
+    requires unmade { name.now ≢ und.now }
+    requires first { und.now ≢ undo.now }
+    ensures done { OnOk result (IsTrue D.tells
+        → BeginsSo head.gate head.old_length head.count (unwrap_or ((D.seen disk.old).files undo.now) [])
+        → IsKept name.now (D.seen disk.old) → IsKept undo.now (D.seen disk.old)
+        → IsRecovered name.now undo.now (recovered ((D.seen disk.old).files name.now) ((D.seen disk.old).files undo.now)) (D.seen disk.new)) }
+    ensures passes { IsTrue D.tells
+        → BeginsSo head.gate head.old_length head.count (unwrap_or ((D.seen disk.old).files undo.now) [])
+        → IsKept name.now (D.seen disk.old) → IsKept undo.now (D.seen disk.old)
+        → Passes (RecoversSame name.now undo.now und.now) (D.seen disk.old) (D.seen disk.new) }
+    ensures names { KeepsOtherThree name.now undo.now und.now (D.seen disk.old).unsynced (D.seen disk.new).unsynced }
+    ensures synced { OnOk result (IsTrue D.tells → (D.seen disk.old).unsynced name.now ≡ false → (D.seen disk.new).unsynced name.now ≡ false) }
+    ensures cause { OnErr result (Rose (D.seen disk.old).faults (D.seen disk.new).faults) }
+    ensures counted { (D.seen disk.old).faults ≤ (D.seen disk.new).faults }
+{
+    restore(disk, name, undo, head)?;
+    make_undo(disk, undo, und)?;
+    Ok(())
+}
+
+/// Recovers a file: it is, in whatever a stop may leave then, what its undo file says that it was, or as it was where
+/// the undo file says nothing, and the gate of its undo file is closed. A stop at any moment leaves files of which a
+/// recovery makes the same. All other files but the undo file, under both its names, stay.
+///
+/// # Errors
+///
+/// The disk failed. A recovery makes of the file what it would have before.
+pub fn recover_file<D: Disk>(
+    disk: &mut D,
+    name: &str,
+    undo: &str,
+    und: &str,
+) -> Result<(), DiskFault>
+    requires apart { name.now ≢ undo.now }
+    requires unmade { name.now ≢ und.now }
+    requires first { und.now ≢ undo.now }
+    ensures done { OnOk result (IsTrue D.tells → IsRecovered name.now undo.now
+        (recovered ((D.seen disk.old).files name.now) ((D.seen disk.old).files undo.now)) (D.seen disk.new)) }
+    ensures leaves { IsTrue D.tells
+        → OnlyLeaves (RecoversAsBefore name.now undo.now (D.seen disk.old)) (D.seen disk.old) (D.seen disk.new) }
+    ensures passes { IsTrue D.tells → Passes (RecoversSame name.now undo.now und.now) (D.seen disk.old) (D.seen disk.new) }
+    ensures names { KeepsOtherThree name.now undo.now und.now (D.seen disk.old).unsynced (D.seen disk.new).unsynced }
+    ensures synced { OnOk result (IsTrue D.tells → (D.seen disk.new).unsynced name.now ≡ false) }
+    ensures cause { OnErr result (Rose (D.seen disk.old).faults (D.seen disk.new).faults) }
+    ensures counted { (D.seen disk.old).faults ≤ (D.seen disk.new).faults }
+{
+    keep_both(disk, name, undo)?;
+    let head = read_head(disk, undo)?;
+    if head.gate != OPEN {
+        return Ok(());
+    }
+    recover_kept(disk, name, undo, und, head)?;
+    Ok(())
 }

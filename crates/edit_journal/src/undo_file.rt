@@ -7,7 +7,7 @@ ghost use Rattle.edit_journal.specs.Settled.{TearsFrom};
 ghost use Rattle.edit_journal.specs.Spans.{spans_of, with_laid};
 ghost use Rattle.edit_journal.specs.Undo.{Saves, SavesOne, range_at};
 ghost use Rattle.outside.specs.Count.{Rose};
-ghost use Rattle.outside.specs.World.{with_bytes};
+ghost use Rattle.outside.specs.World.{KeepsOthers, with_bytes};
 ghost use Rattle.quota_types.specs.Bytes.{number_at};
 
 use crate::KeptRange;
@@ -30,6 +30,7 @@ pub fn set_gate<D: Disk>(disk: &mut D, undo: &str, gate: u8) -> Result<(), DiskF
         → (D.seen disk.new).files ≡ with_bytes (D.seen disk.old).files undo.now 0 (gate ∷ [])) }
     ensures kept { OnOk result (IsTrue D.tells → IsKept undo.now (D.seen disk.new)) }
     ensures passes { Passes (TearsRange undo.now 0 1) (D.seen disk.old) (D.seen disk.new) }
+    ensures names { KeepsOthers undo.now (D.seen disk.old).unsynced (D.seen disk.new).unsynced }
     ensures cause { OnErr result (Rose (D.seen disk.old).faults (D.seen disk.new).faults) }
     ensures counted { (D.seen disk.old).faults ≤ (D.seen disk.new).faults }
 {
@@ -50,6 +51,7 @@ pub(crate) fn write_some<D: Disk>(
     ensures written { OnOk result (IsTrue D.tells → unwrap_or ((D.seen disk.new).files name.now) []
         ≡ with_laid (unwrap_or ((D.seen disk.old).files name.now) []) at bytes.now) }
     ensures passes { Passes (TearsRange name.now at (length bytes.now)) (D.seen disk.old) (D.seen disk.new) }
+    ensures names { KeepsOthers name.now (D.seen disk.old).unsynced (D.seen disk.new).unsynced }
     ensures cause { OnErr result (Rose (D.seen disk.old).faults (D.seen disk.new).faults) }
     ensures counted { (D.seen disk.old).faults ≤ (D.seen disk.new).faults }
 {
@@ -88,6 +90,7 @@ fn save_through<D: Disk>(
     ensures saved { OnOk result (IsTrue D.tells → SavesOne (unwrap_or ((D.seen disk.old).files name.now) []) k at (length buf.old)
         (unwrap_or ((D.seen disk.new).files undo.now) [])) }
     ensures passes { Passes (TearsRange undo.now (range_at k) 1040) (D.seen disk.old) (D.seen disk.new) }
+    ensures names { KeepsOthers undo.now (D.seen disk.old).unsynced (D.seen disk.new).unsynced }
     ensures cause { OnErr result (Rose (D.seen disk.old).faults (D.seen disk.new).faults) }
     ensures counted { (D.seen disk.old).faults ≤ (D.seen disk.new).faults }
 {
@@ -115,6 +118,7 @@ pub fn save_range<D: Disk>(
     ensures saved { OnOk result (IsTrue D.tells → SavesOne (unwrap_or ((D.seen disk.old).files name.now) []) k
         range.now.at (length range.now.bytes.items) (unwrap_or ((D.seen disk.new).files undo.now) [])) }
     ensures passes { Passes (TearsRange undo.now (range_at k) 1040) (D.seen disk.old) (D.seen disk.new) }
+    ensures names { KeepsOthers undo.now (D.seen disk.old).unsynced (D.seen disk.new).unsynced }
     ensures cause { OnErr result (Rose (D.seen disk.old).faults (D.seen disk.new).faults) }
     ensures counted { (D.seen disk.old).faults ≤ (D.seen disk.new).faults }
 {
@@ -159,6 +163,7 @@ pub fn save_ranges<D: Disk>(
         (unwrap_or ((D.seen disk.new).files undo.now) [])) }
     ensures kept { OnOk result (IsTrue D.tells → IsKept undo.now (D.seen disk.new)) }
     ensures passes { Passes (TearsFrom undo.now 8) (D.seen disk.old) (D.seen disk.new) }
+    ensures names { KeepsOthers undo.now (D.seen disk.old).unsynced (D.seen disk.new).unsynced }
     ensures cause { OnErr result (Rose (D.seen disk.old).faults (D.seen disk.new).faults) }
     ensures counted { (D.seen disk.old).faults ≤ (D.seen disk.new).faults }
 {

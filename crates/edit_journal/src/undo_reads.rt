@@ -26,7 +26,11 @@ pub(crate) struct SpanHead {
 }
 
 /// Reads bytes of a file from a place on; those past its end are 0.
-pub(crate) fn read_padded<D: Disk>(
+///
+/// # Errors
+///
+/// The disk failed. Nothing changed, but `buf` may hold anything.
+pub fn read_padded<D: Disk>(
     disk: &mut D,
     name: &str,
     at: u64,
@@ -35,6 +39,7 @@ pub(crate) fn read_padded<D: Disk>(
     requires { length buf.old ≤ 1024 }
     ensures same { OnOk result (IsTrue D.tells → (j : ℕ) → j < length buf.old
         → slice_index buf.new j ≡ byte_at (unwrap_or ((D.seen disk.old).files name.now) []) (at + j)) }
+    ensures names { (D.seen disk.new).unsynced ≡ (D.seen disk.old).unsynced }
     ensures cause { OnErr result (Rose (D.seen disk.old).faults (D.seen disk.new).faults) }
     ensures counted { (D.seen disk.old).faults ≤ (D.seen disk.new).faults }
     ensures looks { Passes IsSame (D.seen disk.old) (D.seen disk.new) }
@@ -54,6 +59,7 @@ pub(crate) fn read_head<D: Disk>(disk: &mut D, undo: &str) -> Result<UndoHead, D
         → head.old_length ≡ number_at 8 (unwrap_or ((D.seen disk.old).files undo.now) []) 8) }
     ensures count { IfOk result (λ head. IsTrue D.tells
         → head.count ≡ number_at 4 (unwrap_or ((D.seen disk.old).files undo.now) []) 16) }
+    ensures names { (D.seen disk.new).unsynced ≡ (D.seen disk.old).unsynced }
     ensures cause { OnErr result (Rose (D.seen disk.old).faults (D.seen disk.new).faults) }
     ensures counted { (D.seen disk.old).faults ≤ (D.seen disk.new).faults }
     ensures looks { Passes IsSame (D.seen disk.old) (D.seen disk.new) }
@@ -74,6 +80,7 @@ pub(crate) fn read_span<D: Disk>(disk: &mut D, undo: &str, k: u32) -> Result<Spa
         → span.at ≡ number_at 8 (unwrap_or ((D.seen disk.old).files undo.now) []) (range_at k)) }
     ensures number { IfOk result (λ span. IsTrue D.tells
         → span.saved ≡ number_at 2 (unwrap_or ((D.seen disk.old).files undo.now) []) (range_at k + 8)) }
+    ensures names { (D.seen disk.new).unsynced ≡ (D.seen disk.old).unsynced }
     ensures cause { OnErr result (Rose (D.seen disk.old).faults (D.seen disk.new).faults) }
     ensures counted { (D.seen disk.old).faults ≤ (D.seen disk.new).faults }
     ensures looks { Passes IsSame (D.seen disk.old) (D.seen disk.new) }
@@ -106,6 +113,7 @@ pub(crate) fn all_fit<D: Disk>(
     requires { count ≤ 12 }
     ensures fit { IfOk result (λ fit. IsTrue D.tells → fit
         ≡ spans_fit old_length (saved_spans (unwrap_or ((D.seen disk.old).files undo.now) []) 0 count)) }
+    ensures names { (D.seen disk.new).unsynced ≡ (D.seen disk.old).unsynced }
     ensures cause { OnErr result (Rose (D.seen disk.old).faults (D.seen disk.new).faults) }
     ensures counted { (D.seen disk.old).faults ≤ (D.seen disk.new).faults }
     ensures looks { Passes IsSame (D.seen disk.old) (D.seen disk.new) }

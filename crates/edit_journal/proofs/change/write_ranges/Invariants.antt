@@ -1,4 +1,5 @@
 use Rattle.std.proofs.Common.{◌≡◌, ◌≤◌, List, ℕ, Some, take, IsTrue}
+use Rattle.outside.specs.World.{KeepsOthers}
 use Rattle.crash_disk.specs.DiskSeen.{Passes}
 use Rattle.edit_journal.specs.Settled.{TearsRanges}
 use Rattle.edit_journal.specs.Spans.{laid, spans_of}
@@ -10,5 +11,6 @@ invariant-loop-range g l =
     record {
       written : IsTrue D.tells → (old : List ℕ) → (D.seen l.fn.disk).files l.name ≡ Some old → (D.seen l.disk).files l.name ≡ Some (laid (spans_of (take l.range-index l.ranges)) old);
       passes : Passes (TearsRanges l.name (spans_of l.ranges)) (D.seen l.fn.disk) (D.seen l.disk);
+      names : KeepsOthers l.name (D.seen l.fn.disk).unsynced (D.seen l.disk).unsynced;
       counted : (D.seen l.fn.disk).faults ≤ (D.seen l.disk).faults;
     }

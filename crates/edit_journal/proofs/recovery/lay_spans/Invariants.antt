@@ -1,4 +1,5 @@
 use Rattle.std.proofs.Common.{◌≡◌, ◌≤◌, List, ℕ, [], true, unwrap_or, IsTrue}
+use Rattle.outside.specs.World.{KeepsOthers}
 use Rattle.crash_disk.specs.DiskSeen.{Passes}
 use Rattle.quota_types.specs.Bytes.{number_at}
 use Rattle.edit_journal.specs.Recovery.{MendsFile}
@@ -16,5 +17,6 @@ invariant-loop-k g l =
           → unwrap_or ((D.seen l.disk).files l.name) [] ≡ laid (saved_spans undo 0 l.k) (unwrap_or ((D.seen l.fn.disk).files l.name) []);
       passes : IsTrue D.tells → (old_length : ℕ) → spans_fit old_length (saved_spans undo 0 l.count) ≡ true → number_at 4 undo 16 ≡ l.count
           → Passes (MendsFile l.name undo) (D.seen l.fn.disk) (D.seen l.disk);
+      names : KeepsOthers l.name (D.seen l.fn.disk).unsynced (D.seen l.disk).unsynced;
       counted : (D.seen l.fn.disk).faults ≤ (D.seen l.disk).faults;
     }

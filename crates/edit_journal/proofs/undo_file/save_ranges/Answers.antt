@@ -1,3 +1,4 @@
+use Rattle.outside.proofs.FrameLemmas.{keeps_others-then}
 use Rattle.std.proofs.Common.{◌≤◌, ◌∙◌, ap, sym, subst, List, ℕ, Option, [], length, unwrap_or, inl, arith}
 use Rattle.std.proofs.lemmas.List.{length-map}
 use Rattle.outside.specs.World.{World}
@@ -19,6 +20,7 @@ loop-index-preserved g c =
           (ap (λ (f : Option (List ℕ)). unwrap_or f []) (kept.passes.follows.read.1 c.args.name.now c.requires.apart))
           (kept.saved told) one.passes.follows.read.0 (one.saved told);
       passes = tears-then _ c.args.undo.now _ _ _ kept.passes (tears-less _ _ c.args.undo.now _ _ (λ place low. inl (omega (arith, low))) one.passes);
+      names = keeps_others-then c.args.undo.now _ _ _ kept.names one.names;
       counted = omega (arith, kept.counted, one.counted);
     }
 

@@ -1,4 +1,5 @@
 use Rattle.std.proofs.Common.{◌≤◌, [], take, unwrap_or, IsTrue}
+use Rattle.outside.specs.World.{KeepsOthers}
 use Rattle.crash_disk.specs.DiskSeen.{Passes}
 use Rattle.edit_journal.specs.Settled.{TearsFrom}
 use Rattle.edit_journal.specs.Spans.{spans_of}
@@ -11,5 +12,6 @@ invariant-loop-index g l =
     record {
       saved : IsTrue D.tells → SavesFrom (unwrap_or ((D.seen l.fn.disk).files l.name) []) 0 (spans_of (take l.index l.ranges)) (unwrap_or ((D.seen l.disk).files l.undo) []);
       passes : Passes (TearsFrom l.undo 8) (D.seen l.fn.disk) (D.seen l.disk);
+      names : KeepsOthers l.undo (D.seen l.fn.disk).unsynced (D.seen l.disk).unsynced;
       counted : (D.seen l.fn.disk).faults ≤ (D.seen l.disk).faults;
     }

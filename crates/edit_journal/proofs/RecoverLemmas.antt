@@ -1,0 +1,174 @@
+-- What a recovery leaves.
+use Rattle.std.proofs.Common.{◌≡◌, ◌≢◌, ◌⊎◌, inl, inr, ⊎_elim, ℕ, Bool, true, false, List, [], length, replicate, Option, Some, None, unwrap_or, refl, sym, ap, ◌∙◌, subst, arith}
+use Rattle.std.proofs.lemmas.Bool.{cond-false, cond-true, false≢true}
+use Rattle.std.proofs.lemmas.List.{get_or-replicate, length-replicate}
+use Rattle.outside.specs.World.{World}
+use Rattle.outside.proofs.FrameLemmas.{keeps_others-then}
+use Rattle.crash_disk.specs.DiskSeen.{DiskSeen, IsKept, OnlyLeaves, Passes}
+use Rattle.crash_disk.proofs.StopLemmas.{kept-on, only_leaves-passes, passes-then, passes-wider}
+use Rattle.quota_types.specs.Bytes.{byte_at, number_at}
+use Rattle.edit_journal.specs.Recovery.{BeginsSo, Heads, IsSame, MendsFile, RecoversAsBefore, RecoversSame, Restores, is_mended}
+use Rattle.edit_journal.specs.Settled.{IsRecovered, MakesUndo}
+use Rattle.edit_journal.specs.Undo.{recovered, saved_spans, spans_fit, undone}
+use Rattle.edit_journal.proofs.MendLemmas.{recovered-mended, usable-parts}
+use Rattle.edit_journal.proofs.ReadLemmas.{looks-kept}
+use Rattle.edit_journal.proofs.RecoveredLemmas.{recovered-closed}
+
+-- a wider step, where it is taken from each image
+passes-within : (step wider : World → World → Type 0) (a b : DiskSeen) → ((before after : World) → a.images before → step before after → wider before after) → a.images a.files → Passes step a b → Passes wider a b
+passes-within step wider a b sub is passes = record {
+  follows = record {
+    left = λ image left. let from = passes.follows.left image left in (from.0, from.1, sub from.0 image from.1 from.2);
+    read = sub a.files b.files is passes.follows.read;
+  };
+  later = passes.later;
+  known = λ moment image early was.
+      ⊎_elim (λ before. inl before) (λ by. inr (by.0, by.1, sub by.0 image by.1 by.2)) (passes.known moment image early was);
+}
+
+-- a file whose undo file says nothing recovers to itself
+pub recovered-unmended : (file undo : Option (List ℕ)) → is_mended file undo ≡ false → recovered file undo ≡ file
+recovered-unmended None undo unmended = refl
+recovered-unmended (Some file) None unmended = refl
+recovered-unmended (Some file) (Some undo) unmended = ap (λ (f : List ℕ). Some f) (cond-false _ _ _ unmended)
+
+-- so does one whose gate is closed
+pub recovered-unopened : (file undo : Option (List ℕ)) → byte_at (unwrap_or undo []) 0 ≢ 1 → recovered file undo ≡ file
+recovered-unopened None undo closed = refl
+recovered-unopened (Some file) undo closed = recovered-closed file undo closed
+
+-- a file that was made what its undo file says
+pub recovered-by : (file undo new : Option (List ℕ)) → is_mended file undo ≡ true → ((f : List ℕ) → file ≡ Some f → new ≡ Some (undone f (unwrap_or undo []))) → new ≡ recovered file undo
+recovered-by None undo new mended made = absurd (false≢true mended)
+recovered-by (Some file) None new mended made = absurd (false≢true mended)
+recovered-by (Some file) (Some undo) new mended made = made file refl ∙ ap (λ (f : List ℕ). Some f) (sym (cond-true _ _ _ mended))
+
+-- the head of an undo file that says how its file was
+pub heads-mended : (file undo : Option (List ℕ)) (gate old_length count : ℕ) → is_mended file undo ≡ true → BeginsSo gate old_length count (unwrap_or undo []) → Heads old_length count (unwrap_or undo [])
+heads-mended None undo gate old_length count mended begins = absurd (false≢true mended)
+heads-mended (Some file) None gate old_length count mended begins = absurd (false≢true mended)
+heads-mended (Some file) (Some undo) gate old_length count mended begins = record {
+  long = sym begins.long;
+  many = sym begins.many;
+  fit = ap (λ (n : ℕ). spans_fit n (saved_spans undo 0 count)) begins.long
+      ∙ ap (λ (n : ℕ). spans_fit (number_at 8 undo 8) (saved_spans undo 0 n)) begins.many
+      ∙ (usable-parts file undo mended).3;
+}
+
+restores-then : (name undo : List ℕ) (a b c : DiskSeen) → Passes (Restores name undo) a b → Passes (Restores name undo) b c → Passes (Restores name undo) a c
+restores-then name undo a b c first second =
+    passes-then (Restores name undo) a b c (λ x y z one two. (two.0 ∙ one.0, keeps_others-then name x y z one.1 two.1)) first second
+
+-- nothing changed
+pub restores-looks : (name undo : List ℕ) (a b : DiskSeen) → Passes IsSame a b → Passes (Restores name undo) a b
+restores-looks name undo a b looks =
+    passes-wider IsSame (Restores name undo) a b
+    (λ x y same. (ap (λ (f : World). recovered (f name) (f undo)) same, λ other differ. ap (λ (f : World). f other) same)) looks
+
+-- where a file and its undo file are kept, the file recovers to the same while it is mended
+pub restores-mended : (name undo : List ℕ) (a b c : DiskSeen) → name ≢ undo → b.images b.files → IsKept name b → IsKept undo b → Passes IsSame a b → is_mended (b.files name) (b.files undo) ≡ true
+    → Passes (MendsFile name (unwrap_or (b.files undo) [])) b c → Passes (Restores name undo) a c
+restores-mended name undo a b c apart is kept saved looks mended passes =
+    restores-then name undo a b c (restores-looks name undo a b looks)
+    (passes-within (MendsFile name (unwrap_or (b.files undo) [])) (Restores name undo) b c
+    (λ before after left step.
+    let stays : after undo ≡ b.files undo = step.1 undo (λ same. apart (sym same)) ∙ saved before left in (
+      ap (λ (u : Option (List ℕ)). recovered (after name) u) stays
+          ∙ recovered-mended (before name) (after name) (b.files undo) (ap (λ (f : Option (List ℕ)). is_mended f (b.files undo)) (kept before left) ∙ mended) step.0
+          ∙ sym (ap (λ (u : Option (List ℕ)). recovered (before name) u) (saved before left)),
+      step.1,
+    ))
+    is passes)
+
+-- the same where it was asked whether the undo file says how the file was
+pub restores-checked : (name undo : List ℕ) (gate old_length count : ℕ) (can : Bool) (a b c : DiskSeen) → name ≢ undo → b.images b.files → IsKept name a → IsKept undo a → Passes IsSame a b → can ≡ is_mended (a.files name) (a.files undo) → can ≡ true
+    → BeginsSo gate old_length count (unwrap_or (a.files undo) []) → (Heads old_length count (unwrap_or (b.files undo) []) → Passes (MendsFile name (unwrap_or (b.files undo) [])) b c) → Passes (Restores name undo) a c
+restores-checked name undo gate old_length count can a b c apart is kept saved looks asked can_mend begins mends =
+    let same = looks.follows.read in
+    let mended : is_mended (b.files name) (b.files undo) ≡ true = ap (λ (f : World). is_mended (f name) (f undo)) same ∙ sym asked ∙ can_mend in
+    let begins_there : BeginsSo gate old_length count (unwrap_or (b.files undo) []) = subst (λ (f : World). BeginsSo gate old_length count (unwrap_or (f undo) [])) (sym same) begins in
+    restores-mended name undo a b c apart is (looks-kept name a b kept looks) (looks-kept undo a b saved looks) looks mended (mends (heads-mended (b.files name) (b.files undo) gate old_length count mended begins_there))
+
+-- the gate of a new undo file
+closed-made : byte_at (replicate 1024 0) 0 ≢ 1
+closed-made is = absurd (omega (arith, is, get_or-replicate {A = ℕ} 1024 0 0 0 (omega arith)))
+
+module _ (name undo und : List ℕ) (apart : name ≢ undo) (unmade : name ≢ und) where
+  recovers-then : (a b c : DiskSeen) → Passes (RecoversSame name undo und) a b → Passes (RecoversSame name undo und) b c → Passes (RecoversSame name undo und) a c
+  recovers-then a b c first second =
+      passes-then (RecoversSame name undo und) a b c
+      (λ x y z one two. (two.0 ∙ one.0, λ other one_differs two_differs three_differs. two.1 other one_differs two_differs three_differs ∙ one.1 other one_differs two_differs three_differs)) first second
+
+  pub recovers-restores : (a b : DiskSeen) → Passes (Restores name undo) a b → Passes (RecoversSame name undo und) a b
+  recovers-restores a b passes =
+      passes-wider (Restores name undo) (RecoversSame name undo und) a b (λ x y step. (step.0, λ other differ two_differs three_differs. step.1 other differ)) passes
+
+  pub recovers-looks : (a b c : DiskSeen) → Passes IsSame a b → Passes (RecoversSame name undo und) b c → Passes (RecoversSame name undo und) a c
+  recovers-looks a b c looks passes = recovers-then a b c (recovers-restores a b (restores-looks name undo a b looks)) passes
+
+  -- a file that recovers to itself does so beside a new undo file
+  remade : (file old new : Option (List ℕ)) → recovered file old ≡ file → (new ≡ old) ⊎ (new ≡ Some (replicate 1024 0)) → recovered file new ≡ recovered file old
+  remade file old new itself (inl same) = ap (λ (u : Option (List ℕ)). recovered file u) same
+  remade file old new itself (inr made) =
+      ap (λ (u : Option (List ℕ)). recovered file u) made ∙ recovered-unopened file (Some (replicate 1024 0)) closed-made ∙ sym itself
+
+  -- so a new undo file takes its name
+  pub recovers-made : (a b c : DiskSeen) → a.images a.files → b.images b.files → IsKept name b → IsKept undo a → b.files name ≡ recovered (a.files name) (a.files undo) → Passes (Restores name undo) a b → Passes (MakesUndo und undo) b c → Passes (RecoversSame name undo und) a c
+  recovers-made a b c start is kept saved done restores makes =
+      recovers-then a b c (recovers-restores a b restores)
+      (passes-within (MakesUndo und undo) (RecoversSame name undo und) b c
+      (λ before after left step.
+      let stays : after name ≡ before name = step.0 name unmade apart in
+      let still : IsKept undo b = kept-on undo (Restores name undo) a b (λ x y one. one.1 undo (λ same. apart (sym same))) saved restores.follows in
+      let itself : recovered (before name) (before undo) ≡ before name =
+      ap (λ (f : Option (List ℕ)). recovered f (before undo)) (kept before left)
+      ∙ ap (λ (u : Option (List ℕ)). recovered (b.files name) u) (still before left)
+      ∙ restores.follows.read.0 ∙ sym done ∙ sym (kept before left) in (
+        ap (λ (f : Option (List ℕ)). recovered f (after undo)) stays ∙ remade (before name) (before undo) (after undo) itself step.1,
+        λ other one_differs two_differs three_differs. step.0 other three_differs two_differs,
+      ))
+      is makes)
+
+  -- and the file is recovered then
+  pub is_recovered-made : (file : Option (List ℕ)) (b c : DiskSeen) → IsKept name b → b.files name ≡ file → Passes (MakesUndo und undo) b c → IsKept undo c → c.files undo ≡ Some (replicate 1024 0) → IsRecovered name undo file c
+  is_recovered-made file b c kept is makes saved made = record {
+    whole = λ image left. let from = makes.follows.left image left in from.2.0 name unmade apart ∙ kept from.0 from.1 ∙ is;
+    closed = λ image left opened. closed-made (ap (λ (u : Option (List ℕ)). byte_at (unwrap_or u []) 0) (sym (saved image left ∙ made)) ∙ opened);
+    room = λ read image left. omega (arith, ap (λ (u : Option (List ℕ)). length (unwrap_or u [])) (saved image left ∙ made), length-replicate {A = ℕ} 1024 0);
+  }
+
+-- a file whose gate is closed is recovered where it and its undo file are kept
+pub is_recovered-closed : (name undo : List ℕ) (file : Option (List ℕ)) (disk : DiskSeen) → IsKept name disk → IsKept undo disk → disk.files name ≡ file → byte_at (unwrap_or (disk.files undo) []) 0 ≢ 1 → IsRecovered name undo file disk
+is_recovered-closed name undo file disk kept saved is closed = record {
+  whole = λ image left. kept image left ∙ is;
+  closed = λ image left opened. closed (ap (λ (u : Option (List ℕ)). byte_at (unwrap_or u []) 0) (sym (saved image left)) ∙ opened);
+  room = λ long image left. omega (arith, long, ap (λ (u : Option (List ℕ)). length (unwrap_or u [])) (saved image left));
+}
+
+-- each image recovers to what an image before recovers to
+pub as_before : (name undo und : List ℕ) (a b : DiskSeen) → a.images a.files → ((image : World) → a.since a.moment image → a.images image) → Passes (RecoversSame name undo und) a b → OnlyLeaves (RecoversAsBefore name undo a) a b
+as_before name undo und a b is now passes =
+    only_leaves-passes (RecoversSame name undo und) (RecoversAsBefore name undo a) a b passes
+    (λ image was. (image, now image was, refl))
+    (λ before after left step. (before, left, step.0))
+    passes.follows.read
+    is
+
+-- the head of an undo file that was read, as the undo file is then
+pub begins-read : (undo : List ℕ) (gate old_length count : ℕ) (a b : DiskSeen) → Passes IsSame a b → gate ≡ byte_at (unwrap_or (a.files undo) []) 0 → old_length ≡ number_at 8 (unwrap_or (a.files undo) []) 8 → count ≡ number_at 4 (unwrap_or (a.files undo) []) 16
+    → BeginsSo gate old_length count (unwrap_or (b.files undo) [])
+begins-read undo gate old_length count a b looks gate_byte long many =
+    subst (λ (f : World). BeginsSo gate old_length count (unwrap_or (f undo) [])) (sym looks.follows.read) (record { gate_byte = gate_byte; long = long; many = many })
+
+-- a file whose gate was read, and is closed, is recovered
+pub is_recovered-read : (name undo : List ℕ) (gate : ℕ) (a b c : DiskSeen) → Passes IsSame a b → Passes IsSame b c → IsKept name b → IsKept undo b → gate ≡ byte_at (unwrap_or (b.files undo) []) 0 → gate ≢ 1 → IsRecovered name undo (recovered (a.files name) (a.files undo)) c
+is_recovered-read name undo gate a b c first second kept saved read closed =
+    let same : c.files ≡ a.files = second.follows.read ∙ first.follows.read in
+    let shut : byte_at (unwrap_or (c.files undo) []) 0 ≢ 1 = λ opened. closed (read ∙ ap (λ (f : World). byte_at (unwrap_or (f undo) []) 0) (sym second.follows.read) ∙ opened) in
+    is_recovered-closed name undo (recovered (a.files name) (a.files undo)) c (looks-kept name b c kept second) (looks-kept undo b c saved second)
+    (sym (recovered-unopened (c.files name) (c.files undo) shut) ∙ ap (λ (f : World). recovered (f name) (f undo)) same)
+    shut
+
+-- a file that is recovered from the same files
+pub is_recovered-same : (name undo : List ℕ) (a b c : DiskSeen) → Passes IsSame a b → IsRecovered name undo (recovered (b.files name) (b.files undo)) c → IsRecovered name undo (recovered (a.files name) (a.files undo)) c
+is_recovered-same name undo a b c looks is = subst (λ (f : World). IsRecovered name undo (recovered (f name) (f undo)) c) looks.follows.read is

@@ -1,0 +1,14 @@
+pub mod BesideLemmas
+pub mod CallLemmas
+pub mod ChangeLemmas
+pub mod CommitLemmas
+pub mod HeldCommitLemmas
+pub mod HeldLemmas
+pub mod KindLemmas
+pub mod LaidTwiceLemmas
+pub mod LookLemmas
+pub mod NamesLemmas
+pub mod OverlayLemmas
+pub mod ReadyLemmas
+pub mod SeenLemmas
+pub mod ToldLemmas

@@ -1,0 +1,53 @@
+-- What is read of a file over which ranges are laid.
+use Rattle.std.proofs.Common.{◌≡◌, ◌⊎◌, inl, inr, ℕ, ◌+◌, ◌-◌, ◌<◌, ◌≤◌, List, [], ◌∷◌, ◌++◌, length, take, drop, get_or, replicate, sym, ap, ◌∙◌, arith, length-append, length-drop, length-take}
+use Rattle.std.specs.Prelude.{max, min}
+use Rattle.std.proofs.lemmas.List.{ext_get_or, get_or-drop, get_or-take, length-replicate, map_more, take_all}
+use Rattle.quota_types.specs.Bytes.{byte_at}
+use Rattle.edit_journal.specs.Spans.{Span, laid, span_of, spans_of, with_laid}
+use Rattle.edit_journal.specs.declared.kept.KeptRange.{KeptRange}
+use Rattle.edit_journal.proofs.LaidLemmas.{get_or-with_laid_before, get_or-with_laid_behind, get_or-with_laid_inside, laid-more}
+
+-- the length of a file over which bytes are laid
+pub length-laid_one : (file : List ℕ) (at : ℕ) (bytes : List ℕ) → 1 ≤ length bytes → length (with_laid file at bytes) ≡ max (length file) (at + length bytes)
+length-laid_one file at [] some = absurd (omega (arith, some))
+length-laid_one file at (byte ∷ rest) some =
+    let bytes : List ℕ = byte ∷ rest in
+    let front : List ℕ = take at file ++ replicate (at - length file) 0 in
+    omega (
+      arith,
+      length-append (front ++ bytes) (drop (at + length bytes) file),
+      length-append front bytes,
+      length-append (take at file) (replicate (at - length file) 0),
+      length-take at file,
+      length-replicate {A = ℕ} (at - length file) 0,
+      length-drop (at + length bytes) file,
+    )
+
+-- one range more
+pub spans-more : (ranges : List KeptRange) (i : ℕ) (range : KeptRange) (file : List ℕ) → range ≡ get_or ranges i range → i < length ranges → laid (spans_of (take (i + 1) ranges)) file ≡ with_laid (laid (spans_of (take i ranges)) file) range.at range.bytes.items
+spans-more ranges i range file is below =
+    ap (λ (s : List Span). laid s file) (map_more span_of ranges i range below)
+    ∙ laid-more (spans_of (take i ranges)) (span_of (get_or ranges i range)) file
+    ∙ ap (λ (r : KeptRange). with_laid (laid (spans_of (take i ranges)) file) r.at r.bytes.items) (sym is)
+
+pub spans-all : (ranges : List KeptRange) (i : ℕ) → length ranges ≤ i → spans_of (take i ranges) ≡ spans_of ranges
+spans-all ranges i all = ap (λ (l : List KeptRange). spans_of l) (take_all i ranges all)
+
+-- bytes that were read are those of the file from the place on
+pub read-bytes : (file buf : List ℕ) (at count len : ℕ) → count ≡ min len (length file - at) → length buf ≡ len → ((j : ℕ) → j < len → get_or buf j 0 ≡ byte_at file (at + j)) → take count buf ≡ take len (drop at file)
+read-bytes file buf at count len counts long same =
+    ext_get_or 0 (take count buf) (take len (drop at file))
+    (omega (arith, length-take count buf, length-take len (drop at file), length-drop at file, counts, long))
+    (λ j below.
+    let inside : j < count = omega (arith, below, length-take count buf) in
+    let within : j < len = omega (arith, inside, counts) in
+    get_or-take count buf j 0 inside ∙ same j within ∙ sym (get_or-drop at file j 0) ∙ sym (get_or-take len (drop at file) j 0 within))
+
+-- a place that is not in a range that is laid over a file
+pub laid-past : (file : List ℕ) (at : ℕ) (bytes : List ℕ) (place : ℕ) → (place < at) ⊎ (at + length bytes ≤ place) → byte_at file place ≡ byte_at (with_laid file at bytes) place
+laid-past file at bytes place (inl before) = sym (get_or-with_laid_before file at bytes place before)
+laid-past file at bytes place (inr behind) = sym (get_or-with_laid_behind file at bytes place behind)
+
+-- a place that is
+pub laid-in : (file : List ℕ) (at : ℕ) (bytes : List ℕ) (place j : ℕ) → place ≡ at + j → j < length bytes → get_or bytes j 0 ≡ byte_at (with_laid file at bytes) place
+laid-in file at bytes place j here below = sym (get_or-with_laid_inside file at bytes j below) ∙ ap (λ (p : ℕ). byte_at (with_laid file at bytes) p) (sym here)

@@ -1,0 +1,45 @@
+-- What is seen of a store, by what its journal tells.
+use Rattle.std.proofs.Common.{◌≡◌, ◌≤◌, ◌⊎◌, inl, inr, ℕ, Bool, true, false, IsTrue, refl, List, Result, Ok, Err, OnOk, OnErr, ap, ◌∙◌}
+use Rattle.outside.specs.Frame.{ChangesOne, ChangesTwo, OnlyReads}
+use Rattle.outside.specs.World.{KeepsOtherTwo, KeepsOthers, World}
+use Rattle.journal_store.specs.JournalStore.{seen_as}
+use Rattle.journal_store.specs.Told.{LooksAt, Told}
+
+pub only_reads-seen : (tells done : Bool) (name : List ℕ) (a b : Told) (fa ra wa fb rb wb : ℕ) → (IsTrue tells → LooksAt done name a b) → fa ≤ fb → wb ≡ wa → OnlyReads done name (seen_as tells a fa ra wa) (seen_as tells b fb rb wb)
+only_reads-seen true done name a b fa ra wa fb rb wb looks later writes = record {
+  files = (looks refl).files;
+  unsynced = (looks refl).unsynced;
+  later = later;
+  writes = writes;
+  synced = (looks refl).synced;
+}
+only_reads-seen false done name a b fa ra wa fb rb wb looks later writes = record {
+  files = refl;
+  unsynced = λ other differ. refl;
+  later = later;
+  writes = writes;
+  synced = λ is other unsynced. unsynced;
+}
+
+-- where a file changed or did not, all others stay
+pub keeps-either : (a b changed : World) (name : List ℕ) → KeepsOthers name a changed → (b ≡ a) ⊎ (b ≡ changed) → KeepsOthers name a b
+keeps-either a b changed name keeps (inl same) other differ = ap (λ (f : World). f other) same
+keeps-either a b changed name keeps (inr is) other differ = ap (λ (f : World). f other) is ∙ keeps other differ
+
+pub changes_one-seen : (tells : Bool) (name : List ℕ) (a b : Told) (fa ra wa fb rb wb : ℕ) → (IsTrue tells → KeepsOthers name a.files b.files) → (IsTrue tells → KeepsOthers name a.unsynced b.unsynced) → fa ≤ fb → rb ≡ ra → ChangesOne name (seen_as tells a fa ra wa) (seen_as tells b fb rb wb)
+changes_one-seen true name a b fa ra wa fb rb wb files names later reads = record { files = files refl; unsynced = names refl; later = later; reads = reads }
+changes_one-seen false name a b fa ra wa fb rb wb files names later reads = record { files = λ other differ. refl; unsynced = λ other differ. refl; later = later; reads = reads }
+
+pub changes_two-seen : (tells : Bool) (one two : List ℕ) (a b : Told) (fa ra wa fb rb wb : ℕ) → (IsTrue tells → KeepsOtherTwo one two a.files b.files) → (IsTrue tells → KeepsOtherTwo one two a.unsynced b.unsynced) → fa ≤ fb → rb ≡ ra → ChangesTwo one two (seen_as tells a fa ra wa) (seen_as tells b fb rb wb)
+changes_two-seen true one two a b fa ra wa fb rb wb files names later reads = record { files = files refl; unsynced = names refl; later = later; reads = reads }
+changes_two-seen false one two a b fa ra wa fb rb wb files names later reads = record { files = λ other differ differs. refl; unsynced = λ other differ differs. refl; later = later; reads = reads }
+
+-- the files of a store that tells
+pub seen-told : (tells : Bool) (t : Told) (f r w : ℕ) → IsTrue tells → ((seen_as tells t f r w).files ≡ t.files) × ((seen_as tells t f r w).unsynced ≡ t.unsynced)
+seen-told true t f r w is = (refl, refl)
+seen-told false t f r w is = absurd (cc)
+
+-- what follows from a call that was done and from one that was not
+pub by_result : {T E P Q : Type 0} (result : Result T E) (R : Type 0) → OnOk result P → OnErr result Q → (P → R) → (Q → R) → R
+by_result (Ok value) R ok err done undone = done ok
+by_result (Err fault) R ok err done undone = undone err

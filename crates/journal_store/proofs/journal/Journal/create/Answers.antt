@@ -1,0 +1,50 @@
+use Rattle.std.proofs.Common.{inl, inr, ⊎_elim, List, ℕ, [], Option, Some, IsSome, true, sym, ap, ◌∙◌, subst}
+use Rattle.outside.specs.World.{World, with_file}
+use Rattle.crash_disk.specs.Steps.{CutShort}
+use Rattle.edit_journal.specs.Spans.{spans_of}
+use Rattle.journal_store.proofs.BesideLemmas.{held-beside, names-beside, put-beside, recovered-beside, same_told}
+use Rattle.journal_store.proofs.CallLemmas.{with_name-keeps}
+use Rattle.journal_store.proofs.KindLemmas.{is_new_name, is_plain}
+use Rattle.journal_store.proofs.journal.Journal.create.Goals as goal
+
+pub returns-then-plain-clause-unsynced : goal.returns-then-plain-clause-unsynced
+returns-then-plain-clause-unsynced g c told =
+    c.in_ok-held_create.ensures.unsynced told ∙ with_name-keeps _ _ c.args.name.now true (c.in_ok-plain.ensures.leaves told).unsynced
+
+pub invariant_of-self : goal.invariant_of-self
+invariant_of-self g c =
+    let self = c.enter.new.self in
+    let plain = is_plain self.name.bytes self.plain in
+    let new = is_new_name c.args.name.now (c.in_ok-plain.ensures.new c.if-plain.false) in
+    record {
+      plain = self.plain;
+      settled = λ told is. recovered-beside (CutShort 0) self.name.bytes c.args.name.now (g.D.Disk.seen self.disk) (g.D.Disk.seen c.create.new.self) plain new c.create.ensures.leaves.follows (self.settled told is);
+      there = λ told some.
+          subst (λ (f : Option (List ℕ)). IsSome f)
+          (sym (held-beside (CutShort 0) self.name.bytes c.args.name.now (g.D.Disk.seen self.disk).files (g.D.Disk.seen c.create.new.self).files plain new c.create.ensures.leaves.follows.read)) (self.there told some);
+    }
+
+pub returns-in_default-clause-fault : goal.returns-in_default-clause-fault
+returns-in_default-clause-fault g c told =
+    let self = c.enter.new.self in
+    let new = is_new_name c.args.name.now (c.in_ok-plain.ensures.new c.if-plain.false) in
+    let same = (c.in_ok-plain.ensures.leaves told).files in
+    ⊎_elim
+    (λ stayed. inl (same_told self.name.bytes (spans_of self.ranges.items) _ _ stayed ∙ same))
+    (λ made. inr (put-beside _ _ self.name.bytes c.args.name.now (spans_of self.ranges.items) (Some []) new made ∙ ap (λ (w : World). with_file w c.args.name.now (Some [])) same))
+    (c.in_default.ensures.fault told)
+
+pub returns-clause-ok : goal.returns-clause-ok
+returns-clause-ok g c told =
+    let self = c.enter.new.self in
+    let new = is_new_name c.args.name.now (c.in_ok-plain.ensures.new c.if-plain.false) in
+    put-beside _ _ self.name.bytes c.args.name.now (spans_of self.ranges.items) (Some []) new (c.in-Ok.ensures.ok told)
+    ∙ ap (λ (w : World). with_file w c.args.name.now (Some [])) (c.in_ok-plain.ensures.leaves told).files
+
+pub returns-clause-unsynced : goal.returns-clause-unsynced
+returns-clause-unsynced g c told =
+    let self = c.enter.new.self in
+    let plain = is_plain self.name.bytes self.plain in
+    let new = is_new_name c.args.name.now (c.in_ok-plain.ensures.new c.if-plain.false) in
+    names-beside _ _ self.name.bytes c.args.name.now (spans_of self.ranges.items) true plain new (c.in-Ok.ensures.unsynced told)
+    ∙ with_name-keeps _ _ c.args.name.now true (c.in_ok-plain.ensures.leaves told).unsynced

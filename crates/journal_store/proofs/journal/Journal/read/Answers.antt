@@ -1,0 +1,44 @@
+use Rattle.std.proofs.Common.{List, ℕ, length, Option, sym, ap, ◌∙◌}
+use Rattle.outside.specs.World.{World, bytes_from}
+use Rattle.edit_journal.specs.Spans.{spans_of}
+use Rattle.edit_journal.specs.UndoName.{und_name, undo_name}
+use Rattle.journal_store.proofs.CallLemmas.{stops-looked}
+use Rattle.journal_store.proofs.KindLemmas.{is_new_name}
+use Rattle.journal_store.proofs.LookLemmas.{looks-nothing, looks-then}
+use Rattle.journal_store.proofs.ToldLemmas.{told-new}
+use Rattle.journal_store.proofs.journal.Journal.read.Goals as goal
+
+pub returns-in_err-count-clause-leaves : goal.returns-in_err-count-clause-leaves
+returns-in_err-count-clause-leaves g c told = looks-then c.args.name.now _ _ _ (c.in_ok-plain.ensures.leaves told) (looks-nothing c.args.name.now _ _ (c.held_read.ensures.same told))
+
+pub returns-in_err-count-clause-stops : goal.returns-in_err-count-clause-stops
+returns-in_err-count-clause-stops g c told plain =
+    stops-looked c.args.name.now (undo_name c.args.name.now) (und_name c.args.name.now) _ _ _ (c.in_ok-plain.ensures.stops told plain) c.held_read.ensures.stops
+
+pub returns-then-plain-clause-stops : goal.returns-then-plain-clause-stops
+returns-then-plain-clause-stops g c told plain =
+    stops-looked c.args.name.now (undo_name c.args.name.now) (und_name c.args.name.now) _ _ _ (c.in_ok-plain.ensures.stops told plain) c.held_read.ensures.stops
+
+pub returns-then-plain-clause-count : goal.returns-then-plain-clause-count
+returns-then-plain-clause-count g c told =
+    c.in_ok-count.ensures.count told ∙ ap (λ (w : World). length (bytes_from (w c.args.name.now) c.args.at (length c.args.buf.now))) (c.in_ok-plain.ensures.leaves told).files
+
+pub returns-then-plain-clause-bytes : goal.returns-then-plain-clause-bytes
+returns-then-plain-clause-bytes g c told =
+    c.in_ok-count.ensures.bytes told ∙ ap (λ (w : World). bytes_from (w c.args.name.now) c.args.at (length c.args.buf.now)) (c.in_ok-plain.ensures.leaves told).files
+
+pub returns-clause-count : goal.returns-clause-count
+returns-clause-count g c told =
+    let self = c.enter.new.self in
+    let new = is_new_name c.args.name.now (c.in_ok-plain.ensures.new c.if-plain.false) in
+    c.in-Ok.ensures.count told
+    ∙ ap (λ (f : Option (List ℕ)). length (bytes_from f c.args.at (length c.args.buf.now))) (sym (told-new (g.D.Disk.seen self.disk).files self.name.bytes (spans_of self.ranges.items) c.args.name.now new.undo new.new))
+    ∙ ap (λ (w : World). length (bytes_from (w c.args.name.now) c.args.at (length c.args.buf.now))) (c.in_ok-plain.ensures.leaves told).files
+
+pub returns-clause-bytes : goal.returns-clause-bytes
+returns-clause-bytes g c told =
+    let self = c.enter.new.self in
+    let new = is_new_name c.args.name.now (c.in_ok-plain.ensures.new c.if-plain.false) in
+    c.in-Ok.ensures.bytes told
+    ∙ ap (λ (f : Option (List ℕ)). bytes_from f c.args.at (length c.args.buf.now)) (sym (told-new (g.D.Disk.seen self.disk).files self.name.bytes (spans_of self.ranges.items) c.args.name.now new.undo new.new))
+    ∙ ap (λ (w : World). bytes_from (w c.args.name.now) c.args.at (length c.args.buf.now)) (c.in_ok-plain.ensures.leaves told).files

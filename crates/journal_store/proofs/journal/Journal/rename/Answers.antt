@@ -1,0 +1,19 @@
+use Rattle.std.proofs.Common.{IsSome, refl, sym, ap, ◌∙◌, subst}
+use Rattle.outside.specs.World.{World, with_new_name}
+use Rattle.outside.proofs.FrameLemmas.{adds_none-then}
+use Rattle.journal_store.proofs.CallLemmas.{with_handed-keeps}
+use Rattle.journal_store.proofs.journal.Journal.rename.Goals as goal
+
+pub returns-clause-ok : goal.returns-clause-ok
+returns-clause-ok g c told =
+    c.in_ok-held_rename.ensures.ok told ∙ ap (λ (w : World). with_new_name w c.args.from.now c.args.to.now) (c.in_ok-hold.ensures.leaves told).files
+
+pub returns-clause-unsynced : goal.returns-clause-unsynced
+returns-clause-unsynced g c told there =
+    c.in_ok-held_rename.ensures.unsynced told (subst (λ (w : World). IsSome (w c.args.from.now)) (sym (c.in_ok-hold.ensures.leaves told).files) there)
+    ∙ with_handed-keeps _ _ c.args.from.now c.args.to.now c.requires (c.in_ok-hold.ensures.leaves told).unsynced
+
+pub returns-clause-absent : goal.returns-clause-absent
+returns-clause-absent g c told absent =
+    adds_none-then _ _ _ ((c.in_ok-hold.ensures.leaves told).synced refl)
+    (c.in_ok-held_rename.ensures.absent told (ap (λ (w : World). w c.args.from.now) (c.in_ok-hold.ensures.leaves told).files ∙ absent))

@@ -1,0 +1,290 @@
+//! A store over a disk.
+
+ghost use Rattle.std.specs.Prelude.{List, ℕ, ◌≡◌, ◌≢◌, ◌⊎◌, ◌↔◌, ◌^◌, ◌≤◌, [], None, Some, length, option_map, take, false, true, if◌then◌else◌, IfOk, IsErr, IsSome, IsTrue, OnErr, OnOk, is_ok};
+ghost use Rattle.crash_disk.specs.DiskSeen.{OnlyLeaves, Passes};
+ghost use Rattle.edit_journal.specs.Recovery.{RecoversSame};
+ghost use Rattle.edit_journal.specs.Settled.{IsRecovered, KeepsOtherThree};
+ghost use Rattle.edit_journal.specs.Undo.{recovered};
+ghost use Rattle.edit_journal.specs.UndoName.{und_name, undo_name};
+ghost use Rattle.journal_store.specs.Kinds.{is_new, kind_of};
+ghost use Rattle.journal_store.specs.Told.{told_files, told_names};
+ghost use Rattle.outside.specs.Count.{Rose, counted};
+ghost use Rattle.outside.specs.Frame.{ChangesOne, ChangesTwo, OnlyReads};
+ghost use Rattle.outside.specs.Unsynced.{AddsNone, with_handed, with_name};
+ghost use Rattle.outside.specs.World.{bytes_from, with_bytes, with_file, with_new_name};
+
+use crate::NameKind;
+use crate::journal::Journal;
+use crash_disk::Disk;
+use outside::{Store, StoreFault};
+
+/// Named files over a disk, of which one at a time is changed in place through a journal.
+///
+/// A call on a name that ends in none of `.new`, `.undo` and `.und` first recovers its file, where the name is not held
+/// yet, and then holds it. What is written into the held file is kept, up to twelve ranges, and is seen by each call on
+/// it; `sync` writes it into the file in place. Names that end in `.new` go to the disk at once. There is no file of a
+/// name that ends in `.undo` or `.und`, and none is read or written of a name of more than 250 bytes, not counting the
+/// ending `.new`.
+///
+/// A call is refused where the disk failed in it, and besides where the name has no file so, where a plain name is used
+/// while ranges are kept for another one, where a range would be the thirteenth or has a byte in common with a kept one,
+/// where bytes are written into a plain file that is not there, where a file of which ranges are kept is made anew or
+/// replaced, and where a file is renamed that is not one under `.new` that gets a plain name.
+#[derive(Drop)]
+pub struct JournalStore<D: Disk> {
+    journal: Journal<D>,
+    faults: u64,
+    reads: u64,
+    writes: u64,
+}
+
+/// Counts a fault.
+fn outcome<T>(faults: &mut u64, done: Result<T, StoreFault>) -> Result<T, StoreFault>
+    ensures same { result ≡ done }
+    ensures ok { OnOk result (faults.new ≡ faults.old) }
+    ensures err { OnErr result (faults.new ≡ counted faults.old) }
+    ensures later { faults.old ≤ faults.new }
+{
+    if done.is_err() {
+        *faults = faults.saturating_add(1);
+    }
+    done
+}
+
+impl<D: Disk> JournalStore<D> {
+    ghost use Rattle.journal_store.specs.JournalStore.{IsAbsent, IsPending, IsRefused, IsRenameRefused, IsReplaceRefused, IsWriteRefused, KeepsSame, RecoversAsBeforeOr, disk_in, disk_seen, inside, store_seen};
+
+    /// A store over this disk. It holds no name.
+    pub fn new(disk: D) -> Self
+        ensures disk { disk_in result ≡ disk }
+        ensures told { IsTrue D.tells → (store_seen result).files ≡ told_files (D.seen disk).files [] [] }
+        ensures unsynced { IsTrue D.tells → (store_seen result).unsynced ≡ told_names (D.seen disk).unsynced [] [] }
+        ensures faults { (store_seen result).faults ≡ 0 }
+        ensures reads { (store_seen result).reads ≡ 0 }
+        ensures writes { (store_seen result).writes ≡ 0 }
+        ensures pending { (name : List ℕ) → IsPending (inside result) name → ⊥ }
+    {
+        JournalStore {
+            journal: Journal::new(disk),
+            faults: 0,
+            reads: 0,
+            writes: 0,
+        }
+    }
+
+    /// The disk, as it is. What is kept is given up.
+    pub fn into_disk(self) -> D
+        ensures { result ≡ disk_in self }
+    {
+        self.journal.into_disk()
+    }
+
+    /// Whether a name is held, and ranges are kept for it.
+    pub fn pending(&self, name: &str) -> bool
+        ensures { IsTrue result ↔ IsPending (inside self.now) name.now }
+    {
+        self.journal.is_pending(name)
+    }
+
+    /// Writes the ranges that are kept for a file into it, in place, so that a stop at any moment leaves the file of before
+    /// or the new one. Where an earlier commit of it was refused, the file is recovered first.
+    ///
+    /// # Errors
+    ///
+    /// The disk failed. The ranges stay kept, and what is told of the file is the same.
+    pub fn commit(&mut self, name: &str) -> Result<(), StoreFault>
+        requires { IsPending (inside self.old) name.now }
+        ensures unsynced { OnOk result (IsTrue D.tells
+            → (store_seen self.new).unsynced ≡ with_name (store_seen self.old).unsynced name.now false) }
+        ensures cause { OnErr result (Rose (store_seen self.old).faults (store_seen self.new).faults) }
+        ensures leaves { OnlyReads (is_ok result) name.now (store_seen self.old) (store_seen self.new) }
+        ensures reads { (store_seen self.new).reads ≡ (store_seen self.old).reads }
+        ensures stops { IsTrue D.tells
+            → OnlyLeaves (RecoversAsBeforeOr name.now (undo_name name.now) (disk_seen self.old)
+            ((store_seen self.old).files name.now)) (disk_seen self.old) (disk_seen self.new) }
+        ensures others { IsTrue D.tells
+            → Passes (KeepsOtherThree name.now (undo_name name.now) (und_name name.now)) (disk_seen self.old)
+            (disk_seen self.new) }
+        ensures done { OnOk result (IsTrue D.tells
+            → IsRecovered name.now (undo_name name.now) ((store_seen self.old).files name.now) (disk_seen self.new)) }
+        ensures given { OnOk result (IsPending (inside self.new) name.now → ⊥) }
+        ensures kept { OnErr result (KeepsSame (inside self.old) (inside self.new)) }
+        ensures only { OnErr result (Rose (disk_seen self.old).faults (disk_seen self.new).faults) }
+        ensures own { (store_seen self.new).faults
+            ≡ (if is_ok result then (store_seen self.old).faults else counted (store_seen self.old).faults) }
+    {
+        let done = self.journal.commit(name);
+        outcome(&mut self.faults, done)
+    }
+
+    /// Recovers a file, and holds its name: it is, in whatever a stop may leave then, what its undo file says that it was,
+    /// or as it was where the undo file says nothing, and its gate is closed. What is kept stays kept.
+    ///
+    /// # Errors
+    ///
+    /// The name has no file, ranges are kept for another one, or the disk failed. No name is held then, unless ranges are
+    /// kept.
+    pub fn recover(&mut self, name: &str) -> Result<(), StoreFault>
+        requires { is_new name.now ≡ false }
+        ensures cause { OnErr result (Rose (store_seen self.old).faults (store_seen self.new).faults) }
+        ensures leaves { OnlyReads (is_ok result) name.now (store_seen self.old) (store_seen self.new) }
+        ensures reads { (store_seen self.new).reads ≡ (store_seen self.old).reads }
+        ensures stops { IsTrue D.tells
+            → Passes (RecoversSame name.now (undo_name name.now) (und_name name.now)) (disk_seen self.old) (disk_seen self.new) }
+        ensures done { OnOk result (IsTrue D.tells → IsRecovered name.now (undo_name name.now)
+            (recovered ((disk_seen self.old).files name.now) ((disk_seen self.old).files (undo_name name.now)))
+            (disk_seen self.new)) }
+        ensures kept { KeepsSame (inside self.old) (inside self.new) }
+        ensures refused { IsRefused (inside self.old) name.now → IsErr result }
+        ensures only { OnErr result (IsRefused (inside self.old) name.now
+            ⊎ Rose (disk_seen self.old).faults (disk_seen self.new).faults) }
+        ensures own { (store_seen self.new).faults
+            ≡ (if is_ok result then (store_seen self.old).faults else counted (store_seen self.old).faults) }
+    {
+        let done = self.journal.recover(name);
+        outcome(&mut self.faults, done)
+    }
+}
+
+impl<D: Disk> Store for JournalStore<D> {
+    ghost use Rattle.journal_store.specs.JournalStore.{IsAbsent, IsPending, IsRefused, IsRenameRefused, IsReplaceRefused, IsWriteRefused, KeepsSame, RecoversAsBeforeOr, disk_in, disk_seen, inside, store_seen};
+
+    ghost tells = { D.tells };
+
+    ghost seen = { store_seen };
+
+    fn size(&mut self, name: &str) -> Result<Option<u64>, StoreFault>
+        ensures found { IfOk result (λ found. IsTrue D.tells → found ≡ option_map length ((store_seen self.old).files name.now)) }
+        ensures cause { OnErr result (Rose (store_seen self.old).faults (store_seen self.new).faults) }
+        ensures leaves { OnlyReads (is_ok result) name.now (store_seen self.old) (store_seen self.new) }
+        ensures reads { (store_seen self.new).reads ≡ (store_seen self.old).reads }
+        ensures stops { IsTrue D.tells → kind_of name.now ≡ NameKind.Plain
+            → Passes (RecoversSame name.now (undo_name name.now) (und_name name.now)) (disk_seen self.old) (disk_seen self.new) }
+        ensures refused { IsRefused (inside self.old) name.now → IsErr result }
+        ensures only { OnErr result (IsRefused (inside self.old) name.now
+            ⊎ Rose (disk_seen self.old).faults (disk_seen self.new).faults) }
+        ensures own { (store_seen self.new).faults
+            ≡ (if is_ok result then (store_seen self.old).faults else counted (store_seen self.old).faults) }
+    {
+        let done = self.journal.size(name);
+        outcome(&mut self.faults, done)
+    }
+
+    fn read(&mut self, name: &str, at: u64, buf: &mut [u8]) -> Result<usize, StoreFault>
+        requires { length buf.old ≤ 1024 }
+        ensures fits { IfOk result (λ count. count ≤ length buf.new) }
+        ensures count { IfOk result (λ count. IsTrue D.tells
+            → count ≡ length (bytes_from ((store_seen self.old).files name.now) at (length buf.old))) }
+        ensures bytes { IfOk result (λ count. IsTrue D.tells
+            → take count buf.new ≡ bytes_from ((store_seen self.old).files name.now) at (length buf.old)) }
+        ensures cause { OnErr result (Rose (store_seen self.old).faults (store_seen self.new).faults) }
+        ensures leaves { OnlyReads (is_ok result) name.now (store_seen self.old) (store_seen self.new) }
+        ensures reads { (store_seen self.new).reads ≡ counted (store_seen self.old).reads }
+        ensures stops { IsTrue D.tells → kind_of name.now ≡ NameKind.Plain
+            → Passes (RecoversSame name.now (undo_name name.now) (und_name name.now)) (disk_seen self.old) (disk_seen self.new) }
+        ensures refused { IsRefused (inside self.old) name.now → IsErr result }
+        ensures only { OnErr result (IsRefused (inside self.old) name.now
+            ⊎ Rose (disk_seen self.old).faults (disk_seen self.new).faults) }
+        ensures own { (store_seen self.new).faults
+            ≡ (if is_ok result then (store_seen self.old).faults else counted (store_seen self.old).faults) }
+    {
+        self.reads = self.reads.saturating_add(1);
+        let done = self.journal.read(name, at, buf);
+        outcome(&mut self.faults, done)
+    }
+
+    fn write(&mut self, name: &str, at: u64, bytes: &[u8]) -> Result<(), StoreFault>
+        requires some { 1 ≤ length bytes.now }
+        requires few { length bytes.now ≤ 1024 }
+        requires place { at ≤ 2 ^ 42 }
+        ensures ok { OnOk result (IsTrue D.tells
+            → (store_seen self.new).files ≡ with_bytes (store_seen self.old).files name.now at bytes.now) }
+        ensures unsynced { OnOk result (IsTrue D.tells
+            → (store_seen self.new).unsynced ≡ with_name (store_seen self.old).unsynced name.now true) }
+        ensures fault { OnErr result (IsTrue D.tells → ((store_seen self.new).files ≡ (store_seen self.old).files)
+            ⊎ ((store_seen self.new).files ≡ with_bytes (store_seen self.old).files name.now at bytes.now)) }
+        ensures cause { OnErr result (Rose (store_seen self.old).faults (store_seen self.new).faults) }
+        ensures leaves { ChangesOne name.now (store_seen self.old) (store_seen self.new) }
+        ensures writes { (store_seen self.new).writes ≡ counted (store_seen self.old).writes }
+        ensures stops { IsTrue D.tells → kind_of name.now ≡ NameKind.Plain
+            → Passes (RecoversSame name.now (undo_name name.now) (und_name name.now)) (disk_seen self.old) (disk_seen self.new) }
+        ensures refused { IsWriteRefused (inside self.old) name.now at (length bytes.now) → IsErr result }
+        ensures absent { OnOk result (IsTrue D.tells → kind_of name.now ≡ NameKind.Plain
+            → IsSome ((store_seen self.old).files name.now)) }
+        ensures only { OnErr result (IsWriteRefused (inside self.old) name.now at (length bytes.now)
+            ⊎ (IsTrue D.tells → IsAbsent (store_seen self.old).files name.now)
+            ⊎ Rose (disk_seen self.old).faults (disk_seen self.new).faults) }
+        ensures own { (store_seen self.new).faults
+            ≡ (if is_ok result then (store_seen self.old).faults else counted (store_seen self.old).faults) }
+    {
+        self.writes = self.writes.saturating_add(1);
+        let done = self.journal.write(name, at, bytes);
+        outcome(&mut self.faults, done)
+    }
+
+    fn create(&mut self, name: &str) -> Result<(), StoreFault>
+        ensures ok { OnOk result (IsTrue D.tells
+            → (store_seen self.new).files ≡ with_file (store_seen self.old).files name.now (Some [])) }
+        ensures unsynced { OnOk result (IsTrue D.tells
+            → (store_seen self.new).unsynced ≡ with_name (store_seen self.old).unsynced name.now true) }
+        ensures fault { OnErr result (IsTrue D.tells → ((store_seen self.new).files ≡ (store_seen self.old).files)
+            ⊎ ((store_seen self.new).files ≡ with_file (store_seen self.old).files name.now (Some []))) }
+        ensures cause { OnErr result (Rose (store_seen self.old).faults (store_seen self.new).faults) }
+        ensures leaves { ChangesOne name.now (store_seen self.old) (store_seen self.new) }
+        ensures writes { (store_seen self.new).writes ≡ (store_seen self.old).writes }
+        ensures refused { IsReplaceRefused (inside self.old) name.now → IsErr result }
+        ensures only { OnErr result (IsReplaceRefused (inside self.old) name.now
+            ⊎ Rose (disk_seen self.old).faults (disk_seen self.new).faults) }
+        ensures own { (store_seen self.new).faults
+            ≡ (if is_ok result then (store_seen self.old).faults else counted (store_seen self.old).faults) }
+    {
+        let done = self.journal.create(name);
+        outcome(&mut self.faults, done)
+    }
+
+    fn sync(&mut self, name: &str) -> Result<(), StoreFault>
+        ensures unsynced { OnOk result (IsTrue D.tells
+            → (store_seen self.new).unsynced ≡ with_name (store_seen self.old).unsynced name.now false) }
+        ensures cause { OnErr result (Rose (store_seen self.old).faults (store_seen self.new).faults) }
+        ensures leaves { OnlyReads (is_ok result) name.now (store_seen self.old) (store_seen self.new) }
+        ensures reads { (store_seen self.new).reads ≡ (store_seen self.old).reads }
+        ensures stops { IsTrue D.tells → kind_of name.now ≡ NameKind.Plain
+            → OnlyLeaves (RecoversAsBeforeOr name.now (undo_name name.now) (disk_seen self.old)
+            ((store_seen self.old).files name.now)) (disk_seen self.old) (disk_seen self.new) }
+        ensures others { IsTrue D.tells → kind_of name.now ≡ NameKind.Plain
+            → Passes (KeepsOtherThree name.now (undo_name name.now) (und_name name.now)) (disk_seen self.old)
+            (disk_seen self.new) }
+        ensures done { OnOk result (IsTrue D.tells → kind_of name.now ≡ NameKind.Plain
+            → IsRecovered name.now (undo_name name.now) ((store_seen self.old).files name.now) (disk_seen self.new)) }
+        ensures refused { IsRefused (inside self.old) name.now → IsErr result }
+        ensures only { OnErr result (IsRefused (inside self.old) name.now
+            ⊎ Rose (disk_seen self.old).faults (disk_seen self.new).faults) }
+        ensures own { (store_seen self.new).faults
+            ≡ (if is_ok result then (store_seen self.old).faults else counted (store_seen self.old).faults) }
+    {
+        let done = self.journal.sync(name);
+        outcome(&mut self.faults, done)
+    }
+
+    fn rename(&mut self, from: &str, to: &str) -> Result<(), StoreFault>
+        requires { from.now ≢ to.now }
+        ensures ok { OnOk result (IsTrue D.tells
+            → (store_seen self.new).files ≡ with_new_name (store_seen self.old).files from.now to.now) }
+        ensures unsynced { OnOk result (IsTrue D.tells → IsSome ((store_seen self.old).files from.now)
+            → (store_seen self.new).unsynced ≡ with_handed (store_seen self.old).unsynced from.now to.now) }
+        ensures absent { OnOk result (IsTrue D.tells → (store_seen self.old).files from.now ≡ None
+            → AddsNone (store_seen self.old).unsynced (store_seen self.new).unsynced) }
+        ensures fault { OnErr result ((store_seen self.new).files ≡ (store_seen self.old).files) }
+        ensures cause { OnErr result (Rose (store_seen self.old).faults (store_seen self.new).faults) }
+        ensures leaves { ChangesTwo from.now to.now (store_seen self.old) (store_seen self.new) }
+        ensures writes { (store_seen self.new).writes ≡ (store_seen self.old).writes }
+        ensures refused { IsRenameRefused (inside self.old) from.now to.now → IsErr result }
+        ensures only { OnErr result (IsRenameRefused (inside self.old) from.now to.now
+            ⊎ Rose (disk_seen self.old).faults (disk_seen self.new).faults) }
+        ensures own { (store_seen self.new).faults
+            ≡ (if is_ok result then (store_seen self.old).faults else counted (store_seen self.old).faults) }
+    {
+        let done = self.journal.rename(from, to);
+        outcome(&mut self.faults, done)
+    }
+}
