@@ -28,7 +28,7 @@ pub fn take_block<S: Store>(
     store: &mut S,
     heads: &mut Heads,
 ) -> Result<u32, ChainFault>
-    requires blocks { heads.old.blocks < 2 ^ 32 - 1 }
+    requires blocks { heads.old.free ≡ 0 → heads.old.blocks < 2 ^ 32 - 1 }
     requires new { heads.old.free ≡ 0 → HasRoomFor (pages_of pages.old) heads.old.blocks }
     requires listed { heads.old.free ≢ 0 → HasRoomFor (pages_of pages.old) heads.old.free }
     ensures head { IfOk result (TakesHead heads.old heads.new) }

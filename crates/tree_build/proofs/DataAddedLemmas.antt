@@ -25,15 +25,6 @@ pub record HasParts (format : Format) (list : List Entry) (first : ℕ) (old fil
   pub rest_is : rest ≡ drop (entries_per_block format * count) list
   pub left : count + filled_blocks (entries_per_block format) (length rest) ≡ parts_needed format list
 
-pub parts_none : (format : Format) (list : List Entry) (first : ℕ) (file : List ℕ) → HasParts format list first file file [] list 0
-parts_none format list first file = record {
-  leaves_are = refl;
-  blocks_are = tt;
-  kept = kept_first first file;
-  rest_is = let none : entries_per_block format * 0 ≡ 0 = omega arith in sym (ap (λ (k : ℕ). drop k list) none);
-  left = omega arith;
-}
-
 -- one block more of what is left
 filled_one_more : (format : Format) → IsTreeFormat format → (left now later : ℕ) → 1 ≤ left → now ≡ min left (entries_per_block format) → later ≡ left - now
     → filled_blocks (entries_per_block format) left ≡ suc (filled_blocks (entries_per_block format) later)

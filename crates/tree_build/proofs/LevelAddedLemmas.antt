@@ -210,16 +210,6 @@ level_more children first old file new block parents more rest siblings later nu
     lead_some all [] some lead = absurd (omega arith)
     lead_some all (p ∷ ps) some lead = let low = leads_below all p.block lead.0 in omega arith
 
--- how many parents there are still to be
-pub parents_left : (children : List TreePath) (first : ℕ) (old file : List ℕ) (parents rest : List TreePath) → HasLevel children first old file parents rest
-    → length parents + length (parents_of (numbers_of rest)) ≡ length (parents_of (numbers_of children))
-parents_left children first old file parents rest so_far =
-    omega (arith, ap length so_far.numbers_are, length-append (numbers_of parents) (parents_of (numbers_of rest)), length_numbers parents)
-
-pub some_parent : (rest : List TreePath) → 0 < length rest → 1 ≤ length (parents_of (numbers_of rest))
-some_parent [] some = absurd (omega arith)
-some_parent (p ∷ ps) some = omega arith
-
 -- the level when no path is left
 pub level_all : (children : List TreePath) (first : ℕ) (old file : List ℕ) (parents rest : List TreePath) → length rest ≡ 0 → HasLevel children first old file parents rest
     → HasLevel children first old file parents []

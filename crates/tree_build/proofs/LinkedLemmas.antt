@@ -99,7 +99,7 @@ module _ (held : List ℕ) (format : Format) (old new found fresh : List ℕ) (l
   ]
 
   -- a changed block is one of the tree or one of the fresh ones
-  changed_which : (block : ℕ) → StandsIn (changed_blocks found fresh) block → StandsIn (tree_blocks old heads.blocks) block ⊎ StandsIn fresh block
+  pub changed_which : (block : ℕ) → StandsIn (changed_blocks found fresh) block → StandsIn (tree_blocks old heads.blocks) block ⊎ StandsIn fresh block
   changed_which block stands =
       let place = changed_place block stands in
       elim (cases_lt gone place.0) [
@@ -172,7 +172,7 @@ module _ (held : List ℕ) (format : Format) (old new found fresh : List ℕ) (l
       ap (λ (ps : List TreePath). nat_le 1 (times (blocks_of ps) block)) added
       ∙ ap (λ (n : ℕ). nat_le 1 n) (times-blocks (leaves old heads.blocks) leaf 0 (256 ^ 4) (Rises-paths old heads.blocks 4) tree.awaited.absent block)
 
-  data_same : data_with now new heads.blocks ≡ data_with was old heads.blocks
+  pub data_same : data_with now new heads.blocks ≡ data_with was old heads.blocks
   data_same = λ i. filter (λ block. counts_same block i) (range_with_len 0 heads.blocks)
 
   -- a data block stays
@@ -259,7 +259,7 @@ module _ (held : List ℕ) (format : Format) (old new found fresh : List ℕ) (l
     ]
   ]
 
-  not_free : (number : ℕ) → StandsIn tree.roles.free number → times (changed_blocks found fresh) number ≡ 0
+  pub not_free : (number : ℕ) → StandsIn tree.roles.free number → times (changed_blocks found fresh) number ≡ 0
   not_free number stands = elim (cases_lt 0 (times (changed_blocks found fresh) number)) [
     | inl changed ↦ absurd (omega (arith, stands, (changed_apart number changed).1))
     | inr other ↦ omega (arith, other)

@@ -30,9 +30,6 @@ appended file block count long size =
 pub kept_again : (count : ℕ) (old middle new : List ℕ) → KeepsBlocks count old middle → KeepsBlocks count middle new → KeepsBlocks count old new
 kept_again count old middle new first second number low = second number low ∙ first number low
 
-pub kept_fewer : (few count : ℕ) (old new : List ℕ) → few ≤ count → KeepsBlocks count old new → KeepsBlocks few old new
-kept_fewer few count old new le kept number low = kept number (omega arith)
-
 pub kept_first : (count : ℕ) (file : List ℕ) → KeepsBlocks count file file
 kept_first count file number low = refl
 

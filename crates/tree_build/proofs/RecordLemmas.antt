@@ -100,12 +100,6 @@ stored_entry format block bytes id other place size stored rec tree size_is stor
     ∙ sym stored_is
     ∙ same
 
--- an unused entry is used by none
-pub unused_entry : (format : Format) (block bytes : List ℕ) (id place : ℕ) → bytes ≡ entry_bytes format block place → is_unused bytes ≡ true → None ≡ record_by format block id place
-unused_entry format block bytes id place is unused =
-    let e : Entry = record { id = stored_id bytes; rec = without_marker (stored_id bytes) (stored_record format bytes) } in
-    sym (ap (given_by format id) (sym is) ∙ ap (λ (u : Bool). option_and_then (used_by id) (cond u None (Some e))) unused)
-
 -- the record of the first entry from a place on that an identifier uses
 abbrev pub record_from : Format → List ℕ → ℕ → ℕ → Option Rec
 record_from format block id place =
@@ -142,11 +136,6 @@ record_from-next format block id place low =
     ap (record_among format block id place) more
     ∙ found_or_later id (entry_of format (entry_bytes format block place))
     (filter_map (λ at. entry_of format (entry_bytes format block at)) (range_with_len (place + 1) (entries_per_block format - (place + 1))))
-
-pub record_from-last : (format : Format) (block : List ℕ) (id place : ℕ) → entries_per_block format ≤ place → record_from format block id place ≡ None
-record_from-last format block id place over =
-    let none : entries_per_block format - place ≡ 0 = omega arith in
-    ap (record_among format block id place) none
 
 -- the entry that an identifier uses
 pub used_there : (format : Format) (bytes : List ℕ) (id : ℕ) → IsSome (option_and_then (used_by id) (entry_of format bytes))

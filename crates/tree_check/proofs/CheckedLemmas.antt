@@ -94,15 +94,3 @@ is_checked file header roles are two long found chained filled =
           (subst (λ (h : ℕ). IsChain file header.blocks h found.one_role.free 0) (sym are.free) found.one_role.is_free);
       free_count = found.free;
     }
-
--- a file is given back that is there
-pub is_given : (given : Option (Vec ℕ Global)) (bytes : List ℕ) → option_map (λ (file : Vec ℕ Global). file.items) given ≡ Some bytes → IsSome given
-is_given None bytes is = absurd cc
-is_given (Some file) bytes is = refl
-
--- with its bytes
-pub same_given : (given : Option (Vec ℕ Global)) (file : Vec ℕ Global) (bytes : List ℕ) → given ≡ Some file
-    → option_map (λ (file : Vec ℕ Global). file.items) given ≡ Some bytes → file.items ≡ bytes
-same_given given file bytes here is =
-    let found : Some file.items ≡ Some bytes = ap (option_map (λ (file : Vec ℕ Global). file.items)) (sym here) ∙ is in
-    cc
