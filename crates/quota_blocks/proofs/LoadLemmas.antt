@@ -13,11 +13,6 @@ pub record IsBegun (file : Option (List ℕ)) (size : ℕ) (bytes : List ℕ) : 
   pub long : length whole ≡ size
   pub front : take (length bytes) whole ≡ bytes
 
--- nothing was read yet
-pub begun_none : (file : Option (List ℕ)) (size : ℕ) → Some size ≡ option_map length file → IsBegun file size []
-begun_none None size e = absurd (none-some size (sym e))
-begun_none (Some whole) size e = record { whole = whole; there = refl; long = same_Some _ _ (sym e); front = refl }
-
 more_of : (whole bytes : List ℕ) (wanted : ℕ) → take (length bytes) whole ≡ bytes → take (length (bytes ++ take wanted (drop (length bytes) whole))) whole ≡ bytes ++ take wanted (drop (length bytes) whole)
 more_of whole bytes wanted front =
     let rest = drop (length bytes) whole in

@@ -1,7 +1,11 @@
 -- What is seen of an opened quota file, and why a call on it may be refused.
-use Rattle.std.specs.Prelude.{◌≡◌, ℕ, Bool, true, false, List, ⊤}
+use Rattle.std.specs.Prelude.{◌≡◌, ℕ, ◌*◌, ◌<◌, ◌≤◌, max, Bool, true, false, IsTrue, IfErr, List, length, Result, ⊤}
+use Rattle.quota_types.specs.Times.{StandsIn, times}
+use Rattle.quota_types.specs.declared.damage.Damage.{Damage as Damaged}
 use Rattle.quota_types.specs.declared.file_kind.Format.{Format}
+use Rattle.file_blocks.specs.Block.{block_of, bytes_of}
 use Rattle.outside.specs.Count.{Rose, counted}
+use Rattle.outside.specs.World.{KeepsOthers, World}
 use Rattle.quota_blocks.specs.QuotaValue.{QuotaValue}
 use Rattle.quota_blocks.specs.declared.quota_file.FileFault.{FileFault}
 use Rattle.quota_blocks.specs.declared.quota_file.FileFault.TheVariants.{Store, Damage, Full, Memory}
@@ -59,3 +63,33 @@ is_store_fault Store = true
 is_store_fault (Damage _) = false
 is_store_fault (Full _ _) = false
 is_store_fault Memory = false
+
+-- a fact of a damage, where a call was refused for one
+abbrev pub IfDamage : FileFault → (Damaged → Type 0) → Type 0
+IfDamage Store P = ⊤
+IfDamage (Damage damage) P = P damage
+IfDamage (Full _ _) P = ⊤
+IfDamage Memory P = ⊤
+
+-- a call was refused, but not for want of memory
+abbrev pub WantsNoMemory : FileFault → Type 0
+WantsNoMemory Store = ⊤
+WantsNoMemory (Damage _) = ⊤
+WantsNoMemory (Full _ _) = ⊤
+WantsNoMemory Memory = ⊥
+
+-- Of so many blocks at most, of 1,024 bytes each, the bytes of a file have changed: all others are as before, and the file has grown
+-- no further than to the end of the last of those.
+pub record ChangesBlocks (most : ℕ) (before after : List ℕ) : Type 0 where
+  pub numbers : List ℕ
+  pub few : length numbers ≤ most
+  pub others : (number : ℕ) → times numbers number ≡ 0 → block_of after number ≡ block_of before number
+  pub longer : length before ≤ length after
+  pub within : (blocks : ℕ) → ((number : ℕ) → StandsIn numbers number → number < blocks) → length after ≤ max (length before) (1024 * blocks)
+
+-- A change that is made where the bytes lie, in place: however it ends, and whatever the file holds, at most twelve blocks of it have
+-- changed where the store tells it, no other file has, and memory is not wanting.
+pub record StaysInPlace (tells : Bool) (name : List ℕ) (old new : World) (result : Result (Unit {0}) FileFault) : Type 0 where
+  pub few : IsTrue tells → ChangesBlocks 12 (bytes_of (old name)) (bytes_of (new name))
+  pub others : KeepsOthers name old new
+  pub no_memory : IfErr result WantsNoMemory

@@ -1,5 +1,6 @@
-ghost use Rattle.std.specs.Prelude.{◌≡◌, ◌^◌, ◌<◌, ℕ, List, Option, None, Some, IsTrue, IfOk, IfSome, IsSomeAnd};
+ghost use Rattle.std.specs.Prelude.{◌≡◌, ◌^◌, ◌<◌, ℕ, Bool, List, Option, None, Some, IsTrue, IfErr, IfOk, IfSome, IsSomeAnd};
 ghost use Rattle.std.specs.FinMap.{get};
+ghost use Rattle.quota_types.specs.declared.damage.Damage.{Damage};
 ghost use Rattle.quota_types.specs.declared.file_kind.Format.{Format};
 ghost use Rattle.quota_types.specs.Kept.{IsKept};
 ghost use Rattle.quota_types.specs.Range.{grace_unfit};
@@ -7,7 +8,7 @@ ghost use Rattle.quota_types.specs.Rec.{IsNull};
 ghost use Rattle.quota_blocks.specs.Changes.{Changes, file_at, laws_of};
 ghost use Rattle.quota_blocks.specs.FileChange.{FileChange, Put, Remove, SetGrace};
 ghost use Rattle.quota_blocks.specs.LooksUp.{LooksUp};
-ghost use Rattle.quota_blocks.specs.QuotaFile.{FileSeen};
+ghost use Rattle.quota_blocks.specs.QuotaFile.{FileSeen, IfDamage, StaysInPlace};
 ghost use Rattle.quota_blocks.specs.QuotaValue.{QuotaValue, IsAfter, IsNextAfter};
 ghost use Rattle.outside.specs.World.{World};
 ghost use Rattle.quota_blocks.specs.declared.quota_file.FileFault.{FileFault};
@@ -112,6 +113,10 @@ pub trait QuotaFile<S: Store> {
     /// Its name, its format, whether it may still be used, how many blocks it may have, and how many calls were refused.
     ghost seen: { Self → FileSeen };
 
+    /// A damage that a look-up answers is one of the named file, as far as the store tells it and what the opened file keeps
+    /// agrees with it.
+    ghost is_damage: { Self → S → Damage → Type 0 };
+
     /// The faults that a call on a file of this format may answer, whatever the store tells.
     ghost may_refuse: { Format → FileFault → Type 0 };
 
@@ -121,6 +126,9 @@ pub trait QuotaFile<S: Store> {
     /// The named file, as it is, has no room for a change of it to the value: it would need so many blocks, and may have only
     /// so many.
     ghost lacks_room: { FileSeen → Option (List ℕ) → FileChange → QuotaValue → ℕ → ℕ → Type 0 };
+
+    /// A change of a file of this format is made in place: no other file is written, and no memory is taken.
+    ghost in_place: { Format → FileChange → Bool };
 
     /// What a change of a file that is seen so, and has this name, makes of the files, as far as its format says more than which
     /// value the file stands for.
@@ -166,6 +174,7 @@ pub trait QuotaFile<S: Store> {
         ensures found { IfOk result (λ found. (value : QuotaValue) → holds self.old store.old value
             → found ≡ get value.records id) }
         ensures kept { IfOk result (λ found. IfSome found (IsKept (seen self.old).format id)) }
+        ensures damage { IfErr result (λ fault. IfDamage fault (is_damage self.old store.old)) }
         ensures looks { LooksUp Some (laws_of S.tells stands_for makes may_leave lacks_room may_refuse
             change_reads change_writes)
             (file_at (holds self.old store.old) (seen self.old) (S.seen store.old))
@@ -185,6 +194,7 @@ pub trait QuotaFile<S: Store> {
         ensures ascends { IfOk result (λ found. IfSome found (λ entry. IsAfter after entry.id)) }
         ensures narrow { IfOk result (λ found. IfSome found (λ entry. entry.id < 2 ^ 32)) }
         ensures kept { IfOk result (λ found. IfSome found (λ entry. IsKept (seen self.old).format entry.id entry.rec)) }
+        ensures damage { IfErr result (λ fault. IfDamage fault (is_damage self.old store.old)) }
         ensures looks { LooksUp Some (laws_of S.tells stands_for makes may_leave lacks_room may_refuse
             change_reads change_writes)
             (file_at (holds self.old store.old) (seen self.old) (S.seen store.old))
@@ -201,6 +211,8 @@ pub trait QuotaFile<S: Store> {
         requires usable { IsTrue (seen self.old).usable }
         requires not_null { ¬ (IsNull rec) }
         requires kept { IsKept (seen self.old).format id rec }
+        ensures in_place { IsTrue (in_place (seen self.old).format (Put id rec))
+            → StaysInPlace S.tells (seen self.old).name (S.seen store.old).files (S.seen store.new).files result }
         ensures changes { Changes (Put id rec) (laws_of S.tells stands_for makes may_leave lacks_room may_refuse
             change_reads change_writes)
             (file_at (holds self.old store.old) (seen self.old) (S.seen store.old))
@@ -214,13 +226,15 @@ pub trait QuotaFile<S: Store> {
     /// The store failed, the file is damaged or full, or there is not enough memory.
     fn remove(&mut self, store: &mut S, id: u32) -> Result<(), FileFault>
         requires { IsTrue (seen self.old).usable }
+        ensures in_place { IsTrue (in_place (seen self.old).format (Remove id))
+            → StaysInPlace S.tells (seen self.old).name (S.seen store.old).files (S.seen store.new).files result }
         ensures changes { Changes (Remove id) (laws_of S.tells stands_for makes may_leave lacks_room may_refuse
             change_reads change_writes)
             (file_at (holds self.old store.old) (seen self.old) (S.seen store.old))
             (file_at (holds self.new store.new) (seen self.new) (S.seen store.new)) result };
 
     /// Sets both grace periods, for which the format has room. All records stay. What was written is synced then.
-    /// `Full` never comes.
+    /// `Full` never comes, and `Memory` never where the change is made in place.
     ///
     /// # Errors
     ///
@@ -228,6 +242,8 @@ pub trait QuotaFile<S: Store> {
     fn set_grace(&mut self, store: &mut S, grace: Grace) -> Result<(), FileFault>
         requires usable { IsTrue (seen self.old).usable }
         requires fits { grace_unfit (seen self.old).format grace ≡ None }
+        ensures in_place { IsTrue (in_place (seen self.old).format (SetGrace grace))
+            → StaysInPlace S.tells (seen self.old).name (S.seen store.old).files (S.seen store.new).files result }
         ensures changes { Changes (SetGrace grace) (laws_of S.tells stands_for makes may_leave lacks_room may_refuse
             change_reads change_writes)
             (file_at (holds self.old store.old) (seen self.old) (S.seen store.old))

@@ -68,11 +68,15 @@ impl<S: Store> QuotaFile<S> for V1File {
 
     ghost seen = { λ file. flat_seen file.opened (string_bytes file.name) };
 
+    ghost is_damage = { λ _ _ _. ⊥ };
+
     ghost may_refuse = { λ _ fault. MayRefuse fault };
 
     ghost stands_for = { λ _ file value. FlatStandsFor file value };
 
     ghost lacks_room = { λ _ _ _ _ _ _. ⊥ };
+
+    ghost in_place = { λ _ _. false };
 
     ghost makes = { λ _ change. FlatMakes change };
 

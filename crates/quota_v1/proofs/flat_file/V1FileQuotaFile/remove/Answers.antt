@@ -1,3 +1,4 @@
+use Rattle.std.proofs.lemmas.Bool.{false≢true}
 use Rattle.std.proofs.Common.{◌≡◌, None, refl, arith}
 use Rattle.std.specs.String.{string_bytes}
 use Rattle.quota_blocks.proofs.ChangesLemmas.{bounded-none, changes-idle}
@@ -15,6 +16,7 @@ returns-then-is_none g c =
     let at = flat_at S.tells (S.seen c.args.store.now) (string_bytes c.args.self.now.name) c.args.self.now.opened c.args.self.now.bytes.items in
     let is = rw c.deref.ensures.value at c.record_of.ensures.value in
     record {
+      in_place = λ never. absurd (false≢true never);
       changes = changes-idle (Remove c.args.id) (flat_laws S.tells) at at tt
           (λ value held. value_absent _ value c.args.id c.record_of.result is c.if-is_none.ensures held.stands)
           (λ value held. holds_absent _ _ _ value c.args.id c.record_of.result is c.if-is_none.ensures held)
@@ -27,6 +29,7 @@ returns g c =
     let none : unless_zeros c.default.result ≡ None = rw (zeros.0, zeros.1.0, zeros.1.1.0, zeros.1.1.1.0, zeros.1.1.1.1.0, zeros.1.1.1.1.1.0, zeros.1.1.1.1.1.1.0, zeros.1.1.1.1.1.1.1) in
     let is = rw c.deref.ensures.value at c.record_of.ensures.value in
     record {
+      in_place = λ never. absurd (false≢true never);
       changes = c.rewrite.ensures.changes _ (λ value stands. value_found _ value c.args.id c.record_of.result is c.if-is_none.ensures stands)
           (if_ok-four c.with_record-bytes.result
           (λ bytes long written others times.
