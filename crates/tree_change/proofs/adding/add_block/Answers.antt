@@ -1,0 +1,29 @@
+use Rattle.std.proofs.Common.{ℕ, List, sym, subst, arith}
+use Rattle.std.proofs.lemmas.Result.{err_from_is_err_and}
+use Rattle.quota_pages.specs.Used.{shown_over}
+use Rattle.quota_pages.proofs.UsedLemmas.{shown_over-lends}
+use Rattle.free_chains.specs.declared.heads.Heads.{Heads}
+use Rattle.tree_change.specs.Enters.{EntersRecord}
+use Rattle.tree_change.proofs.AddedLemmas.{added, entering_refused}
+use Rattle.tree_change.proofs.adding.add_block.Goals as goal
+
+pub returns-in_err-enter_entry_list-clause-refused :
+    goal.returns-in_err-enter_entry_list-clause-refused
+returns-in_err-enter_entry_list-clause-refused g c =
+    let p = err_from_is_err_and c.from_residual-in_err-enter_entry_list.result c.from_residual-in_err-enter_entry_list.ensures.1 in
+    let took = c.in_ok-block.ensures in
+    rw (p.1, p.2) (entering_refused _ _ _ _ c.in_ok-block.block c.args.limit _ _ c.args.heads.now c.take_one.new.heads _
+    (omega (arith, took.lends.leaves.later, c.in_ok-write_record.ensures.lends.leaves.later)) took.taken c.in_err-enter_entry_list.ensures.refused)
+
+pub returns-clause-added : goal.returns-clause-added
+returns-clause-added g c = λ known held records tree none.
+    let S = g.S.Store in
+    let took = c.in_ok-block.ensures in
+    let wrote = c.in_ok-write_record.ensures in
+    let entered = c.in_ok-enter_entry_list.ensures in
+    let first : List ℕ = shown_over (S.seen c.args.store.now) c.args.pages.now in
+    let last : List ℕ = shown_over (S.seen c.enter_entry_list.new.store) c.enter_entry_list.new.pages in
+    let known' = took.lends.known known in
+    subst (λ (now : Heads). EntersRecord c.in_ok-block.block c.args.id c.args.rec.now 1 held c.args.format first last c.args.heads.now now records) (sym entered.head)
+    (added held c.args.format first (shown_over (S.seen c.take_one.new.store) c.take_one.new.pages) (shown_over (S.seen c.write_record.new.store) c.write_record.new.pages) last c.args.heads.now c.take_one.new.heads records c.in_ok-block.block c.args.id c.args.rec.now
+    (omega (arith, c.ranges.id.fits)) none (took.taken known) (wrote.written known') (shown_over-lends entered.lends) (entered.entered (wrote.lends.known known')) tree)

@@ -1,0 +1,21 @@
+use Rattle.std.proofs.Common.{◌≡◌, ◌≤◌, true, length}
+use Rattle.quota_pages.specs.Pages.{pages_of}
+use Rattle.quota_pages.specs.Used.{IsKnown, Uses, shown_over}
+use Rattle.quota_radix.specs.Link.{AreBuffered}
+use Rattle.tree_change.specs.Fresh.{TakesFresh}
+use Rattle.tree_change.proofs.fresh.take_fresh.Given as goal
+
+abbrev pub invariant-loop : goal.invariant-loop
+invariant-loop g l =
+    let S = g.S.Store in
+    record {
+      long : length l.fresh.items ≡ l.counter;
+      at_least : l.fn.heads.blocks ≤ l.now.blocks;
+      within : l.fn.heads.blocks ≤ l.fn.limit → l.now.blocks ≤ l.fn.limit;
+      first : l.now.first ≡ l.fn.heads.first;
+      same : l.heads ≡ l.fn.heads;
+      brought : AreBuffered (pages_of l.pages) l.fresh.items;
+      uses : Uses S.tells true l.counter (S.seen l.fn.store) (S.seen l.store) l.fn.pages l.pages;
+      taken : IsKnown S.tells (S.seen l.fn.store) l.fn.pages
+          → TakesFresh l.fresh.items (shown_over (S.seen l.fn.store) l.fn.pages) (shown_over (S.seen l.store) l.pages) l.fn.heads l.now;
+    }

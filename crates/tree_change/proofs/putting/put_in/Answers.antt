@@ -1,0 +1,119 @@
+use Rattle.std.proofs.Common.{◌≡◌, ℕ, ◌+◌, ◌-◌, ◌<◌, List, None, Some, length, sym, ap, subst, ◌∙◌, arith}
+use Rattle.std.proofs.lemmas.Result.{IfErr-weaker, err_from_is_err_and, on_ok_weaker}
+use Rattle.quota_pages.specs.Pages.{pages_of}
+use Rattle.quota_pages.specs.Used.{IsKnown, shown_over}
+use Rattle.quota_pages.proofs.UsedLemmas.{shown_over-looks}
+use Rattle.quota_radix.specs.Descent.{leaf_block}
+use Rattle.quota_radix.specs.Link.{AreBuffered}
+use Rattle.quota_radix.specs.Way.{blocks_on_way}
+use Rattle.free_chains.specs.declared.heads.Heads.{Heads}
+use Rattle.tree_build.specs.Loose.{loose_of}
+use Rattle.tree_change.specs.ChangeFault.{IsStepFault}
+use Rattle.tree_change.specs.Overwrites.{OverwritesRecord}
+use Rattle.tree_change.specs.Putting.{EndsEarly, IsPutFault, IsPutInFault, PutsIn, blocks_taken, data_wanted}
+use Rattle.tree_change.specs.Shows.{IsNoCompleteTree, IsWholeTree}
+use Rattle.tree_change.proofs.PuttingLemmas.{long_way_found, over_refused, put_over_whole, put_refused, short_way_found, taken_absent, wanted_as, way_refused, whole_way_found}
+use Rattle.tree_change.proofs.putting.put_in.Goals as goal
+
+pub returns-in_err-path-clause-refused : goal.returns-in_err-path-clause-refused
+returns-in_err-path-clause-refused g c =
+    let p = err_from_is_err_and c.from_residual.result c.from_residual.ensures.1 in
+    let S = g.S.Store in
+    let old : List ℕ = shown_over (S.seen c.args.store.now) c.args.pages.now in
+    rw (p.1, p.2) (put_refused _ _ (IsKnown S.tells (S.seen c.args.store.now) c.args.pages.now) c.args.format old c.args.heads.now c.args.limit c.args.id _
+    (way_refused _ _ (IsKnown S.tells (S.seen c.args.store.now) c.args.pages.now) _ c.args.format old c.args.heads.now c.args.limit (blocks_taken old c.args.heads.now c.args.id) c.args.id c.in_err-path.field-0.0 c.in_err-path.ensures.refused))
+
+pub put_new-requires-clause-brought : goal.put_new-requires-clause-brought
+put_new-requires-clause-brought g c =
+    subst (AreBuffered (pages_of c.find_path.new.pages)) (whole_way_found c.in_ok-path.path.found.items (sym c.leaf.ensures ∙ c.in-None.is)) c.in_ok-path.ensures.buffered
+
+pub returns-in-Some-clause-put : goal.returns-in-Some-clause-put
+returns-in-Some-clause-put g c =
+    let S = g.S.Store in
+    let heads : Heads = c.args.heads.now in
+    let id : ℕ = c.args.id in
+    let block : ℕ = c.in-Some.block in
+    let old : List ℕ = shown_over (S.seen c.args.store.now) c.args.pages.now in
+    let between : List ℕ = shown_over (S.seen c.find_path.new.store) c.find_path.new.pages in
+    let new : List ℕ = shown_over (S.seen c.overwrite_record.new.store) c.overwrite_record.new.pages in
+    let looked = c.in_ok-path.ensures.looked in
+    let same : between ≡ old = shown_over-looks looked in
+    on_ok_weaker c.overwrite_record.result
+    (λ over known held records tree.
+    let led : leaf_block old heads.blocks id ≡ Some block = sym (c.in_ok-path.ensures.leaf known) ∙ sym c.leaf.ensures ∙ c.in-Some.is in
+    let many : 4 < length (blocks_on_way old heads.blocks id) = omega (arith, long_way_found c.in_ok-path.path.found.items block (sym c.leaf.ensures ∙ c.in-Some.is), ap {B = ℕ} length (c.in_ok-path.ensures.found known)) in
+    put_over_whole held c.args.format old new heads records id c.args.rec.now many
+    (subst (λ (file : List ℕ). OverwritesRecord id c.args.rec.now held c.args.format file new heads records) same
+    (over (looked.known known) held heads records (subst (λ (file : List ℕ). leaf_block file heads.blocks id ≡ Some block) (sym same) led)
+    (subst (λ (file : List ℕ). IsWholeTree (loose_of held None None) c.args.format file heads records) (sym same) tree))))
+    c.overwrite_record.ensures.overwritten
+
+pub returns-in-Some-clause-refused : goal.returns-in-Some-clause-refused
+returns-in-Some-clause-refused g c =
+    let S = g.S.Store in
+    let heads : Heads = c.args.heads.now in
+    let id : ℕ = c.args.id in
+    let block : ℕ = c.in-Some.block in
+    let before : ℕ = (S.seen c.args.store.now).faults in
+    let middle : ℕ = (S.seen c.find_path.new.store).faults in
+    let now : ℕ = (S.seen c.overwrite_record.new.store).faults in
+    let old : List ℕ = shown_over (S.seen c.args.store.now) c.args.pages.now in
+    let between : List ℕ = shown_over (S.seen c.find_path.new.store) c.find_path.new.pages in
+    let still : Type 0 = IsKnown S.tells (S.seen c.args.store.now) c.args.pages.now in
+    let known : Type 0 = IsKnown S.tells (S.seen c.find_path.new.store) c.find_path.new.pages in
+    let looked = c.in_ok-path.ensures.looked in
+    let same : between ≡ old = shown_over-looks looked in
+    let need : ℕ = blocks_taken old heads id in
+    IfErr-weaker c.overwrite_record.result
+    (IsStepFault middle now (known → (these : Heads) → leaf_block between these.blocks id ≡ Some block → IsNoCompleteTree c.args.format between these))
+    (IsPutInFault before now still c.args.format old heads c.args.limit id)
+    (λ fault h. put_refused before now still c.args.format old heads c.args.limit id fault
+    (over_refused before middle now known still c.args.format old between heads c.args.limit need block id fault looked.leaves.later looked.known same
+    (λ is. sym (c.in_ok-path.ensures.leaf is) ∙ sym c.leaf.ensures ∙ c.in-Some.is) h))
+    c.overwrite_record.ensures.refused
+
+pub returns-in-None-clause-put : goal.returns-in-None-clause-put
+returns-in-None-clause-put g c =
+    let S = g.S.Store in
+    let heads : Heads = c.args.heads.now in
+    let id : ℕ = c.args.id in
+    let found : List ℕ = c.in_ok-path.path.found.items in
+    let old : List ℕ = shown_over (S.seen c.args.store.now) c.args.pages.now in
+    let between : List ℕ = shown_over (S.seen c.find_path.new.store) c.find_path.new.pages in
+    let looked = c.in_ok-path.ensures.looked in
+    let same : between ≡ old = shown_over-looks looked in
+    on_ok_weaker c.put_new.result
+    (λ puts known held records tree.
+    let ends : EndsEarly old heads.blocks id found = record { way = c.in_ok-path.ensures.found known; none = sym (c.in_ok-path.ensures.leaf known) ∙ sym c.leaf.ensures ∙ c.in-None.is } in
+    subst (λ (file : List ℕ). PutsIn id c.args.rec.now held c.args.format file (shown_over (S.seen c.put_new.new.store) c.put_new.new.pages) heads c.put_new.new.heads records) same
+    (puts (looked.known known) (subst (λ (file : List ℕ). EndsEarly file heads.blocks id found) (sym same) ends) held records
+    (subst (λ (file : List ℕ). IsWholeTree (loose_of held None None) c.args.format file heads records) (sym same) tree)))
+    c.put_new.ensures.put
+
+pub returns-in-None-clause-refused : goal.returns-in-None-clause-refused
+returns-in-None-clause-refused g c =
+    let S = g.S.Store in
+    let heads : Heads = c.args.heads.now in
+    let id : ℕ = c.args.id in
+    let found : List ℕ = c.in_ok-path.path.found.items in
+    let before : ℕ = (S.seen c.args.store.now).faults in
+    let middle : ℕ = (S.seen c.find_path.new.store).faults in
+    let now : ℕ = (S.seen c.put_new.new.store).faults in
+    let old : List ℕ = shown_over (S.seen c.args.store.now) c.args.pages.now in
+    let between : List ℕ = shown_over (S.seen c.find_path.new.store) c.find_path.new.pages in
+    let still : Type 0 = IsKnown S.tells (S.seen c.args.store.now) c.args.pages.now in
+    let known : Type 0 = IsKnown S.tells (S.seen c.find_path.new.store) c.find_path.new.pages in
+    let looked = c.in_ok-path.ensures.looked in
+    let same : between ≡ old = shown_over-looks looked in
+    let need : ℕ = (4 - length found) + data_wanted heads in
+    IfErr-weaker c.put_new.result
+    (IsPutFault middle now (known × EndsEarly between heads.blocks id found) c.args.format between heads c.args.limit need)
+    (IsPutInFault before now still c.args.format old heads c.args.limit id)
+    (λ fault h. put_refused before now still c.args.format old heads c.args.limit id fault
+    (wanted_as before middle now (known × EndsEarly old heads.blocks id found) still c.args.format old heads c.args.limit need (blocks_taken old heads id) fault looked.leaves.later
+    (λ is. (looked.known is, record { way = c.in_ok-path.ensures.found is; none = sym (c.in_ok-path.ensures.leaf is) ∙ sym c.leaf.ensures ∙ c.in-None.is }))
+    (λ is.
+    let way : length found ≡ length (blocks_on_way old heads.blocks id) = ap {B = ℕ} length (c.in_ok-path.ensures.found is) in
+    omega (arith, way, taken_absent old heads id (omega (arith, way, short_way_found found (sym c.leaf.ensures ∙ c.in-None.is)))))
+    (subst (λ (file : List ℕ). IsPutFault middle now (known × EndsEarly file heads.blocks id found) c.args.format file heads c.args.limit need fault) same h)))
+    c.put_new.ensures.refused

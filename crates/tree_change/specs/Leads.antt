@@ -1,0 +1,20 @@
+-- A way that is led to an awaited leaf.
+use Rattle.std.specs.Prelude.{◌≡◌, ℕ, List, Some, None}
+use Rattle.quota_types.specs.Times.{times}
+use Rattle.quota_types.specs.declared.file_kind.Format.{Format}
+use Rattle.file_blocks.specs.Block.{block_of}
+use Rattle.quota_blocks.specs.QuotaValue.{Records}
+use Rattle.quota_radix.specs.declared.tree_path.TreePath.{TreePath}
+use Rattle.free_chains.specs.declared.heads.Heads.{Heads}
+use Rattle.tree_build.specs.Loose.{loose_of}
+use Rattle.tree_build.specs.Roles.{data_with}
+use Rattle.tree_change.specs.Putting.{TakesCounted}
+use Rattle.tree_change.specs.Shows.{IsWholeTree}
+
+-- The way to a leaf was made, for which so many blocks were taken: the leaf is awaited no longer. The records, the data blocks and
+-- the header's block are as before.
+pub record LeadsLeaf (count : ℕ) (leaf : TreePath) (held : List ℕ) (format : Format) (old new : List ℕ) (heads now : Heads) (records : Records) : Type 0 where
+  pub tree : IsWholeTree (loose_of held None None) format new now records
+  pub counted : TakesCounted count old new heads now
+  pub same_data : (block : ℕ) → times (data_with (loose_of held None None) new now.blocks) block ≡ times (data_with (loose_of held (Some leaf) None) old heads.blocks) block
+  pub header : block_of new 0 ≡ block_of old 0

@@ -1,0 +1,89 @@
+-- A record that is put into a tree file.
+use Rattle.std.specs.Prelude.{◌≡◌, ◌≢◌, ℕ, ◌+◌, ◌-◌, ◌<◌, ◌≤◌, ◌==◌, nat_lt, if◌then◌else◌, List, length, None}
+use Rattle.std.specs.FinMap.{insert}
+use Rattle.quota_types.specs.Times.{StandsIn, times}
+use Rattle.quota_types.specs.declared.record.Rec.{Rec}
+use Rattle.quota_types.specs.declared.file_kind.Format.{Format}
+use Rattle.file_blocks.specs.Block.{block_of}
+use Rattle.quota_blocks.specs.QuotaValue.{QuotaValue, Records, with_record}
+use Rattle.entry_codec.specs.Header.{header_of}
+use Rattle.free_chains.specs.Chain.{IsChain, chain_from}
+use Rattle.quota_radix.specs.Tree.{data_blocks}
+use Rattle.tree_build.specs.IsTree.{heads_of}
+use Rattle.tree_build.specs.Roles.{data_with}
+use Rattle.tree_build.specs.TreeFile.{TreeStandsFor}
+use Rattle.quota_radix.specs.Descent.{leaf_block}
+use Rattle.quota_radix.specs.Way.{blocks_on_way}
+use Rattle.free_chains.specs.declared.heads.Heads.{Heads}
+use Rattle.tree_build.specs.Loose.{loose_of}
+use Rattle.tree_change.specs.declared.change_fault.ChangeFault.{ChangeFault}
+use Rattle.tree_change.specs.ChangeFault.{IsChangeFault}
+use Rattle.tree_change.specs.Room.{FileHasRoom, NeedsBlocks}
+use Rattle.tree_change.specs.Shows.{IsNoCompleteTree, IsNoTree, IsWholeTree}
+
+-- how many data blocks are taken for a record of an identifier that has none: one where no data block has room
+abbrev pub data_wanted : Heads → ℕ
+data_wanted heads = if heads.first == 0 then 1 else 0
+
+-- how many blocks are taken for it, with those that its way lacks
+abbrev pub blocks_wanted : List ℕ → Heads → (id : ℕ) → ℕ
+blocks_wanted file heads id = (4 - length (blocks_on_way file heads.blocks id)) + data_wanted heads
+
+-- The way of an identifier ends before it leads to a data block: these blocks are on it, and no more.
+pub record EndsEarly (file : List ℕ) (blocks id : ℕ) (found : List ℕ) : Type 0 where
+  pub way : found ≡ blocks_on_way file blocks id
+  pub none : leaf_block file blocks id ≡ None
+
+-- A record was not entered: where the file is known, a damage shows that it is no tree of this format, and it is told to be full
+-- only where there is no room for so many blocks within the limit.
+abbrev pub IsEnterFault : (before now : ℕ) → (known : Type 0) → Format → List ℕ → Heads → (limit count : ℕ) → ChangeFault → Type 0
+IsEnterFault before now known format file heads limit count fault =
+    IsChangeFault before now (known → IsNoTree format file heads)
+    (λ blocks most. (most ≡ limit) × (limit < blocks) × (known → ¬ FileHasRoom file heads limit count)) fault
+
+-- A record was not put: where the file is known, a damage shows that it is no tree of this format of which no leaf is awaited, and
+-- where it is one it is told to be full only where its list of free blocks has fewer blocks than are wanted, and with new ones for
+-- the others it would have this number of blocks, which is more than the limit.
+abbrev pub IsPutFault : (before now : ℕ) → (known : Type 0) → Format → List ℕ → Heads → (limit need : ℕ) → ChangeFault → Type 0
+IsPutFault before now known format file heads limit need fault =
+    IsChangeFault before now (known → IsNoCompleteTree format file heads)
+    (λ blocks most. (most ≡ limit) × (limit < blocks)
+    × (known → (held : List ℕ) (records : Records) → IsWholeTree (loose_of held None None) format file heads records → NeedsBlocks file heads need blocks)) fault
+
+-- how many blocks are taken for a record of an identifier: none where a leaf of it is there, and else those that are wanted
+abbrev pub blocks_taken : List ℕ → Heads → (id : ℕ) → ℕ
+blocks_taken file heads id = if nat_lt 4 (length (blocks_on_way file heads.blocks id)) then 0 else blocks_wanted file heads id
+
+-- how many blocks a file has once an identifier has a record: free ones are taken first, and new ones for the others
+abbrev pub blocks_with : List ℕ → Heads → (id : ℕ) → ℕ
+blocks_with file heads id = heads.blocks + (blocks_taken file heads id - length (chain_from file heads.blocks heads.free heads.blocks))
+
+-- The record of an identifier was not put: the same, but the number of blocks is that of the file with the record.
+abbrev pub IsPutInFault : (before now : ℕ) → (known : Type 0) → Format → List ℕ → Heads → (limit id : ℕ) → ChangeFault → Type 0
+IsPutInFault before now known format file heads limit id fault =
+    IsChangeFault before now (known → IsNoCompleteTree format file heads)
+    (λ blocks most. (most ≡ limit) × (limit < blocks)
+    × (known → (held : List ℕ) (records : Records) → IsWholeTree (loose_of held None None) format file heads records → blocks ≡ blocks_with file heads id)) fault
+
+-- So many blocks were taken: those of the list of free blocks first, which is shorter by them, and new ones for the others.
+pub record TakesCounted (count : ℕ) (old new : List ℕ) (heads now : Heads) : Type 0 where
+  pub sum : (free : List ℕ) → IsChain old heads.blocks heads.free free 0 → now.blocks ≡ heads.blocks + (count - length free)
+  pub rest : (free : List ℕ) → IsChain old heads.blocks heads.free free 0 → (rest : List ℕ) × IsChain new now.blocks now.free rest 0 × (length rest ≡ length free - count)
+
+-- The record of an identifier was put into a tree of which no leaf is awaited: it has it, and all other records. So many blocks were
+-- taken; the data blocks are those that were where one of them had room; and the header's block is as before.
+pub record PutsIn (id : ℕ) (rec : Rec) (held : List ℕ) (format : Format) (old new : List ℕ) (heads now : Heads) (records : Records) : Type 0 where
+  pub tree : IsWholeTree (loose_of held None None) format new now (insert records id rec)
+  pub counted : TakesCounted (blocks_taken old heads id) old new heads now
+  pub same_data : heads.first ≢ 0 → (block : ℕ) → times (data_with (loose_of held None None) new now.blocks) block ≡ times (data_with (loose_of held None None) old heads.blocks) block
+  pub header : block_of new 0 ≡ block_of old 0
+
+-- A file of a value became one of the value in which the identifier has this record. The heads are those that its header states; it
+-- has as many blocks as that takes, more only where none is free then, and a new data block only where none had room.
+pub record PutsRecord (id : ℕ) (rec : Rec) (value : QuotaValue) (old new : List ℕ) (heads : Heads) : Type 0 where
+  pub stands : TreeStandsFor new (with_record value id rec)
+  pub heads_are : heads ≡ heads_of (header_of new)
+  pub at_least : (header_of old).blocks ≤ heads.blocks
+  pub sum : heads.blocks ≡ blocks_with old (heads_of (header_of old)) id
+  pub growth : (header_of old).blocks < heads.blocks → heads.free ≡ 0
+  pub new_data : (block : ℕ) → StandsIn (data_blocks new heads.blocks) block → times (data_blocks old (header_of old).blocks) block ≡ 0 → (header_of old).first ≡ 0

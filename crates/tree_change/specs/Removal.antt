@@ -1,0 +1,31 @@
+-- A record that is removed from a tree file in place.
+use Rattle.std.specs.Prelude.{◌≡◌, ℕ, List, None, []}
+use Rattle.std.specs.FinMap.{remove}
+use Rattle.quota_types.specs.declared.file_kind.Format.{Format}
+use Rattle.file_blocks.specs.Block.{block_of}
+use Rattle.quota_blocks.specs.QuotaValue.{QuotaValue, Records, without_record}
+use Rattle.entry_codec.specs.Header.{header_of}
+use Rattle.quota_radix.specs.Way.{blocks_on_way}
+use Rattle.free_chains.specs.declared.heads.Heads.{Heads}
+use Rattle.tree_build.specs.IsTree.{heads_of}
+use Rattle.tree_build.specs.Loose.{loose_of}
+use Rattle.tree_build.specs.TreeFile.{TreeStandsFor}
+use Rattle.tree_change.specs.Shows.{IsWholeTree}
+
+-- Bytes stand for a value without a record. The heads are those that their header states, and there are as many blocks as
+-- before.
+pub record RemovesRecord (id : ℕ) (value : QuotaValue) (old new : List ℕ) (heads : Heads) : Type 0 where
+  pub stands : TreeStandsFor new (without_record value id)
+  pub heads_are : heads ≡ heads_of (header_of new)
+  pub blocks : heads.blocks ≡ (header_of old).blocks
+
+-- The record of an identifier was taken out of a tree of which nothing is loose and that has this whole way of it: nothing is
+-- loose of it then, and the header's block is as before.
+abbrev pub TakesRecord : Format → (way : List ℕ) → (id : ℕ) → (old new : List ℕ) → (heads now : Heads) → Type 0
+TakesRecord format way id old new heads now = (records : Records) → way ≡ blocks_on_way old heads.blocks id
+    → IsWholeTree (loose_of [] None None) format old heads records
+    → IsWholeTree (loose_of [] None None) format new now (remove records id) × (block_of new 0 ≡ block_of old 0)
+
+-- bytes are no tree with these heads of which nothing is loose and that has this way of an identifier
+abbrev pub HasNoWay : Format → (way : List ℕ) → (id : ℕ) → (file : List ℕ) → Heads → Type 0
+HasNoWay format way id file heads = (records : Records) → way ≡ blocks_on_way file heads.blocks id → ¬ IsWholeTree (loose_of [] None None) format file heads records

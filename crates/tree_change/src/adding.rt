@@ -1,0 +1,62 @@
+//! A data block that is added for a record.
+
+ghost use Rattle.std.specs.Prelude.{◌≡◌, ◌+◌, ◌-◌, ◌≤◌, ℕ, List, length, IfErr, IfOk, OnErr, OnOk, None, is_ok};
+ghost use Rattle.std.specs.FinMap.{get};
+ghost use Rattle.quota_types.specs.Format.{IsTreeFormat};
+ghost use Rattle.quota_types.specs.Kept.{IsKept};
+ghost use Rattle.quota_blocks.specs.QuotaValue.{Records};
+ghost use Rattle.quota_pages.specs.Pages.{pages_of};
+ghost use Rattle.quota_pages.specs.Used.{IsKnown, Uses, shown_over};
+ghost use Rattle.tree_build.specs.Loose.{loose_of};
+ghost use Rattle.tree_change.specs.Enters.{EntersRecord};
+ghost use Rattle.tree_change.specs.Fresh.{IsTakeFault};
+ghost use Rattle.tree_change.specs.Shows.{ShowsTree};
+
+use crate::change_fault::ChangeFault;
+use crate::fresh::take_one;
+use crate::writing::write_record;
+use free_chains::{Heads, enter_entry_list};
+use outside::Store;
+use quota_pages::Pages;
+use quota_types::{Format, Rec};
+
+/// Takes a block, writes the record of an identifier that has none as its first entry, and puts it into the list of the
+/// data blocks that have room. It answers the block, and reads three at most.
+///
+/// # Errors
+///
+/// `Store` where the store failed, `Damage` where one of the two lists leads past the last block, and `Full` where there is
+/// no room for a block. The heads are as before.
+pub fn add_block<S: Store>(
+    pages: &mut Pages,
+    store: &mut S,
+    heads: &mut Heads,
+    limit: u32,
+    format: Format,
+    id: u32,
+    rec: &Rec,
+) -> Result<u32, ChangeFault>
+    requires tree { IsTreeFormat format }
+    requires kept { IsKept format id rec.now }
+    requires room { length (pages_of pages.old) + 3 ≤ 12 }
+    ensures added { IfOk result (λ block. IsKnown S.tells (S.seen store.old) pages.old
+        → (held : List ℕ) (records : Records)
+        → ShowsTree (loose_of held None None) format (S.seen store.old) pages.old heads.old records
+        → get records id ≡ None
+        → EntersRecord block id rec.now 1 held format (shown_over (S.seen store.old) pages.old)
+        (shown_over (S.seen store.new) pages.new) heads.old heads.new records) }
+    ensures at_least { OnOk result (heads.old.blocks ≤ heads.new.blocks) }
+    ensures within { OnOk result (heads.old.blocks ≤ limit → heads.new.blocks ≤ limit) }
+    ensures uses { Uses S.tells (is_ok result) 3 (S.seen store.old) (S.seen store.new) pages.old pages.new }
+    ensures stays { OnErr result (heads.new ≡ heads.old) }
+    ensures refused { IfErr result (IsTakeFault (S.seen store.old).faults (S.seen store.new).faults
+        (IsKnown S.tells (S.seen store.old) pages.old)
+        (shown_over (S.seen store.old) pages.old) heads.old limit 1) }
+{
+    let mut now = *heads;
+    let block = take_one(pages, store, &mut now, limit)?;
+    write_record(pages, store, format, block, 0, id, rec)?;
+    enter_entry_list(pages, store, &mut now, block)?;
+    *heads = now;
+    Ok(block)
+}

@@ -1,0 +1,140 @@
+//! A record that is overwritten in its data block.
+
+ghost use Rattle.std.specs.Prelude.{◌≡◌, ◌<◌, ◌≤◌, ◌∷◌, [], ℕ, List, length, true, false, None, Some, IsSome, IfErr, IfOk, OnErr, OnOk, is_ok};
+ghost use Rattle.quota_types.specs.Format.{IsTreeFormat};
+ghost use Rattle.quota_types.specs.Kept.{IsKept};
+ghost use Rattle.entry_codec.specs.Entry.{entries_per_block};
+ghost use Rattle.file_blocks.specs.Block.{block_of};
+ghost use Rattle.outside.specs.Count.{Rose};
+ghost use Rattle.quota_blocks.specs.QuotaValue.{Records};
+ghost use Rattle.quota_pages.specs.Page.{HasRoomFor, is_buffered};
+ghost use Rattle.quota_pages.specs.Pages.{pages_of};
+ghost use Rattle.quota_pages.specs.Used.{IsKnown, LendsSome, LooksAtSome, Uses, missing, shown_over};
+ghost use Rattle.quota_radix.specs.Descent.{leaf_block};
+ghost use Rattle.free_chains.specs.declared.heads.Heads.{Heads};
+ghost use Rattle.tree_build.specs.Entries.{record_by};
+ghost use Rattle.tree_build.specs.Loose.{loose_of};
+ghost use Rattle.tree_build.specs.TreeFile.{record_in};
+ghost use Rattle.tree_steps.specs.EntrySteps.{RewritesEntry};
+ghost use Rattle.tree_change.specs.ChangeFault.{IsStepFault};
+ghost use Rattle.tree_change.specs.Overwrites.{OverwritesRecord};
+ghost use Rattle.tree_change.specs.Put.{PutsOver};
+ghost use Rattle.tree_change.specs.Shows.{IsNoCompleteTree, ShowsTree};
+
+use crate::change_fault::ChangeFault;
+use outside::{Store, StoreFault};
+use quota_pages::Pages;
+use quota_types::{Damage, DamageKind, Format, Rec};
+use tree_build::{find_place, put_entry};
+
+/// Puts an entry at a place among the entries of a block, whatever stood there. All other bytes stay.
+fn put_over(format: Format, block: &mut [u8; 1024], place: usize, id: u32, rec: &Rec)
+    requires tree { IsTreeFormat format }
+    requires place { place < entries_per_block format }
+    requires kept { IsKept format id rec.now }
+    ensures put { PutsOver format place (record { id = id; rec = rec.now }) block.old block.new }
+    ensures whole { length block.new ≡ 1024 }
+{
+    put_entry(format, block, place, id, rec);
+}
+
+/// The place among the entries of a data block of the first one that an identifier uses.
+///
+/// # Errors
+///
+/// `Store` where the store failed, and `Damage` where it uses none.
+pub(crate) fn place_of<S: Store>(
+    pages: &mut Pages,
+    store: &mut S,
+    format: Format,
+    block: u32,
+    id: u32,
+) -> Result<usize, ChangeFault>
+    requires tree { IsTreeFormat format }
+    requires room { length (pages_of pages.old) < 12 }
+    ensures low { IfOk result (λ place. place < entries_per_block format) }
+    ensures used { IfOk result (λ place. IsKnown S.tells (S.seen store.old) pages.old
+        → IsSome (record_by format (block_of (shown_over (S.seen store.old) pages.old) block) id place)) }
+    ensures looked { LooksAtSome S.tells (is_ok result) 1 (S.seen store.old) (S.seen store.new) pages.old pages.new }
+    ensures brought { OnOk result (is_buffered (pages_of pages.new) block ≡ true) }
+    ensures refused { IfErr result (IsStepFault (S.seen store.old).faults (S.seen store.new).faults
+        (IsKnown S.tells (S.seen store.old) pages.old
+        → record_in format (block_of (shown_over (S.seen store.old) pages.old) block) id ≡ None)) }
+{
+    let bytes = pages.peek(store, block)?;
+    match find_place(format, bytes, id) {
+        Some(place) => Ok(place),
+        None => Err(ChangeFault::Damage(Damage {
+            kind: DamageKind::MissingEntry,
+            block,
+            id,
+        })),
+    }
+}
+
+/// Writes the record of an identifier over that at a place among the entries of a data block, which is lent for writing.
+///
+/// # Errors
+///
+/// The store failed. The buffer shows what it showed.
+fn rewrite_record<S: Store>(
+    pages: &mut Pages,
+    store: &mut S,
+    format: Format,
+    block: u32,
+    place: usize,
+    id: u32,
+    rec: &Rec,
+) -> Result<(), StoreFault>
+    requires tree { IsTreeFormat format }
+    requires place { place < entries_per_block format }
+    requires kept { IsKept format id rec.now }
+    requires room { HasRoomFor (pages_of pages.old) block }
+    ensures rewritten { OnOk result (IsKnown S.tells (S.seen store.old) pages.old
+        → IsSome (record_by format (block_of (shown_over (S.seen store.old) pages.old) block) id place)
+        → RewritesEntry format block place (record { id = id; rec = rec.now })
+        (shown_over (S.seen store.old) pages.old) (shown_over (S.seen store.new) pages.new)) }
+    ensures lends { OnOk result (LendsSome S.tells true (missing (pages_of pages.old) block) (block ∷ [])
+        (S.seen store.old) (S.seen store.new) pages.old pages.new) }
+    ensures kept { OnErr result (LooksAtSome S.tells false (missing (pages_of pages.old) block)
+        (S.seen store.old) (S.seen store.new) pages.old pages.new) }
+    ensures cause { OnErr result (Rose (S.seen store.old).faults (S.seen store.new).faults) }
+{
+    let bytes = pages.page(store, block)?;
+    put_over(format, bytes, place, id, rec);
+    Ok(())
+}
+
+/// Overwrites the record of an identifier in the data block to which its leaf leads, of which one is read at most. No list
+/// of blocks changes.
+///
+/// # Errors
+///
+/// `Store` where the store failed, and `Damage` where the block has no entry of the identifier.
+pub fn overwrite_record<S: Store>(
+    pages: &mut Pages,
+    store: &mut S,
+    format: Format,
+    block: u32,
+    id: u32,
+    rec: &Rec,
+) -> Result<(), ChangeFault>
+    requires tree { IsTreeFormat format }
+    requires kept { IsKept format id rec.now }
+    requires room { length (pages_of pages.old) < 12 }
+    ensures overwritten { OnOk result (IsKnown S.tells (S.seen store.old) pages.old
+        → (held : List ℕ) (heads : Heads) (records : Records)
+        → leaf_block (shown_over (S.seen store.old) pages.old) heads.blocks id ≡ Some block
+        → ShowsTree (loose_of held None None) format (S.seen store.old) pages.old heads records
+        → OverwritesRecord id rec.now held format (shown_over (S.seen store.old) pages.old)
+        (shown_over (S.seen store.new) pages.new) heads records) }
+    ensures uses { Uses S.tells (is_ok result) 1 (S.seen store.old) (S.seen store.new) pages.old pages.new }
+    ensures refused { IfErr result (IsStepFault (S.seen store.old).faults (S.seen store.new).faults
+        (IsKnown S.tells (S.seen store.old) pages.old → (heads : Heads)
+        → leaf_block (shown_over (S.seen store.old) pages.old) heads.blocks id ≡ Some block
+        → IsNoCompleteTree format (shown_over (S.seen store.old) pages.old) heads)) }
+{
+    let place = place_of(pages, store, format, block, id)?;
+    rewrite_record(pages, store, format, block, place, id, rec)?;
+    Ok(())
+}

@@ -1,0 +1,66 @@
+//! A record that is put into a tree file in place.
+
+ghost use Rattle.std.specs.Prelude.{◌≡◌, ◌<◌, ◌≤◌, [], is_ok, IfErr, IfOk};
+ghost use Rattle.entry_codec.specs.Header.{AreOf, header_of};
+ghost use Rattle.quota_types.specs.Format.{IsTreeFormat};
+ghost use Rattle.quota_types.specs.Kept.{IsKept};
+ghost use Rattle.quota_blocks.specs.QuotaValue.{QuotaValue};
+ghost use Rattle.quota_pages.specs.Pages.{pages_of};
+ghost use Rattle.quota_pages.specs.Used.{IsKnown, Uses, shown_over};
+ghost use Rattle.tree_build.specs.IsTree.{heads_of};
+ghost use Rattle.tree_build.specs.TreeFile.{TreeStandsFor};
+ghost use Rattle.tree_change.specs.ChangeFault.{IsChangeFault};
+ghost use Rattle.tree_change.specs.Putting.{PutsRecord, blocks_with};
+
+use crate::change_fault::ChangeFault;
+use crate::header_block::{heads_in, renew_heads};
+use crate::putting::put_in;
+use entry_codec::Header;
+use free_chains::Heads;
+use outside::Store;
+use quota_pages::Pages;
+use quota_types::Rec;
+
+/// Puts the record of an identifier into a tree file with this header, and answers the heads that the file has then.
+///
+/// At most twelve blocks are read. What the file should be is left in the buffer; nothing is written yet.
+///
+/// # Errors
+///
+/// `Store` where the store failed, `Damage` where the file is damaged, and `Full` where the identifier has no record and
+/// the file would have more blocks with it than the limit.
+pub fn put_record<S: Store>(
+    pages: &mut Pages,
+    store: &mut S,
+    header: &Header,
+    limit: u32,
+    id: u32,
+    rec: &Rec,
+) -> Result<Heads, ChangeFault>
+    requires tree { IsTreeFormat header.now.format }
+    requires kept { IsKept header.now.format id rec.now }
+    requires empty { pages_of pages.old ≡ [] }
+    requires two { 2 ≤ header.now.blocks }
+    requires few { header.now.blocks ≤ limit }
+    ensures shown { IfOk result (λ heads. IsKnown S.tells (S.seen store.old) pages.old
+        → AreOf header.now (header_of (shown_over (S.seen store.old) pages.old)) → (value : QuotaValue)
+        → TreeStandsFor (shown_over (S.seen store.old) pages.old) value
+        → PutsRecord id rec.now value (shown_over (S.seen store.old) pages.old)
+        (shown_over (S.seen store.new) pages.new) heads) }
+    ensures few { IfOk result (λ heads. (2 ≤ heads.blocks) × (heads.blocks ≤ limit)) }
+    ensures refused { IfErr result (IsChangeFault (S.seen store.old).faults (S.seen store.new).faults
+        (IsKnown S.tells (S.seen store.old) pages.old
+        → AreOf header.now (header_of (shown_over (S.seen store.old) pages.old)) → (value : QuotaValue)
+        → ¬ TreeStandsFor (shown_over (S.seen store.old) pages.old) value)
+        (λ blocks most. (most ≡ limit) × (limit < blocks) × (IsKnown S.tells (S.seen store.old) pages.old
+        → AreOf header.now (header_of (shown_over (S.seen store.old) pages.old)) → (value : QuotaValue)
+        → TreeStandsFor (shown_over (S.seen store.old) pages.old) value
+        → blocks ≡ blocks_with (shown_over (S.seen store.old) pages.old)
+        (heads_of (header_of (shown_over (S.seen store.old) pages.old))) id))) }
+    ensures uses { Uses S.tells (is_ok result) 12 (S.seen store.old) (S.seen store.new) pages.old pages.new }
+{
+    let mut heads = heads_in(header);
+    put_in(pages, store, &mut heads, limit, header.format, id, rec)?;
+    renew_heads(pages, store, header, &heads)?;
+    Ok(heads)
+}

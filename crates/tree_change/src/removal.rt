@@ -1,0 +1,153 @@
+//! A record that is removed from a tree file in place.
+
+ghost use Rattle.std.specs.Prelude.{◌≡◌, ◌+◌, ◌≤◌, ◌∷◌, [], length, take, true, is_ok, is_none, None, IfErr, IfOk, IfSome, OnErr, OnOk};
+ghost use Rattle.std.specs.FinMap.{get};
+ghost use Rattle.arrayvec.specs.ArrayVec.{array_vec_len};
+ghost use Rattle.entry_codec.specs.Header.{AreOf, header_of};
+ghost use Rattle.outside.specs.Count.{Rose};
+ghost use Rattle.quota_types.specs.Format.{IsTreeFormat};
+ghost use Rattle.quota_blocks.specs.QuotaValue.{QuotaValue};
+ghost use Rattle.quota_pages.specs.Pages.{pages_of};
+ghost use Rattle.quota_pages.specs.Used.{IsKnown, KeepsBlocksBut, LooksAtSome, Uses, shown_over};
+ghost use Rattle.quota_radix.specs.Link.{AreBuffered};
+ghost use Rattle.quota_radix.specs.Way.{blocks_on_way};
+ghost use Rattle.tree_build.specs.TreeFile.{TreeStandsFor};
+ghost use Rattle.tree_change.specs.ChangeFault.{IsChangeFault};
+ghost use Rattle.tree_change.specs.HeaderHeads.{with_heads};
+ghost use Rattle.tree_change.specs.Removal.{HasNoWay, RemovesRecord, TakesRecord};
+
+use crate::change_fault::ChangeFault;
+use crate::header_block::{heads_in, renew_heads};
+use crate::removing::remove_entry;
+use crate::unlinking::unlink_leaf;
+use entry_codec::Header;
+use free_chains::Heads;
+use outside::{Store, StoreFault};
+use quota_pages::Pages;
+use quota_radix::{Path, find_path};
+use quota_types::Format;
+
+/// Takes the leaf of an identifier, whose whole way is `path`, and its entry out of the tree. It reads four blocks at most.
+///
+/// # Errors
+///
+/// `Store` where the store failed, and `Damage` where the identifier uses no entry of its data block, or the entry list leads
+/// past the last block. The heads are as before.
+fn take_out<S: Store>(
+    pages: &mut Pages,
+    store: &mut S,
+    heads: &mut Heads,
+    format: Format,
+    path: &Path,
+    id: u32,
+) -> Result<(), ChangeFault>
+    requires tree { IsTreeFormat format }
+    requires found { array_vec_len path.now.found ≡ 5 }
+    requires buffered { AreBuffered (pages_of pages.old) (take 4 path.now.found.items) }
+    requires room { length (pages_of pages.old) + 4 ≤ 12 }
+    ensures taken { OnOk result (IsKnown S.tells (S.seen store.old) pages.old
+        → TakesRecord format path.now.found.items id (shown_over (S.seen store.old) pages.old)
+        (shown_over (S.seen store.new) pages.new) heads.old heads.new) }
+    ensures blocks { OnOk result (heads.new.blocks ≡ heads.old.blocks) }
+    ensures uses { Uses S.tells (is_ok result) 4 (S.seen store.old) (S.seen store.new) pages.old pages.new }
+    ensures stays { OnErr result (heads.new ≡ heads.old) }
+    ensures refused { IfErr result (IsChangeFault (S.seen store.old).faults (S.seen store.new).faults
+        (IsKnown S.tells (S.seen store.old) pages.old
+        → HasNoWay format path.now.found.items id (shown_over (S.seen store.old) pages.old) heads.old) (λ _ _. ⊥)) }
+{
+    let mut now = *heads;
+    unlink_leaf(pages, store, &mut now, path, id)?;
+    remove_entry(pages, store, &mut now, format, path.found[4], id)?;
+    *heads = now;
+    Ok(())
+}
+
+/// Whether a header has these heads.
+fn has_heads(header: &Header, heads: &Heads) -> bool
+    ensures blocks { result ≡ true → heads.now.blocks ≡ header.now.blocks }
+    ensures free { result ≡ true → heads.now.free ≡ header.now.free }
+    ensures first { result ≡ true → heads.now.first ≡ header.now.first }
+{
+    heads.blocks == header.blocks && heads.free == header.free && heads.first == header.first
+}
+
+/// Removes the record of an identifier, whose whole way is `path`, and answers the heads of the file then. It reads five blocks
+/// at most.
+///
+/// # Errors
+///
+/// `Store` where the store failed, and `Damage` where the identifier uses no entry of its data block, or the entry list leads
+/// past the last block.
+fn remove_found<S: Store>(
+    pages: &mut Pages,
+    store: &mut S,
+    header: &Header,
+    path: &Path,
+    id: u32,
+) -> Result<Heads, ChangeFault>
+    requires tree { IsTreeFormat header.now.format }
+    requires found { array_vec_len path.now.found ≡ 5 }
+    requires buffered { AreBuffered (pages_of pages.old) (take 4 path.now.found.items) }
+    requires room { length (pages_of pages.old) + 5 ≤ 12 }
+    ensures removed { IfOk result (λ heads. IsKnown S.tells (S.seen store.old) pages.old
+        → AreOf header.now (header_of (shown_over (S.seen store.old) pages.old))
+        → path.now.found.items ≡ blocks_on_way (shown_over (S.seen store.old) pages.old) header.now.blocks id
+        → (value : QuotaValue) → TreeStandsFor (shown_over (S.seen store.old) pages.old) value
+        → RemovesRecord id value (shown_over (S.seen store.old) pages.old)
+        (shown_over (S.seen store.new) pages.new) heads) }
+    ensures blocks { IfOk result (λ heads. heads.blocks ≡ header.now.blocks) }
+    ensures uses { Uses S.tells (is_ok result) 5 (S.seen store.old) (S.seen store.new) pages.old pages.new }
+    ensures refused { IfErr result (IsChangeFault (S.seen store.old).faults (S.seen store.new).faults
+        (IsKnown S.tells (S.seen store.old) pages.old
+        → AreOf header.now (header_of (shown_over (S.seen store.old) pages.old))
+        → path.now.found.items ≡ blocks_on_way (shown_over (S.seen store.old) pages.old) header.now.blocks id
+        → (value : QuotaValue) → ¬ TreeStandsFor (shown_over (S.seen store.old) pages.old) value) (λ _ _. ⊥)) }
+{
+    let mut heads = heads_in(header);
+    take_out(pages, store, &mut heads, header.format, path, id)?;
+    renew_heads(pages, store, header, &heads)?;
+    Ok(heads)
+}
+
+/// Removes the record of an identifier from a tree file with this header, and answers the heads that the file has then, or
+/// None where the identifier has no record. Then nothing was lent for writing.
+///
+/// At most twelve blocks are read. What the file should be is left in the buffer; nothing is written yet.
+///
+/// # Errors
+///
+/// `Store` where the store failed, and `Damage` where a reference on the way of the identifier, or the entry list, leads past
+/// the last block, or the identifier uses no entry of its data block.
+pub fn remove_record<S: Store>(
+    pages: &mut Pages,
+    store: &mut S,
+    header: &Header,
+    id: u32,
+) -> Result<Option<Heads>, ChangeFault>
+    requires tree { IsTreeFormat header.now.format }
+    requires empty { pages_of pages.old ≡ [] }
+    ensures shown { IfOk result (λ found. IfSome found (λ heads. IsKnown S.tells (S.seen store.old) pages.old
+        → AreOf header.now (header_of (shown_over (S.seen store.old) pages.old))
+        → (value : QuotaValue) → TreeStandsFor (shown_over (S.seen store.old) pages.old) value
+        → RemovesRecord id value (shown_over (S.seen store.old) pages.old)
+        (shown_over (S.seen store.new) pages.new) heads)) }
+    ensures blocks { IfOk result (λ found. IfSome found (λ heads. heads.blocks ≡ header.now.blocks)) }
+    ensures found { IfOk result (λ found. IsKnown S.tells (S.seen store.old) pages.old
+        → AreOf header.now (header_of (shown_over (S.seen store.old) pages.old))
+        → (value : QuotaValue) → TreeStandsFor (shown_over (S.seen store.old) pages.old) value
+        → is_none (get value.records id) ≡ is_none found) }
+    ensures absent { IfOk result (λ found. found ≡ None
+        → LooksAtSome S.tells true 12 (S.seen store.old) (S.seen store.new) pages.old pages.new) }
+    ensures refused { IfErr result (IsChangeFault (S.seen store.old).faults (S.seen store.new).faults
+        (IsKnown S.tells (S.seen store.old) pages.old
+        → AreOf header.now (header_of (shown_over (S.seen store.old) pages.old))
+        → (value : QuotaValue) → ¬ TreeStandsFor (shown_over (S.seen store.old) pages.old) value) (λ _ _. ⊥)) }
+    ensures uses { Uses S.tells (is_ok result) 12 (S.seen store.old) (S.seen store.new) pages.old pages.new }
+{
+    let path = find_path(pages, store, header.blocks, id)?;
+    if path.found.len() < 5 {
+        return Ok(None);
+    }
+    let heads = remove_found(pages, store, header, &path, id)?;
+    Ok(Some(heads))
+}
