@@ -1,15 +1,17 @@
 -- What is said of an opened file of one format is said of it as one of any.
-use Rattle.std.proofs.Common.{◌≡◌, ◌<◌, ◌≤◌, ℕ, Bool, Result, refl, sym, ap, subst, ◌∙◌, arith, true≢false, List, Option, Some}
+use Rattle.std.proofs.Common.{◌≡◌, ◌<◌, ◌≤◌, ℕ, Bool, Result, refl, sym, ap, subst, ◌∙◌, arith, true≢false, IsTrue, List, Option, Some}
 use Rattle.quota_types.specs.Format.{IsTreeFormat}
 use Rattle.quota_types.specs.declared.file_kind.Format.{Format}
 use Rattle.quota_types.specs.declared.file_kind.Format.TheVariants.{V1 as Flat, V2R0, V2R1}
+use Rattle.std.proofs.lemmas.Bool.{false≢true}
 use Rattle.std.proofs.lemmas.Result.{IfErr-weaker}
 use Rattle.quota_blocks.specs.Changes.{Changes}
 use Rattle.quota_blocks.specs.LooksUp.{LooksUp}
 use Rattle.quota_blocks.specs.FileChange.{FileChange, Put, Remove, SetGrace, changed_value}
-use Rattle.quota_blocks.specs.QuotaFile.{FileSeen}
+use Rattle.quota_blocks.specs.QuotaFile.{FileSeen, StaysInPlace}
 use Rattle.quota_blocks.specs.QuotaValue.{QuotaValue}
 use Rattle.quota_blocks.specs.Seen.{StoreSeen}
+use Rattle.quota_blocks.specs.World.{World}
 use Rattle.quota_blocks.specs.declared.quota_file.FileFault.{FileFault}
 use Rattle.quota_blocks.proofs.ChangesLemmas.{changes-wider}
 use Rattle.tree_build.specs.Size.{ids_in}
@@ -22,7 +24,7 @@ use Rattle.quota_v1.specs.Opened.{flat_at, flat_laws, most_pieces}
 use Rattle.quota_v1.specs.declared.flat_file.V1File.{V1File}
 use Rattle.quota_map.specs.declared.any_file.AnyFile.{AnyFile}
 use Rattle.quota_map.specs.declared.any_file.AnyFile.TheVariants.{V1, Tree}
-use Rattle.quota_map.specs.AnyFile.{AnyLeaves, any_at, any_change_reads, any_change_writes, any_get_reads, any_laws, any_next_reads, any_seen, reads_of_change, reads_of_next, writes_of_change}
+use Rattle.quota_map.specs.AnyFile.{AnyLeaves, any_at, any_change_reads, any_change_writes, any_get_reads, any_in_place, any_laws, any_next_reads, any_seen, reads_of_change, reads_of_next, writes_of_change}
 use Rattle.quota_map.specs.Rests.{stands_as_tree}
 use Rattle.quota_map.specs.StandsFor.{StandsForAs}
 use Rattle.std.specs.String.{string_bytes}
@@ -165,3 +167,15 @@ tree_looks {T} self file file' tells old new few most result is other within loo
       counted = looks.counted;
       reads = omega (arith, looks.reads, within);
     })
+
+-- a change of a flat file is never made in place
+pub flat_in_place : (self : AnyFile) (file : V1File) (change : FileChange) (tells : Bool) (old new : World) (result : Result (Unit {0}) FileFault) → self ≡ V1 file
+    → IsTrue (any_in_place (any_seen self).format change) → StaysInPlace tells (any_seen self).name old new result
+flat_in_place self file change tells old new result is =
+    subst (λ (f : AnyFile). IsTrue (any_in_place (any_seen f).format change) → StaysInPlace tells (any_seen f).name old new result) (sym is) (λ here. absurd (false≢true here))
+
+-- one of a tree file is
+pub tree_in_place : (self : AnyFile) (file : TreeFile) (change : FileChange) (tells : Bool) (old new : World) (result : Result (Unit {0}) FileFault) → self ≡ Tree file
+    → StaysInPlace tells (name_of file.pages) old new result → IsTrue (any_in_place (any_seen self).format change) → StaysInPlace tells (any_seen self).name old new result
+tree_in_place self file change tells old new result is stays =
+    subst (λ (f : AnyFile). IsTrue (any_in_place (any_seen f).format change) → StaysInPlace tells (any_seen f).name old new result) (sym is) (λ here. stays)

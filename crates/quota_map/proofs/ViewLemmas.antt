@@ -1,5 +1,5 @@
 -- What is seen of a file as one of its format is what is seen of it.
-use Rattle.std.proofs.Common.{◌≡◌, ℕ, true, false, List, Option, Some, None, IfSome, Result, refl, sym, true≢false}
+use Rattle.std.proofs.Common.{◌≡◌, ℕ, true, false, List, Option, Some, None, IfSome, Result, sym, true≢false}
 use Rattle.quota_types.specs.Format.{IsTreeFormat}
 use Rattle.quota_types.specs.declared.file_kind.Format.{Format}
 use Rattle.quota_types.specs.declared.file_kind.Format.TheVariants.{V1, V2R0, V2R1}
@@ -8,7 +8,7 @@ use Rattle.quota_blocks.specs.QuotaValue.{QuotaValue}
 use Rattle.quota_blocks.specs.declared.quota_file.OpenFault.{OpenFault}
 use Rattle.tree_file.specs.View.{IsTreeView}
 use Rattle.quota_v1.specs.View.{IsFlatView}
-use Rattle.quota_map.specs.View.{IsOpenedAs, IsView, asks_flat, most_blocks}
+use Rattle.quota_map.specs.View.{IsView, asks_flat, most_blocks}
 
 pub seen_flat : (named : Option (List ℕ)) (kind : Kind) (asked : Option Format) (result : Result QuotaValue OpenFault) → asks_flat asked ≡ true → IsFlatView named kind result → IsView named kind asked result
 seen_flat named kind None result is seen = absurd (true≢false (sym is))
@@ -35,13 +35,6 @@ tree_seen named kind None result other seen = seen
 tree_seen named kind (Some V1) result other seen = absurd (true≢false other)
 tree_seen named kind (Some V2R0) result other seen = seen
 tree_seen named kind (Some V2R1) result other seen = seen
-
--- a flat file is opened as it is asked for
-pub flat_opened : (asked : Option Format) → asks_flat asked ≡ true → IsOpenedAs asked V1
-flat_opened None is = absurd (true≢false (sym is))
-flat_opened (Some V1) is = refl
-flat_opened (Some V2R0) is = absurd (true≢false (sym is))
-flat_opened (Some V2R1) is = absurd (true≢false (sym is))
 
 -- where no flat file is asked for, and a format is, it is that of a tree file
 pub tree_asked : (asked : Option Format) → asks_flat asked ≡ false → IfSome asked IsTreeFormat

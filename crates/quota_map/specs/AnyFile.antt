@@ -1,7 +1,8 @@
 -- An opened quota file of any format: what it holds with its store, what is seen of it, and what is said of all its calls.
-use Rattle.std.specs.Prelude.{◌≡◌, Bool, true, List, Option, ℕ}
+use Rattle.std.specs.Prelude.{◌≡◌, Bool, true, false, List, Option, ℕ}
 use Rattle.std.specs.String.{string_bytes}
 use Rattle.quota_types.specs.Format.{IsTreeFormat, is_flat}
+use Rattle.quota_types.specs.declared.damage.Damage.{Damage}
 use Rattle.quota_types.specs.declared.file_kind.Format.{Format}
 use Rattle.quota_types.specs.declared.file_kind.Format.TheVariants.{V1 as Flat, V2R0, V2R1}
 use Rattle.quota_blocks.specs.Changes.{FileAt, FileLaws, file_at, laws_of}
@@ -13,7 +14,7 @@ use Rattle.quota_blocks.specs.Seen.{StoreSeen}
 use Rattle.quota_blocks.specs.World.{World}
 use Rattle.quota_blocks.specs.declared.quota_file.FileFault.{FileFault}
 use Rattle.quota_pages.specs.Pages.{name_of}
-use Rattle.tree_file.specs.Opened.{HoldsTree, LacksRoom, MayRefuse as MayRefuseTree}
+use Rattle.tree_file.specs.Opened.{HoldsTree, IsNamedDefect, LacksRoom, MayRefuse as MayRefuseTree}
 use Rattle.tree_file.specs.TreeChange.{TreeLeaves, TreeMakes, tree_change_reads, tree_change_writes}
 use Rattle.quota_v1.specs.Change.{FlatMakes, MayRefuse as MayRefuseFlat}
 use Rattle.quota_v1.specs.Opened.{HoldsFlat, flat_seen, most_pieces}
@@ -39,6 +40,18 @@ any_at tells store file = file_at (HoldsAny tells store.files file) (any_seen fi
 pub record MayRefuse (format : Format) (fault : FileFault) : Type 0 where
   pub flat : is_flat format ≡ true → MayRefuseFlat fault
   pub tree : IsTreeFormat format → MayRefuseTree fault
+
+-- A damage that a look-up answers is one of the named file, where the store tells that and it has the header that is kept; a flat
+-- file has none.
+abbrev pub IsAnyDamage : (tells : Bool) → World → AnyFile → Damage → Type 0
+IsAnyDamage tells files (V1 file) damage = ⊥
+IsAnyDamage tells files (Tree file) damage = IsNamedDefect tells (files (name_of file.pages)) file.header damage
+
+-- a change of a file of this format is made in place: each of a tree file is
+abbrev pub any_in_place : Format → FileChange → Bool
+any_in_place Flat change = false
+any_in_place V2R0 change = true
+any_in_place V2R1 change = true
 
 -- A change of a file that is seen so makes what one of a flat file makes, or what one of a tree file makes.
 pub record AnyMakes (seen : FileSeen) (change : FileChange) (name : List ℕ) (old new : World) : Type 0 where

@@ -33,7 +33,7 @@ impl AnyFile {
 
 impl<S: Store> QuotaFile<S> for AnyFile {
     ghost use Rattle.tree_file.specs.Opened.{LacksRoom};
-    ghost use Rattle.quota_map.specs.AnyFile.{AnyLeaves, AnyMakes, HoldsAny, MayRefuse, any_change_reads, any_change_writes, any_get_reads, any_next_reads, any_seen};
+    ghost use Rattle.quota_map.specs.AnyFile.{AnyLeaves, AnyMakes, HoldsAny, IsAnyDamage, MayRefuse, any_change_reads, any_change_writes, any_get_reads, any_in_place, any_next_reads, any_seen};
     ghost use Rattle.quota_map.specs.Rests.{held_stands, rests_on_named};
     ghost use Rattle.quota_map.specs.StandsFor.{StandsForAs};
 
@@ -41,11 +41,15 @@ impl<S: Store> QuotaFile<S> for AnyFile {
 
     ghost seen = { any_seen };
 
+    ghost is_damage = { λ file store damage. IsAnyDamage S.tells (S.seen store).files file damage };
+
     ghost may_refuse = { MayRefuse };
 
     ghost stands_for = { StandsForAs };
 
     ghost lacks_room = { λ seen file _ value blocks limit. LacksRoom seen file value blocks limit };
+
+    ghost in_place = { any_in_place };
 
     ghost makes = { AnyMakes };
 

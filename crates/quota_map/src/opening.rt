@@ -15,7 +15,8 @@ use tree_file::open_tree;
 pub const MOST_BLOCKS: u32 = 1_048_576;
 
 /// Opens a quota file of the kind: as a flat file, which has no mark of its kind, exactly where that format is asked for, and
-/// else as a tree file of the format that is asked for, where one is. The file is loaded whole.
+/// else as a tree file of the format that is asked for, where one is. A flat file is loaded whole; of a tree file the
+/// header alone is kept, once each block was read and the whole found sound.
 ///
 /// # Errors
 ///

@@ -10,7 +10,6 @@ use Rattle.quota_blocks.specs.QuotaValue.{QuotaValue, with_grace}
 use Rattle.entry_codec.specs.Header.{HeaderNumbers, format_of, header_of}
 use Rattle.quota_blocks.specs.Block.{block_of}
 use Rattle.tree_build.specs.NewFile.{KeepsBlocks}
-use Rattle.tree_file.specs.Opened.{whole_blocks}
 use Rattle.tree_build.specs.Loose.{nothing_loose}
 use Rattle.tree_build.specs.Roles.{Chained, Filled, OneRole}
 use Rattle.tree_build.specs.TreeFile.{IsSound, TreeStandsFor, record_in, tree_record}
@@ -89,16 +88,3 @@ first_blocks_same blocks file number low = elim (cases_lt (length file) (1024 * 
       sym (kept_append (take (1024 * blocks) file) (drop (1024 * blocks) file) blocks whole number low)
       ∙ ap (λ (bytes : List ℕ). block_of bytes number) (take-append-drop (1024 * blocks) file)
 ]
-
--- the blocks of a file stand for what the file stands for
-pub whole_blocks_stand : (file : List ℕ) (value : QuotaValue) → TreeStandsFor file value → TreeStandsFor (whole_blocks file) value
-whole_blocks_stand file value stands =
-    let blocks : ℕ = (header_of file).blocks in
-    let two : 2 ≤ blocks = stands.sound.two in
-    let head : header_of (whole_blocks file) ≡ header_of file = header_of-take (1024 * blocks) file (omega (arith, two)) in
-    stands_kept file (whole_blocks file) value value.grace stands
-    (same_numbers (header_of file) (header_of (whole_blocks file)) head)
-    (λ block some low. first_blocks_same blocks file block low)
-    (λ more. omega (arith, length-take-le (1024 * blocks) file (stands.sound.long more)))
-    (stands.block_grace ∙ ap (λ (n : HeaderNumbers). n.block_grace) (sym head))
-    (stands.inode_grace ∙ ap (λ (n : HeaderNumbers). n.inode_grace) (sym head))

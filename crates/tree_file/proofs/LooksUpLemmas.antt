@@ -8,7 +8,7 @@ use Rattle.outside.specs.World.{World}
 use Rattle.quota_blocks.specs.Changes.{FileAt}
 use Rattle.quota_blocks.specs.FileUse.{seen_in}
 use Rattle.quota_blocks.specs.LooksUp.{LooksUp}
-use Rattle.quota_blocks.specs.QuotaFile.{CountsRefusal, IsLookupFault}
+use Rattle.quota_blocks.specs.QuotaFile.{CountsRefusal, IfDamage, IsLookupFault}
 use Rattle.quota_blocks.specs.QuotaValue.{QuotaValue}
 use Rattle.quota_blocks.specs.declared.file_use.FileUse.{FileUse}
 use Rattle.entry_codec.specs.Header.{AreOf, header_of}
@@ -27,15 +27,15 @@ use Rattle.tree_build.proofs.DefectLemmas.{no_defect_of_sound}
 use Rattle.tree_build.proofs.MeaningLemmas.{header_format}
 use Rattle.tree_file.specs.Coming.{HoldsComing}
 use Rattle.tree_file.specs.Faults.{look_up_fault}
-use Rattle.tree_file.specs.Opened.{HoldsTree}
+use Rattle.tree_file.specs.Opened.{HoldsTree, IsNamedDefect}
 use Rattle.tree_file.specs.TreeChange.{tree_at, tree_laws}
 use Rattle.tree_file.specs.declared.coming.Coming.{Coming}
 use Rattle.tree_file.proofs.GraceChangeLemmas.{known_empty}
-use Rattle.tree_file.proofs.MakesLemmas.{held_file, held_header}
+use Rattle.tree_file.proofs.HeldLemmas.{held_file, held_header}
 use Rattle.tree_file.proofs.WalkFaultLemmas.{SaysOf}
 
 -- an empty buffer shows the named file
-shown_empty : (seen : StoreSeen) (pages : Pages) → pages_of pages ≡ [] → bytes_of (seen.files (name_of pages)) ≡ shown_over seen pages
+pub shown_empty : (seen : StoreSeen) (pages : Pages) → pages_of pages ≡ [] → bytes_of (seen.files (name_of pages)) ≡ shown_over seen pages
 unfolding shown
 shown_empty seen pages empty = sym (ap (λ (ps : List Page). shown ps (file_of seen pages)) empty)
 
@@ -119,3 +119,11 @@ module _ (tells : Bool) (store store' : StoreSeen) (pages last behind : Pages) (
     counted = subst (λ (n : List ℕ). CountsRefusal true (seen_in opened n header.format limit) (seen_in now (name_of behind) header.format limit)) name counted;
     reads = few;
   }
+
+-- a damage that was met is one of the named file
+pub named_defect : (tells : Bool) (store store' : StoreSeen) (pages last : Pages) (header : Header) → pages_of pages ≡ [] → (fault : WalkFault)
+    → IsWalkFault store.faults store'.faults (SaysOf tells store pages last header) fault → IfDamage (look_up_fault fault) (IsNamedDefect tells (store.files (name_of pages)) header)
+named_defect tells store store' pages last header empty Store rose = tt
+named_defect tells store store' pages last header empty (Damaged damage) refused = λ told of.
+    subst (λ (file : List ℕ). IsTreeDefect header.format file (header_of file) damage) (sym (shown_empty store pages empty))
+    (refused.1.1 (known_empty tells store pages empty told) (subst (λ (file : List ℕ). AreOf header (header_of file)) (shown_empty store pages empty) of))

@@ -16,7 +16,7 @@ use Rattle.quota_types.specs.Times.{StandsIn, times}
 use Rattle.tree_build.specs.Defect.{IsTreeDefect}
 use Rattle.quota_radix.specs.Descent.{leaf_from}
 use Rattle.tree_build.specs.Entries.{IsRecordIn, used_ids}
-use Rattle.tree_file.specs.Leaf.{IsLeafFault, IsNextId}
+use Rattle.tree_file.specs.Leaf.{IsLeafFault}
 use Rattle.quota_radix.specs.Tree.{ids_at, leaves}
 use Rattle.tree_build.specs.TreeFile.{TreeStandsFor, record_in, tree_record}
 use Rattle.tree_build.proofs.DefectLemmas.{no_defect_of_sound}
@@ -151,14 +151,3 @@ leaf_record header file leaf of is value stands = elim (option_cases (record_in 
       absurd (leaf_refused header file leaf damage of is (record { kind = refl; block = refl; id = refl; none = none }) value stands)
   | inr there ↦ there
 ]
-
--- so the leaf from an identifier on is that of the next identifier that has a record
-pub leaf_next_id : (header : Header) (file : List ℕ) (after : Option ℕ) (from : ℕ) (leaf : TreePath) → AreOf header (header_of file) → ((id : ℕ) → IsAfter after id → from ≤ id)
-    → ((id : ℕ) → from ≤ id → IsAfter after id) → Some leaf ≡ leaf_from file header.blocks from → (value : QuotaValue) → TreeStandsFor file value
-    → IsNextId after value.records (Some leaf.number)
-leaf_next_id header file after from leaf of first comes_after is value stands =
-    let found = leaf_record header file leaf of (next_leaf file header.blocks from leaf is).0 value stands in (
-      found.0,
-      one_next header file after from leaf found.0 of first comes_after is value stands
-          (one_record header file leaf found.0 of (next_leaf file header.blocks from leaf is).0 found.1 value stands),
-    )

@@ -1,5 +1,5 @@
 -- A file of which a flush wrote some blocks: each is the old or the new one.
-use Rattle.std.proofs.Common.{◌≡◌, ℕ, Bool, true, false, ◌&&◌, ◌||◌, List, [], ◌∷◌, take, drop, Option, Some, inl, inr, sym, ap, subst, ◌∙◌, refl}
+use Rattle.std.proofs.Common.{◌≡◌, ℕ, ◌≤◌, arith, length, Bool, true, false, ◌&&◌, ◌||◌, List, [], ◌∷◌, take, drop, Option, Some, inl, inr, sym, ap, subst, ◌∙◌, refl}
 use Rattle.std.specs.Prelude.{◌==◌, IsSome}
 use Rattle.std.proofs.lemmas.Bool.{cases_Bool, cond-true, cond-false, false≢true}
 use Rattle.std.proofs.lemmas.List.{take-append-drop}
@@ -8,6 +8,7 @@ use Rattle.quota_types.specs.Times.{StandsIn}
 use Rattle.file_blocks.specs.Block.{block_of, bytes_of}
 use Rattle.outside.specs.World.{World, with_file}
 use Rattle.outside.proofs.WorldLemmas.{with_file-at}
+use Rattle.quota_blocks.specs.QuotaFile.{ChangesBlocks}
 use Rattle.quota_pages.specs.Flushed.{IsPartlyFlushed, flushed_files}
 use Rattle.quota_pages.specs.Page.{Page, is_lent, is_some_lent, lent_numbers, shown}
 use Rattle.quota_pages.specs.Pages.{name_of, pages_of}
@@ -82,3 +83,29 @@ leaves_flushed buffer old new partly =
       )
       | inr none ↦ inl (ap (λ (files : World). files name) (partly.files ∙ flushed_not old name part none))
     ]
+
+-- blocks that have not changed but for a list of twelve at most
+few_changed : (numbers before after : List ℕ) → length numbers ≤ 12 → KeepsBlocksBut numbers before after → ChangesBlocks 12 before after
+few_changed numbers before after few keeps = record { numbers = numbers; few = few; others = keeps.others; longer = keeps.longer; within = keeps.within }
+
+pub few_flushed : (buffer : Pages) (old new : World) → new ≡ flushed_files old (name_of buffer) (pages_of buffer)
+    → ChangesBlocks 12 (bytes_of (old (name_of buffer))) (bytes_of (new (name_of buffer)))
+few_flushed buffer old new is =
+    few_changed (lent_numbers (pages_of buffer)) (bytes_of (old (name_of buffer))) (bytes_of (new (name_of buffer))) (few_numbers buffer)
+    (subst (λ (files : World). KeepsBlocksBut (lent_numbers (pages_of buffer)) (bytes_of (old (name_of buffer))) (bytes_of (files (name_of buffer)))) (sym is)
+    (keeps_flushed old (name_of buffer) (pages_of buffer)))
+
+pub few_torn : (buffer : Pages) (old new : World) → IsPartlyFlushed (name_of buffer) (pages_of buffer) old new
+    → ChangesBlocks 12 (bytes_of (old (name_of buffer))) (bytes_of (new (name_of buffer)))
+few_torn buffer old new partly =
+    let torn = torn_flushed buffer old new partly in
+    few_changed torn.numbers (bytes_of (old (name_of buffer))) (bytes_of (new (name_of buffer))) torn.few torn.others
+
+pub few_same : (name : List ℕ) (old new : World) → new ≡ old → ChangesBlocks 12 (bytes_of (old name)) (bytes_of (new name))
+few_same name old new same = record {
+  numbers = [];
+  few = omega arith;
+  others = λ number none. ap (λ (files : World). block_of (bytes_of (files name)) number) same;
+  longer = let e = ap (λ (files : World). length (bytes_of (files name))) same in omega (arith, e);
+  within = λ blocks below. let e = ap (λ (files : World). length (bytes_of (files name))) same in omega (arith, e);
+}

@@ -1,11 +1,9 @@
 pub mod Coming
 pub mod Faults
 pub mod GraceChange
+pub mod InPlace
 pub mod Leaf
-pub mod Listing
 pub mod Opened
-pub mod Overwritten
-pub mod Rebuilt
 pub mod Rests
 pub mod Room
 pub mod TreeChange

@@ -1,21 +1,21 @@
 -- What an opened tree file holds, and what is seen of it.
-use Rattle.std.specs.Prelude.{◌≡◌, ℕ, ◌*◌, ◌<◌, ◌≤◌, Bool, IsTrue, List, take, Option, Some, ⊤}
+use Rattle.std.specs.Prelude.{◌≡◌, ℕ, ◌<◌, ◌≤◌, Bool, IsTrue, List, Option, Some, ⊤}
 use Rattle.quota_blocks.specs.QuotaFile.{FileSeen}
 use Rattle.quota_blocks.specs.QuotaValue.{QuotaValue}
 use Rattle.quota_blocks.specs.declared.quota_file.FileFault.{FileFault}
 use Rattle.quota_blocks.specs.declared.quota_file.FileFault.TheVariants.{Store, Damage, Full, Memory}
 use Rattle.entry_codec.specs.Header.{AreOf, header_of}
 use Rattle.entry_codec.specs.declared.header.Header.{Header}
+use Rattle.file_blocks.specs.Block.{bytes_of}
+use Rattle.free_chains.specs.declared.heads.Heads.{Heads}
 use Rattle.quota_types.specs.Damage.{NamesItsId}
+use Rattle.quota_types.specs.declared.damage.Damage.{Damage as Damaged}
+use Rattle.tree_build.specs.Defect.{IsTreeDefect}
 use Rattle.tree_build.specs.Size.{ids_in}
 use Rattle.tree_build.specs.TreeFile.{TreeStandsFor}
 use Rattle.tree_file.specs.Coming.{HoldsComing}
 use Rattle.tree_file.specs.Room.{blocks_wanted}
 use Rattle.tree_file.specs.declared.coming.Coming.{Coming}
-
--- the blocks of a file, or what it has of them; bytes after the last block are left out
-abbrev pub whole_blocks : List ℕ → List ℕ
-whole_blocks file = take (1024 * (header_of file).blocks) file
 
 -- The store tells its files, the named file stands for the value and has no more blocks than it may have, the header that is
 -- kept is the file's, and the answers that are kept are those that come next.
@@ -41,3 +41,12 @@ MayRefuse Store = ⊤
 MayRefuse (Damage damage) = NamesItsId damage.kind damage.id
 MayRefuse (Full _ _) = ⊤
 MayRefuse Memory = ⊤
+
+-- A damage is one of the named file, where the store tells that and it has the header that is kept.
+abbrev pub IsNamedDefect : Bool → (named : Option (List ℕ)) → Header → Damaged → Type 0
+IsNamedDefect tells named header damage =
+    IsTrue tells → AreOf header (header_of (bytes_of named)) → IsTreeDefect header.format (bytes_of named) (header_of (bytes_of named)) damage
+
+-- a header with other heads
+abbrev pub with_heads : Header → Heads → Header
+with_heads header heads = record header { blocks = heads.blocks; free = heads.free; first = heads.first }

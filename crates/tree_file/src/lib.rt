@@ -4,19 +4,16 @@
 //! block in one role; and an opened file is that map, which its changes change.
 #![tactic(auto)]
 
-mod changed_list;
-mod changed_tree;
 mod coming;
 mod file_header;
 mod finishing;
 mod grace_change;
+mod in_place;
 pub mod laws;
-mod loaded;
 mod loading;
 mod lookup;
 mod opened_tree;
 mod opening;
-mod overwriting;
 
 pub use opened_tree::TreeFile;
 pub use opening::open_tree;

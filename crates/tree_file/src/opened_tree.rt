@@ -1,36 +1,30 @@
-ghost use Rattle.std.specs.Prelude.{◌≡◌, ◌+◌, ◌*◌, ◌^◌, ◌<◌, ◌≤◌, ℕ, Bool, false, List, Option, [], None, vec_len, IsTrue, IfSome};
+ghost use Rattle.std.specs.Prelude.{◌≡◌, ◌^◌, ◌<◌, ◌≤◌, Bool, List, ℕ, Option, [], None, true};
 ghost use Rattle.quota_types.specs.Format.{IsTreeFormat};
-ghost use Rattle.quota_types.specs.Kept.{IsKept};
 ghost use Rattle.quota_types.specs.Range.{grace_unfit};
-ghost use Rattle.quota_blocks.specs.Changes.{Changes};
-ghost use Rattle.quota_blocks.specs.QuotaValue.{QuotaValue};
+ghost use Rattle.quota_blocks.specs.QuotaValue.{QuotaValue, Records};
 ghost use Rattle.quota_pages.specs.Pages.{name_of, pages_of};
-ghost use Rattle.tree_file.specs.Coming.{FitsComing, fits_is_a_fact};
-ghost use Rattle.tree_file.specs.Faults.{load_fault, look_up_fault};
-ghost use Rattle.tree_file.specs.Opened.{HoldsTree};
-ghost use Rattle.quota_types.specs.declared.record.Rec.{Rec as Record};
-ghost use Rattle.tree_file.specs.TreeChange.{IsBusyAt, IsChangedTree, IsLoadedFrom, record_change, tree_at, tree_laws_by};
+ghost use Rattle.tree_file.specs.Coming.{FitsComing, HoldsComing, fits_is_a_fact};
+ghost use Rattle.tree_file.specs.Faults.{file_fault, look_up_fault};
+ghost use Rattle.tree_file.specs.Opened.{HoldsTree, with_heads};
 ghost use Rattle.tree_build.specs.TreeFile.{TreeStandsFor};
 
-use crate::changed_tree::changed;
 use crate::coming::Coming;
 use crate::grace_change::set_grace_in;
-use crate::loaded::LoadedTree;
-use crate::loading::load_tree;
+use crate::in_place::{put_in, remove_in};
 use crate::lookup::{next_record, record_of};
 use entry_codec::Header;
-use quota_blocks::{CheckFault, FileFault, FileUse, QuotaFile, Store};
+use free_chains::Heads;
+use quota_blocks::{FileFault, FileUse, QuotaFile, Store};
 use quota_pages::Pages;
 use quota_radix::WalkFault;
 use quota_types::{Entry, Format, Grace, Rec};
-use std::alloc::Global;
+use tree_change::ChangeFault;
 
 /// An opened tree file, which keeps the file's name and its header, and no block of it between calls.
 ///
 /// A look-up goes down the tree and reads as many blocks as are on the way: at most five for a record, and eight for the next
-/// one, whose neighbours are kept so that they are answered without a read. Grace periods are set where they stand. A file
-/// into which a record is put, or out of which one is taken, is read whole, built anew with as few blocks as can be and put in
-/// the place of the old one, which a fault leaves as it was; its flags stay, and its null records too.
+/// one, whose neighbours are kept so that they are answered without a read. A change is made in place: it reads and writes
+/// twelve blocks at most, and syncs the file once.
 #[derive(Drop)]
 pub struct TreeFile {
     pub(crate) pages: Pages,
@@ -38,7 +32,6 @@ pub struct TreeFile {
     pub(crate) header: Header,
     pub(crate) coming: Coming,
     pub(crate) limit: u32,
-    pub(crate) alloc: Global,
     ghost tree: { IsTreeFormat header.format },
     ghost grace: { grace_unfit header.format header.grace ≡ None },
     ghost two: { 2 ≤ header.blocks },
@@ -57,52 +50,20 @@ impl TreeFile {
         self.header.flags
     }
 
-    /// Puts in the place of the named file one with as few blocks as can be, in which the record of an identifier is this
-    /// one, or is not there.
-    fn rebuild<S: Store>(
-        &mut self,
-        store: &mut S,
-        id: u32,
-        rec: Option<Rec>,
-    ) -> Result<(), FileFault>
-        requires usable { IsTrue self.old.opened.usable }
-        requires kept { IfSome rec (IsKept self.old.header.format id) }
-        requires busy { IsBusyAt (record_change id rec) (HoldsTree S.tells ((S.seen store.old).files (name_of self.old.pages))
-            self.old.header self.old.coming self.old.limit) }
-        ensures { Changes (record_change id rec) (tree_laws_by S.tells (λ seen _. seen.limit))
-            (tree_at S.tells (name_of self.old.pages) self.old.opened self.old.header self.old.coming self.old.limit (S.seen store.old))
-            (tree_at S.tells (name_of self.new.pages) self.new.opened self.new.header self.new.coming self.new.limit (S.seen store.new)) result }
+    /// The header has these heads now, and the answers that come next are forgotten.
+    fn has_changed(&mut self, heads: Heads)
+        requires two { 2 ≤ heads.blocks }
+        requires few { heads.blocks ≤ self.old.limit }
+        ensures header { self.new.header ≡ with_heads self.old.header heads }
+        ensures pages { self.new.pages ≡ self.old.pages }
+        ensures opened { self.new.opened ≡ self.old.opened }
+        ensures limit { self.new.limit ≡ self.old.limit }
+        ensures coming { (records : Records) → HoldsComing records self.new.coming }
     {
-        let tree = match load_tree(self.alloc, store, self.pages.name(), &self.header) {
-            Ok(tree) => tree,
-            Err(fault) => return Err(self.opened.refused(load_fault(fault))),
-        };
-        match changed(self.alloc, tree, self.limit, id, rec) {
-            Ok(tree) => self.rewrite(store, tree),
-            Err(fault) => Err(self.opened.refused(fault)),
-        }
-    }
-
-    /// Puts a file of these blocks in the place of the named one, of which `loaded` are those.
-    fn rewrite<S: Store>(&mut self, store: &mut S, tree: LoadedTree) -> Result<(), FileFault>
-        requires usable { IsTrue self.old.opened.usable }
-        requires grace { grace_unfit tree.header.format tree.header.grace ≡ None }
-        requires two { 2 ≤ tree.header.blocks }
-        requires few { tree.header.blocks ≤ self.old.limit }
-        requires limited { vec_len tree.bytes ≤ 1024 * tree.header.blocks }
-        requires format { tree.header.format ≡ self.old.header.format }
-        ensures { (id : ℕ) (rec : Option Record) (loaded : List ℕ) → IsChangedTree (record_change id rec) loaded tree.bytes.items
-            → IsLoadedFrom S.tells ((S.seen store.old).files (name_of self.old.pages)) self.old.header loaded
-            → IsBusyAt (record_change id rec) (HoldsTree S.tells ((S.seen store.old).files (name_of self.old.pages))
-            self.old.header self.old.coming self.old.limit)
-            → Changes (record_change id rec) (tree_laws_by S.tells (λ _ _. 0))
-            (tree_at S.tells (name_of self.old.pages) self.old.opened self.old.header self.old.coming self.old.limit (S.seen store.old))
-            (tree_at S.tells (name_of self.new.pages) self.new.opened self.new.header self.new.coming self.new.limit (S.seen store.new)) result }
-    {
-        self.opened.replace(self.alloc, store, self.pages.name(), tree.bytes.as_slice())?;
+        self.header.blocks = heads.blocks;
+        self.header.free = heads.free;
+        self.header.first = heads.first;
         self.coming = Coming::none();
-        self.header = tree.header;
-        Ok(())
     }
 }
 
@@ -116,20 +77,20 @@ fn look_up_fault(fault: WalkFault) -> FileFault
     }
 }
 
-/// Why a file could not be loaded, as a fault of an opened one.
-fn load_fault(fault: CheckFault) -> FileFault
-    ensures { result ≡ load_fault fault }
+/// Why a change in place was refused, as a fault of an opened file.
+fn file_fault(fault: ChangeFault) -> FileFault
+    ensures { result ≡ file_fault fault }
 {
     match fault {
-        CheckFault::Store => FileFault::Store,
-        CheckFault::Damage(damage) => FileFault::Damage(damage),
-        CheckFault::Memory => FileFault::Memory,
+        ChangeFault::Store => FileFault::Store,
+        ChangeFault::Damage(damage) => FileFault::Damage(damage),
+        ChangeFault::Full { blocks, limit } => FileFault::Full { blocks, limit },
     }
 }
 
 impl<S: Store> QuotaFile<S> for TreeFile {
     ghost use Rattle.quota_blocks.specs.FileUse.{seen_in};
-    ghost use Rattle.tree_file.specs.Opened.{HoldsTree, LacksRoom, MayRefuse};
+    ghost use Rattle.tree_file.specs.Opened.{HoldsTree, IsNamedDefect, LacksRoom, MayRefuse};
     ghost use Rattle.tree_file.specs.Rests.{held_stands, rests_on_named};
     ghost use Rattle.tree_file.specs.TreeChange.{TreeLeaves, TreeMakes, tree_change_reads, tree_change_writes};
 
@@ -138,11 +99,16 @@ impl<S: Store> QuotaFile<S> for TreeFile {
 
     ghost seen = { λ file. seen_in file.opened (name_of file.pages) file.header.format file.limit };
 
+    ghost is_damage = { λ file store damage. IsNamedDefect S.tells ((S.seen store).files (name_of file.pages))
+        file.header damage };
+
     ghost may_refuse = { λ _ fault. MayRefuse fault };
 
     ghost stands_for = { λ _ file value. TreeStandsFor file value };
 
     ghost lacks_room = { λ seen file _ value blocks limit. LacksRoom seen file value blocks limit };
+
+    ghost in_place = { λ _ _. true };
 
     ghost makes = { λ seen change. TreeMakes seen.limit change };
 
@@ -205,19 +171,23 @@ impl<S: Store> QuotaFile<S> for TreeFile {
     }
 
     fn put(&mut self, store: &mut S, id: u32, rec: Rec) -> Result<(), FileFault> {
-        self.rebuild(store, id, Some(rec))
+        match put_in(&mut self.pages, store, &self.header, self.limit, id, &rec) {
+            Ok(heads) => {
+                self.has_changed(heads);
+                Ok(())
+            }
+            Err(fault) => Err(self.opened.refused(file_fault(fault))),
+        }
     }
 
     fn remove(&mut self, store: &mut S, id: u32) -> Result<(), FileFault> {
-        let found = record_of(&mut self.pages, store, &self.header, id);
-        self.pages.clear();
-        let rec = match found {
-            Ok(rec) => rec,
-            Err(fault) => return Err(self.opened.refused(look_up_fault(fault))),
-        };
-        match rec {
-            Some(_) => self.rebuild(store, id, None),
-            None => Ok(()),
+        match remove_in(&mut self.pages, store, &self.header, id) {
+            Ok(Some(heads)) => {
+                self.has_changed(heads);
+                Ok(())
+            }
+            Ok(None) => Ok(()),
+            Err(fault) => Err(self.opened.refused(file_fault(fault))),
         }
     }
 

@@ -77,7 +77,6 @@ pub fn open_tree<S: Store>(
         header,
         coming: Coming::none(),
         limit,
-        alloc,
     })
 }
 

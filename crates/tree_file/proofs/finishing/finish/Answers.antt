@@ -4,6 +4,7 @@ use Rattle.quota_pages.specs.Flushed.{flushed_files}
 use Rattle.quota_pages.specs.Page.{Page, lent_count}
 use Rattle.quota_pages.specs.Pages.{name_of, pages_of}
 use Rattle.quota_pages.proofs.FlushLemmas.{counted_by-most, on_err}
+use Rattle.tree_file.proofs.TornLemmas.{few_flushed, few_torn}
 use Rattle.tree_file.proofs.finishing.finish.Goals as goal
 
 -- what was not synced was written whole, which is a part too
@@ -21,3 +22,10 @@ pub returns-clause-writes : goal.returns-clause-writes
 returns-clause-writes g c =
     let pages = pages_of c.args.pages.now in
     omega (arith, c.sync.ensures.leaves.writes, c.in_ok-flushed.ensures.writes, counted_by-most (g.S.Store.seen c.args.store.now).writes (lent_count pages))
+
+pub returns-in_err-flushed-clause-few : goal.returns-in_err-flushed-clause-few
+returns-in_err-flushed-clause-few g c = λ told. few_torn c.args.pages.now (g.S.Store.seen c.args.store.now).files (g.S.Store.seen c.flush-flushed.new.store).files (c.in_err-flushed.ensures.fault told)
+
+pub returns-clause-few : goal.returns-clause-few
+returns-clause-few g c = λ told.
+    few_flushed c.args.pages.now (g.S.Store.seen c.args.store.now).files (g.S.Store.seen c.sync.new.self).files (c.sync.ensures.leaves.files ∙ c.in_ok-flushed.ensures.flushed told)

@@ -1,3 +1,9 @@
+use Rattle.std.proofs.Common.{List, ℕ, subst}
+use Rattle.file_blocks.specs.Block.{bytes_of}
+use Rattle.outside.specs.World.{World}
+use Rattle.quota_blocks.specs.QuotaFile.{ChangesBlocks}
+use Rattle.quota_pages.specs.Pages.{name_of}
+use Rattle.tree_file.proofs.TornLemmas.{few_same}
 use Rattle.tree_file.proofs.GraceChangeLemmas.{err_then, grace_left, graces_flushed, known_empty, ok_then}
 use Rattle.tree_file.proofs.grace_change.set_grace_in.Goals as goal
 
@@ -18,3 +24,14 @@ returns-in-Ok-clause-torn g c =
     (λ torn told. grace_left c.args.grace (S.seen c.args.store.now) (S.seen c.lend_periods.new.store) c.args.pages.now c.lend_periods.new.pages c.requires.empty lent.lends.name lent.lends.leaves.files lent.marked
     (lent.set (known_empty S.tells (S.seen c.args.store.now) c.args.pages.now c.requires.empty told)) (S.seen c.finish.new.store).files (torn told))
     c.finish.ensures.torn
+
+pub returns-in-Ok-clause-few : goal.returns-in-Ok-clause-few
+returns-in-Ok-clause-few g c = λ told.
+    let S = g.S.Store in
+    let lent = c.in-Ok.ensures.lends in
+    let new : World = (S.seen c.finish.new.store).files in
+    subst (λ (files : World). ChangesBlocks 12 (bytes_of (files (name_of c.args.pages.now))) (bytes_of (new (name_of c.args.pages.now)))) lent.leaves.files
+    (subst (λ (n : List ℕ). ChangesBlocks 12 (bytes_of ((S.seen c.lend_periods.new.store).files n)) (bytes_of (new n))) lent.name (c.finish.ensures.few told))
+
+pub returns-in-Err-clause-few : goal.returns-in-Err-clause-few
+returns-in-Err-clause-few g c = λ told. few_same (name_of c.args.pages.now) (g.S.Store.seen c.args.store.now).files (g.S.Store.seen c.lend_periods.new.store).files c.in-Err.ensures.kept.leaves.files

@@ -1,9 +1,12 @@
-use Rattle.std.proofs.Common.{arith}
+use Rattle.std.proofs.Common.{ℕ, List, Option, ap, ◌∙◌, ◌≡◌, arith}
+use Rattle.entry_codec.specs.Header.{header_of}
 use Rattle.tree_build.specs.Size.{ids_in}
-use Rattle.tree_file.proofs.EnoughLemmas.{enough_blocks}
-use Rattle.tree_file.proofs.RoomLemmas.{wanted_anew}
+use Rattle.tree_file.specs.Room.{blocks_wanted}
+use Rattle.tree_file.proofs.RoomLemmas.{wanted_held}
 use Rattle.tree_file.proofs.laws.a_file_has_room_for_its_value.Goals as goal
 
 pub returns : goal.returns
 returns c = λ tells named header coming limit seen value blocks most same held lacks.
-    omega (arith, same, lacks.needs, wanted_anew value.format named (ids_in value.records), lacks.may, lacks.passes, enough_blocks held.file value held.stands, held.few)
+    let wanted : blocks ≡ (header_of held.file).blocks =
+    lacks.needs ∙ ap (λ (file : Option (List ℕ)). blocks_wanted value.format file (ids_in value.records)) held.there ∙ wanted_held held.file value held.stands in
+    omega (arith, same, wanted, lacks.may, lacks.passes, held.few)

@@ -1,5 +1,5 @@
 use Rattle.std.proofs.Common.{◌∙◌}
-use Rattle.tree_file.proofs.LooksUpLemmas.{held_known, held_of, held_stands, looks_up-failed}
+use Rattle.tree_file.proofs.LooksUpLemmas.{held_known, held_of, held_stands, looks_up-failed, named_defect}
 use Rattle.tree_file.proofs.opened_tree.TreeFileQuotaFile.get.Goals as goal
 
 pub returns-in-Ok-clause-found : goal.returns-in-Ok-clause-found
@@ -18,3 +18,9 @@ returns-in-Err-clause-looks g c =
     (looks_up-failed g.S.Store.tells (g.S.Store.seen c.args.store.now) (g.S.Store.seen c.record_of-found.new.store) was.pages c.record_of-found.new.pages c.clear.new.self
     was.opened c.refused_look_up.new.self was.header was.coming was.coming was.limit 5 was.empty (c.clear.ensures.name ∙ up.name) up.reads (λ value held. held.next)
     c.in-Err.fault c.in-Err.ensures.refused up.leaves (c.refused_look_up.ensures.counted _ _ _)))
+
+pub returns-in-Err-clause-damage : goal.returns-in-Err-clause-damage
+returns-in-Err-clause-damage g c =
+    let was = c.args.self.now in
+    rw c.refused_look_up.ensures.same (rw c.look_up_fault.ensures
+    (named_defect g.S.Store.tells (g.S.Store.seen c.args.store.now) (g.S.Store.seen c.record_of-found.new.store) was.pages c.record_of-found.new.pages was.header was.empty c.in-Err.fault c.in-Err.ensures.refused))

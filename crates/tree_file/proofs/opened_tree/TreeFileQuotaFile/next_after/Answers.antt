@@ -1,5 +1,5 @@
 use Rattle.std.proofs.Common.{◌∙◌}
-use Rattle.tree_file.proofs.LooksUpLemmas.{held_known, held_of, held_stands, looks_up-done, looks_up-failed}
+use Rattle.tree_file.proofs.LooksUpLemmas.{held_known, held_of, held_stands, looks_up-done, looks_up-failed, named_defect}
 use Rattle.tree_file.proofs.opened_tree.TreeFileQuotaFile.next_after.Goals as goal
 
 pub returns-in-Ok-clause-found : goal.returns-in-Ok-clause-found
@@ -34,3 +34,9 @@ returns-in-Err-clause-looks g c =
     (held_of g.S.Store.tells seen was.pages was.header was.coming was.limit value was.empty held)
     value (held_stands g.S.Store.tells seen was.pages was.header was.coming was.limit value was.empty held))
     c.in-Err.fault c.in-Err.ensures.refused up.leaves (c.refused_look_up.ensures.counted _ _ _)))
+
+pub returns-in-Err-clause-damage : goal.returns-in-Err-clause-damage
+returns-in-Err-clause-damage g c =
+    let was = c.args.self.now in
+    rw c.refused_look_up.ensures.same (rw c.look_up_fault.ensures
+    (named_defect g.S.Store.tells (g.S.Store.seen c.args.store.now) (g.S.Store.seen c.next_record-found.new.store) was.pages c.next_record-found.new.pages was.header was.empty c.in-Err.fault c.in-Err.ensures.refused))

@@ -1,68 +1,42 @@
-use Rattle.std.proofs.Common.{◌∙◌, List, ℕ, Option, sym, ap, arith}
-use Rattle.std.specs.Prelude.{is_none}
-use Rattle.quota_types.specs.declared.record.Rec.{Rec}
-use Rattle.quota_blocks.specs.FileChange.{FileChange, Remove}
-use Rattle.quota_blocks.specs.FileUse.{seen_in}
-use Rattle.quota_blocks.specs.QuotaFile.{FileSeen}
+use Rattle.std.proofs.Common.{Ok, ap}
+use Rattle.quota_blocks.specs.FileChange.{Remove}
 use Rattle.quota_pages.specs.Pages.{name_of}
-use Rattle.tree_file.specs.TreeChange.{tree_at, tree_change_reads}
-use Rattle.tree_file.proofs.AfterReadsLemmas.{changes-after_reads}
-use Rattle.tree_file.proofs.LooksUpLemmas.{held_known, held_of, held_stands, still_held}
-use Rattle.tree_file.proofs.RemoveLemmas.{changes-absent, changes-unlooked, held_earlier}
+use Rattle.tree_file.specs.Opened.{with_heads}
+use Rattle.tree_file.specs.TreeChange.{tree_at}
+use Rattle.tree_file.proofs.ChangedLemmas.{remove_keeps}
+use Rattle.tree_file.proofs.InPlaceLemmas.{changed_as, changes_ended, changes_made}
+use Rattle.tree_file.proofs.RemoveLemmas.{changes_absent, ended_within, written_within}
 use Rattle.tree_file.proofs.opened_tree.TreeFileQuotaFile.remove.Goals as goal
 
-pub rebuild-requires-clause-busy : goal.rebuild-requires-clause-busy
-rebuild-requires-clause-busy g c = λ value held.
+pub returns-in-Ok-Some-clause-changes : goal.returns-in-Ok-Some-clause-changes
+returns-in-Ok-Some-clause-changes g c =
+    let S = g.S.Store in
     let was = c.args.self.now in
-    let seen = g.S.Store.seen c.args.store.now in
-    let up = c.in-Ok.ensures.looked in
-    let then = held_earlier c.args.id g.S.Store.tells seen (g.S.Store.seen c.record_of-found.new.store) was.pages c.record_of-found.new.pages c.clear.new.self was.opened was.header was.coming was.limit was.empty
-    (c.clear.ensures.name ∙ up.name) up.reads up.leaves value held in
-    ap (λ (o : Option Rec). is_none o)
-    (sym (c.in-Ok.ensures.found (held_known g.S.Store.tells seen was.pages was.header was.coming was.limit value was.empty then)
-    (held_of g.S.Store.tells seen was.pages was.header was.coming was.limit value was.empty then)
-    value (held_stands g.S.Store.tells seen was.pages was.header was.coming was.limit value was.empty then)) ∙ c.in-Some.is)
+    let done = c.in-Ok-Some.ensures in
+    let now = c.has_changed.new.self in
+    changed_as S.tells (Remove c.args.id) (tree_at S.tells (name_of was.pages) was.opened was.header was.coming was.limit (S.seen c.args.store.now))
+    (name_of c.remove_in.new.pages) (name_of now.pages) was.opened now.opened (with_heads was.header c.in-Ok-Some.heads) now.header now.coming was.limit now.limit (S.seen c.remove_in.new.store) (Ok tt)
+    (ap name_of c.has_changed.ensures.pages) c.has_changed.ensures.opened (rw c.in-Ok-Some.field-0-is at c.has_changed.ensures.header) c.has_changed.ensures.limit
+    (changes_made S.tells (Remove c.args.id) was.limit (name_of was.pages) (S.seen c.args.store.now) was.opened was.header was.coming (remove_keeps c.args.id)
+    c.in-Ok-Some.heads (S.seen c.remove_in.new.store) (name_of c.remove_in.new.pages) c.has_changed.new.self.coming tt done.name c.has_changed.ensures.coming
+    (λ told. written_within c.args.id was.limit was.header c.in-Ok-Some.heads _ _ _ was.few ((rw c.in-Ok-Some.field-0-is at done.done) told)) done.synced done.leaves done.reads done.writes)
 
-pub returns-in-Some : goal.returns-in-Some
-returns-in-Some g c =
+pub returns-in-Ok-None-clause-changes : goal.returns-in-Ok-None-clause-changes
+returns-in-Ok-None-clause-changes g c =
+    let S = g.S.Store in
     let was = c.args.self.now in
-    let now = c.rebuild.new.self in
-    let seen = g.S.Store.seen c.args.store.now in
-    let mid = g.S.Store.seen c.record_of-found.new.store in
-    let up = c.in-Ok.ensures.looked in
-    record {
-      changes = changes-after_reads (Remove c.args.id) g.S.Store.tells (λ (s : FileSeen) (_ : FileChange). s.limit) tree_change_reads 5
-          (tree_at g.S.Store.tells (name_of was.pages) was.opened was.header was.coming was.limit seen)
-          (tree_at g.S.Store.tells (name_of c.clear.new.self) was.opened was.header was.coming was.limit mid)
-          (tree_at g.S.Store.tells (name_of now.pages) now.opened now.header now.coming now.limit (g.S.Store.seen c.rebuild.new.store)) c.rebuild.result
-          (record {
-            stays = still_held g.S.Store.tells seen mid was.pages c.clear.new.self was.opened was.opened was.header was.coming was.coming was.limit 5 was.empty (c.clear.ensures.name ∙ up.name) up.reads (λ value held. held.next) up.leaves;
-            leaves = up.leaves;
-            same = ap (λ (n : List ℕ). seen_in was.opened n was.header.format was.limit) (c.clear.ensures.name ∙ up.name);
-          }) up.reads (omega arith) c.rebuild.ensures;
-    }
+    let done = c.in-Ok-None.ensures in
+    changes_absent c.args.id S.tells (name_of was.pages) (name_of c.remove_in.new.pages) (S.seen c.args.store.now) (S.seen c.remove_in.new.store) was.opened was.header was.coming was.limit
+    done.name (rw c.in-Ok-None.field-0-is at done.found) (done.absent c.in-Ok-None.field-0-is) done.reads tt
 
-pub returns-in-None : goal.returns-in-None
-returns-in-None g c =
+pub returns-in-Err-clause-changes : goal.returns-in-Err-clause-changes
+returns-in-Err-clause-changes g c =
+    let S = g.S.Store in
     let was = c.args.self.now in
-    let seen = g.S.Store.seen c.args.store.now in
-    let up = c.in-Ok.ensures.looked in
-    record {
-      changes = changes-absent c.args.id g.S.Store.tells seen (g.S.Store.seen c.record_of-found.new.store) was.pages c.record_of-found.new.pages c.clear.new.self was.opened was.header was.coming was.limit was.empty
-          (c.clear.ensures.name ∙ up.name) up.reads tt up.leaves
-          (λ value held.
-          sym (c.in-Ok.ensures.found (held_known g.S.Store.tells seen was.pages was.header was.coming was.limit value was.empty held)
-          (held_of g.S.Store.tells seen was.pages was.header was.coming was.limit value was.empty held)
-          value (held_stands g.S.Store.tells seen was.pages was.header was.coming was.limit value was.empty held)) ∙ c.in-None.is);
-    }
-
-pub returns-in-Err : goal.returns-in-Err
-returns-in-Err g c =
-    let was = c.args.self.now in
-    let up = c.in-Err.ensures.looked in
-    record {
-      changes = rw c.refused.ensures.same (rw c.look_up_fault.ensures
-          (changes-unlooked c.args.id g.S.Store.tells (g.S.Store.seen c.args.store.now) (g.S.Store.seen c.record_of-found.new.store) was.pages c.record_of-found.new.pages c.clear.new.self was.opened
-          was.header was.coming was.limit was.empty (c.clear.ensures.name ∙ up.name) up.reads c.refused.new.self c.in-Err.fault c.in-Err.ensures.refused up.leaves
-          (λ n. rw c.look_up_fault.ensures at (c.refused.ensures.counted n was.header.format was.limit))));
-    }
+    let failed = c.in-Err.ensures in
+    rw c.refused.ensures.same (rw c.file_fault.ensures
+    (changes_ended S.tells (Remove c.args.id) was.limit (name_of was.pages) (S.seen c.args.store.now) was.opened was.header was.coming (remove_keeps c.args.id)
+    (S.seen c.remove_in.new.store) (name_of c.remove_in.new.pages) c.refused.new.self _ c.in-Err.fault failed.name failed.refused
+    (λ blocks most full. absurd full) (λ blocks most full. absurd full)
+    (ended_within c.args.id was.limit was.header S.tells (name_of was.pages) (S.seen c.args.store.now) (S.seen c.remove_in.new.store) c.in-Err.fault was.few failed.ended)
+    (λ n. rw c.file_fault.ensures at (c.refused.ensures.counted n was.header.format was.limit)) failed.leaves failed.reads failed.writes))

@@ -1,3 +1,5 @@
+use Rattle.std.proofs.Common.{sym, subst}
+use Rattle.quota_blocks.specs.QuotaFile.{WantsNoMemory}
 use Rattle.quota_pages.specs.Pages.{name_of}
 use Rattle.tree_file.proofs.GraceChangeLemmas.{changes_graced, changes_not_graced}
 use Rattle.tree_file.proofs.opened_tree.TreeFileQuotaFile.set_grace.Goals as goal
@@ -8,6 +10,7 @@ returns-in-Ok g c =
     let opened = c.args.self.now in
     let done = c.in-Ok.ensures in
     record {
+      in_place = λ _. record { few = done.few; others = done.others; no_memory = tt };
       changes = changes_graced S.tells c.args.grace (name_of opened.pages) (name_of c.set_grace_in.new.pages) opened.opened opened.header opened.coming c.none-self.result opened.limit (S.seen c.args.store.now) (S.seen c.set_grace_in.new.store) tt
           done.name done.graced done.synced done.leaves done.reads done.writes c.none-self.ensures.holds;
     }
@@ -18,6 +21,7 @@ returns-in-Err g c =
     let opened = c.args.self.now in
     let failed = c.in-Err.ensures in
     record {
+      in_place = λ _. record { few = failed.few; others = failed.others; no_memory = subst WantsNoMemory (sym c.refused.ensures.same) tt };
       changes = changes_not_graced S.tells c.args.grace (name_of opened.pages) (name_of c.set_grace_in.new.pages) opened.opened c.refused.new.self opened.header opened.coming opened.limit (S.seen c.args.store.now) (S.seen c.set_grace_in.new.store)
           c.refused.result c.refused.ensures.same failed.name failed.torn failed.cause failed.leaves failed.reads failed.writes (λ name. c.refused.ensures.counted name opened.header.format opened.limit);
     }

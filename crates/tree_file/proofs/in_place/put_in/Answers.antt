@@ -1,0 +1,38 @@
+use Rattle.std.proofs.Common.{true, inr, arith}
+use Rattle.std.proofs.lemmas.Result.{err_from_is_err_and}
+use Rattle.quota_blocks.specs.FileChange.{Put}
+use Rattle.tree_file.specs.InPlace.{MayChange}
+use Rattle.tree_file.proofs.ChangedLemmas.{put_changes}
+use Rattle.tree_file.proofs.FlushedLemmas.{left_so, refused_shown, written}
+use Rattle.tree_file.proofs.GraceChangeLemmas.{known_empty}
+use Rattle.tree_file.proofs.in_place.put_in.Goals as goal
+
+pub returns-in_ok-finish-in-Ok-clause-done : goal.returns-in_ok-finish-in-Ok-clause-done
+returns-in_ok-finish-in-Ok-clause-done g c = λ told.
+    let S = g.S.Store in
+    let put = c.in-Ok.ensures in
+    written S.tells true 12 (S.seen c.args.store.now) (S.seen c.put_record.new.store) c.args.pages.now c.put_record.new.pages c.requires.empty put.uses
+    (MayChange c.args.limit (Put c.args.id c.args.rec.now) c.args.header.now c.in-Ok.heads)
+    (λ of value stands. put_changes c.args.limit c.args.id c.args.rec.now value _ _ c.in-Ok.heads (omega arith) stands put.few.1
+    (put.shown (known_empty S.tells (S.seen c.args.store.now) c.args.pages.now c.requires.empty told) of value stands))
+    (S.seen c.finish.new.store).files (c.in_ok-finish-in-Ok.ensures.flushed told)
+
+pub returns-in_err-finish-in-Ok-clause-ended : goal.returns-in_err-finish-in-Ok-clause-ended
+returns-in_err-finish-in-Ok-clause-ended g c =
+    let S = g.S.Store in
+    let put = c.in-Ok.ensures in
+    let p = err_from_is_err_and c.from_residual.result c.from_residual.ensures.1 in
+    rw p.1 (inr (
+      p.2,
+      λ told.
+          left_so S.tells true 12 (S.seen c.args.store.now) (S.seen c.put_record.new.store) c.args.pages.now c.put_record.new.pages c.requires.empty put.uses
+          (MayChange c.args.limit (Put c.args.id c.args.rec.now) c.args.header.now) c.in-Ok.heads
+          (λ of value stands. put_changes c.args.limit c.args.id c.args.rec.now value _ _ c.in-Ok.heads (omega arith) stands put.few.1
+          (put.shown (known_empty S.tells (S.seen c.args.store.now) c.args.pages.now c.requires.empty told) of value stands))
+          (S.seen c.finish.new.store).files (c.in_err-finish-in-Ok.ensures.torn told),
+    ))
+
+pub returns-in-Err-clause-refused : goal.returns-in-Err-clause-refused
+returns-in-Err-clause-refused g c =
+    let S = g.S.Store in
+    refused_shown S.tells (S.seen c.args.store.now) c.args.pages.now c.requires.empty c.args.header.now (S.seen c.put_record.new.store).faults c.args.limit c.args.id c.in-Err.fault c.in-Err.ensures.refused

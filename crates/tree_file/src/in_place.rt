@@ -1,0 +1,139 @@
+//! Records that are put into a tree file, and taken out of one, where they stand.
+
+ghost use Rattle.std.specs.Prelude.{◌≡◌, ◌+◌, ◌<◌, ◌≤◌, [], ℕ, None, Some, is_none, true, IfErr, IfOk, IfSome, IsTrue, OnOk};
+ghost use Rattle.std.specs.FinMap.{get};
+ghost use Rattle.entry_codec.specs.Header.{AreOf, header_of};
+ghost use Rattle.file_blocks.specs.Block.{bytes_of};
+ghost use Rattle.outside.specs.Frame.{IsSynced, OnlyReads, ReplacesOne};
+ghost use Rattle.outside.specs.World.{KeepsOthers};
+ghost use Rattle.quota_blocks.specs.FileChange.{FileChange, Put, Remove};
+ghost use Rattle.quota_blocks.specs.QuotaFile.{ChangesBlocks};
+ghost use Rattle.quota_blocks.specs.QuotaValue.{QuotaValue};
+ghost use Rattle.quota_pages.specs.Pages.{name_of, pages_of};
+ghost use Rattle.quota_types.specs.Format.{IsTreeFormat};
+ghost use Rattle.quota_types.specs.Kept.{IsKept};
+ghost use Rattle.tree_build.specs.IsTree.{heads_of};
+ghost use Rattle.tree_build.specs.TreeFile.{TreeStandsFor};
+ghost use Rattle.tree_change.specs.ChangeFault.{IsChangeFault};
+ghost use Rattle.tree_file.specs.InPlace.{EndsEarly, IsNoFileOf, MayChange, WritesSo};
+ghost use Rattle.tree_change.specs.Putting.{blocks_with};
+
+use crate::finishing::finish;
+use entry_codec::Header;
+use free_chains::Heads;
+use quota_blocks::Store;
+use quota_pages::Pages;
+use quota_types::Rec;
+use tree_change::{ChangeFault, put_record, remove_record};
+
+/// Gives an identifier this record in a file with this header, which may have so many blocks, and syncs it. Answers the
+/// heads that the header has then. The buffer is empty before and then.
+///
+/// # Errors
+///
+/// The store failed, or the file is damaged or full. Nothing was written, but where the store failed while it was: each
+/// block is the old or the new one then.
+pub(crate) fn put_in<S: Store>(
+    pages: &mut Pages,
+    store: &mut S,
+    header: &Header,
+    limit: u32,
+    id: u32,
+    rec: &Rec,
+) -> Result<Heads, ChangeFault>
+    requires tree { IsTreeFormat header.now.format }
+    requires kept { IsKept header.now.format id rec.now }
+    requires empty { pages_of pages.old ≡ [] }
+    requires two { 2 ≤ header.now.blocks }
+    requires few { header.now.blocks ≤ limit }
+    ensures done { IfOk result (λ heads. IsTrue S.tells
+        → WritesSo (MayChange limit (Put id rec.now) header.now heads) (name_of pages.old)
+        (S.seen store.old).files (S.seen store.new).files) }
+    ensures heads { IfOk result (λ heads. (2 ≤ heads.blocks) × (heads.blocks ≤ limit)) }
+    ensures synced { OnOk result (IsTrue S.tells
+        → IsSynced (name_of pages.old) (S.seen store.old) (S.seen store.new)) }
+    ensures refused { IfErr result (IsChangeFault (S.seen store.old).faults (S.seen store.new).faults
+        (IsNoFileOf S.tells header.now (bytes_of ((S.seen store.old).files (name_of pages.old))))
+        (λ blocks most. (most ≡ limit) × (limit < blocks) × (IsTrue S.tells
+        → AreOf header.now (header_of (bytes_of ((S.seen store.old).files (name_of pages.old)))) → (value : QuotaValue)
+        → TreeStandsFor (bytes_of ((S.seen store.old).files (name_of pages.old))) value
+        → blocks ≡ blocks_with (bytes_of ((S.seen store.old).files (name_of pages.old)))
+        (heads_of (header_of (bytes_of ((S.seen store.old).files (name_of pages.old))))) id))) }
+    ensures ended { IfErr result (EndsEarly S.tells (MayChange limit (Put id rec.now) header.now) (name_of pages.old)
+        (S.seen store.old) (S.seen store.new)) }
+    ensures few { IsTrue S.tells → ChangesBlocks 12 (bytes_of ((S.seen store.old).files (name_of pages.old)))
+        (bytes_of ((S.seen store.new).files (name_of pages.old))) }
+    ensures others { KeepsOthers (name_of pages.old) (S.seen store.old).files (S.seen store.new).files }
+    ensures leaves { ReplacesOne (name_of pages.old) (S.seen store.old) (S.seen store.new) }
+    ensures reads { (S.seen store.new).reads ≤ (S.seen store.old).reads + 12 }
+    ensures writes { (S.seen store.new).writes ≤ (S.seen store.old).writes + 12 }
+    ensures name { name_of pages.new ≡ name_of pages.old }
+    ensures empty { pages_of pages.new ≡ [] }
+{
+    match put_record(pages, store, header, limit, id, rec) {
+        Ok(heads) => {
+            finish(pages, store)?;
+            Ok(heads)
+        }
+        Err(fault) => {
+            pages.clear();
+            Err(fault)
+        }
+    }
+}
+
+/// Takes the record of an identifier out of a file with this header, and syncs it. Answers the heads that the header has
+/// then, or None where the identifier has none and nothing was written. The buffer is empty before and then.
+///
+/// # Errors
+///
+/// The store failed, or the file is damaged. Nothing was written, but where the store failed while it was: each block is
+/// the old or the new one then.
+pub(crate) fn remove_in<S: Store>(
+    pages: &mut Pages,
+    store: &mut S,
+    header: &Header,
+    id: u32,
+) -> Result<Option<Heads>, ChangeFault>
+    requires tree { IsTreeFormat header.now.format }
+    requires empty { pages_of pages.old ≡ [] }
+    ensures done { IfOk result (λ found. IfSome found (λ heads. IsTrue S.tells
+        → WritesSo (MayChange header.now.blocks (Remove id) header.now heads) (name_of pages.old)
+        (S.seen store.old).files (S.seen store.new).files)) }
+    ensures heads { IfOk result (λ found. IfSome found (λ heads. heads.blocks ≡ header.now.blocks)) }
+    ensures found { IfOk result (λ found. IsTrue S.tells
+        → AreOf header.now (header_of (bytes_of ((S.seen store.old).files (name_of pages.old)))) → (value : QuotaValue)
+        → TreeStandsFor (bytes_of ((S.seen store.old).files (name_of pages.old))) value
+        → is_none (get value.records id) ≡ is_none found) }
+    ensures absent { IfOk result (λ found. found ≡ None
+        → OnlyReads true (name_of pages.old) (S.seen store.old) (S.seen store.new)) }
+    ensures synced { OnOk result (IsTrue S.tells
+        → IsSynced (name_of pages.old) (S.seen store.old) (S.seen store.new)) }
+    ensures refused { IfErr result (IsChangeFault (S.seen store.old).faults (S.seen store.new).faults
+        (IsNoFileOf S.tells header.now (bytes_of ((S.seen store.old).files (name_of pages.old)))) (λ _ _. ⊥)) }
+    ensures ended { IfErr result (EndsEarly S.tells (MayChange header.now.blocks (Remove id) header.now)
+        (name_of pages.old) (S.seen store.old) (S.seen store.new)) }
+    ensures few { IsTrue S.tells → ChangesBlocks 12 (bytes_of ((S.seen store.old).files (name_of pages.old)))
+        (bytes_of ((S.seen store.new).files (name_of pages.old))) }
+    ensures others { KeepsOthers (name_of pages.old) (S.seen store.old).files (S.seen store.new).files }
+    ensures leaves { ReplacesOne (name_of pages.old) (S.seen store.old) (S.seen store.new) }
+    ensures reads { (S.seen store.new).reads ≤ (S.seen store.old).reads + 12 }
+    ensures writes { (S.seen store.new).writes ≤ (S.seen store.old).writes + 12 }
+    ensures name { name_of pages.new ≡ name_of pages.old }
+    ensures empty { pages_of pages.new ≡ [] }
+{
+    match remove_record(pages, store, header, id) {
+        Ok(Some(heads)) => {
+            finish(pages, store)?;
+            Ok(Some(heads))
+        }
+        Ok(None) => {
+            pages.clear();
+            Ok(None)
+        }
+        Err(fault) => {
+            pages.clear();
+            Err(fault)
+        }
+    }
+}
