@@ -45,6 +45,29 @@ same() {
     fi
 }
 
+# differing OLD NEW: the numbers of the blocks of 1,024 bytes in which two files differ, sorted as words. What is behind
+# the end of one counts as 0.
+differing() {
+    local size
+    size=$({ stat -c %s "$1" "$2"; } | sort -n | tail -n 1)
+    cp "$1" one.whole
+    cp "$2" other.whole
+    truncate -s $(((size + 1023) / 1024 * 1024)) one.whole other.whole
+    { cmp -l one.whole other.whole || true; } | awk '{ print int(($1 - 1) / 1024) }' | uniq | sort
+    rm one.whole other.whole
+}
+
+# torn OLD NEW FILE: `old-or-new` where each block of the last file is that of the old one or that of the new one, and
+# its length is not outside theirs; else the blocks that are neither.
+torn() {
+    local size
+    size=$(stat -c %s "$3")
+    differing "$1" "$3" >from_old.txt
+    differing "$2" "$3" >from_new.txt
+    if [ "$size" -lt "$(stat -c %s "$1")" ] || [ "$size" -gt "$(stat -c %s "$2")" ]; then echo "$size bytes"; fi
+    comm -12 from_old.txt from_new.txt | { grep . || echo old-or-new; }
+}
+
 # The first call builds the program where it is stale, and shows how.
 cp "$top/samples/quota.user" quota.user
 "$run" repquota -F vfsold -u -v quota.user >/dev/null
@@ -129,7 +152,7 @@ got=0
 same 'the status stays where the error output is full' "$got" 1
 
 # The parts, in an order that counts: each finds the files that those before it left.
-for part in limits changes large scripts windows serving outside; do
+for part in limits changes large scripts windows in_place serving outside; do
     . "$top/tests/real_files/$part.sh"
 done
 

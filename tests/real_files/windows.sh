@@ -56,7 +56,8 @@ $(printf '%-13s' "$title")         used       soft       hard  grace    files   
 done
 expect 'a flat file that is not asked for as one' 3 '' 'quota: t: not a quota file' repquota -u t
 
-# The program killed at many moments of a change leaves the old file or the new one.
+# The program killed at many moments of a change leaves the old flat file or the new one. A tree file is changed where it
+# stands: each of its blocks is the old one or the new one then.
 printf '\x11\x1f\xc0\xd9\x01\x00\x00\x00'"$week$tail" >tree
 for id in 1 2 3 1000 70000 16777216 4294967295; do "$run" setquota "$id" 1 2 3 4 tree; done
 truncate -s 41943040 flat
@@ -69,8 +70,12 @@ for case in 'tree vfsv1 0.0' 'flat vfsold 0.'; do
     for step in $(seq 10 99); do
         cp old killed
         timeout -s KILL "${point}0$step" "$folder/program" setquota -F "$format" 5 1 2 3 4 killed 2>err.txt || true
-        if cmp -s killed old || cmp -s killed new; then kept=$((kept + 1)); fi
+        case $name in
+            tree) state=$(torn old new killed) ;;
+            flat) state=$({ cmp -s killed old || cmp -s killed new; } && echo old-or-new || echo neither) ;;
+        esac
+        if [ "$state" = old-or-new ]; then kept=$((kept + 1)); fi
         rm -f killed.new
     done
-    same "a $format file after a kill is the old or the new one" "$kept" 90
+    same "a $format file after a kill is made of the old or the new one" "$kept" 90
 done

@@ -285,7 +285,7 @@ fails store 4
 run edquota --apply --names other --input l alice q
 status 4
 ! quota: store fault
-stays q
+same q
 sweep store edquota --apply --names other --input l alice q
 changes q
 run repquota q

@@ -70,7 +70,7 @@ fn wrong_in(alloc: Global, row: &EditRow) -> Option<&'static str> {
     if edited(&mut file, &mut store, &row.edit)? != result_of(row.answer) {
         return Some("the answer");
     }
-    if store.writes() != writes_of(&store, row) {
+    if !are_writes(&store, row) {
         return Some("the number of writes");
     }
     if !holds_entries(&mut file, &mut store, after.as_slice()) {
@@ -132,13 +132,16 @@ fn result_of(answer: Answer) -> Result<Skipped, EditFault> {
     }
 }
 
-/// How many writes an edit makes: as many as put the whole file in the place of the old one; one where the grace periods of
-/// a tree file are set, which is done where they stand; and none where nothing is changed.
-fn writes_of(store: &MemStore, row: &EditRow) -> u64 {
+/// Whether an edit made as many writes as it may: as many as put the whole of a flat file in the place of the old one; one where
+/// the grace periods of a tree file are set, and one to twelve where a record is; and none where nothing is changed.
+fn are_writes(store: &MemStore, row: &EditRow) -> bool {
+    let writes = store.writes();
     match (row.answer, row.edit) {
-        (Skips | Lacks(_), _) => 0,
-        (_, SetGrace(..)) if !row.format.is_flat() => 1,
-        _ => store.file("q").unwrap_or(b"").len().div_ceil(1024) as u64,
+        (Skips | Lacks(_), _) => writes == 0,
+        _ if row.format.is_flat() => writes
+            == store.file("q").unwrap_or(b"").len().div_ceil(1024) as u64,
+        (_, SetGrace(..)) => writes == 1,
+        _ => writes >= 1 && writes <= 12,
     }
 }
 

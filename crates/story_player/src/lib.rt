@@ -39,8 +39,8 @@
 //! |---|---|
 //! | `run WORDS` | the words, parted by single spaces |
 //! | `both WORDS` | once with the standard input, and once over the same files with a file `l` of the same bytes and `--input l` behind the words; both must leave the same |
-//! | `sweep OBJECT WORDS` | once with no fault, and then once for each call of the object that this run made, which fails: each must end with status 4 and the line of the object's fault, in a script with the number of a line, with an output that is a first part of the whole one, and with each file as it was or as the whole run left it |
-//! | `turn WORDS` | once whole, and then once for each number of reads below that of the whole run, after which the store turns: each must leave what the whole run left, or end with status 3, no output and a line on the file `q`, with each file as it was or as a line allows |
+//! | `sweep OBJECT WORDS` | once with no fault, and then once for each call of the object that this run made, which fails: each must end with status 4 and the line of the object's fault, in a script with the number of a line, with an output that is a first part of the whole one, and with each file as it was or as the whole run left it, or, of a tree file, with each block so |
+//! | `turn WORDS` | once whole, and then once for each number of reads below that of the whole run, after which the store turns: each must say what the whole run said, or end with status 3, no output and a line on the file `q`, with each file as it was or as a line allows |
 //! | `read WORDS`, `line WORDS` | the words are read as a command, outside of a script and in one; the verb alone is no words, and with a space behind it one of no bytes |
 //!
 //! | Says what the last run left | |
@@ -74,6 +74,7 @@ mod setting;
 mod stage;
 mod sweeps;
 mod telling;
+mod torn;
 mod turning;
 mod verbs;
 mod watched;

@@ -6,6 +6,7 @@ use crate::scripts::{is_fault_line, last_line};
 use crate::setting::calls_of;
 use crate::stage::{Last, NamedBytes, Setting, Stage, copied, find, has_name, set};
 use crate::telling::instead;
+use crate::torn::is_torn;
 use crate::turning::run_turn;
 use crate::verbs::Runs;
 use crate::wrong::{Told, Wrong, holds_if, is_number, unmet};
@@ -164,16 +165,20 @@ pub(crate) fn is_allowed(stage: &Stage, name: &str, bytes: Option<&[u8]>) -> boo
     is_allowed
 }
 
-/// Whether a file may be so where a sweep lets a call fail.
+/// Whether a file may be so where a sweep lets a call fail: as it was, as the whole run left it, as a line allows, or, of a
+/// tree file, so that each of its blocks is the old or the new one.
 fn may_be(stage: &Stage, name: &str, bytes: Option<&[u8]>, whole: &Ran) -> bool {
-    let is_old = find(&stage.files, name) == bytes;
+    let old = find(&stage.files, name);
+    let is_old = old == bytes;
     if has_name(&stage.stays, name) {
         return is_old;
     }
+    let new = find(&whole.files, name);
     is_old
         || is_allowed(stage, name, bytes)
         || name.ends_with(".new")
-        || find(&whole.files, name) == bytes
+        || new == bytes
+        || is_torn(stage, name, new, bytes)
 }
 
 /// Whether each of some files may be so after a run.

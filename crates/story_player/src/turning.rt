@@ -1,16 +1,14 @@
 use crate::Program;
 use crate::runs::{Ran, run_line};
 use crate::stage::{Setting, Stage, find};
-use crate::sweeps::{are_same, at_call, is_allowed, run_whole};
+use crate::sweeps::{at_call, is_allowed, run_whole};
 use crate::telling::instead;
 use crate::wrong::{Told, Wrong, holds_if, is_number};
 
-/// Whether two runs left the same.
-fn left_same(whole: &Ran, ran: &Ran) -> bool {
-    whole.out() == ran.out()
-        && whole.err() == ran.err()
-        && are_same(&whole.files, &ran.files, "")
-        && are_same(&ran.files, &whole.files, "")
+/// Whether two runs said the same. What they left is not compared: a change in place writes what it read, and a store that
+/// turns tells no file.
+fn said_same(whole: &Ran, ran: &Ran) -> bool {
+    whole.out() == ran.out() && whole.err() == ran.err()
 }
 
 /// Whether each file is as it was, or as a line allows, and there is no other one.
@@ -27,7 +25,7 @@ fn are_files_kept(stage: &Stage, ran: &Ran) -> bool {
 fn is_turned(stage: &Stage, whole: &Ran, ran: &Ran) -> Told {
     let alloc = stage.alloc;
     if ran.status == 0 {
-        return holds_if(alloc, left_same(whole, ran), "it left something else");
+        return holds_if(alloc, said_same(whole, ran), "it said something else");
     }
     is_number(alloc, u64::from(ran.status), 3)?;
     holds_if(alloc, ran.out().is_empty(), "there is an output")?;

@@ -152,22 +152,25 @@ const CHANGED: &[ChangeRow] = &[
         records: &[(1000, Some(LIMITS))],
     },
     ChangeRow {
-        title: "a record is written over the old one, and what is behind the last block goes",
+        title: "a record is written over the old one, and what is behind the last block stays",
         file: (6200, &[UNNAMED]),
         limit: 6,
         acts: &[Act::Put(1000, USED), Act::Put(1000, LIMITS)],
         fault: None,
-        after: Is((6144, &[UNNAMED, ENTRY_WITH_LIMITS])),
+        after: Is((6200, &[UNNAMED, ENTRY_WITH_LIMITS])),
         flags: 0,
         records: &[(1000, Some(LIMITS))],
     },
     ChangeRow {
-        title: "a file with a free block is built anew",
+        title: "a free block stays free where a record is written over the old one",
         file: (7168, &[&[(BLOCKS, 7), (FREE, 6)], UNNAMED]),
         limit: 100,
         acts: &[Act::Put(1000, LIMITS)],
         fault: None,
-        after: Has(6144, &[(1000, 0)]),
+        after: Is((
+            7168,
+            &[&[(BLOCKS, 7), (FREE, 6)], UNNAMED, ENTRY_WITH_LIMITS],
+        )),
         flags: 0,
         records: &[(1000, Some(LIMITS))],
     },
@@ -211,13 +214,17 @@ fn a_change_is_made_as_it_is_asked_for(rt: HostRuntime) {
     expect_changes(&rt, rt.alloc(), CHANGED);
 }
 
-/// Changes of the six-block file that put another file in its place: a new record, and one over the old one.
-const TRIED: &[Act] = &[Act::Put(7, LIMITS), Act::Put(1000, LIMITS)];
+/// Changes of the six-block file: a new record, one over the old one, and none in its place.
+const TRIED: &[Act] = &[
+    Act::Put(7, LIMITS),
+    Act::Put(1000, LIMITS),
+    Act::Remove(1000),
+];
 
 /// More calls than opening and a change make.
-const CALLS: u64 = 40;
+const CALLS: u64 = 60;
 
-/// Expects each change to leave the old file where a call of the store fails, whichever it is.
+/// Expects each change to leave each block old or new where a call of the store fails, whichever it is.
 fn expect_old_or_new(rt: &impl Abort, alloc: Global, changes: &[Act]) {
     for change in changes {
         expect_old_or_new_of(rt, alloc, change);
@@ -233,24 +240,40 @@ fn expect_old_or_new_of(rt: &impl Abort, alloc: Global, change: &Act) {
 
 /// What is wrong after the call of the store with this number has failed, or nothing.
 fn wrong_at(alloc: Global, change: &Act, call: u64) -> Option<&'static str> {
-    let file = made(alloc, 6144, &[]).ok()?;
-    let mut sound = store_of(alloc, file.as_slice(), &[]).ok()?;
+    let old = made(alloc, 6144, &[]).ok()?;
+    let mut sound = store_of(alloc, old.as_slice(), &[]).ok()?;
     let mut opened = open_users(alloc, &mut sound, 100).ok()?;
     if make(&mut opened, &mut sound, change) != Some(Ok(())) {
         return Some("the change without a fault");
     }
-    let mut store = store_of(alloc, file.as_slice(), &[call]).ok()?;
+    let mut store = store_of(alloc, old.as_slice(), &[call]).ok()?;
     let done = done_with(alloc, &mut store, change);
-    let want = match done {
-        Done => sound.file("q"),
-        Refused => Some(file.as_slice()),
+    let left = store.file("q").unwrap_or(b"");
+    let new = sound.file("q").unwrap_or(b"");
+    let is_so = match done {
+        Done => left == new,
+        Refused => are_old_or_new(old.as_slice(), new, left),
         Wrong(wrong) => return Some(wrong),
     };
-    if store.file("q") == want {
-        Some("")
-    } else {
-        Some("the file")
+    Some(if is_so { "" } else { "the file" })
+}
+
+/// Whether each block that is left of a file is the old or the new one.
+fn are_old_or_new(old: &[u8], new: &[u8], left: &[u8]) -> bool {
+    let mut all = true;
+    let mut at = 0;
+    for block in left.chunks(1024) {
+        all = all && (stands_at(old, at, block) || stands_at(new, at, block));
+        at = at.saturating_add(block.len());
     }
+    all
+}
+
+/// Whether a file has these bytes from a place on; what is behind its end counts as zeros.
+fn stands_at(file: &[u8], at: usize, block: &[u8]) -> bool {
+    let rest = file.get(at..).unwrap_or(b"");
+    let count = rest.len().min(block.len());
+    rest[..count] == block[..count] && block[count..].iter().all(|byte| *byte == 0)
 }
 
 /// How opening and a change end.
@@ -278,6 +301,6 @@ fn done_with(alloc: Global, store: &mut MemStore, change: &Act) -> End {
 }
 
 #[test]
-fn a_fault_of_the_store_leaves_the_old_file(rt: HostRuntime) {
+fn a_fault_of_the_store_leaves_each_block_old_or_new(rt: HostRuntime) {
     expect_old_or_new(&rt, rt.alloc(), TRIED);
 }

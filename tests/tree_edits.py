@@ -1,0 +1,176 @@
+#!/usr/bin/env python3
+"""Random edits of a tree file by `setquota`, whose outcome is compared with a map, and with a reader of its own.
+
+tree_edits.py PROGRAM FORMAT SEED ROUNDS LINES RUNS
+    Makes a file of that format in the current folder, and changes it in so many rounds: each has a batch of so many
+    lines, and so many single runs. Prints `same` where each single run changed at most twelve blocks and shortened
+    nothing, and where the file is sound and has the records of the map after each round, and `repquota` shows them at
+    the end; else what differs first.
+"""
+
+import random
+import struct
+import subprocess
+import sys
+
+BLOCK = 1024
+FILE = "edited"
+# Of each version: the fields of an entry, and how many a data block has.
+ENTRIES = {"vfsv0": (struct.Struct("<6I3Q"), 21), "vfsv1": (struct.Struct("<2I8Q"), 14)}
+
+
+class Differs(Exception):
+    """What was found is not what is wanted."""
+
+
+def want(holds, *words):
+    if not holds:
+        raise Differs(" ".join(map(str, words)))
+
+
+def records_in(data, form):
+    """The records of a tree file, read as docs/FORMATS.md has it: of each identifier its soft and hard limits of blocks
+    and of inodes, and its use in bytes and in inodes. The file has to be sound."""
+    entry, room = ENTRIES[form]
+    blocks, free, listed = struct.unpack_from("<3I", data, 20)
+    want(len(data) >= blocks * BLOCK, "the file is short of", blocks, "blocks")
+    roles, leaves, records, roomy = {0: "header"}, {}, {}, set()
+
+    def take(block, role):
+        want(0 < block < blocks, role, block, "is outside")
+        want(block not in roles, role, block, "is", roles.get(block), "too")
+        roles[block] = role
+
+    def walk(block, level, before):
+        take(block, "tree")
+        words = struct.unpack_from("<256I", data, block * BLOCK)
+        want(level == 0 or any(words), "tree block", block, "is empty")
+        for at, word in enumerate(words):
+            if word and level < 3:
+                walk(word, level + 1, before * 256 + at)
+            elif word:
+                leaves.setdefault(word, set()).add(before * 256 + at)
+
+    walk(1, 0, 0)
+    for block, ids in leaves.items():
+        take(block, "data")
+        start = block * BLOCK
+        raw = [data[at:at + entry.size] for at in range(start + 16, start + 16 + room * entry.size, entry.size)]
+        used = [entry.unpack(it) for it in raw if any(it)]
+        want(struct.unpack_from("<H", data, start + 8)[0] == len(used), "data block", block, "says another number")
+        want(len(used) == len(ids) and {it[0] for it in used} == ids, "data block", block, "has other entries")
+        if len(used) < room:
+            roomy.add(block)
+        for fields in used:
+            ihard, isoft, inodes, bhard, bsoft, space = fields[-8:-2]
+            records[fields[0]] = (bsoft, bhard, isoft, ihard, space, inodes)
+    while free:
+        take(free, "free")
+        free = struct.unpack_from("<I", data, free * BLOCK)[0]
+    before = 0
+    while listed:
+        want(listed in roomy, "block", listed, "is in the entry list")
+        roomy.remove(listed)
+        following, previous = struct.unpack_from("<2I", data, listed * BLOCK)
+        want(previous == before, "block", listed, "names another before it")
+        before, listed = listed, following
+    want(not roomy, "blocks", roomy, "are not in the entry list")
+    want(len(roles) == blocks, "of", blocks, "blocks", len(roles), "have a role")
+    return records
+
+
+class Edited:
+    """A tree file and the map that it has to be."""
+
+    def __init__(self, program, form, seed):
+        self.program, self.form, self.random = program, form, random.Random(seed)
+        # The users who use something keep their records without limits too.
+        self.used = {at * at: (at % 9 * 1024, 1) for at in range(1, 120)}
+        self.limits = {}
+        listing = "".join("%d 100 2049 %d %d\n" % (id, id, use // 512) for id, (use, _) in self.used.items())
+        self.run("quotacheck", "-c", "-u", FILE, stdin=listing)
+
+    def run(self, command, *words, stdin=""):
+        """What a command writes, which has to end with status 0."""
+        done = subprocess.run([self.program, command, "-F", self.form, *words], input=stdin, capture_output=True,
+                              text=True, timeout=60)
+        want(done.returncode == 0, command, *words, "ended with", done.returncode, done.stderr)
+        return done.stdout
+
+    def bytes(self):
+        with open(FILE, "rb") as file:
+            return file.read()
+
+    def chosen(self, shrinks):
+        """The next edit: an identifier, and its new limits, all of them 0 for one whose record is to go."""
+        dice = self.random
+        if self.limits and dice.random() < (0.7 if shrinks else 0.4):
+            id = dice.choice(list(self.limits))
+            gone = dice.random() < (0.9 if shrinks else 0.5)
+        else:
+            # near others, one to a block of the third level, one to a block of the second, or anywhere
+            id = dice.choice([dice.randrange(700), dice.randrange(256) << 8, dice.randrange(256) << 24 | 7,
+                              dice.randrange(2**32)])
+            gone = dice.random() < 0.1
+        # (what is used stays below the soft limits, so no timer runs)
+        limits = (0,) * 4 if gone else tuple(dice.randrange(100, 2**20) for _ in range(4))
+        self.limits[id] = limits
+        if not any(limits):
+            del self.limits[id]
+        return list(map(str, (id, *limits)))
+
+    def single(self, shrinks):
+        """An edit by a run of its own."""
+        words, old = self.chosen(shrinks), self.bytes()
+        self.run("setquota", *words, FILE)
+        new = self.bytes()
+        old_blocks, blocks = -(-len(old) // BLOCK), -(-len(new) // BLOCK)
+        differ = [at for at in range(blocks)
+                  if at >= old_blocks or old[at * BLOCK:][:BLOCK] != new[at * BLOCK:][:BLOCK]]
+        want(len(differ) <= 12, "setquota", *words, "changed the blocks", differ)
+        want(len(new) >= len(old), "setquota", *words, "shortened the file")
+
+    def wanted(self):
+        return {id: self.limits.get(id, (0,) * 4) + self.used.get(id, (0, 0))
+                for id in {**self.used, **self.limits}}
+
+    def rows(self):
+        """The lines of `repquota` for these records."""
+        line = "%-13s-- %10d %10d %10d      - %8d %8d %8d      -"
+        return [line % ("#%d" % id, space // 1024, bsoft, bhard, inodes, isoft, ihard)
+                for id, (bsoft, bhard, isoft, ihard, space, inodes) in sorted(self.wanted().items())]
+
+    def compare(self):
+        found, wanted = records_in(self.bytes(), self.form), self.wanted()
+        for id in sorted({**found, **wanted}):
+            want(found.get(id) == wanted.get(id),
+                 "the record of", id, "is", found.get(id), "in place of", wanted.get(id))
+
+
+def main(words):
+    if len(words) != 6:
+        sys.exit(__doc__)
+    rounds, lines, runs = map(int, words[3:])
+    try:
+        edited = Edited(words[0], words[1], int(words[2]))
+        edited.compare()
+        for at in range(rounds):
+            shrinks = at % 3 == 2
+            size = len(edited.bytes())
+            edited.run("setquota", "-b", FILE,
+                       stdin="".join(" ".join(edited.chosen(shrinks)) + "\n" for _ in range(lines)))
+            want(len(edited.bytes()) >= size, "a batch shortened the file")
+            for _ in range(runs):
+                edited.single(shrinks)
+            edited.compare()
+        rows, shown = edited.rows(), edited.run("repquota", "-v", FILE).splitlines()[4:]
+        want(len(rows) == len(shown), "the report has", len(shown), "lines in place of", len(rows))
+        for row, line in zip(rows, shown):
+            want(row == line, "the report has", repr(line), "in place of", repr(row))
+        print("same")
+    except Differs as found:
+        print(found)
+
+
+if __name__ == "__main__":
+    main(sys.argv[1:])
