@@ -2,6 +2,7 @@
 -- `struct qt_disk_dqdbheader` of `fs/quota/quota_tree.h`.
 use Rattle.std.specs.Prelude.{ℕ, ◌*◌, List, ◌++◌, take, drop, replicate, [], Option, unwrap_or}
 use Rattle.quota_types.specs.Bytes.{number_at}
+use Rattle.outside.specs.World.{World}
 use Rattle.std.specs.Prelude.{Bool, not, ◌&&◌, ◌==◌, nat_lt}
 
 -- the 1,024 bytes of a block; bytes past the end of the file count as 0
@@ -23,6 +24,10 @@ previous_of file number = number_at 4 (block_of file number) 4
 -- the bytes of a file that may be absent
 abbrev pub bytes_of : Option (List ℕ) → List ℕ
 bytes_of file = unwrap_or file []
+
+-- the bytes of the file that has a name among some files; one that is not there has none
+abbrev pub file_of : World → (name : List ℕ) → List ℕ
+file_of files name = bytes_of (files name)
 
 -- a reference or a link leads to a block other than that of the header
 abbrev pub leads : ℕ → ℕ → Bool

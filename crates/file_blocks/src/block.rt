@@ -1,7 +1,7 @@
 ghost use Rattle.std.specs.Prelude.{◌≡◌, ◌+◌, ◌*◌, ◌<◌, ◌≤◌, length, IsTrue, IfNone, IfSome, OnOk, OnErr, is_ok};
 ghost use Rattle.outside.specs.Count.{Rose, counted};
 ghost use Rattle.outside.specs.Frame.{OnlyReads};
-ghost use Rattle.file_blocks.specs.Block.{block_of, bytes_of};
+ghost use Rattle.file_blocks.specs.Block.{block_of, file_of};
 
 use outside::{Store, StoreFault};
 
@@ -16,7 +16,7 @@ pub fn read_block<S: Store>(
     block: &mut [u8; 1024],
 ) -> Result<(), StoreFault>
     ensures bytes { OnOk result (IsTrue S.tells
-        → block.new ≡ block_of (bytes_of ((S.seen store.old).files name.now)) number) }
+        → block.new ≡ block_of (file_of (S.seen store.old).files name.now) number) }
     ensures cause { OnErr result (Rose (S.seen store.old).faults (S.seen store.new).faults) }
     ensures leaves { OnlyReads (is_ok result) name.now (S.seen store.old) (S.seen store.new) }
     ensures reads { (S.seen store.new).reads ≡ counted (S.seen store.old).reads }

@@ -17,9 +17,6 @@ pub record IsBegun (file : List ℕ) (blocks head : ℕ) (met : List ℕ) (at : 
   pub inside : (number : ℕ) → StandsIn met number → IsTrue (leads blocks number)
   pub distinct : (number : ℕ) → times met number ≤ 1
 
-pub begun_none : (file : List ℕ) (blocks head : ℕ) → IsBegun file blocks head [] head
-begun_none file blocks head = record { linked = refl; inside = λ number stands. absurd (omega (arith, stands)); distinct = λ number. zero-le }
-
 pub begun_more : (file : List ℕ) (blocks head : ℕ) (met : List ℕ) (at : ℕ) → IsBegun file blocks head met at → IsTrue (leads blocks at) → times met at ≡ 0 → IsBegun file blocks head (met ++ at ∷ []) (next_of file at)
 begun_more file blocks head met at begun leads_there new = record {
   linked = goes_on_by_one (next_of file) head at met begun.linked;

@@ -1,7 +1,7 @@
 ghost use Rattle.std.specs.Prelude.{◌≡◌, ◌≢◌, ℕ, ◌+◌, ◌<◌, ◌≤◌, [], vec_len, IsTrue, IfOk, OnOk, IfErr, is_ok};
 ghost use Rattle.outside.specs.Frame.{OnlyReads};
 ghost use Rattle.file_blocks.specs.CheckFault.{IsCheckFault};
-ghost use Rattle.file_blocks.specs.Block.{bytes_of};
+ghost use Rattle.file_blocks.specs.Block.{file_of};
 ghost use Rattle.free_chains.specs.Walk.{AreLinksTo, IsWalk, IsWalkDefect};
 
 use crate::link::Link;
@@ -44,13 +44,13 @@ impl Walk {
         ensures longer { OnOk result (vec_len self.new.links ≡ vec_len self.old.links + 1) }
         ensures walk { OnOk result (IsWalk blocks self.old → IsWalk blocks self.new) }
         ensures links { IfOk result (λ next. IsTrue S.tells → (head : ℕ)
-            → AreLinksTo (bytes_of ((S.seen store.old).files name.now)) head self.old.links.items at
-            → AreLinksTo (bytes_of ((S.seen store.old).files name.now)) head self.new.links.items next) }
+            → AreLinksTo (file_of (S.seen store.old).files name.now) head self.old.links.items at
+            → AreLinksTo (file_of (S.seen store.old).files name.now) head self.new.links.items next) }
         ensures refused { IfErr result (IsCheckFault (S.seen store.old).faults (S.seen store.new).faults
             (λ damage. IsTrue S.tells → (head : ℕ)
             → IsWalk blocks self.old
-            → AreLinksTo (bytes_of ((S.seen store.old).files name.now)) head self.old.links.items at
-            → IsWalkDefect (bytes_of ((S.seen store.old).files name.now)) blocks head damage)) }
+            → AreLinksTo (file_of (S.seen store.old).files name.now) head self.old.links.items at
+            → IsWalkDefect (file_of (S.seen store.old).files name.now) blocks head damage)) }
         ensures leaves { OnlyReads (is_ok result) name.now (S.seen store.old) (S.seen store.new) }
         ensures reads { (S.seen store.new).reads ≤ (S.seen store.old).reads + 1 }
         ensures few_reads { IsWalk blocks self.old → (S.seen store.new).reads + vec_len self.old.links
@@ -90,10 +90,10 @@ pub fn walk_chain<S: Store>(
 ) -> Result<Walk, CheckFault>
     ensures walk { IfOk result (IsWalk blocks) }
     ensures links { IfOk result (λ walk. IsTrue S.tells
-        → AreLinksTo (bytes_of ((S.seen store.old).files name.now)) head walk.links.items 0) }
+        → AreLinksTo (file_of (S.seen store.old).files name.now) head walk.links.items 0) }
     ensures refused { IfErr result (IsCheckFault (S.seen store.old).faults (S.seen store.new).faults
         (λ damage. IsTrue S.tells
-        → IsWalkDefect (bytes_of ((S.seen store.old).files name.now)) blocks head damage)) }
+        → IsWalkDefect (file_of (S.seen store.old).files name.now) blocks head damage)) }
     ensures leaves { OnlyReads (is_ok result) name.now (S.seen store.old) (S.seen store.new) }
     ensures reads { IfOk result (λ walk. (S.seen store.new).reads ≤ (S.seen store.old).reads + vec_len walk.links) }
     ensures few_reads { (S.seen store.new).reads ≤ (S.seen store.old).reads + blocks }

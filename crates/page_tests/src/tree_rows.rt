@@ -110,7 +110,7 @@ impl Tree {
     }
 
     /// An identifier gets a leaf, and the answer is how many fresh blocks it took.
-    #[tactic(auto, using(quota_pages::proofs::UsesLemmas::few_missing))]
+    #[tactic(auto, using(crate::proofs::MissingLemmas::few_missing))]
     fn add(&mut self, id: u32, data: u32, fresh: u32) -> Answer {
         if self.pages.spare() < 12 || fresh > 1_000_000 {
             return Answer::Not;

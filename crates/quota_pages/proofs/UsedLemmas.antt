@@ -18,7 +18,7 @@ use Rattle.file_blocks.proofs.WordLemmas.{number_same, length-block_of}
 use Rattle.quota_pages.specs.Overlay.{whole_block, with_block}
 use Rattle.quota_pages.specs.Page.{HasRoomFor, IsClean, Page, is_buffered, is_lent, lent_count, shown}
 use Rattle.quota_pages.specs.Pages.{Brings, Lent, LooksAt, StaysAsItWas, name_of, pages_of}
-use Rattle.quota_pages.specs.Used.{HasWord, IsKnown, KeepsBlocksBut, LendsSome, LooksAtSome, file_of, missing, shown_over}
+use Rattle.quota_pages.specs.Used.{HasWord, IsKnown, KeepsBlocksBut, LendsSome, LooksAtSome, file_under, missing, shown_over}
 use Rattle.quota_pages.specs.declared.page_buffer.Pages.{Pages}
 use Rattle.quota_pages.proofs.BlockLemmas.{block_of-with_block_other, block_of-with_block_same, byte_at-whole_block, length-whole_block, length-with_block}
 
@@ -43,20 +43,17 @@ missing-stay old new number stay =
 pub room-there : (pages : List Page) (number : ℕ) → is_buffered pages number ≡ true → HasRoomFor pages number
 room-there pages number there = λ absent. absurd (true≢false (sym there ∙ absent))
 
-pub room-few : (pages : List Page) (number : ℕ) → length pages + 1 ≤ 12 → HasRoomFor pages number
-room-few pages number few = λ absent. omega arith
-
 pub room-missing : (pages : List Page) (number : ℕ) → length pages + missing pages number ≤ 12 → HasRoomFor pages number
 room-missing pages number few = λ absent. omega (arith, few, missing-absent pages number absent)
 
 -- the file of a buffer is the one that it was, where the store was only read
-pub same_file : (before now : StoreSeen) (old new : Pages) → name_of new ≡ name_of old → now.files ≡ before.files → file_of now new ≡ file_of before old
+pub same_file : (before now : StoreSeen) (old new : Pages) → name_of new ≡ name_of old → now.files ≡ before.files → file_under now new ≡ file_under before old
 same_file before now old new name files =
     ap (λ (f : World). bytes_of (f (name_of new))) files ∙ ap (λ (n : List ℕ). bytes_of (before.files n)) name
 
 -- what is shown is known as before, where the file is the same, and the buffer as clean
 known_along : (tells : Bool) (before now : StoreSeen) (old new : Pages) → name_of new ≡ name_of old → now.files ≡ before.files
-    → (IsTrue tells → IsClean (pages_of old) (file_of before old) → IsClean (pages_of new) (file_of before old)) → IsKnown tells before old → IsKnown tells now new
+    → (IsTrue tells → IsClean (pages_of old) (file_under before old) → IsClean (pages_of new) (file_under before old)) → IsKnown tells before old → IsKnown tells now new
 known_along tells before now old new name files clean known = record {
   told = known.told;
   clean = subst (λ (file : List ℕ). IsClean (pages_of new) file) (sym (same_file before now old new name files)) (clean known.told known.clean);
@@ -115,20 +112,6 @@ pub looks_then : {tells ok : Bool} {one two : ℕ} {before between now : StoreSe
     → LooksAtSome tells ok (one + two) before now old new
 looks_then first second = looks_both first second
 
--- what was done is also what was not said to be done
-pub looks_less : {tells ok : Bool} {count : ℕ} {before now : StoreSeen} {old new : Pages} → LooksAtSome tells ok count before now old new → LooksAtSome tells false count before now old new
-looks_less {before = before} {now = now} {old = old} looks = record {
-  name = looks.name;
-  few = looks.few;
-  stay = looks.stay;
-  shows = looks.shows;
-  lent = looks.lent;
-  lent_count = looks.lent_count;
-  known = looks.known;
-  leaves = only_reads-less (name_of old) before now looks.leaves;
-  reads = looks.reads;
-}
-
 pub looks_more : {tells ok : Bool} {few : ℕ} {before now : StoreSeen} {old new : Pages} (more : ℕ) → few ≤ more → LooksAtSome tells ok few before now old new → LooksAtSome tells ok more before now old new
 looks_more more fewer looks = record {
   name = looks.name;
@@ -143,7 +126,7 @@ looks_more more fewer looks = record {
 }
 
 -- a block was looked at
-pub looks_of_block : {tells done : Bool} {number : ℕ} (before now : StoreSeen) {old new : Pages} → LooksAt tells (file_of before old) number old new → OnlyReads done (name_of old) before now
+pub looks_of_block : {tells done : Bool} {number : ℕ} (before now : StoreSeen) {old new : Pages} → LooksAt tells (file_under before old) number old new → OnlyReads done (name_of old) before now
     → now.reads ≡ cond (is_buffered (pages_of old) number) before.reads (counted before.reads) → LooksAtSome tells done (missing (pages_of old) number) before now old new
 looks_of_block {tells} {number} before now {old} {new} looks leaves reads = record {
   name = looks.brings.name;
@@ -168,14 +151,14 @@ looks_of_fault tells number before now {old} {new} stays leaves reads = record {
   lent = λ other. ap (λ (pages : List Page). is_lent pages other) stays.pages;
   lent_count = ap (λ (pages : List Page). lent_count pages) stays.pages;
   known = known_along tells before now old new stays.name leaves.files
-      (λ told clean. subst (λ (pages : List Page). IsClean pages (file_of before old)) (sym stays.pages) clean);
+      (λ told clean. subst (λ (pages : List Page). IsClean pages (file_under before old)) (sym stays.pages) clean);
   leaves = leaves;
   reads = one_read (is_buffered (pages_of old) number) before.reads now.reads reads;
 }
 
 -- a call that looks at a block, whatever it answers
 pub looks_of_peek : {A E : Type 0} {done : Bool} (tells : Bool) (number : ℕ) (before now : StoreSeen) {old new : Pages} (result : Result A E)
-    → MatchResult result (λ _. LooksAt tells (file_of before old) number old new) (λ _. StaysAsItWas old new) → OnlyReads done (name_of old) before now
+    → MatchResult result (λ _. LooksAt tells (file_under before old) number old new) (λ _. StaysAsItWas old new) → OnlyReads done (name_of old) before now
     → now.reads ≡ cond (is_buffered (pages_of old) number) before.reads (counted before.reads) → LooksAtSome tells done (missing (pages_of old) number) before now old new
 looks_of_peek tells number before now (Ok _) looks leaves reads = looks_of_block before now looks leaves reads
 looks_of_peek tells number before now (Err _) stays leaves reads = looks_of_fault tells number before now stays leaves reads
@@ -183,11 +166,7 @@ looks_of_peek tells number before now (Err _) stays leaves reads = looks_of_faul
 -- what a buffer shows over its file stays where blocks were looked at
 pub shown_over-looks : {tells ok : Bool} {count : ℕ} {before now : StoreSeen} {old new : Pages} → LooksAtSome tells ok count before now old new → shown_over now new ≡ shown_over before old
 shown_over-looks {before} {now} {old} {new} looks =
-    ap (shown (pages_of new)) (same_file before now old new looks.name looks.leaves.files) ∙ looks.shows (file_of before old)
-
--- room that is left once blocks were looked at
-pub room-looks : {tells ok : Bool} {count : ℕ} {before now : StoreSeen} {old new : Pages} → LooksAtSome tells ok count before now old new → (number : ℕ) → length (pages_of old) + count + 1 ≤ 12 → HasRoomFor (pages_of new) number
-room-looks {new} looks number few = room-few (pages_of new) number (omega (arith, looks.few, few))
+    ap (shown (pages_of new)) (same_file before now old new looks.name looks.leaves.files) ∙ looks.shows (file_under before old)
 
 pub missing-looks : {tells ok : Bool} {count : ℕ} {before now : StoreSeen} {old new : Pages} → LooksAtSome tells ok count before now old new → (number : ℕ) → missing (pages_of new) number ≤ missing (pages_of old) number
 missing-looks {old} {new} looks number = missing-stay (pages_of old) (pages_of new) number (looks.stay number)
@@ -241,7 +220,7 @@ pub marked : {tells : Bool} {file bytes : List ℕ} {number : ℕ} {old new : Pa
 marked {number = number} {old = old} lent = lent.lent number ∙ ap (λ (b : Bool). is_lent (pages_of old) number || b) (eq-eqb number number refl) ∙ or-true (is_lent (pages_of old) number)
 
 -- a block was lent for writing, and left with these bytes
-pub lends_of_page : {tells done : Bool} {number : ℕ} {bytes : List ℕ} (before now : StoreSeen) {old new : Pages} → Lent tells (file_of before old) number bytes old new → OnlyReads done (name_of old) before now
+pub lends_of_page : {tells done : Bool} {number : ℕ} {bytes : List ℕ} (before now : StoreSeen) {old new : Pages} → Lent tells (file_under before old) number bytes old new → OnlyReads done (name_of old) before now
     → now.reads ≡ cond (is_buffered (pages_of old) number) before.reads (counted before.reads) → LendsSome tells done (missing (pages_of old) number) (number ∷ []) before now old new
 lends_of_page {tells} {number} {bytes} before now {old} {new} lent leaves reads = record {
   name = lent.brings.name;
@@ -325,18 +304,12 @@ lends_more more fewer lends = record {
 pub shown_over-lends : {tells ok : Bool} {count : ℕ} {numbers : List ℕ} {before now : StoreSeen} {old new : Pages} → LendsSome tells ok count numbers before now old new → KeepsBlocksBut numbers (shown_over before old) (shown_over now new)
 shown_over-lends {numbers} {before} {now} {old} {new} lends =
     subst (λ (file : List ℕ). KeepsBlocksBut numbers (shown_over before old) (shown (pages_of new) file)) (sym (same_file before now old new lends.name lends.leaves.files))
-    (lends.shows (file_of before old))
+    (lends.shows (file_under before old))
 
-pub shown_over-lent : {tells done : Bool} {number : ℕ} {bytes : List ℕ} (before now : StoreSeen) {old new : Pages} → Lent tells (file_of before old) number bytes old new → OnlyReads done (name_of old) before now
+pub shown_over-lent : {tells done : Bool} {number : ℕ} {bytes : List ℕ} (before now : StoreSeen) {old new : Pages} → Lent tells (file_under before old) number bytes old new → OnlyReads done (name_of old) before now
     → shown_over now new ≡ with_block (shown_over before old) number bytes
 shown_over-lent before now {old} {new} lent leaves =
-    ap (shown (pages_of new)) (same_file before now old new lent.brings.name leaves.files) ∙ lent.shows (file_of before old)
-
-pub room-lends : {tells ok : Bool} {count : ℕ} {numbers : List ℕ} {before now : StoreSeen} {old new : Pages} → LendsSome tells ok count numbers before now old new → (number : ℕ) → length (pages_of old) + count + 1 ≤ 12 → HasRoomFor (pages_of new) number
-room-lends {new} lends number few = room-few (pages_of new) number (omega (arith, lends.few, few))
-
-pub missing-lends : {tells ok : Bool} {count : ℕ} {numbers : List ℕ} {before now : StoreSeen} {old new : Pages} → LendsSome tells ok count numbers before now old new → (number : ℕ) → missing (pages_of new) number ≤ missing (pages_of old) number
-missing-lends {old} {new} lends number = missing-stay (pages_of old) (pages_of new) number (lends.stay number)
+    ap (shown (pages_of new)) (same_file before now old new lent.brings.name leaves.files) ∙ lent.shows (file_under before old)
 
 -- the block that bytes were left in, over a file
 left_block : (number : ℕ) (bytes old new : List ℕ) → new ≡ with_block old number bytes → block_of new number ≡ whole_block bytes
@@ -367,12 +340,6 @@ has_word number at value block bytes old new room is written keeps laid =
         ]);
       };
     }
-
--- a number of the block beside the one that was written
-pub number_beside : {number at value : ℕ} {old new : List ℕ} (width place : ℕ) → HasWord number at value old new → (place + width ≤ at) ⊎ (at + 4 ≤ place)
-    → number_at width (block_of new number) place ≡ number_at width (block_of old number) place
-number_beside {number} {old} {new} width place word (inl before) = number_same width place (block_of new number) (block_of old number) (λ k from to. word.others.before k (omega arith))
-number_beside {number} {old} {new} width place word (inr behind) = number_same width place (block_of new number) (block_of old number) (λ k from to. word.others.behind k (omega arith))
 
 -- a block that was lent for writing was left with zeros
 pub blank_block : (number size : ℕ) (bytes old new : List ℕ) → bytes ≡ replicate size 0 → new ≡ with_block old number bytes → block_of new number ≡ replicate 1024 0

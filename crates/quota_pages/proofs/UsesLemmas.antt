@@ -57,10 +57,6 @@ uses_more more fewer uses = record {
   reads = omega (arith, uses.reads, fewer);
 }
 
--- what was done is also what was not said to be done
-pub uses_less : {tells : Bool} {count : ℕ} {before now : StoreSeen} {old new : Pages} → Uses tells true count before now old new → Uses tells false count before now old new
-uses_less {tells} {count} {now = now} {new = new} uses = uses_more count (omega arith) (uses_then uses (uses_none tells now new))
-
 -- a block of which none is missing is buffered
 pub there-missing : (pages : List Page) (number : ℕ) → missing pages number ≡ 0 → is_buffered pages number ≡ true
 there-missing pages number none = elim (cases_Bool (is_buffered pages number)) [
@@ -82,11 +78,6 @@ pub missing_among-stay : (old new : List Page) (numbers : List ℕ) → ((number
 missing_among-stay old new [] stay = omega (arith, missing_among-nil old, missing_among-nil new)
 missing_among-stay old new (number ∷ numbers) stay =
     omega (arith, missing_among-cons old number numbers, missing_among-cons new number numbers, missing-stay old new number (stay number), missing_among-stay old new numbers stay)
-
--- at most all of them are missing
-pub few_missing : (pages : List Page) (numbers : List ℕ) → missing_among pages numbers ≤ length numbers
-few_missing pages [] = omega (arith, missing_among-nil pages)
-few_missing pages (number ∷ numbers) = omega (arith, missing_among-cons pages number numbers, missing-few pages number, few_missing pages numbers)
 
 stands_first : (number : ℕ) (numbers : List ℕ) → StandsIn (number ∷ numbers) number
 stands_first number numbers = omega (arith, times-cons-same number numbers)

@@ -1,6 +1,6 @@
 -- Files that the pages of a buffer are written into.
 use Rattle.std.specs.Prelude.{◌≡◌, ℕ, zero, suc, true, List, take, Some, if◌then◌else◌}
-use Rattle.file_blocks.specs.Block.{bytes_of}
+use Rattle.file_blocks.specs.Block.{file_of}
 use Rattle.outside.specs.Count.{counted}
 use Rattle.outside.specs.Unsynced.{Names, with_name}
 use Rattle.outside.specs.World.{World, with_file}
@@ -10,7 +10,7 @@ use Rattle.quota_pages.specs.Page.{Page, is_some_lent, shown}
 -- that was not there is else made.
 unfoldable pub flushed_files : World → List ℕ → List Page → World
 flushed_files files name pages =
-    if is_some_lent pages then with_file files name (Some (shown pages (bytes_of (files name)))) else files
+    if is_some_lent pages then with_file files name (Some (shown pages (file_of files name))) else files
 
 -- the names that are unsynced then: the named one besides, where some page was lent for writing
 unfoldable pub flushed_names : Names → List ℕ → List Page → Names

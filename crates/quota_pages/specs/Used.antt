@@ -2,7 +2,7 @@
 use Rattle.std.specs.Prelude.{◌≡◌, ℕ, ◌+◌, ◌*◌, ◌<◌, ◌≤◌, Bool, true, IsTrue, List, [], ◌∷◌, length, max, if◌then◌else◌}
 use Rattle.quota_types.specs.Bytes.{number_at}
 use Rattle.quota_types.specs.Times.{StandsIn, times}
-use Rattle.file_blocks.specs.Block.{block_of, bytes_of}
+use Rattle.file_blocks.specs.Block.{block_of, file_of}
 use Rattle.outside.specs.Frame.{OnlyReads}
 use Rattle.outside.specs.Seen.{StoreSeen}
 use Rattle.quota_types.specs.Span.{KeepsOutside}
@@ -11,17 +11,17 @@ use Rattle.quota_pages.specs.Pages.{name_of, pages_of}
 use Rattle.quota_pages.specs.declared.page_buffer.Pages.{Pages}
 
 -- the bytes of a buffer's file, as a store has it
-abbrev pub file_of : StoreSeen → Pages → List ℕ
-file_of seen buffer = bytes_of (seen.files (name_of buffer))
+abbrev pub file_under : StoreSeen → Pages → List ℕ
+file_under seen buffer = file_of seen.files (name_of buffer)
 
 -- what a buffer shows over its file, as a store has it
 abbrev pub shown_over : StoreSeen → Pages → List ℕ
-shown_over seen buffer = shown (pages_of buffer) (file_of seen buffer)
+shown_over seen buffer = shown (pages_of buffer) (file_under seen buffer)
 
 -- What a buffer shows is known: the store tells its files, and the buffer is clean over its file.
 pub record IsKnown (tells : Bool) (seen : StoreSeen) (buffer : Pages) : Type 0 where
   pub told : IsTrue tells
-  pub clean : IsClean (pages_of buffer) (file_of seen buffer)
+  pub clean : IsClean (pages_of buffer) (file_under seen buffer)
 
 -- how many blocks are read to have the one of this number buffered
 abbrev pub missing : List Page → ℕ → ℕ

@@ -6,12 +6,12 @@ ghost use Rattle.outside.specs.Count.{Rose};
 ghost use Rattle.outside.specs.World.{World};
 ghost use Rattle.outside.specs.Seen.{StoreSeen};
 ghost use Rattle.quota_types.specs.Times.{StandsIn, times};
-ghost use Rattle.file_blocks.specs.Block.{block_of, bytes_of};
+ghost use Rattle.file_blocks.specs.Block.{block_of, bytes_of, file_of};
 ghost use Rattle.quota_pages.specs.Overlay.{with_block};
 ghost use Rattle.quota_pages.specs.Flushed.{IsPartlyFlushed, counted_by, flushed_files};
 ghost use Rattle.quota_pages.specs.Page.{IsClean, Page, is_buffered, is_lent, lent_count, lent_numbers, shown};
 ghost use Rattle.quota_pages.specs.Pages.{name_of, pages_of};
-ghost use Rattle.quota_pages.specs.Used.{KeepsBlocksBut, LendsSome, LooksAtSome, Uses, file_of, shown_over};
+ghost use Rattle.quota_pages.specs.Used.{KeepsBlocksBut, LendsSome, LooksAtSome, Uses, file_under, shown_over};
 ghost use Rattle.quota_pages.specs.declared.page_buffer.Pages.{Pages as Buffer};
 
 use crate::Pages;
@@ -75,12 +75,12 @@ pub fn a_buffer_has_few_pages()
 /// byte outside of those. As many calls of `write` are counted as blocks were lent, at most, which are twelve at most.
 pub fn a_flush_leaves_what_was_shown()
     ensures file { (files : World) (name : List ℕ) (pages : List Page)
-        → bytes_of (flushed_files files name pages name) ≡ shown pages (bytes_of (files name)) }
+        → bytes_of (flushed_files files name pages name) ≡ shown pages (file_of files name) }
     ensures blocks { (files : World) (name : List ℕ) (pages : List Page)
-        → KeepsBlocksBut (lent_numbers pages) (bytes_of (files name)) (bytes_of (flushed_files files name pages name)) }
+        → KeepsBlocksBut (lent_numbers pages) (file_of files name) (bytes_of (flushed_files files name pages name)) }
     ensures bytes { (files : World) (name : List ℕ) (pages : List Page) (number at : ℕ) → is_lent pages number ≡ false
         → 1024 * number ≤ at → at < 1024 * number + 1024
-        → byte_at (bytes_of (flushed_files files name pages name)) at ≡ byte_at (bytes_of (files name)) at }
+        → byte_at (bytes_of (flushed_files files name pages name)) at ≡ byte_at (file_of files name) at }
     ensures writes { (pages : List Page) (before : ℕ)
         → counted_by before (lent_count pages) ≤ before + lent_count pages }
     ensures few { (buffer : Buffer) (before : ℕ)
@@ -91,9 +91,9 @@ pub fn a_flush_leaves_what_was_shown()
 pub fn a_block_is_the_old_or_the_new_one()
     ensures { (buffer : Buffer) (old new : World) (number : ℕ)
         → IsPartlyFlushed (name_of buffer) (pages_of buffer) old new
-        → (block_of (bytes_of (new (name_of buffer))) number ≡ block_of (bytes_of (old (name_of buffer))) number)
-        ⊎ (block_of (bytes_of (new (name_of buffer))) number
-        ≡ block_of (shown (pages_of buffer) (bytes_of (old (name_of buffer)))) number) }
+        → (block_of (file_of new (name_of buffer)) number ≡ block_of (file_of old (name_of buffer)) number)
+        ⊎ (block_of (file_of new (name_of buffer)) number
+        ≡ block_of (shown (pages_of buffer) (file_of old (name_of buffer))) number) }
 {}
 
 /// After a fault of a flush the buffer shows over the file, as that is then, what it showed over the old one, and is as
@@ -101,12 +101,12 @@ pub fn a_block_is_the_old_or_the_new_one()
 pub fn a_fault_leaves_what_is_shown()
     ensures shown { (buffer : Buffer) (old new : World)
         → IsPartlyFlushed (name_of buffer) (pages_of buffer) old new
-        → shown (pages_of buffer) (bytes_of (new (name_of buffer)))
-        ≡ shown (pages_of buffer) (bytes_of (old (name_of buffer))) }
+        → shown (pages_of buffer) (file_of new (name_of buffer))
+        ≡ shown (pages_of buffer) (file_of old (name_of buffer)) }
     ensures clean { (buffer : Buffer) (old new : World)
         → IsPartlyFlushed (name_of buffer) (pages_of buffer) old new
-        → IsClean (pages_of buffer) (bytes_of (old (name_of buffer)))
-        → IsClean (pages_of buffer) (bytes_of (new (name_of buffer))) }
+        → IsClean (pages_of buffer) (file_of old (name_of buffer))
+        → IsClean (pages_of buffer) (file_of new (name_of buffer)) }
 {}
 
 /// Calls that look at pages, one after another, look at as many as both, and leave what is shown. Calls that lend pages,
@@ -161,7 +161,7 @@ pub fn another_block_stays<S: Store>(
     requires word { at + 4 ≤ 1024 }
     requires room { length (pages_of pages.old) + 2 ≤ 12 }
     ensures stays { IfOk result (λ word. other ≢ number → IsTrue S.tells
-        → IsClean (pages_of pages.old) (file_of (S.seen store.old) pages.old)
+        → IsClean (pages_of pages.old) (file_under (S.seen store.old) pages.old)
         → word ≡ number_at 4 (block_of (shown_over (S.seen store.old) pages.old) other) at) }
     ensures cause { OnErr result (Rose (S.seen store.old).faults (S.seen store.new).faults) }
 {

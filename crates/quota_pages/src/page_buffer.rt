@@ -31,7 +31,7 @@ impl Pages {
     ghost use Rattle.quota_pages.specs.Flushed.{IsPartlyFlushed, counted_by, flushed_files, flushed_names};
     ghost use Rattle.quota_pages.specs.Page.{HasRoomFor, IsClean, is_buffered, is_lent, is_some_lent, lent_count, shown};
     ghost use Rattle.quota_types.specs.Bytes.{number_at};
-    ghost use Rattle.quota_pages.specs.Used.{HasWord, IsKnown, LendsSome, LooksAtSome, file_of, missing, shown_over};
+    ghost use Rattle.quota_pages.specs.Used.{HasWord, IsKnown, LendsSome, LooksAtSome, file_under, missing, shown_over};
     ghost use Rattle.quota_pages.specs.Pages.{EndsLent, EndsLookedAt, HasAt, LooksAt, StaysAsItWas, name_of, pages_of};
 
     /// An empty buffer over the file of this name.
@@ -76,9 +76,9 @@ impl Pages {
     /// The store failed. The buffer is as before.
     pub fn peek<S: Store>(&mut self, store: &mut S, n: u32) -> Result<&[u8; 1024], StoreFault>
         requires { HasRoomFor (pages_of self.old) n }
-        ensures* looked { sem 𝓛 (EndsLookedAt S.tells (file_of (S.seen store.old) self.old) n self.entry result) }
+        ensures* looked { sem 𝓛 (EndsLookedAt S.tells (file_under (S.seen store.old) self.old) n self.entry result) }
         ensures block { IfOk result (λ block. IsTrue S.tells
-            → IsClean (pages_of self.old) (file_of (S.seen store.old) self.old)
+            → IsClean (pages_of self.old) (file_under (S.seen store.old) self.old)
             → block.now ≡ block_of (shown_over (S.seen store.old) self.old) n) }
         ensures lent { IfOk result (λ block. is_lent (pages_of self.old) n ≡ true
             → (file : List ℕ) → block.now ≡ block_of (shown (pages_of self.old) file) n) }
@@ -100,9 +100,9 @@ impl Pages {
     /// The store failed. The buffer is as before.
     pub fn page<S: Store>(&mut self, store: &mut S, n: u32) -> Result<&mut [u8; 1024], StoreFault>
         requires { HasRoomFor (pages_of self.old) n }
-        ensures* lends { sem 𝓛 (EndsLent S.tells (file_of (S.seen store.old) self.old) n self.entry result) }
+        ensures* lends { sem 𝓛 (EndsLent S.tells (file_under (S.seen store.old) self.old) n self.entry result) }
         ensures block { IfOk result (λ block. IsTrue S.tells
-            → IsClean (pages_of self.old) (file_of (S.seen store.old) self.old)
+            → IsClean (pages_of self.old) (file_under (S.seen store.old) self.old)
             → block.now ≡ block_of (shown_over (S.seen store.old) self.old) n) }
         ensures lent { IfOk result (λ block. is_lent (pages_of self.old) n ≡ true
             → (file : List ℕ) → block.now ≡ block_of (shown (pages_of self.old) file) n) }
@@ -228,7 +228,7 @@ impl Pages {
     fn bring<S: Store>(&mut self, store: &mut S, number: u32) -> Result<usize, StoreFault>
         requires { HasRoomFor (pages_of self.old) number }
         ensures place { IfOk result (λ place. HasAt place number self.new) }
-        ensures looked { OnOk result (LooksAt S.tells (file_of (S.seen store.old) self.old) number self.old self.new) }
+        ensures looked { OnOk result (LooksAt S.tells (file_under (S.seen store.old) self.old) number self.old self.new) }
         ensures kept { OnErr result (StaysAsItWas self.old self.new) }
         ensures buffered { is_buffered (pages_of self.old) number ≡ true → (IsOk result) × (store.new ≡ store.old) }
         ensures reads { (S.seen store.new).reads ≡ (if is_buffered (pages_of self.old) number
@@ -247,7 +247,7 @@ impl Pages {
         requires room { length (pages_of self.old) < 12 }
         requires absent { is_buffered (pages_of self.old) number ≡ false }
         ensures place { IfOk result (λ place. HasAt place number self.new) }
-        ensures looked { OnOk result (LooksAt S.tells (file_of (S.seen store.old) self.old) number self.old self.new) }
+        ensures looked { OnOk result (LooksAt S.tells (file_under (S.seen store.old) self.old) number self.old self.new) }
         ensures kept { OnErr result (StaysAsItWas self.old self.new) }
         ensures reads { (S.seen store.new).reads ≡ counted (S.seen store.old).reads }
         ensures cause { OnErr result (Rose (S.seen store.old).faults (S.seen store.new).faults) }

@@ -28,7 +28,3 @@ find_later {X} test (y ∷ xs) ys none = elim (cases test y) [
 pub some_or : {X : Type 0} (one other : Option X) → true ≡ is_some one → option_or one other ≡ one
 some_or None other some = absurd (true≢false some)
 some_or (Some x) other some = refl
-
-pub none_or : {X : Type 0} (one other : Option X) → false ≡ is_some one → option_or one other ≡ other
-none_or None other none = refl
-none_or (Some x) other none = absurd (true≢false (sym none))

@@ -71,14 +71,6 @@ find-with_path-other ps path number ne =
           ∙ find_kept is more ps (λ p here. let same : p.number ≡ number = eqb-true p.number number here in lt-ltb path.number p.number (omega (arith, same, above)))
     ]
 
--- the identifier whose leaf was added leads to its block
-pub leaf_of_added : (old new : List ℕ) (blocks id block : ℕ) → id < 2 ^ 32 → leaves new blocks ≡ with_path (leaves old blocks) (record { number = id; block = block }) → leaf_block new blocks id ≡ Some block
-leaf_of_added old new blocks id block small added =
-    let leaf : TreePath = record { number = id; block = block } in
-    leaf_led_to new blocks id small
-    ∙ ap (λ (ps : List TreePath). option_map (λ (path : TreePath). path.block) (find (λ (other : TreePath). other.number == id) ps)) added
-    ∙ ap (option_map (λ (path : TreePath). path.block)) (find-with_path-same (leaves old blocks) leaf)
-
 -- and each other one to where it led
 pub leaf_of_other : (old new : List ℕ) (blocks id block other : ℕ) → other < 2 ^ 32 → other ≢ id → leaves new blocks ≡ with_path (leaves old blocks) (record { number = id; block = block })
     → leaf_block new blocks other ≡ leaf_block old blocks other

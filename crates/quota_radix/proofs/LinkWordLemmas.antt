@@ -49,6 +49,3 @@ stretch_more way first place from low =
     ap (λ (k : ℕ). take k (drop first way)) more
     ∙ take_more (drop first way) (place - first) 0 (omega (arith, from, low, length-drop first way))
     ∙ ap (λ (n : ℕ). take (place - first) (drop first way) ++ n ∷ []) (get_or-drop first way (place - first) 0 ∙ ap (λ (k : ℕ). get_or way k 0) here)
-
-pub stretch_none : (way : List ℕ) (first : ℕ) → stretch way first (first - first) ≡ []
-stretch_none way first = let none : first - first ≡ 0 = omega arith in ap (λ (k : ℕ). take k (drop first way)) none

@@ -184,13 +184,6 @@ ids_distinct file blocks block id =
     times_rising 0 (256 ^ 4) (filter (λ path. path.block == block) (leaves file blocks)) id
     (Rises-filter (λ path. path.block == block) 0 (256 ^ 4) (leaves file blocks) (Rises-paths file blocks 4))
 
--- the identifiers of the leaves are distinct too, and have four bytes
-pub leaf_ids_distinct : (file : List ℕ) (blocks id : ℕ) → times (map (λ leaf. leaf.number) (leaves file blocks)) id ≤ 1
-leaf_ids_distinct file blocks id = times_rising 0 (256 ^ 4) (leaves file blocks) id (Rises-paths file blocks 4)
-
-pub leaf_ids_below : (file : List ℕ) (blocks id : ℕ) → StandsIn (map (λ leaf. leaf.number) (leaves file blocks)) id → id < 256 ^ 4
-leaf_ids_below file blocks id stands = below_rising 0 (256 ^ 4) (leaves file blocks) id (Rises-paths file blocks 4) stands
-
 -- each leaf's identifier is one of those that lead to its block
 leads_itself : (ps : List TreePath) → AllByRecursion (λ (leaf : TreePath). StandsIn (ids_at ps leaf.block) leaf.number) ps
 leads_itself [] = tt

@@ -2,7 +2,7 @@ ghost use Rattle.std.specs.Prelude.{◌≡◌, ◌<◌, ◌≤◌, ◌+◌, ◌*
 ghost use Rattle.std.specs.List.{flat_map};
 ghost use Rattle.outside.specs.Frame.{OnlyReads};
 ghost use Rattle.quota_radix.specs.declared.tree_path.TreePath.{TreePath};
-ghost use Rattle.file_blocks.specs.Block.{block_of, bytes_of};
+ghost use Rattle.file_blocks.specs.Block.{block_of, file_of};
 ghost use Rattle.file_blocks.specs.CheckFault.{IsCheckFault, IsStepFault};
 ghost use Rattle.quota_radix.specs.Levels.{AreWithin, IsLevelDefect, IsWhole};
 ghost use Rattle.quota_radix.specs.Tree.{blocks_of, steps};
@@ -26,14 +26,14 @@ pub(crate) fn next_level<S: Store>(
 ) -> Result<Vec<TreePath>, CheckFault>
     requires small { AreWithin blocks (2 ^ 24) level.now }
     ensures next { IfOk result (λ next. IsTrue S.tells
-        → next.items ≡ flat_map (steps (bytes_of ((S.seen store.old).files name.now)) blocks) level.now) }
+        → next.items ≡ flat_map (steps (file_of (S.seen store.old).files name.now) blocks) level.now) }
     ensures whole { OnOk result (IsTrue S.tells
-        → All (λ path. IsWhole (bytes_of ((S.seen store.old).files name.now)) blocks path.block) level.now) }
+        → All (λ path. IsWhole (file_of (S.seen store.old).files name.now) blocks path.block) level.now) }
     ensures within { IfOk result (λ next. (bound : ℕ) → AreWithin blocks bound level.now
         → AreWithin blocks (256 * bound) next.items) }
     ensures refused { IfErr result (IsCheckFault (S.seen store.old).faults (S.seen store.new).faults
         (λ damage. IsTrue S.tells
-        → IsLevelDefect (bytes_of ((S.seen store.old).files name.now)) blocks (blocks_of level.now) damage)) }
+        → IsLevelDefect (file_of (S.seen store.old).files name.now) blocks (blocks_of level.now) damage)) }
     ensures leaves { OnlyReads (is_ok result) name.now (S.seen store.old) (S.seen store.new) }
     ensures reads { (S.seen store.new).reads ≤ (S.seen store.old).reads + length level.now }
 {

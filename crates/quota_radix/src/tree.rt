@@ -3,7 +3,7 @@ ghost use Rattle.std.specs.List.{flat_map};
 ghost use Rattle.outside.specs.Frame.{OnlyReads};
 ghost use Rattle.file_blocks.specs.BlockSet.{AreFlagsOf};
 ghost use Rattle.file_blocks.specs.CheckFault.{IsCheckFault, IsStepFault};
-ghost use Rattle.file_blocks.specs.Block.{bytes_of};
+ghost use Rattle.file_blocks.specs.Block.{file_of};
 ghost use Rattle.quota_radix.specs.Levels.{AreTreeBlocksWhole, AreWithin, IsLevelDefect, IsSecondRole, IsTreeFault, IsWhole};
 ghost use Rattle.quota_radix.specs.Tree.{blocks_of, leaves, steps, tree_blocks};
 ghost use Rattle.quota_radix.specs.Reads.{AreMarkedReads};
@@ -32,17 +32,17 @@ pub fn find_leaves<S: Store>(
 ) -> Result<Vec<TreePath>, CheckFault>
     requires two { 2 ≤ blocks }
     ensures found { IfOk result (λ found. IsTrue S.tells
-        → found.items ≡ leaves (bytes_of ((S.seen store.old).files name.now)) blocks) }
+        → found.items ≡ leaves (file_of (S.seen store.old).files name.now) blocks) }
     ensures marked { OnOk result (IsTrue S.tells → (numbers : List ℕ) → AreFlagsOf blocks met.old.flags.items numbers
         → AreFlagsOf blocks met.new.flags.items
-        (numbers ++ tree_blocks (bytes_of ((S.seen store.old).files name.now)) blocks)) }
+        (numbers ++ tree_blocks (file_of (S.seen store.old).files name.now) blocks)) }
     ensures whole { OnOk result (IsTrue S.tells
-        → AreTreeBlocksWhole (bytes_of ((S.seen store.old).files name.now)) blocks) }
+        → AreTreeBlocksWhole (file_of (S.seen store.old).files name.now) blocks) }
     ensures within { IfOk result (λ found. AreWithin blocks (2 ^ 32) found.items) }
     ensures refused { IfErr result (IsCheckFault (S.seen store.old).faults (S.seen store.new).faults
         (λ damage. IsTrue S.tells
         → (numbers : List ℕ) → AreFlagsOf blocks met.old.flags.items numbers
-        → IsTreeFault (bytes_of ((S.seen store.old).files name.now)) blocks numbers damage)) }
+        → IsTreeFault (file_of (S.seen store.old).files name.now) blocks numbers damage)) }
     ensures leaves { OnlyReads (is_ok result) name.now (S.seen store.old) (S.seen store.new) }
     ensures reads { OnOk result ((numbers : List ℕ) → AreFlagsOf blocks met.old.flags.items numbers
         → AreMarkedReads blocks met.new.flags.items numbers (S.seen store.old).reads (S.seen store.new).reads) }
@@ -70,18 +70,18 @@ fn go_down<S: Store>(
 ) -> Result<Vec<TreePath>, CheckFault>
     requires small { AreWithin blocks (2 ^ 24) level.now }
     ensures next { IfOk result (λ next. IsTrue S.tells
-        → next.items ≡ flat_map (steps (bytes_of ((S.seen store.old).files name.now)) blocks) level.now) }
+        → next.items ≡ flat_map (steps (file_of (S.seen store.old).files name.now) blocks) level.now) }
     ensures marked { OnOk result ((numbers : List ℕ) → AreFlagsOf blocks met.old.flags.items numbers
         → AreFlagsOf blocks met.new.flags.items (numbers ++ blocks_of level.now)) }
     ensures whole { OnOk result (IsTrue S.tells
-        → All (λ path. IsWhole (bytes_of ((S.seen store.old).files name.now)) blocks path.block) level.now) }
+        → All (λ path. IsWhole (file_of (S.seen store.old).files name.now) blocks path.block) level.now) }
     ensures within { IfOk result (λ next. (bound : ℕ) → AreWithin blocks bound level.now
         → AreWithin blocks (256 * bound) next.items) }
     ensures refused { IfErr result (IsCheckFault (S.seen store.old).faults (S.seen store.new).faults
         (λ damage. IsTrue S.tells
         → (numbers : List ℕ) → AreFlagsOf blocks met.old.flags.items numbers
         → (IsSecondRole (numbers ++ blocks_of level.now) damage
-        ⊎ IsLevelDefect (bytes_of ((S.seen store.old).files name.now)) blocks (blocks_of level.now) damage))) }
+        ⊎ IsLevelDefect (file_of (S.seen store.old).files name.now) blocks (blocks_of level.now) damage))) }
     ensures leaves { OnlyReads (is_ok result) name.now (S.seen store.old) (S.seen store.new) }
     ensures reads { (S.seen store.new).reads ≤ (S.seen store.old).reads + length level.now }
     ensures few_reads { (numbers : List ℕ) → AreFlagsOf blocks met.old.flags.items numbers

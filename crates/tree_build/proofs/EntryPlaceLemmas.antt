@@ -15,12 +15,6 @@ use Rattle.tree_build.specs.EntryPlaces.{HasSameEntries, KeepsOutsideEntry}
 use Rattle.tree_build.specs.TreeFile.{record_in}
 use Rattle.file_blocks.proofs.WordLemmas.{same_part}
 
--- an entry lies within its block
-pub entry_fits : (format : Format) (place : ℕ) → place < entries_per_block format → 16 + record_size format * place + record_size format ≤ 1024
-entry_fits V1 place low = absurd (omega (arith, low))
-entry_fits V2R0 place low = omega (arith, low)
-entry_fits V2R1 place low = omega (arith, low)
-
 -- the other entries of a block of which the bytes of one changed
 pub outside_entry : (format : Format) (place at : ℕ) (old new : List ℕ) → length new ≡ length old → KeepsOutsideEntry format place old new → at ≢ place
     → entry_bytes format new at ≡ entry_bytes format old at

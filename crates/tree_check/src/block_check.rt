@@ -1,5 +1,5 @@
 ghost use Rattle.std.specs.Prelude.{◌≡◌, ◌≢◌, ◌+◌, ◌≤◌, IsTrue, OnOk, IfOk, IfErr, is_ok};
-ghost use Rattle.quota_blocks.specs.Block.{block_of, bytes_of};
+ghost use Rattle.quota_blocks.specs.Block.{block_of, file_of};
 ghost use Rattle.quota_blocks.specs.CheckFault.{IsCheckFault};
 ghost use Rattle.quota_blocks.specs.Frame.{OnlyReads};
 ghost use Rattle.quota_types.specs.Format.{IsTreeFormat};
@@ -22,14 +22,14 @@ pub(crate) fn check_block<S: Store>(
 ) -> Result<bool, CheckFault>
     requires tree { IsTreeFormat format }
     ensures entries { OnOk result (IsTrue S.tells
-        → AreEntriesOf (stated_count (bytes_of ((S.seen store.old).files name.now)) number)
-        (used_ids format (block_of (bytes_of ((S.seen store.old).files name.now)) number)) ids.now) }
+        → AreEntriesOf (stated_count (file_of (S.seen store.old).files name.now) number)
+        (used_ids format (block_of (file_of (S.seen store.old).files name.now) number)) ids.now) }
     ensures room { IfOk result (λ has_room. IsTrue S.tells
-        → has_room ≡ has_unused format (block_of (bytes_of ((S.seen store.old).files name.now)) number)) }
+        → has_room ≡ has_unused format (block_of (file_of (S.seen store.old).files name.now) number)) }
     ensures refused { IfErr result (IsCheckFault (S.seen store.old).faults (S.seen store.new).faults
         (λ damage. IsTrue S.tells
-        → IsEntryDefectAt number (stated_count (bytes_of ((S.seen store.old).files name.now)) number)
-        (used_ids format (block_of (bytes_of ((S.seen store.old).files name.now)) number)) ids.now damage)) }
+        → IsEntryDefectAt number (stated_count (file_of (S.seen store.old).files name.now) number)
+        (used_ids format (block_of (file_of (S.seen store.old).files name.now) number)) ids.now damage)) }
     ensures leaves { OnlyReads (is_ok result) name.now (S.seen store.old) (S.seen store.new) }
     ensures reads { (S.seen store.new).reads ≤ (S.seen store.old).reads + 1 }
 {

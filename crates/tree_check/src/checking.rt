@@ -8,7 +8,7 @@ ghost use Rattle.quota_blocks.specs.QuotaValue.{QuotaValue};
 ghost use Rattle.file_blocks.specs.declared.check_fault.CheckFault.TheVariants.{Damage as Damaged, Memory};
 ghost use Rattle.tree_check.specs.Check.{IsChecked};
 ghost use Rattle.quota_blocks.specs.CheckFault.{IsCheckFault};
-ghost use Rattle.quota_blocks.specs.Block.{bytes_of};
+ghost use Rattle.quota_blocks.specs.Block.{file_of};
 ghost use Rattle.tree_build.specs.Defect.{IsTreeDefect};
 ghost use Rattle.tree_check.specs.Found.{IsLengthDefect};
 ghost use Rattle.tree_build.specs.TreeFile.{TreeStandsFor};
@@ -40,16 +40,16 @@ pub fn check<S: Store>(
     requires tree { IsTreeFormat header.now.format }
     requires two { 2 ≤ header.now.blocks }
     ensures checked { IfOk result (λ checked. IsTrue S.tells
-        → AreOf header.now (header_of (bytes_of ((S.seen store.old).files name.now)))
-        → IsChecked (bytes_of ((S.seen store.old).files name.now)) checked) }
+        → AreOf header.now (header_of (file_of (S.seen store.old).files name.now))
+        → IsChecked (file_of (S.seen store.old).files name.now) checked) }
     ensures refused { IfErr result (IsCheckFault (S.seen store.old).faults (S.seen store.new).faults
         (λ damage. IsTrue S.tells
-        → AreOf header.now (header_of (bytes_of ((S.seen store.old).files name.now)))
-        → IsTreeDefect header.now.format (bytes_of ((S.seen store.old).files name.now))
-        (header_of (bytes_of ((S.seen store.old).files name.now))) damage)) }
+        → AreOf header.now (header_of (file_of (S.seen store.old).files name.now))
+        → IsTreeDefect header.now.format (file_of (S.seen store.old).files name.now)
+        (header_of (file_of (S.seen store.old).files name.now)) damage)) }
     ensures only_damaged { IfErr result (λ fault. (damage : Damage) → fault ≡ Damaged damage → IsTrue S.tells
-        → AreOf header.now (header_of (bytes_of ((S.seen store.old).files name.now)))
-        → (value : QuotaValue) → ¬ TreeStandsFor (bytes_of ((S.seen store.old).files name.now)) value) }
+        → AreOf header.now (header_of (file_of (S.seen store.old).files name.now))
+        → (value : QuotaValue) → ¬ TreeStandsFor (file_of (S.seen store.old).files name.now) value) }
     ensures leaves { OnlyReads (is_ok result) name.now (S.seen store.old) (S.seen store.new) }
     ensures reads { (S.seen store.new).reads ≤ (S.seen store.old).reads + 2 * header.now.blocks }
 {
@@ -69,10 +69,10 @@ pub fn check<S: Store>(
 /// `Damage` with the number of the blocks that it has whole, where it is shorter, and `Store` where the store failed.
 pub fn check_length<S: Store>(store: &mut S, name: &str, blocks: u32) -> Result<(), CheckFault>
     ensures long { OnOk result (IsTrue S.tells → 2 < blocks
-        → 1024 * blocks ≤ length (bytes_of ((S.seen store.old).files name.now))) }
+        → 1024 * blocks ≤ length (file_of (S.seen store.old).files name.now)) }
     ensures refused { IfErr result (IsCheckFault (S.seen store.old).faults (S.seen store.new).faults
         (λ damage. IsTrue S.tells
-        → IsLengthDefect (bytes_of ((S.seen store.old).files name.now)) blocks damage)) }
+        → IsLengthDefect (file_of (S.seen store.old).files name.now) blocks damage)) }
     ensures leaves { OnlyReads (is_ok result) name.now (S.seen store.old) (S.seen store.new) }
     ensures reads { (S.seen store.new).reads ≡ (S.seen store.old).reads }
 {

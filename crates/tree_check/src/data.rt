@@ -1,6 +1,6 @@
 ghost use Rattle.std.specs.Prelude.{◌≡◌, ◌≢◌, ℕ, List, ◌+◌, ◌<◌, ◌≤◌, ◌++◌, ◌∷◌, [], ◌&&◌, nat_le, if◌then◌else◌, map, take, length, IsTrue, IfOk, OnOk, IfErr, MatchOption, is_ok};
 ghost use Rattle.quota_blocks.specs.Frame.{OnlyReads};
-ghost use Rattle.quota_blocks.specs.Block.{block_of, bytes_of};
+ghost use Rattle.quota_blocks.specs.Block.{block_of, file_of};
 ghost use Rattle.quota_blocks.specs.BlockSet.{AreFlagsOf};
 ghost use Rattle.quota_blocks.specs.CheckFault.{IsCheckFault};
 ghost use Rattle.tree_build.specs.Compared.{AreEntriesOf, HasEntriesOf, IsDataDefect, IsEntryDefectAt, leading_ids, rooms};
@@ -33,14 +33,14 @@ pub(crate) fn check_data<S: Store>(
     requires tree { IsTreeFormat format }
     requires by_block { AreByBlock leaves.now }
     ensures entries { OnOk result (IsTrue S.tells → (block : ℕ) → block < blocks
-        → HasEntriesOf format (bytes_of ((S.seen store.old).files name.now)) block
+        → HasEntriesOf format (file_of (S.seen store.old).files name.now) block
         (leading_ids (groups_of blocks leaves.now) block)) }
     ensures room { IfOk result (λ room. IsTrue S.tells
-        → AreFlagsOf blocks room.flags.items (rooms format (bytes_of ((S.seen store.old).files name.now))
+        → AreFlagsOf blocks room.flags.items (rooms format (file_of (S.seen store.old).files name.now)
         (groups_of blocks leaves.now) blocks)) }
     ensures refused { IfErr result (IsCheckFault (S.seen store.old).faults (S.seen store.new).faults
         (λ damage. IsTrue S.tells
-        → IsDataDefect format (bytes_of ((S.seen store.old).files name.now))
+        → IsDataDefect format (file_of (S.seen store.old).files name.now)
         (leading_ids (groups_of blocks leaves.now) damage.block) damage.block damage)) }
     ensures leaves { OnlyReads (is_ok result) name.now (S.seen store.old) (S.seen store.new) }
     ensures reads { (S.seen store.new).reads ≤ (S.seen store.old).reads + led_blocks (groups_of blocks leaves.now) }
@@ -79,16 +79,16 @@ fn check_group<S: Store>(
 ) -> Result<(), CheckFault>
     requires tree { IsTreeFormat format }
     ensures entries { OnOk result (IsTrue S.tells
-        → HasEntriesOf format (bytes_of ((S.seen store.old).files name.now)) number ids.now) }
+        → HasEntriesOf format (file_of (S.seen store.old).files name.now) number ids.now) }
     ensures room { OnOk result (IsTrue S.tells → (blocks : ℕ) → (numbers : List ℕ)
         → AreFlagsOf blocks room.old.flags.items numbers
         → number < blocks → times numbers number ≡ 0
         → AreFlagsOf blocks room.new.flags.items (numbers ++ (if nat_le 1 (length ids.now)
-        && has_unused format (block_of (bytes_of ((S.seen store.old).files name.now)) number)
+        && has_unused format (block_of (file_of (S.seen store.old).files name.now) number)
         then number ∷ [] else []))) }
     ensures refused { IfErr result (IsCheckFault (S.seen store.old).faults (S.seen store.new).faults
         (λ damage. IsTrue S.tells
-        → IsDataDefect format (bytes_of ((S.seen store.old).files name.now)) ids.now number damage)) }
+        → IsDataDefect format (file_of (S.seen store.old).files name.now) ids.now number damage)) }
     ensures leaves { OnlyReads (is_ok result) name.now (S.seen store.old) (S.seen store.new) }
     ensures reads { (S.seen store.new).reads ≤ (S.seen store.old).reads + (if nat_le 1 (length ids.now) then 1 else 0) }
 {

@@ -3,7 +3,7 @@ ghost use Rattle.quota_types.specs.Format.{IsTreeFormat};
 ghost use Rattle.quota_types.specs.declared.file_kind.Format.TheVariants.{V1};
 ghost use Rattle.quota_blocks.specs.Frame.{OnlyReads};
 ghost use Rattle.quota_blocks.specs.CheckFault.{IsCheckFault};
-ghost use Rattle.quota_blocks.specs.Block.{bytes_of};
+ghost use Rattle.quota_blocks.specs.Block.{file_of};
 ghost use Rattle.tree_check.specs.Found.{HasNoEmptyBlock, IsListedDefect};
 ghost use Rattle.tree_check.specs.Groups.{AreByBlock, AreGroupsOf, groups_of};
 ghost use Rattle.tree_check.specs.Reads.{led_blocks};
@@ -29,19 +29,19 @@ pub(crate) fn check_lists<S: Store>(
     requires tree { IsTreeFormat header.now.format }
     requires by_block { AreByBlock by_block.now }
     ensures chained { OnOk result (IsTrue S.tells
-        → AreGroupsOf header.now.blocks (leaves (bytes_of ((S.seen store.old).files name.now)) header.now.blocks)
+        → AreGroupsOf header.now.blocks (leaves (file_of (S.seen store.old).files name.now) header.now.blocks)
         (groups_of header.now.blocks by_block.now)
-        → Chained nothing_loose header.now.format (bytes_of ((S.seen store.old).files name.now)) header.now.blocks header.now.first) }
+        → Chained nothing_loose header.now.format (file_of (S.seen store.old).files name.now) header.now.blocks header.now.first) }
     ensures filled { OnOk result (IsTrue S.tells
-        → AreGroupsOf header.now.blocks (leaves (bytes_of ((S.seen store.old).files name.now)) header.now.blocks)
+        → AreGroupsOf header.now.blocks (leaves (file_of (S.seen store.old).files name.now) header.now.blocks)
         (groups_of header.now.blocks by_block.now)
-        → HasNoEmptyBlock (bytes_of ((S.seen store.old).files name.now)) header.now.blocks
-        → Filled nothing_loose header.now.format (bytes_of ((S.seen store.old).files name.now)) header.now.blocks) }
+        → HasNoEmptyBlock (file_of (S.seen store.old).files name.now) header.now.blocks
+        → Filled nothing_loose header.now.format (file_of (S.seen store.old).files name.now) header.now.blocks) }
     ensures refused { IfErr result (IsCheckFault (S.seen store.old).faults (S.seen store.new).faults
         (λ damage. IsTrue S.tells
-        → AreGroupsOf header.now.blocks (leaves (bytes_of ((S.seen store.old).files name.now)) header.now.blocks)
+        → AreGroupsOf header.now.blocks (leaves (file_of (S.seen store.old).files name.now) header.now.blocks)
         (groups_of header.now.blocks by_block.now)
-        → IsListedDefect header.now.format (bytes_of ((S.seen store.old).files name.now)) header.now.blocks
+        → IsListedDefect header.now.format (file_of (S.seen store.old).files name.now) header.now.blocks
         header.now.first damage)) }
     ensures leaves { OnlyReads (is_ok result) name.now (S.seen store.old) (S.seen store.new) }
     ensures reads { (S.seen store.new).reads ≤ (S.seen store.old).reads + header.now.blocks

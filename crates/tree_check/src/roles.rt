@@ -1,7 +1,7 @@
 ghost use Rattle.std.specs.Prelude.{◌≡◌, ◌+◌, ◌*◌, ◌≤◌, map, IsTrue, IfOk, IfErr, vec_len, is_ok};
 ghost use Rattle.quota_blocks.specs.Frame.{OnlyReads};
 ghost use Rattle.quota_blocks.specs.CheckFault.{IsCheckFault};
-ghost use Rattle.quota_blocks.specs.Block.{bytes_of};
+ghost use Rattle.quota_blocks.specs.Block.{file_of};
 ghost use Rattle.tree_check.specs.Found.{AreRoles, IsRoleDefect};
 ghost use Rattle.tree_check.specs.Groups.{AreByBlock, groups_of};
 ghost use Rattle.tree_check.specs.Reads.{led_blocks};
@@ -38,11 +38,11 @@ pub(crate) fn check_roles<S: Store>(
 ) -> Result<Roles, CheckFault>
     requires two { 2 ≤ blocks }
     ensures roles { IfOk result (λ roles. IsTrue S.tells
-        → AreRoles (bytes_of ((S.seen store.old).files name.now)) blocks free_head roles) }
+        → AreRoles (file_of (S.seen store.old).files name.now) blocks free_head roles) }
     ensures by_block { IfOk result (λ roles. AreByBlock roles.leaves.items) }
     ensures refused { IfErr result (IsCheckFault (S.seen store.old).faults (S.seen store.new).faults
         (λ damage. IsTrue S.tells
-        → IsRoleDefect (bytes_of ((S.seen store.old).files name.now)) blocks free_head damage)) }
+        → IsRoleDefect (file_of (S.seen store.old).files name.now) blocks free_head damage)) }
     ensures leaves { OnlyReads (is_ok result) name.now (S.seen store.old) (S.seen store.new) }
     ensures reads { IfOk result (λ roles. (S.seen store.new).reads
         + led_blocks (groups_of blocks roles.leaves.items) ≤ (S.seen store.old).reads + blocks) }

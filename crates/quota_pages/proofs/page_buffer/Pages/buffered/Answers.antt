@@ -1,5 +1,5 @@
 use Rattle.std.proofs.Common.{sym}
-use Rattle.quota_pages.specs.Used.{file_of}
+use Rattle.quota_pages.specs.Used.{file_under}
 use Rattle.quota_pages.proofs.BufferLemmas.{has_at, has_buffered, looked_at, looks_at-none}
 use Rattle.quota_pages.proofs.page_buffer.Pages.buffered.Goals as goal
 
@@ -12,6 +12,6 @@ pub returns-clause-block : goal.returns-clause-block
 returns-clause-block c = λ tells seen known.
     let buffer = c.args.self.now in
     let has = has_at buffer c.in_ok-place.place c.args.n _ c.in_ok-place.ensures.0 c.in_ok-place.ensures.1 in
-    looked_at tells (file_of seen buffer) c.args.n c.in_ok-place.place c.block.result.now buffer buffer
-    (looks_at-none tells (file_of seen buffer) c.args.n buffer (has_buffered buffer c.in_ok-place.place c.args.n has)) has
+    looked_at tells (file_under seen buffer) c.args.n c.in_ok-place.place c.block.result.now buffer buffer
+    (looks_at-none tells (file_under seen buffer) c.args.n buffer (has_buffered buffer c.in_ok-place.place c.args.n has)) has
     c.block.ensures.value c.block.ensures.whole known.told known.clean
