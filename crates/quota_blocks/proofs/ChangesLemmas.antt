@@ -48,6 +48,7 @@ changes-idle change laws old new told idle set read same bounded = record {
       makes = λ value holds busy. absurd (false≢true (sym busy ∙ idle value holds));
       room = λ needs value blocks limit holds busy. absurd (false≢true (sym busy ∙ idle value holds));
       synced = λ tells. is_synced-read old.seen.name old.store new.store read;
+      writes = λ value holds. omega (arith, read.writes);
       same = same;
     };
     refused = tt;
@@ -65,15 +66,17 @@ changes-idle change laws old new told idle set read same bounded = record {
 pub changes-done : (change : FileChange) (laws : FileLaws) (old new : FileAt) (told : Unit {0}) → IsWanted change laws old
     → ((value : QuotaValue) → old.holds value → new.holds (changed_value change value))
     → ((value : QuotaValue) → old.holds value → laws.makes old.seen change old.seen.name old.store.files new.store.files)
+    → ((value : QuotaValue) → old.holds value → new.store.writes ≤ old.store.writes + laws.done_writes old.seen value change)
     → (IsTrue laws.tells → IsSynced old.seen.name old.store new.store) → new.seen ≡ old.seen → ReplacesOne old.seen.name old.store new.store
     → IsBounded change laws old new → Changes change laws old new (Ok told)
-changes-done change laws old new told wanted set makes synced same leaves bounded = record {
+changes-done change laws old new told wanted set makes writes synced same leaves bounded = record {
   edits = record {
     done = record {
       set = set;
       makes = λ value holds busy. makes value holds;
       room = λ needs value blocks limit holds busy. wanted.room needs value blocks limit holds;
       synced = synced;
+      writes = writes;
       same = same;
     };
     refused = tt;
@@ -217,6 +220,7 @@ pub changes-anew : (change : FileChange) (laws : FileLaws) (old new : FileAt) (r
     → laws.may_refuse old.seen.format Store → laws.may_refuse old.seen.format Memory
     → OnOk result ((value : QuotaValue) → old.holds value → new.holds (changed_value change value))
     → OnOk result ((value : QuotaValue) → old.holds value → laws.makes old.seen change old.seen.name old.store.files new.store.files)
+    → OnOk result ((value : QuotaValue) → old.holds value → new.store.writes ≤ old.store.writes + laws.done_writes old.seen value change)
     → OnOk result (IsTrue laws.tells → IsSynced old.seen.name old.store new.store)
     → OnOk result (new.seen ≡ old.seen)
     → IfErr result (IsRewriteFault old.store.faults new.store.faults)
@@ -226,13 +230,13 @@ pub changes-anew : (change : FileChange) (laws : FileLaws) (old new : FileAt) (r
     → IfErr result (λ fault. CountsRefusal (not (is_store_fault fault)) old.seen new.seen)
     → ReplacesOne old.seen.name old.store new.store → IsBounded change laws old new
     → Changes change laws old new result
-changes-anew change laws old new (Ok told) wanted may_store may_memory set makes synced same refused unchanged stays unwritten counted leaves bounded =
-    changes-done change laws old new told wanted set makes synced same leaves bounded
-changes-anew change laws old new (Err Store) wanted may_store may_memory set makes synced same refused unchanged stays unwritten counted leaves bounded =
+changes-anew change laws old new (Ok told) wanted may_store may_memory set makes writes synced same refused unchanged stays unwritten counted leaves bounded =
+    changes-done change laws old new told wanted set makes writes synced same leaves bounded
+changes-anew change laws old new (Err Store) wanted may_store may_memory set makes writes synced same refused unchanged stays unwritten counted leaves bounded =
     changes-failed change laws old new wanted refused may_store counted unchanged leaves bounded
-changes-anew change laws old new (Err (Damage at)) wanted may_store may_memory set makes synced same refused unchanged stays unwritten counted leaves bounded = absurd refused
-changes-anew change laws old new (Err (Full blocks limit)) wanted may_store may_memory set makes synced same refused unchanged stays unwritten counted leaves bounded = absurd refused
-changes-anew change laws old new (Err Memory) wanted may_store may_memory set makes synced same refused unchanged stays unwritten counted leaves bounded =
+changes-anew change laws old new (Err (Damage at)) wanted may_store may_memory set makes writes synced same refused unchanged stays unwritten counted leaves bounded = absurd refused
+changes-anew change laws old new (Err (Full blocks limit)) wanted may_store may_memory set makes writes synced same refused unchanged stays unwritten counted leaves bounded = absurd refused
+changes-anew change laws old new (Err Memory) wanted may_store may_memory set makes writes synced same refused unchanged stays unwritten counted leaves bounded =
     changes-refused change laws old new Memory refl tt may_memory tt wanted.busy counted (stays unwritten.files) (only_reads-less old.seen.name old.store new.store unwritten) bounded
 
 -- What is said of the changes of one type of file is said of those of another one, for this change of this file: what it makes
@@ -242,6 +246,7 @@ pub record IsWiderAt (change : FileChange) (laws wider : FileLaws) (old : FileAt
   pub stands_for : (bytes : List ℕ) (value : QuotaValue) → laws.stands_for old.seen.format bytes value → wider.stands_for old.seen.format bytes value
   pub reads : laws.change_reads old.seen change ≤ wider.change_reads old.seen change
   pub writes : laws.change_writes old.seen change ≤ wider.change_writes old.seen change
+  pub done_writes : (value : QuotaValue) → old.holds value → laws.done_writes old.seen value change ≤ wider.done_writes old.seen value change
   pub makes : (files : World) → laws.makes old.seen change old.seen.name old.store.files files → wider.makes old.seen change old.seen.name old.store.files files
   pub may_leave : (any : FileChange) (before after left : Option (List ℕ)) → laws.may_leave old.seen.format any before after left → wider.may_leave old.seen.format any before after left
   pub may_refuse : (fault : FileFault) → laws.may_refuse old.seen.format fault → wider.may_refuse old.seen.format fault
@@ -300,6 +305,7 @@ changes-wider change laws wider old new (Ok told) so changes = record {
       makes = λ value holds busy. so.makes new.store.files (changes.edits.done.makes value holds busy);
       room = λ needs value blocks limit holds busy lacks. changes.edits.done.room needs value blocks limit holds busy (so.has value blocks limit holds lacks);
       synced = λ told. changes.edits.done.synced (subst IsTrue so.tells told);
+      writes = λ value holds. omega (arith, so.done_writes value holds, changes.edits.done.writes value holds);
       same = changes.edits.done.same;
     };
     refused = tt;

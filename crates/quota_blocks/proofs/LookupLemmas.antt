@@ -94,6 +94,7 @@ module _ (edit next : ValueEdit) (laws : FileLaws) (old new : FileAt) (held : Qu
     synced = λ tells.
         is_synced-then old.seen.name old.store (mid_at old held store).store new.store
         (is_synced-read old.seen.name old.store (mid_at old held store).store up.leaves) (done.synced tells);
+    writes = λ value holds. rw (same.change value holds) (omega (arith, up.leaves.writes, done.writes value (up.stays value holds)));
     same = done.same;
   }
 

@@ -12,8 +12,8 @@ use Rattle.quota_blocks.specs.declared.quota_file.FileFault.{FileFault}
 
 -- What the type of an opened file and that of its store say of all their calls: whether the store tells its files, for
 -- which value a file of a format stands, what a change of an opened file makes of the files, what one that failed may leave,
--- for which values a change lacks room in a file, the faults that may come, and how many calls of `read` and of `write` a
--- change makes at most.
+-- for which values a change lacks room in a file, the faults that may come, how many calls of `read` and of `write` a change
+-- makes at most, and how many of `write` one that succeeds makes at most on a file that holds a value.
 pub record FileLaws : Type 1 where
   pub tells : Bool
   pub stands_for : Format → List ℕ → QuotaValue → Type 0
@@ -23,13 +23,14 @@ pub record FileLaws : Type 1 where
   pub may_refuse : Format → FileFault → Type 0
   pub change_reads : FileSeen → FileChange → ℕ
   pub change_writes : FileSeen → FileChange → ℕ
+  pub done_writes : FileSeen → QuotaValue → FileChange → ℕ
 
 -- these laws
 abbrev pub laws_of : Bool → (Format → List ℕ → QuotaValue → Type 0) → (FileSeen → FileChange → List ℕ → World → World → Type 0)
     → (Format → FileChange → Option (List ℕ) → Option (List ℕ) → Option (List ℕ) → Type 0)
     → (FileSeen → Option (List ℕ) → FileChange → QuotaValue → ℕ → ℕ → Type 0) → (Format → FileFault → Type 0)
-    → (change_reads change_writes : FileSeen → FileChange → ℕ) → FileLaws
-laws_of tells stands_for makes may_leave lacks_room may_refuse change_reads change_writes = record {
+    → (change_reads change_writes : FileSeen → FileChange → ℕ) → (done_writes : FileSeen → QuotaValue → FileChange → ℕ) → FileLaws
+laws_of tells stands_for makes may_leave lacks_room may_refuse change_reads change_writes done_writes = record {
   tells = tells;
   stands_for = stands_for;
   makes = makes;
@@ -38,6 +39,7 @@ laws_of tells stands_for makes may_leave lacks_room may_refuse change_reads chan
   may_refuse = may_refuse;
   change_reads = change_reads;
   change_writes = change_writes;
+  done_writes = done_writes;
 }
 
 -- An opened file with its store at a moment: the values that it holds, and what is seen of both.
@@ -69,7 +71,8 @@ abbrev pub StandsForEdited : ValueEdit → FileLaws → FileAt → QuotaValue �
 StandsForEdited edit laws old value = λ bytes. IsOkAnd (edit.edited value) (laws.stands_for old.seen.format bytes)
 
 -- An edit was done: the file holds what the edit makes of its value; unless nothing was to be done its bytes are what the change
--- makes of them, and there was room; what was written has been synced, and the opened file is seen as before.
+-- makes of them, and there was room; what was written has been synced, by no more calls of `write` than one that succeeds makes on
+-- a file of that value, and the opened file is seen as before.
 pub record IsDone (edit : ValueEdit) (laws : FileLaws) (old new : FileAt) : Type 0 where
   pub set : (value : QuotaValue) → old.holds value → IsOkAnd (edit.edited value) new.holds
   pub makes : (value : QuotaValue) → old.holds value → edit.is_idle value ≡ false
@@ -77,6 +80,7 @@ pub record IsDone (edit : ValueEdit) (laws : FileLaws) (old new : FileAt) : Type
   pub room : IsTrue edit.needs_room → (value : QuotaValue) (blocks limit : ℕ) → old.holds value → edit.is_idle value ≡ false
       → IfOk (edit.edited value) (λ edited. ¬ (LacksRoom laws old (edit.change value) edited blocks limit))
   pub synced : IsTrue laws.tells → IsSynced old.seen.name old.store new.store
+  pub writes : (value : QuotaValue) → old.holds value → new.store.writes ≤ old.store.writes + laws.done_writes old.seen value (edit.change value)
   pub same : new.seen ≡ old.seen
 
 -- An edit was refused by a fault of the file. The fault has its cause, and may come in a file of this format; a file that is

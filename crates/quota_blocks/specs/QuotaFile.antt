@@ -3,7 +3,7 @@ use Rattle.std.specs.Prelude.{◌≡◌, ℕ, ◌*◌, ◌<◌, ◌≤◌, max, 
 use Rattle.quota_types.specs.Times.{StandsIn, times}
 use Rattle.quota_types.specs.declared.damage.Damage.{Damage as Damaged}
 use Rattle.quota_types.specs.declared.file_kind.Format.{Format}
-use Rattle.file_blocks.specs.Block.{block_of, bytes_of}
+use Rattle.file_blocks.specs.Block.{block_of, file_of}
 use Rattle.outside.specs.Count.{Rose, counted}
 use Rattle.outside.specs.World.{KeepsOthers, World}
 use Rattle.quota_blocks.specs.QuotaValue.{QuotaValue}
@@ -90,6 +90,6 @@ pub record ChangesBlocks (most : ℕ) (before after : List ℕ) : Type 0 where
 -- A change that is made where the bytes lie, in place: however it ends, and whatever the file holds, at most twelve blocks of it have
 -- changed where the store tells it, no other file has, and memory is not wanting.
 pub record StaysInPlace (tells : Bool) (name : List ℕ) (old new : World) (result : Result (Unit {0}) FileFault) : Type 0 where
-  pub few : IsTrue tells → ChangesBlocks 12 (bytes_of (old name)) (bytes_of (new name))
+  pub few : IsTrue tells → ChangesBlocks 12 (file_of old name) (file_of new name)
   pub others : KeepsOthers name old new
   pub no_memory : IfErr result WantsNoMemory

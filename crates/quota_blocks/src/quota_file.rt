@@ -8,7 +8,7 @@ ghost use Rattle.quota_types.specs.Rec.{IsNull};
 ghost use Rattle.quota_blocks.specs.Changes.{Changes, file_at, laws_of};
 ghost use Rattle.quota_blocks.specs.FileChange.{FileChange, Put, Remove, SetGrace};
 ghost use Rattle.quota_blocks.specs.LooksUp.{LooksUp};
-ghost use Rattle.quota_blocks.specs.QuotaFile.{FileSeen, IfDamage, StaysInPlace};
+ghost use Rattle.quota_blocks.specs.QuotaFile.{FileSeen, IfDamage, IfFull, StaysInPlace};
 ghost use Rattle.quota_blocks.specs.QuotaValue.{QuotaValue, IsAfter, IsNextAfter};
 ghost use Rattle.outside.specs.World.{World};
 ghost use Rattle.quota_blocks.specs.declared.quota_file.FileFault.{FileFault};
@@ -149,6 +149,9 @@ pub trait QuotaFile<S: Store> {
     /// How many calls of `write` a change makes at most.
     ghost change_writes: { FileSeen → FileChange → ℕ };
 
+    /// How many calls of `write` a change makes at most that succeeds on a file that holds this value.
+    ghost done_writes: { FileSeen → QuotaValue → FileChange → ℕ };
+
     /// The format of the file.
     fn format(&self) -> Format
         ensures kept { result ≡ (seen self.now).format }
@@ -176,7 +179,7 @@ pub trait QuotaFile<S: Store> {
         ensures kept { IfOk result (λ found. IfSome found (IsKept (seen self.old).format id)) }
         ensures damage { IfErr result (λ fault. IfDamage fault (is_damage self.old store.old)) }
         ensures looks { LooksUp Some (laws_of S.tells stands_for makes may_leave lacks_room may_refuse
-            change_reads change_writes)
+            change_reads change_writes done_writes)
             (file_at (holds self.old store.old) (seen self.old) (S.seen store.old))
             (file_at (holds self.new store.new) (seen self.new) (S.seen store.new)) (get_reads (seen self.old).format) result };
 
@@ -196,7 +199,7 @@ pub trait QuotaFile<S: Store> {
         ensures kept { IfOk result (λ found. IfSome found (λ entry. IsKept (seen self.old).format entry.id entry.rec)) }
         ensures damage { IfErr result (λ fault. IfDamage fault (is_damage self.old store.old)) }
         ensures looks { LooksUp Some (laws_of S.tells stands_for makes may_leave lacks_room may_refuse
-            change_reads change_writes)
+            change_reads change_writes done_writes)
             (file_at (holds self.old store.old) (seen self.old) (S.seen store.old))
             (file_at (holds self.new store.new) (seen self.new) (S.seen store.new)) (next_reads (seen self.old)
             ((S.seen store.old).files (seen self.old).name)) result };
@@ -214,22 +217,24 @@ pub trait QuotaFile<S: Store> {
         ensures in_place { IsTrue (in_place (seen self.old).format (Put id rec))
             → StaysInPlace S.tells (seen self.old).name (S.seen store.old).files (S.seen store.new).files result }
         ensures changes { Changes (Put id rec) (laws_of S.tells stands_for makes may_leave lacks_room may_refuse
-            change_reads change_writes)
+            change_reads change_writes done_writes)
             (file_at (holds self.old store.old) (seen self.old) (S.seen store.old))
             (file_at (holds self.new store.new) (seen self.new) (S.seen store.new)) result };
 
     /// Takes an identifier's record away. All other records stay. Where it has none nothing is written, and nothing but a
-    /// fault of the store refuses it. What was written is synced then.
+    /// fault of the store refuses it. What was written is synced then. `Full` never comes, and `Memory` never where the
+    /// change is made in place.
     ///
     /// # Errors
     ///
-    /// The store failed, the file is damaged or full, or there is not enough memory.
+    /// The store failed, the file is damaged, or there is not enough memory.
     fn remove(&mut self, store: &mut S, id: u32) -> Result<(), FileFault>
         requires { IsTrue (seen self.old).usable }
         ensures in_place { IsTrue (in_place (seen self.old).format (Remove id))
             → StaysInPlace S.tells (seen self.old).name (S.seen store.old).files (S.seen store.new).files result }
+        ensures never_full { IfErr result (λ fault. IfFull fault (λ _ _. ⊥)) }
         ensures changes { Changes (Remove id) (laws_of S.tells stands_for makes may_leave lacks_room may_refuse
-            change_reads change_writes)
+            change_reads change_writes done_writes)
             (file_at (holds self.old store.old) (seen self.old) (S.seen store.old))
             (file_at (holds self.new store.new) (seen self.new) (S.seen store.new)) result };
 
@@ -245,7 +250,7 @@ pub trait QuotaFile<S: Store> {
         ensures in_place { IsTrue (in_place (seen self.old).format (SetGrace grace))
             → StaysInPlace S.tells (seen self.old).name (S.seen store.old).files (S.seen store.new).files result }
         ensures changes { Changes (SetGrace grace) (laws_of S.tells stands_for makes may_leave lacks_room may_refuse
-            change_reads change_writes)
+            change_reads change_writes done_writes)
             (file_at (holds self.old store.old) (seen self.old) (S.seen store.old))
             (file_at (holds self.new store.new) (seen self.new) (S.seen store.new)) result };
 

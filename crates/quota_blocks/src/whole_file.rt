@@ -4,7 +4,7 @@ ghost use Rattle.outside.specs.Frame.{OnlyReads};
 ghost use Rattle.quota_blocks.specs.Load.{IsLoadFault, IsReadFault};
 ghost use Rattle.quota_blocks.specs.Replace.{pieces_of};
 ghost use Rattle.outside.specs.World.{bytes_from};
-ghost use Rattle.file_blocks.specs.Block.{bytes_of};
+ghost use Rattle.file_blocks.specs.Block.{file_of};
 ghost use Rattle.quota_blocks.specs.declared.whole_file.LoadFault.TheVariants.{Store as StoreFailed, Memory};
 
 use crate::{Store, StoreFault};
@@ -57,7 +57,7 @@ pub fn load<S: Store>(
         ((S.seen store.old).files name.now) most) }
     ensures leaves { OnlyReads (is_ok result) name.now (S.seen store.old) (S.seen store.new) }
     ensures reads { IsTrue S.tells → (S.seen store.new).reads
-        ≤ (S.seen store.old).reads + pieces_of (length (bytes_of ((S.seen store.old).files name.now))) }
+        ≤ (S.seen store.old).reads + pieces_of (length (file_of (S.seen store.old).files name.now)) }
 {
     let Some(size) = store.size(name)? else {
         return Err(LoadFault::NoFile);

@@ -44,7 +44,7 @@ pub fn report<S: Store, F: QuotaFile<S>, O: Sink>(
         → AppendsPrefix (O.seen sink.old).written (O.seen sink.new).written
         (report_of value (first_name names.now) title.now now options.now)) }
     ensures looks { LooksUp file_fault (laws_of S.tells F.stands_for F.makes F.may_leave F.lacks_room F.may_refuse
-        F.change_reads F.change_writes) (file_at (F.holds file.old store.old) (F.seen file.old) (S.seen store.old))
+        F.change_reads F.change_writes F.done_writes) (file_at (F.holds file.old store.old) (F.seen file.old) (S.seen store.old))
         (file_at (F.holds file.new store.new) (F.seen file.new) (S.seen store.new))
         (F.next_reads (F.seen file.old) ((S.seen store.old).files (F.seen file.old).name) * (2 ^ 32 + 1)) result }
     ensures unsent { IfErr result (λ fault. OnSink fault (Rose (O.seen sink.old).faults (O.seen sink.new).faults)) }
@@ -75,7 +75,7 @@ fn put_entries<S: Store, F: QuotaFile<S>, O: Sink>(
         → WritesPrefix O.tells (O.seen sink.old).written text.old (O.seen sink.new).written
         (lines_of (first_name names.now) now options.now (entries value.records))) }
     ensures looks { LooksUp file_fault (laws_of S.tells F.stands_for F.makes F.may_leave F.lacks_room F.may_refuse
-        F.change_reads F.change_writes) (file_at (F.holds file.old store.old) (F.seen file.old) (S.seen store.old))
+        F.change_reads F.change_writes F.done_writes) (file_at (F.holds file.old store.old) (F.seen file.old) (S.seen store.old))
         (file_at (F.holds file.new store.new) (F.seen file.new) (S.seen store.new))
         (F.next_reads (F.seen file.old) ((S.seen store.old).files (F.seen file.old).name) * (2 ^ 32 + 1)) result }
     ensures unsent { IfErr result (λ fault. OnSink fault (Rose (O.seen sink.old).faults (O.seen sink.new).faults)) }

@@ -23,7 +23,7 @@ pub fn copy_limits<S: Store, F: QuotaFile<S>>(
 ) -> Result<(), EditFault>
     requires { IsTrue (F.seen file.old).usable }
     ensures edits { Edits (copy_edit from to now)
-        (laws_of S.tells F.stands_for F.makes F.may_leave F.lacks_room F.may_refuse F.change_reads F.change_writes)
+        (laws_of S.tells F.stands_for F.makes F.may_leave F.lacks_room F.may_refuse F.change_reads F.change_writes F.done_writes)
         (file_at (F.holds file.old store.old) (F.seen file.old) (S.seen store.old))
         (file_at (F.holds file.new store.new) (F.seen file.new) (S.seen store.new)) result }
 {

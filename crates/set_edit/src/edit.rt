@@ -30,7 +30,7 @@ pub fn set_limits<S: Store, F: QuotaFile<S>>(
 ) -> Result<(), EditFault>
     requires { IsTrue (F.seen file.old).usable }
     ensures edits { Edits (limits_edit id limits.now now)
-        (laws_of S.tells F.stands_for F.makes F.may_leave F.lacks_room F.may_refuse F.change_reads F.change_writes)
+        (laws_of S.tells F.stands_for F.makes F.may_leave F.lacks_room F.may_refuse F.change_reads F.change_writes F.done_writes)
         (file_at (F.holds file.old store.old) (F.seen file.old) (S.seen store.old))
         (file_at (F.holds file.new store.new) (F.seen file.new) (S.seen store.new)) result }
 {
@@ -64,7 +64,7 @@ pub(crate) fn put_or_remove<S: Store, F: QuotaFile<S>>(
     requires usable { IsTrue (F.seen file.old).usable }
     requires kept { IsKept (F.seen file.old).format id rec }
     ensures changes { Changes (change_to id rec)
-        (laws_of S.tells F.stands_for F.makes F.may_leave F.lacks_room F.may_refuse F.change_reads F.change_writes)
+        (laws_of S.tells F.stands_for F.makes F.may_leave F.lacks_room F.may_refuse F.change_reads F.change_writes F.done_writes)
         (file_at (F.holds file.old store.old) (F.seen file.old) (S.seen store.old))
         (file_at (F.holds file.new store.new) (F.seen file.new) (S.seen store.new)) result }
 {

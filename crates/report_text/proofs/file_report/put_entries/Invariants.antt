@@ -16,7 +16,7 @@ invariant-loop-entry g l =
       lines : (value : QuotaValue) → F.holds l.fn.file l.fn.store value
           → IsPutUpTo (first_name l.names) l.now l.options O.tells (O.seen l.fn.sink).written l.fn.text (O.seen l.sink).written l.text value.records l.after;
       usable : IsTrue (F.seen l.file).usable;
-      up : LooksUp Some (laws_of S.tells F.stands_for F.makes F.may_leave F.lacks_room F.may_refuse F.change_reads F.change_writes)
+      up : LooksUp Some (laws_of S.tells F.stands_for F.makes F.may_leave F.lacks_room F.may_refuse F.change_reads F.change_writes F.done_writes)
           (file_at (F.holds l.fn.file l.fn.store) (F.seen l.fn.file) (S.seen l.fn.store)) (file_at (F.holds l.file l.store) (F.seen l.file) (S.seen l.store))
           (F.next_reads (F.seen l.fn.file) ((S.seen l.fn.store).files (F.seen l.fn.file).name) * (2 ^ 32 - ids_after l.after)) (Ok (tt {0}));
       sink_later : (O.seen l.fn.sink).faults ≤ (O.seen l.sink).faults;
