@@ -1,5 +1,5 @@
 -- A block that is taken for a record, and put into the entry list.
-use Rattle.std.proofs.Common.{◌≡◌, ◌≢◌, ℕ, ◌^◌, ◌<◌, ◌≤◌, Bool, true, if◌then◌else◌, List, [], ◌∷◌, ◌++◌, length, replicate, None, Some, refl, ap, subst, ◌∙◌, inl, inr, arith}
+use Rattle.std.proofs.Common.{◌≡◌, ◌≢◌, ℕ, ◌^◌, ◌<◌, ◌≤◌, Bool, true, if◌then◌else◌, List, [], ◌∷◌, ◌++◌, length, replicate, Option, None, Some, refl, ap, subst, ◌∙◌, inl, inr, arith}
 use Rattle.std.proofs.lemmas.Bool.{cases_eq}
 use Rattle.std.proofs.lemmas.Bool.Decides.{eqb_tells}
 use Rattle.std.specs.FinMap.{get, insert}
@@ -12,6 +12,7 @@ use Rattle.file_blocks.specs.Block.{block_of}
 use Rattle.file_blocks.proofs.LeadsLemmas.{leads_within}
 use Rattle.quota_blocks.specs.QuotaValue.{Records}
 use Rattle.quota_pages.specs.Used.{KeepsBlocksBut}
+use Rattle.quota_radix.specs.declared.tree_path.TreePath.{TreePath}
 use Rattle.free_chains.specs.ChainFault.{IsChainFault}
 use Rattle.free_chains.specs.EntryList.{EntersList}
 use Rattle.free_chains.specs.Links.{led_to}
@@ -20,7 +21,7 @@ use Rattle.free_chains.specs.declared.heads.Heads.{Heads}
 use Rattle.free_chains.proofs.SpliceLemmas.{head_leads}
 use Rattle.tree_build.specs.Entries.{entry_bytes}
 use Rattle.tree_build.specs.Loose.{Loose, loose_of}
-use Rattle.tree_build.specs.Roles.{data_with}
+use Rattle.tree_build.specs.Roles.{data_with, has_room}
 use Rattle.tree_build.proofs.DataBlockLemmas.{blank_unused}
 use Rattle.tree_build.proofs.ListedLemmas.{entered}
 use Rattle.tree_steps.specs.EntrySteps.{WritesEntry}
@@ -42,6 +43,24 @@ led_is link number stands = elim (eqb_tells link 0) [
   | inl same ↦ absurd (omega (arith, stands, ap (λ (b : Bool). times (if b then [] else link ∷ []) number) same.0))
   | inr other ↦ (other.1, only_one link number (subst (λ (b : Bool). StandsIn (if b then [] else link ∷ []) number) other.0 stands))
 ]
+
+-- the blocks that change where one with room is put before the list are data
+pub entering_data : (held : List ℕ) (awaited : Option TreePath) (block : ℕ) (format : Format) (old : List ℕ) (heads : Heads) (records : Records)
+    → IsWholeTree (loose_of held awaited (Some block)) format old heads records → has_room (loose_of held awaited (Some block)) format old heads.blocks block ≡ true
+    → (number : ℕ) → StandsIn (block ∷ led_to heads.first) number → StandsIn (held ++ data_with (loose_of held awaited (Some block)) old heads.blocks) number
+entering_data held awaited block format old heads records tree room number stands =
+    let loose : Loose = loose_of held awaited (Some block) in
+    stands_right held (data_with loose old heads.blocks) number (elim (cases_eq block number) [
+      | inl same ↦ subst (StandsIn (data_with loose old heads.blocks)) same (data_of_room loose format old heads records block tree room)
+      | inr other ↦ elim (stands_cons block (led_to heads.first) number stands) [
+        | inl it ↦ absurd (other it)
+        | inr led ↦
+            let is = led_is heads.first number led in
+            data_of_room loose format old heads records number tree
+            (listed_beside held awaited block format old heads records number tree
+            (subst (StandsIn tree.chained.chain) is.1 (head_stands old heads.blocks heads.first tree.chained.chain tree.chained.is_chain is.0)) other)
+      ]
+    ])
 
 -- Where the entry list leads past the last block, once a block was taken, the file was no tree.
 pub entering_refused : (before between now : ℕ) (known : Type 0) (block limit : ℕ) (old new : List ℕ) (heads middle : Heads) (fault : ChainFault)
@@ -80,21 +99,9 @@ module _ (held : List ℕ) (format : Format) (zero one two three : List ℕ) (he
   written = first_written held format one two middle records block 0 id rec small none writes taken.tree blank
 
   -- the block and the first one of the list are data blocks
-  is_data : StandsIn (data_with with_first two middle.blocks) block
-  is_data = data_of_room with_first format two middle (insert records id rec) block written (first_has_room held format one two middle records block 0 id rec small none writes taken.tree blank)
-
   are_data : (number : ℕ) → StandsIn (block ∷ led_to middle.first) number → StandsIn (held ++ data_with with_first two middle.blocks) number
-  are_data number stands = stands_right held (data_with with_first two middle.blocks) number (elim (cases_eq block number) [
-    | inl same ↦ subst (StandsIn (data_with with_first two middle.blocks)) same is_data
-    | inr other ↦ elim (stands_cons block (led_to middle.first) number stands) [
-      | inl it ↦ absurd (other it)
-      | inr led ↦
-          let is = led_is middle.first number led in
-          data_of_room with_first format two middle (insert records id rec) number written
-          (listed_beside held (Some (record { number = id; block = block })) block format two middle (insert records id rec) number written
-          (subst (StandsIn written.chained.chain) is.1 (head_stands two middle.blocks middle.first written.chained.chain written.chained.is_chain is.0)) other)
-    ]
-  ])
+  are_data = entering_data held (Some (record { number = id; block = block })) block format two middle (insert records id rec) written
+      (first_has_room held format one two middle records block 0 id rec small none writes taken.tree blank)
 
   pub added : EntersRecord block id rec 1 held format zero three heads (record middle { first = block }) records
   added = record {

@@ -11,7 +11,7 @@ use Rattle.free_chains.specs.declared.chain_fault.ChainFault.{ChainFault}
 use Rattle.free_chains.specs.declared.chain_fault.ChainFault.TheVariants.{Store, Damage as Damaged}
 use Rattle.tree_change.specs.declared.change_fault.ChangeFault.{ChangeFault}
 use Rattle.tree_change.specs.declared.change_fault.ChangeFault.TheVariants.{Store as NoStore, Damage as Damages, Full as Fills}
-use Rattle.tree_change.specs.ChangeFault.{IsChangeFault, of_chain_fault, of_walk_fault}
+use Rattle.tree_change.specs.ChangeFault.{IfFull, IsChangeFault, of_chain_fault, of_walk_fault}
 
 -- A call on the lists was refused: a number past the last block shows that something is wrong.
 pub of_chain : (blocks before now : ℕ) (which : ℕ → Type 0) (wrong : Type 0) (full : ℕ → ℕ → Type 0) (fault : ChainFault)
@@ -35,3 +35,25 @@ pub of_walk : (before now : ℕ) (defect : Damage → Type 0) (wrong : Type 0) (
     → ((damage : Damage) → defect damage → wrong) → IsWalkFault before now defect fault → IsChangeFault before now wrong full (of_walk_fault fault)
 of_walk before now defect wrong full WalkStore shows rose = rose
 of_walk before now defect wrong full (WalkDamaged damage) shows h = (h.0, shows damage h.1)
+
+-- What holds of a step that was refused since the file is full: it holds in any case, or follows from what that fault says.
+pub if_full : (holds : Type 0) (fault : ChangeFault) → holds → IfFull holds fault
+if_full holds NoStore h = tt
+if_full holds (Damages damage) h = tt
+if_full holds (Fills blocks limit) h = h
+
+pub of_full : (before now : ℕ) (wrong : Type 0) (full : ℕ → ℕ → Type 0) (holds : Type 0) (fault : ChangeFault)
+    → ((blocks limit : ℕ) → full blocks limit → holds) → IsChangeFault before now wrong full fault → IfFull holds fault
+of_full before now wrong full holds NoStore fully h = tt
+of_full before now wrong full holds (Damages damage) fully h = tt
+of_full before now wrong full holds (Fills blocks limit) fully h = fully blocks limit h
+
+pub full_then : (was holds : Type 0) (fault : ChangeFault) → (was → holds) → IfFull was fault → IfFull holds fault
+full_then was holds NoStore then h = tt
+full_then was holds (Damages damage) then h = tt
+full_then was holds (Fills blocks limit) then h = then h
+
+-- a walk down the tree is not refused for that
+pub walk_not_full : (holds : Type 0) (fault : WalkFault) → IfFull holds (of_walk_fault fault)
+walk_not_full holds WalkStore = tt
+walk_not_full holds (WalkDamaged damage) = tt

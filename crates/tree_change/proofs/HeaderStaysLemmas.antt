@@ -1,11 +1,10 @@
 -- Block 0, which has the header, has no other role, and stays where blocks with another role change.
-use Rattle.std.proofs.Common.{◌≡◌, ℕ, ◌<◌, Bool, cond, List, [], ◌∷◌, ◌++◌, ◌⊎◌, Option, None, refl, sym, ap, subst, ◌∙◌, inl, inr, arith, ne_eqb}
-use Rattle.std.proofs.lemmas.Bool.{cases_eq, cases_lt}
+use Rattle.std.proofs.Common.{◌≡◌, ℕ, List, [], ◌++◌, ◌⊎◌, Option, None, inl, inr, arith}
+use Rattle.std.proofs.lemmas.Bool.{cases_lt}
 use Rattle.quota_types.specs.Times.{StandsIn, times}
-use Rattle.quota_types.proofs.TimesLemmas.{times-append, times-cons-other, times-cons-same}
+use Rattle.quota_types.proofs.TimesLemmas.{times-append, times-cons-same}
 use Rattle.quota_radix.specs.Tree.{tree_blocks}
 use Rattle.quota_radix.specs.declared.tree_path.TreePath.{TreePath}
-use Rattle.free_chains.specs.Links.{led_to}
 use Rattle.tree_build.specs.Loose.{Loose, loose_of}
 use Rattle.tree_build.specs.Roles.{OneRole, data_with}
 use Rattle.tree_build.proofs.MovedLemmas.{times-roles}
@@ -50,27 +49,3 @@ aside_from_header loose file blocks head are numbers aside = elim (cases_lt 0 (t
       absurd (omega (arith, aside 0 (omega (arith, is)), apart.0, apart.2, times-append loose.held (data_with loose file blocks) 0))
   | inr none ↦ omega (arith, none)
 ]
-
--- A head or a link leads to no block 0.
-led_apart : (number : ℕ) → times (led_to number) 0 ≡ 0
-led_apart number = elim (cases_eq number 0) [
-  | inl same ↦ subst (λ (n : ℕ). times (led_to n) 0 ≡ 0) (sym same) refl
-  | inr other ↦ ap (λ (b : Bool). times (cond b [] (number ∷ [])) 0) (ne_eqb number 0 other) ∙ times-cons-other number [] 0 other
-]
-
--- So it is none of the blocks that change where another one is put before the list, or taken out of it.
-pub one_apart : (block : ℕ) → 0 < block → times (block ∷ []) 0 ≡ 0
-one_apart block above = times-cons-other block [] 0 (λ same. omega (arith, same, above))
-
-pub entering_apart : (block first : ℕ) → 0 < block → times (block ∷ led_to first) 0 ≡ 0
-entering_apart block first above = omega (arith, times-append (block ∷ []) (led_to first) 0, one_apart block above, led_apart first)
-
-pub leaving_apart : (block previous next : ℕ) → 0 < block → times (block ∷ led_to previous ++ led_to next) 0 ≡ 0
-leaving_apart block previous next above = omega (
-  arith,
-  times-append (block ∷ []) (led_to previous ++ led_to next) 0,
-  times-append (led_to previous) (led_to next) 0,
-  one_apart block above,
-  led_apart previous,
-  led_apart next,
-)

@@ -5,6 +5,7 @@ pub mod ChangeFaultLemmas
 pub mod ClearsLemmas
 pub mod CountedLemmas
 pub mod EnteredLemmas
+pub mod FreedLemmas
 pub mod FreshLemmas
 pub mod GivenLemmas
 pub mod HeaderChangedLemmas

@@ -1,72 +1,124 @@
 -- A record that is removed: its leaf is unlinked first, and then its entry is cleared.
-use Rattle.std.proofs.Common.{◌≡◌, ℕ, ◌<◌, List, [], ◌∷◌, length, get_or, Some, None, sym, ap, subst, ◌∙◌}
+use Rattle.std.proofs.Common.{◌≡◌, ℕ, ◌^◌, ◌<◌, ◌==◌, List, [], ◌∷◌, ◌++◌, length, get_or, drop, filter, take, Some, None, refl, sym, ap, subst, ◌∙◌, arith}
 use Rattle.std.specs.FinMap.{remove}
+use Rattle.quota_types.specs.Times.{StandsIn, times}
 use Rattle.quota_types.specs.declared.file_kind.Format.{Format}
-use Rattle.file_blocks.specs.Block.{block_of}
-use Rattle.file_blocks.proofs.LeadsLemmas.{leads_within}
+use Rattle.quota_types.proofs.TimesLemmas.{only_one, times-cons-same}
 use Rattle.entry_codec.specs.Header.{AreOf, HeaderNumbers, header_of}
 use Rattle.entry_codec.specs.declared.header.Header.{Header}
 use Rattle.quota_blocks.specs.QuotaValue.{QuotaValue, Records}
 use Rattle.quota_pages.specs.Used.{KeepsBlocksBut}
+use Rattle.quota_radix.specs.Tree.{data_blocks, tree_blocks}
 use Rattle.quota_radix.specs.Way.{blocks_on_way}
 use Rattle.free_chains.specs.declared.heads.Heads.{Heads}
 use Rattle.tree_build.specs.IsTree.{heads_of}
-use Rattle.tree_build.specs.Loose.{loose_of}
+use Rattle.tree_build.specs.Loose.{Loose, loose_of}
 use Rattle.tree_build.specs.TreeFile.{TreeStandsFor}
 use Rattle.tree_build.proofs.AsideLemmas.{header_changed}
-use Rattle.tree_build.proofs.TreeLemmas.{tree_of_value}
+use Rattle.tree_build.proofs.MovedLemmas.{times-roles}
+use Rattle.tree_steps.proofs.OneBlockLemmas.{one_role}
+use Rattle.tree_change.specs.Freed.{FreesBlocks, freed_blocks, lost_blocks, unnamed_of}
 use Rattle.tree_change.specs.Removes.{AwaitsInNoTree, RemovesEntry}
 use Rattle.tree_change.specs.HeaderHeads.{with_heads}
 use Rattle.tree_change.specs.Removal.{HasNoWay, RemovesRecord, TakesRecord}
 use Rattle.tree_change.specs.Shows.{IsWholeTree}
 use Rattle.tree_change.specs.Unlinked.{TreeStays, UnlinksLeaf}
-use Rattle.tree_change.proofs.HeaderChangedLemmas.{format_is, header_same, heads_are, value_with_heads}
+use Rattle.tree_change.proofs.FreedLemmas.{frees_none, frees_then, named_apart, ways_apart}
+use Rattle.tree_change.proofs.HeaderChangedLemmas.{format_is, header_same, heads_are, tree_by_header, value_with_heads}
+use Rattle.tree_change.proofs.HeaderStaysLemmas.{header_apart}
+
+-- a way of five blocks has the fifth one behind four
+fifth_alone : (way : List ℕ) → length way ≡ 5 → drop 4 way ≡ get_or way 4 0 ∷ []
+fifth_alone [] five = absurd (omega (arith, five))
+fifth_alone (a ∷ []) five = absurd (omega (arith, five))
+fifth_alone (a ∷ b ∷ []) five = absurd (omega (arith, five))
+fifth_alone (a ∷ b ∷ c ∷ []) five = absurd (omega (arith, five))
+fifth_alone (a ∷ b ∷ c ∷ d ∷ []) five = absurd (omega (arith, five))
+fifth_alone (a ∷ b ∷ c ∷ d ∷ e ∷ []) five = refl
+fifth_alone (a ∷ b ∷ c ∷ d ∷ e ∷ f ∷ way) five = absurd (omega (arith, five))
 
 module _ (format : Format) (way : List ℕ) (id block : ℕ) (old between : List ℕ) (heads middle : Heads) (fifth : block ≡ get_or way 4 0)
     (unlinks : UnlinksLeaf way id old between heads middle) where
   awaits : (records : Records) → way ≡ blocks_on_way old heads.blocks id → IsWholeTree (loose_of [] None None) format old heads records
       → TreeStays (loose_of [] None None) (loose_of [] (Some (record { number = id; block = block })) None) format old between heads middle records
+      × FreesBlocks (lost_blocks old between middle.blocks id) old between heads middle
   awaits records is tree =
-      subst (λ (b : ℕ). TreeStays (loose_of [] None None) (loose_of [] (Some (record { number = id; block = b })) None) format old between heads middle records) (sym fifth)
+      subst (λ (b : ℕ). TreeStays (loose_of [] None None) (loose_of [] (Some (record { number = id; block = b })) None) format old between heads middle records
+      × FreesBlocks (lost_blocks old between middle.blocks id) old between heads middle) (sym fifth)
       (unlinks [] format records is tree)
 
   -- both parts, one after the other
-  pub takes_record : (new : List ℕ) (now : Heads) → RemovesEntry format id block between new middle now → (0 < block → block_of new 0 ≡ block_of between 0)
-      → TakesRecord format way id old new heads now
-  takes_record new now removes header = λ records is tree.
+  pub takes_record : (new : List ℕ) (now : Heads) → id < 2 ^ 32 → length way ≡ 5 → middle.blocks ≡ heads.blocks → now.blocks ≡ middle.blocks
+      → RemovesEntry format id block between new middle now → TakesRecord format way id old new heads now
+  takes_record new now small five same same_then removes = λ records is tree.
       let gone = awaits records is tree in
-      (removes [] records gone.tree, header (leads_within middle.blocks block gone.tree.awaited.inside).0 ∙ gone.header)
+      let removed = removes [] records gone.0.tree in
+      let fifth_block : block ∷ [] ≡ drop 4 (blocks_on_way old now.blocks id) =
+      ap (λ (b : ℕ). b ∷ []) fifth ∙ sym (fifth_alone way five) ∙ ap (drop 4) (is ∙ ap (λ (n : ℕ). blocks_on_way old n id) (sym (same_then ∙ same))) in
+      let lost : lost_blocks old between middle.blocks id ≡ lost_blocks old new now.blocks id =
+      ap (λ (n : ℕ). drop (length (blocks_on_way between middle.blocks id)) (take 4 (blocks_on_way old n id))) (sym same_then)
+      ∙ ap (λ (xs : List ℕ). drop (length xs) (take 4 (blocks_on_way old now.blocks id))) (sym (removed.1.ways id small)) in
+      record {
+        tree = removed.0;
+        header = removed.1.header ∙ gone.0.header;
+        freed = subst (λ (freed : List ℕ). FreesBlocks freed old new heads now)
+            (ap (λ (numbers : List ℕ). unnamed_of new now.blocks numbers ++ lost_blocks old between middle.blocks id) fifth_block
+            ∙ ap (λ (lower : List ℕ). unnamed_of new now.blocks (drop 4 (blocks_on_way old now.blocks id)) ++ lower) lost)
+            (frees_then (lost_blocks old between middle.blocks id) (unnamed_of new now.blocks (block ∷ [])) old between new heads middle now gone.1 removed.1.frees);
+      }
 
   -- or the second one was refused
   pub has_no_way : AwaitsInNoTree format between middle id block → HasNoWay format way id old heads
-  has_no_way wrong = λ records is tree. wrong [] records (awaits records is tree).tree
+  has_no_way wrong = λ records is tree. wrong [] records (awaits records is tree).0.tree
 
--- Bytes with this header stand for a value: they are a tree of its format, with the header's heads and the value's records.
-tree_by_header : (file : List ℕ) (header : Header) (start : Heads) (value : QuotaValue) → AreOf header (header_of file) → start ≡ heads_of (header_of file) → TreeStandsFor file value
-    → IsWholeTree (loose_of [] None None) header.format file start value.records
-tree_by_header file header start value are is stands =
-    subst (λ (format : Format). IsWholeTree (loose_of [] None None) format file start value.records) (format_is header file value are stands)
-    (subst (λ (heads : Heads). IsWholeTree (loose_of [] None None) value.format file heads value.records) (sym is) (tree_of_value file value stands))
+-- Where block 0 alone changed no block was freed, and the ways and the data blocks are as before.
+header_frees : (format : Format) (between new : List ℕ) (heads : Heads) (records : Records) → IsWholeTree (loose_of [] None None) format between heads records
+    → KeepsBlocksBut (0 ∷ []) between new
+    → FreesBlocks [] between new heads heads × ((id : ℕ) → id < 2 ^ 32 → blocks_on_way new heads.blocks id ≡ blocks_on_way between heads.blocks id)
+    × (data_blocks new heads.blocks ≡ data_blocks between heads.blocks)
+header_frees format between new heads records tree keeps =
+    let loose : Loose = loose_of [] None None in
+    let apart = header_apart loose between heads.blocks heads.free tree.roles in
+    let no_tree : (number : ℕ) → StandsIn (0 ∷ []) number → times (tree_blocks between heads.blocks) number ≡ 0 = λ number stands.
+    subst (λ (n : ℕ). times (tree_blocks between heads.blocks) n ≡ 0) (only_one 0 number stands) apart.1 in
+    let not_free : (number : ℕ) → StandsIn (0 ∷ []) number → times tree.roles.free number ≡ 0 = λ number stands.
+    subst (λ (n : ℕ). times tree.roles.free n ≡ 0) (only_one 0 number stands)
+    (omega (arith, one_role loose between heads.blocks heads.free tree.roles 0, times-roles loose between heads.blocks tree.roles.free 0, times-cons-same 0 [])) in (
+      frees_none loose format between new heads records (0 ∷ []) tree keeps not_free heads.first,
+      ways_apart loose format between new heads records (0 ∷ []) tree keeps no_tree,
+      named_apart loose format between new heads records (0 ∷ []) tree keeps no_tree,
+    )
+
+-- the same blocks are freed where the ways and the data blocks are the same
+freed_same : (old between new : List ℕ) (blocks id : ℕ) → blocks_on_way new blocks id ≡ blocks_on_way between blocks id → data_blocks new blocks ≡ data_blocks between blocks
+    → freed_blocks old between blocks id ≡ freed_blocks old new blocks id
+freed_same old between new blocks id way named =
+    ap (λ (numbers : List ℕ). filter (λ (number : ℕ). times numbers number == 0) (drop 4 (blocks_on_way old blocks id)) ++ lost_blocks old between blocks id) (sym named)
+    ∙ ap (λ (xs : List ℕ). unnamed_of new blocks (drop 4 (blocks_on_way old blocks id)) ++ drop (length xs) (take 4 (blocks_on_way old blocks id))) (sym way)
 
 -- A record was taken out of a file, and the heads were written in its header.
 pub removes_record : (id : ℕ) (way : List ℕ) (header : Header) (start heads : Heads) (old between new : List ℕ) (value : QuotaValue)
-    → AreOf header (header_of old) → start.blocks ≡ header.blocks → start.free ≡ header.free → start.first ≡ header.first
+    → id < 2 ^ 32 → AreOf header (header_of old) → start.blocks ≡ header.blocks → start.free ≡ header.free → start.first ≡ header.first
     → way ≡ blocks_on_way old header.blocks id → TreeStandsFor old value → TakesRecord header.format way id old between start heads → heads.blocks ≡ start.blocks
     → KeepsBlocksBut (0 ∷ []) between new → (AreOf header (header_of between) → header_of new ≡ with_heads (header_of between) heads)
     → RemovesRecord id value old new heads
-removes_record id way header start heads old between new value are blocks free first is stands takes same keeps writes =
+removes_record id way header start heads old between new value small are blocks free first is stands takes same keeps writes =
     let at : start ≡ heads_of (header_of old) = heads_are header (header_of old) start are blocks free first in
     let taken = takes value.records (is ∙ ap (λ (n : ℕ). blocks_on_way old n id) (sym blocks)) (tree_by_header old header start value are at stands) in
-    let unchanged : header_of between ≡ header_of old = header_same old between taken.1 in
+    let unchanged : header_of between ≡ header_of old = header_same old between taken.header in
     let numbers : header_of new ≡ with_heads (header_of old) heads =
     writes (subst (AreOf header) (sym unchanged) are) ∙ ap (λ (was : HeaderNumbers). with_heads was heads) unchanged in
     let tree : IsWholeTree (loose_of [] None None) header.format new heads (remove value.records id) =
-    header_changed [] None header.format between new (length between) (length new) heads (remove value.records id) taken.0 keeps keeps.longer in
+    header_changed [] None header.format between new (length between) (length new) heads (remove value.records id) taken.tree keeps keeps.longer in
+    let beside = header_frees header.format between new heads (remove value.records id) taken.tree keeps in
     record {
       stands = value_with_heads old new value (remove value.records id) heads stands numbers
           (subst (λ (format : Format). IsWholeTree (loose_of [] None None) format new heads (remove value.records id)) (sym (format_is header old value are stands)) tree);
       heads_are = ap heads_of (sym numbers);
       blocks = same ∙ blocks ∙ sym are.blocks;
+      freed = subst (λ (h : Heads). FreesBlocks (freed_blocks old new heads.blocks id) old new h heads) at
+          (subst (λ (freed : List ℕ). FreesBlocks freed old new start heads) (freed_same old between new heads.blocks id (beside.1 id small) beside.2)
+          (frees_then (freed_blocks old between heads.blocks id) [] old between new start heads heads taken.freed beside.0));
     }
 
 -- Where none could be taken out of it the file stands for no value.

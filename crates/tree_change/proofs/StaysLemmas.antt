@@ -1,8 +1,7 @@
 -- What stays of a tree where blocks changed that are held or have entries: the ways of all identifiers, the free and the data
 -- blocks, and the header.
-use Rattle.std.proofs.Common.{◌≡◌, ◌≢◌, ℕ, ◌+◌, ◌*◌, ◌^◌, ◌<◌, ◌≤◌, Bool, true, false, true≢false, ◌&&◌, if◌then◌else◌, List, ◌++◌, length, Option, Some, None, refl, sym, ap, ◌∙◌, inl, inr, arith}
+use Rattle.std.proofs.Common.{◌≡◌, ◌≢◌, ℕ, ◌+◌, ◌^◌, ◌<◌, ◌≤◌, Bool, true, false, true≢false, ◌&&◌, if◌then◌else◌, List, [], ◌++◌, length, Option, Some, None, refl, sym, ap, ◌∙◌, inl, inr, arith}
 use Rattle.std.proofs.lemmas.Bool.{cases_Bool, cases_lt}
-use Rattle.quota_types.specs.Bytes.{number_at}
 use Rattle.quota_types.specs.declared.file_kind.Format.{Format}
 use Rattle.quota_types.specs.Times.{StandsIn, times}
 use Rattle.quota_types.proofs.TimesLemmas.{times-append}
@@ -12,7 +11,6 @@ use Rattle.quota_pages.specs.Used.{KeepsBlocksBut}
 use Rattle.quota_radix.specs.Tree.{tree_blocks}
 use Rattle.quota_radix.specs.Way.{blocks_on_way}
 use Rattle.quota_radix.specs.declared.tree_path.TreePath.{TreePath}
-use Rattle.quota_radix.proofs.MoreBlocksLemmas.{way-among_more}
 use Rattle.free_chains.specs.declared.heads.Heads.{Heads}
 use Rattle.tree_build.specs.Entries.{has_unused}
 use Rattle.tree_build.specs.Loose.{Loose, but_misplaced, loose_of}
@@ -20,10 +18,12 @@ use Rattle.tree_build.specs.Roles.{counts_as_data, data_with, has_room}
 use Rattle.tree_build.proofs.ListedLemmas.{misplaced-other}
 use Rattle.tree_build.proofs.MovedLemmas.{times-data_with, times-roles}
 use Rattle.tree_steps.proofs.KeptLemmas.{held_or_data_stay}
+use Rattle.tree_change.specs.Freed.{FreesBeside}
 use Rattle.tree_change.specs.Putting.{TakesCounted}
 use Rattle.tree_change.specs.Shows.{IsWholeTree}
 use Rattle.tree_change.proofs.CountedLemmas.{counted_none}
 use Rattle.tree_change.proofs.FreshLemmas.{role_above, role_below}
+use Rattle.tree_change.proofs.FreedLemmas.{frees_none, named_apart, not_changed, ways_apart}
 use Rattle.tree_change.proofs.HeaderStaysLemmas.{aside_from_header}
 
 module _ (loose : Loose) (format : Format) (old new : List ℕ) (heads : Heads) (records : Records) (numbers : List ℕ)
@@ -38,27 +38,24 @@ module _ (loose : Loose) (format : Format) (old new : List ℕ) (heads : Heads) 
         | inr high ↦ absurd (omega (arith, tree.roles.once number, role_above heads.blocks number high, all, there))
       ]
 
-  -- a number of other blocks is none of those that changed
-  unchanged : (others : List ℕ) (number : ℕ) → StandsIn others number → ((changed : ℕ) → StandsIn numbers changed → times others changed ≡ 0) → times numbers number ≡ 0
-  unchanged others number stands apart = elim (cases_lt 0 (times numbers number)) [
-    | inl changed ↦ absurd (omega (arith, stands, apart number changed))
-    | inr other ↦ omega (arith, other)
-  ]
-
   pub ways_stay : (other : ℕ) → other < 2 ^ 32 → blocks_on_way new heads.blocks other ≡ blocks_on_way old heads.blocks other
-  ways_stay other small = way-among_more old new heads.blocks heads.blocks other (omega arith) small (record {
-    inside = tree.roles.references;
-    same = λ number stands digit low. ap (λ (bytes : List ℕ). number_at 4 bytes (4 * digit))
-        (keeps.others number (unchanged (tree_blocks old heads.blocks) number stands (λ changed is. (no_other_role changed is).0)));
-  })
+  ways_stay = ways_apart loose format old new heads records numbers tree keeps (λ number stands. (no_other_role number stands).0)
 
   pub counted_stays : (now : Heads) → now.blocks ≡ heads.blocks → now.free ≡ heads.free → TakesCounted 0 old new heads now
   counted_stays now blocks_are free_is =
       counted_none numbers old new heads now tree.roles.free keeps blocks_are free_is tree.roles.is_free
-      (λ number stands. unchanged tree.roles.free number stands (λ changed is. (no_other_role changed is).1))
+      (not_changed loose format old new heads records numbers tree keeps (λ number stands. (no_other_role number stands).1))
 
   pub header_stays : block_of new 0 ≡ block_of old 0
   header_stays = keeps.others 0 (aside_from_header loose old heads.blocks heads.free tree.roles numbers aside)
+
+  pub none_freed : (first : ℕ) → FreesBeside [] old new heads (record heads { first = first })
+  none_freed first = record {
+    frees = frees_none loose format old new heads records numbers tree keeps (λ number stands. (no_other_role number stands).1) first;
+    ways = ways_stay;
+    named = named_apart loose format old new heads records numbers tree keeps (λ number stands. (no_other_role number stands).0);
+    header = header_stays;
+  }
 
   -- where it is a tree still, with the same blocks held, the data blocks are those that were
   pub data_stays : (next : Loose) (first : ℕ) (others : Records) → IsWholeTree next format new (record heads { first = first }) others → ((number : ℕ) → times next.held number ≡ times loose.held number)

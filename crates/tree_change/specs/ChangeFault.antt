@@ -1,5 +1,5 @@
 -- Why a step of a change was refused.
-use Rattle.std.specs.Prelude.{ℕ}
+use Rattle.std.specs.Prelude.{ℕ, ⊤}
 use Rattle.quota_types.specs.Damage.{NamesItsId}
 use Rattle.outside.specs.Count.{Rose}
 use Rattle.quota_radix.specs.declared.walk_fault.WalkFault.{WalkFault}
@@ -28,3 +28,9 @@ of_walk_fault (WalkDamage damage) = Damaged damage
 -- A step that takes no block was refused: the file is never full for it.
 abbrev pub IsStepFault : (before now : ℕ) → (wrong : Type 0) → ChangeFault → Type 0
 IsStepFault before now wrong fault = IsChangeFault before now wrong (λ blocks limit. ⊥) fault
+
+-- where a step was refused since the file is full, something holds
+abbrev pub IfFull : (holds : Type 0) → ChangeFault → Type 0
+IfFull holds Store = ⊤
+IfFull holds (Damaged damage) = ⊤
+IfFull holds (Full blocks limit) = holds

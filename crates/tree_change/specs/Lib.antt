@@ -1,6 +1,7 @@
 pub mod ChangeFault
 pub mod Clears
 pub mod Enters
+pub mod Freed
 pub mod Fresh
 pub mod HeaderHeads
 pub mod Leads

@@ -7,6 +7,7 @@ use Rattle.quota_types.specs.declared.file_kind.Format.{Format}
 use Rattle.file_blocks.specs.Block.{block_of}
 use Rattle.quota_blocks.specs.QuotaValue.{QuotaValue, Records, with_record}
 use Rattle.entry_codec.specs.Header.{header_of}
+use Rattle.quota_pages.specs.Page.{Page, lent_count}
 use Rattle.free_chains.specs.Chain.{IsChain, chain_from}
 use Rattle.quota_radix.specs.Tree.{data_blocks}
 use Rattle.tree_build.specs.IsTree.{heads_of}
@@ -77,6 +78,11 @@ pub record PutsIn (id : ℕ) (rec : Rec) (held : List ℕ) (format : Format) (ol
   pub counted : TakesCounted (blocks_taken old heads id) old new heads now
   pub same_data : heads.first ≢ 0 → (block : ℕ) → times (data_with (loose_of held None None) new now.blocks) block ≡ times (data_with (loose_of held None None) old heads.blocks) block
   pub header : block_of new 0 ≡ block_of old 0
+
+-- The heads are as before, and one page more was lent for writing, at most.
+pub record PutsOverOne (old new : List Page) (heads now : Heads) : Type 0 where
+  pub same : now ≡ heads
+  pub lent : lent_count new ≤ lent_count old + 1
 
 -- A file of a value became one of the value in which the identifier has this record. The heads are those that its header states; it
 -- has as many blocks as that takes, more only where none is free then, and a new data block only where none had room.

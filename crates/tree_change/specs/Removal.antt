@@ -10,21 +10,28 @@ use Rattle.free_chains.specs.declared.heads.Heads.{Heads}
 use Rattle.tree_build.specs.IsTree.{heads_of}
 use Rattle.tree_build.specs.Loose.{loose_of}
 use Rattle.tree_build.specs.TreeFile.{TreeStandsFor}
+use Rattle.tree_change.specs.Freed.{FreesBlocks, freed_blocks}
 use Rattle.tree_change.specs.Shows.{IsWholeTree}
 
--- Bytes stand for a value without a record. The heads are those that their header states, and there are as many blocks as
--- before.
+-- Bytes stand for a value without a record. The heads are those that their header states, there are as many blocks as before, and those
+-- that the removal frees stand before the free ones.
 pub record RemovesRecord (id : ℕ) (value : QuotaValue) (old new : List ℕ) (heads : Heads) : Type 0 where
   pub stands : TreeStandsFor new (without_record value id)
   pub heads_are : heads ≡ heads_of (header_of new)
   pub blocks : heads.blocks ≡ (header_of old).blocks
+  pub freed : FreesBlocks (freed_blocks old new heads.blocks id) old new (heads_of (header_of old)) heads
 
--- The record of an identifier was taken out of a tree of which nothing is loose and that has this whole way of it: nothing is
--- loose of it then, and the header's block is as before.
+-- A tree of which nothing is loose lost the record of an identifier: nothing is loose of it, the header's block is as before, and the
+-- blocks that it frees stand before the free ones.
+pub record LosesOneRecord (format : Format) (id : ℕ) (old new : List ℕ) (heads now : Heads) (records : Records) : Type 0 where
+  pub tree : IsWholeTree (loose_of [] None None) format new now (remove records id)
+  pub header : block_of new 0 ≡ block_of old 0
+  pub freed : FreesBlocks (freed_blocks old new now.blocks id) old new heads now
+
+-- The record of an identifier was taken out of a tree of which nothing is loose and that has this whole way of it.
 abbrev pub TakesRecord : Format → (way : List ℕ) → (id : ℕ) → (old new : List ℕ) → (heads now : Heads) → Type 0
 TakesRecord format way id old new heads now = (records : Records) → way ≡ blocks_on_way old heads.blocks id
-    → IsWholeTree (loose_of [] None None) format old heads records
-    → IsWholeTree (loose_of [] None None) format new now (remove records id) × (block_of new 0 ≡ block_of old 0)
+    → IsWholeTree (loose_of [] None None) format old heads records → LosesOneRecord format id old new heads now records
 
 -- bytes are no tree with these heads of which nothing is loose and that has this way of an identifier
 abbrev pub HasNoWay : Format → (way : List ℕ) → (id : ℕ) → (file : List ℕ) → Heads → Type 0

@@ -1,14 +1,17 @@
 -- What a buffer of pages shows of a tree file that is changed block by block.
-use Rattle.std.specs.Prelude.{ℕ, List, length, Option, None}
+use Rattle.std.specs.Prelude.{ℕ, Bool, List, length, Option, None}
 use Rattle.quota_types.specs.declared.file_kind.Format.{Format}
-use Rattle.quota_blocks.specs.QuotaValue.{Records}
+use Rattle.entry_codec.specs.Header.{AreOf, header_of}
+use Rattle.entry_codec.specs.declared.header.Header.{Header}
+use Rattle.quota_blocks.specs.QuotaValue.{QuotaValue, Records}
 use Rattle.outside.specs.Seen.{StoreSeen}
-use Rattle.quota_pages.specs.Used.{shown_over}
+use Rattle.quota_pages.specs.Used.{IsKnown, shown_over}
 use Rattle.quota_pages.specs.declared.page_buffer.Pages.{Pages}
 use Rattle.quota_radix.specs.declared.tree_path.TreePath.{TreePath}
 use Rattle.free_chains.specs.declared.heads.Heads.{Heads}
 use Rattle.tree_build.specs.IsTree.{IsTree}
 use Rattle.tree_build.specs.Loose.{Loose, loose_of}
+use Rattle.tree_build.specs.TreeFile.{TreeStandsFor}
 
 -- bytes are a whole tree with these heads and records, but for what is loose
 abbrev pub IsWholeTree : Loose → Format → List ℕ → Heads → Records → Type 0
@@ -25,3 +28,13 @@ IsNoTree format file heads = (held : List ℕ) (awaited : Option TreePath) (reco
 -- the same of a tree of which no leaf is awaited
 abbrev pub IsNoCompleteTree : Format → List ℕ → Heads → Type 0
 IsNoCompleteTree format file heads = (held : List ℕ) (records : Records) → ¬ IsWholeTree (loose_of held None None) format file heads records
+
+-- where what a buffer shows is known, something holds of each tree of which no leaf is awaited that it is, by what is held of it and its records
+abbrev pub OfEachTree : (tells : Bool) → Format → StoreSeen → Pages → Heads → (holds : List ℕ → Records → Type 0) → Type 0
+OfEachTree tells format seen pages heads holds =
+    IsKnown tells seen pages → (held : List ℕ) (records : Records) → ShowsTree (loose_of held None None) format seen pages heads records → holds held records
+
+-- where what a buffer shows is known and has this header, something holds of each value for which it stands
+abbrev pub OfEachValue : (tells : Bool) → StoreSeen → Pages → Header → (holds : QuotaValue → Type 0) → Type 0
+OfEachValue tells seen pages header holds =
+    IsKnown tells seen pages → AreOf header (header_of (shown_over seen pages)) → (value : QuotaValue) → TreeStandsFor (shown_over seen pages) value → holds value

@@ -1,5 +1,5 @@
 -- A leaf that was unlinked for a change, and the tree blocks that were emptied by it.
-use Rattle.std.specs.Prelude.{◌≡◌, ℕ, List, ◌++◌, length, slice_index, Option, None, Some, IsSome}
+use Rattle.std.specs.Prelude.{◌≡◌, ℕ, List, ◌++◌, length, reverse, slice_index, Option, None, Some, IsSome}
 use Rattle.std.specs.FinMap.{get}
 use Rattle.quota_types.specs.Times.{StandsIn, times}
 use Rattle.quota_types.specs.declared.file_kind.Format.{Format}
@@ -13,6 +13,7 @@ use Rattle.tree_build.specs.Entries.{stated_count, used_ids}
 use Rattle.tree_build.specs.Loose.{Loose, loose_of}
 use Rattle.tree_build.specs.Roles.{data_with}
 use Rattle.tree_build.specs.TreeFile.{record_in}
+use Rattle.tree_change.specs.Freed.{FreesBeside, FreesBlocks, lost_blocks}
 use Rattle.tree_change.specs.Shows.{IsWholeTree}
 
 -- Bytes are a tree of which other things are loose than of another one. It has the same records, the same data blocks, and the
@@ -22,19 +23,22 @@ pub record TreeStays (was now : Loose) (format : Format) (old new : List ℕ) (h
   pub same_data : data_with now new next.blocks ≡ data_with was old heads.blocks
   pub header : block_of new 0 ≡ block_of old 0
 
--- Blocks were given: a tree that holds them besides, and of which no block is misplaced, holds them no longer, and has the same
--- records and data blocks.
+-- Blocks were given, one after another: a tree that holds them besides, and of which no block is misplaced, holds them no longer, and has
+-- the same records and data blocks. The last one is the first of the free blocks.
 abbrev pub GivesHeld : (given : List ℕ) → (old new : List ℕ) → (heads now : Heads) → Type 0
 GivesHeld given old new heads now =
     (held : List ℕ) (awaited : Option TreePath) (format : Format) (records : Records) → IsWholeTree (loose_of (given ++ held) awaited None) format old heads records
     → TreeStays (loose_of (given ++ held) awaited None) (loose_of held awaited None) format old new heads now records
+    × FreesBeside (reverse given) old new heads now
 
 -- The leaf of an identifier was unlinked: a tree that has this whole way of it, and of which no leaf is awaited and no block
--- misplaced, awaits the leaf, holds no other blocks, and has the same records and data blocks.
+-- misplaced, awaits the leaf, holds no other blocks, and has the same records and data blocks. The tree blocks that the way has lost are
+-- free.
 abbrev pub UnlinksLeaf : (way : List ℕ) → (id : ℕ) → (old new : List ℕ) → (heads now : Heads) → Type 0
 UnlinksLeaf way id old new heads now =
     (held : List ℕ) (format : Format) (records : Records) → way ≡ blocks_on_way old heads.blocks id → IsWholeTree (loose_of held None None) format old heads records
     → TreeStays (loose_of held None None) (loose_of held (Some (record { number = id; block = slice_index way 4 })) None) format old new heads now records
+    × FreesBlocks (lost_blocks old new now.blocks id) old new heads now
 
 -- The block of a leaf that is awaited is a data block, with as many used entries as it states. One of them is of the leaf's
 -- identifier, which has its record, and no path of the tree leads to it.

@@ -1,16 +1,14 @@
 //! A data block that is added for a record.
 
-ghost use Rattle.std.specs.Prelude.{◌≡◌, ◌+◌, ◌-◌, ◌≤◌, ℕ, List, length, IfErr, IfOk, OnErr, OnOk, None, is_ok};
+ghost use Rattle.std.specs.Prelude.{◌≡◌, ◌+◌, ◌-◌, ◌≤◌, length, IfErr, IfOk, OnErr, OnOk, None, is_ok};
 ghost use Rattle.std.specs.FinMap.{get};
 ghost use Rattle.quota_types.specs.Format.{IsTreeFormat};
 ghost use Rattle.quota_types.specs.Kept.{IsKept};
-ghost use Rattle.quota_blocks.specs.QuotaValue.{Records};
 ghost use Rattle.quota_pages.specs.Pages.{pages_of};
 ghost use Rattle.quota_pages.specs.Used.{IsKnown, Uses, shown_over};
-ghost use Rattle.tree_build.specs.Loose.{loose_of};
 ghost use Rattle.tree_change.specs.Enters.{EntersRecord};
 ghost use Rattle.tree_change.specs.Fresh.{IsTakeFault};
-ghost use Rattle.tree_change.specs.Shows.{ShowsTree};
+ghost use Rattle.tree_change.specs.Shows.{OfEachTree};
 
 use crate::change_fault::ChangeFault;
 use crate::fresh::take_one;
@@ -39,12 +37,9 @@ pub fn add_block<S: Store>(
     requires tree { IsTreeFormat format }
     requires kept { IsKept format id rec.now }
     requires room { length (pages_of pages.old) + 3 ≤ 12 }
-    ensures added { IfOk result (λ block. IsKnown S.tells (S.seen store.old) pages.old
-        → (held : List ℕ) (records : Records)
-        → ShowsTree (loose_of held None None) format (S.seen store.old) pages.old heads.old records
-        → get records id ≡ None
-        → EntersRecord block id rec.now 1 held format (shown_over (S.seen store.old) pages.old)
-        (shown_over (S.seen store.new) pages.new) heads.old heads.new records) }
+    ensures added { IfOk result (λ block. OfEachTree S.tells format (S.seen store.old) pages.old heads.old (λ held records.
+        get records id ≡ None → EntersRecord block id rec.now 1 held format (shown_over (S.seen store.old) pages.old)
+        (shown_over (S.seen store.new) pages.new) heads.old heads.new records)) }
     ensures at_least { OnOk result (heads.old.blocks ≤ heads.new.blocks) }
     ensures within { OnOk result (heads.old.blocks ≤ limit → heads.new.blocks ≤ limit) }
     ensures uses { Uses S.tells (is_ok result) 3 (S.seen store.old) (S.seen store.new) pages.old pages.new }

@@ -1,20 +1,18 @@
 //! A record that is entered in a data block that has room.
 
-ghost use Rattle.std.specs.Prelude.{◌≡◌, ◌≢◌, ◌⊎◌, ◌+◌, ◌<◌, ◌≤◌, ℕ, List, length, true, false, IfErr, IfOk, OnErr, OnOk, None, is_ok};
+ghost use Rattle.std.specs.Prelude.{◌≡◌, ◌≢◌, ◌⊎◌, ◌+◌, ◌<◌, ◌≤◌, length, true, false, IfErr, IfOk, OnErr, OnOk, None, is_ok};
 ghost use Rattle.std.specs.FinMap.{get};
 ghost use Rattle.quota_types.specs.Format.{IsTreeFormat};
 ghost use Rattle.quota_types.specs.Kept.{IsKept};
 ghost use Rattle.entry_codec.specs.Entry.{entries_per_block, is_unused};
 ghost use Rattle.file_blocks.specs.Block.{block_of};
-ghost use Rattle.quota_blocks.specs.QuotaValue.{Records};
-ghost use Rattle.quota_pages.specs.Page.{HasRoomFor, is_buffered};
+ghost use Rattle.quota_pages.specs.Page.{is_buffered};
 ghost use Rattle.quota_pages.specs.Pages.{pages_of};
-ghost use Rattle.quota_pages.specs.Used.{IsKnown, LooksAtSome, Uses, missing, shown_over};
+ghost use Rattle.quota_pages.specs.Used.{IsKnown, LooksAtSome, Uses, shown_over};
 ghost use Rattle.tree_build.specs.Entries.{entry_bytes, has_unused};
-ghost use Rattle.tree_build.specs.Loose.{loose_of};
 ghost use Rattle.tree_change.specs.ChangeFault.{IsStepFault};
 ghost use Rattle.tree_change.specs.Enters.{EntersRecord};
-ghost use Rattle.tree_change.specs.Shows.{IsNoTree, ShowsTree};
+ghost use Rattle.tree_change.specs.Shows.{IsNoTree, OfEachTree};
 
 use crate::change_fault::ChangeFault;
 use crate::writing::write_record;
@@ -76,12 +74,9 @@ pub fn enter_record<S: Store>(
     requires kept { IsKept format id rec.now }
     requires some { heads.old.first ≢ 0 }
     requires room { length (pages_of pages.old) + 4 ≤ 12 }
-    ensures entered { IfOk result (λ block. IsKnown S.tells (S.seen store.old) pages.old
-        → (held : List ℕ) (records : Records)
-        → ShowsTree (loose_of held None None) format (S.seen store.old) pages.old heads.old records
-        → get records id ≡ None
-        → EntersRecord block id rec.now 0 held format (shown_over (S.seen store.old) pages.old)
-        (shown_over (S.seen store.new) pages.new) heads.old heads.new records) }
+    ensures entered { IfOk result (λ block. OfEachTree S.tells format (S.seen store.old) pages.old heads.old (λ held records.
+        get records id ≡ None → EntersRecord block id rec.now 0 held format (shown_over (S.seen store.old) pages.old)
+        (shown_over (S.seen store.new) pages.new) heads.old heads.new records)) }
     ensures blocks { OnOk result (heads.new.blocks ≡ heads.old.blocks) }
     ensures uses { Uses S.tells (is_ok result) 4 (S.seen store.old) (S.seen store.new) pages.old pages.new }
     ensures stays { OnErr result (heads.new ≡ heads.old) }

@@ -1,12 +1,12 @@
 //! The heads of a tree file, as its header has them.
 
-ghost use Rattle.std.specs.Prelude.{◌≡◌, ◌+◌, ◌≤◌, ◌∷◌, [], length, true, false, is_ok, OnErr, OnOk};
+ghost use Rattle.std.specs.Prelude.{◌≡◌, ◌↔◌, ◌+◌, ◌≤◌, ◌∷◌, [], length, true, false, is_ok, IsTrue, OnErr, OnOk};
 ghost use Rattle.entry_codec.specs.Header.{AreOf, header_of};
 ghost use Rattle.outside.specs.Count.{Rose};
-ghost use Rattle.quota_pages.specs.Page.{HasRoomFor};
+ghost use Rattle.quota_pages.specs.Page.{HasRoomFor, lent_count};
 ghost use Rattle.quota_pages.specs.Pages.{pages_of};
 ghost use Rattle.quota_pages.specs.Used.{IsKnown, KeepsBlocksBut, LendsSome, LooksAtSome, Uses, missing, shown_over};
-ghost use Rattle.tree_change.specs.HeaderHeads.{with_heads};
+ghost use Rattle.tree_change.specs.HeaderHeads.{HasHeads, with_heads};
 
 use entry_codec::Header;
 use free_chains::Heads;
@@ -19,9 +19,7 @@ const HEADS_AT: usize = 20;
 
 /// The heads that a header has.
 pub(crate) fn heads_in(header: &Header) -> Heads
-    ensures blocks { result.blocks ≡ header.now.blocks }
-    ensures free { result.free ≡ header.now.free }
-    ensures first { result.first ≡ header.now.first }
+    ensures { HasHeads header.now result }
 {
     Heads {
         blocks: header.blocks,
@@ -71,14 +69,12 @@ pub fn set_heads<S: Store>(
 
 /// Whether a header has these heads.
 fn has_heads(header: &Header, heads: &Heads) -> bool
-    ensures blocks { result ≡ true → heads.now.blocks ≡ header.now.blocks }
-    ensures free { result ≡ true → heads.now.free ≡ header.now.free }
-    ensures first { result ≡ true → heads.now.first ≡ header.now.first }
+    ensures { IsTrue result ↔ HasHeads header.now heads.now }
 {
     heads.blocks == header.blocks && heads.free == header.free && heads.first == header.first
 }
 
-/// Writes the heads in the header where they are others than it has.
+/// Writes the heads in the header where they are others than it has. Where it has them no page is lent.
 ///
 /// # Errors
 ///
@@ -96,6 +92,7 @@ pub(crate) fn renew_heads<S: Store>(
         → AreOf header.now (header_of (shown_over (S.seen store.old) pages.old))
         → header_of (shown_over (S.seen store.new) pages.new)
         ≡ with_heads (header_of (shown_over (S.seen store.old) pages.old)) heads.now) }
+    ensures idle { HasHeads header.now heads.now → lent_count (pages_of pages.new) ≡ lent_count (pages_of pages.old) }
     ensures uses { Uses S.tells (is_ok result) 1 (S.seen store.old) (S.seen store.new) pages.old pages.new }
     ensures cause { OnErr result (Rose (S.seen store.old).faults (S.seen store.new).faults) }
 {

@@ -1,13 +1,13 @@
 //! A record that is overwritten in its data block.
 
-ghost use Rattle.std.specs.Prelude.{◌≡◌, ◌<◌, ◌≤◌, ◌∷◌, [], ℕ, List, length, true, false, None, Some, IsSome, IfErr, IfOk, OnErr, OnOk, is_ok};
+ghost use Rattle.std.specs.Prelude.{◌≡◌, ◌+◌, ◌<◌, ◌≤◌, ◌∷◌, [], ℕ, List, length, true, false, None, Some, IsSome, IfErr, IfOk, OnErr, OnOk, is_ok};
 ghost use Rattle.quota_types.specs.Format.{IsTreeFormat};
 ghost use Rattle.quota_types.specs.Kept.{IsKept};
 ghost use Rattle.entry_codec.specs.Entry.{entries_per_block};
 ghost use Rattle.file_blocks.specs.Block.{block_of};
 ghost use Rattle.outside.specs.Count.{Rose};
 ghost use Rattle.quota_blocks.specs.QuotaValue.{Records};
-ghost use Rattle.quota_pages.specs.Page.{HasRoomFor, is_buffered};
+ghost use Rattle.quota_pages.specs.Page.{HasRoomFor, is_buffered, lent_count};
 ghost use Rattle.quota_pages.specs.Pages.{pages_of};
 ghost use Rattle.quota_pages.specs.Used.{IsKnown, LendsSome, LooksAtSome, Uses, missing, shown_over};
 ghost use Rattle.quota_radix.specs.Descent.{leaf_block};
@@ -105,8 +105,8 @@ fn rewrite_record<S: Store>(
     Ok(())
 }
 
-/// Overwrites the record of an identifier in the data block to which its leaf leads, of which one is read at most. No list
-/// of blocks changes.
+/// Overwrites the record of an identifier in the data block to which its leaf leads, of which one is read, and one lent, at
+/// most. No list of blocks changes.
 ///
 /// # Errors
 ///
@@ -129,6 +129,7 @@ pub fn overwrite_record<S: Store>(
         → OverwritesRecord id rec.now held format (shown_over (S.seen store.old) pages.old)
         (shown_over (S.seen store.new) pages.new) heads records) }
     ensures uses { Uses S.tells (is_ok result) 1 (S.seen store.old) (S.seen store.new) pages.old pages.new }
+    ensures lends { lent_count (pages_of pages.new) ≤ lent_count (pages_of pages.old) + 1 }
     ensures refused { IfErr result (IsStepFault (S.seen store.old).faults (S.seen store.new).faults
         (IsKnown S.tells (S.seen store.old) pages.old → (heads : Heads)
         → leaf_block (shown_over (S.seen store.old) pages.old) heads.blocks id ≡ Some block

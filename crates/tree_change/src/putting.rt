@@ -1,18 +1,18 @@
 //! A record that is put into a tree file.
 
-ghost use Rattle.std.specs.Prelude.{◌≡◌, ◌+◌, ◌-◌, ◌*◌, ◌≤◌, ℕ, List, length, IfErr, IfOk, OnErr, OnOk, None, Some, is_ok};
+ghost use Rattle.std.specs.Prelude.{◌≡◌, ◌+◌, ◌-◌, ◌*◌, ◌≤◌, length, IfErr, IfOk, IsSome, OnErr, OnOk, None, is_ok};
 ghost use Rattle.std.specs.FinMap.{get};
 ghost use Rattle.arrayvec.specs.ArrayVec.{array_vec_len};
 ghost use Rattle.quota_types.specs.Format.{IsTreeFormat};
 ghost use Rattle.quota_types.specs.Kept.{IsKept};
-ghost use Rattle.quota_blocks.specs.QuotaValue.{Records};
+ghost use Rattle.quota_pages.specs.Page.{lent_count};
 ghost use Rattle.quota_pages.specs.Pages.{pages_of};
 ghost use Rattle.quota_pages.specs.Used.{IsKnown, Uses, shown_over};
 ghost use Rattle.quota_radix.specs.Link.{AreBuffered};
-ghost use Rattle.tree_build.specs.Loose.{loose_of};
+ghost use Rattle.tree_change.specs.ChangeFault.{IfFull};
 ghost use Rattle.tree_change.specs.Enters.{EntersRecord};
-ghost use Rattle.tree_change.specs.Putting.{EndsEarly, IsEnterFault, IsPutFault, IsPutInFault, PutsIn, data_wanted};
-ghost use Rattle.tree_change.specs.Shows.{ShowsTree};
+ghost use Rattle.tree_change.specs.Putting.{EndsEarly, IsEnterFault, IsPutFault, IsPutInFault, PutsIn, PutsOverOne, data_wanted};
+ghost use Rattle.tree_change.specs.Shows.{OfEachTree};
 
 use crate::adding::add_block;
 use crate::change_fault::ChangeFault;
@@ -52,12 +52,9 @@ fn enter_data<S: Store>(
     requires tree { IsTreeFormat format }
     requires kept { IsKept format id rec.now }
     requires room { length (pages_of pages.old) + (4 - data_wanted heads.old) ≤ 12 }
-    ensures entered { IfOk result (λ block. IsKnown S.tells (S.seen store.old) pages.old
-        → (held : List ℕ) (records : Records)
-        → ShowsTree (loose_of held None None) format (S.seen store.old) pages.old heads.old records
-        → get records id ≡ None
-        → EntersRecord block id rec.now (data_wanted heads.old) held format
-        (shown_over (S.seen store.old) pages.old) (shown_over (S.seen store.new) pages.new) heads.old heads.new records) }
+    ensures entered { IfOk result (λ block. OfEachTree S.tells format (S.seen store.old) pages.old heads.old (λ held records.
+        get records id ≡ None → EntersRecord block id rec.now (data_wanted heads.old) held format
+        (shown_over (S.seen store.old) pages.old) (shown_over (S.seen store.new) pages.new) heads.old heads.new records)) }
     ensures at_least { OnOk result (heads.old.blocks ≤ heads.new.blocks) }
     ensures within { OnOk result (heads.old.blocks ≤ limit → heads.new.blocks ≤ limit) }
     ensures uses { Uses S.tells (is_ok result) (4 - data_wanted heads.old)
@@ -97,12 +94,10 @@ fn put_new<S: Store>(
     requires few { array_vec_len path.now.found ≤ 4 }
     requires brought { AreBuffered (pages_of pages.old) path.now.found.items }
     requires room { length (pages_of pages.old) + (2 * (4 - array_vec_len path.now.found) + 4) ≤ 12 }
-    ensures put { OnOk result (IsKnown S.tells (S.seen store.old) pages.old
-        → EndsEarly (shown_over (S.seen store.old) pages.old) heads.old.blocks id path.now.found.items
-        → (held : List ℕ) (records : Records)
-        → ShowsTree (loose_of held None None) format (S.seen store.old) pages.old heads.old records
-        → PutsIn id rec.now held format (shown_over (S.seen store.old) pages.old)
-        (shown_over (S.seen store.new) pages.new) heads.old heads.new records) }
+    ensures put { OnOk result (EndsEarly (shown_over (S.seen store.old) pages.old) heads.old.blocks id path.now.found.items
+        → OfEachTree S.tells format (S.seen store.old) pages.old heads.old (λ held records.
+        PutsIn id rec.now held format (shown_over (S.seen store.old) pages.old)
+        (shown_over (S.seen store.new) pages.new) heads.old heads.new records)) }
     ensures at_least { OnOk result (heads.old.blocks ≤ heads.new.blocks) }
     ensures within { OnOk result (heads.old.blocks ≤ limit → heads.new.blocks ≤ limit) }
     ensures uses { Uses S.tells (is_ok result) (2 * (4 - array_vec_len path.now.found) + 4)
@@ -113,6 +108,9 @@ fn put_new<S: Store>(
         × EndsEarly (shown_over (S.seen store.old) pages.old) heads.old.blocks id path.now.found.items)
         format (shown_over (S.seen store.old) pages.old) heads.old limit
         ((4 - array_vec_len path.now.found) + data_wanted heads.old)) }
+    ensures full { IfErr result (IfFull (EndsEarly (shown_over (S.seen store.old) pages.old) heads.old.blocks id path.now.found.items
+        → OfEachTree S.tells format (S.seen store.old) pages.old heads.old (λ _ _.
+        lent_count (pages_of pages.new) ≡ lent_count (pages_of pages.old)))) }
 {
     let mut now = *heads;
     let lacking = 4 - path.found.len();
@@ -148,17 +146,19 @@ pub fn put_in<S: Store>(
     requires tree { IsTreeFormat format }
     requires kept { IsKept format id rec.now }
     requires room { length (pages_of pages.old) + 11 ≤ 12 }
-    ensures put { OnOk result (IsKnown S.tells (S.seen store.old) pages.old
-        → (held : List ℕ) (records : Records)
-        → ShowsTree (loose_of held None None) format (S.seen store.old) pages.old heads.old records
-        → PutsIn id rec.now held format (shown_over (S.seen store.old) pages.old)
-        (shown_over (S.seen store.new) pages.new) heads.old heads.new records) }
+    ensures put { OnOk result (OfEachTree S.tells format (S.seen store.old) pages.old heads.old (λ held records.
+        PutsIn id rec.now held format (shown_over (S.seen store.old) pages.old)
+        (shown_over (S.seen store.new) pages.new) heads.old heads.new records)) }
     ensures at_least { OnOk result (heads.old.blocks ≤ heads.new.blocks) }
     ensures within { OnOk result (heads.old.blocks ≤ limit → heads.new.blocks ≤ limit) }
     ensures uses { Uses S.tells (is_ok result) 11 (S.seen store.old) (S.seen store.new) pages.old pages.new }
     ensures stays { OnErr result (heads.new ≡ heads.old) }
     ensures refused { IfErr result (IsPutInFault (S.seen store.old).faults (S.seen store.new).faults
         (IsKnown S.tells (S.seen store.old) pages.old) format (shown_over (S.seen store.old) pages.old) heads.old limit id) }
+    ensures over { OnOk result (OfEachTree S.tells format (S.seen store.old) pages.old heads.old (λ _ records.
+        IsSome (get records id) → PutsOverOne (pages_of pages.old) (pages_of pages.new) heads.old heads.new)) }
+    ensures full { IfErr result (IfFull (OfEachTree S.tells format (S.seen store.old) pages.old heads.old (λ _ _.
+        lent_count (pages_of pages.new) ≡ lent_count (pages_of pages.old)))) }
 {
     let path = find_path(pages, store, heads.blocks, id)?;
     match path.leaf() {

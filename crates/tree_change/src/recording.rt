@@ -1,16 +1,18 @@
 //! A record that is put into a tree file in place.
 
-ghost use Rattle.std.specs.Prelude.{◌≡◌, ◌<◌, ◌≤◌, [], is_ok, IfErr, IfOk};
-ghost use Rattle.entry_codec.specs.Header.{AreOf, header_of};
+ghost use Rattle.std.specs.Prelude.{◌≡◌, ◌<◌, ◌≤◌, [], is_ok, IfErr, IfOk, IsSome, OnOk};
+ghost use Rattle.std.specs.FinMap.{get};
+ghost use Rattle.entry_codec.specs.Header.{header_of};
 ghost use Rattle.quota_types.specs.Format.{IsTreeFormat};
 ghost use Rattle.quota_types.specs.Kept.{IsKept};
-ghost use Rattle.quota_blocks.specs.QuotaValue.{QuotaValue};
+ghost use Rattle.quota_pages.specs.Page.{lent_count};
 ghost use Rattle.quota_pages.specs.Pages.{pages_of};
-ghost use Rattle.quota_pages.specs.Used.{IsKnown, Uses, shown_over};
+ghost use Rattle.quota_pages.specs.Used.{Uses, shown_over};
 ghost use Rattle.tree_build.specs.IsTree.{heads_of};
-ghost use Rattle.tree_build.specs.TreeFile.{TreeStandsFor};
-ghost use Rattle.tree_change.specs.ChangeFault.{IsChangeFault};
+ghost use Rattle.tree_change.specs.ChangeFault.{IfFull, IsChangeFault};
+ghost use Rattle.tree_change.specs.HeaderHeads.{HasHeads};
 ghost use Rattle.tree_change.specs.Putting.{PutsRecord, blocks_with};
+ghost use Rattle.tree_change.specs.Shows.{OfEachValue};
 
 use crate::change_fault::ChangeFault;
 use crate::header_block::{heads_in, renew_heads};
@@ -23,12 +25,13 @@ use quota_types::Rec;
 
 /// Puts the record of an identifier into a tree file with this header, and answers the heads that the file has then.
 ///
-/// At most twelve blocks are read. What the file should be is left in the buffer; nothing is written yet.
+/// At most twelve blocks are read. What the file should be is left in the buffer; nothing is written yet. For an identifier
+/// that has a record at most one block is lent for writing, and at most eleven are where the heads stay.
 ///
 /// # Errors
 ///
 /// `Store` where the store failed, `Damage` where the file is damaged, and `Full` where the identifier has no record and
-/// the file would have more blocks with it than the limit.
+/// the file would have more blocks with it than the limit, which is known before any is lent for writing.
 pub fn put_record<S: Store>(
     pages: &mut Pages,
     store: &mut S,
@@ -42,21 +45,21 @@ pub fn put_record<S: Store>(
     requires empty { pages_of pages.old ≡ [] }
     requires two { 2 ≤ header.now.blocks }
     requires few { header.now.blocks ≤ limit }
-    ensures shown { IfOk result (λ heads. IsKnown S.tells (S.seen store.old) pages.old
-        → AreOf header.now (header_of (shown_over (S.seen store.old) pages.old)) → (value : QuotaValue)
-        → TreeStandsFor (shown_over (S.seen store.old) pages.old) value
-        → PutsRecord id rec.now value (shown_over (S.seen store.old) pages.old)
-        (shown_over (S.seen store.new) pages.new) heads) }
+    ensures shown { IfOk result (λ heads. OfEachValue S.tells (S.seen store.old) pages.old header.now (λ value.
+        PutsRecord id rec.now value (shown_over (S.seen store.old) pages.old)
+        (shown_over (S.seen store.new) pages.new) heads)) }
+    ensures known { OnOk result (OfEachValue S.tells (S.seen store.old) pages.old header.now (λ value.
+        IsSome (get value.records id) → lent_count (pages_of pages.new) ≤ 1)) }
+    ensures header { IfOk result (λ heads. HasHeads header.now heads → lent_count (pages_of pages.new) ≤ 11) }
     ensures few { IfOk result (λ heads. (2 ≤ heads.blocks) × (heads.blocks ≤ limit)) }
     ensures refused { IfErr result (IsChangeFault (S.seen store.old).faults (S.seen store.new).faults
-        (IsKnown S.tells (S.seen store.old) pages.old
-        → AreOf header.now (header_of (shown_over (S.seen store.old) pages.old)) → (value : QuotaValue)
-        → ¬ TreeStandsFor (shown_over (S.seen store.old) pages.old) value)
-        (λ blocks most. (most ≡ limit) × (limit < blocks) × (IsKnown S.tells (S.seen store.old) pages.old
-        → AreOf header.now (header_of (shown_over (S.seen store.old) pages.old)) → (value : QuotaValue)
-        → TreeStandsFor (shown_over (S.seen store.old) pages.old) value
-        → blocks ≡ blocks_with (shown_over (S.seen store.old) pages.old)
+        (OfEachValue S.tells (S.seen store.old) pages.old header.now (λ _. ⊥))
+        (λ blocks most. (most ≡ limit) × (limit < blocks)
+        × OfEachValue S.tells (S.seen store.old) pages.old header.now (λ _.
+        blocks ≡ blocks_with (shown_over (S.seen store.old) pages.old)
         (heads_of (header_of (shown_over (S.seen store.old) pages.old))) id))) }
+    ensures full { IfErr result (IfFull (OfEachValue S.tells (S.seen store.old) pages.old header.now (λ _.
+        lent_count (pages_of pages.new) ≡ 0))) }
     ensures uses { Uses S.tells (is_ok result) 12 (S.seen store.old) (S.seen store.new) pages.old pages.new }
 {
     let mut heads = heads_in(header);

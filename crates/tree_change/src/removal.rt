@@ -1,20 +1,16 @@
 //! A record that is removed from a tree file in place.
 
-ghost use Rattle.std.specs.Prelude.{◌≡◌, ◌+◌, ◌≤◌, ◌∷◌, [], length, take, true, is_ok, is_none, None, IfErr, IfOk, IfSome, OnErr, OnOk};
+ghost use Rattle.std.specs.Prelude.{◌≡◌, ◌+◌, ◌≤◌, [], length, take, true, is_ok, is_none, None, IfErr, IfOk, IfSome, OnErr, OnOk};
 ghost use Rattle.std.specs.FinMap.{get};
 ghost use Rattle.arrayvec.specs.ArrayVec.{array_vec_len};
-ghost use Rattle.entry_codec.specs.Header.{AreOf, header_of};
-ghost use Rattle.outside.specs.Count.{Rose};
 ghost use Rattle.quota_types.specs.Format.{IsTreeFormat};
-ghost use Rattle.quota_blocks.specs.QuotaValue.{QuotaValue};
 ghost use Rattle.quota_pages.specs.Pages.{pages_of};
-ghost use Rattle.quota_pages.specs.Used.{IsKnown, KeepsBlocksBut, LooksAtSome, Uses, shown_over};
+ghost use Rattle.quota_pages.specs.Used.{IsKnown, LooksAtSome, Uses, shown_over};
 ghost use Rattle.quota_radix.specs.Link.{AreBuffered};
 ghost use Rattle.quota_radix.specs.Way.{blocks_on_way};
-ghost use Rattle.tree_build.specs.TreeFile.{TreeStandsFor};
 ghost use Rattle.tree_change.specs.ChangeFault.{IsChangeFault};
-ghost use Rattle.tree_change.specs.HeaderHeads.{with_heads};
 ghost use Rattle.tree_change.specs.Removal.{HasNoWay, RemovesRecord, TakesRecord};
+ghost use Rattle.tree_change.specs.Shows.{OfEachValue};
 
 use crate::change_fault::ChangeFault;
 use crate::header_block::{heads_in, renew_heads};
@@ -22,7 +18,7 @@ use crate::removing::remove_entry;
 use crate::unlinking::unlink_leaf;
 use entry_codec::Header;
 use free_chains::Heads;
-use outside::{Store, StoreFault};
+use outside::Store;
 use quota_pages::Pages;
 use quota_radix::{Path, find_path};
 use quota_types::Format;
@@ -62,15 +58,6 @@ fn take_out<S: Store>(
     Ok(())
 }
 
-/// Whether a header has these heads.
-fn has_heads(header: &Header, heads: &Heads) -> bool
-    ensures blocks { result ≡ true → heads.now.blocks ≡ header.now.blocks }
-    ensures free { result ≡ true → heads.now.free ≡ header.now.free }
-    ensures first { result ≡ true → heads.now.first ≡ header.now.first }
-{
-    heads.blocks == header.blocks && heads.free == header.free && heads.first == header.first
-}
-
 /// Removes the record of an identifier, whose whole way is `path`, and answers the heads of the file then. It reads five blocks
 /// at most.
 ///
@@ -89,19 +76,16 @@ fn remove_found<S: Store>(
     requires found { array_vec_len path.now.found ≡ 5 }
     requires buffered { AreBuffered (pages_of pages.old) (take 4 path.now.found.items) }
     requires room { length (pages_of pages.old) + 5 ≤ 12 }
-    ensures removed { IfOk result (λ heads. IsKnown S.tells (S.seen store.old) pages.old
-        → AreOf header.now (header_of (shown_over (S.seen store.old) pages.old))
-        → path.now.found.items ≡ blocks_on_way (shown_over (S.seen store.old) pages.old) header.now.blocks id
-        → (value : QuotaValue) → TreeStandsFor (shown_over (S.seen store.old) pages.old) value
-        → RemovesRecord id value (shown_over (S.seen store.old) pages.old)
-        (shown_over (S.seen store.new) pages.new) heads) }
+    ensures removed { IfOk result (λ heads.
+        path.now.found.items ≡ blocks_on_way (shown_over (S.seen store.old) pages.old) header.now.blocks id
+        → OfEachValue S.tells (S.seen store.old) pages.old header.now (λ value.
+        RemovesRecord id value (shown_over (S.seen store.old) pages.old)
+        (shown_over (S.seen store.new) pages.new) heads)) }
     ensures blocks { IfOk result (λ heads. heads.blocks ≡ header.now.blocks) }
     ensures uses { Uses S.tells (is_ok result) 5 (S.seen store.old) (S.seen store.new) pages.old pages.new }
     ensures refused { IfErr result (IsChangeFault (S.seen store.old).faults (S.seen store.new).faults
-        (IsKnown S.tells (S.seen store.old) pages.old
-        → AreOf header.now (header_of (shown_over (S.seen store.old) pages.old))
-        → path.now.found.items ≡ blocks_on_way (shown_over (S.seen store.old) pages.old) header.now.blocks id
-        → (value : QuotaValue) → ¬ TreeStandsFor (shown_over (S.seen store.old) pages.old) value) (λ _ _. ⊥)) }
+        (path.now.found.items ≡ blocks_on_way (shown_over (S.seen store.old) pages.old) header.now.blocks id
+        → OfEachValue S.tells (S.seen store.old) pages.old header.now (λ _. ⊥)) (λ _ _. ⊥)) }
 {
     let mut heads = heads_in(header);
     take_out(pages, store, &mut heads, header.format, path, id)?;
@@ -112,7 +96,8 @@ fn remove_found<S: Store>(
 /// Removes the record of an identifier from a tree file with this header, and answers the heads that the file has then, or
 /// None where the identifier has no record. Then nothing was lent for writing.
 ///
-/// At most twelve blocks are read. What the file should be is left in the buffer; nothing is written yet.
+/// At most twelve blocks are read. What the file should be is left in the buffer; nothing is written yet. The tree blocks
+/// that the way has lost are free, and before them the data block, where it has no entry.
 ///
 /// # Errors
 ///
@@ -126,22 +111,17 @@ pub fn remove_record<S: Store>(
 ) -> Result<Option<Heads>, ChangeFault>
     requires tree { IsTreeFormat header.now.format }
     requires empty { pages_of pages.old ≡ [] }
-    ensures shown { IfOk result (λ found. IfSome found (λ heads. IsKnown S.tells (S.seen store.old) pages.old
-        → AreOf header.now (header_of (shown_over (S.seen store.old) pages.old))
-        → (value : QuotaValue) → TreeStandsFor (shown_over (S.seen store.old) pages.old) value
-        → RemovesRecord id value (shown_over (S.seen store.old) pages.old)
-        (shown_over (S.seen store.new) pages.new) heads)) }
+    ensures shown { IfOk result (λ found. IfSome found (λ heads.
+        OfEachValue S.tells (S.seen store.old) pages.old header.now (λ value.
+        RemovesRecord id value (shown_over (S.seen store.old) pages.old)
+        (shown_over (S.seen store.new) pages.new) heads))) }
     ensures blocks { IfOk result (λ found. IfSome found (λ heads. heads.blocks ≡ header.now.blocks)) }
-    ensures found { IfOk result (λ found. IsKnown S.tells (S.seen store.old) pages.old
-        → AreOf header.now (header_of (shown_over (S.seen store.old) pages.old))
-        → (value : QuotaValue) → TreeStandsFor (shown_over (S.seen store.old) pages.old) value
-        → is_none (get value.records id) ≡ is_none found) }
+    ensures found { IfOk result (λ found. OfEachValue S.tells (S.seen store.old) pages.old header.now (λ value.
+        is_none (get value.records id) ≡ is_none found)) }
     ensures absent { IfOk result (λ found. found ≡ None
         → LooksAtSome S.tells true 12 (S.seen store.old) (S.seen store.new) pages.old pages.new) }
     ensures refused { IfErr result (IsChangeFault (S.seen store.old).faults (S.seen store.new).faults
-        (IsKnown S.tells (S.seen store.old) pages.old
-        → AreOf header.now (header_of (shown_over (S.seen store.old) pages.old))
-        → (value : QuotaValue) → ¬ TreeStandsFor (shown_over (S.seen store.old) pages.old) value) (λ _ _. ⊥)) }
+        (OfEachValue S.tells (S.seen store.old) pages.old header.now (λ _. ⊥)) (λ _ _. ⊥)) }
     ensures uses { Uses S.tells (is_ok result) 12 (S.seen store.old) (S.seen store.new) pages.old pages.new }
 {
     let path = find_path(pages, store, header.blocks, id)?;

@@ -1,9 +1,8 @@
 //! Entries that are removed from their data block, with what follows of it for the lists.
 
-ghost use Rattle.std.specs.Prelude.{◌≡◌, ◌+◌, ◌<◌, ◌≤◌, length, true, is_ok, IfErr, OnErr, OnOk};
+ghost use Rattle.std.specs.Prelude.{◌≡◌, ◌+◌, ◌≤◌, length, true, is_ok, IfErr, OnErr, OnOk};
 ghost use Rattle.quota_types.specs.Format.{IsTreeFormat};
 ghost use Rattle.quota_types.specs.declared.file_kind.Format.{Format as QuotaFormat};
-ghost use Rattle.file_blocks.specs.Block.{block_of};
 ghost use Rattle.quota_pages.specs.Page.{is_buffered};
 ghost use Rattle.quota_pages.specs.Pages.{pages_of};
 ghost use Rattle.quota_pages.specs.Used.{IsKnown, Uses, shown_over};
@@ -32,8 +31,6 @@ fn leave_list<S: Store>(
     ensures left { OnOk result (IsKnown S.tells (S.seen store.old) pages.old → (format : QuotaFormat)
         → LeavesTree format block (shown_over (S.seen store.old) pages.old) (shown_over (S.seen store.new) pages.new)
         heads.old heads.new) }
-    ensures header { OnOk result (0 < block → block_of (shown_over (S.seen store.new) pages.new) 0
-        ≡ block_of (shown_over (S.seen store.old) pages.old) 0) }
     ensures blocks { OnOk result (heads.new.blocks ≡ heads.old.blocks) }
     ensures free { OnOk result (heads.new.free ≡ heads.old.free) }
     ensures uses { Uses S.tells (is_ok result) 3 (S.seen store.old) (S.seen store.new) pages.old pages.new }
@@ -61,8 +58,6 @@ fn enter_list<S: Store>(
     ensures entered { OnOk result (IsKnown S.tells (S.seen store.old) pages.old → (format : QuotaFormat)
         → EntersTree format block (shown_over (S.seen store.old) pages.old) (shown_over (S.seen store.new) pages.new)
         heads.old heads.new) }
-    ensures header { OnOk result (0 < block → block_of (shown_over (S.seen store.new) pages.new) 0
-        ≡ block_of (shown_over (S.seen store.old) pages.old) 0) }
     ensures blocks { OnOk result (heads.new.blocks ≡ heads.old.blocks) }
     ensures uses { Uses S.tells (is_ok result) 2 (S.seen store.old) (S.seen store.new) pages.old pages.new }
     ensures stays { OnErr result (heads.new ≡ heads.old) }
@@ -91,8 +86,6 @@ fn give_up<S: Store>(
     ensures given { OnOk result (IsKnown S.tells (S.seen store.old) pages.old → (format : QuotaFormat)
         → GivesTree format block (shown_over (S.seen store.old) pages.old) (shown_over (S.seen store.new) pages.new)
         heads.old heads.new) }
-    ensures header { OnOk result (0 < block → block_of (shown_over (S.seen store.new) pages.new) 0
-        ≡ block_of (shown_over (S.seen store.old) pages.old) 0) }
     ensures blocks { OnOk result (heads.new.blocks ≡ heads.old.blocks) }
     ensures uses { Uses S.tells (is_ok result) 3 (S.seen store.old) (S.seen store.new) pages.old pages.new }
     ensures stays { OnErr result (heads.new ≡ heads.old) }
@@ -127,8 +120,6 @@ pub fn remove_entry<S: Store>(
     ensures removed { OnOk result (IsKnown S.tells (S.seen store.old) pages.old
         → RemovesEntry format id block
         (shown_over (S.seen store.old) pages.old) (shown_over (S.seen store.new) pages.new) heads.old heads.new) }
-    ensures header { OnOk result (0 < block → block_of (shown_over (S.seen store.new) pages.new) 0
-        ≡ block_of (shown_over (S.seen store.old) pages.old) 0) }
     ensures blocks { OnOk result (heads.new.blocks ≡ heads.old.blocks) }
     ensures uses { Uses S.tells (is_ok result) 4 (S.seen store.old) (S.seen store.new) pages.old pages.new }
     ensures stays { OnErr result (heads.new ≡ heads.old) }

@@ -7,4 +7,4 @@ returns-clause-awaited c = λ held misplaced format file heads records leaf tree
 
 pub returns-clause-unlinked : goal.returns-clause-unlinked
 returns-clause-unlinked c = λ way format old new heads now records id unlinks is tree.
-    has_awaited [] None format new now records (record { number = id; block = get_or way 4 0 }) (unlinks [] format records is tree).tree
+    has_awaited [] None format new now records (record { number = id; block = get_or way 4 0 }) (unlinks [] format records is tree).0.tree

@@ -1,5 +1,8 @@
-use Rattle.std.proofs.Common.{◌≡◌, ℕ, ◌+◌, ◌-◌, ◌<◌, List, None, Some, length, sym, ap, subst, ◌∙◌, arith}
+use Rattle.std.proofs.Common.{Option, refl, ◌≡◌, ℕ, ◌+◌, ◌-◌, ◌<◌, List, None, Some, length, sym, ap, subst, ◌∙◌, arith}
+use Rattle.std.specs.Prelude.{IsSome}
+use Rattle.std.proofs.lemmas.Bool.{false≢true}
 use Rattle.std.proofs.lemmas.Result.{IfErr-weaker, err_from_is_err_and, on_ok_weaker}
+use Rattle.quota_types.specs.declared.record.Rec.{Rec}
 use Rattle.quota_pages.specs.Pages.{pages_of}
 use Rattle.quota_pages.specs.Used.{IsKnown, shown_over}
 use Rattle.quota_pages.proofs.UsedLemmas.{shown_over-looks}
@@ -12,7 +15,8 @@ use Rattle.tree_change.specs.ChangeFault.{IsStepFault}
 use Rattle.tree_change.specs.Overwrites.{OverwritesRecord}
 use Rattle.tree_change.specs.Putting.{EndsEarly, IsPutFault, IsPutInFault, PutsIn, blocks_taken, data_wanted}
 use Rattle.tree_change.specs.Shows.{IsNoCompleteTree, IsWholeTree}
-use Rattle.tree_change.proofs.PuttingLemmas.{long_way_found, over_refused, put_over_whole, put_refused, short_way_found, taken_absent, wanted_as, way_refused, whole_way_found}
+use Rattle.tree_change.proofs.ChangeFaultLemmas.{full_then, of_full, walk_not_full}
+use Rattle.tree_change.proofs.PuttingLemmas.{long_way_found, no_record_of, over_refused, put_over_whole, put_refused, short_way_found, taken_absent, wanted_as, way_refused, whole_way_found}
 use Rattle.tree_change.proofs.putting.put_in.Goals as goal
 
 pub returns-in_err-path-clause-refused : goal.returns-in_err-path-clause-refused
@@ -86,7 +90,7 @@ returns-in-None-clause-put g c =
     (λ puts known held records tree.
     let ends : EndsEarly old heads.blocks id found = record { way = c.in_ok-path.ensures.found known; none = sym (c.in_ok-path.ensures.leaf known) ∙ sym c.leaf.ensures ∙ c.in-None.is } in
     subst (λ (file : List ℕ). PutsIn id c.args.rec.now held c.args.format file (shown_over (S.seen c.put_new.new.store) c.put_new.new.pages) heads c.put_new.new.heads records) same
-    (puts (looked.known known) (subst (λ (file : List ℕ). EndsEarly file heads.blocks id found) (sym same) ends) held records
+    (puts (subst (λ (file : List ℕ). EndsEarly file heads.blocks id found) (sym same) ends) (looked.known known) held records
     (subst (λ (file : List ℕ). IsWholeTree (loose_of held None None) c.args.format file heads records) (sym same) tree)))
     c.put_new.ensures.put
 
@@ -117,3 +121,46 @@ returns-in-None-clause-refused g c =
     omega (arith, way, taken_absent old heads id (omega (arith, way, short_way_found found (sym c.leaf.ensures ∙ c.in-None.is)))))
     (subst (λ (file : List ℕ). IsPutFault middle now (known × EndsEarly file heads.blocks id found) c.args.format file heads c.args.limit need fault) same h)))
     c.put_new.ensures.refused
+
+-- one that has a record is written over it
+pub returns-in-Some-clause-over : goal.returns-in-Some-clause-over
+returns-in-Some-clause-over g c =
+    on_ok_weaker c.overwrite_record.result
+    (λ over known held records tree some. record { same = refl; lent = omega (arith, c.overwrite_record.ensures.lends, c.in_ok-path.ensures.looked.lent_count) })
+    c.overwrite_record.ensures.overwritten
+
+pub returns-in-Some-clause-full : goal.returns-in-Some-clause-full
+returns-in-Some-clause-full g c =
+    IfErr-weaker c.overwrite_record.result _ _ (λ fault h. of_full _ _ _ _ _ fault (λ blocks limit none. absurd none) h) c.overwrite_record.ensures.refused
+
+-- one without is not
+pub returns-in-None-clause-over : goal.returns-in-None-clause-over
+returns-in-None-clause-over g c =
+    let S = g.S.Store in
+    let old : List ℕ = shown_over (S.seen c.args.store.now) c.args.pages.now in
+    on_ok_weaker c.put_new.result
+    (λ puts known held records tree some. absurd (false≢true (subst (λ (found : Option Rec). IsSome found)
+    (no_record_of held c.args.format old c.args.heads.now records c.args.id (omega (arith, c.ranges.id.fits)) (sym (c.in_ok-path.ensures.leaf known) ∙ sym c.leaf.ensures ∙ c.in-None.is) tree) some)))
+    c.put_new.ensures.put
+
+pub returns-in-None-clause-full : goal.returns-in-None-clause-full
+returns-in-None-clause-full g c =
+    let S = g.S.Store in
+    let heads : Heads = c.args.heads.now in
+    let id : ℕ = c.args.id in
+    let found : List ℕ = c.in_ok-path.path.found.items in
+    let looked = c.in_ok-path.ensures.looked in
+    let same = shown_over-looks looked in
+    IfErr-weaker c.put_new.result _ _
+    (λ fault h. full_then _ _ fault
+    (λ kept known held records tree.
+    let ends : EndsEarly (shown_over (S.seen c.args.store.now) c.args.pages.now) heads.blocks id found = record { way = c.in_ok-path.ensures.found known; none = sym (c.in_ok-path.ensures.leaf known) ∙ sym c.leaf.ensures ∙ c.in-None.is } in
+    kept (subst (λ (file : List ℕ). EndsEarly file heads.blocks id found) (sym same) ends) (looked.known known) held records
+    (subst (λ (file : List ℕ). IsWholeTree (loose_of held None None) c.args.format file heads records) (sym same) tree)
+    ∙ looked.lent_count) h)
+    c.put_new.ensures.full
+
+pub returns-in_err-path-clause-full : goal.returns-in_err-path-clause-full
+returns-in_err-path-clause-full g c =
+    let p = err_from_is_err_and c.from_residual.result c.from_residual.ensures.1 in
+    rw (p.1, p.2) (walk_not_full _ c.in_err-path.field-0.0)

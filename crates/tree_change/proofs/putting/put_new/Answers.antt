@@ -9,6 +9,7 @@ use Rattle.tree_build.specs.Loose.{loose_of}
 use Rattle.tree_change.specs.Enters.{EntersRecord}
 use Rattle.tree_change.specs.Putting.{EndsEarly, IsPutFault, data_wanted}
 use Rattle.tree_change.specs.Shows.{IsWholeTree}
+use Rattle.tree_change.proofs.ChangeFaultLemmas.{if_full, of_full}
 use Rattle.tree_change.proofs.PuttingLemmas.{CanGoOn, goes_on, goes_on_entered, no_record_of, no_room_refused, put_whole, step_refused, take_enters}
 use Rattle.tree_change.proofs.putting.put_new.Goals as goal
 
@@ -68,7 +69,7 @@ returns-in_err-lead_to-clause-refused g c =
     (take_enters (S.seen c.enter_data.new.store).faults (S.seen c.lead_to.new.store).faults still c.args.format new middle c.args.limit lacking _ c.in_err-lead_to.ensures.refused))
 
 pub returns-clause-put : goal.returns-clause-put
-returns-clause-put g c = λ known ends held records tree.
+returns-clause-put g c = λ ends known held records tree.
     let S = g.S.Store in
     let heads : Heads = c.args.heads.now in
     let middle : Heads = c.enter_data.new.heads in
@@ -87,3 +88,48 @@ returns-clause-put g c = λ known ends held records tree.
     put_whole held c.args.format old new (shown_over (S.seen c.lead_to.new.store) c.lead_to.new.pages) c.args.path.now.found.items heads middle c.lead_to.new.heads records c.in_ok-block.block id c.args.rec.now
     (omega (arith, c.ranges.id.fits)) ends.way c.requires.few enters
     (λ way whole. c.in_ok-lead_to.ensures.led (entered.uses.known known') held c.args.format _ way whole)
+
+-- what was decided first is that there is room for the record and its way
+pub returns-in_err-has_room-clause-full : goal.returns-in_err-has_room-clause-full
+returns-in_err-has_room-clause-full g c =
+    let p = err_from_is_err_and c.from_residual.result c.from_residual.ensures.1 in
+    rw (p.1, p.2) (if_full _ c.in_err-has_room.field-0.0 (λ ends known held records tree. c.in_err-has_room.ensures.looked.lent_count))
+
+pub returns-in_err-block-clause-full : goal.returns-in_err-block-clause-full
+returns-in_err-block-clause-full g c =
+    let p = err_from_is_err_and c.from_residual-in_err-block.result c.from_residual-in_err-block.ensures.1 in
+    let S = g.S.Store in
+    let heads : Heads = c.args.heads.now in
+    let old : List ℕ = shown_over (S.seen c.args.store.now) c.args.pages.now in
+    let between : List ℕ = shown_over (S.seen c.has_room.new.store) c.has_room.new.pages in
+    let looked = c.in_ok-has_room.ensures.looked in
+    let same : between ≡ old = shown_over-looks looked in
+    rw (p.1, p.2) (of_full _ _ _ _ _ c.in_err-block.field-0.0
+    (λ blocks most full ends known held records tree. absurd (full.2 (looked.known known)
+    (goes_on c.args.format old between heads c.args.limit ((4 - c.len-lacking.result) + c.data_wanted.result) (data_wanted heads) held records same (omega (arith, c.data_wanted.ensures)) (c.in_ok-has_room.ensures.room known) tree).room))
+    c.in_err-block.ensures.refused)
+
+pub returns-in_err-lead_to-clause-full : goal.returns-in_err-lead_to-clause-full
+returns-in_err-lead_to-clause-full g c =
+    let p = err_from_is_err_and c.from_residual-in_err-lead_to.result c.from_residual-in_err-lead_to.ensures.1 in
+    let S = g.S.Store in
+    let heads : Heads = c.args.heads.now in
+    let middle : Heads = c.enter_data.new.heads in
+    let id : ℕ = c.args.id in
+    let lacking : ℕ = 4 - length c.args.path.now.found.items in
+    let need : ℕ = (4 - c.len-lacking.result) + c.data_wanted.result in
+    let old : List ℕ = shown_over (S.seen c.args.store.now) c.args.pages.now in
+    let between : List ℕ = shown_over (S.seen c.has_room.new.store) c.has_room.new.pages in
+    let new : List ℕ = shown_over (S.seen c.enter_data.new.store) c.enter_data.new.pages in
+    let looked = c.in_ok-has_room.ensures.looked in
+    let entered = c.in_ok-block.ensures in
+    let same : between ≡ old = shown_over-looks looked in
+    let fewer : data_wanted heads + lacking ≤ need = omega (arith, c.len-lacking.ensures.value, c.data_wanted.ensures) in
+    rw (p.1, p.2) (of_full _ _ _ _ _ c.in_err-lead_to.field-0.0
+    (λ blocks most full ends known held records tree.
+    let on : CanGoOn c.args.format between heads c.args.limit need = goes_on c.args.format old between heads c.args.limit need need held records same (omega arith) (c.in_ok-has_room.ensures.room known) tree in
+    let none : get records id ≡ None = no_record_of held c.args.format old heads records id (omega (arith, c.ranges.id.fits)) ends.none tree in
+    absurd (full.2 (entered.uses.known (looked.known known))
+    (goes_on_entered c.args.format between new heads middle c.args.limit (data_wanted heads) lacking need c.in_ok-block.block id c.args.rec.now held records fewer on.room
+    (entered.entered (looked.known known) held records (subst (λ (file : List ℕ). IsWholeTree (loose_of held None None) c.args.format file heads records) (sym same) tree) none)).room))
+    c.in_err-lead_to.ensures.refused)

@@ -9,13 +9,13 @@ returns-in_err-take_out-clause-refused g c =
     let p = err_from_is_err_and c.from_residual.result c.from_residual.ensures.1 in
     let start = c.heads_in-heads.ensures in
     rw (p.1, p.2) (of_later _ _ _ _ _ _ _ c.in_err-take_out.field-0.0 (omega arith)
-    (λ none known are is value. no_value c.args.id c.args.path.now.found.items c.args.header.now c.heads_in-heads.result _ value are start.blocks start.free start.first is (none known))
+    (λ none is known are value. no_value c.args.id c.args.path.now.found.items c.args.header.now c.heads_in-heads.result _ value are start.blocks start.free start.first is (none known))
     (λ blocks limit full. full) c.in_err-take_out.ensures.refused)
 
 pub returns-clause-removed : goal.returns-clause-removed
-returns-clause-removed g c = λ known are is value stands.
+returns-clause-removed g c = λ is known are value stands.
     let start = c.heads_in-heads.ensures in
     let took = c.in_ok-take_out.ensures in
     let wrote = c.in_ok-renew_heads.ensures in
-    removes_record c.args.id c.args.path.now.found.items c.args.header.now c.heads_in-heads.result c.take_out.new.heads _ _ _ value are start.blocks start.free start.first is stands
+    removes_record c.args.id c.args.path.now.found.items c.args.header.now c.heads_in-heads.result c.take_out.new.heads _ _ _ value (omega (arith, c.ranges.id.fits)) are start.blocks start.free start.first is stands
     (took.taken known) took.blocks wrote.keeps (wrote.heads (took.uses.known known))

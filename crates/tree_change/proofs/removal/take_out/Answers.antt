@@ -34,7 +34,8 @@ pub returns-clause-taken : goal.returns-clause-taken
 returns-clause-taken g c = λ known.
     let gone = c.in_ok-unlink_leaf.ensures in
     takes_record c.args.format c.args.path.now.found.items c.args.id _ _ _ c.args.heads.now _ (ap (λ (way : List ℕ). get_or way 4 0) c.deref.ensures.0) (gone.unlinked known) _ _
-    (c.in_ok-remove_entry.ensures.removed (gone.uses.known known)) c.in_ok-remove_entry.ensures.header
+    (omega (arith, c.ranges.id.fits)) c.requires.found gone.blocks c.in_ok-remove_entry.ensures.blocks
+    (c.in_ok-remove_entry.ensures.removed (gone.uses.known known))
 
 pub returns-clause-uses : goal.returns-clause-uses
 returns-clause-uses g c = uses_more 4 (omega (arith, none_missing (pages_of c.args.pages.now) (take 4 c.args.path.now.found.items) c.requires.buffered)) (uses_then c.in_ok-unlink_leaf.ensures.uses c.in_ok-remove_entry.ensures.uses)

@@ -3,7 +3,6 @@ use Rattle.std.proofs.lemmas.Result.{err_from_is_err_and}
 use Rattle.quota_pages.proofs.UsedLemmas.{shown_over-lends}
 use Rattle.tree_change.proofs.ChangeFaultLemmas.{of_chain}
 use Rattle.tree_change.proofs.RemovedLemmas.{entering_no_tree, enters_tree}
-use Rattle.tree_change.proofs.HeaderStaysLemmas.{entering_apart}
 use Rattle.tree_change.proofs.removing.enter_list.Goals as goal
 
 pub returns-in_err-enter_entry_list-clause-refused :
@@ -16,6 +15,3 @@ pub returns-clause-entered : goal.returns-clause-entered
 returns-clause-entered g c = λ known format.
     let enters = c.in_ok-enter_entry_list.ensures in
     enters_tree format c.args.block _ _ c.args.heads.now _ enters.head (shown_over-lends enters.lends) (enters.entered known)
-
-pub returns-clause-header : goal.returns-clause-header
-returns-clause-header g c = λ above. (shown_over-lends c.in_ok-enter_entry_list.ensures.lends).others 0 (entering_apart c.args.block c.args.heads.now.first above)

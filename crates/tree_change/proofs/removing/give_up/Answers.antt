@@ -1,7 +1,5 @@
-use Rattle.std.proofs.Common.{◌∙◌}
 use Rattle.quota_pages.proofs.UsedLemmas.{shown_over-lends}
 use Rattle.tree_change.proofs.RemovedLemmas.{gives_tree}
-use Rattle.tree_change.proofs.HeaderStaysLemmas.{one_apart}
 use Rattle.tree_change.proofs.removing.give_up.Goals as goal
 
 pub returns-clause-given : goal.returns-clause-given
@@ -9,7 +7,3 @@ returns-clause-given g c = λ known format.
     let left = c.in_ok-leave_list.ensures in
     let gave = c.in_ok-give_block.ensures in
     gives_tree format c.args.block _ _ _ c.args.heads.now _ _ gave.head (left.left known format) (shown_over-lends gave.lends) (gave.given (left.uses.known known))
-
-pub returns-clause-header : goal.returns-clause-header
-returns-clause-header g c = λ above.
-    (shown_over-lends c.in_ok-give_block.ensures.lends).others 0 (one_apart c.args.block above) ∙ c.in_ok-leave_list.ensures.header above

@@ -1,8 +1,6 @@
 use Rattle.std.proofs.lemmas.Result.{err_from_is_err_and}
 use Rattle.tree_change.proofs.ChangeFaultLemmas.{of_chain}
 use Rattle.tree_change.proofs.ListLeftLemmas.{leaving_no_tree, left_tree}
-use Rattle.quota_pages.proofs.UsedLemmas.{shown_over-lends}
-use Rattle.tree_change.proofs.HeaderStaysLemmas.{leaving_apart}
 use Rattle.tree_change.proofs.removing.leave_list.Goals as goal
 
 pub returns-in_err-leave_entry_list-clause-refused :
@@ -15,8 +13,3 @@ pub returns-clause-left : goal.returns-clause-left
 returns-clause-left g c = λ known format.
     let left = c.in_ok-leave_entry_list.ensures in
     left_tree g.S.Store.tells c.args.block _ _ c.args.heads.now _ _ _ format left.taken_out known (left.left known)
-
-pub returns-clause-header : goal.returns-clause-header
-returns-clause-header g c = λ above.
-    let out = c.in_ok-leave_entry_list.ensures.taken_out in
-    (shown_over-lends out.lends).others 0 (leaving_apart c.args.block out.previous out.next above)

@@ -1,4 +1,4 @@
-use Rattle.std.proofs.Common.{ℕ, List, subst, ◌∙◌, arith}
+use Rattle.std.proofs.Common.{ℕ, List, subst, arith}
 use Rattle.std.proofs.lemmas.Result.{IfErr-weaker, err_from_is_err_and, on_ok_weaker}
 use Rattle.quota_pages.specs.Used.{shown_over}
 use Rattle.tree_change.specs.declared.clearing.Cleared.{Cleared}
@@ -6,8 +6,6 @@ use Rattle.tree_change.specs.Clears.{LosesRecord}
 use Rattle.tree_change.proofs.ChangeFaultLemmas.{of_later}
 use Rattle.tree_change.proofs.RefusedLemmas.{awaited_no_tree}
 use Rattle.tree_change.proofs.RemovedLemmas.{full_in_no_tree, last_in_no_tree, removed_last, removed_of_full, removed_with_room}
-use Rattle.quota_pages.proofs.UsedLemmas.{shown_over-lends}
-use Rattle.tree_change.proofs.HeaderStaysLemmas.{one_apart}
 use Rattle.tree_change.proofs.removing.remove_entry.Goals as goal
 
 pub returns-in_err-clear_record-clause-refused : goal.returns-in_err-clear_record-clause-refused
@@ -71,18 +69,3 @@ returns-in-HadRoom-clause-removed g c = λ known.
     let between : List ℕ = shown_over (g.S.Store.seen c.clear_record.new.store) c.clear_record.new.pages in
     removed_with_room c.args.format c.args.id c.args.block old between c.args.heads.now
     (subst (λ (cleared : Cleared). LosesRecord c.args.format c.args.block c.args.id cleared old between) c.in-HadRoom.is (clears.cleared known))
-
-pub returns-in-Last-clause-header : goal.returns-in-Last-clause-header
-returns-in-Last-clause-header g c =
-    on_ok_weaker c.give_up.result
-    (λ after above. after above ∙ (shown_over-lends c.in_ok-clear_record.ensures.lends).others 0 (one_apart c.args.block above))
-    c.give_up.ensures.header
-
-pub returns-in-WasFull-clause-header : goal.returns-in-WasFull-clause-header
-returns-in-WasFull-clause-header g c =
-    on_ok_weaker c.enter_list.result
-    (λ after above. after above ∙ (shown_over-lends c.in_ok-clear_record.ensures.lends).others 0 (one_apart c.args.block above))
-    c.enter_list.ensures.header
-
-pub returns-in-HadRoom-clause-header : goal.returns-in-HadRoom-clause-header
-returns-in-HadRoom-clause-header g c = λ above. (shown_over-lends c.in_ok-clear_record.ensures.lends).others 0 (one_apart c.args.block above)

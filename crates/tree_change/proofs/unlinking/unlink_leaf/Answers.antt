@@ -15,7 +15,7 @@ returns-clause-unlinked g c =
     on_ok_weaker
     {P = IsKnown S.tells (S.seen c.unlink.new.store) c.unlink.new.pages → GivesHeld emptied (shown_over (S.seen c.unlink.new.store) c.unlink.new.pages) (shown_over (S.seen c.give_all.new.store) c.give_all.new.pages) c.args.heads.now c.give_all.new.heads}
     c.give_all.result
-    (λ gives known. unlinks_leaf way emptied c.args.id _ _ _ c.args.heads.now c.give_all.new.heads c.requires.found (omega (arith, c.ranges.id.fits))
+    (λ gives known. unlinks_leaf way emptied c.args.id _ _ _ c.args.heads.now c.give_all.new.heads c.requires.found (omega (arith, c.ranges.id.fits)) gone.answered c.give_all.ensures.blocks
     (gone.words known) (gone.emptied known) (gone.loses known) (shown_over-lends gone.lends) (gives (gone.lends.known known)))
     (rw c.as_slice.ensures.value at c.give_all.ensures.given)
 
