@@ -10,8 +10,10 @@ use Rattle.entry_codec.specs.Header.{AreOf, header_of}
 use Rattle.entry_codec.specs.declared.header.Header.{Header}
 use Rattle.free_chains.specs.declared.heads.Heads.{Heads}
 use Rattle.quota_radix.specs.Tree.{data_blocks}
+use Rattle.tree_build.specs.IsTree.{heads_of}
 use Rattle.tree_build.specs.TreeFile.{TreeStandsFor}
 use Rattle.tree_file.specs.InPlace.{ChangesTree, MayChange}
+use Rattle.tree_change.specs.Freed.{FreesBlocks, freed_blocks}
 use Rattle.tree_change.specs.Putting.{PutsRecord}
 use Rattle.tree_change.specs.Removal.{RemovesRecord}
 use Rattle.tree_file.proofs.InPlaceLemmas.{KeepsHead}
@@ -27,6 +29,7 @@ put_changes limit id rec value old new heads small stands few puts =
       few = few;
       changed = record {
         at_least = omega (arith, puts.at_least, blocks);
+        sum = sym blocks ∙ puts.sum;
         growth = λ more. sym (ap (λ (h : Heads). h.free) puts.heads_are) ∙ puts.growth (omega (arith, more, blocks));
         new_data = λ block stands none. puts.new_data block (subst (λ (n : ℕ). StandsIn (data_blocks new n) block) (sym blocks) stands) none;
       };
@@ -42,7 +45,10 @@ remove_changes id value old new heads stands there removes =
       stands = removes.stands;
       heads_are = removes.heads_are;
       few = omega (arith, removes.blocks);
-      changed = record { blocks = sym blocks ∙ removes.blocks };
+      changed = record {
+        blocks = sym blocks ∙ removes.blocks;
+        freed = subst (λ (h : Heads). FreesBlocks (freed_blocks old new h.blocks id) old new (heads_of (header_of old)) h) removes.heads_are removes.freed;
+      };
       room = wanted_removed old value id stands ∙ sym removes.blocks;
       busy = there;
     }

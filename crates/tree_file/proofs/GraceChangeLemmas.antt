@@ -24,7 +24,7 @@ use Rattle.quota_blocks.proofs.ChangesLemmas.{IsWanted, changes-done, changes-to
 use Rattle.quota_pages.specs.Flushed.{IsPartlyFlushed, flushed_files}
 use Rattle.quota_pages.specs.Page.{IsClean, Page, is_lent, shown}
 use Rattle.quota_pages.specs.Pages.{name_of, pages_of}
-use Rattle.quota_pages.specs.Used.{IsKnown, file_of, shown_over}
+use Rattle.quota_pages.specs.Used.{IsKnown, file_under, shown_over}
 use Rattle.quota_pages.specs.declared.page_buffer.Pages.{Pages}
 use Rattle.quota_pages.proofs.PageLemmas.{IsClean-nil, shown-nil}
 use Rattle.quota_pages.proofs.UsedLemmas.{same_file}
@@ -50,7 +50,7 @@ err_then (Err fault) then fact = then fact
 pub known_empty : (tells : Bool) (seen : StoreSeen) (buffer : Pages) → pages_of buffer ≡ [] → IsTrue tells → IsKnown tells seen buffer
 known_empty tells seen buffer empty told = record {
   told = told;
-  clean = subst (λ (pages : List Page). IsClean pages (file_of seen buffer)) (sym empty) (IsClean-nil (file_of seen buffer));
+  clean = subst (λ (pages : List Page). IsClean pages (file_under seen buffer)) (sym empty) (IsClean-nil (file_under seen buffer));
 }
 
 -- the first block was lent for writing, over an empty buffer, and the grace periods were set in what is shown
@@ -64,15 +64,15 @@ module _ (grace : Grace) (before between : StoreSeen) (old lent : Pages) (empty 
       ap (λ (f : World). flushed_files f (name_of lent) (pages_of lent)) files
       ∙ ap (λ (n : List ℕ). flushed_files before.files n (pages_of lent)) name
 
-  graced_shown : IsGraced grace (file_of before old) (shown (pages_of lent) (file_of before old))
+  graced_shown : IsGraced grace (file_under before old) (shown (pages_of lent) (file_under before old))
   graced_shown =
-      subst (λ (file : List ℕ). IsGraced grace file (shown (pages_of lent) (file_of before old)))
-      (ap (λ (pages : List Page). shown pages (file_of before old)) empty ∙ shown-nil (file_of before old))
+      subst (λ (file : List ℕ). IsGraced grace file (shown (pages_of lent) (file_under before old)))
+      (ap (λ (pages : List Page). shown pages (file_under before old)) empty ∙ shown-nil (file_under before old))
       (subst (λ (file : List ℕ). IsGraced grace (shown_over before old) file) (ap (shown (pages_of lent)) (same_file before between old lent name files)) graced)
 
   graces_made : GracesFile grace (name_of old) before.files made
   graces_made = record {
-    after = shown (pages_of lent) (file_of before old);
+    after = shown (pages_of lent) (file_under before old);
     files = flushed_some before.files (name_of old) (pages_of lent) (some_lent (pages_of lent) 0 marked);
     graced = graced_shown;
   }
@@ -167,6 +167,7 @@ changes_graced tells grace one other opened header coming none limit before now 
     subst (λ (n : List ℕ). HoldsTree tells (now.files n) (record header { grace = grace }) none limit (with_grace value grace)) (sym name)
     (holds_graced tells grace one before.files now.files header coming none limit value done nothing holds))
     (λ value holds. makes_graced tells grace one before.files now.files header coming limit value done holds)
+    (λ value holds. writes)
     synced (ap (λ (n : List ℕ). seen_in opened n header.format limit) name) leaves
     (record { reads = omega (arith, reads); writes = omega (arith, writes) })
 

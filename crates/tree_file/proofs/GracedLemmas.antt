@@ -113,19 +113,3 @@ zero_at : (count k : ℕ) → ◌≡◌ {A = ℕ} (get_or (replicate count 0) k 
 zero_at zero k = refl
 zero_at (suc count) zero = refl
 zero_at (suc count) (suc k) = zero_at count k
-
--- the header of a block into which the beginning of a file was copied, with zeros behind it, is that of the file
-pub header_copied : (bytes copied : List ℕ) (count : ℕ) → count ≡ min (length bytes) 1024 → copied ≡ take count bytes → header_of (copied ++ drop count (replicate 1024 0)) ≡ header_of bytes
-header_copied bytes copied count few is = same_header (copied ++ drop count (replicate 1024 0)) bytes
-    (λ k low. elim (cases_lt k count) [
-      | inl within ↦
-          get_or_append_left copied (drop count (replicate 1024 0)) 0 k (omega (arith, within, few, ap (λ (xs : List ℕ). length xs) is, length-take count bytes))
-          ∙ ap (λ (xs : List ℕ). get_or xs k 0) is ∙ get_or-take count bytes k 0 within
-      | inr past ↦
-          let end : length bytes ≤ k = omega (arith, past, few, low) in
-          let place : length copied ≤ k = omega (arith, past, few, ap (λ (xs : List ℕ). length xs) is, length-take count bytes) in
-          get_or-append_right copied (drop count (replicate 1024 0)) k 0 place
-          ∙ get_or-drop count (replicate 1024 0) (k - length copied) 0
-          ∙ zero_at 1024 (count + (k - length copied))
-          ∙ sym (get_or_past bytes k 0 end)
-    ])

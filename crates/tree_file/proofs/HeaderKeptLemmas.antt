@@ -1,19 +1,14 @@
 -- A file whose header and blocks are those of another one, but maybe for the grace periods, stands for the same value with
 -- other grace periods.
-use Rattle.std.proofs.Common.{◌≡◌, ℕ, ◌*◌, ◌<◌, ◌≤◌, List, length, take, drop, sym, ap, subst, ◌∙◌, inl, inr, arith}
-use Rattle.std.proofs.lemmas.Bool.{cases_lt}
-use Rattle.std.proofs.lemmas.List.{length-take-le, take_all, take-append-drop}
-use Rattle.quota_types.proofs.BytesLemmas.{number_at-take}
+use Rattle.std.proofs.Common.{◌≡◌, ℕ, ◌*◌, ◌<◌, ◌≤◌, List, length, sym, ap, subst, ◌∙◌, arith}
 use Rattle.quota_types.specs.declared.file_kind.Format.{Format}
 use Rattle.quota_types.specs.declared.record.Grace.{Grace}
 use Rattle.quota_blocks.specs.QuotaValue.{QuotaValue, with_grace}
 use Rattle.entry_codec.specs.Header.{HeaderNumbers, format_of, header_of}
 use Rattle.quota_blocks.specs.Block.{block_of}
-use Rattle.tree_build.specs.NewFile.{KeepsBlocks}
 use Rattle.tree_build.specs.Loose.{nothing_loose}
 use Rattle.tree_build.specs.Roles.{Chained, Filled, OneRole}
 use Rattle.tree_build.specs.TreeFile.{IsSound, TreeStandsFor, record_in, tree_record}
-use Rattle.tree_build.proofs.NewFileLemmas.{kept_append}
 use Rattle.tree_file.proofs.SameBlocksLemmas.{KeepsTree, SameBlocks, chained_same, filled_same, one_role_same, record_same, same_tree}
 
 -- a header says the same, but maybe for the grace periods
@@ -24,17 +19,6 @@ pub record KeepsHeader (old new : HeaderNumbers) : Type 0 where
   pub blocks : new.blocks ≡ old.blocks
   pub free : new.free ≡ old.free
   pub first : new.first ≡ old.first
-
--- a header that is the same says the same
-pub same_numbers : (old new : HeaderNumbers) → new ≡ old → KeepsHeader old new
-same_numbers old new same = record {
-  magic = ap (λ (n : HeaderNumbers). n.magic) same;
-  version = ap (λ (n : HeaderNumbers). n.version) same;
-  flags = ap (λ (n : HeaderNumbers). n.flags) same;
-  blocks = ap (λ (n : HeaderNumbers). n.blocks) same;
-  free = ap (λ (n : HeaderNumbers). n.free) same;
-  first = ap (λ (n : HeaderNumbers). n.first) same;
-}
 
 -- a file is sound with the tree and the lists of a sound one
 pub sound_kept : (format : Format) (old new : List ℕ) → IsSound format old (length old) (header_of old) → KeepsHeader (header_of old) (header_of new) → KeepsTree format (header_of old).blocks old new
@@ -65,26 +49,3 @@ stands_kept old new value grace stands kept same long block inode =
           ∙ sym (record_same value.format old new (header_of old).blocks stands.sound.two tree id (λ block some low. ap (λ (bytes : List ℕ). record_in value.format bytes id) (same block some low)))
           ∙ ap (λ (n : ℕ). tree_record value.format new n id) (sym kept.blocks);
     }
-
--- the header is within what was taken of a file
-pub header_of-take : (most : ℕ) (file : List ℕ) → 32 ≤ most → header_of (take most file) ≡ header_of file
-header_of-take most file le = λ i. record {
-  magic = number_at-take 4 most file 0 (omega (arith, le)) i;
-  version = number_at-take 4 most file 4 (omega (arith, le)) i;
-  block_grace = number_at-take 4 most file 8 (omega (arith, le)) i;
-  inode_grace = number_at-take 4 most file 12 (omega (arith, le)) i;
-  flags = number_at-take 4 most file 16 (omega (arith, le)) i;
-  blocks = number_at-take 4 most file 20 (omega (arith, le)) i;
-  free = number_at-take 4 most file 24 (omega (arith, le)) i;
-  first = number_at-take 4 most file 28 (omega (arith, le)) i;
-}
-
--- the first blocks of a file are blocks of it
-pub first_blocks_same : (blocks : ℕ) (file : List ℕ) → KeepsBlocks blocks file (take (1024 * blocks) file)
-first_blocks_same blocks file number low = elim (cases_lt (length file) (1024 * blocks)) [
-  | inl short ↦ ap (λ (bytes : List ℕ). block_of bytes number) (take_all (1024 * blocks) file (omega arith))
-  | inr long ↦
-      let whole : length (take (1024 * blocks) file) ≡ 1024 * blocks = omega (arith, length-take-le (1024 * blocks) file long) in
-      sym (kept_append (take (1024 * blocks) file) (drop (1024 * blocks) file) blocks whole number low)
-      ∙ ap (λ (bytes : List ℕ). block_of bytes number) (take-append-drop (1024 * blocks) file)
-]

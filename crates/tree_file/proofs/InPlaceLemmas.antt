@@ -18,7 +18,7 @@ use Rattle.quota_blocks.specs.QuotaFile.{CountsRefusal, is_store_fault}
 use Rattle.quota_blocks.specs.QuotaValue.{QuotaValue, Records}
 use Rattle.quota_blocks.specs.declared.file_use.FileUse.{FileUse}
 use Rattle.quota_blocks.specs.declared.quota_file.FileFault.{FileFault}
-use Rattle.quota_blocks.proofs.ChangesLemmas.{IsWanted, changes-done, changes-refused, changes-torn, changes-unwritten}
+use Rattle.quota_blocks.proofs.ChangesLemmas.{IsBounded, IsWanted, changes-done, changes-refused, changes-torn, changes-unwritten}
 use Rattle.tree_build.specs.IsTree.{heads_of}
 use Rattle.tree_build.specs.Size.{ids_in}
 use Rattle.tree_build.specs.TreeFile.{TreeStandsFor}
@@ -31,7 +31,7 @@ use Rattle.tree_file.specs.Faults.{file_fault}
 use Rattle.tree_file.specs.InPlace.{ChangesTree, EndsEarly, IsLeftSo, IsNoFileOf, MayChange, WritesSo}
 use Rattle.tree_file.specs.Opened.{HoldsTree, with_heads}
 use Rattle.tree_file.specs.Room.{blocks_wanted}
-use Rattle.tree_file.specs.TreeChange.{MakesFew, TreeChanged, TreeMakes, tree_at, tree_laws}
+use Rattle.tree_file.specs.TreeChange.{MakesFew, TreeChanged, TreeMakes, tree_at, tree_done_writes, tree_laws}
 use Rattle.tree_file.specs.declared.coming.Coming.{Coming}
 use Rattle.tree_file.proofs.HeldLemmas.{held_file, held_header}
 
@@ -134,16 +134,18 @@ module _ (tells : Bool) (change : FileChange) (limit : ℕ) (name : List ℕ) (b
   -- a record was put, or taken away
   pub changes_made : (heads : Heads) (now : StoreSeen) (other : List ℕ) (none : Coming) (told : Unit {0}) → other ≡ name → ((records : Records) → HoldsComing records none)
       → (IsTrue tells → WritesSo (MayChange limit change header heads) name before.files now.files)
+      → ((value : QuotaValue) → held value → now.writes ≤ before.writes + tree_done_writes old.seen value change)
       → (IsTrue tells → IsSynced name before now) → ReplacesOne name before now
-      → now.reads ≤ before.reads + 12 → now.writes ≤ before.writes + 12
+      → IsBounded change (tree_laws tells) old (tree_at tells other opened (with_heads header heads) none limit now)
       → Changes change (tree_laws tells) old (tree_at tells other opened (with_heads header heads) none limit now) (Ok told)
-  changes_made heads now other none told same nothing done synced leaves reads writes =
+  changes_made heads now other none told same nothing done writes synced leaves bounded =
       changes-done change (tree_laws tells) old (tree_at tells other opened (with_heads header heads) none limit now) told
       (wanted heads now.files done)
       (λ value holds. subst (λ (n : List ℕ). HoldsTree tells (now.files n) (with_heads header heads) none limit (changed_value change value)) (sym same) (holds_so heads now.files done none nothing value holds))
       (makes_so heads now.files done)
+      writes
       synced (ap (λ (n : List ℕ). seen_in opened n header.format limit) same) leaves
-      (record { reads = omega (arith, reads); writes = omega (arith, writes) })
+      bounded
 
   -- what is left where the store failed while it was written
   module _ (left : World) (torn : IsTrue tells → IsLeftSo (MayChange limit change header) name before.files left) where
@@ -160,13 +162,13 @@ module _ (tells : Bool) (change : FileChange) (limit : ℕ) (name : List ℕ) (b
       → ((blocks most : ℕ) → full blocks most → (value : QuotaValue) → held value → has_nothing_to_do change value ≡ false)
       → EndsEarly tells (MayChange limit change header) name before now fault
       → ((n : List ℕ) → CountsRefusal (not (is_store_fault (file_fault fault))) (seen_in opened n header.format limit) (seen_in then n header.format limit))
-      → ReplacesOne name before now → now.reads ≤ before.reads + 12 → now.writes ≤ before.writes + 12
+      → ReplacesOne name before now → IsBounded change (tree_laws tells) old (tree_at tells other then header coming limit now)
       → Changes change (tree_laws tells) old (tree_at tells other then header coming limit now) (Err (file_fault fault))
-  changes_ended now other then full Store same cause lacking busy (inl read) counted leaves reads writes =
+  changes_ended now other then full Store same cause lacking busy (inl read) counted leaves bounded =
       changes-unwritten change (tree_laws tells) old (tree_at tells other then header coming limit now) cause tt
       (subst (λ (n : List ℕ). CountsRefusal false (seen_in opened name header.format limit) (seen_in then n header.format limit)) (sym same) (counted name))
-      read (record { reads = omega (arith, reads); writes = omega (arith, writes) })
-  changes_ended now other then full Store same cause lacking busy (inr torn) counted leaves reads writes =
+      read bounded
+  changes_ended now other then full Store same cause lacking busy (inr torn) counted leaves bounded =
       changes-torn change (tree_laws tells) old (tree_at tells other then header coming limit now)
       (wanted_torn now.files torn.1) cause tt
       (subst (λ (n : List ℕ). CountsRefusal false (seen_in opened name header.format limit) (seen_in then n header.format limit)) (sym same) (counted name))
@@ -179,8 +181,8 @@ module _ (tells : Bool) (change : FileChange) (limit : ℕ) (name : List ℕ) (b
         });
         between = λ told. let so = torn.1 told in inr (so.after name, so.left);
       })
-      leaves (record { reads = omega (arith, reads); writes = omega (arith, writes) })
-  changes_ended now other then full (Damaged damage) same cause lacking busy ended counted leaves reads writes =
+      leaves bounded
+  changes_ended now other then full (Damaged damage) same cause lacking busy ended counted leaves bounded =
       let none : (value : QuotaValue) → ¬ (held value) = λ value holds.
       cause.1 holds.told (held_header tells (before.files name) header coming limit value holds) value (held_file tells (before.files name) header coming limit value holds) in
       elim ended [
@@ -188,10 +190,10 @@ module _ (tells : Bool) (change : FileChange) (limit : ℕ) (name : List ℕ) (b
             changes-refused change (tree_laws tells) old (tree_at tells other then header coming limit now) (file_fault (Damaged damage)) refl
             none cause.0 tt (λ value holds. absurd (none value holds))
             (subst (λ (n : List ℕ). CountsRefusal true (seen_in opened name header.format limit) (seen_in then n header.format limit)) (sym same) (counted name))
-            (λ value holds. absurd (none value holds)) read (record { reads = omega (arith, reads); writes = omega (arith, writes) })
+            (λ value holds. absurd (none value holds)) read bounded
         | inr torn ↦ absurd cc
       ]
-  changes_ended now other then full (Full blocks most) same cause lacking busy ended counted leaves reads writes =
+  changes_ended now other then full (Full blocks most) same cause lacking busy ended counted leaves bounded =
       elim ended [
         | inl read ↦
             changes-refused change (tree_laws tells) old (tree_at tells other then header coming limit now) (file_fault (Full blocks most)) refl
@@ -199,7 +201,7 @@ module _ (tells : Bool) (change : FileChange) (limit : ℕ) (name : List ℕ) (b
             (subst (λ (n : List ℕ). CountsRefusal true (seen_in opened name header.format limit) (seen_in then n header.format limit)) (sym same) (counted name))
             (λ value holds. subst (λ (n : List ℕ). HoldsTree tells (now.files n) header coming limit value) (sym same)
             (subst (λ (f : World). HoldsTree tells (f name) header coming limit value) (sym read.files) holds))
-            read (record { reads = omega (arith, reads); writes = omega (arith, writes) })
+            read bounded
         | inr torn ↦ absurd cc
       ]
 

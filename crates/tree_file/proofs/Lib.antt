@@ -7,7 +7,6 @@ pub mod GracedLemmas
 pub mod HeaderKeptLemmas
 pub mod HeldLemmas
 pub mod InPlaceLemmas
-pub mod LoadingLemmas
 pub mod LookupLemmas
 pub mod LooksUpLemmas
 pub mod NextLemmas

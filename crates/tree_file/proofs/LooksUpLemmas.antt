@@ -16,7 +16,7 @@ use Rattle.entry_codec.specs.declared.header.Header.{Header}
 use Rattle.file_blocks.specs.Block.{bytes_of}
 use Rattle.quota_pages.specs.Page.{Page, shown}
 use Rattle.quota_pages.specs.Pages.{name_of, pages_of}
-use Rattle.quota_pages.specs.Used.{IsKnown, file_of, shown_over}
+use Rattle.quota_pages.specs.Used.{IsKnown, file_under, shown_over}
 use Rattle.quota_pages.specs.declared.page_buffer.Pages.{Pages}
 use Rattle.quota_radix.specs.WalkFault.{IsWalkFault}
 use Rattle.quota_radix.specs.declared.walk_fault.WalkFault.{WalkFault}
@@ -37,7 +37,7 @@ use Rattle.tree_file.proofs.WalkFaultLemmas.{SaysOf}
 -- an empty buffer shows the named file
 pub shown_empty : (seen : StoreSeen) (pages : Pages) → pages_of pages ≡ [] → bytes_of (seen.files (name_of pages)) ≡ shown_over seen pages
 unfolding shown
-shown_empty seen pages empty = sym (ap (λ (ps : List Page). shown ps (file_of seen pages)) empty)
+shown_empty seen pages empty = sym (ap (λ (ps : List Page). shown ps (file_under seen pages)) empty)
 
 module _ (tells : Bool) (seen : StoreSeen) (pages : Pages) (header : Header) (coming : Coming) (limit : ℕ) (value : QuotaValue) (empty : pages_of pages ≡ [])
     (held : HoldsTree tells (seen.files (name_of pages)) header coming limit value) where

@@ -64,13 +64,6 @@ leaf_damage header file leaf damage of is fault =
 same_format : (header : Header) (file : List ℕ) (value : QuotaValue) → AreOf header (header_of file) → TreeStandsFor file value → value.format ≡ header.format
 same_format header file value of stands = let same : Some value.format ≡ Some header.format = sym stands.version ∙ of.version in cc
 
-pub leaf_refused : (header : Header) (file : List ℕ) (leaf : TreePath) (damage : Damage) → AreOf header (header_of file) → IsLeaf file header.blocks leaf
-    → IsLeafFault header.format file leaf damage → StandsForNone file
-leaf_refused header file leaf damage of is fault = λ value stands.
-    no_defect_of_sound value.format file (header_of file) stands.sound damage
-    (leaf_defect value.format file (header_of file) leaf damage (subst (λ (blocks : ℕ). IsLeaf file blocks leaf) (sym of.blocks) is)
-    (subst (λ (format : Format). IsLeafFault format file leaf damage) (sym (same_format header file value of stands)) fault))
-
 -- the record of an identifier in a value is that of its leaf
 value_record : (header : Header) (file : List ℕ) (value : QuotaValue) (id : ℕ) → AreOf header (header_of file) → TreeStandsFor file value
     → get value.records id ≡ tree_record header.format file header.blocks id
@@ -136,18 +129,3 @@ next_leaf file blocks from leaf is =
 pub on_err : {T E : Type 0} (P : Type 0) (result : Result T E) → P → OnErr result P
 on_err P (Ok x) p = tt
 on_err P (Err e) p = p
-
--- a fact of the damage that a call hands on
-pub on_same : {T : Type 0} (P : Damage → Type 0) (result : Result T Damage) (damage : Damage) → IsErrAnd result (λ e. e ≡ damage) → P damage → IfErr result P
-on_same P (Ok x) damage is p = tt
-on_same P (Err e) damage is p = subst P (sym is) p
-
--- in a file that stands for a value each leaf has a record
-leaf_record : (header : Header) (file : List ℕ) (leaf : TreePath) → AreOf header (header_of file) → IsLeaf file header.blocks leaf → (value : QuotaValue) → TreeStandsFor file value
-    → (rec : Rec) × (record_in header.format (block_of file leaf.block) leaf.number ≡ Some rec)
-leaf_record header file leaf of is value stands = elim (option_cases (record_in header.format (block_of file leaf.block) leaf.number)) [
-  | inl none ↦
-      let damage : Damage = record { kind = MissingEntry; block = leaf.block; id = leaf.number } in
-      absurd (leaf_refused header file leaf damage of is (record { kind = refl; block = refl; id = refl; none = none }) value stands)
-  | inr there ↦ there
-]

@@ -1,5 +1,5 @@
 -- What is seen of a tree file by whoever opens it: by its first block, and by its check.
-use Rattle.std.proofs.Common.{◌≡◌, ℕ, ◌≤◌, Bool, IsTrue, List, take, Option, Some, None, Ok, sym, ap, subst, ◌∙◌, arith}
+use Rattle.std.proofs.Common.{◌≡◌, ℕ, ◌≤◌, Bool, IsTrue, List, Option, Some, None, Ok, sym, ap, subst, ◌∙◌, arith}
 use Rattle.std.proofs.lemmas.Bool.{true≢false}
 use Rattle.std.specs.Prelude.{IsSome}
 use Rattle.std.specs.Option.{IsSomeAnd}
@@ -15,7 +15,7 @@ use Rattle.file_blocks.specs.declared.check_fault.CheckFault.{CheckFault}
 use Rattle.file_blocks.specs.declared.check_fault.CheckFault.TheVariants.{Store as CheckStore, Damage as CheckDamage, Memory as CheckMemory}
 use Rattle.quota_blocks.specs.CheckFault.{IsCheckFault}
 use Rattle.quota_blocks.specs.Opening.{open_fault}
-use Rattle.quota_blocks.specs.Block.{bytes_of}
+use Rattle.quota_blocks.specs.Block.{block_of, bytes_of}
 use Rattle.tree_build.specs.Defect.{IsTreeDefect}
 use Rattle.tree_check.specs.Check.{IsChecked}
 use Rattle.tree_check.specs.declared.checked.Checked.{Checked}
@@ -24,26 +24,26 @@ use Rattle.tree_file.specs.Opened.{HoldsTree}
 use Rattle.tree_file.specs.declared.coming.Coming.{Coming}
 use Rattle.tree_build.specs.TreeFile.{TreeStandsFor}
 use Rattle.tree_file.specs.View.{FitsRequest, HasHeader, IsAsAsked, IsDamaged, IsRefusedHeader, IsTreeFault, IsTreeView}
-use Rattle.tree_file.proofs.HeaderKeptLemmas.{header_of-take}
+use Rattle.tree_build.proofs.HeaderLemmas.{header_in_block}
 use Rattle.tree_build.proofs.MeaningLemmas.{header_format, header_kind}
 
 -- the header of the first block is that of the file
-pub header_seen : (first file : List ℕ) → first ≡ take 1024 file → header_of first ≡ header_of file
-header_seen first file is = ap header_of is ∙ header_of-take 1024 file (omega arith)
+pub header_seen : (first file : List ℕ) → first ≡ block_of file 0 → header_of first ≡ header_of file
+header_seen first file is = ap header_of is ∙ header_in_block file
 
 -- and the file has the numbers of its header
-pub are_seen : (first file : List ℕ) (header : Header) → first ≡ take 1024 file → AreOf header (header_of first) → AreOf header (header_of file)
+pub are_seen : (first file : List ℕ) (header : Header) → first ≡ block_of file 0 → AreOf header (header_of first) → AreOf header (header_of file)
 are_seen first file header is are = subst (AreOf header) (header_seen first file is) are
 
 -- what is said of the header of the first block is said of the file
-said_of_file : (named : Option (List ℕ)) (first : List ℕ) (say : HeaderNumbers → Type 0) → IsSome named → first ≡ take 1024 (bytes_of named) → say (header_of first)
+said_of_file : (named : Option (List ℕ)) (first : List ℕ) (say : HeaderNumbers → Type 0) → IsSome named → first ≡ block_of (bytes_of named) 0 → say (header_of first)
     → IsSomeAnd named (λ file. say (header_of file))
 said_of_file None first say there is said = absurd (true≢false (sym there))
 said_of_file (Some file) first say there is said = subst say (header_seen first file is) said
 
 -- a refusal by the header is one of the file
 pub header_refused : (before now limit : ℕ) (tells : Bool) (named : Option (List ℕ)) (kind : Kind) (asked : Option Format) (first : List ℕ) (fault : OpenFault)
-    → (IsTrue tells → IsSome named) → (IsTrue tells → first ≡ take 1024 (bytes_of named)) → FitsRequest asked limit fault → IsRefusedHeader kind asked limit fault (header_of first)
+    → (IsTrue tells → IsSome named) → (IsTrue tells → first ≡ block_of (bytes_of named) 0) → FitsRequest asked limit fault → IsRefusedHeader kind asked limit fault (header_of first)
     → IsTreeFault before now tells named kind asked limit fault
 header_refused before now limit tells named kind asked first Store there is fits refused = absurd refused
 header_refused before now limit tells named kind asked first NoFile there is fits refused = absurd refused
@@ -65,7 +65,7 @@ header_refused before now limit tells named kind asked first (FormatMismatch fou
 -- the file begins with a header of the kind and of the format that was asked for, of no more blocks than there may be
 pub record Begins (tells : Bool) (named : Option (List ℕ)) (kind : Kind) (asked : Option Format) (limit : ℕ) (first : List ℕ) (header : Header) : Type 0 where
   pub there : IsTrue tells → IsSome named
-  pub is : IsTrue tells → first ≡ take 1024 (bytes_of named)
+  pub is : IsTrue tells → first ≡ block_of (bytes_of named) 0
   pub are : AreOf header (header_of first)
   pub accepted : HasHeader kind (header_of first) header.format
   pub of_kind : header.kind ≡ kind

@@ -1,5 +1,7 @@
--- Why a record is not put into an opened tree file, for want of room.
-use Rattle.std.proofs.Common.{◌≡◌, ℕ, ◌^◌, ◌<◌, Bool, IsTrue, List, Option, Some, refl, sym, ap, subst, ◌∙◌}
+-- Why a record is not put into an opened tree file, for want of room, and how many blocks are written where it is.
+use Rattle.std.proofs.Common.{◌≡◌, ℕ, ◌+◌, ◌^◌, ◌<◌, ◌≤◌, Bool, IsTrue, List, Option, None, Some, refl, sym, ap, subst, ◌∙◌}
+use Rattle.std.specs.Prelude.{IsSome}
+use Rattle.std.specs.FinMap.{get}
 use Rattle.quota_types.specs.declared.record.Rec.{Rec}
 use Rattle.outside.specs.Seen.{StoreSeen}
 use Rattle.file_blocks.specs.Block.{bytes_of}
@@ -12,9 +14,10 @@ use Rattle.quota_blocks.specs.declared.file_use.FileUse.{FileUse}
 use Rattle.tree_build.specs.IsTree.{heads_of}
 use Rattle.tree_build.specs.Size.{ids_in}
 use Rattle.tree_build.specs.TreeFile.{TreeStandsFor}
+use Rattle.tree_file.specs.Opened.{HoldsTree}
 use Rattle.tree_file.specs.Room.{blocks_wanted}
 use Rattle.tree_change.specs.Putting.{blocks_with}
-use Rattle.tree_file.specs.TreeChange.{tree_at, tree_laws}
+use Rattle.tree_file.specs.TreeChange.{blocks_put, tree_at, tree_laws}
 use Rattle.tree_file.specs.declared.coming.Coming.{Coming}
 use Rattle.tree_file.proofs.HeldLemmas.{held_file, held_header, there_bytes}
 use Rattle.tree_file.proofs.RoomLemmas.{wanted_put}
@@ -43,3 +46,17 @@ put_lacks id rec tells limit name before opened header coming blocks most small 
       ),
       (full.0, passes),
     )
+
+few_put : (before now : ℕ) (found : Option Rec) → (IsSome found → now ≤ before + 1) → now ≤ before + 12 → now ≤ before + blocks_put found
+few_put before now None known few = few
+few_put before now (Some rec) known few = known refl
+
+-- where the identifier has a record, that is written over
+pub put_few : (id : ℕ) (tells : Bool) (name : List ℕ) (before now : StoreSeen) (header : Header) (coming : Coming) (limit : ℕ)
+    → (IsTrue tells → AreOf header (header_of (bytes_of (before.files name))) → (value : QuotaValue) → TreeStandsFor (bytes_of (before.files name)) value
+    → IsSome (get value.records id) → now.writes ≤ before.writes + 1)
+    → now.writes ≤ before.writes + 12
+    → (value : QuotaValue) → HoldsTree tells (before.files name) header coming limit value → now.writes ≤ before.writes + blocks_put (get value.records id)
+put_few id tells name before now header coming limit known few value holds =
+    few_put before.writes now.writes (get value.records id)
+    (known holds.told (held_header tells (before.files name) header coming limit value holds) value (held_file tells (before.files name) header coming limit value holds)) few

@@ -16,11 +16,15 @@ use Rattle.entry_codec.specs.declared.header.Header.{Header}
 use Rattle.quota_blocks.specs.Changes.{Changes}
 use Rattle.quota_blocks.specs.FileChange.{Remove}
 use Rattle.quota_blocks.specs.FileUse.{seen_in}
+use Rattle.quota_blocks.specs.QuotaFile.{IfFull}
 use Rattle.quota_blocks.specs.QuotaValue.{QuotaValue, Records, without_record}
 use Rattle.quota_blocks.specs.declared.file_use.FileUse.{FileUse}
 use Rattle.quota_blocks.proofs.ChangesLemmas.{changes-idle}
 use Rattle.tree_build.specs.TreeFile.{TreeStandsFor}
+use Rattle.tree_change.specs.ChangeFault.{IsChangeFault}
 use Rattle.tree_change.specs.declared.change_fault.ChangeFault.{ChangeFault}
+use Rattle.tree_change.specs.declared.change_fault.ChangeFault.TheVariants.{Store as NotChanged, Damage as Damaged, Full as IsFull}
+use Rattle.tree_file.specs.Faults.{file_fault}
 use Rattle.tree_file.specs.InPlace.{EndsEarly, MayChange, WritesSo}
 use Rattle.tree_file.specs.Opened.{HoldsTree}
 use Rattle.tree_file.specs.TreeChange.{tree_at, tree_laws}
@@ -77,6 +81,12 @@ ended_within id limit header tells name before now fault few ended = elim ended 
     },
   )
 ]
+
+-- a removal is never refused since the file is full
+pub never_full : (before now : ℕ) (none : Type 0) (fault : ChangeFault) → IsChangeFault before now none (λ blocks most. ⊥) fault → IfFull (file_fault fault) (λ blocks most. ⊥)
+never_full before now none NotChanged cause = tt
+never_full before now none (Damaged damage) cause = tt
+never_full before now none (IsFull blocks most) cause = cause
 
 -- an identifier without a record: nothing was done
 pub changes_absent : (id : ℕ) (tells : Bool) (name other : List ℕ) (before now : StoreSeen) (opened : FileUse) (header : Header) (coming : Coming) (limit : ℕ) → other ≡ name

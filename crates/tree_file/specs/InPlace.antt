@@ -2,7 +2,7 @@
 use Rattle.std.specs.Prelude.{◌≡◌, ◌⊎◌, ℕ, ◌≤◌, Bool, false, IsTrue, IsSome, List, Some}
 use Rattle.entry_codec.specs.Header.{AreOf, header_of}
 use Rattle.entry_codec.specs.declared.header.Header.{Header}
-use Rattle.file_blocks.specs.Block.{bytes_of}
+use Rattle.file_blocks.specs.Block.{file_of}
 use Rattle.free_chains.specs.declared.heads.Heads.{Heads}
 use Rattle.outside.specs.Frame.{OnlyReads}
 use Rattle.outside.specs.Seen.{StoreSeen}
@@ -35,7 +35,7 @@ MayChange limit change header heads before after =
 -- The named file, where there is one, has bytes that are related so to those that it had, and no other file has changed.
 pub record WritesSo (so : List ℕ → List ℕ → Type 0) (name : List ℕ) (old new : World) : Type 0 where
   pub there : IsSome (old name) → IsSome (new name)
-  pub related : so (bytes_of (old name)) (bytes_of (new name))
+  pub related : so (file_of old name) (file_of new name)
   pub others : KeepsOthers name old new
 
 -- The named file is as it was, or lies between the old file and one that has bytes that are related so to those that it had.
@@ -50,6 +50,10 @@ abbrev pub EndsEarly : (tells : Bool) → (so : Heads → List ℕ → List ℕ 
 EndsEarly tells so name before now fault =
     OnlyReads false name before now ⊎ ((fault ≡ Store) × (IsTrue tells → IsLeftSo so name before.files now.files))
 
+-- where the store tells its files and this file has the header, something holds of each value for which it stands
+abbrev pub OfEachValue : (tells : Bool) → Header → List ℕ → (holds : QuotaValue → Type 0) → Type 0
+OfEachValue tells header file holds = IsTrue tells → AreOf header (header_of file) → (value : QuotaValue) → TreeStandsFor file value → holds value
+
 -- no file with this header stands for a value
 abbrev pub IsNoFileOf : (tells : Bool) → Header → List ℕ → Type 0
-IsNoFileOf tells header file = IsTrue tells → AreOf header (header_of file) → (value : QuotaValue) → ¬ TreeStandsFor file value
+IsNoFileOf tells header file = OfEachValue tells header file (λ _. ⊥)

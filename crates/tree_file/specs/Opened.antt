@@ -35,12 +35,12 @@ pub record LacksRoom (seen : FileSeen) (file : Option (List ℕ)) (value : Quota
   pub passes : limit < blocks
 
 -- The faults that a call on an opened tree file may answer, whatever the store tells: a damage names an identifier only where
--- its kind does.
+-- its kind does, and memory is never wanting.
 abbrev pub MayRefuse : FileFault → Type 0
 MayRefuse Store = ⊤
 MayRefuse (Damage damage) = NamesItsId damage.kind damage.id
 MayRefuse (Full _ _) = ⊤
-MayRefuse Memory = ⊤
+MayRefuse Memory = ⊥
 
 -- A damage is one of the named file, where the store tells that and it has the header that is kept.
 abbrev pub IsNamedDefect : Bool → (named : Option (List ℕ)) → Header → Damaged → Type 0

@@ -1,12 +1,15 @@
 -- What a change of a tree file makes of the files.
-use Rattle.std.specs.Prelude.{◌≡◌, ◌⊎◌, ℕ, ◌<◌, ◌≤◌, max, Bool, IsSome, IsSomeAnd, List, length, Option}
+use Rattle.std.specs.Prelude.{◌≡◌, ◌⊎◌, ℕ, ◌<◌, ◌≤◌, max, Bool, IsSome, IsSomeAnd, List, length, Option, None, Some}
+use Rattle.std.specs.FinMap.{get}
 use Rattle.quota_types.specs.declared.record.Grace.{Grace}
+use Rattle.quota_types.specs.declared.record.Rec.{Rec}
 use Rattle.quota_types.specs.Bytes.{number_at}
 use Rattle.quota_types.specs.Times.{StandsIn, times}
 use Rattle.quota_blocks.specs.Changes.{FileAt, FileLaws, file_at, laws_of}
 use Rattle.quota_blocks.specs.FileChange.{FileChange, Put, Remove, SetGrace}
 use Rattle.quota_blocks.specs.FileUse.{seen_in}
 use Rattle.quota_blocks.specs.QuotaFile.{FileSeen}
+use Rattle.quota_blocks.specs.QuotaValue.{QuotaValue}
 use Rattle.quota_blocks.specs.Seen.{StoreSeen}
 use Rattle.quota_blocks.specs.Span.{KeepsOutside}
 use Rattle.quota_blocks.specs.World.{KeepsOthers, World}
@@ -18,19 +21,25 @@ use Rattle.quota_pages.specs.Used.{KeepsBlocksBut}
 use Rattle.quota_radix.specs.Tree.{data_blocks}
 use Rattle.tree_file.specs.Opened.{HoldsTree, LacksRoom, MayRefuse}
 use Rattle.tree_file.specs.declared.coming.Coming.{Coming}
+use Rattle.tree_build.specs.IsTree.{heads_of}
 use Rattle.tree_build.specs.TreeFile.{TreeStandsFor}
+use Rattle.tree_change.specs.Freed.{FreesBlocks, freed_blocks}
+use Rattle.tree_change.specs.Putting.{blocks_with}
 
--- A record was put: there are no fewer blocks, and more only where none is free then; and a block became a data block only where none
--- had room.
-pub record PutsInPlace (before after : List ℕ) : Type 0 where
+-- A record of an identifier was put: there are as many blocks as that takes, no fewer than before, and more only where none is free then;
+-- and a block became a data block only where none had room.
+pub record PutsInPlace (id : ℕ) (before after : List ℕ) : Type 0 where
   pub at_least : (header_of before).blocks ≤ (header_of after).blocks
+  pub sum : (header_of after).blocks ≡ blocks_with before (heads_of (header_of before)) id
   pub growth : (header_of before).blocks < (header_of after).blocks → (header_of after).free ≡ 0
   pub new_data : (block : ℕ) → StandsIn (data_blocks after (header_of after).blocks) block → times (data_blocks before (header_of before).blocks) block ≡ 0
       → (header_of before).first ≡ 0
 
--- A record was taken away: there are as many blocks as before.
-pub record RemovesInPlace (before after : List ℕ) : Type 0 where
+-- The record of an identifier was taken away: there are as many blocks as before, and those that it freed stand before the free ones, with
+-- nothing but their links.
+pub record RemovesInPlace (id : ℕ) (before after : List ℕ) : Type 0 where
   pub blocks : (header_of after).blocks ≡ (header_of before).blocks
+  pub freed : FreesBlocks (freed_blocks before after (header_of after).blocks id) before after (heads_of (header_of before)) (heads_of (header_of after))
 
 -- The grace periods were set where they stand: all bytes stay but those of the two, and a file that is shorter than its first
 -- block has the whole of it.
@@ -51,8 +60,8 @@ MakesFew limit so before after = so before after × ((header_of after).blocks �
 
 -- what a change makes of the bytes of a file, beside the value for which it stands then
 abbrev pub TreeChanged : FileChange → List ℕ → List ℕ → Type 0
-TreeChanged (Put id rec) = PutsInPlace
-TreeChanged (Remove id) = RemovesInPlace
+TreeChanged (Put id rec) = PutsInPlace id
+TreeChanged (Remove id) = RemovesInPlace id
 TreeChanged (SetGrace grace) = IsGraced grace
 
 -- what a change that was not idle makes of the files: it changes the named one in place
@@ -70,19 +79,36 @@ pub record IsTorn (before made left : List ℕ) : Type 0 where
 abbrev pub TreeLeaves : (old after left : Option (List ℕ)) → Type 0
 TreeLeaves old after left = (left ≡ old) ⊎ (IsSome left × IsTorn (bytes_of old) (bytes_of after) (bytes_of left))
 
+-- how many blocks a change of a tree file looks at, and writes, at most: the grace periods stand in one
+abbrev pub most_blocks : FileChange → ℕ
+most_blocks (Put id rec) = 12
+most_blocks (Remove id) = 12
+most_blocks (SetGrace grace) = 1
+
 -- how many calls of `read` a change of a tree file makes at most
 abbrev pub tree_change_reads : FileSeen → FileChange → ℕ
-tree_change_reads seen change = 12
+tree_change_reads seen change = most_blocks change
 
 -- how many calls of `write` it makes at most
 abbrev pub tree_change_writes : FileSeen → FileChange → ℕ
-tree_change_writes seen change = 12
+tree_change_writes seen change = most_blocks change
+
+-- how many blocks a put that succeeds writes at most, by the record that the identifier had: where there was one, that is written over
+abbrev pub blocks_put : Option Rec → ℕ
+blocks_put None = 12
+blocks_put (Some rec) = 1
+
+-- how many calls of `write` a change makes at most that succeeds on a file that stands for this value
+abbrev pub tree_done_writes : FileSeen → QuotaValue → FileChange → ℕ
+tree_done_writes seen value (Put id rec) = blocks_put (get value.records id)
+tree_done_writes seen value (Remove id) = 12
+tree_done_writes seen value (SetGrace grace) = 1
 
 -- what is said of all changes of opened tree files, whose store tells its files or doesn't
 abbrev pub tree_laws : Bool → FileLaws
 tree_laws tells =
     laws_of tells (λ _ file value. TreeStandsFor file value) (λ seen change. TreeMakes seen.limit change) (λ _ _ old after left. TreeLeaves old after left)
-    (λ seen file _ value blocks limit. LacksRoom seen file value blocks limit) (λ _ fault. MayRefuse fault) tree_change_reads tree_change_writes
+    (λ seen file _ value blocks limit. LacksRoom seen file value blocks limit) (λ _ fault. MayRefuse fault) tree_change_reads tree_change_writes tree_done_writes
 
 -- an opened tree file of this name with this header and these answers that come next, which may have so many blocks, with its store
 abbrev pub tree_at : Bool → (name : List ℕ) → FileUse → Header → Coming → ℕ → StoreSeen → FileAt

@@ -1,7 +1,7 @@
 ghost use Rattle.std.specs.Prelude.{◌≡◌, ◌+◌, ◌≤◌, [], IsTrue, OnErr, OnOk};
 ghost use Rattle.outside.specs.Count.{Rose};
 ghost use Rattle.outside.specs.Frame.{ChangesOne, IsSynced};
-ghost use Rattle.file_blocks.specs.Block.{bytes_of};
+ghost use Rattle.file_blocks.specs.Block.{file_of};
 ghost use Rattle.quota_blocks.specs.QuotaFile.{ChangesBlocks};
 ghost use Rattle.quota_pages.specs.Flushed.{IsPartlyFlushed, flushed_files};
 ghost use Rattle.quota_pages.specs.Page.{lent_count};
@@ -22,8 +22,8 @@ pub(crate) fn finish<S: Store>(pages: &mut Pages, store: &mut S) -> Result<(), S
         → IsSynced (name_of pages.old) (S.seen store.old) (S.seen store.new)) }
     ensures torn { OnErr result (IsTrue S.tells
         → IsPartlyFlushed (name_of pages.old) (pages_of pages.old) (S.seen store.old).files (S.seen store.new).files) }
-    ensures few { IsTrue S.tells → ChangesBlocks 12 (bytes_of ((S.seen store.old).files (name_of pages.old)))
-        (bytes_of ((S.seen store.new).files (name_of pages.old))) }
+    ensures few { IsTrue S.tells → ChangesBlocks 12 (file_of (S.seen store.old).files (name_of pages.old))
+        (file_of (S.seen store.new).files (name_of pages.old)) }
     ensures cause { OnErr result (Rose (S.seen store.old).faults (S.seen store.new).faults) }
     ensures leaves { ChangesOne (name_of pages.old) (S.seen store.old) (S.seen store.new) }
     ensures writes { (S.seen store.new).writes ≤ (S.seen store.old).writes + lent_count (pages_of pages.old) }

@@ -2,7 +2,7 @@ ghost use Rattle.std.specs.Prelude.{◌≡◌, ◌+◌, ◌∷◌, ◌^◌, ◌<
 ghost use Rattle.outside.specs.Count.{Rose};
 ghost use Rattle.outside.specs.Frame.{IsSynced, ReplacesOne};
 ghost use Rattle.outside.specs.World.{KeepsOthers};
-ghost use Rattle.file_blocks.specs.Block.{bytes_of};
+ghost use Rattle.file_blocks.specs.Block.{file_of};
 ghost use Rattle.quota_blocks.specs.QuotaFile.{ChangesBlocks};
 ghost use Rattle.quota_blocks.specs.Span.{KeepsOutside};
 ghost use Rattle.quota_pages.specs.Page.{is_lent};
@@ -82,8 +82,8 @@ pub(crate) fn set_grace_in<S: Store>(
         → IsGraceLeft grace (name_of pages.old) (S.seen store.old).files (S.seen store.new).files) }
     ensures cause { OnErr result (Rose (S.seen store.old).faults (S.seen store.new).faults) }
     ensures leaves { ReplacesOne (name_of pages.old) (S.seen store.old) (S.seen store.new) }
-    ensures few { IsTrue S.tells → ChangesBlocks 12 (bytes_of ((S.seen store.old).files (name_of pages.old)))
-        (bytes_of ((S.seen store.new).files (name_of pages.old))) }
+    ensures few { IsTrue S.tells → ChangesBlocks 12 (file_of (S.seen store.old).files (name_of pages.old))
+        (file_of (S.seen store.new).files (name_of pages.old)) }
     ensures others { KeepsOthers (name_of pages.old) (S.seen store.old).files (S.seen store.new).files }
     ensures reads { (S.seen store.new).reads ≤ (S.seen store.old).reads + 1 }
     ensures writes { (S.seen store.new).writes ≤ (S.seen store.old).writes + 1 }

@@ -1,21 +1,19 @@
 //! Records that are put into a tree file, and taken out of one, where they stand.
 
-ghost use Rattle.std.specs.Prelude.{◌≡◌, ◌+◌, ◌<◌, ◌≤◌, [], ℕ, None, Some, is_none, true, IfErr, IfOk, IfSome, IsTrue, OnOk};
+ghost use Rattle.std.specs.Prelude.{◌≡◌, ◌+◌, ◌<◌, ◌≤◌, [], ℕ, None, Some, is_none, true, IfErr, IfOk, IfSome, IsSome, IsTrue, OnOk};
 ghost use Rattle.std.specs.FinMap.{get};
-ghost use Rattle.entry_codec.specs.Header.{AreOf, header_of};
-ghost use Rattle.file_blocks.specs.Block.{bytes_of};
+ghost use Rattle.entry_codec.specs.Header.{header_of};
+ghost use Rattle.file_blocks.specs.Block.{file_of};
 ghost use Rattle.outside.specs.Frame.{IsSynced, OnlyReads, ReplacesOne};
 ghost use Rattle.outside.specs.World.{KeepsOthers};
-ghost use Rattle.quota_blocks.specs.FileChange.{FileChange, Put, Remove};
+ghost use Rattle.quota_blocks.specs.FileChange.{Put, Remove};
 ghost use Rattle.quota_blocks.specs.QuotaFile.{ChangesBlocks};
-ghost use Rattle.quota_blocks.specs.QuotaValue.{QuotaValue};
 ghost use Rattle.quota_pages.specs.Pages.{name_of, pages_of};
 ghost use Rattle.quota_types.specs.Format.{IsTreeFormat};
 ghost use Rattle.quota_types.specs.Kept.{IsKept};
 ghost use Rattle.tree_build.specs.IsTree.{heads_of};
-ghost use Rattle.tree_build.specs.TreeFile.{TreeStandsFor};
 ghost use Rattle.tree_change.specs.ChangeFault.{IsChangeFault};
-ghost use Rattle.tree_file.specs.InPlace.{EndsEarly, IsNoFileOf, MayChange, WritesSo};
+ghost use Rattle.tree_file.specs.InPlace.{EndsEarly, IsNoFileOf, MayChange, OfEachValue, WritesSo};
 ghost use Rattle.tree_change.specs.Putting.{blocks_with};
 
 use crate::finishing::finish;
@@ -27,7 +25,7 @@ use quota_types::Rec;
 use tree_change::{ChangeFault, put_record, remove_record};
 
 /// Gives an identifier this record in a file with this header, which may have so many blocks, and syncs it. Answers the
-/// heads that the header has then. The buffer is empty before and then.
+/// heads that the header has then. The buffer is empty before and then. A record that is there already costs one write.
 ///
 /// # Errors
 ///
@@ -50,19 +48,21 @@ pub(crate) fn put_in<S: Store>(
         → WritesSo (MayChange limit (Put id rec.now) header.now heads) (name_of pages.old)
         (S.seen store.old).files (S.seen store.new).files) }
     ensures heads { IfOk result (λ heads. (2 ≤ heads.blocks) × (heads.blocks ≤ limit)) }
+    ensures known { OnOk result
+        (OfEachValue S.tells header.now (file_of (S.seen store.old).files (name_of pages.old)) (λ value.
+        IsSome (get value.records id) → (S.seen store.new).writes ≤ (S.seen store.old).writes + 1)) }
     ensures synced { OnOk result (IsTrue S.tells
         → IsSynced (name_of pages.old) (S.seen store.old) (S.seen store.new)) }
     ensures refused { IfErr result (IsChangeFault (S.seen store.old).faults (S.seen store.new).faults
-        (IsNoFileOf S.tells header.now (bytes_of ((S.seen store.old).files (name_of pages.old))))
-        (λ blocks most. (most ≡ limit) × (limit < blocks) × (IsTrue S.tells
-        → AreOf header.now (header_of (bytes_of ((S.seen store.old).files (name_of pages.old)))) → (value : QuotaValue)
-        → TreeStandsFor (bytes_of ((S.seen store.old).files (name_of pages.old))) value
-        → blocks ≡ blocks_with (bytes_of ((S.seen store.old).files (name_of pages.old)))
-        (heads_of (header_of (bytes_of ((S.seen store.old).files (name_of pages.old))))) id))) }
+        (IsNoFileOf S.tells header.now (file_of (S.seen store.old).files (name_of pages.old)))
+        (λ blocks most. (most ≡ limit) × (limit < blocks)
+        × OfEachValue S.tells header.now (file_of (S.seen store.old).files (name_of pages.old)) (λ _.
+        blocks ≡ blocks_with (file_of (S.seen store.old).files (name_of pages.old))
+        (heads_of (header_of (file_of (S.seen store.old).files (name_of pages.old)))) id))) }
     ensures ended { IfErr result (EndsEarly S.tells (MayChange limit (Put id rec.now) header.now) (name_of pages.old)
         (S.seen store.old) (S.seen store.new)) }
-    ensures few { IsTrue S.tells → ChangesBlocks 12 (bytes_of ((S.seen store.old).files (name_of pages.old)))
-        (bytes_of ((S.seen store.new).files (name_of pages.old))) }
+    ensures few { IsTrue S.tells → ChangesBlocks 12 (file_of (S.seen store.old).files (name_of pages.old))
+        (file_of (S.seen store.new).files (name_of pages.old)) }
     ensures others { KeepsOthers (name_of pages.old) (S.seen store.old).files (S.seen store.new).files }
     ensures leaves { ReplacesOne (name_of pages.old) (S.seen store.old) (S.seen store.new) }
     ensures reads { (S.seen store.new).reads ≤ (S.seen store.old).reads + 12 }
@@ -101,20 +101,19 @@ pub(crate) fn remove_in<S: Store>(
         → WritesSo (MayChange header.now.blocks (Remove id) header.now heads) (name_of pages.old)
         (S.seen store.old).files (S.seen store.new).files)) }
     ensures heads { IfOk result (λ found. IfSome found (λ heads. heads.blocks ≡ header.now.blocks)) }
-    ensures found { IfOk result (λ found. IsTrue S.tells
-        → AreOf header.now (header_of (bytes_of ((S.seen store.old).files (name_of pages.old)))) → (value : QuotaValue)
-        → TreeStandsFor (bytes_of ((S.seen store.old).files (name_of pages.old))) value
-        → is_none (get value.records id) ≡ is_none found) }
+    ensures found { IfOk result (λ found.
+        OfEachValue S.tells header.now (file_of (S.seen store.old).files (name_of pages.old)) (λ value.
+        is_none (get value.records id) ≡ is_none found)) }
     ensures absent { IfOk result (λ found. found ≡ None
         → OnlyReads true (name_of pages.old) (S.seen store.old) (S.seen store.new)) }
     ensures synced { OnOk result (IsTrue S.tells
         → IsSynced (name_of pages.old) (S.seen store.old) (S.seen store.new)) }
     ensures refused { IfErr result (IsChangeFault (S.seen store.old).faults (S.seen store.new).faults
-        (IsNoFileOf S.tells header.now (bytes_of ((S.seen store.old).files (name_of pages.old)))) (λ _ _. ⊥)) }
+        (IsNoFileOf S.tells header.now (file_of (S.seen store.old).files (name_of pages.old))) (λ _ _. ⊥)) }
     ensures ended { IfErr result (EndsEarly S.tells (MayChange header.now.blocks (Remove id) header.now)
         (name_of pages.old) (S.seen store.old) (S.seen store.new)) }
-    ensures few { IsTrue S.tells → ChangesBlocks 12 (bytes_of ((S.seen store.old).files (name_of pages.old)))
-        (bytes_of ((S.seen store.new).files (name_of pages.old))) }
+    ensures few { IsTrue S.tells → ChangesBlocks 12 (file_of (S.seen store.old).files (name_of pages.old))
+        (file_of (S.seen store.new).files (name_of pages.old)) }
     ensures others { KeepsOthers (name_of pages.old) (S.seen store.old).files (S.seen store.new).files }
     ensures leaves { ReplacesOne (name_of pages.old) (S.seen store.old) (S.seen store.new) }
     ensures reads { (S.seen store.new).reads ≤ (S.seen store.old).reads + 12 }

@@ -5,12 +5,10 @@
 #![tactic(auto)]
 
 mod coming;
-mod file_header;
 mod finishing;
 mod grace_change;
 mod in_place;
 pub mod laws;
-mod loading;
 mod lookup;
 mod opened_tree;
 mod opening;

@@ -24,7 +24,7 @@ use tree_change::ChangeFault;
 ///
 /// A look-up goes down the tree and reads as many blocks as are on the way: at most five for a record, and eight for the next
 /// one, whose neighbours are kept so that they are answered without a read. A change is made in place: it reads and writes
-/// twelve blocks at most, and syncs the file once.
+/// twelve blocks at most, writes one where a record or the grace periods are written over, and syncs the file once.
 #[derive(Drop)]
 pub struct TreeFile {
     pub(crate) pages: Pages,
@@ -92,7 +92,7 @@ impl<S: Store> QuotaFile<S> for TreeFile {
     ghost use Rattle.quota_blocks.specs.FileUse.{seen_in};
     ghost use Rattle.tree_file.specs.Opened.{HoldsTree, IsNamedDefect, LacksRoom, MayRefuse};
     ghost use Rattle.tree_file.specs.Rests.{held_stands, rests_on_named};
-    ghost use Rattle.tree_file.specs.TreeChange.{TreeLeaves, TreeMakes, tree_change_reads, tree_change_writes};
+    ghost use Rattle.tree_file.specs.TreeChange.{TreeLeaves, TreeMakes, tree_change_reads, tree_change_writes, tree_done_writes};
 
     ghost holds = { λ file store value. HoldsTree S.tells ((S.seen store).files (name_of file.pages))
         file.header file.coming file.limit value };
@@ -121,6 +121,8 @@ impl<S: Store> QuotaFile<S> for TreeFile {
     ghost change_reads = { tree_change_reads };
 
     ghost change_writes = { tree_change_writes };
+
+    ghost done_writes = { tree_done_writes };
 
     ghost rests_on_named = { λ file one other value named held.
         rests_on_named _ _ _ file.header file.coming file.limit value named held };

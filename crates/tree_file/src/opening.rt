@@ -1,4 +1,4 @@
-ghost use Rattle.std.specs.Prelude.{◌≡◌, ◌≢◌, ◌+◌, ◌*◌, ◌<◌, ◌≤◌, ℕ, List, Option, take, true, vec_len, None, Ok, Some, IsTrue, IfErr, IfOk, IfSome, IsSome, IsSomeAnd, OnOk, is_ok, max};
+ghost use Rattle.std.specs.Prelude.{◌≡◌, ◌≢◌, ◌+◌, ◌*◌, ◌<◌, ◌≤◌, ℕ, List, Option, true, None, Ok, Some, IsTrue, IfErr, IfOk, IfSome, IsSome, IsSomeAnd, OnOk, is_ok, max};
 ghost use Rattle.entry_codec.specs.Header.{AreOf, header_of};
 ghost use Rattle.quota_types.specs.Format.{IsTreeFormat};
 ghost use Rattle.quota_types.specs.Range.{grace_unfit};
@@ -9,16 +9,15 @@ ghost use Rattle.quota_blocks.specs.Frame.{OnlyReads};
 ghost use Rattle.quota_blocks.specs.QuotaValue.{QuotaValue};
 ghost use Rattle.std.specs.Bool.{OnFalse, OnTrue};
 ghost use Rattle.quota_blocks.specs.CheckFault.{IsCheckFault};
-ghost use Rattle.quota_blocks.specs.Block.{bytes_of};
+ghost use Rattle.quota_blocks.specs.Block.{block_of, file_of};
 ghost use Rattle.tree_build.specs.Defect.{IsTreeDefect};
 ghost use Rattle.tree_build.specs.TreeFile.{TreeStandsFor};
 ghost use Rattle.tree_file.specs.View.{FitsRequest, HasHeader, IsAsAsked, IsRefusedHeader, IsTreeFault, IsTreeView};
 
 use crate::TreeFile;
 use crate::coming::Coming;
-use crate::file_header::header_in;
-use crate::loading::append_block;
-use entry_codec::{Header, HeaderFault};
+use entry_codec::{Header, HeaderFault, read_header};
+use file_blocks::read_block;
 use quota_blocks::{BLOCK, FileUse, OpenFault, QuotaFile, Store};
 use quota_pages::Pages;
 use quota_types::{Format, Kind};
@@ -62,14 +61,14 @@ pub fn open_tree<S: Store>(
         ((S.seen store.old).files name.now) kind format limit) }
     ensures leaves { OnlyReads (is_ok result) name.now (S.seen store.old) (S.seen store.new) }
     ensures reads { IsTrue S.tells → (S.seen store.new).reads
-        ≤ (S.seen store.old).reads + 1 + 2 * (header_of (bytes_of ((S.seen store.old).files name.now))).blocks }
+        ≤ (S.seen store.old).reads + 1 + 2 * (header_of (file_of (S.seen store.old).files name.now)).blocks }
 {
     let own_name = match String::from_str(alloc, name) {
         Ok(own_name) => own_name,
         Err(_) => return Err(OpenFault::Memory),
     };
-    let first = first_block(alloc, store, name)?;
-    let header = accepted_header(first.as_slice(), kind, format, limit)?;
+    let first = first_block(store, name)?;
+    let header = accepted_header(&first, kind, format, limit)?;
     check(alloc, store, name, &header)?;
     Ok(TreeFile {
         pages: Pages::new(own_name),
@@ -80,12 +79,11 @@ pub fn open_tree<S: Store>(
     })
 }
 
-/// The bytes that a file has of its first block.
-fn first_block<S: Store>(alloc: Global, store: &mut S, name: &str) -> Result<Vec<u8>, OpenFault>
+/// The first block of a file that is there. Bytes past the end of the file are 0.
+fn first_block<S: Store>(store: &mut S, name: &str) -> Result<[u8; BLOCK], OpenFault>
     ensures there { OnOk result (IsTrue S.tells → IsSome ((S.seen store.old).files name.now)) }
-    ensures loaded { IfOk result (λ first. IsTrue S.tells
-        → first.items ≡ take 1024 (bytes_of ((S.seen store.old).files name.now))) }
-    ensures within { IfOk result (λ first. vec_len first ≤ 1024) }
+    ensures bytes { IfOk result (λ first. IsTrue S.tells
+        → first ≡ block_of (file_of (S.seen store.old).files name.now) 0) }
     ensures refused { IfErr result (λ fault. (kind : Kind) (asked : Option Format) (limit : ℕ)
         → IsTreeFault (S.seen store.old).faults (S.seen store.new).faults S.tells
         ((S.seen store.old).files name.now) kind asked limit fault) }
@@ -97,15 +95,17 @@ fn first_block<S: Store>(alloc: Global, store: &mut S, name: &str) -> Result<Vec
         Ok(None) => return Err(OpenFault::NoFile),
         Err(_) => return Err(OpenFault::Store),
     }
-    let mut first = Vec::new(alloc);
-    append_block(store, name, 0, &mut first, &mut [0; BLOCK])?;
-    Ok(first)
+    let mut first = [0; BLOCK];
+    match read_block(store, name, 0, &mut first) {
+        Ok(()) => Ok(first),
+        Err(_) => Err(OpenFault::Store),
+    }
 }
 
 /// The header that a file begins with, where it is one of the kind, of the format that is asked for, where one is, and of at
 /// most `limit` blocks.
 fn accepted_header(
-    first: &[u8],
+    first: &[u8; BLOCK],
     kind: Kind,
     format: Option<Format>,
     limit: u32,
@@ -121,7 +121,7 @@ fn accepted_header(
     ensures fits { IfErr result (FitsRequest format limit) }
     ensures refused { IfErr result (λ fault. IsRefusedHeader kind format limit fault (header_of first.now)) }
 {
-    let header = match header_in(first, kind) {
+    let header = match read_header(first, kind) {
         Ok(header) => header,
         Err(HeaderFault::NotQuota) => return Err(OpenFault::NotQuota),
         Err(HeaderFault::WrongKind) => return Err(OpenFault::WrongKind),

@@ -1,9 +1,11 @@
-use Rattle.std.proofs.Common.{true, inr, arith}
+use Rattle.std.proofs.Common.{◌+◌, ◌≤◌, true, inr, arith}
+use Rattle.std.specs.Prelude.{IsSome}
+use Rattle.std.specs.FinMap.{get}
 use Rattle.std.proofs.lemmas.Result.{err_from_is_err_and}
 use Rattle.quota_blocks.specs.FileChange.{Put}
 use Rattle.tree_file.specs.InPlace.{MayChange}
 use Rattle.tree_file.proofs.ChangedLemmas.{put_changes}
-use Rattle.tree_file.proofs.FlushedLemmas.{left_so, refused_shown, written}
+use Rattle.tree_file.proofs.FlushedLemmas.{left_so, of_named, refused_shown, written}
 use Rattle.tree_file.proofs.GraceChangeLemmas.{known_empty}
 use Rattle.tree_file.proofs.in_place.put_in.Goals as goal
 
@@ -16,6 +18,13 @@ returns-in_ok-finish-in-Ok-clause-done g c = λ told.
     (λ of value stands. put_changes c.args.limit c.args.id c.args.rec.now value _ _ c.in-Ok.heads (omega arith) stands put.few.1
     (put.shown (known_empty S.tells (S.seen c.args.store.now) c.args.pages.now c.requires.empty told) of value stands))
     (S.seen c.finish.new.store).files (c.in_ok-finish-in-Ok.ensures.flushed told)
+
+pub returns-in_ok-finish-in-Ok-clause-known : goal.returns-in_ok-finish-in-Ok-clause-known
+returns-in_ok-finish-in-Ok-clause-known g c =
+    let S = g.S.Store in
+    of_named S.tells (S.seen c.args.store.now) c.args.pages.now c.requires.empty c.args.header.now
+    (λ file value. IsSome (get value.records c.args.id) → (S.seen c.finish.new.store).writes ≤ (S.seen c.args.store.now).writes + 1)
+    (λ known of value stands there. omega (arith, c.in-Ok.ensures.known known of value stands there, c.in_ok-finish-in-Ok.ensures.writes, c.in-Ok.ensures.uses.leaves.writes))
 
 pub returns-in_err-finish-in-Ok-clause-ended : goal.returns-in_err-finish-in-Ok-clause-ended
 returns-in_err-finish-in-Ok-clause-ended g c =

@@ -5,7 +5,7 @@ use Rattle.tree_file.specs.Opened.{with_heads}
 use Rattle.tree_file.specs.TreeChange.{tree_at}
 use Rattle.tree_file.proofs.ChangedLemmas.{put_keeps}
 use Rattle.tree_file.proofs.InPlaceLemmas.{changed_as, changes_ended, changes_made}
-use Rattle.tree_file.proofs.PutLemmas.{put_lacks}
+use Rattle.tree_file.proofs.PutLemmas.{put_few, put_lacks}
 use Rattle.tree_file.proofs.opened_tree.TreeFileQuotaFile.put.Goals as goal
 
 pub returns-in-Ok-clause-changes : goal.returns-in-Ok-clause-changes
@@ -18,7 +18,9 @@ returns-in-Ok-clause-changes g c =
     (name_of c.put_in.new.pages) (name_of now.pages) was.opened now.opened (with_heads was.header c.in-Ok.heads) now.header now.coming was.limit now.limit (S.seen c.put_in.new.store) (Ok tt)
     (ap name_of c.has_changed.ensures.pages) c.has_changed.ensures.opened c.has_changed.ensures.header c.has_changed.ensures.limit
     (changes_made S.tells (Put c.args.id c.args.rec) was.limit (name_of was.pages) (S.seen c.args.store.now) was.opened was.header was.coming (put_keeps c.args.id c.args.rec)
-    c.in-Ok.heads (S.seen c.put_in.new.store) (name_of c.put_in.new.pages) c.has_changed.new.self.coming tt done.name c.has_changed.ensures.coming done.done done.synced done.leaves done.reads done.writes)
+    c.in-Ok.heads (S.seen c.put_in.new.store) (name_of c.put_in.new.pages) c.has_changed.new.self.coming tt done.name c.has_changed.ensures.coming done.done
+    (λ value holds. put_few c.args.id S.tells (name_of was.pages) (S.seen c.args.store.now) (S.seen c.put_in.new.store) was.header was.coming was.limit done.known done.writes value holds)
+    done.synced done.leaves (record { reads = done.reads; writes = done.writes }))
 
 pub returns-in-Err-clause-changes : goal.returns-in-Err-clause-changes
 returns-in-Err-clause-changes g c =
@@ -30,4 +32,4 @@ returns-in-Err-clause-changes g c =
     (S.seen c.put_in.new.store) (name_of c.put_in.new.pages) c.refused.new.self _ c.in-Err.fault failed.name failed.refused
     (λ blocks most full. put_lacks c.args.id c.args.rec S.tells was.limit (name_of was.pages) (S.seen c.args.store.now) was.opened was.header was.coming blocks most (omega arith) full)
     (λ blocks most full value holds. refl)
-    failed.ended (λ n. rw c.file_fault.ensures at (c.refused.ensures.counted n was.header.format was.limit)) failed.leaves failed.reads failed.writes))
+    failed.ended (λ n. rw c.file_fault.ensures at (c.refused.ensures.counted n was.header.format was.limit)) failed.leaves (record { reads = failed.reads; writes = failed.writes })))

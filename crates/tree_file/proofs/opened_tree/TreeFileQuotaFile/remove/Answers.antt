@@ -5,7 +5,7 @@ use Rattle.tree_file.specs.Opened.{with_heads}
 use Rattle.tree_file.specs.TreeChange.{tree_at}
 use Rattle.tree_file.proofs.ChangedLemmas.{remove_keeps}
 use Rattle.tree_file.proofs.InPlaceLemmas.{changed_as, changes_ended, changes_made}
-use Rattle.tree_file.proofs.RemoveLemmas.{changes_absent, ended_within, written_within}
+use Rattle.tree_file.proofs.RemoveLemmas.{changes_absent, ended_within, never_full, written_within}
 use Rattle.tree_file.proofs.opened_tree.TreeFileQuotaFile.remove.Goals as goal
 
 pub returns-in-Ok-Some-clause-changes : goal.returns-in-Ok-Some-clause-changes
@@ -19,7 +19,7 @@ returns-in-Ok-Some-clause-changes g c =
     (ap name_of c.has_changed.ensures.pages) c.has_changed.ensures.opened (rw c.in-Ok-Some.field-0-is at c.has_changed.ensures.header) c.has_changed.ensures.limit
     (changes_made S.tells (Remove c.args.id) was.limit (name_of was.pages) (S.seen c.args.store.now) was.opened was.header was.coming (remove_keeps c.args.id)
     c.in-Ok-Some.heads (S.seen c.remove_in.new.store) (name_of c.remove_in.new.pages) c.has_changed.new.self.coming tt done.name c.has_changed.ensures.coming
-    (λ told. written_within c.args.id was.limit was.header c.in-Ok-Some.heads _ _ _ was.few ((rw c.in-Ok-Some.field-0-is at done.done) told)) done.synced done.leaves done.reads done.writes)
+    (λ told. written_within c.args.id was.limit was.header c.in-Ok-Some.heads _ _ _ was.few ((rw c.in-Ok-Some.field-0-is at done.done) told)) (λ value holds. done.writes) done.synced done.leaves (record { reads = done.reads; writes = done.writes }))
 
 pub returns-in-Ok-None-clause-changes : goal.returns-in-Ok-None-clause-changes
 returns-in-Ok-None-clause-changes g c =
@@ -39,4 +39,7 @@ returns-in-Err-clause-changes g c =
     (S.seen c.remove_in.new.store) (name_of c.remove_in.new.pages) c.refused.new.self _ c.in-Err.fault failed.name failed.refused
     (λ blocks most full. absurd full) (λ blocks most full. absurd full)
     (ended_within c.args.id was.limit was.header S.tells (name_of was.pages) (S.seen c.args.store.now) (S.seen c.remove_in.new.store) c.in-Err.fault was.few failed.ended)
-    (λ n. rw c.file_fault.ensures at (c.refused.ensures.counted n was.header.format was.limit)) failed.leaves failed.reads failed.writes))
+    (λ n. rw c.file_fault.ensures at (c.refused.ensures.counted n was.header.format was.limit)) failed.leaves (record { reads = failed.reads; writes = failed.writes })))
+
+pub returns-in-Err-clause-never_full : goal.returns-in-Err-clause-never_full
+returns-in-Err-clause-never_full g c = rw c.refused.ensures.same (rw c.file_fault.ensures (never_full _ _ _ c.in-Err.fault c.in-Err.ensures.refused))
