@@ -84,7 +84,7 @@ if [ "$(id -u)" = 0 ]; then chown 12:34 q; fi
 before=$(stat -c '%a %u %g' q)
 echo junk >q.new
 chmod 400 q.new
-expect 'a file that was left behind' 0 '' '' setquota -F vfsold -u 0 1 1 1 1 q
+expect 'a file that was left behind' 0 '' '' quotacheck -F vfsold q <<<'0 0 1 1 8'
 same 'the owner and the permissions' "$(stat -c '%a %u %g' q)" "$before"
 same 'the length of the new file' "$(stat -c %s q)" 40
 same 'what was left behind is gone' "$(echo q.*)" ''
@@ -97,14 +97,19 @@ expect 'an identifier without room' 1 '' 'quota: q: no room for id 1048576 of 10
 expect 'an edit of an absent file' 1 '' 'quota: r: no such file' setquota -F vfsold -u 1 1 1 0 0 r
 same 'an absent file is not made' "$(echo r*)" ''
 mkdir q.new
-expect 'a folder in place of the new file' 4 '' 'quota: store fault' setquota -F vfsold -u 1 1 1 0 0 q
-expect 'no change needs no new file' 0 '' '' setquota -F vfsold -u 1 0 0 0 0 q
+expect 'a folder in place of the new file' 4 '' 'quota: store fault' quotacheck -F vfsold q <<<'1 0 1 1 8'
 rmdir q.new
 same 'a refused change leaves the file' "$(cmp q want && echo same)" same
+
+# A change in place needs no new file.
+mkdir q.new
+expect 'a change beside such a folder' 0 '' '' setquota -F vfsold -u 1 1 1 0 0 q
+rmdir q.new
+same 'the length of the changed file' "$(stat -c %s q)" 80
 
 # A link in place of the new file is removed, and the file that it leads to stays.
 echo keep >kept
 ln -s kept q.new
-expect 'a link in place of the new file' 0 '' '' setquota -F vfsold -u 1 1 1 0 0 q
+expect 'a link in place of the new file' 0 '' '' quotacheck -F vfsold q <<<'1 0 1 1 8'
 same 'what the link led to' "$(cat kept)" keep
 same 'the file is no link' "$(stat -c %F q)" 'regular file'

@@ -2,26 +2,31 @@
 # A part of real_files.sh, which has what it calls, and runs it in the folder that the parts before it left.
 
 # Another user than root: a file that was left behind and may not be written is not in the way. A permission that is
-# denied, to write in the folder or to read the file, is a fault.
+# denied, to write in the folder where a file is replaced, or to write or to read the file, is a fault.
 mkdir own
 cp want own/q
 : >own/q.new
 chmod 400 own/q.new
 if [ "$(id -u)" = 0 ]; then chown -R 65534:65534 own; fi
 runner=("${somebody[@]}")
-expect 'a file left behind that may not be written' 0 '' '' setquota -F vfsold -u 1 1 1 0 0 own/q
+expect 'a file left behind that may not be written' 0 '' '' quotacheck -F vfsold own/q <<<'1 0 1 1 8'
 cp own/q changed
 chmod 555 own
-expect 'a folder that may not be written' 4 '' 'quota: store fault' setquota -F vfsold -u 2 1 1 0 0 own/q
-chmod 755 own
+expect 'a folder that may not be written' 4 '' 'quota: store fault' quotacheck -F vfsold own/q <<<'2 0 1 1 8'
 same 'the file in that folder' "$(cmp own/q changed && echo same)" same
+expect 'a change in place in that folder' 0 '' '' setquota -F vfsold -u 2 1 1 0 0 own/q
+chmod 755 own
+cp own/q changed
+chmod 444 own/q
+expect 'a file that may not be written' 4 '' 'quota: store fault' setquota -F vfsold -u 3 1 1 0 0 own/q
+same 'that file' "$(cmp own/q changed && echo same)" same
 chmod 0 own/q
 expect 'a file that may not be read' 4 '' 'quota: store fault' repquota -F vfsold -u -v own/q
 
-# order FILE: in which order a change of a file makes, writes, syncs and renames files, and with which mode it makes one.
+# order FILE: in which order the replacement of a file makes, writes, syncs and renames files, and with which mode it makes one.
 # Several writes in a row of one file count as one.
 order() {
-    strace -y -o trace.txt "$folder/program" setquota -F vfsold -u 50 1 1 1 1 "$1"
+    strace -y -o trace.txt "$folder/program" quotacheck -F vfsold "$1" <<<'50 0 1 1 8'
     sed -n -E \
         -e 's/^open[^"]*"([^"]*)".*O_CREAT.*, (0[0-7]*)\) += [0-9].*/make \1 with mode \2/p' \
         -e 's/^p?write[^<]*<([^>]*)>.*/write \1/p' \
@@ -35,12 +40,12 @@ if strace -o trace.txt true 2>err.txt; then
     : >q
     mkdir below
     : >below/q
-    same 'the order of a change' "$(order q)" 'make q.new with mode 0600
+    same 'the order of a replacement' "$(order q)" 'make q.new with mode 0600
 write q.new
 sync q.new
 rename q.new to q
 sync .'
-    same 'the order of a change in another folder' "$(order below/q)" 'make below/q.new with mode 0600
+    same 'the order of a replacement in another folder' "$(order below/q)" 'make below/q.new with mode 0600
 write below/q.new
 sync below/q.new
 rename below/q.new to below/q

@@ -262,10 +262,10 @@ status 3
 ! quota: q: damaged: PartialRecord at record 1
 ";
 
-/// Limits at which calls fail. A whole run makes eight calls of the store: size, read, create, three writes, sync and
-/// rename.
+/// Limits at which calls fail. A whole run makes four calls of the store: the size, a read of record 0, a write and a sync; the
+/// record is not read, since it stands behind the end of the file.
 pub const FAILING: &str = "\
-= each failing call leaves the old file
+= each failing call leaves the old file or the changed one
 zeros 40
 record 1 1 1 1 1 1 0 0
 keep old
@@ -275,7 +275,7 @@ use old
 file q
 run setquota -F vfsold -u 60 2 8 0 0 q
 changes q
-writes 3
+writes 1
 get q
 keep new
 use old
@@ -299,53 +299,25 @@ fails store 4
 run setquota -F vfsold -u 60 2 8 0 0 q
 status 4
 ! quota: store fault
-same q other
-changes q.new
-drop q.new
-fails store 5
-run setquota -F vfsold -u 60 2 8 0 0 q
-status 4
-! quota: store fault
-same q other
-changes q.new
-drop q.new
-fails store 6
-run setquota -F vfsold -u 60 2 8 0 0 q
-status 4
-! quota: store fault
-same q other
-changes q.new
-drop q.new
-fails store 7
-run setquota -F vfsold -u 60 2 8 0 0 q
-status 4
-! quota: store fault
-same q other
-changes q.new
-drop q.new
-fails store 8
-run setquota -F vfsold -u 60 2 8 0 0 q
-status 4
-! quota: store fault
-same q other
-changes q.new
+use new
+holds q
+same other
 
 = an error output that fails takes the line of the fault
 use old
 file q
-fails store 5
+fails store 3
 fails error 1
 run setquota -F vfsold -u 60 2 8 0 0 q
 status 4
 same q
-changes q.new
 
 = calls that a run does not make change nothing of it
 raw other
 file other
 use old
 file q
-fails store 9
+fails store 5
 run setquota -F vfsold -u 60 2 8 0 0 q
 use new
 holds q
@@ -365,7 +337,7 @@ use new
 holds q
 same other
 
-= a new file replaces the old one at each failing call or not at all
+= whichever call fails leaves the old file or the changed one
 use old
 file q
 sweep store setquota -F vfsold -u 60 2 8 0 0 q

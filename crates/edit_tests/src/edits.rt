@@ -132,15 +132,14 @@ fn result_of(answer: Answer) -> Result<Skipped, EditFault> {
     }
 }
 
-/// Whether an edit made as many writes as it may: as many as put the whole of a flat file in the place of the old one; one where
-/// the grace periods of a tree file are set, and one to twelve where a record is; and none where nothing is changed.
+/// Whether an edit made as many writes as it may: one in a flat file, and one where the grace periods of a tree file are set; one
+/// to twelve where a record of a tree file is; and none where nothing is changed.
 fn are_writes(store: &MemStore, row: &EditRow) -> bool {
     let writes = store.writes();
     match (row.answer, row.edit) {
         (Skips | Lacks(_), _) => writes == 0,
-        _ if row.format.is_flat() => writes
-            == store.file("q").unwrap_or(b"").len().div_ceil(1024) as u64,
         (_, SetGrace(..)) => writes == 1,
+        _ if row.format.is_flat() => writes == 1,
         _ => writes >= 1 && writes <= 12,
     }
 }

@@ -1,13 +1,15 @@
 //! The calls of the store.
 
-/// Commands over a flat file of 30 records, and the calls of the store that each makes, in their order.
+/// Commands over a flat file of 30 records, and the calls of the store that each makes, in their order. Opening asks for the size
+/// and reads record 0. A report reads 25 records at a time, and a record that is looked up is read where the file has it. A
+/// change writes one record and syncs the file.
 pub const ORDER: &str = "\
-= a report reads its file piece by piece
+= a report reads its file 25 records at a time
 record 1 1 1 1 1 1 0 0
 again 30
 file q
 run repquota -F vfsold -u -v q
-calls size q; read q; read q;
+calls size q; read q; read q; read q;
 head user q 7days 7days
 > #0           --          1          1          1      -        1        1        1      -
 > #1           --          1          1          1      -        1        1        1      -
@@ -40,20 +42,39 @@ head user q 7days 7days
 > #28          --          1          1          1      -        1        1        1      -
 > #29          --          1          1          1      -        1        1        1      -
 
-= a new file of 3 pieces takes the place of the old one
+= a record behind the end is written where it stands
 record 1 1 1 1 1 1 0 0
 again 30
 file q
 run setquota -F vfsold -u 60 2 8 0 0 q
-calls size q; read q; read q; create q.new; write q.new; write q.new; write q.new; sync q.new; rename q.new q;
+calls size q; read q; write q; sync q;
 changes q
+long q 2440
+
+= a record that is there is read and written over
+record 1 1 1 1 1 1 0 0
+again 30
+file q
+run setquota -F vfsold -u 7 2 8 0 0 q
+calls size q; read q; read q; write q; sync q;
+changes q
+long q 1200
+
+= grace periods are written with the rest of record 0
+record 1 1 1 1 1 1 0 0
+again 30
+file q
+run setquota -F vfsold -t 86400 3600 q
+calls size q; read q; read q; write q; sync q;
+changes q
+long q 1200
 
 = nothing to write
 record 1 1 1 1 1 1 0 0
 again 30
 file q
 run setquota -F vfsold -u 60 0 0 0 0 q
-calls size q; read q; read q;
+calls size q; read q;
 
 = a file that is not there is not read
 record 1 1 1 1 1 1 0 0

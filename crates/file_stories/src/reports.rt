@@ -131,7 +131,7 @@ status 2
 
 /// Reports in which calls fail.
 pub const FAILING: &str = "\
-= the first or the second call of the store fails, and a report has two
+= each of the three calls of the store fails, and a report has no more
 record 2 1 1 2 1 1 0 0
 again 3
 file q
@@ -144,6 +144,10 @@ run repquota -F vfsold -u -v q
 status 4
 ! quota: store fault
 fails store 3
+run repquota -F vfsold -u -v q
+status 4
+! quota: store fault
+fails store 4
 run repquota -F vfsold -u -v q
 head user q 7days 7days
 > #0           --          1          1          2      -        1        1        2      -

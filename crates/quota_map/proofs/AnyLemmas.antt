@@ -3,7 +3,6 @@ use Rattle.std.proofs.Common.{◌≡◌, ◌<◌, ◌≤◌, ℕ, Bool, Result, 
 use Rattle.quota_types.specs.Format.{IsTreeFormat}
 use Rattle.quota_types.specs.declared.file_kind.Format.{Format}
 use Rattle.quota_types.specs.declared.file_kind.Format.TheVariants.{V1 as Flat, V2R0, V2R1}
-use Rattle.std.proofs.lemmas.Bool.{false≢true}
 use Rattle.std.proofs.lemmas.Result.{IfErr-weaker}
 use Rattle.quota_blocks.specs.Changes.{Changes}
 use Rattle.quota_blocks.specs.LooksUp.{LooksUp}
@@ -18,13 +17,13 @@ use Rattle.tree_build.specs.Size.{ids_in}
 use Rattle.tree_build.specs.TreeFile.{TreeStandsFor}
 use Rattle.quota_pages.specs.Pages.{name_of}
 use Rattle.tree_file.specs.Room.{blocks_wanted}
-use Rattle.tree_file.specs.TreeChange.{TreeLeaves, tree_at, tree_change_reads, tree_change_writes, tree_laws}
+use Rattle.tree_file.specs.TreeChange.{TreeLeaves, tree_at, tree_change_reads, tree_change_writes, tree_done_writes, tree_laws}
 use Rattle.tree_file.specs.declared.opened_tree.TreeFile.{TreeFile}
-use Rattle.quota_v1.specs.Opened.{flat_at, flat_laws, most_pieces}
+use Rattle.quota_v1.specs.Opened.{flat_at, flat_laws, most_next_reads}
 use Rattle.quota_v1.specs.declared.flat_file.V1File.{V1File}
 use Rattle.quota_map.specs.declared.any_file.AnyFile.{AnyFile}
 use Rattle.quota_map.specs.declared.any_file.AnyFile.TheVariants.{V1, Tree}
-use Rattle.quota_map.specs.AnyFile.{AnyLeaves, any_at, any_change_reads, any_change_writes, any_get_reads, any_in_place, any_laws, any_next_reads, any_seen, reads_of_change, reads_of_next, writes_of_change}
+use Rattle.quota_map.specs.AnyFile.{AnyLeaves, any_at, any_change_reads, any_change_writes, any_done_writes, any_get_reads, any_in_place, any_laws, any_next_reads, any_seen, done_writes_of, reads_of_change, reads_of_next, writes_of_change}
 use Rattle.quota_map.specs.Rests.{stands_as_tree}
 use Rattle.quota_map.specs.StandsFor.{StandsForAs}
 use Rattle.std.specs.String.{string_bytes}
@@ -42,9 +41,14 @@ never_lacks file value format blocks limit is needs passes =
     omega (arith, none, passes)
 
 -- a change of a flat file makes no more calls of `write` than one of any file may make
-flat_writes : (seen : FileSeen) (change : FileChange) → seen.format ≡ Flat → most_pieces ≤ any_change_writes seen change
+flat_writes : (seen : FileSeen) (change : FileChange) → seen.format ≡ Flat → 1 ≤ any_change_writes seen change
 unfolding any_change_writes
-flat_writes seen change is = subst (λ (f : Format). most_pieces ≤ writes_of_change f seen change) (sym is) (omega arith)
+flat_writes seen change is = subst (λ (f : Format). 1 ≤ writes_of_change f seen change) (sym is) (omega arith)
+
+-- nor of `read`
+flat_reads : (seen : FileSeen) (change : FileChange) → seen.format ≡ Flat → 1 ≤ any_change_reads seen change
+unfolding any_change_reads
+flat_reads seen change is = subst (λ (f : Format). 1 ≤ reads_of_change f seen change) (sym is) (omega arith)
 
 tree_reads_in : (format : Format) (seen : FileSeen) (change : FileChange) → IsTreeFormat format → tree_change_reads seen change ≤ reads_of_change format seen change
 tree_reads_in Flat seen change other = absurd (true≢false other)
@@ -66,6 +70,20 @@ tree_writes : (seen : FileSeen) (change : FileChange) → IsTreeFormat seen.form
 unfolding any_change_writes
 tree_writes seen change other = tree_writes_in seen.format seen change other
 
+-- nor where it succeeds, whatever the format
+flat_done_writes : (seen : FileSeen) (value : QuotaValue) (change : FileChange) → seen.format ≡ Flat → 1 ≤ any_done_writes seen value change
+unfolding any_done_writes
+flat_done_writes seen value change is = subst (λ (f : Format). 1 ≤ done_writes_of f seen value change) (sym is) (omega arith)
+
+done_writes_in : (format : Format) (seen : FileSeen) (value : QuotaValue) (change : FileChange) → IsTreeFormat format → tree_done_writes seen value change ≤ done_writes_of format seen value change
+done_writes_in Flat seen value change other = absurd (true≢false other)
+done_writes_in V2R0 seen value change other = omega arith
+done_writes_in V2R1 seen value change other = omega arith
+
+tree_done : (seen : FileSeen) (value : QuotaValue) (change : FileChange) → IsTreeFormat seen.format → tree_done_writes seen value change ≤ any_done_writes seen value change
+unfolding any_done_writes
+tree_done seen value change other = done_writes_in seen.format seen value change other
+
 -- what a change of a tree file leaves is left as one of its format
 tree_leaves : (format : Format) (old after left : Option (List ℕ)) → IsTreeFormat format → TreeLeaves old after left → AnyLeaves format old after left
 tree_leaves Flat old after left other leaves = absurd (true≢false other)
@@ -78,7 +96,7 @@ stands_tree format bytes value other stands = stands_as_tree format (Some bytes)
 
 -- a change of a flat file
 pub flat_changes : (self : AnyFile) (file file' : V1File) (tells : Bool) (old new : StoreSeen) (change : FileChange) (result : Result (Unit {0}) FileFault) → self ≡ V1 file
-    → Changes change (flat_laws tells) (flat_at tells old (string_bytes file.name) file.opened file.bytes.items) (flat_at tells new (string_bytes file'.name) file'.opened file'.bytes.items) result
+    → Changes change (flat_laws tells) (flat_at tells old (string_bytes file.name) file.opened file.len file.times file.window) (flat_at tells new (string_bytes file'.name) file'.opened file'.len file'.times file'.window) result
     → Changes change (any_laws tells) (any_at tells old self) (any_at tells new (V1 file')) result
 flat_changes self file file' tells old new change result is changes =
     subst (λ (f : AnyFile). Changes change (any_laws tells) (any_at tells old f) (any_at tells new (V1 file')) result) (sym is)
@@ -86,10 +104,11 @@ flat_changes self file file' tells old new change result is changes =
     (record {
       tells = refl;
       stands_for = λ bytes value stands. stands;
-      reads = omega arith;
+      reads = flat_reads (any_seen (V1 file)) change refl;
       writes = flat_writes (any_seen (V1 file)) change refl;
+      done_writes = λ value holds. flat_done_writes (any_seen (V1 file)) value change refl;
       makes = λ files makes. record { flat = λ same. makes; tree = λ other. absurd (true≢false other) };
-      may_leave = λ any before after left same. same;
+      may_leave = λ any before after left leaves. leaves;
       may_refuse = λ fault may. record { flat = λ same. may; tree = λ other. absurd (true≢false other) };
       lacks = λ value blocks limit held lacks. absurd lacks;
       has = λ value blocks limit held lacks.
@@ -113,6 +132,7 @@ tree_changes self file file' tells old new change result is other changes =
       stands_for = λ bytes value. stands_tree file.header.format bytes value other;
       reads = tree_reads (any_seen (Tree file)) change other;
       writes = tree_writes (any_seen (Tree file)) change other;
+      done_writes = λ value holds. tree_done (any_seen (Tree file)) value change other;
       makes = λ files makes. record { flat = λ same. absurd (true≢false (sym same ∙ other)); tree = λ other. makes };
       may_leave = λ any before after left. tree_leaves file.header.format before after left other;
       may_refuse = λ fault may. record { flat = λ same. absurd (true≢false (sym same ∙ other)); tree = λ other. may };
@@ -135,9 +155,18 @@ pub tree_next_few : (seen : FileSeen) (file : Option (List ℕ)) → IsTreeForma
 unfolding any_next_reads
 tree_next_few seen file other = next_few_in seen.format other
 
+-- nor does one in a flat file
+pub flat_get_few : 1 ≤ any_get_reads
+unfolding any_get_reads
+flat_get_few = omega arith
+
+pub flat_next_few : (seen : FileSeen) (file : Option (List ℕ)) → seen.format ≡ Flat → most_next_reads ≤ any_next_reads seen file
+unfolding any_next_reads
+flat_next_few seen file is = subst (λ (f : Format). most_next_reads ≤ reads_of_next f) (sym is) (omega arith)
+
 -- a look-up in a flat file
 pub flat_looks : {T : Type 0} (self : AnyFile) (file file' : V1File) (tells : Bool) (old new : StoreSeen) (few most : ℕ) (result : Result T FileFault) → self ≡ V1 file → few ≤ most
-    → LooksUp Some (flat_laws tells) (flat_at tells old (string_bytes file.name) file.opened file.bytes.items) (flat_at tells new (string_bytes file'.name) file'.opened file'.bytes.items) few result
+    → LooksUp Some (flat_laws tells) (flat_at tells old (string_bytes file.name) file.opened file.len file.times file.window) (flat_at tells new (string_bytes file'.name) file'.opened file'.len file'.times file'.window) few result
     → LooksUp Some (any_laws tells) (any_at tells old self) (any_at tells new (V1 file')) most result
 flat_looks {T} self file file' tells old new few most result is within looks =
     subst (λ (f : AnyFile). LooksUp {T = T} Some (any_laws tells) (any_at tells old f) (any_at tells new (V1 file')) most result) (sym is)
@@ -168,11 +197,11 @@ tree_looks {T} self file file' tells old new few most result is other within loo
       reads = omega (arith, looks.reads, within);
     })
 
--- a change of a flat file is never made in place
+-- a change of a flat file is made in place
 pub flat_in_place : (self : AnyFile) (file : V1File) (change : FileChange) (tells : Bool) (old new : World) (result : Result (Unit {0}) FileFault) → self ≡ V1 file
-    → IsTrue (any_in_place (any_seen self).format change) → StaysInPlace tells (any_seen self).name old new result
-flat_in_place self file change tells old new result is =
-    subst (λ (f : AnyFile). IsTrue (any_in_place (any_seen f).format change) → StaysInPlace tells (any_seen f).name old new result) (sym is) (λ here. absurd (false≢true here))
+    → StaysInPlace tells (string_bytes file.name) old new result → IsTrue (any_in_place (any_seen self).format change) → StaysInPlace tells (any_seen self).name old new result
+flat_in_place self file change tells old new result is stays =
+    subst (λ (f : AnyFile). IsTrue (any_in_place (any_seen f).format change) → StaysInPlace tells (any_seen f).name old new result) (sym is) (λ here. stays)
 
 -- one of a tree file is
 pub tree_in_place : (self : AnyFile) (file : TreeFile) (change : FileChange) (tells : Bool) (old new : World) (result : Result (Unit {0}) FileFault) → self ≡ Tree file

@@ -19,7 +19,9 @@ use Rattle.tree_file.specs.Opened.{HoldsTree}
 use Rattle.tree_file.specs.declared.coming.Coming.{Coming}
 use Rattle.tree_file.specs.View.{FitsRequest, IsAsAsked, IsRefusedFor, IsTreeFault, IsTreeView}
 use Rattle.tree_build.proofs.DefectLemmas.{no_defect_of_sound}
+use Rattle.quota_types.specs.declared.record.Grace.{Grace}
 use Rattle.quota_v1.specs.Opened.{HoldsFlat}
+use Rattle.quota_v1.specs.declared.window.Window.{Window}
 use Rattle.quota_v1.specs.View.{IsFlatFault, IsFlatView}
 use Rattle.quota_v1.proofs.ViewLemmas.{seen_or_refused}
 use Rattle.quota_map.specs.AnyFile.{HoldsAny, any_seen}
@@ -136,10 +138,11 @@ store_rose before now tells named kind (Some V2R0) cause = cause
 store_rose before now tells named kind (Some V2R1) cause = cause
 
 -- a value that an opened flat file holds is seen of its file
-pub flat_held_seen : (tells : Bool) (named : Option (List ℕ)) (loaded : List ℕ) (value : QuotaValue) → HoldsFlat tells named loaded value → IsView named value.kind (Some value.format) (Ok value)
-flat_held_seen tells named loaded value held =
+pub flat_held_seen : (tells : Bool) (named : Option (List ℕ)) (len : ℕ) (times : Grace) (window : Window) (value : QuotaValue) → HoldsFlat tells named len times window value
+    → IsView named value.kind (Some value.format) (Ok value)
+flat_held_seen tells named len times window value held =
     subst (λ (format : Format). IsView named value.kind (Some format) (Ok value)) (sym held.stands.format)
-    (subst (λ (n : Option (List ℕ)). IsFlatView n value.kind (Ok value)) (sym held.same) ((held.few, held.stands), refl))
+    (subst (λ (n : Option (List ℕ)). IsFlatView n value.kind (Ok value)) (sym held.there) ((held.few, held.stands), refl))
 
 -- no version is that of a flat file
 no_flat_version : (version : ℕ) → format_of version ≡ Some V1 → ⊥
@@ -181,7 +184,7 @@ pub any_held_seen : (tells : Bool) (files : World) (file : AnyFile) (value : Quo
     → IsView (files name) value.kind (Some value.format) (Ok value)
 any_held_seen tells files (FlatFile file) value name format seen held =
     subst (λ (n : List ℕ). IsView (files n) value.kind (Some value.format) (Ok value)) (ap (λ (s : FileSeen). s.name) seen)
-    (flat_held_seen tells (files (string_bytes file.name)) file.bytes.items value held)
+    (flat_held_seen tells (files (string_bytes file.name)) file.len file.times file.window value held)
 any_held_seen tells files (TreeFile file) value name format seen held =
     subst (λ (n : List ℕ). IsView (files n) value.kind (Some value.format) (Ok value)) (ap (λ (s : FileSeen). s.name) seen)
     (tree_held_seen tells (files (name_of file.pages)) file.header file.coming file.limit value

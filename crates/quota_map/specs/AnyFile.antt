@@ -1,5 +1,5 @@
 -- An opened quota file of any format: what it holds with its store, what is seen of it, and what is said of all its calls.
-use Rattle.std.specs.Prelude.{◌≡◌, Bool, true, false, List, Option, ℕ}
+use Rattle.std.specs.Prelude.{◌≡◌, Bool, true, List, Option, ℕ}
 use Rattle.std.specs.String.{string_bytes}
 use Rattle.quota_types.specs.Format.{IsTreeFormat, is_flat}
 use Rattle.quota_types.specs.declared.damage.Damage.{Damage}
@@ -15,16 +15,16 @@ use Rattle.quota_blocks.specs.World.{World}
 use Rattle.quota_blocks.specs.declared.quota_file.FileFault.{FileFault}
 use Rattle.quota_pages.specs.Pages.{name_of}
 use Rattle.tree_file.specs.Opened.{HoldsTree, IsNamedDefect, LacksRoom, MayRefuse as MayRefuseTree}
-use Rattle.tree_file.specs.TreeChange.{TreeLeaves, TreeMakes, tree_change_reads, tree_change_writes}
-use Rattle.quota_v1.specs.Change.{FlatMakes, MayRefuse as MayRefuseFlat}
-use Rattle.quota_v1.specs.Opened.{HoldsFlat, flat_seen, most_pieces}
+use Rattle.tree_file.specs.TreeChange.{TreeLeaves, TreeMakes, tree_change_reads, tree_change_writes, tree_done_writes}
+use Rattle.quota_v1.specs.Change.{FlatLeaves, FlatMakes, MayRefuse as MayRefuseFlat}
+use Rattle.quota_v1.specs.Opened.{HoldsFlat, IsNamedDefect as IsCutOff, flat_seen, most_next_reads}
 use Rattle.quota_map.specs.StandsFor.{StandsForAs}
 use Rattle.quota_map.specs.declared.any_file.AnyFile.{AnyFile}
 use Rattle.quota_map.specs.declared.any_file.AnyFile.TheVariants.{V1, Tree}
 
 -- the opened file, with a store that tells its files or does not, holds a value as one of its format does
 abbrev pub HoldsAny : (tells : Bool) (files : World) → AnyFile → QuotaValue → Type 0
-HoldsAny tells files (V1 file) value = HoldsFlat tells (files (string_bytes file.name)) file.bytes.items value
+HoldsAny tells files (V1 file) value = HoldsFlat tells (files (string_bytes file.name)) file.len file.times file.window value
 HoldsAny tells files (Tree file) value = HoldsTree tells (files (name_of file.pages)) file.header file.coming file.limit value
 
 -- what is seen of it
@@ -41,15 +41,15 @@ pub record MayRefuse (format : Format) (fault : FileFault) : Type 0 where
   pub flat : is_flat format ≡ true → MayRefuseFlat fault
   pub tree : IsTreeFormat format → MayRefuseTree fault
 
--- A damage that a look-up answers is one of the named file, where the store tells that and it has the header that is kept; a flat
--- file has none.
+-- A damage that a look-up answers is one of the named file, where the store tells that and, of a tree file, it has the header that
+-- is kept.
 abbrev pub IsAnyDamage : (tells : Bool) → World → AnyFile → Damage → Type 0
-IsAnyDamage tells files (V1 file) damage = ⊥
+IsAnyDamage tells files (V1 file) damage = IsCutOff tells (files (string_bytes file.name)) damage
 IsAnyDamage tells files (Tree file) damage = IsNamedDefect tells (files (name_of file.pages)) file.header damage
 
--- a change of a file of this format is made in place: each of a tree file is
+-- a change of a file of this format is made in place, as each is
 abbrev pub any_in_place : Format → FileChange → Bool
-any_in_place Flat change = false
+any_in_place Flat change = true
 any_in_place V2R0 change = true
 any_in_place V2R1 change = true
 
@@ -59,21 +59,21 @@ pub record AnyMakes (seen : FileSeen) (change : FileChange) (name : List ℕ) (o
   pub tree : IsTreeFormat seen.format → TreeMakes seen.limit change name old new
 
 -- what a change of a file of this format that failed may leave it as, between the bytes before and those that it would have made:
--- the old file, where it is a flat one
+-- of a flat file one of the two
 abbrev pub AnyLeaves : Format → (old after left : Option (List ℕ)) → Type 0
-AnyLeaves Flat old after left = left ≡ old
+AnyLeaves Flat old after left = FlatLeaves old after left
 AnyLeaves V2R0 old after left = TreeLeaves old after left
 AnyLeaves V2R1 old after left = TreeLeaves old after left
 
 -- how many calls of `read` a change of a file that is seen so makes at most, by its format
 abbrev pub reads_of_change : Format → FileSeen → FileChange → ℕ
-reads_of_change Flat seen change = 0
+reads_of_change Flat seen change = 1
 reads_of_change V2R0 seen change = tree_change_reads seen change
 reads_of_change V2R1 seen change = tree_change_reads seen change
 
 -- how many calls of `write` it makes at most, by its format
 abbrev pub writes_of_change : Format → FileSeen → FileChange → ℕ
-writes_of_change Flat seen change = most_pieces
+writes_of_change Flat seen change = 1
 writes_of_change V2R0 seen change = tree_change_writes seen change
 writes_of_change V2R1 seen change = tree_change_writes seen change
 
@@ -86,14 +86,25 @@ any_change_reads seen change = reads_of_change seen.format seen change
 unfoldable pub any_change_writes : FileSeen → FileChange → ℕ
 any_change_writes seen change = writes_of_change seen.format seen change
 
+-- how many calls of `write` a change makes at most that succeeds on a file of this value, by its format
+abbrev pub done_writes_of : Format → FileSeen → QuotaValue → FileChange → ℕ
+done_writes_of Flat seen value change = 1
+done_writes_of V2R0 seen value change = tree_done_writes seen value change
+done_writes_of V2R1 seen value change = tree_done_writes seen value change
+
+-- How many calls of `write` a change makes at most that succeeds on a file of this value. What is said of calls that stand on it
+-- holds for any number in its place.
+unfoldable pub any_done_writes : FileSeen → QuotaValue → FileChange → ℕ
+any_done_writes seen value change = done_writes_of seen.format seen value change
+
 -- How many calls of `read` one call of `get` makes at most, in a file of any format. What is said of calls that stand on it holds for
 -- any number in its place.
 unfoldable pub any_get_reads : ℕ
 any_get_reads = 5
 
--- how many calls of `read` one call of `next_after` makes at most, by the format: none where the file is kept whole
+-- how many calls of `read` one call of `next_after` makes at most, by the format
 abbrev pub reads_of_next : Format → ℕ
-reads_of_next Flat = 0
+reads_of_next Flat = most_next_reads
 reads_of_next V2R0 = 8
 reads_of_next V2R1 = 8
 
@@ -106,4 +117,4 @@ any_next_reads seen file = reads_of_next seen.format
 abbrev pub any_laws : (tells : Bool) → FileLaws
 any_laws tells =
     laws_of tells StandsForAs AnyMakes (λ format _. AnyLeaves format) (λ seen file _ value blocks limit. LacksRoom seen file value blocks limit) MayRefuse
-    any_change_reads any_change_writes
+    any_change_reads any_change_writes any_done_writes

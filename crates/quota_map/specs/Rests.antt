@@ -19,7 +19,7 @@ use Rattle.quota_map.specs.StandsFor.{StandsForAs}
 -- another store with the same named file
 pub rests_on_named : (tells : Bool) (files files' : World) (file : AnyFile) (value : QuotaValue) → files' (any_seen file).name ≡ files (any_seen file).name
     → HoldsAny tells files file value → HoldsAny tells files' file value
-rests_on_named tells files files' (V1 file) value named held = flat_rests tells (files (string_bytes file.name)) (files' (string_bytes file.name)) file.bytes.items value named held
+rests_on_named tells files files' (V1 file) value named held = flat_rests tells (files (string_bytes file.name)) (files' (string_bytes file.name)) file.len file.times file.window value named held
 rests_on_named tells files files' (Tree file) value named held =
     tree_rests tells (files (name_of file.pages)) (files' (name_of file.pages)) file.header file.coming file.limit value named held
 
@@ -33,7 +33,7 @@ stands_as_tree V2R1 file value other stands = stands
 -- the named file stands for what is held
 pub held_stands : (tells : Bool) (files : World) (file : AnyFile) (value : QuotaValue) → HoldsAny tells files file value
     → IsSomeAnd (files (any_seen file).name) (λ bytes. StandsForAs (any_seen file).format bytes value)
-held_stands tells files (V1 file) value held = flat_stands tells (files (string_bytes file.name)) file.bytes.items value held
+held_stands tells files (V1 file) value held = flat_stands tells (files (string_bytes file.name)) file.len file.times file.window value held
 held_stands tells files (Tree file) value held =
     stands_as_tree file.header.format (files (name_of file.pages)) value file.tree
     (tree_stands tells (files (name_of file.pages)) file.header file.coming file.limit value held)

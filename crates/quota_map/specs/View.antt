@@ -1,6 +1,6 @@
 -- What is seen of a quota file by whoever opens it: as a flat file exactly where that format is asked for, and else as a tree
 -- file. Source: quotaon(8) and setquota(8) on formats, of which only vfsold has no magic number.
-use Rattle.std.specs.Prelude.{◌≡◌, ℕ, Bool, true, false, List, length, ◌+◌, ◌*◌, Option, Some, None, Result}
+use Rattle.std.specs.Prelude.{◌≡◌, ℕ, Bool, true, false, List, ◌+◌, ◌*◌, Option, Some, None, Result}
 use Rattle.quota_types.specs.Format.{IsTreeFormat, is_flat}
 use Rattle.quota_types.specs.declared.file_kind.Format.{Format}
 use Rattle.quota_types.specs.declared.file_kind.Format.TheVariants.{V1, V2R0, V2R1}
@@ -8,7 +8,6 @@ use Rattle.quota_types.specs.declared.file_kind.Kind.{Kind}
 use Rattle.entry_codec.specs.Header.{header_of}
 use Rattle.quota_blocks.specs.QuotaFile.{FileSeen}
 use Rattle.quota_blocks.specs.QuotaValue.{QuotaValue}
-use Rattle.quota_blocks.specs.Replace.{pieces_of}
 use Rattle.quota_blocks.specs.declared.quota_file.OpenFault.{OpenFault}
 use Rattle.tree_file.specs.View.{IsTreeFault, IsTreeView}
 use Rattle.quota_v1.specs.View.{IsFlatFault, IsFlatView}
@@ -52,9 +51,9 @@ IsOpenedAs None format = IsTreeFormat format
 IsOpenedAs (Some wanted) format = format ≡ wanted
 
 -- how many calls of `read` the opening of a file of these bytes makes at most, also where it is refused, by the format that was
--- asked for: one for each 1,024 bytes of a flat file, and of a tree file one, and two for each block that its header states
+-- asked for: one of a flat file, and of a tree file one, and two for each block that its header states
 abbrev pub opening_reads : Option Format → List ℕ → ℕ
 opening_reads None bytes = 1 + 2 * (header_of bytes).blocks
-opening_reads (Some V1) bytes = pieces_of (length bytes)
+opening_reads (Some V1) bytes = 1
 opening_reads (Some V2R0) bytes = 1 + 2 * (header_of bytes).blocks
 opening_reads (Some V2R1) bytes = 1 + 2 * (header_of bytes).blocks

@@ -33,7 +33,7 @@ impl AnyFile {
 
 impl<S: Store> QuotaFile<S> for AnyFile {
     ghost use Rattle.tree_file.specs.Opened.{LacksRoom};
-    ghost use Rattle.quota_map.specs.AnyFile.{AnyLeaves, AnyMakes, HoldsAny, IsAnyDamage, MayRefuse, any_change_reads, any_change_writes, any_get_reads, any_in_place, any_next_reads, any_seen};
+    ghost use Rattle.quota_map.specs.AnyFile.{AnyLeaves, AnyMakes, HoldsAny, IsAnyDamage, MayRefuse, any_change_reads, any_change_writes, any_done_writes, any_get_reads, any_in_place, any_next_reads, any_seen};
     ghost use Rattle.quota_map.specs.Rests.{held_stands, rests_on_named};
     ghost use Rattle.quota_map.specs.StandsFor.{StandsForAs};
 
@@ -62,6 +62,8 @@ impl<S: Store> QuotaFile<S> for AnyFile {
     ghost change_reads = { any_change_reads };
 
     ghost change_writes = { any_change_writes };
+
+    ghost done_writes = { any_done_writes };
 
     ghost rests_on_named = { λ file one other value named held.
         rests_on_named S.tells (S.seen one).files (S.seen other).files file value named held };

@@ -1,7 +1,7 @@
 ghost use Rattle.std.specs.Prelude.{◌≡◌, ◌+◌, ◌≤◌, Ok, IsTrue, IfOk, IfErr, OnOk, is_ok};
 ghost use Rattle.quota_blocks.specs.Frame.{OnlyReads};
 ghost use Rattle.quota_blocks.specs.QuotaValue.{QuotaValue};
-ghost use Rattle.quota_blocks.specs.Block.{bytes_of};
+ghost use Rattle.quota_blocks.specs.Block.{file_of};
 ghost use Rattle.quota_map.specs.View.{IsOpenFault, IsOpenedAs, IsView, asks_flat, fresh_seen, opening_reads};
 
 use crate::AnyFile;
@@ -15,8 +15,8 @@ use tree_file::open_tree;
 pub const MOST_BLOCKS: u32 = 1_048_576;
 
 /// Opens a quota file of the kind: as a flat file, which has no mark of its kind, exactly where that format is asked for, and
-/// else as a tree file of the format that is asked for, where one is. A flat file is loaded whole; of a tree file the
-/// header alone is kept, once each block was read and the whole found sound.
+/// else as a tree file of the format that is asked for, where one is. Of a flat file its length and the times of record 0 are
+/// kept; of a tree file its header, once each block was read and the whole found sound.
 ///
 /// # Errors
 ///
@@ -40,7 +40,7 @@ pub fn open_file<S: Store>(
         ((S.seen store.old).files name.now) kind format) }
     ensures leaves { OnlyReads (is_ok result) name.now (S.seen store.old) (S.seen store.new) }
     ensures reads { IsTrue S.tells → (S.seen store.new).reads ≤ (S.seen store.old).reads
-        + opening_reads format (bytes_of ((S.seen store.old).files name.now)) }
+        + opening_reads format (file_of (S.seen store.old).files name.now) }
 {
     if asks_flat(format) {
         return Ok(AnyFile::V1(open_v1(alloc, store, name)?));

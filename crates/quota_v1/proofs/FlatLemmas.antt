@@ -9,13 +9,9 @@ use Rattle.quota_types.specs.declared.file_kind.Kind.{Kind}
 use Rattle.quota_types.specs.declared.file_kind.Format.TheVariants.{V1}
 use Rattle.quota_types.specs.declared.record.Rec.{Rec}
 use Rattle.quota_types.specs.declared.record.Entry.{Entry}
-use Rattle.quota_blocks.specs.QuotaValue.{QuotaValue, Records, IsNextAfter}
-use Rattle.quota_v1.specs.FlatFile.{flat_record, flat_grace, FlatStandsFor, IsNextRecord, timed_record, unless_zeros}
-
--- the next record of the file is the next one of the value
-pub next_of_value : (file : List ℕ) (after : Option ℕ) (found : Option Entry) (value : QuotaValue) → FlatStandsFor file value → IsNextRecord file after found → IsNextAfter after value.records found
-next_of_value file after None value s n = λ id h. s.records id ∙ n id h
-next_of_value file after (Some entry) value s n = (n.0, s.records entry.id ∙ n.1, λ id a b. s.records id ∙ n.2 id a b)
+use Rattle.quota_blocks.specs.QuotaValue.{QuotaValue, Records, IsAfter, IsNextAfter}
+use Rattle.quota_v1.specs.FlatFile.{flat_record, flat_grace, FlatStandsFor, timed_record, unless_zeros}
+use Rattle.quota_v1.specs.Slot.{IsFirstRecord}
 
 -- a record put in where there is one
 with_record : Option Rec → ℕ → Records → Records
@@ -75,7 +71,7 @@ pub flat_value-kind : (kind : Kind) (file : List ℕ) → (flat_value kind file)
 unfolding flat_value
 flat_value-kind kind file = refl
 
-flat_record-past : (file : List ℕ) (id : ℕ) → length file / 40 ≤ id → flat_record file id ≡ None
+pub flat_record-past : (file : List ℕ) (id : ℕ) → length file / 40 ≤ id → flat_record file id ≡ None
 flat_record-past file id h =
     let long : nat_le (40 * id + 40) (length file) ≡ false = lt-leb (40 * id + 40) (length file) (omega arith) in
     ap (λ (b : Bool). cond b (unless_zeros (timed_record file id)) None) long
@@ -93,3 +89,16 @@ stands_for_value kind file whole = record {
     | inr high ↦ get-records_below-past file (length file / 40) id high ∙ sym (flat_record-past file id high)
   ];
 }
+
+-- the first record from the identifier that comes after another one is the next one of the value
+pub next_of_first : (file : List ℕ) (after : Option ℕ) (from records : ℕ) (found : Option Entry) (value : QuotaValue) → FlatStandsFor file value → records ≡ length file / 40
+    → ((id : ℕ) → IsAfter after id → from ≤ id) → ((id : ℕ) → from ≤ id → id < records → IsAfter after id) → IsFirstRecord file from records found → IsNextAfter after value.records found
+next_of_first file after from records None value stands all first comes none = λ id is. elim (cases_lt id records) [
+  | inl low ↦ stands.records id ∙ none id (first id is) low
+  | inr high ↦ stands.records id ∙ flat_record-past file id (omega (arith, all, high))
+]
+next_of_first file after from records (Some entry) value stands all first comes next = (
+  comes entry.id next.0 next.1,
+  stands.records entry.id ∙ next.2,
+  λ id is less. stands.records id ∙ next.3 id (first id is) less,
+)

@@ -2,5 +2,10 @@ pub mod FlatLemmas
 pub mod ViewLemmas
 pub mod RecordLemmas
 pub mod MakesLemmas
-pub mod RewrittenLemmas
 pub mod BuildLemmas
+pub mod SlotLemmas
+pub mod ChangedLemmas
+pub mod WindowLemmas
+pub mod FlatChangesLemmas
+pub mod LooksLemmas
+pub mod OpenLemmas

@@ -1,7 +1,6 @@
 -- Records of a flat file of which a part was written over.
 use Rattle.std.proofs.Common.{◌≡◌, ◌≢◌, ℕ, zero, suc, ◌+◌, ◌*◌, ◌%◌, ◌<◌, ◌≤◌, Bool, true, false, cond, nat_le, ◌==◌, List, length, Option, Some, None, refl, sym, ap, ◌∙◌, inl, inr, arith}
-use Rattle.std.specs.Option.{is_some}
-use Rattle.std.proofs.lemmas.Bool.{cases_lt, lt-leb, cases_Bool, true≢false}
+use Rattle.std.proofs.lemmas.Bool.{cases_lt, lt-leb, cases_Bool}
 use Rattle.std.proofs.lemmas.Bool.Decides.{nat_tests, eqb_tells}
 use Rattle.std.specs.Cmp.{nat_cmp_total, unsigned_tied}
 use Rattle.std.specs.FinMap.{get, get-insert, get-remove}
@@ -15,7 +14,6 @@ use Rattle.quota_types.specs.Rec.{IsNull, is_zeros, kib_of}
 use Rattle.quota_types.proofs.BytesLemmas.{number_at-past}
 use Rattle.quota_blocks.specs.QuotaValue.{QuotaValue, with_record, without_record, with_grace}
 use Rattle.quota_blocks.specs.Span.{KeepsOutside}
-use Rattle.quota_v1.specs.Opened.{HoldsFlat}
 use Rattle.quota_v1.specs.FlatFile.{FlatStandsFor, flat_record, flat_grace, or_week, stored_record, timed_record, unless_zeros}
 use Rattle.quota_types.proofs.BytesLemmas.{number_same}
 use Rattle.quota_types.proofs.NumberLemmas.{number_before, number_behind}
@@ -119,19 +117,16 @@ flat_record-written old new id q rec whole whole' is keeps = flat_record-read ne
 ]
 
 -- the grace periods stay, where the times of record 0 do
-pub flat_grace-kept : (old new : List ℕ) (id : ℕ) → KeepsOutside (40 * id) (40 * id + 40) old new → (id ≡ 0 → KeepsOutside 0 24 old new) → flat_grace new ≡ flat_grace old
-flat_grace-kept old new zero keeps times =
-    rw (number_behind 8 24 0 24 old new (times refl) (omega arith), number_behind 8 32 0 24 old new (times refl) (omega arith))
-flat_grace-kept old new (suc n) keeps times =
-    rw (number_before 8 24 (40 * suc n) (40 * suc n + 40) old new keeps (omega arith), number_before 8 32 (40 * suc n) (40 * suc n + 40) old new keeps (omega arith))
+flat_grace-kept : (old new : List ℕ) → number_at 8 new 24 ≡ number_at 8 old 24 → number_at 8 new 32 ≡ number_at 8 old 32 → flat_grace new ≡ flat_grace old
+flat_grace-kept old new block inode = rw (block, inode)
 
 pub stands_put : (old new : List ℕ) (value : QuotaValue) (id : ℕ) (rec : Rec) → FlatStandsFor old value → length new % 40 ≡ 0 → timed_record new id ≡ rec
-    → KeepsOutside (40 * id) (40 * id + 40) old new → (id ≡ 0 → KeepsOutside 0 24 old new) → ¬ IsNull rec → FlatStandsFor new (with_record value id rec)
-stands_put old new value id rec s whole is keeps times some = record {
+    → KeepsOutside (40 * id) (40 * id + 40) old new → number_at 8 new 24 ≡ number_at 8 old 24 → number_at 8 new 32 ≡ number_at 8 old 32 → ¬ IsNull rec → FlatStandsFor new (with_record value id rec)
+stands_put old new value id rec s whole is keeps block inode some = record {
   whole = whole;
   format = s.format;
   flags = s.flags;
-  grace = s.grace ∙ sym (flat_grace-kept old new id keeps times);
+  grace = s.grace ∙ sym (flat_grace-kept old new block inode);
   records = λ q.
       get-insert nat_cmp_total value.records id rec q
       ∙ ap (λ (b : Bool). cond b (Some rec) (get value.records q)) (unsigned_tied q id)
@@ -141,12 +136,12 @@ stands_put old new value id rec s whole is keeps times some = record {
 }
 
 pub stands_removed : (old new : List ℕ) (value : QuotaValue) (id : ℕ) (rec : Rec) → FlatStandsFor old value → length new % 40 ≡ 0 → timed_record new id ≡ rec
-    → KeepsOutside (40 * id) (40 * id + 40) old new → (id ≡ 0 → KeepsOutside 0 24 old new) → unless_zeros rec ≡ None → FlatStandsFor new (without_record value id)
-stands_removed old new value id rec s whole is keeps times none = record {
+    → KeepsOutside (40 * id) (40 * id + 40) old new → number_at 8 new 24 ≡ number_at 8 old 24 → number_at 8 new 32 ≡ number_at 8 old 32 → unless_zeros rec ≡ None → FlatStandsFor new (without_record value id)
+stands_removed old new value id rec s whole is keeps block inode none = record {
   whole = whole;
   format = s.format;
   flags = s.flags;
-  grace = s.grace ∙ sym (flat_grace-kept old new id keeps times);
+  grace = s.grace ∙ sym (flat_grace-kept old new block inode);
   records = λ q.
       get-remove nat_cmp_total value.records id q
       ∙ ap (λ (b : Bool). cond b None (get value.records q)) (unsigned_tied q id)
@@ -167,17 +162,6 @@ stands_absent old value id s none = record {
     | inr other ↦ ap (λ (b : Bool). cond b None (get value.records q)) other.0 ∙ s.records q
   ];
 }
-
--- an option that is not some
-none_of : {X : Type 0} (found : Option X) → is_some found ≡ false → found ≡ None
-none_of None e = refl
-none_of (Some x) e = absurd (true≢false e)
-
--- so an opened file holds it as it is
-pub holds_absent : (tells : Bool) (named : Option (List ℕ)) (old : List ℕ) (value : QuotaValue) (id : ℕ) (found : Option Rec) → found ≡ flat_record old id → is_some found ≡ false
-    → HoldsFlat tells named old value → HoldsFlat tells named old (without_record value id)
-holds_absent tells named old value id found is none held =
-    record { told = held.told; same = held.same; few = held.few; stands = stands_absent old value id held.stands (sym is ∙ none_of found none) }
 
 grace_not_zero : (grace : Grace) → grace_unfit V1 grace ≡ None → (0 < grace.block) × (0 < grace.inode)
 grace_not_zero grace fits = grind (arith, nat_tests)
@@ -217,10 +201,16 @@ stored_time-kept old new zero at low high keeps times = number_behind 8 at 0 24 
 stored_time-kept old new (suc n) at low high keeps times = number_before 8 at (40 * suc n) (40 * suc n + 40) old new keeps (omega arith)
 
 -- a record that is there lies within the file
-pub within_of_found : (file : List ℕ) (id : ℕ) (found : Option Rec) → found ≡ flat_record file id → is_some found ≡ true → 40 * id + 40 ≤ length file
-within_of_found file id found is there = elim (cases_lt (length file) (40 * id + 40)) [
+pub within_of_found : (file : List ℕ) (id : ℕ) (rec : Rec) → Some rec ≡ flat_record file id → 40 * id + 40 ≤ length file
+within_of_found file id rec is = elim (cases_lt (length file) (40 * id + 40)) [
   | inl short ↦
       let none : flat_record file id ≡ None = ap (λ (b : Bool). cond b (unless_zeros (timed_record file id)) None) (lt-leb (40 * id + 40) (length file) short) in
-      absurd (true≢false (sym there ∙ ap is_some (is ∙ none)))
+      absurd (let no : Some rec ≡ None = is ∙ none in cc)
   | inr long ↦ long
 ]
+
+-- where a number of eight bytes was a time, and is one if it is among those that were written, it stays
+pub time_stays : (old new : List ℕ) (id at time : ℕ) → at + 8 ≤ 40 → KeepsOutside (40 * id) (40 * id + 40) old new → (id ≡ 0 → number_at 8 new at ≡ time) → number_at 8 old at ≡ time
+    → number_at 8 new at ≡ number_at 8 old at
+time_stays old new zero at time within keeps first was = first refl ∙ sym was
+time_stays old new (suc n) at time within keeps first was = number_before 8 at (40 * suc n) (40 * suc n + 40) old new keeps (omega arith)

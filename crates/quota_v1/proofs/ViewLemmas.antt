@@ -1,14 +1,13 @@
 -- What is seen of a flat file while it is opened.
-use Rattle.std.proofs.Common.{◌≡◌, ℕ, ◌%◌, ◌<◌, ◌≤◌, Bool, IsTrue, List, length, Option, Some, None, Ok, Err, sym, subst, ◌∙◌, arith}
+use Rattle.std.proofs.Common.{◌≡◌, ℕ, ◌%◌, ◌≤◌, List, length, Option, Some, None, Ok, Err, option_map, unwrap_or, sym, ap, subst, arith}
 use Rattle.std.specs.Option.{IsSomeAnd}
 use Rattle.std.proofs.lemmas.Option.{none-some}
 use Rattle.quota_types.specs.declared.file_kind.Kind.{Kind}
-use Rattle.quota_types.specs.declared.file_kind.Kind.TheVariants.{User}
 use Rattle.quota_blocks.specs.QuotaValue.{QuotaValue}
 use Rattle.quota_blocks.specs.declared.quota_file.OpenFault.{OpenFault}
 use Rattle.quota_blocks.specs.declared.quota_file.OpenFault.TheVariants.{Store, NoFile, TooLarge, Memory, NotQuota, WrongKind, UnknownVersion, BadBlockCount, FormatMismatch, Damage}
 use Rattle.quota_v1.specs.FlatFile.{FlatStandsFor}
-use Rattle.quota_v1.specs.View.{IsFlatDefect, IsFlatView, IsFlatFault, flat_limit}
+use Rattle.quota_v1.specs.View.{IsFlatView, flat_limit}
 use Rattle.quota_v1.proofs.FlatLemmas.{flat_value, flat_value-kind, stands_for_value}
 
 -- a file of whole records that is not too large is seen as its value
@@ -21,39 +20,10 @@ value_seen named kind file is few whole = (
   ),
 )
 
--- what is said of a file under another name of it is said of the file
-said_so : (named named' : Option (List ℕ)) (say : List ℕ → Type 0) → named' ≡ named → IsSomeAnd named' say → IsSomeAnd named say
-said_so named named' say is said = subst (λ (n : Option (List ℕ)). IsSomeAnd n say) is said
-
--- what is seen of the bytes that were loaded is seen of the file
-pub fault_of_loaded : (before now : ℕ) (tells : Bool) (named : Option (List ℕ)) (file : List ℕ) (fault : OpenFault) → (IsTrue tells → named ≡ Some file) → ((kind : Kind) → IsFlatView (Some file) kind (Err fault)) → IsFlatFault before now tells named fault
-fault_of_loaded before now tells named file Store is seen = absurd (seen User)
-fault_of_loaded before now tells named file NoFile is seen = absurd (none-some file (sym (seen User)))
-fault_of_loaded before now tells named file (TooLarge number limit) is seen =
-    ((seen User).1, λ told. said_so named (Some file) (λ f. (flat_limit < length f) × (number ≡ length f)) (sym (is told)) (seen User).0)
-fault_of_loaded before now tells named file Memory is seen = tt
-fault_of_loaded before now tells named file NotQuota is seen = seen User
-fault_of_loaded before now tells named file WrongKind is seen = seen User
-fault_of_loaded before now tells named file UnknownVersion is seen = seen User
-fault_of_loaded before now tells named file BadBlockCount is seen = seen User
-fault_of_loaded before now tells named file (FormatMismatch found) is seen = seen User
-fault_of_loaded before now tells named file (Damage damage) is seen =
-    (((seen User).1.kind, (seen User).1.id), λ told. said_so named (Some file) (λ f. (length f ≤ flat_limit) × IsFlatDefect f damage) (sym (is told)) (seen User))
-
--- a cause that comes later in a call is a cause of the call
-pub fault_since : (first before now : ℕ) (tells : Bool) (named named' : Option (List ℕ)) (fault : OpenFault) → first ≤ before → named' ≡ named → IsFlatFault before now tells named' fault → IsFlatFault first now tells named fault
-fault_since first before now tells named named' Store le n cause = omega arith
-fault_since first before now tells named named' NoFile le n cause = λ told. sym n ∙ cause told
-fault_since first before now tells named named' (TooLarge number limit) le n cause =
-    (cause.0, λ told. said_so named named' (λ f. (flat_limit < length f) × (number ≡ length f)) n (cause.1 told))
-fault_since first before now tells named named' Memory le n cause = tt
-fault_since first before now tells named named' NotQuota le n cause = cause
-fault_since first before now tells named named' WrongKind le n cause = cause
-fault_since first before now tells named named' UnknownVersion le n cause = cause
-fault_since first before now tells named named' BadBlockCount le n cause = cause
-fault_since first before now tells named named' (FormatMismatch found) le n cause = cause
-fault_since first before now tells named named' (Damage damage) le n cause =
-    (cause.0, λ told. said_so named named' (λ f. (length f ≤ flat_limit) × IsFlatDefect f damage) n (cause.1 told))
+-- a store that answers the length of a file has it
+pub file_of_length : (named : Option (List ℕ)) (len : ℕ) → Some len ≡ option_map length named → IsSomeAnd named (λ file. length file ≡ len)
+file_of_length None len is = absurd (let no : Some len ≡ None = is in cc)
+file_of_length (Some file) len is = sym (ap (λ (n : Option ℕ). unwrap_or n 0) is)
 
 -- a file is not both seen as a value and refused
 pub seen_or_refused : (named : Option (List ℕ)) (kind : Kind) (value : QuotaValue) (fault : OpenFault) → IsFlatView named kind (Ok value) → IsFlatView named kind (Err fault) → ⊥

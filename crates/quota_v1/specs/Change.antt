@@ -1,16 +1,17 @@
 -- What a change of a flat file makes of it, and why a call on it may be refused.
-use Rattle.std.specs.Prelude.{◌≡◌, ℕ, ◌+◌, ◌*◌, max, List, length, None, Some, ⊤}
+use Rattle.std.specs.Prelude.{◌≡◌, ◌⊎◌, ℕ, ◌+◌, ◌*◌, ◌≤◌, max, IsSomeAnd, List, length, Option, None, Some, ⊤}
+use Rattle.quota_types.specs.declared.damage.DamageKind.TheVariants.{PartialRecord}
 use Rattle.quota_types.specs.declared.record.Grace.{Grace}
 use Rattle.quota_types.specs.declared.record.Rec.{Rec}
 use Rattle.quota_types.specs.Bytes.{number_at}
 use Rattle.quota_blocks.specs.FileChange.{FileChange, Put, Remove, SetGrace, changed_value}
 use Rattle.quota_blocks.specs.QuotaValue.{QuotaValue}
-use Rattle.quota_blocks.specs.Replace.{WritesAnew}
 use Rattle.quota_blocks.specs.Span.{KeepsOutside}
-use Rattle.quota_blocks.specs.World.{World}
+use Rattle.quota_blocks.specs.World.{KeepsOthers, World}
 use Rattle.quota_blocks.specs.declared.quota_file.FileFault.{FileFault}
 use Rattle.quota_blocks.specs.declared.quota_file.FileFault.TheVariants.{Store, Damage, Full, Memory}
 use Rattle.quota_v1.specs.FlatFile.{FlatStandsFor, flat_record}
+use Rattle.quota_v1.specs.View.{flat_limit}
 
 -- A record was put: the file is lengthened with zeros up to the end of the record, and all bytes outside of the record
 -- stay. The two times of record 0, which are the grace periods, stay too.
@@ -48,14 +49,27 @@ pub record IsFlatChange (change : FileChange) (before after : List ℕ) : Type 0
   pub changed : FlatChanged change before after
   pub stands : (value : QuotaValue) → FlatStandsFor before value → FlatStandsFor after (changed_value change value)
 
--- what a change that was not idle makes of the named file, which is written anew
-abbrev pub FlatMakes : FileChange → List ℕ → World → World → Type 0
-FlatMakes change = WritesAnew (FlatChanged change)
+-- The named file is there before and after, with bytes that are related so, and no other file has changed.
+pub record WritesFlat (so : List ℕ → List ℕ → Type 0) (name : List ℕ) (old new : World) : Type 0 where
+  pub named : IsSomeAnd (old name) (λ before. IsSomeAnd (new name) (so before))
+  pub others : KeepsOthers name old new
 
--- The faults that a call on an opened flat file may answer, whatever the store tells. It is never damaged, which is seen
--- where it is opened, nor full.
+-- a file that is related so to the one before, and has no more bytes than it may have
+abbrev pub FitsFlat : (so : List ℕ → List ℕ → Type 0) → List ℕ → List ℕ → Type 0
+FitsFlat so before after = so before after × (length after ≤ flat_limit)
+
+-- what a change that was not idle makes of the files: it writes one record of the named one where it stands
+abbrev pub FlatMakes : FileChange → List ℕ → World → World → Type 0
+FlatMakes change = WritesFlat (FitsFlat (FlatChanged change))
+
+-- what a change that failed leaves: the file as it was, or as the change makes it
+abbrev pub FlatLeaves : (old after left : Option (List ℕ)) → Type 0
+FlatLeaves old after left = (left ≡ old) ⊎ (left ≡ after)
+
+-- The faults that a call on an opened flat file may answer, whatever the store tells: of damages, that a record is cut off. It is
+-- never full, and takes no memory.
 abbrev pub MayRefuse : FileFault → Type 0
 MayRefuse Store = ⊤
-MayRefuse (Damage _) = ⊥
+MayRefuse (Damage damage) = (damage.kind ≡ PartialRecord) × (damage.id ≡ 0)
 MayRefuse (Full _ _) = ⊥
-MayRefuse Memory = ⊤
+MayRefuse Memory = ⊥

@@ -1,32 +1,40 @@
 -- What a flat quota file stands for. Source: the table of vfsold, `struct v1_disk_dqblk` of the quota tools, as they
 -- write it on 64-bit x86.
-use Rattle.std.specs.Prelude.{◌≡◌, ℕ, ◌+◌, ◌*◌, ◌%◌, ◌<◌, ◌==◌, nat_le, if◌then◌else◌, List, length, Option, Some, None}
+use Rattle.std.specs.Prelude.{◌≡◌, ℕ, ◌+◌, ◌*◌, ◌%◌, ◌==◌, nat_le, if◌then◌else◌, List, length, Option, Some, None}
 use Rattle.std.specs.FinMap.{get}
 use Rattle.quota_types.specs.declared.file_kind.Format.TheVariants.{V1}
 use Rattle.quota_types.specs.declared.record.Rec.{Rec}
 use Rattle.quota_types.specs.declared.record.Grace.{Grace}
-use Rattle.quota_types.specs.declared.record.Entry.{Entry}
 use Rattle.quota_types.specs.Bytes.{number_at}
 use Rattle.quota_types.specs.Kept.{without_timers_of_zero}
 use Rattle.quota_types.specs.Rec.{is_zeros}
-use Rattle.quota_blocks.specs.QuotaValue.{QuotaValue, IsAfter}
+use Rattle.quota_blocks.specs.QuotaValue.{QuotaValue}
 
--- the 40 bytes of an identifier, as a record; the space is in KiB on disk
-abbrev pub stored_record : List ℕ → ℕ → Rec
-stored_record file id = record {
-  bhard = number_at 4 file (40 * id);
-  bsoft = number_at 4 file (40 * id + 4);
-  space = 1024 * number_at 4 file (40 * id + 8);
-  ihard = number_at 4 file (40 * id + 12);
-  isoft = number_at 4 file (40 * id + 16);
-  inodes = number_at 4 file (40 * id + 20);
-  btime = number_at 8 file (40 * id + 24);
-  itime = number_at 8 file (40 * id + 32);
+-- the 40 bytes from a place on, as a record; the space is in KiB on disk
+abbrev pub stored_at : List ℕ → ℕ → Rec
+stored_at bytes at = record {
+  bhard = number_at 4 bytes at;
+  bsoft = number_at 4 bytes (at + 4);
+  space = 1024 * number_at 4 bytes (at + 8);
+  ihard = number_at 4 bytes (at + 12);
+  isoft = number_at 4 bytes (at + 16);
+  inodes = number_at 4 bytes (at + 20);
+  btime = number_at 8 bytes (at + 24);
+  itime = number_at 8 bytes (at + 32);
 }
 
--- the record of an identifier: identifier 0 has no timers, since the times of record 0 are the grace periods
+-- the 40 bytes from a place on, as the record of an identifier: identifier 0 has no timers, since the times of record 0 are the
+-- grace periods
+abbrev pub timed_at : List ℕ → (at id : ℕ) → Rec
+timed_at bytes at id = without_timers_of_zero id (stored_at bytes at)
+
+-- the 40 bytes of an identifier, as a record
+abbrev pub stored_record : List ℕ → ℕ → Rec
+stored_record file id = stored_at file (40 * id)
+
+-- the record of an identifier
 abbrev pub timed_record : List ℕ → ℕ → Rec
-timed_record file id = without_timers_of_zero id (stored_record file id)
+timed_record file id = timed_at file (40 * id) id
 
 -- none where all is zero
 abbrev pub unless_zeros : Rec → Option Rec
@@ -52,11 +60,3 @@ pub record FlatStandsFor (file : List ℕ) (value : QuotaValue) : Type 0 where
   pub flags : value.flags ≡ 0
   pub grace : value.grace ≡ flat_grace file
   pub records : (id : ℕ) → get value.records id ≡ flat_record file id
-
--- the least identifier after another one that has a record, with it, or none where there is none
-abbrev pub IsNextRecord : List ℕ → Option ℕ → Option Entry → Type 0
-IsNextRecord file after None = (id : ℕ) → IsAfter after id → flat_record file id ≡ None
-IsNextRecord file after (Some entry) =
-    IsAfter after entry.id
-    × (flat_record file entry.id ≡ Some entry.rec)
-    × ((id : ℕ) → IsAfter after id → id < entry.id → flat_record file id ≡ None)

@@ -3,7 +3,9 @@ pub mod Change
 pub mod FlatFile
 pub mod Opened
 pub mod Rests
+pub mod Slot
 pub mod View
+pub mod Window
 pub use Rattle.quota_types.specs.Bytes
 pub use Rattle.quota_types.specs.Kept
 pub use Rattle.quota_types.specs.Range

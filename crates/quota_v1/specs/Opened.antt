@@ -1,39 +1,59 @@
 -- What an opened flat file holds, what is seen of it, and what is said of all its calls.
-use Rattle.std.specs.Prelude.{◌≡◌, ℕ, ◌≤◌, Bool, IsTrue, List, length, Option, Some}
+use Rattle.std.specs.Prelude.{◌≡◌, ℕ, ◌+◌, ◌/◌, ◌≤◌, Bool, IsTrue, List, length, Option, Some}
+use Rattle.file_blocks.specs.Block.{bytes_of}
+use Rattle.quota_types.specs.Bytes.{number_at}
+use Rattle.quota_types.specs.declared.damage.Damage.{Damage}
 use Rattle.quota_types.specs.declared.file_kind.Format.TheVariants.{V1}
+use Rattle.quota_types.specs.declared.record.Grace.{Grace}
 use Rattle.quota_blocks.specs.Changes.{FileAt, FileLaws, file_at, laws_of}
 use Rattle.quota_blocks.specs.FileUse.{seen_in}
 use Rattle.quota_blocks.specs.QuotaFile.{FileSeen}
 use Rattle.quota_blocks.specs.QuotaValue.{QuotaValue}
-use Rattle.quota_blocks.specs.Replace.{pieces_of}
 use Rattle.quota_blocks.specs.Seen.{StoreSeen}
 use Rattle.quota_blocks.specs.declared.file_use.FileUse.{FileUse}
-use Rattle.quota_v1.specs.Change.{FlatMakes, MayRefuse}
+use Rattle.quota_v1.specs.Change.{FlatLeaves, FlatMakes, MayRefuse}
 use Rattle.quota_v1.specs.FlatFile.{FlatStandsFor}
-use Rattle.quota_v1.specs.View.{flat_limit}
+use Rattle.quota_v1.specs.View.{IsFlatDefect, flat_limit}
+use Rattle.quota_v1.specs.Window.{HoldsWindow}
+use Rattle.quota_v1.specs.declared.window.Window.{Window}
 
--- The store tells its files, the named file has the bytes that were loaded, which are no more than a flat file may have, and
--- they stand for the value.
-pub record HoldsFlat (tells : Bool) (named : Option (List ℕ)) (loaded : List ℕ) (value : QuotaValue) : Type 0 where
+-- What is kept of a file agrees with it: its length in bytes, the two times of its record 0 as they are stored, and the records
+-- that were read.
+pub record AgreesFlat (len : ℕ) (times : Grace) (window : Window) (file : List ℕ) : Type 0 where
+  pub long : len ≡ length file
+  pub block_time : number_at 8 file 24 ≡ times.block
+  pub inode_time : number_at 8 file 32 ≡ times.inode
+  pub next : HoldsWindow file window
+
+-- The store tells its files, the named file stands for the value and has no more bytes than a flat file may have, and what is kept
+-- of it agrees with it.
+pub record HoldsFlat (tells : Bool) (named : Option (List ℕ)) (len : ℕ) (times : Grace) (window : Window) (value : QuotaValue) : Type 0 where
   pub told : IsTrue tells
-  pub same : named ≡ Some loaded
-  pub few : length loaded ≤ flat_limit
-  pub stands : FlatStandsFor loaded value
+  pub file : List ℕ
+  pub there : named ≡ Some file
+  pub few : length file ≤ flat_limit
+  pub stands : FlatStandsFor file value
+  pub agrees : AgreesFlat len times window file
+
+-- a damage is one of the named file, where the store tells that: its last record is cut off
+abbrev pub IsNamedDefect : (tells : Bool) → (named : Option (List ℕ)) → Damage → Type 0
+IsNamedDefect tells named damage = IsTrue tells → IsFlatDefect (bytes_of named) damage
 
 -- what is seen of one of this name, which has no number of blocks
 abbrev pub flat_seen : FileUse → (name : List ℕ) → FileSeen
 flat_seen opened name = seen_in opened name V1 0
 
--- an opened flat file of this name, this use and these bytes, with what is seen of its store, which tells its files or does not
-abbrev pub flat_at : (tells : Bool) → StoreSeen → (name : List ℕ) → FileUse → (bytes : List ℕ) → FileAt
-flat_at tells store name opened bytes = file_at (HoldsFlat tells (store.files name) bytes) (flat_seen opened name) store
+-- an opened flat file of this name and this use, and what is kept of it, with what is seen of its store, which tells its files or
+-- does not
+abbrev pub flat_at : (tells : Bool) → StoreSeen → (name : List ℕ) → FileUse → (len : ℕ) → (times : Grace) → Window → FileAt
+flat_at tells store name opened len times window = file_at (HoldsFlat tells (store.files name) len times window) (flat_seen opened name) store
 
--- how many calls of `write` a change makes at most, which writes the whole file
-abbrev pub most_pieces : ℕ
-most_pieces = pieces_of flat_limit
+-- how many calls of `read` find the next record at most: each takes 1,000 bytes of as many as a flat file may have
+abbrev pub most_next_reads : ℕ
+most_next_reads = flat_limit / 1000 + 1
 
--- what is said of all calls on one: a change writes it anew, so that one that failed leaves it as it was, and it is never full
+-- what is said of all calls on one: a change reads a record at most and writes one, and it is never full
 abbrev pub flat_laws : (tells : Bool) → FileLaws
 flat_laws tells =
-    laws_of tells (λ _ file value. FlatStandsFor file value) (λ _ change. FlatMakes change) (λ _ _ old _ left. left ≡ old) (λ _ _ _ _ _ _. ⊥)
-    (λ _ fault. MayRefuse fault) (λ _ _. 0) (λ _ _. most_pieces)
+    laws_of tells (λ _ file value. FlatStandsFor file value) (λ _ change. FlatMakes change) (λ _ _ old after left. FlatLeaves old after left) (λ _ _ _ _ _ _. ⊥)
+    (λ _ fault. MayRefuse fault) (λ _ _. 1) (λ _ _. 1) (λ _ _ _. 1)

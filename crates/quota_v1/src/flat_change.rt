@@ -1,4 +1,4 @@
-ghost use Rattle.std.specs.Prelude.{◌≡◌, ◌+◌, ◌-◌, ◌*◌, ◌^◌, ◌<◌, ◌≤◌, ◌++◌, length, max, replicate, vec_len, None, IfOk};
+ghost use Rattle.std.specs.Prelude.{◌≡◌, ◌+◌, ◌*◌, ◌^◌, ◌<◌, ◌≤◌, length, None};
 ghost use Rattle.quota_types.specs.Bytes.{number_at};
 ghost use Rattle.quota_types.specs.declared.file_kind.Format.TheVariants.{V1};
 ghost use Rattle.quota_types.specs.Kept.{IsKept};
@@ -8,8 +8,7 @@ ghost use Rattle.quota_blocks.specs.Span.{KeepsOutside};
 ghost use Rattle.quota_v1.specs.FlatFile.{timed_record};
 
 use crate::flat_record::RECORD;
-use quota_types::{Grace, Rec, set_le32_at, set_le64_at};
-use std::alloc::{AllocError, Global};
+use quota_types::{Rec, set_le32_at, set_le64_at};
 
 /// Where the two times of a record begin.
 pub(crate) const TIMES: usize = 24;
@@ -52,7 +51,7 @@ pub(crate) fn write_times(bytes: &mut [u8], at: usize, block: u64, inode: u64)
 }
 
 /// Writes the record of an identifier, but its times.
-fn write_numbers(bytes: &mut [u8], at: usize, rec: &Rec)
+pub(crate) fn write_numbers(bytes: &mut [u8], at: usize, rec: &Rec)
     requires within { at + 24 ≤ length bytes.old }
     requires fits { unfit V1 0 rec.now ≡ None }
     ensures bhard { number_at 4 bytes.new at ≡ rec.now.bhard }
@@ -81,46 +80,4 @@ pub(crate) fn write_record(bytes: &mut [u8], id: usize, rec: &Rec)
         return;
     }
     write_times(bytes, start + TIMES, rec.btime, rec.itime);
-}
-
-/// A copy of the bytes, with zeros behind them up to a length.
-fn lengthened(alloc: Global, bytes: &[u8], least: usize) -> Result<Vec<u8>, AllocError>
-    ensures { IfOk result (λ copy. copy.items ≡ bytes.now ++ replicate (least - length bytes.now) 0) }
-{
-    let mut copy = Vec::with_capacity(alloc, bytes.len().max(least))?;
-    copy.extend_from_slice(bytes)?;
-    copy.resize(bytes.len().max(least), 0)?;
-    Ok(copy)
-}
-
-/// The bytes with this record of an identifier, lengthened with zeros where they end before it. The times of record 0
-/// stay.
-pub(crate) fn with_record(
-    alloc: Global,
-    bytes: &[u8],
-    id: u32,
-    rec: &Rec,
-) -> Result<Vec<u8>, AllocError>
-    requires { IsKept V1 id rec.now }
-    ensures long { IfOk result (λ new. length new.items ≡ max (length bytes.now) (40 * (id + 1))) }
-    ensures written { IfOk result (λ new. timed_record new.items id ≡ rec.now) }
-    ensures others { IfOk result (λ new. KeepsOutside (40 * id) (40 * id + 40) bytes.now new.items) }
-    ensures times { IfOk result (λ new. id ≡ 0 → KeepsOutside 0 24 bytes.now new.items) }
-{
-    let id = id as usize;
-    let mut new = lengthened(alloc, bytes, RECORD * (id + 1))?;
-    write_record(&mut new, id, rec);
-    Ok(new)
-}
-
-/// The bytes with these grace periods, which are the times of record 0. Where there is no record 0, there is one then.
-pub(crate) fn with_grace(alloc: Global, bytes: &[u8], grace: Grace) -> Result<Vec<u8>, AllocError>
-    ensures long { IfOk result (λ new. length new.items ≡ max (length bytes.now) 40) }
-    ensures block { IfOk result (λ new. number_at 8 new.items 24 ≡ grace.block) }
-    ensures inode { IfOk result (λ new. number_at 8 new.items 32 ≡ grace.inode) }
-    ensures others { IfOk result (λ new. KeepsOutside 24 40 bytes.now new.items) }
-{
-    let mut new = lengthened(alloc, bytes, RECORD)?;
-    write_times(&mut new, TIMES, grace.block, grace.inode);
-    Ok(new)
 }

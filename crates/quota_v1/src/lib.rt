@@ -13,6 +13,9 @@ mod flat_file;
 mod flat_record;
 pub mod laws;
 mod opening;
+mod slot;
+mod slot_file;
+mod window;
 
 pub use building::build_v1;
 pub use flat_file::V1File;

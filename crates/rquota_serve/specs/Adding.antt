@@ -2,7 +2,7 @@
 use Rattle.std.specs.Prelude.{◌≡◌, ◌+◌, ℕ, zero, suc, Bool, true, false, IsTrue, List, [], ◌∷◌, ◌++◌, map, take, Option, Result, Ok, Err, ⊤}
 use Rattle.quota_types.specs.declared.file_kind.Format.{Format}
 use Rattle.quota_types.specs.declared.file_kind.Kind.{Kind}
-use Rattle.quota_blocks.specs.Block.{bytes_of}
+use Rattle.quota_blocks.specs.Block.{file_of}
 use Rattle.quota_blocks.specs.Frame.{OnlyReads}
 use Rattle.quota_blocks.specs.QuotaFile.{FileSeen}
 use Rattle.quota_blocks.specs.QuotaValue.{QuotaValue}
@@ -74,7 +74,7 @@ ReadsEach (one ∷ news) old new = (between : StoreSeen) × OnlyReads true one.f
 -- how many calls of `read` the opening of these files makes at most
 abbrev pub reads_of : Option Format → World → List NewSeen → ℕ
 reads_of asked files [] = 0
-reads_of asked files (new ∷ news) = opening_reads asked (bytes_of (files new.file)) + reads_of asked files news
+reads_of asked files (new ∷ news) = opening_reads asked (file_of files new.file) + reads_of asked files news
 
 -- The file at this place was not opened, for this reason, once those before it were read; none behind it was tried.
 abbrev pub IsRefusedAt : Bool → Option Format → ℕ → List NewSeen → OpenFault → (old new : StoreSeen) → Type 0

@@ -25,7 +25,7 @@ impl Export {
     ghost use Rattle.quota_blocks.specs.QuotaValue.{QuotaValue};
     ghost use Rattle.quota_map.specs.AnyFile.{HoldsAny, any_at, any_get_reads, any_laws};
     ghost use Rattle.quota_map.specs.View.{IsOpenFault, IsOpenedAs, IsView, opening_reads};
-    ghost use Rattle.quota_blocks.specs.Block.{bytes_of};
+    ghost use Rattle.quota_blocks.specs.Block.{bytes_of, file_of};
     ghost use Rattle.rquota_serve.specs.Exports.{export_seen, fresh_export, is_named};
     ghost use Rattle.rquota_serve.specs.Reply.{record_of};
 
@@ -53,7 +53,7 @@ impl Export {
             ((S.seen store.old).files file.now) kind format) }
         ensures leaves { OnlyReads (is_ok result) file.now (S.seen store.old) (S.seen store.new) }
         ensures reads { IsTrue S.tells → (S.seen store.new).reads
-            ≤ (S.seen store.old).reads + opening_reads format (bytes_of ((S.seen store.old).files file.now)) }
+            ≤ (S.seen store.old).reads + opening_reads format (file_of (S.seen store.old).files file.now) }
     {
         let Ok(path) = String::from_str(alloc, path) else {
             return Err(OpenFault::Memory);

@@ -22,7 +22,7 @@ impl Exports {
     ghost use Rattle.quota_blocks.specs.World.{World};
     ghost use Rattle.quota_map.specs.AnyFile.{any_get_reads};
     ghost use Rattle.quota_map.specs.View.{IsOpenFault, IsOpenedAs, IsView, opening_reads};
-    ghost use Rattle.quota_blocks.specs.Block.{bytes_of};
+    ghost use Rattle.quota_blocks.specs.Block.{bytes_of, file_of};
     ghost use Rattle.rquota_serve.specs.Adding.{AreAdded, AreToldOf, IsRefusedAt, MayAddAll, ReadsEach, added_of, news_seen, reads_of, tried_of};
     ghost use Rattle.rquota_serve.specs.Exported.{Exported, nothing_exported, with_export};
     ghost use Rattle.rquota_serve.specs.Exports.{ExportSeen, Serves, export_seen, exports_seen, fresh_export, is_exported, is_named, kept_in, may_add};
@@ -75,7 +75,7 @@ impl Exports {
         ensures unchanged { OnErr result (kept_in self.new ≡ kept_in self.old) }
         ensures leaves { OnlyReads (is_ok result) file.now (S.seen store.old) (S.seen store.new) }
         ensures reads { IsTrue S.tells → (S.seen store.new).reads
-            ≤ (S.seen store.old).reads + opening_reads format (bytes_of ((S.seen store.old).files file.now)) }
+            ≤ (S.seen store.old).reads + opening_reads format (file_of (S.seen store.old).files file.now) }
     {
         let export = Export::open(alloc, store, path, kind, file, format)?;
         if self.list.push(export).is_err() {

@@ -115,7 +115,7 @@ shown_in_part kind asked name text tells old store out cause showing unshown =
 -- a damage that a call on an opened file answers is one of the format that was asked for
 pub damage_may : (asked : Option Format) (format : Format) (damage : Damage) → IsOpenedAs asked format → MayRefuse format (FileDamaged damage) → IsDamageAs asked damage
 damage_may None format damage asks may = may.tree asks
-damage_may (Some V1) format damage asks may = absurd (may.flat (ap is_flat asks))
+damage_may (Some V1) format damage asks may = may.flat (ap is_flat asks)
 damage_may (Some V2R0) format damage asks may = may.tree (ap is_flat asks)
 damage_may (Some V2R1) format damage asks may = may.tree (ap is_flat asks)
 

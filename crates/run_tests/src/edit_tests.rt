@@ -15,7 +15,7 @@ fn the_first_refused_step_ends_the_command(rt: HostRuntime) {
 }
 
 #[test]
-fn each_failing_call_leaves_the_old_file(rt: HostRuntime) {
+fn each_failing_call_leaves_the_old_file_or_the_changed_one(rt: HostRuntime) {
     play(&rt, rt.alloc(), &[FILES, limits::FAILING]);
 }
 

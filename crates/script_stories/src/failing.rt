@@ -58,7 +58,7 @@ text #
 text repquota -F vfsold q
 text repquota -F vfsold q
 input
-fails store 3
+fails store 4
 run script
 status 4
 head user q 7days 7days

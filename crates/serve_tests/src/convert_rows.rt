@@ -1,5 +1,5 @@
 use convert::{ConvertFault, convert};
-use quota_blocks::{OpenFault, ReplaceFault};
+use quota_blocks::{FileFault, OpenFault, ReplaceFault};
 use quota_types::{Format, Kind};
 use row_files::store_of;
 use std::alloc::Global;
@@ -20,7 +20,8 @@ struct Row {
     answer: Result<(), ConvertFault>,
 }
 
-/// Conversions in order of their answers.
+/// Conversions in order of their answers. A whole one asks for the size of the new file and that of the old one, reads its record 0
+/// and then its records, and makes the new one.
 const ROWS: &[Row] = &[
     Row {
         title: "as many blocks as there may be",
@@ -61,10 +62,17 @@ const ROWS: &[Row] = &[
         answer: Err(ConvertFault::Open(OpenFault::Store)),
     },
     Row {
-        title: "the new file is not begun",
+        title: "its records are not read",
         new: Format::V2R1,
         limit: 6,
         failing: &[4],
+        answer: Err(ConvertFault::File(FileFault::Store)),
+    },
+    Row {
+        title: "the new file is not begun",
+        new: Format::V2R1,
+        limit: 6,
+        failing: &[5],
         answer: Err(ConvertFault::Replace(ReplaceFault::Store)),
     },
 ];

@@ -1,21 +1,22 @@
-use Rattle.std.proofs.Common.{◌≡◌, ◌%◌, length, ap, List, ℕ, Option, arith}
-use Rattle.std.proofs.lemmas.Result.{IfOk-weaker, IfErr-weaker}
-use Rattle.quota_v1.proofs.ViewLemmas.{value_seen, fault_of_loaded, fault_since}
+use Rattle.std.proofs.Common.{List, ℕ, sym, ap, ◌∙◌, arith}
+use Rattle.quota_types.specs.declared.file_kind.Format.TheVariants.{V1}
+use Rattle.outside.specs.World.{World}
+use Rattle.quota_blocks.specs.FileUse.{seen_in}
+use Rattle.quota_v1.proofs.OpenLemmas.{holds_opened, value_of_length}
 use Rattle.quota_v1.proofs.opening.open_v1.Goals as goal
 
-pub returns-in-Ok-load-clause-seen : goal.returns-in-Ok-load-clause-seen
-returns-in-Ok-load-clause-seen g c =
-    IfOk-weaker c.opened.result (λ _. length c.in-Ok-load.bytes.items % 40 ≡ 0) _
-    (λ file whole told kind. value_seen _ kind c.in-Ok-load.bytes.items (c.in-Ok-load.ensures.whole told) (omega (arith, c.in-Ok-load.ensures.within)) whole)
-    c.opened.ensures.whole
+pub returns-clause-seen : goal.returns-clause-seen
+returns-clause-seen g c = λ told kind. value_of_length _ kind c.in_ok-len.len (c.in_ok-len.ensures.there told) c.in_ok-len.ensures.limited c.in_ok-len.ensures.whole
 
-pub returns-in-Ok-load-clause-refused : goal.returns-in-Ok-load-clause-refused
-returns-in-Ok-load-clause-refused g c =
-    IfErr-weaker c.opened.result _ _
-    (λ fault seen. fault_of_loaded _ _ _ _ c.in-Ok-load.bytes.items fault (λ told. c.in-Ok-load.ensures.whole told) seen)
-    c.opened.ensures.refused
+pub returns-clause-held : goal.returns-clause-held
+returns-clause-held g c = λ told kind value view.
+    let S = g.S.Store in
+    let name = c.args.name.now in
+    let read = c.in-Ok-read_from.ensures in
+    let len = c.in_ok-len.ensures in
+    let same = ap (λ (n : List ℕ). (S.seen c.read_from.new.store).files n) c.in-Ok.ensures.ok ∙ ap (λ (files : World). files name) (read.leaves.files ∙ len.leaves.files) in
+    holds_opened S.tells ((S.seen c.args.store.now).files name) _ kind c.in_ok-len.len _ c.none.result value c.read_from.new.buf told same (len.there told)
+    (rw (ap (λ (files : World). files name) len.leaves.files) at (read.shown told)) (omega (arith, c.read_from.auto.buf)) (sym c.le64_at.ensures) (sym c.le64_at-2.ensures) c.none.ensures view
 
-pub returns-in-Err-TooLarge-clause-refused : goal.returns-in-Err-TooLarge-clause-refused
-returns-in-Err-TooLarge-clause-refused g c =
-    fault_since _ _ _ _ _ _ c.too_large.result c.in-Err-TooLarge.ensures.leaves.later
-    (ap (λ (files : List ℕ → Option (List ℕ)). files c.args.name.now) c.in-Err-TooLarge.ensures.leaves.files) c.too_large.ensures.refused
+pub returns-clause-fresh : goal.returns-clause-fresh
+returns-clause-fresh g c = ap (λ (n : List ℕ). seen_in c.new.result n V1 0) c.in-Ok.ensures.ok ∙ c.new.ensures c.args.name.now V1 0

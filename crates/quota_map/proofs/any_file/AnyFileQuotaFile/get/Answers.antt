@@ -1,9 +1,8 @@
-use Rattle.std.proofs.Common.{arith}
-use Rattle.quota_map.proofs.AnyLemmas.{flat_looks, tree_get_few, tree_looks}
+use Rattle.quota_map.proofs.AnyLemmas.{flat_get_few, flat_looks, tree_get_few, tree_looks}
 use Rattle.quota_map.proofs.any_file.AnyFileQuotaFile.get.Goals as goal
 
 pub returns-in-V1-clause-looks : goal.returns-in-V1-clause-looks
-returns-in-V1-clause-looks g c = flat_looks c.args.self.now c.in-V1.file c.get.new.self g.S.Store.tells _ _ 0 _ c.get.result c.in-V1.is (omega arith) c.get.ensures.looks
+returns-in-V1-clause-looks g c = flat_looks c.args.self.now c.in-V1.file c.get.new.self g.S.Store.tells _ _ 1 _ c.get.result c.in-V1.is flat_get_few c.get.ensures.looks
 
 pub returns-in-Tree-clause-looks : goal.returns-in-Tree-clause-looks
 returns-in-Tree-clause-looks g c =

@@ -1,13 +1,22 @@
-use Rattle.std.proofs.Common.{sym, subst, arith}
+use Rattle.std.proofs.Common.{◌≡◌, IfOk, refl, sym, subst}
+use Rattle.quota_blocks.specs.QuotaValue.{IsNextAfter, QuotaValue}
 use Rattle.quota_types.specs.Format.{IsTreeFormat}
-use Rattle.quota_map.proofs.AnyLemmas.{flat_looks, tree_looks, tree_next_few}
-use Rattle.quota_map.specs.AnyFile.{any_seen}
+use Rattle.quota_types.specs.declared.file_kind.Format.TheVariants.{V1 as Flat}
+use Rattle.quota_v1.specs.Opened.{most_next_reads}
+use Rattle.quota_map.proofs.AnyLemmas.{flat_looks, flat_next_few, tree_looks, tree_next_few}
+use Rattle.quota_map.specs.AnyFile.{HoldsAny, any_seen}
 use Rattle.quota_map.specs.declared.any_file.AnyFile.{AnyFile}
 use Rattle.quota_map.proofs.any_file.AnyFileQuotaFile.next_after.Goals as goal
 
 pub returns-in-V1-clause-looks : goal.returns-in-V1-clause-looks
-returns-in-V1-clause-looks g c = flat_looks c.args.self.now c.in-V1.file c.next_after.new.self g.S.Store.tells _ _ 0 _ c.next_after.result c.in-V1.is (omega arith) c.next_after.ensures.looks
+returns-in-V1-clause-looks g c = flat_looks c.args.self.now c.in-V1.file c.next_after.new.self g.S.Store.tells _ _ most_next_reads _ c.next_after.result c.in-V1.is (flat_next_few (any_seen c.args.self.now) _ (subst (λ (f : AnyFile). (any_seen f).format ≡ Flat) (sym c.in-V1.is) refl)) c.next_after.ensures.looks
 
 pub returns-in-Tree-clause-looks : goal.returns-in-Tree-clause-looks
 returns-in-Tree-clause-looks g c =
     tree_looks c.args.self.now c.in-Tree.file c.next_after-in-Tree.new.self g.S.Store.tells _ _ 8 _ c.next_after-in-Tree.result c.in-Tree.is c.in-Tree.file.tree (tree_next_few (any_seen c.args.self.now) _ (subst (λ (f : AnyFile). IsTreeFormat (any_seen f).format) (sym c.in-Tree.is) c.in-Tree.file.tree)) c.next_after-in-Tree.ensures.looks
+
+pub returns-in-V1-clause-found : goal.returns-in-V1-clause-found
+returns-in-V1-clause-found g c =
+    let S = g.S.Store in
+    subst (λ (file : AnyFile). IfOk c.next_after.result (λ found. (value : QuotaValue) → HoldsAny S.tells (S.seen c.args.store.now).files file value → IsNextAfter c.args.after value.records found)) (sym c.in-V1.is)
+    c.next_after.ensures.found

@@ -5,7 +5,7 @@ use Rattle.quota_map.proofs.any_file.AnyFileQuotaFile.put.Goals as goal
 
 pub returns-in-V1 : goal.returns-in-V1
 returns-in-V1 g c = record {
-  in_place = flat_in_place c.args.self.now c.in-V1.file (Put c.args.id c.args.rec) g.S.Store.tells _ _ _ c.in-V1.is;
+  in_place = flat_in_place c.args.self.now c.in-V1.file (Put c.args.id c.args.rec) g.S.Store.tells _ _ _ c.in-V1.is (c.put.ensures.in_place refl);
   changes = flat_changes c.args.self.now c.in-V1.file c.put.new.self g.S.Store.tells _ _ (Put c.args.id c.args.rec) _ c.in-V1.is c.put.ensures.changes;
 }
 

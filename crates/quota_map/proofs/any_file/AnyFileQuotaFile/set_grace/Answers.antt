@@ -5,7 +5,7 @@ use Rattle.quota_map.proofs.any_file.AnyFileQuotaFile.set_grace.Goals as goal
 
 pub returns-in-V1 : goal.returns-in-V1
 returns-in-V1 g c = record {
-  in_place = flat_in_place c.args.self.now c.in-V1.file (SetGrace c.args.grace) g.S.Store.tells _ _ _ c.in-V1.is;
+  in_place = flat_in_place c.args.self.now c.in-V1.file (SetGrace c.args.grace) g.S.Store.tells _ _ _ c.in-V1.is (c.set_grace.ensures.in_place refl);
   changes = flat_changes c.args.self.now c.in-V1.file c.set_grace.new.self g.S.Store.tells _ _ (SetGrace c.args.grace) _ c.in-V1.is c.set_grace.ensures.changes;
 }
 

@@ -1,15 +1,29 @@
-use Rattle.std.proofs.lemmas.Bool.{false≢true}
 use Rattle.std.proofs.Common.{refl, arith}
-use Rattle.quota_v1.proofs.MakesLemmas.{flat_put, if_ok-four}
+use Rattle.quota_blocks.specs.FileChange.{Put}
+use Rattle.quota_v1.proofs.FlatChangesLemmas.{flat_done, flat_torn, put_right, stays_done, stays_failed}
 use Rattle.quota_v1.proofs.flat_file.V1FileQuotaFile.put.Goals as goal
 
-pub returns : goal.returns
-returns g c = record {
-  in_place = λ never. absurd (false≢true never);
-  changes = c.rewrite.ensures.changes _ (λ value stands. refl)
-      (if_ok-four c.with_record-bytes.result
-      (λ bytes long written others times.
-      flat_put _ _ c.args.id c.args.rec (omega (arith, long, c.args.self.now.bytes.ok.0)) long written others times c.requires.not_null)
-      (rw c.deref.ensures.value at c.with_record-bytes.ensures.long) c.with_record-bytes.ensures.written
-      (rw c.deref.ensures.value at c.with_record-bytes.ensures.others) (rw c.deref.ensures.value at c.with_record-bytes.ensures.times));
-}
+pub returns-in-Ok : goal.returns-in-Ok
+returns-in-Ok g c =
+    let S = g.S.Store in
+    let was = c.args.self.now in
+    let did = rw c.as_str.ensures.value at c.in-Ok.ensures in
+    record {
+      in_place = λ _. stays_done S.tells _ _ _ _ _ tt did.changes;
+      changes = flat_done (Put c.args.id c.args.rec) S.tells _ _ _ _ was.opened was.len c.max-self.result was.times was.times was.window c.forget.new.self _ tt did.changes (λ value held. refl)
+          (λ value held after puts.
+          put_right c.args.id c.args.rec was.len c.max-self.result was.times was.window c.forget.new.self held.file after c.requires.kept c.requires.not_null (omega (arith, c.max-self.ensures)) c.forget.ensures held.few held.stands.whole held.agrees puts);
+    }
+
+pub returns-in-Err : goal.returns-in-Err
+returns-in-Err g c =
+    let S = g.S.Store in
+    let was = c.args.self.now in
+    let did = rw c.as_str.ensures.value at c.in-Err.ensures in
+    record {
+      in_place = λ _. stays_failed S.tells _ _ _ _ _ c.refused.result c.refused.ensures.same did.changes;
+      changes = flat_torn (Put c.args.id c.args.rec) S.tells _ _ _ _ was.opened was.len _ was.times was.times was.window c.forget.new.self c.refused.new.self _ c.refused.result c.forget.new.self c.refused.ensures.same did.changes (λ value held. refl)
+          (λ value held after puts.
+          put_right c.args.id c.args.rec was.len _ was.times was.window c.forget.new.self held.file after c.requires.kept c.requires.not_null refl c.forget.ensures held.few held.stands.whole held.agrees puts)
+          c.refused.ensures.counted;
+    }

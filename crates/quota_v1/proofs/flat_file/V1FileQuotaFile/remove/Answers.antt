@@ -1,39 +1,77 @@
-use Rattle.std.proofs.lemmas.Bool.{false≢true}
-use Rattle.std.proofs.Common.{◌≡◌, None, refl, arith}
+use Rattle.std.proofs.Common.{◌≡◌, None, sym, ◌∙◌, arith}
 use Rattle.std.specs.String.{string_bytes}
-use Rattle.quota_blocks.proofs.ChangesLemmas.{bounded-none, changes-idle}
-use Rattle.outside.proofs.FrameLemmas.{only_reads-none}
 use Rattle.quota_blocks.specs.FileChange.{Remove}
 use Rattle.quota_v1.specs.FlatFile.{unless_zeros}
-use Rattle.quota_v1.specs.Opened.{flat_at, flat_laws}
-use Rattle.quota_v1.proofs.MakesLemmas.{flat_removed, if_ok-four, value_absent, value_found}
-use Rattle.quota_v1.proofs.RecordLemmas.{holds_absent}
+use Rattle.quota_v1.specs.Slot.{PutsRecord}
+use Rattle.quota_v1.proofs.ChangedLemmas.{changes_after_read}
+use Rattle.quota_v1.proofs.FlatChangesLemmas.{flat_done, flat_torn, remove_right, stays_done, stays_failed}
+use Rattle.quota_v1.proofs.LooksLemmas.{forgotten, removes_none, removes_refused}
+use Rattle.quota_v1.proofs.MakesLemmas.{value_found}
 use Rattle.quota_v1.proofs.flat_file.V1FileQuotaFile.remove.Goals as goal
 
-pub returns-then-is_none : goal.returns-then-is_none
-returns-then-is_none g c =
+pub returns-in-Ok-None-clause-changes : goal.returns-in-Ok-None-clause-changes
+returns-in-Ok-None-clause-changes g c =
     let S = g.S.Store in
-    let at = flat_at S.tells (S.seen c.args.store.now) (string_bytes c.args.self.now.name) c.args.self.now.opened c.args.self.now.bytes.items in
-    let is = rw c.deref.ensures.value at c.record_of.ensures.value in
-    record {
-      in_place = λ never. absurd (false≢true never);
-      changes = changes-idle (Remove c.args.id) (flat_laws S.tells) at at tt
-          (λ value held. value_absent _ value c.args.id c.record_of.result is c.if-is_none.ensures held.stands)
-          (λ value held. holds_absent _ _ _ value c.args.id c.record_of.result is c.if-is_none.ensures held)
-          (only_reads-none _ _) refl (bounded-none (Remove c.args.id) (flat_laws S.tells) at at refl refl);
-    }
+    let was = c.args.self.now in
+    let did = rw c.as_str.ensures.value at c.in-Ok-None.ensures in
+    removes_none S.tells (S.seen c.args.store.now) (S.seen c.read_record.new.store) (string_bytes was.name) was.opened was.len was.times was.window c.forget.new.self
+    (λ value held. forgotten c.forget.new.self held.file c.forget.ensures) c.args.id tt did.leaves did.reads (λ told file is long. sym c.in-Ok-None.field-0-is ∙ did.found told file is long)
 
-pub returns : goal.returns
-returns g c =
+pub returns-in-Err-clause-changes : goal.returns-in-Err-clause-changes
+returns-in-Err-clause-changes g c =
+    let S = g.S.Store in
+    let was = c.args.self.now in
+    let did = rw c.as_str.ensures.value at c.in-Err.ensures in
+    removes_refused S.tells (S.seen c.args.store.now) (S.seen c.read_record.new.store) (string_bytes was.name) was.opened c.refused.new.self was.len was.times was.window c.forget.new.self c.args.id c.in-Err.fault c.refused.result
+    (λ value held. forgotten c.forget.new.self held.file c.forget.ensures) c.refused.ensures.same did.leaves did.reads did.refused did.may c.refused.ensures.counted
+
+pub returns-in-Ok : goal.returns-in-Ok
+returns-in-Ok g c =
+    let S = g.S.Store in
+    let was = c.args.self.now in
+    let old = S.seen c.args.store.now in
+    let new = S.seen c.write_record.new.store in
+    let read = rw c.as_str.ensures.value at c.in-Ok-Some.ensures in
+    let did = rw c.as_str-2.ensures.value at c.in-Ok.ensures in
     let zeros = c.default.ensures in
     let none : unless_zeros c.default.result ≡ None = rw (zeros.0, zeros.1.0, zeros.1.1.0, zeros.1.1.1.0, zeros.1.1.1.1.0, zeros.1.1.1.1.1.0, zeros.1.1.1.1.1.1.0, zeros.1.1.1.1.1.1.1) in
-    let is = rw c.deref.ensures.value at c.record_of.ensures.value in
+    let changes = changes_after_read S.tells (PutsRecord c.args.id c.default.result was.times) (string_bytes was.name) old (S.seen c.read_record.new.store) new _ read.leaves read.reads (omega (arith, did.reads)) did.changes in
     record {
-      in_place = λ never. absurd (false≢true never);
-      changes = c.rewrite.ensures.changes _ (λ value stands. value_found _ value c.args.id c.record_of.result is c.if-is_none.ensures stands)
-          (if_ok-four c.with_record-bytes.result
-          (λ bytes long written others times.
-          flat_removed _ _ c.args.id c.default.result c.record_of.result is c.if-is_none.ensures (omega (arith, long, c.args.self.now.bytes.ok.0)) long written others times none)
-          (rw c.deref-2.ensures.value at c.with_record-bytes.ensures.long) c.with_record-bytes.ensures.written
-          (rw c.deref-2.ensures.value at c.with_record-bytes.ensures.others) (rw c.deref-2.ensures.value at c.with_record-bytes.ensures.times));
+      in_place = λ _. stays_done S.tells _ (string_bytes was.name) old new _ tt changes;
+      never_full = tt;
+      changes = flat_done (Remove c.args.id) S.tells (PutsRecord c.args.id c.default.result was.times) old new (string_bytes was.name) was.opened was.len was.len was.times was.times was.window c.forget.new.self _ tt changes
+          (λ value held. value_found held.file value c.args.id c.in-Ok-Some.field-0-0 (sym c.in-Ok-Some.field-0-is ∙ read.found held.told held.file held.there (sym held.agrees.long)) held.stands)
+          (λ value held after puts.
+          remove_right c.args.id c.default.result c.in-Ok-Some.field-0-0 was.len was.times was.window c.forget.new.self held.file after none
+          (sym c.in-Ok-Some.field-0-is ∙ read.found held.told held.file held.there (sym held.agrees.long)) c.forget.ensures held.few held.stands.whole held.agrees puts);
     }
+
+pub returns-in-Err-write_record-clause-in_place : goal.returns-in-Err-write_record-clause-in_place
+returns-in-Err-write_record-clause-in_place g c = λ _.
+    let S = g.S.Store in
+    let was = c.args.self.now in
+    let old = S.seen c.args.store.now in
+    let new = S.seen c.write_record.new.store in
+    let read = rw c.as_str.ensures.value at c.in-Ok-Some.ensures in
+    let did = rw c.as_str-2.ensures.value at c.in-Err-write_record.ensures in
+    let changes = changes_after_read S.tells (PutsRecord c.args.id c.default.result was.times) (string_bytes was.name) old (S.seen c.read_record.new.store) new _ read.leaves read.reads (omega (arith, did.reads)) did.changes in
+    stays_failed S.tells _ (string_bytes was.name) old new _ c.refused-in-Err-write_record.result c.refused-in-Err-write_record.ensures.same changes
+
+pub returns-in-Err-write_record-clause-changes : goal.returns-in-Err-write_record-clause-changes
+returns-in-Err-write_record-clause-changes g c =
+    let S = g.S.Store in
+    let was = c.args.self.now in
+    let old = S.seen c.args.store.now in
+    let new = S.seen c.write_record.new.store in
+    let read = rw c.as_str.ensures.value at c.in-Ok-Some.ensures in
+    let did = rw c.as_str-2.ensures.value at c.in-Err-write_record.ensures in
+    let zeros = c.default.ensures in
+    let none : unless_zeros c.default.result ≡ None = rw (zeros.0, zeros.1.0, zeros.1.1.0, zeros.1.1.1.0, zeros.1.1.1.1.0, zeros.1.1.1.1.1.0, zeros.1.1.1.1.1.1.0, zeros.1.1.1.1.1.1.1) in
+    let changes = changes_after_read S.tells (PutsRecord c.args.id c.default.result was.times) (string_bytes was.name) old (S.seen c.read_record.new.store) new _ read.leaves read.reads (omega (arith, did.reads)) did.changes in
+    flat_torn (Remove c.args.id) S.tells (PutsRecord c.args.id c.default.result was.times) old new (string_bytes was.name) was.opened was.len was.len was.times was.times was.window c.forget.new.self
+    c.refused-in-Err-write_record.new.self _ c.refused-in-Err-write_record.result c.forget.new.self c.refused-in-Err-write_record.ensures.same changes
+    (λ value held. value_found held.file value c.args.id c.in-Ok-Some.field-0-0 (sym c.in-Ok-Some.field-0-is ∙ read.found held.told held.file held.there (sym held.agrees.long)) held.stands)
+    (λ value held after puts.
+    remove_right c.args.id c.default.result c.in-Ok-Some.field-0-0 was.len was.times was.window c.forget.new.self held.file after none
+    (sym c.in-Ok-Some.field-0-is ∙ read.found held.told held.file held.there (sym held.agrees.long)) c.forget.ensures held.few held.stands.whole held.agrees puts)
+    c.refused-in-Err-write_record.ensures.counted

@@ -1,0 +1,221 @@
+-- A flat file of which one record was written for a change of it.
+use Rattle.std.proofs.Common.{◌≡◌, ◌⊎◌, ℕ, ◌+◌, ◌*◌, ◌≤◌, ◌%◌, max, None, Bool, false, IfErr, List, [], length, Option, Some, Result, Ok, Err, inl, inr, refl, sym, ap, subst, ◌∙◌, arith}
+use Rattle.std.specs.Prelude.{IsSomeAnd}
+use Rattle.file_blocks.specs.Block.{bytes_of}
+use Rattle.outside.specs.Frame.{OnlyReads}
+use Rattle.outside.specs.Seen.{StoreSeen}
+use Rattle.outside.specs.World.{World}
+use Rattle.outside.proofs.WorldLemmas.{with_file-at}
+use Rattle.quota_types.specs.declared.file_kind.Format.{Format}
+use Rattle.quota_types.specs.declared.file_kind.Format.TheVariants.{V1}
+use Rattle.quota_types.specs.declared.record.Grace.{Grace}
+use Rattle.quota_types.specs.declared.record.Rec.{Rec}
+use Rattle.quota_types.specs.Kept.{IsKept}
+use Rattle.quota_types.specs.Range.{grace_unfit, unfit}
+use Rattle.quota_types.specs.Rec.{IsNull}
+use Rattle.std.proofs.lemmas.Bool.Decides.{nat_tests}
+use Rattle.quota_blocks.specs.Changes.{Changes, FileAt}
+use Rattle.quota_blocks.specs.FileChange.{FileChange, Put, Remove, SetGrace, changed_value, has_nothing_to_do}
+use Rattle.quota_blocks.specs.FileUse.{seen_in}
+use Rattle.quota_blocks.specs.QuotaFile.{ChangesBlocks, CountsRefusal, IfFull, StaysInPlace, WantsNoMemory}
+use Rattle.quota_blocks.specs.QuotaValue.{QuotaValue}
+use Rattle.quota_blocks.specs.declared.file_use.FileUse.{FileUse}
+use Rattle.quota_blocks.specs.declared.quota_file.FileFault.{FileFault}
+use Rattle.quota_blocks.specs.declared.quota_file.FileFault.TheVariants.{Store, Damage, Full, Memory}
+use Rattle.quota_blocks.proofs.ChangesLemmas.{IsWanted, changes-done, changes-torn}
+use Rattle.quota_v1.specs.Change.{FitsFlat, FlatChanged, FlatGraced, IsFlatChange, MayRefuse, WritesFlat}
+use Rattle.quota_v1.specs.FlatFile.{FlatStandsFor, flat_record, unless_zeros}
+use Rattle.quota_v1.specs.Opened.{AgreesFlat, HoldsFlat, flat_at, flat_laws}
+use Rattle.quota_v1.specs.Slot.{ChangesFile, MakesOne, PutsRecord}
+use Rattle.quota_v1.specs.View.{flat_limit}
+use Rattle.quota_v1.specs.declared.window.Window.{Window}
+use Rattle.quota_v1.proofs.LooksLemmas.{forgotten}
+use Rattle.quota_v1.proofs.MakesLemmas.{flat_graced, flat_put, flat_removed}
+
+-- What was written is what the change makes of a file with which what was kept agreed, and what is kept then agrees with it.
+pub record IsRight (change : FileChange) (len : ℕ) (times : Grace) (window : Window) (before after : List ℕ) : Type 0 where
+  pub change_of : IsFlatChange change before after
+  pub few : length after ≤ flat_limit
+  pub agrees : AgreesFlat len times window after
+
+-- the named file once it was made so
+named_after : (so : (before after : List ℕ) → Type 0) (name : List ℕ) (old new : World) (made : MakesOne so name old new) → new name ≡ Some made.after
+named_after so name old new made = ap (λ (files : World). files name) made.files ∙ with_file-at old name (Some made.after)
+
+-- it is related so to the file that was there
+made_of : (so : (before after : List ℕ) → Type 0) (name : List ℕ) (old new : World) (file : List ℕ) (made : MakesOne so name old new) → old name ≡ Some file → so file made.after
+made_of so name old new file made is = subst (λ (n : Option (List ℕ)). so (bytes_of n) made.after) is made.made
+
+-- no block of a file has changed that is as it was
+few_same : (file : List ℕ) → ChangesBlocks 12 file file
+few_same file = record { numbers = []; few = omega arith; others = λ number none. refl; longer = omega arith; within = λ blocks below. omega arith }
+
+few_named : (so : (before after : List ℕ) → Type 0) (name : List ℕ) (old new : World) → MakesOne so name old new → ChangesBlocks 12 (bytes_of (old name)) (bytes_of (new name))
+few_named so name old new made = subst (λ (n : Option (List ℕ)). ChangesBlocks 12 (bytes_of (old name)) (bytes_of n)) (sym (named_after so name old new made)) made.few
+
+few_unless : (so : (before after : List ℕ) → Type 0) (name : List ℕ) (old new : World) → (new ≡ old) ⊎ MakesOne so name old new → ChangesBlocks 12 (bytes_of (old name)) (bytes_of (new name))
+few_unless so name old new (inl same) = subst (λ (files : World). ChangesBlocks 12 (bytes_of (old name)) (bytes_of (files name))) (sym same) (few_same (bytes_of (old name)))
+few_unless so name old new (inr made) = few_named so name old new made
+
+-- a change that was made in place
+pub stays_done : {E : Type 0} (tells : Bool) (so : (before after : List ℕ) → Type 0) (name : List ℕ) (old new : StoreSeen) (told told' : Unit {0}) → ChangesFile {E = E} tells so name old new (Ok told)
+    → StaysInPlace tells name old.files new.files (Ok told')
+stays_done tells so name old new told told' changes = record {
+  few = λ tell. few_named so name old.files new.files (changes.changed tell);
+  others = changes.others;
+  no_memory = tt;
+}
+
+pub stays_failed : {E : Type 0} (tells : Bool) (so : (before after : List ℕ) → Type 0) (name : List ℕ) (old new : StoreSeen) (cause : E) (fault : FileFault) → fault ≡ Store → ChangesFile tells so name old new (Err cause)
+    → StaysInPlace tells name old.files new.files (Err fault)
+stays_failed tells so name old new cause fault is changes = record {
+  few = λ tell. few_unless so name old.files new.files (changes.torn tell);
+  others = changes.others;
+  no_memory = subst WantsNoMemory (sym is) tt;
+}
+
+-- and one that wrote nothing
+pub stays_unwritten : {done : Bool} (tells : Bool) (name : List ℕ) (old new : StoreSeen) (result : Result (Unit {0}) FileFault) → OnlyReads done name old new → IfErr result WantsNoMemory
+    → StaysInPlace tells name old.files new.files result
+stays_unwritten tells name old new result read none = record {
+  few = λ tell. few_unless (λ before after. ⊥) name old.files new.files (inl read.files);
+  others = λ other differ. ap (λ (files : World). files other) read.files;
+  no_memory = none;
+}
+
+module _ (change : FileChange) (tells : Bool) (so : (before after : List ℕ) → Type 0) (old new : StoreSeen) (name : List ℕ) (opened : FileUse) (len len' : ℕ) (times times' : Grace) (window window' : Window) where
+  abbrev before : FileAt
+  before = flat_at tells old name opened len times window
+
+  -- something is to be done at each value that is held
+  abbrev pub IsBusy : Type 0
+  IsBusy = (value : QuotaValue) → HoldsFlat tells (old.files name) len times window value → has_nothing_to_do change value ≡ false
+
+  -- what is written is right at each value that is held
+  abbrev pub WritesRight : Type 0
+  WritesRight = (value : QuotaValue) (held : HoldsFlat tells (old.files name) len times window value) (after : List ℕ) → so held.file after → IsRight change len' times' window' held.file after
+
+  right_of : WritesRight → (value : QuotaValue) (held : HoldsFlat tells (old.files name) len times window value) (made : MakesOne so name old.files new.files)
+      → IsRight change len' times' window' held.file made.after
+  right_of right value held made = right value held made.after (made_of so name old.files new.files held.file made held.there)
+
+  makes_flat : WritesRight → (value : QuotaValue) → HoldsFlat tells (old.files name) len times window value → (made : MakesOne so name old.files new.files) → ((other : List ℕ) → ¬ (other ≡ name) → new.files other ≡ old.files other)
+      → WritesFlat (FitsFlat (FlatChanged change)) name old.files new.files
+  makes_flat right value held made others = record {
+    named =
+        subst (λ (n : Option (List ℕ)). IsSomeAnd n (λ before. IsSomeAnd (new.files name) (FitsFlat (FlatChanged change) before))) (sym held.there)
+        (subst (λ (n : Option (List ℕ)). IsSomeAnd n (FitsFlat (FlatChanged change) held.file)) (sym (named_after so name old.files new.files made))
+        ((right_of right value held made).change_of.changed, (right_of right value held made).few));
+    others = others;
+  }
+
+  wanted : IsBusy → IsWanted change (flat_laws tells) before
+  wanted busy = record { busy = busy; room = λ needs value blocks limit held lacks. lacks }
+
+  -- it was done
+  pub flat_done : {E : Type 0} (told told' : Unit {0}) → ChangesFile {E = E} tells so name old new (Ok told) → IsBusy → WritesRight
+      → Changes change (flat_laws tells) before (flat_at tells new name opened len' times' window') (Ok told')
+  flat_done told told' changes busy right =
+      changes-done change (flat_laws tells) before (flat_at tells new name opened len' times' window') told' (wanted busy)
+      (λ value held.
+      let made = changes.changed held.told in
+      let is = right_of right value held made in
+      record {
+        told = held.told;
+        file = made.after;
+        there = named_after so name old.files new.files made;
+        few = is.few;
+        stands = is.change_of.stands value held.stands;
+        agrees = is.agrees;
+      })
+      (λ value held. makes_flat right value held (changes.changed held.told) changes.others)
+      (λ value held. changes.writes)
+      changes.synced refl changes.leaves (record { reads = changes.reads; writes = changes.writes })
+
+  -- the store failed
+  pub flat_torn : {E : Type 0} (opened' : FileUse) (cause : E) (fault : FileFault) (window'' : Window) → fault ≡ Store → ChangesFile tells so name old new (Err cause) → IsBusy → WritesRight
+      → ((any : List ℕ) (format : Format) (limit : ℕ) → CountsRefusal false (seen_in opened any format limit) (seen_in opened' any format limit))
+      → Changes change (flat_laws tells) before (flat_at tells new name opened' len times window'') (Err fault)
+  flat_torn opened' cause fault window'' is changes busy right counted =
+      subst (λ (f : FileFault). Changes change (flat_laws tells) before (flat_at tells new name opened' len times window'') (Err f)) (sym is)
+      (changes-torn change (flat_laws tells) before (flat_at tells new name opened' len times window'') (wanted busy) changes.cause tt (counted name V1 0)
+      (record {
+        left = λ value held. elim (changes.torn held.told) [
+          | inl same ↦ inl (ap (λ (files : World). files name) same)
+          | inr made ↦ inr (record {
+            after = new.files;
+            made = makes_flat right value held made changes.others;
+            stands = subst (λ (n : Option (List ℕ)). IsSomeAnd n (λ bytes. FlatStandsFor bytes (changed_value change value))) (sym (named_after so name old.files new.files made))
+                ((right_of right value held made).change_of.stands value held.stands);
+            left = inr refl;
+          })
+        ];
+        between = λ told. inr (new.files name, inr refl);
+      })
+      changes.leaves (record { reads = changes.reads; writes = changes.writes }))
+
+-- a call on a flat file is never refused since the file is full
+never_full : (fault : FileFault) → MayRefuse fault → IfFull fault (λ blocks limit. ⊥)
+never_full Store may = tt
+never_full (Damage at) may = tt
+never_full (Full blocks limit) may = may
+never_full Memory may = tt
+
+-- nor is a change of it
+pub change-never_full : (change : FileChange) (tells : Bool) (old new : FileAt) (result : Result (Unit {0}) FileFault) → Changes change (flat_laws tells) old new result
+    → IfErr result (λ fault. IfFull fault (λ blocks limit. ⊥))
+change-never_full change tells old new (Ok told) changes = tt
+change-never_full change tells old new (Err fault) changes = never_full fault changes.edits.refused.may
+
+id_kept : (id : ℕ) (rec : Rec) → IsKept V1 id rec → id ≤ 1048575
+id_kept id rec kept = id_fits id rec kept.fits
+  where
+    id_fits : (id : ℕ) (rec : Rec) → unfit V1 id rec ≡ None → id ≤ 1048575
+    id_fits id rec fits = grind (arith, nat_tests)
+
+-- a record that is put is right
+pub put_right : (id : ℕ) (rec : Rec) (len len' : ℕ) (times : Grace) (window window' : Window) (before after : List ℕ) → IsKept V1 id rec → ¬ IsNull rec → len' ≡ max len (40 * id + 40) → window'.known ≡ false
+    → length before ≤ flat_limit → length before % 40 ≡ 0 → AgreesFlat len times window before → PutsRecord id rec times before after → IsRight (Put id rec) len' times window' before after
+put_right id rec len len' times window window' before after kept some long forgets few whole agrees puts =
+    let is = flat_put before after id rec times whole agrees.block_time agrees.inode_time puts some in
+    let low : id ≤ 1048575 = id_kept id rec kept in
+    record {
+      change_of = is;
+      few = omega (arith, puts.long, few, low);
+      agrees = record {
+        long = omega (arith, puts.long, long, agrees.long);
+        block_time = is.changed.block_time ∙ agrees.block_time;
+        inode_time = is.changed.inode_time ∙ agrees.inode_time;
+        next = forgotten window' after forgets;
+      };
+    }
+
+-- a record of zeros that takes the place of one is right
+pub remove_right : (id : ℕ) (rec found : Rec) (len : ℕ) (times : Grace) (window window' : Window) (before after : List ℕ) → unless_zeros rec ≡ None → Some found ≡ flat_record before id → window'.known ≡ false
+    → length before ≤ flat_limit → length before % 40 ≡ 0 → AgreesFlat len times window before → PutsRecord id rec times before after → IsRight (Remove id) len times window' before after
+remove_right id rec found len times window window' before after none there forgets few whole agrees puts =
+    let is = flat_removed before after id rec times whole agrees.block_time agrees.inode_time puts found there none in
+    record {
+      change_of = is;
+      few = omega (arith, is.changed.long, few);
+      agrees = record {
+        long = omega (arith, is.changed.long, agrees.long);
+        block_time = is.changed.block_time ∙ agrees.block_time;
+        inode_time = is.changed.inode_time ∙ agrees.inode_time;
+        next = forgotten window' after forgets;
+      };
+    }
+
+-- and so are grace periods that are set
+pub grace_right : (grace : Grace) (len len' : ℕ) (times : Grace) (window window' : Window) (before after : List ℕ) → grace_unfit V1 grace ≡ None → len' ≡ max len 40 → window'.known ≡ false
+    → length before ≤ flat_limit → length before % 40 ≡ 0 → AgreesFlat len times window before → FlatGraced grace before after → IsRight (SetGrace grace) len' grace window' before after
+grace_right grace len len' times window window' before after fits long forgets few whole agrees graced = record {
+  change_of = flat_graced before after grace whole graced fits;
+  few = omega (arith, graced.long, few);
+  agrees = record {
+    long = omega (arith, graced.long, long, agrees.long);
+    block_time = graced.block_time;
+    inode_time = graced.inode_time;
+    next = forgotten window' after forgets;
+  };
+}

@@ -1,0 +1,36 @@
+use Rattle.std.proofs.Common.{◌≡◌, ◌+◌, ◌<◌, min, arith}
+use Rattle.outside.proofs.FrameLemmas.{only_reads-then}
+use Rattle.quota_v1.proofs.WindowLemmas.{first_then, held_of_file, held_on, none_then, reads_exact, reads_within}
+use Rattle.quota_v1.proofs.window.Window.first_from.Goals as goal
+
+pub returns-in-Some-clause-found : goal.returns-in-Some-clause-found
+returns-in-Some-clause-found g c = λ told file is whole held.
+    let so_far = c.loop-next.invariant in
+    let on = held_on _ _ c.args.name.now c.args.self.now c.loop-next.self c.bring.new.self so_far.leaves.files (so_far.held told) (c.bring.ensures.held told) in
+    first_then file c.args.from c.loop-next.next c.min-end.result c.args.records c.in-Some.entry so_far.later (omega (arith, c.min-end.ensures))
+    (so_far.none told file is whole held) (c.in-Some.ensures.found file whole (held_of_file _ file c.args.self.now c.bring.new.self is on held))
+
+pub returns-in-Some-clause-held : goal.returns-in-Some-clause-held
+returns-in-Some-clause-held g c = λ told.
+    let so_far = c.loop-next.invariant in
+    held_on _ _ c.args.name.now c.args.self.now c.loop-next.self c.bring.new.self so_far.leaves.files (so_far.held told) (c.bring.ensures.held told)
+
+pub loop-next-preserved : goal.loop-next-preserved
+loop-next-preserved g c =
+    let so_far = c.loop-next.invariant in
+    let has = c.in_ok-bring.ensures.has in
+    let end : c.min-end.result ≡ min c.args.records (c.bring.new.self.first + 25) = c.min-end.ensures in
+    let more : c.loop-next.next < c.args.records = c.loop-next-test.true in
+    let on : c.loop-next.next < c.min-end.result = omega (arith, end, more, has.2) in
+    record {
+      later = omega (arith, so_far.later, on);
+      held = λ told. held_on _ _ c.args.name.now c.args.self.now c.loop-next.self c.bring.new.self so_far.leaves.files (so_far.held told) (c.bring.ensures.held told);
+      none = λ told file is whole held.
+          let kept = held_on _ _ c.args.name.now c.args.self.now c.loop-next.self c.bring.new.self so_far.leaves.files (so_far.held told) (c.bring.ensures.held told) in
+          none_then file c.args.from c.loop-next.next c.min-end.result (so_far.none told file is whole held)
+          (c.in_default.ensures.found file whole (held_of_file _ file c.args.self.now c.bring.new.self is kept held));
+      leaves = only_reads-then _ _ _ _ so_far.leaves c.in_ok-bring.ensures.leaves;
+      exact = λ less. reads_exact _ _ _ c.args.from c.loop-next.next c.bring.new.self.first c.min-end.result c.args.records so_far.later more has.1 end (so_far.exact more) c.in_ok-bring.ensures.fresh c.bring.ensures.reads on less;
+      reads = reads_within _ _ _ c.args.from c.loop-next.next c.bring.new.self.first c.min-end.result c.args.records so_far.later more has.1 end (so_far.exact more) c.in_ok-bring.ensures.fresh c.bring.ensures.reads on;
+      within = λ _. omega (arith, end);
+    }
