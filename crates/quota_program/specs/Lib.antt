@@ -1,2 +1,3 @@
 pub mod About
+pub mod Sharing
 pub mod Starting

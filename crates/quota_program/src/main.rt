@@ -11,15 +11,18 @@ ghost use Rattle.run_steps.specs.Done.{AppendsUnless};
 
 use help::{About, tell};
 use quota_blocks::Sink;
-use quota_cli::run::{refuse, run};
+use quota_cli::run::{UsageFault, read_words, refuse, run};
 use refusals::{Cause, Refusal, UsageKind, Word};
+use sharing::sharing_of;
 use std::alloc::Global;
+use std::fs::{File, Files};
 use std::io::{BufReader, ErrorKind};
 use std::process::ExitCode;
 use std::{env, io};
 use system_objects::{FileStore, StreamSink, StreamSource, UdpLink, moment};
 
 mod help;
+mod sharing;
 
 /// The most bytes that are taken from the standard input with one call of the system.
 const READ_AHEAD: usize = 65_536;
@@ -62,6 +65,23 @@ fn stop<E: Sink>(err: &mut E, cause: Cause, alloc: Global) -> u8
     refuse(err, &Refusal::of(cause, Word::empty(alloc)))
 }
 
+/// Tells a store how the files of the command are shared with other programs. Words that ask for no command use none, and
+/// are refused when they are carried out.
+fn share_files<R: Files<File = File>>(
+    store: &mut FileStore<'_, R>,
+    words: &[String],
+    alloc: Global,
+) -> Result<(), Cause> {
+    match read_words(alloc, words, false) {
+        Ok(command) => match store.share(sharing_of(&command)) {
+            Ok(()) => Ok(()),
+            Err(_) => Err(Cause::Memory),
+        },
+        Err(UsageFault::Memory) => Err(Cause::Memory),
+        Err(UsageFault::Usage { .. }) => Ok(()),
+    }
+}
+
 fn main(rt: HostRuntime) -> ExitCode {
     let mut err = StreamSink::new(rt.stderr());
     let status = match (given_words(&rt), moment(&rt)) {
@@ -71,6 +91,9 @@ fn main(rt: HostRuntime) -> ExitCode {
                 return ExitCode::from(tell(&mut out, &mut err, about.text(), rt.alloc()));
             }
             let mut store = FileStore::new(rt.alloc(), &rt);
+            if let Err(cause) = share_files(&mut store, &words, rt.alloc()) {
+                return ExitCode::from(stop(&mut err, cause, rt.alloc()));
+            }
             let Ok(stdin) = BufReader::with_capacity(rt.alloc(), READ_AHEAD, rt.stdin()) else {
                 return ExitCode::from(stop(&mut err, Cause::Memory, rt.alloc()));
             };

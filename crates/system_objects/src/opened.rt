@@ -12,10 +12,22 @@ use std::io::ErrorKind;
 pub(crate) enum Access {
     /// To read it.
     Reading,
-    /// To read it and write to it; it is made where it is not there.
+    /// To read it and write to it; it is made where it was never there.
     Writing,
     /// To read and write a new file, in place of the one that was there.
     Making,
+}
+
+impl Access {
+    /// Whether a file that was opened so may be used so. A file that is to be made is another one.
+    #[inline(always)]
+    pub fn allows(self, access: Access) -> bool {
+        match access {
+            Access::Reading => true,
+            Access::Writing => self != Access::Reading,
+            Access::Making => false,
+        }
+    }
 }
 
 /// An open file, with the name that it was opened by, what was read ahead of it, and what is to be written to it.
@@ -40,15 +52,10 @@ impl Opened {
         }
     }
 
-    /// Whether it is the file of this name, and may be used so. A file that is to be made is another one.
+    /// Whether it is the file of this name, and may be used so.
     #[inline(always)]
     pub fn serves(&self, name: &str, access: Access) -> bool {
-        let may = match access {
-            Access::Reading => true,
-            Access::Writing => self.access != Access::Reading,
-            Access::Making => false,
-        };
-        may && self.name.as_str() == name
+        self.access.allows(access) && self.name.as_str() == name
     }
 
     /// Its length; what is no file, as a folder, is an error.

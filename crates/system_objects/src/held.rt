@@ -1,0 +1,45 @@
+use crate::locks::LockedFile;
+use crate::opened::Access;
+use crate::stamp::Node;
+use std::alloc::{AllocError, Global};
+use std::fs::File;
+use std::io;
+use std::io::ErrorKind;
+
+/// The files that are locked, whatever their names. Each is let go with the last of its open files.
+#[derive(Drop)]
+pub(crate) struct HeldFiles {
+    files: Vec<LockedFile>,
+}
+
+impl HeldFiles {
+    /// None is locked yet.
+    pub fn new(alloc: Global) -> HeldFiles {
+        HeldFiles {
+            files: Vec::new(alloc),
+        }
+    }
+
+    /// Holds a file that was locked, and answers which one it is.
+    pub fn add(&mut self, locked: LockedFile) -> Result<Node, AllocError> {
+        let node = locked.node;
+        self.files.push(locked)?;
+        Ok(node)
+    }
+
+    /// The file once more, where it is held; that it may not be used so is an error.
+    pub fn again(&self, node: Node, access: Access) -> io::Result<Option<(File, Access)>> {
+        match self.files.iter().find(|held| held.node == node) {
+            Some(held) if held.access.allows(access) => {
+                Ok(Some((held.file.try_clone()?, held.access)))
+            }
+            Some(_) => Err(io::Error::from(ErrorKind::PermissionDenied)),
+            None => Ok(None),
+        }
+    }
+
+    /// Lets go of a file.
+    pub fn release(&mut self, node: Node) {
+        self.files.retain(|held| held.node != node);
+    }
+}

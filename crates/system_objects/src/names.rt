@@ -1,0 +1,137 @@
+use crate::opened::Access;
+use crate::sharing::Lock;
+use crate::stamp::{Node, Stamp};
+use std::alloc::Global;
+use std::fs::{File, Files, Metadata, OpenOptions};
+use std::io::ErrorKind;
+use std::os::unix::fs::{MetadataExt, OpenOptionsExt, PermissionsExt, chown};
+use std::{fs, io};
+
+/// What a file's group may do, in its mode.
+const GROUP: u32 = 0o070;
+
+/// What is put behind the name of a file that is written anew, until it takes that name.
+pub(crate) const NEW: &str = ".new";
+
+/// What the system says of what a name stands for; none where that is nothing.
+fn metadata_at<R: Files>(files: &R, path: &str) -> io::Result<Option<Metadata>> {
+    match fs::metadata(files, path) {
+        Ok(metadata) => Ok(Some(metadata)),
+        Err(error) => match error.kind() {
+            ErrorKind::NotFound | ErrorKind::NotADirectory => Ok(None),
+            _ => Err(error),
+        },
+    }
+}
+
+/// What a name stands for; none where there is no file. What is no regular file, as a folder or a pipe, is an error: opening
+/// a pipe would wait for whoever writes to it.
+pub(crate) fn stamp_at<R: Files>(files: &R, path: &str) -> io::Result<Option<Stamp>> {
+    match metadata_at(files, path)? {
+        Some(metadata) if metadata.is_file() => Ok(Some(Stamp::of(&metadata))),
+        Some(_) => Err(io::Error::from(ErrorKind::InvalidInput)),
+        None => Ok(None),
+    }
+}
+
+/// What a name stands for that is to be replaced; none where that is no regular file.
+pub(crate) fn replaced_at<R: Files>(files: &R, path: &str) -> io::Result<Option<Stamp>> {
+    match metadata_at(files, path)? {
+        Some(metadata) if metadata.is_file() => Ok(Some(Stamp::of(&metadata))),
+        _ => Ok(None),
+    }
+}
+
+/// Whether a name stands for this file.
+pub(crate) fn stands_for<R: Files>(files: &R, path: &str, node: Node) -> io::Result<bool> {
+    let found = stamp_at(files, path)?;
+    Ok(found.is_some_and(|stamp| stamp.node() == node))
+}
+
+/// Where a name leads: to the file behind it where it is a link, else nowhere but to itself. A link that leads to no file is
+/// taken for the name of none.
+pub(crate) fn behind_link<R: Files>(alloc: Global, files: &R, name: &str) -> io::Result<String> {
+    match fs::symlink_metadata(files, name) {
+        Ok(metadata) if metadata.file_type().is_symlink() && replaced_at(files, name)?.is_some() =>
+            { Ok(files.canonicalize(alloc, name)?.into_string()) }
+        _ => Ok(String::from_str(alloc, name)?),
+    }
+}
+
+/// Opens a file that is there, and makes none.
+pub(crate) fn open_file<R: Files<File = File>>(
+    files: &R,
+    path: &str,
+    access: Access,
+) -> io::Result<File> {
+    let mut options = OpenOptions::new();
+    options
+        .read(true)
+        .write(access != Access::Reading)
+        .open(files, path)
+}
+
+/// Opens a file that is to be locked alone so that it may be written to, where the system lets us, and any other one so that
+/// it may be read.
+pub(crate) fn open_to_lock<R: Files<File = File>>(
+    files: &R,
+    path: &str,
+    lock: Lock,
+) -> io::Result<(File, Access)> {
+    if lock == Lock::Exclusive {
+        if let Ok(file) = open_file(files, path, Access::Writing) {
+            return Ok((file, Access::Writing));
+        }
+    }
+    Ok((open_file(files, path, Access::Reading)?, Access::Reading))
+}
+
+/// Makes a file where there is none, or opens the one that somebody else made meanwhile. Only its owner may read and write
+/// one that is made.
+pub(crate) fn make_absent<R: Files<File = File>>(files: &R, path: &str) -> io::Result<File> {
+    let mut options = OpenOptions::new();
+    options.read(true).write(true).create(true).mode(0o600);
+    options.open(files, path)
+}
+
+/// Makes an empty file in place of one that was left behind under its name, which is taken away: what it stood for stays
+/// where it has another name, as behind a link. Only its owner may read and write the new file.
+pub(crate) fn make_anew<R: Files<File = File>>(files: &R, path: &str) -> io::Result<File> {
+    match fs::remove_file(files, path) {
+        Err(error) if error.kind() != ErrorKind::NotFound => return Err(error),
+        _ => {}
+    }
+    let mut options = OpenOptions::new();
+    options.read(true).write(true).create_new(true).mode(0o600);
+    options.open(files, path)
+}
+
+/// Refuses a name that stands for a file which another program has locked. What may not be read is passed over.
+pub(crate) fn refuse_locked<R: Files<File = File>>(files: &R, path: &str) -> io::Result<()> {
+    if let Ok(file) = open_file(files, path, Access::Reading) {
+        file.try_lock()?;
+    }
+    Ok(())
+}
+
+/// Gives a file the owner, the group and the permissions that another one has, as far as the system lets us. Where it does
+/// not get the group, its own one may do nothing.
+pub(crate) fn take_owner<R: Files>(files: &R, path: &str, of: &Metadata) {
+    let has_group = chown(files, path, None, Some(of.gid())).is_ok();
+    let _ = chown(files, path, Some(of.uid()), None);
+    let mut permissions = of.permissions();
+    if !has_group {
+        permissions.set_mode(permissions.mode() & !GROUP);
+    }
+    let _ = fs::set_permissions(files, path, permissions);
+}
+
+/// Keeps the names of a file's folder safe, so that a rename survives a power cut.
+pub(crate) fn sync_folder<R: Files<File = File>>(files: &R, path: &str) -> io::Result<()> {
+    let folder = match path.rsplit_once('/') {
+        Some(("", _)) => "/",
+        Some((folder, _)) => folder,
+        None => ".",
+    };
+    File::open(files, folder)?.sync_all()
+}
