@@ -65,12 +65,18 @@ beside() {
     echo "$1: $ours s, $3: $theirs s, ratio $(ratio "$ours" "$theirs")"
 }
 
-# held WORD..: the most memory, in KiB, that a command holds at a time.
+# held WORD..: the most memory, in KiB, that a command holds at a time. What a process held before it began its program counts
+# too, so a small shell starts the command, and leaves it to the script that asks.
 held() {
     python3 - "$@" <<'PY'
-import resource, subprocess, sys
-subprocess.run(sys.argv[1:], stdout=subprocess.DEVNULL, check=True)
-print(resource.getrusage(resource.RUSAGE_CHILDREN).ru_maxrss)
+import ctypes, os, subprocess, sys
+PR_SET_CHILD_SUBREAPER = 36
+ctypes.CDLL(None).prctl(PR_SET_CHILD_SUBREAPER, 1)
+started = subprocess.check_output(["sh", "-c", '"$@" >/dev/null & echo $!', "sh", *sys.argv[1:]])
+_, status, used = os.wait4(int(started), 0)
+if status != 0:
+    sys.exit("this was measured, and failed: " + " ".join(sys.argv[1:]))
+print(used.ru_maxrss)
 PY
 }
 

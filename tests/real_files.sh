@@ -152,7 +152,7 @@ got=0
 same 'the status stays where the error output is full' "$got" 1
 
 # The parts, in an order that counts: each finds the files that those before it left.
-for part in limits changes large scripts windows in_place serving outside; do
+for part in limits changes large scripts windows in_place serving outside sharing; do
     . "$top/tests/real_files/$part.sh"
 done
 

@@ -1,14 +1,19 @@
 #!/usr/bin/env python3
-"""Random edits of a tree file by `setquota`, whose outcome is compared with a map, and with a reader of its own.
+"""Random edits of a tree file by `setquota` and `edquota`, whose outcome is compared with a map, and with a reader of
+its own.
 
-tree_edits.py PROGRAM FORMAT SEED ROUNDS LINES RUNS
-    Makes a file of that format in the current folder, and changes it in so many rounds: each has a batch of so many
-    lines, and so many single runs. Prints `same` where each single run changed at most twelve blocks and shortened
-    nothing, and where the file is sound and has the records of the map after each round, and `repquota` shows them at
-    the end; else what differs first.
+tree_edits.py PROGRAM FORMAT SEED ROUNDS LINES RUNS FORMS all|kept [FILE]
+    Makes a file of that format in the current folder, or a copy of FILE, whose users get new limits first. Changes it in
+    so many rounds: each has a batch of so many lines, so many runs for one user each, and so many forms that are printed,
+    changed and read in again. With `kept` no edit takes a record away. Prints `same` where each run for one user changed
+    at most twelve blocks; where no run shortened the file, gave it another inode, owner, group or permissions, or made or
+    removed a file beside it; and where the file is sound and has the records of the map after each round, and `repquota`
+    shows them at the end. Else it prints what differs first.
 """
 
+import os
 import random
+import shutil
 import struct
 import subprocess
 import sys
@@ -79,16 +84,37 @@ def records_in(data, form):
     return records
 
 
+def state():
+    """What a change in place leaves: what is known of the file but its bytes, and when its folder was last changed."""
+    file = os.stat(FILE)
+    return (file.st_ino, file.st_uid, file.st_gid, file.st_mode, file.st_nlink, os.stat(".").st_mtime_ns,
+            os.path.exists(FILE + ".new"))
+
+
 class Edited:
     """A tree file and the map that it has to be."""
 
-    def __init__(self, program, form, seed):
-        self.program, self.form, self.random = program, form, random.Random(seed)
-        # The users who use something keep their records without limits too.
-        self.used = {at * at: (at % 9 * 1024, 1) for at in range(1, 120)}
+    def __init__(self, program, form, seed, keeps, start):
+        self.program, self.form, self.random, self.keeps = program, form, random.Random(seed), keeps
         self.limits = {}
-        listing = "".join("%d 100 2049 %d %d\n" % (id, id, use // 512) for id, (use, _) in self.used.items())
-        self.run("quotacheck", "-c", "-u", FILE, stdin=listing)
+        if os.path.exists(FILE):
+            os.remove(FILE)
+        if start:
+            shutil.copyfile(start, FILE)
+            records = records_in(self.bytes(), form)
+            self.used = {id: record[4:] for id, record in records.items() if any(record[4:])}
+        else:
+            # The users who use something keep their records without limits too.
+            self.used = {at * at: (at % 9 * 1024, 1) for at in range(1, 120)}
+            listing = "".join("%d 100 2049 %d %d\n" % (id, id, use // 512) for id, (use, _) in self.used.items())
+            self.run("quotacheck", "-c", "-u", FILE, stdin=listing)
+        os.chmod(FILE, 0o640)
+        if os.geteuid() == 0:
+            os.chown(FILE, 65534, 65534)
+        self.state = state()
+        if start:
+            # (no timer runs then)
+            self.batch([self.given(id, self.drawn(id)) for id in records])
 
     def run(self, command, *words, stdin=""):
         """What a command writes, which has to end with status 0."""
@@ -101,6 +127,18 @@ class Edited:
         with open(FILE, "rb") as file:
             return file.read()
 
+    def drawn(self, id):
+        """New limits. What is used stays below the soft ones, so no timer runs."""
+        space, inodes = self.used.get(id, (0, 0))
+        return tuple(use + self.random.randrange(100, 2**20) for use in (space // 1024,) * 2 + (inodes,) * 2)
+
+    def given(self, id, limits):
+        """The edit that gives a user these limits, in words, of which the map hears."""
+        self.limits[id] = limits
+        if not any(limits):
+            del self.limits[id]
+        return list(map(str, (id, *limits)))
+
     def chosen(self, shrinks):
         """The next edit: an identifier, and its new limits, all of them 0 for one whose record is to go."""
         dice = self.random
@@ -112,23 +150,46 @@ class Edited:
             id = dice.choice([dice.randrange(700), dice.randrange(256) << 8, dice.randrange(256) << 24 | 7,
                               dice.randrange(2**32)])
             gone = dice.random() < 0.1
-        # (what is used stays below the soft limits, so no timer runs)
-        limits = (0,) * 4 if gone else tuple(dice.randrange(100, 2**20) for _ in range(4))
-        self.limits[id] = limits
-        if not any(limits):
-            del self.limits[id]
-        return list(map(str, (id, *limits)))
+        return self.given(id, (0,) * 4 if gone and not self.keeps else self.drawn(id))
 
-    def single(self, shrinks):
+    def batch(self, edits):
+        """Edits by one run."""
+        old = len(self.bytes())
+        self.run("setquota", "-b", FILE, stdin="".join(" ".join(edit) + "\n" for edit in edits))
+        want(len(self.bytes()) >= old, "a batch shortened the file")
+        want(state() == self.state, "a batch left the state", state(), "in place of", self.state)
+
+    def single(self, words):
         """An edit by a run of its own."""
-        words, old = self.chosen(shrinks), self.bytes()
-        self.run("setquota", *words, FILE)
+        self.one_changed(words, "setquota", *words, FILE)
+
+    def form_of(self, id, limits):
+        """The form that `edquota --print` writes of a user with these limits."""
+        space, inodes = self.used.get(id, (0, 0))
+        return ("Disk quotas for user #%d (uid %d):\n  Filesystem blocks soft hard inodes soft hard\n"
+                "  %s %d %d %d %d %d %d\n" % (id, id, FILE, -(-space // 1024), *limits[:2], inodes, *limits[2:]))
+
+    def applied(self, shrinks):
+        """An edit by a form: the one that is printed, with other limits."""
+        before = dict(self.limits)
+        words = self.chosen(shrinks)
+        id = int(words[0])
+        printed = self.run("edquota", "--print", words[0], FILE)
+        want(printed == self.form_of(id, before.get(id, (0,) * 4)), "the form of", id, "is", repr(printed))
+        self.one_changed(words, "edquota", "--apply", words[0], FILE,
+                         stdin=self.form_of(id, tuple(map(int, words[1:]))))
+
+    def one_changed(self, words, *run, stdin=""):
+        """Carries out an edit, and looks at the blocks that it changed."""
+        old = self.bytes()
+        self.run(*run, stdin=stdin)
         new = self.bytes()
+        want(len(new) >= len(old), run[0], *words, "shortened the file")
         old_blocks, blocks = -(-len(old) // BLOCK), -(-len(new) // BLOCK)
-        differ = [at for at in range(blocks)
-                  if at >= old_blocks or old[at * BLOCK:][:BLOCK] != new[at * BLOCK:][:BLOCK]]
-        want(len(differ) <= 12, "setquota", *words, "changed the blocks", differ)
-        want(len(new) >= len(old), "setquota", *words, "shortened the file")
+        differ = [at for at in range(blocks) if at >= old_blocks
+                  or old[at * BLOCK:(at + 1) * BLOCK] != new[at * BLOCK:(at + 1) * BLOCK]]
+        want(len(differ) <= 12, run[0], *words, "changed the blocks", differ)
+        want(state() == self.state, run[0], *words, "left the state", state(), "in place of", self.state)
 
     def wanted(self):
         return {id: self.limits.get(id, (0,) * 4) + self.used.get(id, (0, 0))
@@ -147,26 +208,28 @@ class Edited:
                  "the record of", id, "is", found.get(id), "in place of", wanted.get(id))
 
 
-def main(words):
-    if len(words) != 6:
-        sys.exit(__doc__)
-    rounds, lines, runs = map(int, words[3:])
-    try:
-        edited = Edited(words[0], words[1], int(words[2]))
+def edit(program, form, seed, rounds, lines, runs, forms, keeps, start):
+    edited = Edited(program, form, seed, keeps, start)
+    edited.compare()
+    for at in range(rounds):
+        shrinks = at % 3 == 2
+        edited.batch([edited.chosen(shrinks) for _ in range(lines)])
+        for _ in range(runs):
+            edited.single(edited.chosen(shrinks))
+        for _ in range(forms):
+            edited.applied(shrinks)
         edited.compare()
-        for at in range(rounds):
-            shrinks = at % 3 == 2
-            size = len(edited.bytes())
-            edited.run("setquota", "-b", FILE,
-                       stdin="".join(" ".join(edited.chosen(shrinks)) + "\n" for _ in range(lines)))
-            want(len(edited.bytes()) >= size, "a batch shortened the file")
-            for _ in range(runs):
-                edited.single(shrinks)
-            edited.compare()
-        rows, shown = edited.rows(), edited.run("repquota", "-v", FILE).splitlines()[4:]
-        want(len(rows) == len(shown), "the report has", len(shown), "lines in place of", len(rows))
-        for row, line in zip(rows, shown):
-            want(row == line, "the report has", repr(line), "in place of", repr(row))
+    rows, shown = edited.rows(), edited.run("repquota", "-v", FILE).splitlines()[4:]
+    want(len(rows) == len(shown), "the report has", len(shown), "lines in place of", len(rows))
+    for row, line in zip(rows, shown):
+        want(row == line, "the report has", repr(line), "in place of", repr(row))
+
+
+def main(words):
+    if len(words) not in (8, 9) or words[7] not in ("all", "kept"):
+        sys.exit(__doc__)
+    try:
+        edit(*words[:2], *map(int, words[2:7]), words[7] == "kept", words[8] if words[8:] else None)
         print("same")
     except Differs as found:
         print(found)

@@ -1,7 +1,8 @@
 //! Small tree files of users as data.
 
 use quota_blocks::{MemStore, OpenFault};
-use quota_types::{Kind, Rec};
+use quota_types::{Entry, Kind, Rec};
+use row_files::next_after;
 use std::alloc::{AllocError, Global};
 use tree_file::{TreeFile, open_tree};
 
@@ -36,7 +37,7 @@ pub(crate) const ONE: Rec = Rec {
 const LIMIT: u32 = 1000;
 
 /// Writes a number into a block, where the file has it.
-fn put(file: &mut [u8], block: usize, at: usize, number: u32) {
+pub(crate) fn put(file: &mut [u8], block: usize, at: usize, number: u32) {
     let start = block.saturating_mul(1024).saturating_add(at);
     for (place, byte) in number.to_le_bytes().iter().enumerate() {
         if let Some(to) = file.get_mut(start.saturating_add(place)) {
@@ -64,5 +65,48 @@ pub(crate) fn made(alloc: Global, described: &Described) -> Result<Vec<u8>, Allo
 
 /// Opens the file `q`, which is checked block by block.
 pub(crate) fn open_users(alloc: Global, store: &mut MemStore) -> Result<TreeFile, OpenFault> {
-    open_tree(alloc, store, "q", Kind::User, None, LIMIT)
+    open_within(alloc, store, LIMIT)
+}
+
+/// Opens the file `q`, which may have so many blocks.
+pub(crate) fn open_within(
+    alloc: Global,
+    store: &mut MemStore,
+    limit: u32,
+) -> Result<TreeFile, OpenFault> {
+    open_tree(alloc, store, "q", Kind::User, None, limit)
+}
+
+/// Whether the entries of the opened file are these, and those of the file that is opened anew, and so checked, too.
+pub(crate) fn is_listed(
+    alloc: Global,
+    opened: &mut TreeFile,
+    store: &mut MemStore,
+    list: &[Entry],
+) -> bool {
+    match open_users(alloc, store) {
+        Ok(mut again) => lists(opened, store, list) && lists(&mut again, store, list),
+        Err(_) => false,
+    }
+}
+
+fn lists(file: &mut TreeFile, store: &mut MemStore, list: &[Entry]) -> bool {
+    let mut after = None;
+    for entry in list {
+        if next_after(file, store, after) != Some(Ok(Some(*entry))) {
+            return false;
+        }
+        after = Some(entry.id);
+    }
+    next_after(file, store, after) == Some(Ok(None))
+}
+
+/// How many blocks the file `q` has.
+pub(crate) fn blocks_in(store: &MemStore) -> usize {
+    store.file("q").unwrap_or(b"").len() / 1024
+}
+
+/// The recurrence by which orders are chosen: 1103515245 times the number before, and 12345, modulo 2 to the 31st.
+pub(crate) fn next_number(number: u32) -> u32 {
+    number.wrapping_mul(1_103_515_245).wrapping_add(12_345) % 0x8000_0000
 }

@@ -7,6 +7,12 @@
 #[cfg(test)]
 mod files;
 #[cfg(test)]
+mod orders;
+#[cfg(test)]
+mod plain;
+#[cfg(test)]
+mod room;
+#[cfg(test)]
 mod rows;
 #[cfg(test)]
 mod story;

@@ -72,7 +72,7 @@ const WITH_GREATEST: &[Number] = &[
 
 /// Thirteen identifiers from 1000 on in block 5, which has room for one more.
 #[rattlefmt::skip]
-const THIRTEEN: &[Number] = &[
+pub(crate) const THIRTEEN: &[Number] = &[
     (4, 932, 5), (4, 936, 5), (4, 940, 5), (4, 944, 5), (4, 948, 5), (4, 952, 5), (4, 956, 5), (4, 960, 5), (4, 964, 5),
     (4, 968, 5), (4, 972, 5), (4, 976, 5),
     (5, 8, 13), (5, 88, 1001), (5, 160, 1002), (5, 232, 1003), (5, 304, 1004), (5, 376, 1005), (5, 448, 1006),
@@ -80,7 +80,7 @@ const THIRTEEN: &[Number] = &[
 ];
 
 /// The fourteenth identifier, 1013: block 5 is full, and in no list if it was the only one.
-const FOURTEENTH: &[Number] = &[
+pub(crate) const FOURTEENTH: &[Number] = &[
     (0, 28, 0),
     (4, 980, 5),
     (5, 8, 14),

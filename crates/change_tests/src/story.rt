@@ -1,109 +1,105 @@
 use crate::files::*;
+use crate::plain::Plain;
 use quota_blocks::{MemStore, Store};
-use quota_types::{Entry, Rec};
-use row_files::{Act, holds_entries, make, store_of};
-use std::alloc::{AllocError, Global};
+use quota_types::Rec;
+use row_files::{Act, get, make, store_of};
+use std::alloc::Global;
 use std::process::Abort;
 use tree_file::TreeFile;
 
 /// How many changes a story has. Each tenth one is followed by a check.
-const STEPS: u32 = 600;
+const STEPS: u32 = 2000;
 
-/// A file without records, of header and root, in vfsv1 and in vfsv0.
-const STARTS: &[Described] = &[
-    (2, &[&[(0, 20, 2), (0, 28, 0), (1, 0, 0)]]),
-    (2, &[&[(0, 4, 0), (0, 20, 2), (0, 28, 0), (1, 0, 0)]]),
+/// A file without records, of header and root, and how many entries its data blocks have, in vfsv1 and in vfsv0.
+const STARTS: &[(Described, usize)] = &[
+    ((2, &[&[(0, 20, 2), (0, 28, 0), (1, 0, 0)]]), 14),
+    ((2, &[&[(0, 4, 0), (0, 20, 2), (0, 28, 0), (1, 0, 0)]]), 21),
 ];
 
 /// Expects the story to go as it should from each of these files on.
-fn expect_stories(rt: &impl Abort, alloc: Global, starts: &[Described]) {
-    for start in starts {
-        let end = end_of(alloc, start);
+fn expect_stories(rt: &impl Abort, alloc: Global, starts: &[(Described, usize)]) {
+    for (start, room) in starts {
+        let end = end_of(alloc, start, *room);
         assert!(rt; end == Some((STEPS, "")), "{end:?}");
     }
 }
 
 /// The step that goes wrong, with what is wrong; or the number of steps, with nothing. None where memory is wanting, or
 /// the file is not opened.
-fn end_of(alloc: Global, start: &Described) -> Option<(u32, &'static str)> {
+fn end_of(alloc: Global, start: &Described, room: usize) -> Option<(u32, &'static str)> {
     let file = made(alloc, start).ok()?;
     let mut store = store_of(alloc, file.as_slice(), &[]).ok()?;
     let mut opened = open_users(alloc, &mut store).ok()?;
-    let mut list = Vec::new(alloc);
+    let mut plain = Plain::new(alloc, room);
     let mut number = 1;
     for step in 0..STEPS {
         number = next_number(number);
-        let act = act_of(step, number);
-        list = list_after(alloc, list.as_slice(), &act).ok()?;
-        if !is_made(&mut opened, &mut store, &act) {
-            return Some((step, "the change"));
+        let (id, rec) = change_of(step, number);
+        plain.set(id, rec).ok()?;
+        let wrong = wrong_with(&mut opened, &mut store, id, rec);
+        if wrong != "" {
+            return Some((step, wrong));
         }
-        if step % 10 == 9 && !is_held(alloc, &mut opened, &mut store, list.as_slice()) {
+        if blocks_in(&store) != plain.blocks {
+            return Some((step, "the number of blocks"));
+        }
+        if step % 10 == 9 && !is_listed(alloc, &mut opened, &mut store, plain.entries.as_slice()) {
             return Some((step, "the records"));
         }
     }
     Some((STEPS, ""))
 }
 
-/// The recurrence that gives the order: 1103515245 times the number before, and 12345, modulo 2 to the 31st.
-fn next_number(number: u32) -> u32 {
-    number.wrapping_mul(1_103_515_245).wrapping_add(12_345) % 0x8000_0000
+/// What is wrong where an identifier is to get this record, or none, or nothing.
+fn wrong_with(
+    opened: &mut TreeFile,
+    store: &mut MemStore,
+    id: u32,
+    rec: Option<Rec>,
+) -> &'static str {
+    if !is_made(opened, store, &act_of(id, rec)) {
+        return "the change";
+    }
+    if !is_got(opened, store, id, rec) {
+        return "the record";
+    }
+    ""
 }
 
-/// The change that a number gives: of 40 identifiers from 1000 on and 40 that are spread over all of them, one gets a record
-/// or loses it. In each second hundred and fifty steps four of five changes are removals, and else one is.
-fn act_of(step: u32, number: u32) -> Act {
+fn is_got(opened: &mut TreeFile, store: &mut MemStore, id: u32, rec: Option<Rec>) -> bool {
+    get(opened, store, id) == Some(Ok(rec))
+}
+
+/// The change that a number gives: of 80 identifiers from 1000 on and 80 that are spread over all of them, one gets a record
+/// or loses it. In each second two hundred and fifty steps four of five changes are removals, and else one is.
+fn change_of(step: u32, number: u32) -> (u32, Option<Rec>) {
     let drawn = number / 65_536;
-    let id = id_of(drawn % 80);
-    let is_late = step / 150 % 2 == 1;
-    let removes = drawn / 80 % 5 == 0;
+    let id = id_of(drawn % 160);
+    let is_late = step / 250 % 2 == 1;
+    let removes = drawn / 160 % 5 == 0;
     if is_late != removes {
-        return Act::Remove(id);
+        return (id, None);
     }
-    Act::Put(
-        id,
-        Rec {
-            space: u64::from(step),
-            ..ONE
-        },
-    )
+    let rec = Rec {
+        space: u64::from(step),
+        ..ONE
+    };
+    (id, Some(rec))
+}
+
+fn act_of(id: u32, rec: Option<Rec>) -> Act {
+    match rec {
+        Some(rec) => Act::Put(id, rec),
+        None => Act::Remove(id),
+    }
 }
 
 fn id_of(drawn: u32) -> u32 {
-    if drawn < 40 {
-        drawn.wrapping_mul(107_374_182)
+    if drawn < 80 {
+        drawn.wrapping_mul(53_687_091)
     } else {
-        drawn.wrapping_add(960)
+        drawn.wrapping_add(920)
     }
-}
-
-/// The entries after a change, in order.
-fn list_after(alloc: Global, list: &[Entry], act: &Act) -> Result<Vec<Entry>, AllocError> {
-    match *act {
-        Act::Put(id, rec) => list_with(alloc, list, id, Some(rec)),
-        Act::Remove(id) => list_with(alloc, list, id, None),
-        Act::SetGrace(_) => Vec::from_slice(alloc, list),
-    }
-}
-
-/// The entries with this record of an identifier, or without one, in order.
-fn list_with(
-    alloc: Global,
-    list: &[Entry],
-    id: u32,
-    rec: Option<Rec>,
-) -> Result<Vec<Entry>, AllocError> {
-    let mut with = Vec::new(alloc);
-    for entry in list.iter().filter(|entry| entry.id < id) {
-        with.push(*entry)?;
-    }
-    if let Some(rec) = rec {
-        with.push(Entry { id, rec })?;
-    }
-    for entry in list.iter().filter(|entry| entry.id > id) {
-        with.push(*entry)?;
-    }
-    Ok(with)
 }
 
 /// Whether a change is made with at most twelve reads and twelve writes.
@@ -114,16 +110,6 @@ fn is_made(opened: &mut TreeFile, store: &mut MemStore, act: &Act) -> bool {
         return false;
     }
     store.reads().saturating_sub(reads) <= 12 && store.writes().saturating_sub(writes) <= 12
-}
-
-/// Whether the opened file has these entries, and the file that is opened anew, and so checked, has them too.
-fn is_held(alloc: Global, opened: &mut TreeFile, store: &mut MemStore, list: &[Entry]) -> bool {
-    match open_users(alloc, store) {
-        Ok(mut again) => {
-            holds_entries(opened, store, list) && holds_entries(&mut again, store, list)
-        }
-        Err(_) => false,
-    }
 }
 
 #[test]
