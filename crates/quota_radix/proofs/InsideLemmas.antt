@@ -211,12 +211,6 @@ led_stands file blocks (suc gone) number block led =
     subst (λ (b : ℕ). StandsIn (level file blocks (suc gone)) b) from.3
     (level_onward file blocks gone (number % 256) from.0 (word_at file from.0 (number % 256)) (omega arith) refl from.2 above)
 
--- a reference that leads past the last block, by a digit from where other ones lead, is a damage
-pub out_from : (file : List ℕ) (blocks gone number block digit : ℕ) (damage : Damage) → gone < 4 → block_led_to file blocks gone number ≡ Some block → digit < 256
-    → blocks ≤ word_at file block digit → damage ≡ record { kind = RefOut; block = block; id = 0 } → IsWayFault file blocks damage
-out_from file blocks gone number block digit damage few led low out is =
-    out_fault file blocks gone block digit (word_at file block digit) damage few (led_stands file blocks gone number block led) low refl out is
-
 -- a reference on the way of an identifier that leads past the last block is a damage
 pub out_on_way : (file : List ℕ) (blocks id : ℕ) (damage : Damage) → damage.kind ≡ RefOut → NamesItsId damage.kind damage.id → IsOutOnWay file blocks id damage.block → IsWayFault file blocks damage
 unfolding block_on_way digit_on_way

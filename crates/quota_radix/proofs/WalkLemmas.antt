@@ -1,11 +1,25 @@
--- Walks over blocks that are lent: what is known after some of it was known before, and what a refusal says.
-use Rattle.std.proofs.Common.{◌≡◌, ℕ, ◌≤◌, List, Option, Some, None, Result, Ok, Err, subst, arith}
+-- Walks over the blocks of a buffer: what is known after some of it was known before, and what a refusal says.
+use Rattle.std.proofs.Common.{◌≡◌, ℕ, ◌+◌, ◌≤◌, Bool, ◌&&◌, List, Option, Some, None, Result, Ok, Err, subst, arith}
 use Rattle.std.specs.Prelude.{IfErr, IfNone, IfOk, IfSome}
 use Rattle.std.proofs.lemmas.Result.{IfErr-weaker}
 use Rattle.quota_types.specs.declared.damage.Damage.{Damage}
+use Rattle.outside.specs.Seen.{StoreSeen}
+use Rattle.quota_pages.specs.Used.{IsKnown, LooksAtSome, shown_over}
+use Rattle.quota_pages.specs.declared.page_buffer.Pages.{Pages}
+use Rattle.quota_pages.proofs.UsedLemmas.{looks_both, looks_more, shown_over-looks}
 use Rattle.quota_radix.specs.declared.walk_fault.WalkFault.{WalkFault}
 use Rattle.quota_radix.specs.declared.walk_fault.WalkFault.TheVariants.{Store, Damage as Damaged}
 use Rattle.quota_radix.specs.WalkFault.{IsWalkFault}
+
+-- looks leave what is known and shown
+pub pages_stay : {tells ok : Bool} {count : ℕ} {before now : StoreSeen} {old new : Pages} → LooksAtSome tells ok count before now old new → IsKnown tells before old
+    → (IsKnown tells now new) × (shown_over now new ≡ shown_over before old)
+pages_stay looks known = (looks.known known, shown_over-looks looks)
+
+-- looks one after another are no more than both
+pub looks_within : {tells done ok : Bool} {one two both : ℕ} {before between now : StoreSeen} {old middle new : Pages} → LooksAtSome tells done one before between old middle
+    → LooksAtSome tells ok two between now middle new → one + two ≤ both → LooksAtSome tells (done && ok) both before now old new
+looks_within first second all = looks_more _ all (looks_both first second)
 
 -- what is known once blocks were looked at was known before, where what is known and shown stays
 pub since : {known still : Type 0} {old new : List ℕ} → (known → still × (new ≡ old)) → (P : List ℕ → Type 0) → (still → P new) → known → P old

@@ -1,6 +1,6 @@
 -- The way down the tree of a file by the digits of a number, and the leaves from one on. Source: the kernel's
 -- `fs/quota/quota_tree.c` (`find_tree_dqentry` and `find_next_id`).
-use Rattle.std.specs.Prelude.{◌≡◌, ℕ, zero, suc, ◌+◌, ◌-◌, ◌*◌, ◌/◌, ◌%◌, nat_le, if◌then◌else◌, List, [], ◌∷◌, find, fold, Option, Some, None}
+use Rattle.std.specs.Prelude.{ℕ, zero, suc, ◌+◌, ◌-◌, ◌*◌, ◌/◌, ◌%◌, nat_le, if◌then◌else◌, List, [], ◌∷◌, find, fold, Option, Some, None}
 use Rattle.std.specs.List.{filter_map, flat_map, range_with_len}
 use Rattle.std.specs.Option.{option_and_then}
 use Rattle.quota_radix.specs.declared.tree_path.TreePath.{TreePath}
@@ -16,10 +16,6 @@ led_by file blocks digit block = if leads blocks (word_at file block digit) then
 abbrev pub block_led_to : List ℕ → ℕ → ℕ → ℕ → Option ℕ
 block_led_to file blocks zero number = Some 1
 block_led_to file blocks (suc digits) number = option_and_then (led_by file blocks (number % 256)) (block_led_to file blocks digits (number / 256))
-
--- a path of three digits, which comes to a block of the lowest level of the tree
-abbrev pub IsLowest : List ℕ → ℕ → TreePath → Type 0
-IsLowest file blocks path = block_led_to file blocks 3 path.number ≡ Some path.block
 
 -- the data block to which an identifier leads by its four digits, or none
 abbrev pub leaf_block : List ℕ → ℕ → ℕ → Option ℕ

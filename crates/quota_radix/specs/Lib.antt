@@ -1,7 +1,6 @@
 pub mod Descent
 pub mod Digits
 pub mod LeafAfter
-pub mod Lending
 pub mod Levels
 pub mod Link
 pub mod Lookup

@@ -3,15 +3,14 @@ ghost use Rattle.file_blocks.specs.Block.{word_at};
 ghost use Rattle.quota_types.specs.declared.damage.DamageKind.TheVariants.{RefOut};
 ghost use Rattle.quota_pages.specs.Page.{is_buffered};
 ghost use Rattle.quota_pages.specs.Pages.{pages_of};
-ghost use Rattle.quota_pages.specs.Used.{IsKnown, LooksAtSome, shown_over};
+ghost use Rattle.quota_pages.specs.Used.{IsKnown, LooksAtSome, missing, shown_over};
 ghost use Rattle.quota_radix.specs.Descent.{leaf_block};
 ghost use Rattle.quota_radix.specs.Link.{AreBuffered};
 ghost use Rattle.quota_radix.specs.WalkFault.{IsWalkFault};
 ghost use Rattle.quota_radix.specs.Way.{IsFromRoot, IsInsideOnWay, IsOutOnWay, blocks_on_way};
 
-use crate::lending::LendsBlocks;
 use crate::levels::ROOT;
-use crate::{Path, WalkFault, digits, level_ref};
+use crate::{Path, WalkFault, digits};
 use arrayvec::ArrayVec;
 use outside::Store;
 use quota_pages::Pages;
@@ -22,26 +21,26 @@ use quota_types::{DamageKind, damage_at};
 /// # Errors
 ///
 /// The store failed, or the reference leads past the last block.
-pub(crate) fn reference_in<C, B: LendsBlocks<C>>(
-    file: &mut B,
-    context: &mut C,
+pub(crate) fn reference_in<S: Store>(
+    pages: &mut Pages,
+    store: &mut S,
     blocks: u32,
     block: u32,
     digit: u8,
 ) -> Result<u32, WalkFault>
-    requires { 1 ≤ B.missing file.old block → B.kept file.old < 12 }
-    ensures is { IfOk result (λ reference. B.known file.old context.old
-        → reference ≡ word_at (B.shows file.old context.old) block digit) }
+    requires { 1 ≤ missing (pages_of pages.old) block → length (pages_of pages.old) < 12 }
+    ensures is { IfOk result (λ reference. IsKnown S.tells (S.seen store.old) pages.old
+        → reference ≡ word_at (shown_over (S.seen store.old) pages.old) block digit) }
     ensures inside { IfOk result (λ reference. reference < blocks) }
-    ensures refused { IfErr result (IsWalkFault (B.seen context.old).faults (B.seen context.new).faults
+    ensures refused { IfErr result (IsWalkFault (S.seen store.old).faults (S.seen store.new).faults
         (λ damage. (damage ≡ record { kind = RefOut; block = block; id = 0 })
-        × (B.missing file.new block ≡ 0)
-        × (B.known file.old context.old
-        → blocks ≤ word_at (B.shows file.old context.old) block digit))) }
-    ensures looked { B.looked (is_ok result) (B.missing file.old block) context.old context.new file.old file.new }
-    ensures brought { OnOk result (B.missing file.new block ≡ 0) }
+        × (missing (pages_of pages.new) block ≡ 0)
+        × (IsKnown S.tells (S.seen store.old) pages.old
+        → blocks ≤ word_at (shown_over (S.seen store.old) pages.old) block digit))) }
+    ensures looked { LooksAtSome S.tells (is_ok result) (missing (pages_of pages.old) block) (S.seen store.old) (S.seen store.new) pages.old pages.new }
+    ensures brought { OnOk result (missing (pages_of pages.new) block ≡ 0) }
 {
-    let reference = file.with_block(context, block, |block| level_ref(block, digit))?;
+    let reference = pages.word(store, block, 4 * usize::from(digit))?;
     if reference < blocks {
         Ok(reference)
     } else {
@@ -94,37 +93,6 @@ pub fn find_path<S: Store>(
     Ok(Path { found })
 }
 
-/// As `leaf`, of any file that lends its blocks.
-///
-/// # Errors
-///
-/// The store failed, or a reference on the way leads past the last block.
-pub(crate) fn leaf_in<C, B: LendsBlocks<C>>(
-    file: &mut B,
-    context: &mut C,
-    blocks: u32,
-    id: u32,
-) -> Result<Option<u32>, WalkFault>
-    requires { B.kept file.old + 4 ≤ 12 }
-    ensures found { IfOk result (λ found. B.known file.old context.old
-        → found ≡ leaf_block (B.shows file.old context.old) blocks id) }
-    ensures inside { OnOk result (B.known file.old context.old
-        → IsInsideOnWay (B.shows file.old context.old) blocks id) }
-    ensures refused { IfErr result (IsWalkFault (B.seen context.old).faults (B.seen context.new).faults
-        (λ damage. (damage.kind ≡ RefOut) × (B.missing file.new damage.block ≡ 0) × (B.known file.old context.old
-        → IsOutOnWay (B.shows file.old context.old) blocks id damage.block))) }
-    ensures looked { B.looked (is_ok result) 4 context.old context.new file.old file.new }
-{
-    let mut block = ROOT;
-    for digit in digits(id) {
-        block = reference_in(file, context, blocks, block, digit)?;
-        if block == 0 {
-            return Ok(None);
-        }
-    }
-    Ok(Some(block))
-}
-
 /// The data block to which an identifier leads by its four digits, or None where one of them leads nowhere.
 ///
 /// The file has so many blocks. At most 4 of them are read.
@@ -150,5 +118,12 @@ pub fn leaf<S: Store>(
         → IsOutOnWay (shown_over (S.seen store.old) pages.old) blocks id damage.block))) }
     ensures looked { LooksAtSome S.tells (is_ok result) 4 (S.seen store.old) (S.seen store.new) pages.old pages.new }
 {
-    leaf_in(pages, store, blocks, id)
+    let mut block = ROOT;
+    for digit in digits(id) {
+        block = reference_in(pages, store, blocks, block, digit)?;
+        if block == 0 {
+            return Ok(None);
+        }
+    }
+    Ok(Some(block))
 }

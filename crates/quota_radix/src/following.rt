@@ -6,7 +6,7 @@ ghost use Rattle.quota_types.specs.Ids.{IsAfter};
 ghost use Rattle.quota_types.specs.declared.damage.DamageKind.TheVariants.{RefOut};
 ghost use Rattle.quota_pages.specs.Page.{is_buffered};
 ghost use Rattle.quota_pages.specs.Pages.{pages_of};
-ghost use Rattle.quota_pages.specs.Used.{IsKnown, LooksAtSome, shown_over};
+ghost use Rattle.quota_pages.specs.Used.{IsKnown, LooksAtSome, missing, shown_over};
 ghost use Rattle.quota_radix.specs.Descent.{later_steps, leaf_from, path_from, paths_below, with_digits};
 ghost use Rattle.quota_radix.specs.LeafAfter.{first_after, leaf_after};
 ghost use Rattle.quota_radix.specs.Lookup.{IsBelowRoot, IsOnWay, IsWayFault};
@@ -16,7 +16,6 @@ ghost use Rattle.quota_radix.specs.WalkFault.{IsWalkFault};
 ghost use Rattle.quota_radix.specs.Way.{IsClearTo, IsInsideBy, IsInsideFrom, IsInsideOnWay, IsInsideUpTo, number_in};
 
 use crate::finding::reference_in;
-use crate::lending::LendsBlocks;
 use crate::levels::ROOT;
 use crate::{TreePath, WalkFault, digits, level_ref};
 use outside::Store;
@@ -28,29 +27,29 @@ use quota_types::{Damage, DamageKind, damage_at};
 /// # Errors
 ///
 /// The store failed, or the reference leads past the last block.
-fn step<C, B: LendsBlocks<C>>(
-    file: &mut B,
-    context: &mut C,
+fn step<S: Store>(
+    pages: &mut Pages,
+    store: &mut S,
     blocks: u32,
     path: TreePath,
     digit: u8,
 ) -> Result<Option<TreePath>, WalkFault>
     requires small { path.number < 2 ^ 24 }
-    requires room { 1 ≤ B.missing file.old path.block → B.kept file.old < 12 }
-    ensures found { IfOk result (λ found. B.known file.old context.old
-        → found ≡ step (B.shows file.old context.old) blocks path digit) }
+    requires room { 1 ≤ missing (pages_of pages.old) path.block → length (pages_of pages.old) < 12 }
+    ensures found { IfOk result (λ found. IsKnown S.tells (S.seen store.old) pages.old
+        → found ≡ step (shown_over (S.seen store.old) pages.old) blocks path digit) }
     ensures number { IfOk result (λ found. IfSome found (λ next. next.number ≡ 256 * path.number + digit)) }
-    ensures inside { OnOk result (B.known file.old context.old
-        → word_at (B.shows file.old context.old) path.block digit < blocks) }
-    ensures refused { IfErr result (IsWalkFault (B.seen context.old).faults (B.seen context.new).faults
+    ensures inside { OnOk result (IsKnown S.tells (S.seen store.old) pages.old
+        → word_at (shown_over (S.seen store.old) pages.old) path.block digit < blocks) }
+    ensures refused { IfErr result (IsWalkFault (S.seen store.old).faults (S.seen store.new).faults
         (λ damage. (damage ≡ record { kind = RefOut; block = path.block; id = 0 })
-        × (B.missing file.new path.block ≡ 0)
-        × (B.known file.old context.old
-        → blocks ≤ word_at (B.shows file.old context.old) path.block digit))) }
-    ensures looked { B.looked (is_ok result) (B.missing file.old path.block) context.old context.new file.old file.new }
-    ensures brought { OnOk result (B.missing file.new path.block ≡ 0) }
+        × (missing (pages_of pages.new) path.block ≡ 0)
+        × (IsKnown S.tells (S.seen store.old) pages.old
+        → blocks ≤ word_at (shown_over (S.seen store.old) pages.old) path.block digit))) }
+    ensures looked { LooksAtSome S.tells (is_ok result) (missing (pages_of pages.old) path.block) (S.seen store.old) (S.seen store.new) pages.old pages.new }
+    ensures brought { OnOk result (missing (pages_of pages.new) path.block ≡ 0) }
 {
-    let block = reference_in(file, context, blocks, path.block, digit)?;
+    let block = reference_in(pages, store, blocks, path.block, digit)?;
     if block == 0 {
         return Ok(None);
     }
@@ -104,36 +103,34 @@ fn first_in(
 /// # Errors
 ///
 /// The store failed, or a reference before that of the answer leads past the last block.
-fn first_step<C, B: LendsBlocks<C>>(
-    file: &mut B,
-    context: &mut C,
+fn first_step<S: Store>(
+    pages: &mut Pages,
+    store: &mut S,
     blocks: u32,
     path: TreePath,
     first: u32,
 ) -> Result<Option<TreePath>, WalkFault>
     requires digit { first ≤ 256 }
     requires small { path.number < 2 ^ 24 }
-    requires room { 1 ≤ B.missing file.old path.block → B.kept file.old < 12 }
-    ensures found { IfOk result (λ found. B.known file.old context.old
-        → found ≡ path_from 0 (later_steps (B.shows file.old context.old) blocks path first)) }
-    ensures none { IfOk result (λ found. IfNone found (B.known file.old context.old
+    requires room { 1 ≤ missing (pages_of pages.old) path.block → length (pages_of pages.old) < 12 }
+    ensures found { IfOk result (λ found. IsKnown S.tells (S.seen store.old) pages.old
+        → found ≡ path_from 0 (later_steps (shown_over (S.seen store.old) pages.old) blocks path first)) }
+    ensures none { IfOk result (λ found. IfNone found (IsKnown S.tells (S.seen store.old) pages.old
         → (digit : ℕ) → first ≤ digit → digit < 256
-        → word_at (B.shows file.old context.old) path.block digit ≡ 0)) }
-    ensures clear { IfOk result (λ found. B.known file.old context.old
-        → IsClearTo (B.shows file.old context.old) blocks path first found) }
+        → word_at (shown_over (S.seen store.old) pages.old) path.block digit ≡ 0)) }
+    ensures clear { IfOk result (λ found. IsKnown S.tells (S.seen store.old) pages.old
+        → IsClearTo (shown_over (S.seen store.old) pages.old) blocks path first found) }
     ensures onward { IfOk result (λ found. IfSome found (GoesOnFrom path first)) }
-    ensures refused { IfErr result (IsWalkFault (B.seen context.old).faults (B.seen context.new).faults
+    ensures refused { IfErr result (IsWalkFault (S.seen store.old).faults (S.seen store.new).faults
         (λ damage. (damage ≡ record { kind = RefOut; block = path.block; id = 0 })
-        × (B.missing file.new path.block ≡ 0)
-        × (B.known file.old context.old → (digit : ℕ) × (digit < 256)
-        × (blocks ≤ word_at (B.shows file.old context.old) path.block digit)))) }
-    ensures looked { B.looked (is_ok result) (B.missing file.old path.block) context.old context.new file.old file.new }
-    ensures brought { OnOk result (B.missing file.new path.block ≡ 0) }
+        × (missing (pages_of pages.new) path.block ≡ 0)
+        × (IsKnown S.tells (S.seen store.old) pages.old → (digit : ℕ) × (digit < 256)
+        × (blocks ≤ word_at (shown_over (S.seen store.old) pages.old) path.block digit)))) }
+    ensures looked { LooksAtSome S.tells (is_ok result) (missing (pages_of pages.old) path.block) (S.seen store.old) (S.seen store.new) pages.old pages.new }
+    ensures brought { OnOk result (missing (pages_of pages.new) path.block ≡ 0) }
 {
-    let found = file.with_block(context, path.block, |block| {
-        first_in(block, blocks, path, first)
-    })?;
-    Ok(found?)
+    let block = pages.peek(store, path.block)?;
+    Ok(first_in(block, blocks, path, first)?)
 }
 
 /// The least leaf below `path`, from which so many digits are to go.
@@ -141,34 +138,34 @@ fn first_step<C, B: LendsBlocks<C>>(
 /// # Errors
 ///
 /// The store failed, or a reference on the way leads past the last block, or a block has none.
-fn least_below<C, B: LendsBlocks<C>>(
-    file: &mut B,
-    context: &mut C,
+fn least_below<S: Store>(
+    pages: &mut Pages,
+    store: &mut S,
     blocks: u32,
     path: TreePath,
     to_go: usize,
 ) -> Result<TreePath, WalkFault>
-    requires room { B.kept file.old + to_go ≤ 12 }
+    requires room { length (pages_of pages.old) + to_go ≤ 12 }
     requires left { HasLeft to_go path }
-    ensures found { IfOk result (λ leaf. B.known file.old context.old
-        → path_from 0 (paths_below (B.shows file.old context.old) blocks to_go path) ≡ Some leaf) }
+    ensures found { IfOk result (λ leaf. IsKnown S.tells (S.seen store.old) pages.old
+        → path_from 0 (paths_below (shown_over (S.seen store.old) pages.old) blocks to_go path) ≡ Some leaf) }
     ensures least { IfOk result (λ leaf. 256 ^ to_go * path.number ≤ leaf.number) }
-    ensures between { IfOk result (λ leaf. B.known file.old context.old
-        → IsInsideFrom (B.shows file.old context.old) blocks to_go path 0 (Some leaf.number)) }
-    ensures refused { IfErr result (IsWalkFault (B.seen context.old).faults (B.seen context.new).faults
-        (λ damage. (B.missing file.new damage.block ≡ 0)
-        × (B.known file.old context.old
-        → IsBelowRoot (B.shows file.old context.old) blocks to_go path
-        → IsWayFault (B.shows file.old context.old) blocks damage))) }
-    ensures looked { B.looked (is_ok result) to_go context.old context.new file.old file.new }
+    ensures between { IfOk result (λ leaf. IsKnown S.tells (S.seen store.old) pages.old
+        → IsInsideFrom (shown_over (S.seen store.old) pages.old) blocks to_go path 0 (Some leaf.number)) }
+    ensures refused { IfErr result (IsWalkFault (S.seen store.old).faults (S.seen store.new).faults
+        (λ damage. (missing (pages_of pages.new) damage.block ≡ 0)
+        × (IsKnown S.tells (S.seen store.old) pages.old
+        → IsBelowRoot (shown_over (S.seen store.old) pages.old) blocks to_go path
+        → IsWayFault (shown_over (S.seen store.old) pages.old) blocks damage))) }
+    ensures looked { LooksAtSome S.tells (is_ok result) to_go (S.seen store.old) (S.seen store.new) pages.old pages.new }
 {
     if to_go == 0 {
         return Ok(path);
     }
-    let Some(next) = first_step(file, context, blocks, path, 0)? else {
+    let Some(next) = first_step(pages, store, blocks, path, 0)? else {
         return Err(WalkFault::Damage(damage_at(DamageKind::EmptyTree, path.block)));
     };
-    least_below(file, context, blocks, next, to_go - 1)
+    least_below(pages, store, blocks, next, to_go - 1)
 }
 
 /// The least leaf below `path` by a digit after this one, with so many more digits to go behind it.
@@ -176,35 +173,35 @@ fn least_below<C, B: LendsBlocks<C>>(
 /// # Errors
 ///
 /// The store failed, or a reference on the way leads past the last block, or a block below the root has none.
-fn least_past<C, B: LendsBlocks<C>>(
-    file: &mut B,
-    context: &mut C,
+fn least_past<S: Store>(
+    pages: &mut Pages,
+    store: &mut S,
     blocks: u32,
     path: TreePath,
     digit: u8,
     to_go: usize,
 ) -> Result<Option<TreePath>, WalkFault>
-    requires room { B.kept file.old + to_go ≤ 12 }
-    requires buffered { B.missing file.old path.block ≡ 0 }
+    requires room { length (pages_of pages.old) + to_go ≤ 12 }
+    requires buffered { missing (pages_of pages.old) path.block ≡ 0 }
     requires left { HasLeft (suc to_go) path }
-    ensures found { IfOk result (λ found. B.known file.old context.old
-        → found ≡ path_from 0 (flat_map (paths_below (B.shows file.old context.old) blocks to_go)
-        (later_steps (B.shows file.old context.old) blocks path (digit + 1)))) }
+    ensures found { IfOk result (λ found. IsKnown S.tells (S.seen store.old) pages.old
+        → found ≡ path_from 0 (flat_map (paths_below (shown_over (S.seen store.old) pages.old) blocks to_go)
+        (later_steps (shown_over (S.seen store.old) pages.old) blocks path (digit + 1)))) }
     ensures least { IfOk result (λ found. IfSome found (λ leaf.
         256 ^ to_go * (256 * path.number + (digit + 1)) ≤ leaf.number)) }
-    ensures between { IfOk result (λ found. B.known file.old context.old
-        → IsInsideBy (B.shows file.old context.old) blocks to_go path (digit + 1) (number_in found)) }
-    ensures refused { IfErr result (IsWalkFault (B.seen context.old).faults (B.seen context.new).faults
-        (λ damage. (B.missing file.new damage.block ≡ 0)
-        × (B.known file.old context.old
-        → IsOnWay (B.shows file.old context.old) blocks (suc to_go) path
-        → IsWayFault (B.shows file.old context.old) blocks damage))) }
-    ensures looked { B.looked (is_ok result) to_go context.old context.new file.old file.new }
+    ensures between { IfOk result (λ found. IsKnown S.tells (S.seen store.old) pages.old
+        → IsInsideBy (shown_over (S.seen store.old) pages.old) blocks to_go path (digit + 1) (number_in found)) }
+    ensures refused { IfErr result (IsWalkFault (S.seen store.old).faults (S.seen store.new).faults
+        (λ damage. (missing (pages_of pages.new) damage.block ≡ 0)
+        × (IsKnown S.tells (S.seen store.old) pages.old
+        → IsOnWay (shown_over (S.seen store.old) pages.old) blocks (suc to_go) path
+        → IsWayFault (shown_over (S.seen store.old) pages.old) blocks damage))) }
+    ensures looked { LooksAtSome S.tells (is_ok result) to_go (S.seen store.old) (S.seen store.new) pages.old pages.new }
     ensures none { IfOk result (λ found. IfNone found
-        (B.looked true 0 context.old context.new file.old file.new)) }
+        (LooksAtSome S.tells true 0 (S.seen store.old) (S.seen store.new) pages.old pages.new)) }
 {
-    match first_step(file, context, blocks, path, u32::from(digit) + 1)? {
-        Some(next) => Ok(Some(least_below(file, context, blocks, next, to_go)?)),
+    match first_step(pages, store, blocks, path, u32::from(digit) + 1)? {
+        Some(next) => Ok(Some(least_below(pages, store, blocks, next, to_go)?)),
         None => Ok(None),
     }
 }
@@ -217,40 +214,40 @@ fn least_past<C, B: LendsBlocks<C>>(
 /// # Errors
 ///
 /// The store failed, or a reference on the way leads past the last block, or a block below the root has none.
-fn first_below<C, B: LendsBlocks<C>>(
-    file: &mut B,
-    context: &mut C,
+fn first_below<S: Store>(
+    pages: &mut Pages,
+    store: &mut S,
     blocks: u32,
     path: TreePath,
     digits: &[u8],
 ) -> Result<Option<TreePath>, WalkFault>
-    requires room { B.kept file.old + (2 * length digits.now - 1) ≤ 12 }
+    requires room { length (pages_of pages.old) + (2 * length digits.now - 1) ≤ 12 }
     requires left { HasLeft (length digits.now) path }
-    ensures found { IfOk result (λ found. B.known file.old context.old
+    ensures found { IfOk result (λ found. IsKnown S.tells (S.seen store.old) pages.old
         → found ≡ path_from (with_digits path.number digits.now)
-        (paths_below (B.shows file.old context.old) blocks (length digits.now) path)) }
+        (paths_below (shown_over (S.seen store.old) pages.old) blocks (length digits.now) path)) }
     ensures least { IfOk result (λ found. IfSome found (λ leaf. with_digits path.number digits.now ≤ leaf.number)) }
-    ensures between { IfOk result (λ found. B.known file.old context.old
-        → IsInsideFrom (B.shows file.old context.old) blocks (length digits.now) path
+    ensures between { IfOk result (λ found. IsKnown S.tells (S.seen store.old) pages.old
+        → IsInsideFrom (shown_over (S.seen store.old) pages.old) blocks (length digits.now) path
         (with_digits path.number digits.now) (number_in found)) }
-    ensures refused { IfErr result (IsWalkFault (B.seen context.old).faults (B.seen context.new).faults
-        (λ damage. (B.missing file.new damage.block ≡ 0)
-        × (B.known file.old context.old
-        → IsOnWay (B.shows file.old context.old) blocks (length digits.now) path
-        → IsWayFault (B.shows file.old context.old) blocks damage))) }
-    ensures looked { B.looked (is_ok result) (2 * length digits.now - 1) context.old context.new file.old file.new }
+    ensures refused { IfErr result (IsWalkFault (S.seen store.old).faults (S.seen store.new).faults
+        (λ damage. (missing (pages_of pages.new) damage.block ≡ 0)
+        × (IsKnown S.tells (S.seen store.old) pages.old
+        → IsOnWay (shown_over (S.seen store.old) pages.old) blocks (length digits.now) path
+        → IsWayFault (shown_over (S.seen store.old) pages.old) blocks damage))) }
+    ensures looked { LooksAtSome S.tells (is_ok result) (2 * length digits.now - 1) (S.seen store.old) (S.seen store.new) pages.old pages.new }
     ensures none { IfOk result (λ found. IfNone found
-        (B.looked true (length digits.now) context.old context.new file.old file.new)) }
+        (LooksAtSome S.tells true (length digits.now) (S.seen store.old) (S.seen store.new) pages.old pages.new)) }
 {
     let Some((digit, rest)) = digits.split_first() else {
         return Ok(Some(path));
     };
-    let Some(next) = step(file, context, blocks, path, *digit)? else {
-        return least_past(file, context, blocks, path, *digit, rest.len());
+    let Some(next) = step(pages, store, blocks, path, *digit)? else {
+        return least_past(pages, store, blocks, path, *digit, rest.len());
     };
-    match first_below(file, context, blocks, next, rest)? {
+    match first_below(pages, store, blocks, next, rest)? {
         Some(leaf) => Ok(Some(leaf)),
-        None => least_past(file, context, blocks, path, *digit, rest.len()),
+        None => least_past(pages, store, blocks, path, *digit, rest.len()),
     }
 }
 
@@ -260,28 +257,28 @@ fn first_below<C, B: LendsBlocks<C>>(
 /// # Errors
 ///
 /// The store failed, or a reference on the way leads past the last block, or a block below the root has none.
-pub(crate) fn first_leaf_in<C, B: LendsBlocks<C>>(
-    file: &mut B,
-    context: &mut C,
+fn first_leaf_from<S: Store>(
+    pages: &mut Pages,
+    store: &mut S,
     blocks: u32,
     from: u32,
 ) -> Result<Option<TreePath>, WalkFault>
-    requires { B.kept file.old + 7 ≤ 12 }
-    ensures found { IfOk result (λ found. B.known file.old context.old
-        → found ≡ leaf_from (B.shows file.old context.old) blocks from) }
+    requires { length (pages_of pages.old) + 7 ≤ 12 }
+    ensures found { IfOk result (λ found. IsKnown S.tells (S.seen store.old) pages.old
+        → found ≡ leaf_from (shown_over (S.seen store.old) pages.old) blocks from) }
     ensures least { IfOk result (λ found. IfSome found (λ leaf. from ≤ leaf.number)) }
-    ensures between { IfOk result (λ found. B.known file.old context.old
-        → IsInsideUpTo (B.shows file.old context.old) blocks from (number_in found)) }
-    ensures refused { IfErr result (IsWalkFault (B.seen context.old).faults (B.seen context.new).faults
-        (λ damage. (B.missing file.new damage.block ≡ 0)
-        × (B.known file.old context.old → IsWayFault (B.shows file.old context.old) blocks damage))) }
-    ensures looked { B.looked (is_ok result) 7 context.old context.new file.old file.new }
+    ensures between { IfOk result (λ found. IsKnown S.tells (S.seen store.old) pages.old
+        → IsInsideUpTo (shown_over (S.seen store.old) pages.old) blocks from (number_in found)) }
+    ensures refused { IfErr result (IsWalkFault (S.seen store.old).faults (S.seen store.new).faults
+        (λ damage. (missing (pages_of pages.new) damage.block ≡ 0)
+        × (IsKnown S.tells (S.seen store.old) pages.old → IsWayFault (shown_over (S.seen store.old) pages.old) blocks damage))) }
+    ensures looked { LooksAtSome S.tells (is_ok result) 7 (S.seen store.old) (S.seen store.new) pages.old pages.new }
 {
     let root = TreePath {
         number: 0,
         block: ROOT,
     };
-    first_below(file, context, blocks, root, &digits(from))
+    first_below(pages, store, blocks, root, &digits(from))
 }
 
 /// The least identifier after another one, or the least of all, or None where that passes the last one.
@@ -332,7 +329,7 @@ pub fn next_leaf<S: Store>(
     let Some(from) = id_after(after) else {
         return Ok(None);
     };
-    match first_leaf_in(pages, store, blocks, from)? {
+    match first_leaf_from(pages, store, blocks, from)? {
         Some(leaf) => Ok(Some((leaf.number, leaf.block))),
         None => Ok(None),
     }

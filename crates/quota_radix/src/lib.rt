@@ -8,10 +8,8 @@
 mod finding;
 mod following;
 pub mod laws;
-mod lending;
 mod levels;
 mod linking;
-mod loaded_blocks;
 mod path;
 mod places;
 mod reference;
@@ -23,7 +21,6 @@ mod walk_fault;
 pub use finding::{find_path, leaf};
 pub use following::next_leaf;
 pub use linking::link;
-pub use loaded_blocks::{first_leaf, leaf_beside, leaf_block};
 pub use path::Path;
 pub use places::digits;
 pub use reference::level_ref;

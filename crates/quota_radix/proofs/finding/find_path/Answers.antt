@@ -7,18 +7,15 @@ use Rattle.file_blocks.specs.Block.{word_at}
 use Rattle.outside.specs.Seen.{StoreSeen}
 use Rattle.quota_pages.specs.Page.{is_buffered}
 use Rattle.quota_pages.specs.Pages.{pages_of}
-use Rattle.quota_pages.specs.Used.{IsKnown, LooksAtSome, missing, shown_over}
+use Rattle.quota_pages.specs.Used.{LooksAtSome, missing}
 use Rattle.quota_pages.specs.declared.page_buffer.Pages.{Pages}
-use Rattle.quota_pages.proofs.UsedLemmas.{looks_more, looks_none, looks_then, missing-few, shown_over-looks}
+use Rattle.quota_pages.proofs.UsedLemmas.{looks_more, looks_none, looks_then, missing-few}
 use Rattle.quota_pages.proofs.UsesLemmas.{there-missing}
 use Rattle.quota_radix.specs.Link.{AreBuffered}
 use Rattle.quota_radix.proofs.LinkWayLemmas.{buffered_more}
 use Rattle.quota_radix.proofs.AlongLemmas.{along_all, along_all_inside, along_end, along_end_inside, along_more, along_out, along_start, fifth_is_leaf, nth, root_first}
-use Rattle.quota_radix.proofs.WalkLemmas.{since, walk_refused}
+use Rattle.quota_radix.proofs.WalkLemmas.{pages_stay, since, walk_refused}
 use Rattle.quota_radix.proofs.finding.find_path.Goals as goal
-
-pages_stay : {tells ok : Bool} {count : ℕ} {before now : StoreSeen} {old new : Pages} → LooksAtSome tells ok count before now old new → IsKnown tells before old → (IsKnown tells now new) × (shown_over now new ≡ shown_over before old)
-pages_stay looks known = (looks.known known, shown_over-looks looks)
 
 -- the block that was read last is buffered, and so are those that were read before
 way_buffered : {tells ok : Bool} {count : ℕ} {before now : StoreSeen} (old new : Pages) (found : List ℕ) (index block : ℕ) → length found ≡ index + 1 → get_or found index 0 ≡ block
@@ -65,7 +62,7 @@ returns-in_err-block-clause-refused g c =
     let digit_is = nth c.digits-digit-items.result c.args.id index c.digits-digit-items.ensures.digits in
     rw (p.1, p.2) (walk_refused _ _ _ _ _ kept.looked.leaves.later (λ damage out. (
       ap (λ (d : Damage). d.kind) out.0,
-      ap (λ (d : Damage). is_buffered (pages_of c.reference_in.new.file) d.block) out.0 ∙ there-missing (pages_of c.reference_in.new.file) c.loop-digit.block out.1,
+      ap (λ (d : Damage). is_buffered (pages_of c.reference_in.new.pages) d.block) out.0 ∙ there-missing (pages_of c.reference_in.new.pages) c.loop-digit.block out.1,
       λ known. along_out _ c.args.blocks c.args.id index c.loop-digit.block digit _ damage c.loop-digit-test.true digit_is (kept.along known) out.0
           (since (pages_stay kept.looked) (λ (file : List ℕ). c.args.blocks ≤ word_at file c.loop-digit.block digit) out.2 known),
     )) _ c.in_err-block.ensures.refused)
@@ -80,7 +77,7 @@ loop-digit-preserved g c =
     let block_is : get_or c.loop-digit.found.items index 0 ≡ c.loop-digit.block = kept.last in
     let long : length c.loop-digit.found.items ≡ index + 1 = kept.count in
     record {
-      buffered = subst (λ (xs : List ℕ). AreBuffered (pages_of c.reference_in.new.file) xs) (sym (front_of_pushed c.loop-digit.found.items _ c.in_ok-block.block index long c.push-in-loop-digit.ensures.items))
+      buffered = subst (λ (xs : List ℕ). AreBuffered (pages_of c.reference_in.new.pages) xs) (sym (front_of_pushed c.loop-digit.found.items _ c.in_ok-block.block index long c.push-in-loop-digit.ensures.items))
           (way_buffered _ _ c.loop-digit.found.items index c.loop-digit.block long block_is read.looked kept.buffered read.brought);
       last = last_pushed c.loop-digit.found.items _ c.in_ok-block.block index long c.push-in-loop-digit.ensures.items;
       root = root_first _ _ c.in_ok-block.block (omega (arith, kept.count)) c.push-in-loop-digit.ensures.items kept.root;
@@ -138,7 +135,7 @@ returns-then-block-eq0-clause-buffered g c =
     let index : ℕ = c.loop-digit.digit-index in
     let long : length c.loop-digit.found.items ≡ index + 1 = kept.count in
     let low : index < 4 = c.loop-digit-test.true in
-    subst (λ (xs : List ℕ). AreBuffered (pages_of c.reference_in.new.file) xs) (sym (all_found c.loop-digit.found.items index long low))
+    subst (λ (xs : List ℕ). AreBuffered (pages_of c.reference_in.new.pages) xs) (sym (all_found c.loop-digit.found.items index long low))
     (way_buffered _ _ c.loop-digit.found.items index c.loop-digit.block long kept.last read.looked kept.buffered read.brought)
 
 pub returns-in_err-block-clause-kept : goal.returns-in_err-block-clause-kept

@@ -6,9 +6,12 @@ use Rattle.quota_radix.specs.Lookup.{IsOnWay, IsWayFault}
 use Rattle.quota_radix.proofs.FirstLemmas.{here_next, past_next, past_none}
 use Rattle.quota_radix.proofs.InsideLemmas.{inside_both, inside_here, inside_past}
 use Rattle.quota_radix.proofs.PastLemmas.{least_past_digits, left_next, left_small, out_read, way_more}
-use Rattle.quota_radix.proofs.WalkLemmas.{none_weaker, since, some_weaker, walk_refused}
+use Rattle.quota_radix.proofs.WalkLemmas.{looks_within, none_weaker, pages_stay, since, some_weaker, walk_refused}
 use Rattle.quota_radix.proofs.WayLemmas.{step_on_way}
 use Rattle.quota_radix.specs.Way.{IsInsideBy, IsInsideFrom, number_in}
+use Rattle.quota_pages.proofs.UsedLemmas.{looks_none, missing-few}
+use Rattle.quota_pages.specs.Pages.{pages_of}
+use Rattle.quota_pages.specs.Used.{missing}
 use Rattle.quota_radix.proofs.following.+first_below.Goals as goal
 
 rest_long : (digits : List ℕ) (digit : ℕ) (rest : List ℕ) → digits ≡ digit ∷ rest → length digits ≡ suc (length rest)
@@ -28,12 +31,12 @@ returns-in_err-next-clause-refused g t c =
     let more = rest_long c.args.digits.now c.in-Some.digit.now c.in-Some.rest.now c.in-Some.ensures.cases.0 in
     let low = first_digit c.args.digits.now c.in-Some.digit.now c.in-Some.rest.now c.in-Some.ensures.cases.0 (λ k. omega (arith, c.type_inv.digits k)) in
     rw (p.1, p.2) (walk_refused _ _ _ _ _ (omega arith)
-    (λ damage out. out_read (g.B.LendsBlocks.missing c.step.new.file) _ _ c.args.blocks _ (length c.in-Some.rest.now) c.args.path damage more (out.0, out.1, λ known. (c.in-Some.digit.now, low, out.2 known))) _ c.in_err-next.ensures.refused)
+    (λ damage out. out_read (λ (n : ℕ). missing (pages_of c.step.new.pages) n) _ _ c.args.blocks _ (length c.in-Some.rest.now) c.args.path damage more (out.0, out.1, λ known. (c.in-Some.digit.now, low, out.2 known))) _ c.in_err-next.ensures.refused)
 
 pub returns-in_default-2-clause-found : goal.returns-in_default-2-clause-found
 returns-in_default-2-clause-found g t c =
     IfOk-weaker c.least_past.result _ _ (λ found past known.
-    since (g.met.B.LendsBlocks.laws.stays c.in_ok-next.ensures.looked) (λ (file : List ℕ). found ≡ path_from 0 (flat_map (paths_below file c.args.blocks (length c.in-Some.rest.now)) (later_steps file c.args.blocks c.args.path (c.in-Some.digit.now + 1)))) past known
+    since (pages_stay c.in_ok-next.ensures.looked) (λ (file : List ℕ). found ≡ path_from 0 (flat_map (paths_below file c.args.blocks (length c.in-Some.rest.now)) (later_steps file c.args.blocks c.args.path (c.in-Some.digit.now + 1)))) past known
     ∙ past_none _ c.args.blocks c.in-Some.digit.now c.args.digits.now c.in-Some.rest.now c.args.path c.in-Some.ensures.cases.0 (λ k. omega (arith, c.type_inv.digits k))
     c.in_ok-next.field-0 (c.in_ok-next.ensures.found known) c.in_default-2.is) c.least_past.ensures.found
 
@@ -50,13 +53,10 @@ first_below-requires g t c =
     λ lives fits. (
       omega (arith, c.decreases, more),
       (
-        fits.0,
+        fits,
         (
-          fits.1,
-          (
-            omega (arith, more, c.requires.room, g.met.B.LendsBlocks.laws.few c.in_ok-next.ensures.looked, g.met.B.LendsBlocks.laws.one c.args.file.now c.args.path.block),
-            left_next (length c.args.digits.now) (length c.in-Some.rest.now) c.args.path c.in-Some-2.next more c.requires.left (omega (arith, low, number)),
-          ),
+          omega (arith, more, c.requires.room, c.in_ok-next.ensures.looked.few, missing-few (pages_of c.args.pages.now) c.args.path.block),
+          left_next (length c.args.digits.now) (length c.in-Some.rest.now) c.args.path c.in-Some-2.next more c.requires.left (omega (arith, low, number)),
         ),
       ),
     )
@@ -66,10 +66,10 @@ returns-in_err-leaf-clause-refused g t c =
     let p = err_from_is_err_and c.from_residual-in_err-leaf.result c.from_residual-in_err-leaf.ensures.1 in
     let more = rest_long c.args.digits.now c.in-Some.digit.now c.in-Some.rest.now c.in-Some.ensures.cases.0 in
     let low = first_digit c.args.digits.now c.in-Some.digit.now c.in-Some.rest.now c.in-Some.ensures.cases.0 (λ k. omega (arith, c.type_inv.digits k)) in
-    rw (p.1, p.2) (walk_refused _ _ _ _ _ (g.met.B.LendsBlocks.laws.later c.in_ok-next.ensures.looked) (λ damage out. (
+    rw (p.1, p.2) (walk_refused _ _ _ _ _ c.in_ok-next.ensures.looked.leaves.later (λ damage out. (
       out.0,
       λ known way.
-          since (g.met.B.LendsBlocks.laws.stays c.in_ok-next.ensures.looked) (λ (file : List ℕ). IsOnWay file c.args.blocks (length c.in-Some.rest.now) c.in-Some-2.next → IsWayFault file c.args.blocks damage) out.1 known
+          since (pages_stay c.in_ok-next.ensures.looked) (λ (file : List ℕ). IsOnWay file c.args.blocks (length c.in-Some.rest.now) c.in-Some-2.next → IsWayFault file c.args.blocks damage) out.1 known
           (step_on_way _ c.args.blocks (length c.in-Some.rest.now) c.args.path c.in-Some-2.next c.in-Some.digit.now low (way_more _ c.args.blocks (length c.args.digits.now) (length c.in-Some.rest.now) c.args.path more way)
           (sym (c.in_ok-next.ensures.found known) ∙ c.in-Some-2.is)),
     )) _ c.in_err-leaf.ensures.refused)
@@ -78,17 +78,17 @@ pub returns-in-Some-3-clause-found : goal.returns-in-Some-3-clause-found
 returns-in-Some-3-clause-found g t c = λ known.
     here_next _ c.args.blocks c.in-Some.digit.now c.args.digits.now c.in-Some.rest.now c.args.path c.in-Some.ensures.cases.0 (λ k. omega (arith, c.type_inv.digits k))
     c.in_ok-next.field-0 c.in_ok-leaf.field-0 c.in-Some-2.next c.in-Some-3.leaf (c.in_ok-next.ensures.found known) c.in-Some-2.is
-    (since (g.met.B.LendsBlocks.laws.stays c.in_ok-next.ensures.looked) (λ (file : List ℕ). c.in_ok-leaf.field-0 ≡ path_from (with_digits c.in-Some-2.next.number c.in-Some.rest.now) (paths_below file c.args.blocks (length c.in-Some.rest.now) c.in-Some-2.next)) c.in_ok-leaf.ensures.found known)
+    (since (pages_stay c.in_ok-next.ensures.looked) (λ (file : List ℕ). c.in_ok-leaf.field-0 ≡ path_from (with_digits c.in-Some-2.next.number c.in-Some.rest.now) (paths_below file c.args.blocks (length c.in-Some.rest.now) c.in-Some-2.next)) c.in_ok-leaf.ensures.found known)
     c.in-Some-3.is
 
 pub returns-in-None-clause-found : goal.returns-in-None-clause-found
 returns-in-None-clause-found g t c =
     IfOk-weaker c.least_past-in-None.result _ _ (λ found past known.
-    since (g.met.B.LendsBlocks.laws.stays c.in_ok-next.ensures.looked) (λ (file : List ℕ). found ≡ path_from 0 (flat_map (paths_below file c.args.blocks (length c.in-Some.rest.now)) (later_steps file c.args.blocks c.args.path (c.in-Some.digit.now + 1))))
-    (since (g.met.B.LendsBlocks.laws.stays c.in_ok-leaf.ensures.looked) (λ (file : List ℕ). found ≡ path_from 0 (flat_map (paths_below file c.args.blocks (length c.in-Some.rest.now)) (later_steps file c.args.blocks c.args.path (c.in-Some.digit.now + 1)))) past) known
+    since (pages_stay c.in_ok-next.ensures.looked) (λ (file : List ℕ). found ≡ path_from 0 (flat_map (paths_below file c.args.blocks (length c.in-Some.rest.now)) (later_steps file c.args.blocks c.args.path (c.in-Some.digit.now + 1))))
+    (since (pages_stay c.in_ok-leaf.ensures.looked) (λ (file : List ℕ). found ≡ path_from 0 (flat_map (paths_below file c.args.blocks (length c.in-Some.rest.now)) (later_steps file c.args.blocks c.args.path (c.in-Some.digit.now + 1)))) past) known
     ∙ past_next _ c.args.blocks c.in-Some.digit.now c.args.digits.now c.in-Some.rest.now c.args.path c.in-Some.ensures.cases.0 (λ k. omega (arith, c.type_inv.digits k))
     c.in_ok-next.field-0 c.in_ok-leaf.field-0 c.in-Some-2.next (c.in_ok-next.ensures.found known) c.in-Some-2.is
-    (since (g.met.B.LendsBlocks.laws.stays c.in_ok-next.ensures.looked) (λ (file : List ℕ). c.in_ok-leaf.field-0 ≡ path_from (with_digits c.in-Some-2.next.number c.in-Some.rest.now) (paths_below file c.args.blocks (length c.in-Some.rest.now) c.in-Some-2.next)) c.in_ok-leaf.ensures.found known)
+    (since (pages_stay c.in_ok-next.ensures.looked) (λ (file : List ℕ). c.in_ok-leaf.field-0 ≡ path_from (with_digits c.in-Some-2.next.number c.in-Some.rest.now) (paths_below file c.args.blocks (length c.in-Some.rest.now) c.in-Some-2.next)) c.in_ok-leaf.ensures.found known)
     c.in-None.is) c.least_past-in-None.ensures.found
 
 pub returns-in-None-clause-least : goal.returns-in-None-clause-least
@@ -100,51 +100,47 @@ pub returns-in_default-2-clause-between : goal.returns-in_default-2-clause-betwe
 returns-in_default-2-clause-between g t c = IfOk-weaker c.least_past.result _ _ (λ found past known.
     inside_past _ c.args.blocks c.in-Some.digit.now c.args.digits.now c.in-Some.rest.now c.args.path c.in-Some.ensures.cases.0 (c.in_ok-next.ensures.inside known)
     c.in_ok-next.field-0 (number_in found) (c.in_ok-next.ensures.found known) c.in_default-2.is
-    (since (g.met.B.LendsBlocks.laws.stays c.in_ok-next.ensures.looked) (λ (file : List ℕ). IsInsideBy file c.args.blocks (length c.in-Some.rest.now) c.args.path (c.in-Some.digit.now + 1) (number_in found)) past known))
+    (since (pages_stay c.in_ok-next.ensures.looked) (λ (file : List ℕ). IsInsideBy file c.args.blocks (length c.in-Some.rest.now) c.args.path (c.in-Some.digit.now + 1) (number_in found)) past known))
     c.least_past.ensures.between
 
 pub returns-in-Some-3-clause-between : goal.returns-in-Some-3-clause-between
 returns-in-Some-3-clause-between g t c = λ known.
     inside_here _ c.args.blocks c.in-Some.digit.now c.args.digits.now c.in-Some.rest.now c.args.path c.in-Some.ensures.cases.0 (c.in_ok-next.ensures.inside known)
     c.in_ok-next.field-0 c.in_ok-leaf.field-0 c.in-Some-2.next c.in-Some-3.leaf (c.in_ok-next.ensures.found known) c.in-Some-2.is c.in-Some-3.is
-    (since (g.met.B.LendsBlocks.laws.stays c.in_ok-next.ensures.looked) (λ (file : List ℕ). c.in_ok-leaf.field-0 ≡ path_from (with_digits c.in-Some-2.next.number c.in-Some.rest.now) (paths_below file c.args.blocks (length c.in-Some.rest.now) c.in-Some-2.next)) c.in_ok-leaf.ensures.found known)
-    (since (g.met.B.LendsBlocks.laws.stays c.in_ok-next.ensures.looked) (λ (file : List ℕ). IsInsideFrom file c.args.blocks (length c.in-Some.rest.now) c.in-Some-2.next (with_digits c.in-Some-2.next.number c.in-Some.rest.now) (number_in c.in_ok-leaf.field-0))
+    (since (pages_stay c.in_ok-next.ensures.looked) (λ (file : List ℕ). c.in_ok-leaf.field-0 ≡ path_from (with_digits c.in-Some-2.next.number c.in-Some.rest.now) (paths_below file c.args.blocks (length c.in-Some.rest.now) c.in-Some-2.next)) c.in_ok-leaf.ensures.found known)
+    (since (pages_stay c.in_ok-next.ensures.looked) (λ (file : List ℕ). IsInsideFrom file c.args.blocks (length c.in-Some.rest.now) c.in-Some-2.next (with_digits c.in-Some-2.next.number c.in-Some.rest.now) (number_in c.in_ok-leaf.field-0))
     c.in_ok-leaf.ensures.between known)
 
 pub returns-in-None-clause-between : goal.returns-in-None-clause-between
 returns-in-None-clause-between g t c = IfOk-weaker c.least_past-in-None.result _ _ (λ found past known.
     inside_both _ c.args.blocks c.in-Some.digit.now c.args.digits.now c.in-Some.rest.now c.args.path c.in-Some.ensures.cases.0 (c.in_ok-next.ensures.inside known)
     c.in_ok-next.field-0 c.in_ok-leaf.field-0 c.in-Some-2.next (number_in found) (c.in_ok-next.ensures.found known) c.in-Some-2.is c.in-None.is
-    (since (g.met.B.LendsBlocks.laws.stays c.in_ok-next.ensures.looked) (λ (file : List ℕ). IsInsideFrom file c.args.blocks (length c.in-Some.rest.now) c.in-Some-2.next (with_digits c.in-Some-2.next.number c.in-Some.rest.now) (number_in c.in_ok-leaf.field-0))
+    (since (pages_stay c.in_ok-next.ensures.looked) (λ (file : List ℕ). IsInsideFrom file c.args.blocks (length c.in-Some.rest.now) c.in-Some-2.next (with_digits c.in-Some-2.next.number c.in-Some.rest.now) (number_in c.in_ok-leaf.field-0))
     c.in_ok-leaf.ensures.between known)
-    (since (g.met.B.LendsBlocks.laws.stays c.in_ok-next.ensures.looked) (λ (file : List ℕ). IsInsideBy file c.args.blocks (length c.in-Some.rest.now) c.args.path (c.in-Some.digit.now + 1) (number_in found))
-    (since (g.met.B.LendsBlocks.laws.stays c.in_ok-leaf.ensures.looked) (λ (file : List ℕ). IsInsideBy file c.args.blocks (length c.in-Some.rest.now) c.args.path (c.in-Some.digit.now + 1) (number_in found)) past) known))
+    (since (pages_stay c.in_ok-next.ensures.looked) (λ (file : List ℕ). IsInsideBy file c.args.blocks (length c.in-Some.rest.now) c.args.path (c.in-Some.digit.now + 1) (number_in found))
+    (since (pages_stay c.in_ok-leaf.ensures.looked) (λ (file : List ℕ). IsInsideBy file c.args.blocks (length c.in-Some.rest.now) c.args.path (c.in-Some.digit.now + 1) (number_in found)) past) known))
     c.least_past-in-None.ensures.between
 
 pub returns-in-None-clause-looked : goal.returns-in-None-clause-looked
 returns-in-None-clause-looked g t c =
-    let B = g.met.B.LendsBlocks.laws in
     let more = rest_long c.args.digits.now c.in-Some.digit.now c.in-Some.rest.now c.in-Some.ensures.cases.0 in
     let none = rw c.in-None.is at c.in_ok-leaf.ensures.none in
-    B.then (B.then {both = length c.args.digits.now} c.in_ok-next.ensures.looked none (omega (arith, more, B.one c.args.file.now c.args.path.block))) c.least_past-in-None.ensures.looked (omega (arith, more))
+    looks_within (looks_within {both = length c.args.digits.now} c.in_ok-next.ensures.looked none (omega (arith, more, missing-few (pages_of c.args.pages.now) c.args.path.block))) c.least_past-in-None.ensures.looked (omega (arith, more))
 
 pub returns-in-None-clause-none : goal.returns-in-None-clause-none
 returns-in-None-clause-none g t c =
-    let B = g.met.B.LendsBlocks.laws in
     let more = rest_long c.args.digits.now c.in-Some.digit.now c.in-Some.rest.now c.in-Some.ensures.cases.0 in
     let none = rw c.in-None.is at c.in_ok-leaf.ensures.none in
     none_weaker c.least_past-in-None.result
-    (λ past. B.then (B.then {both = length c.args.digits.now} c.in_ok-next.ensures.looked none (omega (arith, more, B.one c.args.file.now c.args.path.block))) past (omega arith)) c.least_past-in-None.ensures.none
+    (λ past. looks_within (looks_within {both = length c.args.digits.now} c.in_ok-next.ensures.looked none (omega (arith, more, missing-few (pages_of c.args.pages.now) c.args.path.block))) past (omega arith)) c.least_past-in-None.ensures.none
 
 pub returns-in_err-next-clause-looked : goal.returns-in_err-next-clause-looked
 returns-in_err-next-clause-looked g t c =
     let p = err_from_is_err_and c.from_residual.result c.from_residual.ensures.1 in
-    let B = g.met.B.LendsBlocks.laws in
     let more = rest_long c.args.digits.now c.in-Some.digit.now c.in-Some.rest.now c.in-Some.ensures.cases.0 in
-    rw p.1 (B.then c.in_err-next.ensures.looked (B.none {ok = false}) (omega (arith, more, B.one c.args.file.now c.args.path.block)))
+    rw p.1 (looks_within c.in_err-next.ensures.looked (looks_none {ok = false} _ _ _) (omega (arith, more, missing-few (pages_of c.args.pages.now) c.args.path.block)))
 
 pub returns-in_default-2-clause-looked : goal.returns-in_default-2-clause-looked
 returns-in_default-2-clause-looked g t c =
-    let B = g.met.B.LendsBlocks.laws in
     let more = rest_long c.args.digits.now c.in-Some.digit.now c.in-Some.rest.now c.in-Some.ensures.cases.0 in
-    B.then c.in_ok-next.ensures.looked c.least_past.ensures.looked (omega (arith, more, B.one c.args.file.now c.args.path.block))
+    looks_within c.in_ok-next.ensures.looked c.least_past.ensures.looked (omega (arith, more, missing-few (pages_of c.args.pages.now) c.args.path.block))

@@ -7,7 +7,10 @@ use Rattle.quota_radix.specs.Way.{IsInsideBy, IsInsideFrom}
 use Rattle.quota_radix.specs.Walk.{GoesOnFrom}
 use Rattle.quota_radix.proofs.InsideLemmas.{by_none, by_some}
 use Rattle.quota_radix.proofs.PastLemmas.{least_past_none, least_past_some, left_next, left_small, out_read, past_onward}
-use Rattle.quota_radix.proofs.WalkLemmas.{since, walk_refused}
+use Rattle.quota_radix.proofs.WalkLemmas.{looks_within, pages_stay, since, walk_refused}
+use Rattle.quota_pages.proofs.UsedLemmas.{looks_none}
+use Rattle.quota_pages.specs.Pages.{pages_of}
+use Rattle.quota_pages.specs.Used.{missing}
 use Rattle.quota_radix.proofs.following.least_past.Goals as goal
 
 from_byte : (file : List ℕ) (blocks to_go byte digit : ℕ) (path : TreePath) (last : Option ℕ) → byte ≡ digit → IsInsideBy file blocks to_go path (byte + 1) last
@@ -20,7 +23,7 @@ first_step-requires-clause-small g c = left_small (suc c.args.to_go) c.args.to_g
 pub returns-in_err-next-clause-refused : goal.returns-in_err-next-clause-refused
 returns-in_err-next-clause-refused g c =
     let p = err_from_is_err_and c.from_residual.result c.from_residual.ensures.1 in
-    rw (p.1, p.2) (walk_refused _ _ _ _ _ (omega arith) (λ damage. out_read (g.B.LendsBlocks.missing c.first_step.new.file) _ _ c.args.blocks (suc c.args.to_go) c.args.to_go c.args.path damage refl) _ c.in_err-next.ensures.refused)
+    rw (p.1, p.2) (walk_refused _ _ _ _ _ (omega arith) (λ damage. out_read (λ (n : ℕ). missing (pages_of c.first_step.new.pages) n) _ _ c.args.blocks (suc c.args.to_go) c.args.to_go c.args.path damage refl) _ c.in_err-next.ensures.refused)
 
 pub least_below-requires-clause-left : goal.least_below-requires-clause-left
 least_below-requires-clause-left g c =
@@ -30,10 +33,10 @@ least_below-requires-clause-left g c =
 pub returns-in_err-least_below-in-Some-clause-refused : goal.returns-in_err-least_below-in-Some-clause-refused
 returns-in_err-least_below-in-Some-clause-refused g c =
     let p = err_from_is_err_and c.from_residual-in_err-least_below-in-Some.result c.from_residual-in_err-least_below-in-Some.ensures.1 in
-    rw (p.1, p.2) (walk_refused _ _ _ _ _ (g.met.B.LendsBlocks.laws.later c.in_ok-next.ensures.looked) (λ damage out. (
+    rw (p.1, p.2) (walk_refused _ _ _ _ _ c.in_ok-next.ensures.looked.leaves.later (λ damage out. (
       out.0,
       λ known way.
-          since (g.met.B.LendsBlocks.laws.stays c.in_ok-next.ensures.looked) (λ (file : List ℕ). IsBelowRoot file c.args.blocks c.args.to_go c.in-Some.next → IsWayFault file c.args.blocks damage) out.1 known
+          since (pages_stay c.in_ok-next.ensures.looked) (λ (file : List ℕ). IsBelowRoot file c.args.blocks c.args.to_go c.in-Some.next → IsWayFault file c.args.blocks damage) out.1 known
           (past_onward _ c.args.blocks c.args.to_go (c.from.result + 1) c.args.path c.in-Some.next (omega arith) way (sym (c.in_ok-next.ensures.found known) ∙ c.in-Some.is)),
     )) _ c.in_err-least_below-in-Some.ensures.refused)
 
@@ -41,7 +44,7 @@ pub returns-in_ok-least_below-in-Some-clause-found : goal.returns-in_ok-least_be
 returns-in_ok-least_below-in-Some-clause-found g c = λ known.
     least_past_some _ c.args.blocks c.args.to_go c.args.digit c.from.result c.args.path c.in-Some.next c.in_ok-least_below-in-Some.field-0 c.in_ok-next.field-0 c.from.ensures
     (c.in_ok-next.ensures.found known) c.in-Some.is
-    (since (g.met.B.LendsBlocks.laws.stays c.in_ok-next.ensures.looked) (λ (file : List ℕ). path_from 0 (paths_below file c.args.blocks c.args.to_go c.in-Some.next) ≡ Some c.in_ok-least_below-in-Some.field-0)
+    (since (pages_stay c.in_ok-next.ensures.looked) (λ (file : List ℕ). path_from 0 (paths_below file c.args.blocks c.args.to_go c.in-Some.next) ≡ Some c.in_ok-least_below-in-Some.field-0)
     c.in_ok-least_below-in-Some.ensures.found known)
 
 pub returns-in-None-clause-found : goal.returns-in-None-clause-found
@@ -53,9 +56,9 @@ returns-in_ok-least_below-in-Some-clause-between g c = λ known.
     from_byte _ c.args.blocks c.args.to_go c.from.result c.args.digit c.args.path _ c.from.ensures
     (by_some _ c.args.blocks c.args.to_go (c.from.result + 1) c.args.path c.in-Some.next c.in_ok-least_below-in-Some.field-0 c.in_ok-next.field-0 (c.in_ok-next.ensures.found known) c.in-Some.is
     (c.in_ok-next.ensures.clear known)
-    (since (g.met.B.LendsBlocks.laws.stays c.in_ok-next.ensures.looked) (λ (file : List ℕ). path_from 0 (paths_below file c.args.blocks c.args.to_go c.in-Some.next) ≡ Some c.in_ok-least_below-in-Some.field-0)
+    (since (pages_stay c.in_ok-next.ensures.looked) (λ (file : List ℕ). path_from 0 (paths_below file c.args.blocks c.args.to_go c.in-Some.next) ≡ Some c.in_ok-least_below-in-Some.field-0)
     c.in_ok-least_below-in-Some.ensures.found known)
-    (since (g.met.B.LendsBlocks.laws.stays c.in_ok-next.ensures.looked) (λ (file : List ℕ). IsInsideFrom file c.args.blocks c.args.to_go c.in-Some.next 0 (Some c.in_ok-least_below-in-Some.field-0.number))
+    (since (pages_stay c.in_ok-next.ensures.looked) (λ (file : List ℕ). IsInsideFrom file c.args.blocks c.args.to_go c.in-Some.next 0 (Some c.in_ok-least_below-in-Some.field-0.number))
     c.in_ok-least_below-in-Some.ensures.between known))
 
 pub returns-in-None-clause-between : goal.returns-in-None-clause-between
@@ -65,11 +68,9 @@ returns-in-None-clause-between g c = λ known.
 
 pub returns-in-None-clause-looked : goal.returns-in-None-clause-looked
 returns-in-None-clause-looked g c =
-    let B = g.met.B.LendsBlocks.laws in
-    B.then c.in_ok-next.ensures.looked B.none (omega (arith, c.requires.buffered))
+    looks_within c.in_ok-next.ensures.looked (looks_none _ _ _) (omega (arith, c.requires.buffered))
 
 pub returns-in_err-next-clause-looked : goal.returns-in_err-next-clause-looked
 returns-in_err-next-clause-looked g c =
     let p = err_from_is_err_and c.from_residual.result c.from_residual.ensures.1 in
-    let B = g.met.B.LendsBlocks.laws in
-    rw p.1 (B.then c.in_err-next.ensures.looked (B.none {ok = false}) (omega (arith, c.requires.buffered)))
+    rw p.1 (looks_within c.in_err-next.ensures.looked (looks_none {ok = false} _ _ _) (omega (arith, c.requires.buffered)))

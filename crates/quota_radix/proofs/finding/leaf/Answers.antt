@@ -3,38 +3,40 @@ use Rattle.std.proofs.lemmas.Result.{err_from_is_err_and}
 use Rattle.quota_types.specs.declared.damage.Damage.{Damage}
 use Rattle.file_blocks.specs.Block.{word_at}
 use Rattle.quota_radix.proofs.AlongLemmas.{along_all_inside, along_end_inside, along_leaf, along_more, along_no_leaf, along_out, along_start, nth}
-use Rattle.quota_radix.proofs.WalkLemmas.{since, walk_refused}
-use Rattle.quota_radix.proofs.finding.leaf_in.Goals as goal
+use Rattle.quota_radix.proofs.WalkLemmas.{looks_within, pages_stay, since, walk_refused}
+use Rattle.quota_pages.proofs.UsedLemmas.{looks_none, missing-few}
+use Rattle.quota_pages.specs.Pages.{pages_of}
+use Rattle.quota_pages.specs.Page.{is_buffered}
+use Rattle.quota_pages.proofs.UsesLemmas.{there-missing}
+use Rattle.quota_radix.proofs.finding.leaf.Goals as goal
 
 pub loop-digit-init : goal.loop-digit-init
 loop-digit-init g c = record {
   within = omega arith;
   along = λ known. (1 ∷ [], along_start _ c.args.blocks c.args.id (1 ∷ []) refl);
-  looked = g.met.B.LendsBlocks.laws.none;
+  looked = (looks_none _ _ _);
 }
 
 pub reference_in-requires : goal.reference_in-requires
 reference_in-requires g c =
-    λ missing. omega (arith, c.loop-digit-test.true, c.requires, g.met.B.LendsBlocks.laws.few c.loop-digit.invariant.looked)
+    λ missing. omega (arith, c.loop-digit-test.true, c.requires, c.loop-digit.invariant.looked.few)
 
 pub returns-in_err-block-clause-refused : goal.returns-in_err-block-clause-refused
 returns-in_err-block-clause-refused g c =
-    let B = g.met.B.LendsBlocks.laws in
     let p = err_from_is_err_and c.from_residual.result c.from_residual.ensures.1 in
     let kept = c.loop-digit.invariant in
     let index : ℕ = c.loop-digit.digit-index in
     let word : ℕ = get_or c.digits-digit-items.result index 0 in
     let digit_is = nth c.digits-digit-items.result c.args.id index c.digits-digit-items.ensures.digits in
-    rw (p.1, p.2) (walk_refused _ _ _ _ _ (B.later kept.looked) (λ damage out. (
+    rw (p.1, p.2) (walk_refused _ _ _ _ _ kept.looked.leaves.later (λ damage out. (
       ap (λ (d : Damage). d.kind) out.0,
-      ap (λ (d : Damage). g.B.LendsBlocks.missing c.reference_in.new.file d.block) out.0 ∙ out.1,
+      ap (λ (d : Damage). is_buffered (pages_of c.reference_in.new.pages) d.block) out.0 ∙ there-missing (pages_of c.reference_in.new.pages) c.loop-digit.block out.1,
       λ known. along_out _ c.args.blocks c.args.id index c.loop-digit.block word _ damage c.loop-digit-test.true digit_is (kept.along known).1 out.0
-          (since (B.stays kept.looked) (λ (file : List ℕ). c.args.blocks ≤ word_at file c.loop-digit.block word) out.2 known),
+          (since (pages_stay kept.looked) (λ (file : List ℕ). c.args.blocks ≤ word_at file c.loop-digit.block word) out.2 known),
     )) _ c.in_err-block.ensures.refused)
 
 pub loop-digit-preserved : goal.loop-digit-preserved
 loop-digit-preserved g c =
-    let B = g.met.B.LendsBlocks.laws in
     let kept = c.loop-digit.invariant in
     let read = c.in_ok-block.ensures in
     let index : ℕ = c.loop-digit.digit-index in
@@ -46,10 +48,10 @@ loop-digit-preserved g c =
           let found = kept.along known in (
             found.0 ++ c.in_ok-block.block ∷ [],
             along_more _ c.args.blocks c.args.id index c.loop-digit.block c.in_ok-block.block word found.0 _ c.loop-digit-test.true digit_is found.1
-                (since (B.stays kept.looked) (λ (file : List ℕ). c.in_ok-block.block ≡ word_at file c.loop-digit.block word) read.is known)
+                (since (pages_stay kept.looked) (λ (file : List ℕ). c.in_ok-block.block ≡ word_at file c.loop-digit.block word) read.is known)
                 read.inside c.if-block-eq0.false refl,
           );
-      looked = B.then kept.looked read.looked (omega (arith, B.one c.loop-digit.file c.loop-digit.block));
+      looked = looks_within kept.looked read.looked (omega (arith, missing-few (pages_of c.loop-digit.pages) c.loop-digit.block));
     }
 
 pub returns-then-block-eq0-clause-found : goal.returns-then-block-eq0-clause-found
@@ -58,7 +60,7 @@ returns-then-block-eq0-clause-found g c = λ known.
     let word : ℕ = get_or c.digits-digit-items.result c.loop-digit.digit-index 0 in
     let digit_is = nth c.digits-digit-items.result c.args.id c.loop-digit.digit-index c.digits-digit-items.ensures.digits in
     along_no_leaf _ c.args.blocks c.args.id c.loop-digit.digit-index c.loop-digit.block c.in_ok-block.block word _ c.loop-digit-test.true digit_is (kept.along known).1
-    (since (g.met.B.LendsBlocks.laws.stays kept.looked) (λ (file : List ℕ). c.in_ok-block.block ≡ word_at file c.loop-digit.block word) c.in_ok-block.ensures.is known) c.if-block-eq0.true
+    (since (pages_stay kept.looked) (λ (file : List ℕ). c.in_ok-block.block ≡ word_at file c.loop-digit.block word) c.in_ok-block.ensures.is known) c.if-block-eq0.true
 
 pub returns-then-block-eq0-clause-inside : goal.returns-then-block-eq0-clause-inside
 returns-then-block-eq0-clause-inside g c = λ known.
@@ -66,7 +68,7 @@ returns-then-block-eq0-clause-inside g c = λ known.
     let word : ℕ = get_or c.digits-digit-items.result c.loop-digit.digit-index 0 in
     let digit_is = nth c.digits-digit-items.result c.args.id c.loop-digit.digit-index c.digits-digit-items.ensures.digits in
     along_end_inside _ c.args.blocks c.args.id c.loop-digit.digit-index c.loop-digit.block c.in_ok-block.block word _ c.loop-digit-test.true digit_is (kept.along known).1
-    (since (g.met.B.LendsBlocks.laws.stays kept.looked) (λ (file : List ℕ). c.in_ok-block.block ≡ word_at file c.loop-digit.block word) c.in_ok-block.ensures.is known) c.in_ok-block.ensures.inside c.if-block-eq0.true
+    (since (pages_stay kept.looked) (λ (file : List ℕ). c.in_ok-block.block ≡ word_at file c.loop-digit.block word) c.in_ok-block.ensures.is known) c.in_ok-block.ensures.inside c.if-block-eq0.true
 
 pub returns-clause-found : goal.returns-clause-found
 returns-clause-found g c = λ known.

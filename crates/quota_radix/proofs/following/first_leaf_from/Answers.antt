@@ -3,7 +3,7 @@ use Rattle.std.proofs.lemmas.Result.{IfOk-weaker}
 use Rattle.quota_radix.proofs.InsideLemmas.{root_up_to}
 use Rattle.quota_radix.proofs.PastLemmas.{from_root}
 use Rattle.quota_radix.specs.Way.{number_in}
-use Rattle.quota_radix.proofs.following.first_leaf_in.Goals as goal
+use Rattle.quota_radix.proofs.following.first_leaf_from.Goals as goal
 
 pub returns-clause-found : goal.returns-clause-found
 returns-clause-found g c =
