@@ -99,7 +99,8 @@ traced() {
         END { print (writes >= 1 && writes <= 12 ? "few" : writes + 0), syncs + 0, names + 0 }' trace.txt
 }
 
-# An edit makes at most twelve calls that write and one that syncs, and renames nothing.
+# An edit makes at most twelve calls that write and one that syncs, and renames nothing. A new file is synced, and the folder
+# with its name once before it takes the one that it was asked for and once behind that.
 if strace -o trace.txt true 2>err.txt; then
     for format in vfsv0 vfsv1; do
         seq 1000 1999 | awk '{ print $1, 100, 1, $1, 8 }' >owners
@@ -108,6 +109,7 @@ if strace -o trace.txt true 2>err.txt; then
         same "the calls of a new identifier of $format" "$(traced setquota -F "$format" 4294967295 1 2 3 4 t)" 'few 1 0'
         same "the calls of no limits of $format" "$(traced setquota -F "$format" 4294967295 0 0 0 0 t)" 'few 1 0'
         same "the calls of grace periods of $format" "$(traced setquota -F "$format" -t 1 2 t)" 'few 1 0'
+        same "the calls of a new file of $format" "$(traced quotacheck -c -u -F "$format" --input owners new)" 'few 3 2'
 
         # A write that fails, or at which the program is killed, and a sync that fails: each block is the old or the new
         # one.

@@ -36,6 +36,18 @@ ended() {
     wait "$1" || got=$?
 }
 
+# change_waits WHAT ID: new limits of the one identifier of q wait for whoever has locked that, and are set once it is let
+# go.
+change_waits() {
+    local writer
+    timeout 10 "${runner[@]}" setquota "$2" 1 2 3 4 q &
+    writer=$!
+    same "$1 waits" "$(is_waiting "$writer")" waiting
+    release
+    ended "$writer"
+    same "$1 is made then" "$got $(limits_of q)" "0 $2 1 2 3 4"
+}
+
 # limits_of FILE: identifiers and their four limits.
 limits_of() { "${runner[@]}" repquota -n -v -F "$format" "$1" | sed 1,4d | awk '{ print substr($1, 2), $4, $5, $8, $9 }'; }
 
@@ -162,12 +174,7 @@ hold -s q
 expect 'a form beside another reader' 0 'Disk quotas for user #1 (uid 1):
   Filesystem blocks soft hard inodes soft hard
   q 4 0 0 1 0 0' '' edquota --print 1 q
-timeout 10 "${runner[@]}" setquota 1 1 2 3 4 q &
-writer=$!
-same 'a change waits' "$(is_waiting "$writer")" waiting
-release
-ended "$writer"
-same 'and goes on, too' "$got $(limits_of q)" '0 1 1 2 3 4'
+change_waits 'a change' 1
 echo 'alice:x:1:1::/:/bin/sh' >names
 echo 'alice 5 6 7 8' >lines
 hold -x names
@@ -178,12 +185,7 @@ same 'names and an input are not locked' "$(limits_of q)" '1 5 6 7 8'
 # What was replaced during the wait is changed as it is then.
 "${runner[@]}" quotacheck -c other <<<'9 100 1 1 8'
 hold -x q 'mv other q'
-timeout 10 "${runner[@]}" setquota 9 1 2 3 4 q &
-writer=$!
-same 'a change of what is replaced waits' "$(is_waiting "$writer")" waiting
-release
-ended "$writer"
-same 'and is made of the new one' "$got $(limits_of q)" '0 9 1 2 3 4'
+change_waits 'a change of what is replaced' 9
 
 # A file that another program makes under the name of a new one is let be, and one that was left behind is not.
 rm q

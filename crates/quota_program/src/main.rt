@@ -19,7 +19,8 @@ use std::fs::{File, Files};
 use std::io::{BufReader, ErrorKind};
 use std::process::ExitCode;
 use std::{env, io};
-use system_objects::{FileStore, StreamSink, StreamSource, UdpLink, moment};
+use system_objects::FileDisk;
+use system_streams::{StreamSink, StreamSource, UdpLink, moment};
 
 mod help;
 mod sharing;
@@ -68,7 +69,7 @@ fn stop<E: Sink>(err: &mut E, cause: Cause, alloc: Global) -> u8
 /// Tells a store how the files of the command are shared with other programs. Words that ask for no command use none, and
 /// are refused when they are carried out.
 fn share_files<R: Files<File = File>>(
-    store: &mut FileStore<'_, R>,
+    store: &mut FileDisk<'_, R>,
     words: &[String],
     alloc: Global,
 ) -> Result<(), Cause> {
@@ -90,7 +91,7 @@ fn main(rt: HostRuntime) -> ExitCode {
             if let Some(about) = About::asked(&words) {
                 return ExitCode::from(tell(&mut out, &mut err, about.text(), rt.alloc()));
             }
-            let mut store = FileStore::new(rt.alloc(), &rt);
+            let mut store = FileDisk::new(rt.alloc(), &rt);
             if let Err(cause) = share_files(&mut store, &words, rt.alloc()) {
                 return ExitCode::from(stop(&mut err, cause, rt.alloc()));
             }

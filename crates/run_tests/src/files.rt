@@ -4,7 +4,7 @@ use std::fs::{File, Files, OpenOptions};
 use std::os::unix::fs::FileExt;
 use std::process::Abort;
 use std::{fs, io};
-use system_objects::FileStore;
+use system_objects::FileDisk;
 
 /// The file, in the current folder.
 const NAME: &str = "file_of_run_tests";
@@ -116,7 +116,7 @@ fn fill(bytes: &mut Vec<u8>, at: usize, len: usize, value: u8) -> io::Result<()>
 /// Whether a step goes as it should where the file has these bytes, which are changed along with it.
 fn goes<R: Files<File = File>>(
     files: &R,
-    store: &mut FileStore<'_, R>,
+    store: &mut FileDisk<'_, R>,
     bytes: &mut Vec<u8>,
     step: Step,
 ) -> io::Result<bool> {
@@ -142,7 +142,7 @@ fn first_wrong<R: Files<File = File>>(
 ) -> io::Result<Option<Step>> {
     let mut bytes = first_bytes(alloc)?;
     fs::write(files, NAME, bytes.as_slice())?;
-    let mut store = FileStore::new(alloc, files);
+    let mut store = FileDisk::new(alloc, files);
     for step in steps {
         if !goes(files, &mut store, &mut bytes, *step)? {
             return Ok(Some(*step));

@@ -5,6 +5,8 @@
 #![tactic(auto)]
 
 #[cfg(test)]
+mod disk;
+#[cfg(test)]
 mod edit_tests;
 #[cfg(test)]
 mod file_tests;

@@ -3,7 +3,7 @@ use std::io;
 use std::net::{Ipv4Addr, Net, UdpSocket};
 use std::process::Abort;
 use std::time::{Clock, Duration};
-use system_objects::{UdpLink, moment};
+use system_streams::{UdpLink, moment};
 
 /// A call that asks for the quota of user 1000 under `/home`, from that user.
 const CALL: &[u8] =

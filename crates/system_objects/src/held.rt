@@ -1,6 +1,6 @@
 use crate::locks::LockedFile;
-use crate::opened::Access;
 use crate::stamp::Node;
+use file_windows::Access;
 use std::alloc::{AllocError, Global};
 use std::fs::File;
 use std::io;

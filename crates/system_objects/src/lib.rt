@@ -1,31 +1,17 @@
-//! The objects outside as the system has them: files, streams, datagrams and the moment.
+//! The files of the system as a store and as a disk, with locks and links.
 //!
 //! They tell nothing of what they hold, and count their faults.
 #![tactic(auto)]
 
-mod clock;
-mod far_blocks;
-mod file_store;
-mod gathered;
+mod file_disk;
 mod held;
 mod locks;
 mod looks;
 mod names;
+mod new_names;
 mod open_files;
-mod opened;
-mod read_ahead;
 mod sharing;
-mod span;
 mod stamp;
-mod stream_sink;
-mod stream_source;
-mod udp_link;
-mod whole;
-mod window;
 
-pub use clock::moment;
-pub use file_store::FileStore;
+pub use file_disk::FileDisk;
 pub use sharing::{Lock, Sharing};
-pub use stream_sink::StreamSink;
-pub use stream_source::StreamSource;
-pub use udp_link::UdpLink;

@@ -1,7 +1,7 @@
 use crate::names::{open_to_lock, stamp_at, stands_for};
-use crate::opened::Access;
 use crate::sharing::Lock;
 use crate::stamp::{Node, Stamp};
+use file_windows::Access;
 use std::fs::{File, Files};
 use std::io;
 use std::io::ErrorKind;

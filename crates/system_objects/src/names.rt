@@ -1,6 +1,7 @@
-use crate::opened::Access;
+use crate::new_names::folder_of;
 use crate::sharing::Lock;
 use crate::stamp::{Node, Stamp};
+use file_windows::Access;
 use std::alloc::Global;
 use std::fs::{File, Files, Metadata, OpenOptions};
 use std::io::ErrorKind;
@@ -87,11 +88,20 @@ pub(crate) fn open_to_lock<R: Files<File = File>>(
 }
 
 /// Makes a file where there is none, or opens the one that somebody else made meanwhile. Only its owner may read and write
-/// one that is made.
-pub(crate) fn make_absent<R: Files<File = File>>(files: &R, path: &str) -> io::Result<File> {
+/// one that is made. Where a link leads to it, its name is on the disk then.
+pub(crate) fn make_absent<R: Files<File = File>>(
+    alloc: Global,
+    files: &R,
+    path: &str,
+) -> io::Result<File> {
     let mut options = OpenOptions::new();
     options.read(true).write(true).create(true).mode(0o600);
-    options.open(files, path)
+    let file = options.open(files, path)?;
+    let place = behind_link(alloc, files, path)?;
+    if place.as_str() != path {
+        sync_folder(files, place.as_str())?;
+    }
+    Ok(file)
 }
 
 /// Makes an empty file in place of one that was left behind under its name, which is taken away: what it stood for stays
@@ -126,12 +136,21 @@ pub(crate) fn take_owner<R: Files>(files: &R, path: &str, of: &Metadata) {
     let _ = fs::set_permissions(files, path, permissions);
 }
 
-/// Keeps the names of a file's folder safe, so that a rename survives a power cut.
+/// Gives a file another name, and answers whether it was there.
+pub(crate) fn rename_present<R: Files>(files: &R, from: &str, to: &str) -> io::Result<bool> {
+    match fs::rename(files, from, to) {
+        Ok(()) => Ok(true),
+        Err(error) if error.kind() == ErrorKind::NotFound => match fs::symlink_metadata(
+            files, from,
+        ) {
+            Ok(_) => Err(error),
+            Err(_) => Ok(false),
+        },
+        Err(error) => Err(error),
+    }
+}
+
+/// Waits until the names in a file's folder are on the disk. Source: fsync(2).
 pub(crate) fn sync_folder<R: Files<File = File>>(files: &R, path: &str) -> io::Result<()> {
-    let folder = match path.rsplit_once('/') {
-        Some(("", _)) => "/",
-        Some((folder, _)) => folder,
-        None => ".",
-    };
-    File::open(files, folder)?.sync_all()
+    File::open(files, folder_of(path))?.sync_all()
 }

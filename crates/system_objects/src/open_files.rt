@@ -4,13 +4,13 @@ use crate::held::HeldFiles;
 use crate::locks::{changed_meanwhile, lock_made, lock_unchanged, lock_waiting};
 use crate::looks::Looks;
 use crate::names::{
-    NEW, behind_link, make_absent, make_anew, open_file, refuse_locked, replaced_at, stamp_at,
-    stands_for, sync_folder, take_owner,
+    NEW, behind_link, make_absent, make_anew, open_file, refuse_locked, rename_present,
+    replaced_at, stamp_at, stands_for, sync_folder, take_owner,
 };
-use crate::opened::{Access, Opened};
+use crate::new_names::NewNames;
 use crate::sharing::{Lock, Sharing};
 use crate::stamp::{Node, Stamp};
-use crate::whole::WholeFiles;
+use file_windows::{Access, Opened, WholeFiles};
 use std::alloc::{AllocError, Global};
 use std::fs::{File, Files};
 use std::io::ErrorKind;
@@ -44,6 +44,7 @@ pub(crate) struct OpenFiles<'a, R> {
     made: Option<Made>,
     held: HeldFiles,
     looks: Looks,
+    new_names: NewNames,
     whole: WholeFiles,
 }
 
@@ -61,6 +62,7 @@ impl<'a, R: Files<File = File>> OpenFiles<'a, R> {
             made: None,
             held: HeldFiles::new(alloc),
             looks: Looks::new(alloc),
+            new_names: NewNames::new(alloc),
             whole: WholeFiles::new(alloc),
         }
     }
@@ -127,14 +129,39 @@ impl<'a, R: Files<File = File>> OpenFiles<'a, R> {
         self.closing(done)
     }
 
-    /// Waits until a file's bytes are on the disk. A file that is not there has none.
+    /// Shortens a file to so many bytes. One that is no longer stays, and one that is not there is not made.
+    pub fn cut(&mut self, name: &str, len: u64) -> io::Result<()> {
+        self.open(name, Access::Reading)?;
+        if self.last.is_none() {
+            return Ok(());
+        }
+        self.open(name, Access::Writing)?;
+        let Some(file) = &mut self.last else {
+            return Err(io::Error::from(ErrorKind::NotFound));
+        };
+        let done = file.cut(len);
+        self.closing(done)
+    }
+
+    /// Waits until a file's bytes are on the disk, and its name where that is new. A file that is not there has no bytes.
     pub fn sync(&mut self, name: &str) -> io::Result<()> {
         self.open(name, Access::Reading)?;
-        let Some(file) = &mut self.last else {
-            return Ok(());
-        };
-        let done = file.sync();
-        self.closing(done)
+        if let Some(file) = &mut self.last {
+            let done = file.sync();
+            self.closing(done)?;
+        }
+        let path = self.path_of(name)?;
+        self.sync_names(path.as_str())
+    }
+
+    /// Waits until the names in a file's folder are on the disk, where the file's own was given or taken away since that was
+    /// done last.
+    fn sync_names(&mut self, path: &str) -> io::Result<()> {
+        if self.new_names.has(path) {
+            sync_folder(self.files, path)?;
+            self.new_names.forget_beside(path);
+        }
+        Ok(())
     }
 
     /// Makes an empty file and locks it. One whose name ends in `.new` is made beside the file that it is to replace, which
@@ -147,6 +174,7 @@ impl<'a, R: Files<File = File>> OpenFiles<'a, R> {
                 refuse_locked(self.files, path.as_str())?;
             }
         }
+        self.new_names.note(path.as_str())?;
         let file = make_anew(self.files, path.as_str())?;
         let node = self.held.add(lock_made(file, Access::Making)?)?;
         if let Some((file, access)) = self.held.again(node, Access::Reading)? {
@@ -158,8 +186,8 @@ impl<'a, R: Files<File = File>> OpenFiles<'a, R> {
         Ok(())
     }
 
-    /// Renames a file, which takes the owner and the permissions of the one that had the name. Where it was made to replace
-    /// that one, it takes its place behind a link, and the link stays.
+    /// Renames a file, which takes the owner and the permissions of the one that had the name, and waits until that is done on
+    /// the disk. Where it was made to replace that one, it takes its place behind a link, and the link stays.
     pub fn rename(&mut self, from: &str, to: &str) -> io::Result<()> {
         self.let_go()?;
         let source = self.path_of(from)?;
@@ -168,10 +196,10 @@ impl<'a, R: Files<File = File>> OpenFiles<'a, R> {
         if let Ok(old) = &old {
             take_owner(self.files, source.as_str(), old);
         }
-        match fs::rename(self.files, source.as_str(), target.as_str()) {
-            Ok(()) => {}
-            Err(error) if error.kind() == ErrorKind::NotFound => return Ok(()),
-            Err(error) => return Err(error),
+        self.new_names.note(source.as_str())?;
+        self.new_names.note(target.as_str())?;
+        if !rename_present(self.files, source.as_str(), target.as_str())? {
+            return self.sync_names(source.as_str());
         }
         if let Ok(old) = &old {
             self.held.release(Node::of(old));
@@ -179,7 +207,8 @@ impl<'a, R: Files<File = File>> OpenFiles<'a, R> {
         self.made = None;
         self.looks.forget(from);
         self.looks.forget(to);
-        sync_folder(self.files, target.as_str())
+        self.sync_names(target.as_str())?;
+        self.sync_names(source.as_str())
     }
 
     /// Keeps a file as it is now, unless it is kept already or is not there.
@@ -270,7 +299,8 @@ impl<'a, R: Files<File = File>> OpenFiles<'a, R> {
         if let Some(Some(_)) = self.looks.first(path) {
             return Err(changed_meanwhile());
         }
-        let file = make_absent(self.files, path)?;
+        self.new_names.note(path)?;
+        let file = make_absent(self.alloc, self.files, path)?;
         let node = self.held.add(lock_made(file, access)?)?;
         self.held.again(node, access)
     }

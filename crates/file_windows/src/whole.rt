@@ -19,7 +19,7 @@ struct WholeFile {
 
 /// Files that were read whole, and are as they were then.
 #[derive(Drop)]
-pub(crate) struct WholeFiles {
+pub struct WholeFiles {
     alloc: Global,
     files: Vec<WholeFile>,
 }
@@ -34,6 +34,10 @@ impl WholeFiles {
     }
 
     /// Reads a file whole, and keeps it under this name.
+    ///
+    /// # Errors
+    ///
+    /// The system failed, or there is not enough memory.
     pub fn keep(&mut self, name: &str, file: &File) -> io::Result<()> {
         let len = file.metadata()?.len();
         let mut bytes = Vec::new(self.alloc);
@@ -45,7 +49,7 @@ impl WholeFiles {
         Ok(())
     }
 
-    /// The length of a file, where it is kept.
+    /// The length of a file in bytes, where it is kept.
     pub fn length(&self, name: &str) -> Option<u64> {
         Some(self.named(name)?.len)
     }

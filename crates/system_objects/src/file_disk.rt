@@ -3,39 +3,43 @@ ghost use Rattle.outside.specs.Count.{Rose};
 
 use crate::open_files::OpenFiles;
 use crate::sharing::Sharing;
+use crash_disk::{Disk, DiskFault};
 use outside::{Store, StoreFault};
 use std::alloc::{AllocError, Global};
 use std::fs::{File, Files};
 use std::io;
 
-/// The files of the system as a store, by paths that count from the current folder. It tells nothing of them.
+/// The files of the system as a store and as a disk, by paths that count from the current folder. It tells nothing of them.
 ///
 /// The file that was used last stays open. Reads of it that go on where the last one ended come from a window of 65,536
 /// bytes, those of other places from eight blocks of 1,024 bytes, and bytes that are to be written side by side are gathered
 /// up to the number of the window, so that all make few calls of the system. What was read is forgotten where the file is
-/// written, synced or renamed, where another file is used, and where a call fails. What was gathered is written before the
-/// file is read, synced or renamed, before its length is asked for, and before another file is used; where that fails, the
-/// call at hand is the one that failed.
+/// written, cut, synced or renamed, where another file is used, and where a call fails. What was gathered is written before
+/// the file is read, cut, synced or renamed, before its length is asked for, and before another file is used; where that
+/// fails, the call at hand is the one that failed.
 ///
 /// A file that was there when its name was used first is never made by a write to it: where it is gone, the write fails. A
 /// file that is made under a name with `.new` behind that of a link stands beside the file behind the link, and takes its
 /// place there.
+///
+/// To sync a file is fsync(2) of it, and where its name was made by this object since then of its folder, too; a rename
+/// ends with fsync(2) of the folder. A name that was there before is taken for one that a stop leaves.
 #[derive(Drop)]
-pub struct FileStore<'a, R> {
+pub struct FileDisk<'a, R> {
     open: OpenFiles<'a, R>,
     faults: u64,
     reads: u64,
     writes: u64,
 }
 
-impl<'a, R: Files<File = File>> FileStore<'a, R> {
+impl<'a, R: Files<File = File>> FileDisk<'a, R> {
     /// The files of the system, none of them open yet, and none to be locked that is there.
     pub fn new(alloc: Global, files: &'a R) -> Self
         ensures faults { result.faults ≡ 0 }
         ensures reads { result.reads ≡ 0 }
         ensures writes { result.writes ≡ 0 }
     {
-        FileStore {
+        FileDisk {
             open: OpenFiles::new(alloc, files),
             faults: 0,
             reads: 0,
@@ -57,7 +61,7 @@ impl<'a, R: Files<File = File>> FileStore<'a, R> {
     }
 
     /// Turns an error of the system into a fault, which is counted.
-    fn counting<T>(&mut self, answer: io::Result<T>) -> Result<T, StoreFault>
+    fn counting<T, E: Copy>(&mut self, answer: io::Result<T>, fault: E) -> Result<T, E>
         ensures ok { IfOk result (λ value. answer ≡ Ok value) }
         ensures cause { OnErr result (Rose self.old.faults self.new.faults) }
         ensures later { self.old.faults ≤ self.new.faults }
@@ -68,13 +72,13 @@ impl<'a, R: Files<File = File>> FileStore<'a, R> {
             Ok(value) => Ok(value),
             Err(_) => {
                 self.faults = self.faults.saturating_add(1);
-                Err(StoreFault)
+                Err(fault)
             }
         }
     }
 }
 
-impl<'a, R: Files<File = File>> Store for FileStore<'a, R> {
+impl<'a, R: Files<File = File>> Store for FileDisk<'a, R> {
     ghost use Rattle.std.specs.Prelude.{false, None};
 
     ghost tells = { false };
@@ -89,33 +93,81 @@ impl<'a, R: Files<File = File>> Store for FileStore<'a, R> {
 
     fn size(&mut self, name: &str) -> Result<Option<u64>, StoreFault> {
         let found = self.open.length(name);
-        self.counting(found)
+        self.counting(found, StoreFault)
     }
 
     fn read(&mut self, name: &str, at: u64, buf: &mut [u8]) -> Result<usize, StoreFault> {
         self.reads = self.reads.saturating_add(1);
         let count = self.open.read(name, at, buf);
-        self.counting(count)
+        self.counting(count, StoreFault)
     }
 
     fn write(&mut self, name: &str, at: u64, bytes: &[u8]) -> Result<(), StoreFault> {
         self.writes = self.writes.saturating_add(1);
         let done = self.open.write(name, at, bytes);
-        self.counting(done)
+        self.counting(done, StoreFault)
     }
 
     fn create(&mut self, name: &str) -> Result<(), StoreFault> {
         let done = self.open.make(name);
-        self.counting(done)
+        self.counting(done, StoreFault)
     }
 
     fn sync(&mut self, name: &str) -> Result<(), StoreFault> {
         let done = self.open.sync(name);
-        self.counting(done)
+        self.counting(done, StoreFault)
     }
 
     fn rename(&mut self, from: &str, to: &str) -> Result<(), StoreFault> {
         let done = self.open.rename(from, to);
-        self.counting(done)
+        self.counting(done, StoreFault)
+    }
+}
+
+impl<'a, R: Files<File = File>> Disk for FileDisk<'a, R> {
+    ghost use Rattle.std.specs.Prelude.{false};
+    ghost use Rattle.system_objects.specs.Untold.{untold};
+
+    ghost tells = { false };
+
+    ghost seen = { λ disk. untold disk.faults };
+
+    ghost read_is_image = { λ _. tt };
+
+    ghost present_is_now = { λ _ _. (λ _. tt, λ _. tt) };
+
+    fn size(&mut self, name: &str) -> Result<Option<u64>, DiskFault> {
+        let found = self.open.length(name);
+        self.counting(found, DiskFault)
+    }
+
+    fn read(&mut self, name: &str, at: u64, buf: &mut [u8]) -> Result<usize, DiskFault> {
+        let count = self.open.read(name, at, buf);
+        self.counting(count, DiskFault)
+    }
+
+    fn write(&mut self, name: &str, at: u64, bytes: &[u8]) -> Result<(), DiskFault> {
+        let done = self.open.write(name, at, bytes);
+        self.counting(done, DiskFault)
+    }
+
+    fn create(&mut self, name: &str) -> Result<(), DiskFault> {
+        let done = self.open.make(name);
+        self.counting(done, DiskFault)
+    }
+
+    fn cut(&mut self, name: &str, len: u64) -> Result<(), DiskFault> {
+        let done = self.open.cut(name, len);
+        self.counting(done, DiskFault)
+    }
+
+    fn sync(&mut self, name: &str) -> Result<(), DiskFault> {
+        let done = self.open.sync(name);
+        self.counting(done, DiskFault)
+    }
+
+    fn rename(&mut self, from: &str, to: &str) -> Result<(), DiskFault> {
+        let done = self.open.rename(from, to);
+        self.counting(done, DiskFault)
     }
 }

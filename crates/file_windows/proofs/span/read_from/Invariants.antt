@@ -1,5 +1,5 @@
 use Rattle.std.proofs.Common.{◌≤◌, length}
-use Rattle.system_objects.proofs.span.read_from.Given as goal
+use Rattle.file_windows.proofs.span.read_from.Given as goal
 
 abbrev pub invariant-loop : goal.invariant-loop
 invariant-loop l = l.done ≤ length l.buf

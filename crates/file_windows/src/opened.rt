@@ -9,7 +9,7 @@ use std::io::ErrorKind;
 
 /// What an open file may be used for.
 #[derive(Clone, Copy, Debug, PartialEq, Eq)]
-pub(crate) enum Access {
+pub enum Access {
     /// To read it.
     Reading,
     /// To read it and write to it; it is made where it was never there.
@@ -31,8 +31,10 @@ impl Access {
 }
 
 /// An open file, with the name that it was opened by, what was read ahead of it, and what is to be written to it.
+///
+/// Where a call fails, what was gathered before may be lost, and the file may have any part of it.
 #[derive(Drop)]
-pub(crate) struct Opened {
+pub struct Opened {
     name: String,
     file: File,
     access: Access,
@@ -58,7 +60,11 @@ impl Opened {
         self.access.allows(access) && self.name.as_str() == name
     }
 
-    /// Its length; what is no file, as a folder, is an error.
+    /// Its length in bytes, once what is to be written was written.
+    ///
+    /// # Errors
+    ///
+    /// The system failed, or it is no file, as a folder.
     pub fn length(&mut self) -> io::Result<u64> {
         self.flush()?;
         let metadata = self.file.metadata()?;
@@ -68,7 +74,11 @@ impl Opened {
         Ok(metadata.len())
     }
 
-    /// Reads from a place on until the buffer is full or the file ends.
+    /// Reads from a place on until the buffer is full or the file ends, and answers how many bytes.
+    ///
+    /// # Errors
+    ///
+    /// The system failed.
     pub fn read(&mut self, at: u64, buf: &mut [u8]) -> io::Result<usize>
         ensures fits { IfOk result (λ count. count ≤ length buf.new) }
     {
@@ -77,17 +87,42 @@ impl Opened {
     }
 
     /// Takes bytes that are to be written to a place.
+    ///
+    /// # Errors
+    ///
+    /// The system failed to write what was gathered before, or there is not enough memory.
     pub fn write(&mut self, at: u64, bytes: &[u8]) -> io::Result<()> {
         self.ahead.forget();
         self.gathered.take(&self.file, at, bytes)
     }
 
+    /// Writes what is to be written, and shortens the file to so many bytes where it is longer. Source: ftruncate(2).
+    ///
+    /// # Errors
+    ///
+    /// The system failed.
+    pub fn cut(&mut self, len: u64) -> io::Result<()> {
+        self.ahead.forget();
+        if self.length()? > len {
+            self.file.set_len(len)?;
+        }
+        Ok(())
+    }
+
     /// Writes what is to be written.
+    ///
+    /// # Errors
+    ///
+    /// The system failed.
     pub fn flush(&mut self) -> io::Result<()> {
         self.gathered.flush(&self.file)
     }
 
-    /// Writes what is to be written, and waits until the file's bytes are on the disk.
+    /// Writes what is to be written, and waits until the file's bytes are on the disk. Source: fsync(2).
+    ///
+    /// # Errors
+    ///
+    /// The system failed. It is not known which bytes are on the disk.
     pub fn sync(&mut self) -> io::Result<()> {
         self.ahead.forget();
         self.flush()?;

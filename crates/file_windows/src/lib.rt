@@ -1,0 +1,16 @@
+//! A file of the system through windows: bytes that were read ahead of what was asked for, and bytes that are gathered
+//! before they are written, so that small reads and writes side by side make few calls of the system.
+//!
+//! The one promise: a number of bytes that a read answers fits the buffer.
+#![tactic(auto)]
+
+mod far_blocks;
+mod gathered;
+mod opened;
+mod read_ahead;
+mod span;
+mod whole;
+mod window;
+
+pub use opened::{Access, Opened};
+pub use whole::WholeFiles;
