@@ -2,6 +2,7 @@
 use Rattle.std.proofs.Common.{◌≡◌, List, [], ℕ, length, Some, None, refl, sym, ap, subst, ◌∙◌}
 use Rattle.entry_codec.specs.Header.{AreOf, HeaderNumbers, header_of}
 use Rattle.entry_codec.specs.declared.header.Header.{Header}
+use Rattle.quota_types.specs.Span.{KeepsOutside}
 use Rattle.quota_types.specs.declared.file_kind.Format.{Format}
 use Rattle.quota_blocks.specs.QuotaValue.{QuotaValue, Records}
 use Rattle.file_blocks.specs.Block.{block_of}
@@ -13,15 +14,18 @@ use Rattle.tree_build.specs.Loose.{loose_of, nothing_loose}
 use Rattle.tree_build.specs.TreeFile.{TreeStandsFor}
 use Rattle.tree_build.proofs.HeaderLemmas.{header_in_block}
 use Rattle.tree_build.proofs.TreeLemmas.{tree_of_value, value_of_tree}
-use Rattle.tree_change.specs.HeaderHeads.{with_heads}
+use Rattle.tree_change.specs.HeaderHeads.{HasHeads, SetsHeads, with_heads}
 use Rattle.tree_change.specs.Shows.{IsWholeTree}
 
--- Block 0 of a file was left with other heads.
-pub heads_laid : (heads : Heads) (bytes was old new : List ℕ) → was ≡ block_of old 0 → length bytes ≡ 1024 → new ≡ with_block old 0 bytes
-    → header_of bytes ≡ with_heads (header_of was) heads → header_of new ≡ with_heads (header_of old) heads
-heads_laid heads bytes was old new was_is long laid is =
+-- Block 0 of a file was left with other heads, and all else that it had.
+pub sets_heads : (heads : Heads) (bytes was old new : List ℕ) → was ≡ block_of old 0 → length bytes ≡ 1024 → new ≡ with_block old 0 bytes
+    → header_of bytes ≡ with_heads (header_of was) heads → KeepsOutside 20 32 was bytes → SetsHeads heads old new
+sets_heads heads bytes was old new was_is long laid is keeps =
     let now : block_of new 0 ≡ bytes = ap (λ (file : List ℕ). block_of file 0) laid ∙ block_of-with_block_same old 0 bytes ∙ whole_block-same bytes long in
-    sym (header_in_block new) ∙ ap header_of now ∙ is ∙ ap (λ (numbers : HeaderNumbers). with_heads numbers heads) (ap header_of was_is ∙ header_in_block old)
+    record {
+      numbers = sym (header_in_block new) ∙ ap header_of now ∙ is ∙ ap (λ (numbers : HeaderNumbers). with_heads numbers heads) (ap header_of was_is ∙ header_in_block old);
+      others = subst (λ (block : List ℕ). KeepsOutside 20 32 (block_of old 0) block) (sym now) (subst (λ (block : List ℕ). KeepsOutside 20 32 block bytes) was_is keeps);
+    }
 
 -- A header has the heads that it has.
 pub heads_there : (header : Header) (numbers : HeaderNumbers) (heads : Heads) → AreOf header numbers → heads.blocks ≡ header.blocks → heads.free ≡ header.free → heads.first ≡ header.first
@@ -35,6 +39,12 @@ heads_there header numbers heads are blocks free first = λ i. record {
   blocks = (are.blocks ∙ sym blocks) i;
   free = (are.free ∙ sym free) i;
   first = (are.first ∙ sym first) i;
+}
+
+pub sets_none : (header : Header) (file : List ℕ) (heads : Heads) → HasHeads header heads → AreOf header (header_of file) → SetsHeads heads file file
+sets_none header file heads has are = record {
+  numbers = heads_there header (header_of file) heads are has.blocks has.free has.first;
+  others = record { before = λ at low. refl; behind = λ at far. refl };
 }
 
 -- A file whose first block stays has the same header.

@@ -23,3 +23,4 @@ pub mod RemovedLemmas
 pub mod StaysLemmas
 pub mod StepLemmas
 pub mod WayFoundLemmas
+pub mod WithinLemmas

@@ -21,9 +21,8 @@ use Rattle.quota_radix.specs.declared.walk_fault.WalkFault.{WalkFault}
 use Rattle.quota_radix.specs.declared.walk_fault.WalkFault.TheVariants.{Store as NoStore, Damage as Damages}
 use Rattle.quota_radix.proofs.InsideLemmas.{out_on_way}
 use Rattle.quota_radix.proofs.LeafLemmas.{no_leaf_of_block}
-use Rattle.free_chains.specs.Chain.{IsChain, chain_from}
+use Rattle.free_chains.specs.Chain.{IsChain}
 use Rattle.free_chains.specs.declared.heads.Heads.{Heads}
-use Rattle.free_chains.proofs.ChainLemmas.{chain_is_met, few_of_chain}
 use Rattle.tree_build.specs.Loose.{loose_of}
 use Rattle.tree_build.specs.TreeFile.{record_in}
 use Rattle.tree_change.specs.declared.change_fault.ChangeFault.{ChangeFault}
@@ -36,6 +35,7 @@ use Rattle.tree_change.specs.Putting.{IsEnterFault, IsPutFault, IsPutInFault, Pu
 use Rattle.tree_change.specs.Room.{FileHasRoom, LeavesRoom, NeedsBlocks}
 use Rattle.tree_change.specs.Shows.{IsNoCompleteTree, IsNoTree, IsWholeTree}
 use Rattle.tree_change.proofs.ChangeFaultLemmas.{of_later}
+use Rattle.tree_change.proofs.FreedLemmas.{free_are}
 use Rattle.tree_change.proofs.CountedLemmas.{counted_then, room_after}
 use Rattle.tree_change.proofs.FreshLemmas.{room_for_fewer}
 
@@ -53,6 +53,14 @@ take_enters before now known format file heads limit count fault h =
     (λ blocks most. (most ≡ limit) × (limit < blocks) × (known → ¬ FileHasRoom file heads limit count))
     (λ blocks most. (most ≡ limit) × (limit < blocks) × (known → ¬ FileHasRoom file heads limit count)) fault (omega arith)
     (λ wrong is. wrong is format) (λ blocks most full. full) h
+
+-- nor was it where a step that takes none was refused
+pub step_enters : (before now : ℕ) (known : Type 0) (format : Format) (file : List ℕ) (heads : Heads) (limit count : ℕ) (fault : ChangeFault)
+    → IsStepFault before now (known → IsNoTree format file heads) fault → IsEnterFault before now known format file heads limit count fault
+step_enters before now known format file heads limit count fault h =
+    of_later before before now (known → IsNoTree format file heads) (known → IsNoTree format file heads) (λ blocks most. ⊥)
+    (λ blocks most. (most ≡ limit) × (limit < blocks) × (known → ¬ FileHasRoom file heads limit count)) fault (omega arith)
+    (λ wrong. wrong) (λ blocks most none. absurd none) h
 
 -- A tree can go on: it is one, whatever is held of it and whether a leaf is awaited, and there is room for so many blocks.
 pub record CanGoOn (format : Format) (file : List ℕ) (heads : Heads) (limit count : ℕ) : Type 0 where
@@ -190,9 +198,8 @@ put_refused before now known format file heads limit id fault h =
       full.1,
       λ is held records tree.
           let free : List ℕ = tree.roles.free in
-          let met : chain_from file heads.blocks heads.free heads.blocks ≡ free =
-          chain_is_met file heads.blocks heads.free heads.blocks free tree.roles.is_free (few_of_chain file heads.blocks heads.free free 0 tree.roles.is_free) in
-          (full.2 is held records tree).sum free tree.roles.is_free ∙ ap (λ (xs : List ℕ). heads.blocks + (blocks_taken file heads id - length xs)) (sym met),
+          (full.2 is held records tree).sum free tree.roles.is_free
+          ∙ ap (λ (xs : List ℕ). heads.blocks + (blocks_taken file heads id - length xs)) (sym (free_are file heads free tree.roles.is_free)),
     )) h
 
 -- A step behind others was not done, of the same file: why that was so, with a number of wanted blocks that is another one where the

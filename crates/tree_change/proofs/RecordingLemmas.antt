@@ -3,18 +3,20 @@ use Rattle.std.proofs.Common.{◌≡◌, ℕ, ◌+◌, ◌-◌, ◌<◌, ◌≤�
 use Rattle.std.specs.FinMap.{insert}
 use Rattle.std.proofs.lemmas.Bool.{cases_eq, le-leb}
 use Rattle.quota_types.specs.Times.{StandsIn, times}
-use Rattle.quota_types.proofs.TimesLemmas.{stands_cons}
+use Rattle.quota_types.proofs.TimesLemmas.{stands_cons, times-cons-other}
 use Rattle.quota_types.specs.declared.file_kind.Format.{Format}
 use Rattle.quota_types.specs.declared.record.Rec.{Rec}
+use Rattle.quota_types.specs.Span.{KeepsOutside}
+use Rattle.file_blocks.specs.Block.{block_of}
 use Rattle.file_blocks.proofs.LeadsLemmas.{leads_within}
 use Rattle.entry_codec.specs.Header.{AreOf, HeaderNumbers, header_of}
 use Rattle.entry_codec.specs.declared.header.Header.{Header}
 use Rattle.quota_blocks.specs.QuotaValue.{QuotaValue, Records}
 use Rattle.quota_pages.specs.Used.{KeepsBlocksBut}
 use Rattle.quota_radix.specs.Tree.{blocks_of, data_blocks, tree_blocks}
-use Rattle.free_chains.specs.Chain.{IsChain, chain_from}
+use Rattle.free_chains.specs.Chain.{IsChain}
 use Rattle.free_chains.specs.declared.heads.Heads.{Heads}
-use Rattle.free_chains.proofs.ChainLemmas.{chain_is_met, few_of_chain}
+use Rattle.free_chains.proofs.SpliceLemmas.{chain-stays}
 use Rattle.tree_build.specs.IsTree.{heads_of}
 use Rattle.tree_build.specs.Loose.{loose_of, nothing_loose}
 use Rattle.tree_build.specs.Roles.{counted_leaves, data_with}
@@ -22,9 +24,11 @@ use Rattle.tree_build.specs.TreeFile.{TreeStandsFor}
 use Rattle.tree_build.proofs.AsideLemmas.{header_changed}
 use Rattle.tree_build.proofs.FrameLemmas.{data_kept, data_leads}
 use Rattle.tree_build.proofs.MovedLemmas.{keeps_entries}
-use Rattle.tree_change.specs.HeaderHeads.{with_heads}
+use Rattle.tree_change.specs.Freed.{free_blocks}
+use Rattle.tree_change.specs.HeaderHeads.{SetsHeads, with_heads}
 use Rattle.tree_change.specs.Putting.{PutsIn, PutsRecord, TakesCounted, blocks_taken, blocks_with}
 use Rattle.tree_change.specs.Shows.{IsNoCompleteTree, IsWholeTree}
+use Rattle.tree_change.proofs.FreedLemmas.{free_are}
 use Rattle.tree_change.proofs.HeaderChangedLemmas.{format_is, header_same, heads_are, tree_by_header, value_with_heads}
 use Rattle.tree_change.proofs.HeaderStaysLemmas.{header_apart}
 
@@ -37,15 +41,26 @@ no_head file blocks head (block ∷ chain) none is = absurd (omega (arith, none)
 -- none is free.
 module _ (count : ℕ) (old between : List ℕ) (start heads : Heads) (counted : TakesCounted count old between start heads) (free : List ℕ)
     (is_free : IsChain old start.blocks start.free free 0) where
-  pub more_by_count : heads.blocks ≡ start.blocks + (count - length (chain_from old start.blocks start.free start.blocks))
-  more_by_count =
-      counted.sum free is_free
-      ∙ ap (λ (xs : List ℕ). start.blocks + (count - length xs)) (sym (chain_is_met old start.blocks start.free start.blocks free is_free (few_of_chain old start.blocks start.free free 0 is_free)))
+  pub more_by_count : heads.blocks ≡ start.blocks + (count - length (free_blocks old start))
+  more_by_count = counted.sum free is_free ∙ ap (λ (xs : List ℕ). start.blocks + (count - length xs)) (sym (free_are old start free is_free))
 
   pub none_left : start.blocks < heads.blocks → heads.free ≡ 0
   none_left grown =
       let rest = counted.rest free is_free in
       no_head between heads.blocks heads.free rest.0 (omega (arith, rest.2, counted.sum free is_free, grown)) rest.1
+
+  -- those that are left are free too once block 0 has changed
+  pub free_left : (new : List ℕ) → KeepsBlocksBut (0 ∷ []) between new → length (free_blocks new heads) ≡ length (free_blocks old start) - count
+  free_left new keeps =
+      let rest = counted.rest free is_free in
+      let beside : (number : ℕ) → StandsIn rest.0 number → times (0 ∷ []) number ≡ 0 =
+      λ number stands. times-cons-other 0 [] number (λ is. let within = leads_within heads.blocks number (rest.1.inside number stands) in omega (arith, within.0, is)) in
+      omega (
+        arith,
+        rest.2,
+        ap {B = ℕ} length (free_are old start free is_free),
+        ap {B = ℕ} length (free_are new heads rest.0 (chain-stays (0 ∷ []) between new heads.blocks heads.free rest.0 0 keeps beside rest.1)),
+      )
 
 -- Where block 0 alone changed the data blocks are those that were.
 data_same : (format : Format) (between new : List ℕ) (heads : Heads) (records : Records) → IsWholeTree nothing_loose format between heads records → KeepsBlocksBut (0 ∷ []) between new
@@ -81,24 +96,28 @@ pub puts_record : (id : ℕ) (rec : Rec) (header : Header) (start heads : Heads)
     → AreOf header (header_of old) → start.blocks ≡ header.blocks → start.free ≡ header.free → start.first ≡ header.first → TreeStandsFor old value
     → ((held : List ℕ) (records : Records) → IsWholeTree (loose_of held None None) header.format old start records → PutsIn id rec held header.format old between start heads records)
     → start.blocks ≤ heads.blocks
-    → KeepsBlocksBut (0 ∷ []) between new → (AreOf header (header_of between) → header_of new ≡ with_heads (header_of between) heads)
+    → KeepsBlocksBut (0 ∷ []) between new → (AreOf header (header_of between) → SetsHeads heads between new)
     → PutsRecord id rec value old new heads
 puts_record id rec header start heads old between new value are blocks free first stands puts at_least keeps writes =
     let at : start ≡ heads_of (header_of old) = heads_are header (header_of old) start are blocks free first in
     let before : IsWholeTree (loose_of [] None None) header.format old start value.records = tree_by_header old header start value are at stands in
     let put : PutsIn id rec [] header.format old between start heads value.records = puts [] value.records before in
     let unchanged : header_of between ≡ header_of old = header_same old between put.header in
+    let set : SetsHeads heads between new = writes (subst (AreOf header) (sym unchanged) are) in
     let numbers : header_of new ≡ with_heads (header_of old) heads =
-    writes (subst (AreOf header) (sym unchanged) are) ∙ ap (λ (was : HeaderNumbers). with_heads was heads) unchanged in
+    set.numbers ∙ ap (λ (was : HeaderNumbers). with_heads was heads) unchanged in
     let tree : IsWholeTree (loose_of [] None None) header.format new heads (insert value.records id rec) =
     header_changed [] None header.format between new (length between) (length new) heads (insert value.records id rec) put.tree keeps keeps.longer in
     record {
       stands = value_with_heads old new value (insert value.records id rec) heads stands numbers
           (subst (λ (format : Format). IsWholeTree (loose_of [] None None) format new heads (insert value.records id rec)) (sym (format_is header old value are stands)) tree);
       heads_are = ap heads_of (sym numbers);
+      header = subst (λ (block : List ℕ). KeepsOutside 20 32 block (block_of new 0)) put.header set.others;
       at_least = subst (λ (h : Heads). h.blocks ≤ heads.blocks) at at_least;
       sum = subst (λ (h : Heads). heads.blocks ≡ blocks_with old h id) at (more_by_count (blocks_taken old start id) old between start heads put.counted before.roles.free before.roles.is_free);
       growth = subst (λ (h : Heads). h.blocks < heads.blocks → heads.free ≡ 0) at (none_left (blocks_taken old start id) old between start heads put.counted before.roles.free before.roles.is_free);
+      rest = subst (λ (h : Heads). length (free_blocks new heads) ≡ length (free_blocks old h) - blocks_taken old h id) at
+          (free_left (blocks_taken old start id) old between start heads put.counted before.roles.free before.roles.is_free new keeps);
       new_data = subst (λ (h : Heads). (block : ℕ) → StandsIn (data_blocks new heads.blocks) block → times (data_blocks old h.blocks) block ≡ 0 → h.first ≡ 0) at
           (new_only id rec header.format old between new start heads value.records put keeps);
     }

@@ -4,6 +4,8 @@ use Rattle.std.specs.FinMap.{remove}
 use Rattle.quota_types.specs.Times.{StandsIn, times}
 use Rattle.quota_types.specs.declared.file_kind.Format.{Format}
 use Rattle.quota_types.proofs.TimesLemmas.{only_one, times-cons-same}
+use Rattle.quota_types.specs.Span.{KeepsOutside}
+use Rattle.file_blocks.specs.Block.{block_of}
 use Rattle.entry_codec.specs.Header.{AreOf, HeaderNumbers, header_of}
 use Rattle.entry_codec.specs.declared.header.Header.{Header}
 use Rattle.quota_blocks.specs.QuotaValue.{QuotaValue, Records}
@@ -19,7 +21,7 @@ use Rattle.tree_build.proofs.MovedLemmas.{times-roles}
 use Rattle.tree_steps.proofs.OneBlockLemmas.{one_role}
 use Rattle.tree_change.specs.Freed.{FreesBlocks, freed_blocks, lost_blocks, unnamed_of}
 use Rattle.tree_change.specs.Removes.{AwaitsInNoTree, RemovesEntry}
-use Rattle.tree_change.specs.HeaderHeads.{with_heads}
+use Rattle.tree_change.specs.HeaderHeads.{SetsHeads, with_heads}
 use Rattle.tree_change.specs.Removal.{HasNoWay, RemovesRecord, TakesRecord}
 use Rattle.tree_change.specs.Shows.{IsWholeTree}
 use Rattle.tree_change.specs.Unlinked.{TreeStays, UnlinksLeaf}
@@ -100,14 +102,15 @@ freed_same old between new blocks id way named =
 pub removes_record : (id : ℕ) (way : List ℕ) (header : Header) (start heads : Heads) (old between new : List ℕ) (value : QuotaValue)
     → id < 2 ^ 32 → AreOf header (header_of old) → start.blocks ≡ header.blocks → start.free ≡ header.free → start.first ≡ header.first
     → way ≡ blocks_on_way old header.blocks id → TreeStandsFor old value → TakesRecord header.format way id old between start heads → heads.blocks ≡ start.blocks
-    → KeepsBlocksBut (0 ∷ []) between new → (AreOf header (header_of between) → header_of new ≡ with_heads (header_of between) heads)
+    → KeepsBlocksBut (0 ∷ []) between new → (AreOf header (header_of between) → SetsHeads heads between new)
     → RemovesRecord id value old new heads
 removes_record id way header start heads old between new value small are blocks free first is stands takes same keeps writes =
     let at : start ≡ heads_of (header_of old) = heads_are header (header_of old) start are blocks free first in
     let taken = takes value.records (is ∙ ap (λ (n : ℕ). blocks_on_way old n id) (sym blocks)) (tree_by_header old header start value are at stands) in
     let unchanged : header_of between ≡ header_of old = header_same old between taken.header in
+    let set : SetsHeads heads between new = writes (subst (AreOf header) (sym unchanged) are) in
     let numbers : header_of new ≡ with_heads (header_of old) heads =
-    writes (subst (AreOf header) (sym unchanged) are) ∙ ap (λ (was : HeaderNumbers). with_heads was heads) unchanged in
+    set.numbers ∙ ap (λ (was : HeaderNumbers). with_heads was heads) unchanged in
     let tree : IsWholeTree (loose_of [] None None) header.format new heads (remove value.records id) =
     header_changed [] None header.format between new (length between) (length new) heads (remove value.records id) taken.tree keeps keeps.longer in
     let beside = header_frees header.format between new heads (remove value.records id) taken.tree keeps in
@@ -115,6 +118,7 @@ removes_record id way header start heads old between new value small are blocks 
       stands = value_with_heads old new value (remove value.records id) heads stands numbers
           (subst (λ (format : Format). IsWholeTree (loose_of [] None None) format new heads (remove value.records id)) (sym (format_is header old value are stands)) tree);
       heads_are = ap heads_of (sym numbers);
+      header = subst (λ (block : List ℕ). KeepsOutside 20 32 block (block_of new 0)) taken.header set.others;
       blocks = same ∙ blocks ∙ sym are.blocks;
       freed = subst (λ (h : Heads). FreesBlocks (freed_blocks old new heads.blocks id) old new h heads) at
           (subst (λ (freed : List ℕ). FreesBlocks freed old new start heads) (freed_same old between new heads.blocks id (beside.1 id small) beside.2)

@@ -1,6 +1,6 @@
 -- A record that is entered into a tree before a path leads to it.
 use Rattle.std.specs.Prelude.{◌≡◌, ℕ, ◌<◌, ◌^◌, List, Some, None}
-use Rattle.std.specs.FinMap.{insert}
+use Rattle.std.specs.FinMap.{get, insert}
 use Rattle.quota_types.specs.Times.{times}
 use Rattle.quota_types.specs.declared.file_kind.Format.{Format}
 use Rattle.quota_types.specs.declared.record.Rec.{Rec}
@@ -21,3 +21,8 @@ pub record EntersRecord (block id : ℕ) (rec : Rec) (taken : ℕ) (held : List 
   pub counted : TakesCounted taken old new heads now
   pub same_data : taken ≡ 0 → (number : ℕ) → times (data_with (loose_of held (Some (record { number = id; block = block })) None) new now.blocks) number ≡ times (data_with (loose_of held None None) old heads.blocks) number
   pub header : block_of new 0 ≡ block_of old 0
+
+-- The record of an identifier was entered so into each tree of which no leaf is awaited, and in which it has none.
+abbrev pub EntersEachTree : (block id : ℕ) → Rec → (taken : ℕ) → Format → (old new : List ℕ) → (heads now : Heads) → Type 0
+EntersEachTree block id rec taken format old new heads now = (held : List ℕ) (records : Records) → IsWholeTree (loose_of held None None) format old heads records
+    → get records id ≡ None → EntersRecord block id rec taken held format old new heads now records

@@ -1,11 +1,12 @@
 -- A record that is overwritten in a tree.
-use Rattle.std.specs.Prelude.{◌≡◌, ℕ, List, None}
+use Rattle.std.specs.Prelude.{◌≡◌, ℕ, List, None, Some}
 use Rattle.std.specs.FinMap.{insert}
 use Rattle.quota_types.specs.Times.{times}
 use Rattle.quota_types.specs.declared.file_kind.Format.{Format}
 use Rattle.quota_types.specs.declared.record.Rec.{Rec}
 use Rattle.file_blocks.specs.Block.{block_of}
 use Rattle.quota_blocks.specs.QuotaValue.{Records}
+use Rattle.quota_radix.specs.Descent.{leaf_block}
 use Rattle.free_chains.specs.declared.heads.Heads.{Heads}
 use Rattle.tree_build.specs.Loose.{loose_of}
 use Rattle.tree_build.specs.Roles.{data_with}
@@ -19,3 +20,8 @@ pub record OverwritesRecord (id : ℕ) (rec : Rec) (held : List ℕ) (format : F
   pub counted : TakesCounted 0 old new heads heads
   pub same_data : (block : ℕ) → times (data_with (loose_of held None None) new heads.blocks) block ≡ times (data_with (loose_of held None None) old heads.blocks) block
   pub header : block_of new 0 ≡ block_of old 0
+
+-- The record of an identifier was overwritten so in each tree of which no leaf is awaited, and in which its leaf leads to a block.
+abbrev pub OverwritesEachTree : (block id : ℕ) → Rec → Format → (old new : List ℕ) → Type 0
+OverwritesEachTree block id rec format old new = (held : List ℕ) (heads : Heads) (records : Records) → leaf_block old heads.blocks id ≡ Some block
+    → IsWholeTree (loose_of held None None) format old heads records → OverwritesRecord id rec held format old new heads records

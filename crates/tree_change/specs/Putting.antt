@@ -1,14 +1,17 @@
 -- A record that is put into a tree file.
 use Rattle.std.specs.Prelude.{◌≡◌, ◌≢◌, ℕ, ◌+◌, ◌-◌, ◌<◌, ◌≤◌, ◌==◌, nat_lt, if◌then◌else◌, List, length, None}
 use Rattle.std.specs.FinMap.{insert}
+use Rattle.quota_types.specs.Span.{KeepsOutside}
 use Rattle.quota_types.specs.Times.{StandsIn, times}
 use Rattle.quota_types.specs.declared.record.Rec.{Rec}
 use Rattle.quota_types.specs.declared.file_kind.Format.{Format}
 use Rattle.file_blocks.specs.Block.{block_of}
 use Rattle.quota_blocks.specs.QuotaValue.{QuotaValue, Records, with_record}
 use Rattle.entry_codec.specs.Header.{header_of}
-use Rattle.quota_pages.specs.Page.{Page, lent_count}
-use Rattle.free_chains.specs.Chain.{IsChain, chain_from}
+use Rattle.quota_pages.specs.Page.{Page, is_lent, lent_count}
+use Rattle.quota_pages.specs.Pages.{pages_of}
+use Rattle.quota_pages.specs.declared.page_buffer.Pages.{Pages}
+use Rattle.free_chains.specs.Chain.{IsChain}
 use Rattle.quota_radix.specs.Tree.{data_blocks}
 use Rattle.tree_build.specs.IsTree.{heads_of}
 use Rattle.tree_build.specs.Roles.{data_with}
@@ -19,6 +22,7 @@ use Rattle.free_chains.specs.declared.heads.Heads.{Heads}
 use Rattle.tree_build.specs.Loose.{loose_of}
 use Rattle.tree_change.specs.declared.change_fault.ChangeFault.{ChangeFault}
 use Rattle.tree_change.specs.ChangeFault.{IsChangeFault}
+use Rattle.tree_change.specs.Freed.{free_blocks}
 use Rattle.tree_change.specs.Room.{FileHasRoom, NeedsBlocks}
 use Rattle.tree_change.specs.Shows.{IsNoCompleteTree, IsNoTree, IsWholeTree}
 
@@ -57,7 +61,7 @@ blocks_taken file heads id = if nat_lt 4 (length (blocks_on_way file heads.block
 
 -- how many blocks a file has once an identifier has a record: free ones are taken first, and new ones for the others
 abbrev pub blocks_with : List ℕ → Heads → (id : ℕ) → ℕ
-blocks_with file heads id = heads.blocks + (blocks_taken file heads id - length (chain_from file heads.blocks heads.free heads.blocks))
+blocks_with file heads id = heads.blocks + (blocks_taken file heads id - length (free_blocks file heads))
 
 -- The record of an identifier was not put: the same, but the number of blocks is that of the file with the record.
 abbrev pub IsPutInFault : (before now : ℕ) → (known : Type 0) → Format → List ℕ → Heads → (limit id : ℕ) → ChangeFault → Type 0
@@ -79,17 +83,32 @@ pub record PutsIn (id : ℕ) (rec : Rec) (held : List ℕ) (format : Format) (ol
   pub same_data : heads.first ≢ 0 → (block : ℕ) → times (data_with (loose_of held None None) new now.blocks) block ≡ times (data_with (loose_of held None None) old heads.blocks) block
   pub header : block_of new 0 ≡ block_of old 0
 
+-- The record was put so into each tree of which no leaf is awaited.
+abbrev pub PutsInEachTree : (id : ℕ) → Rec → Format → (old new : List ℕ) → (heads now : Heads) → Type 0
+PutsInEachTree id rec format old new heads now = (held : List ℕ) (records : Records) → IsWholeTree (loose_of held None None) format old heads records
+    → PutsIn id rec held format old new heads now records
+
+-- Blocks were taken within a limit: there are no fewer than before, and no more than the limit where there were not. Where something
+-- holds, and there was a block, the page of the header is lent for writing only if it was.
+pub record TakesWithin (limit : ℕ) (beside : Type 0) (heads now : Heads) (old new : Pages) : Type 0 where
+  pub at_least : heads.blocks ≤ now.blocks
+  pub within : heads.blocks ≤ limit → now.blocks ≤ limit
+  pub header : beside → heads.blocks ≢ 0 → is_lent (pages_of new) 0 ≡ is_lent (pages_of old) 0
+
 -- The heads are as before, and one page more was lent for writing, at most.
 pub record PutsOverOne (old new : List Page) (heads now : Heads) : Type 0 where
   pub same : now ≡ heads
   pub lent : lent_count new ≤ lent_count old + 1
 
--- A file of a value became one of the value in which the identifier has this record. The heads are those that its header states; it
--- has as many blocks as that takes, more only where none is free then, and a new data block only where none had room.
+-- A file of a value became one of the value in which the identifier has this record. The heads are those that its header states,
+-- all other bytes of whose block stay. It has as many blocks as that takes, more only where none is free then, and fewer free ones by
+-- those that were taken; and it has a new data block only where none had room.
 pub record PutsRecord (id : ℕ) (rec : Rec) (value : QuotaValue) (old new : List ℕ) (heads : Heads) : Type 0 where
   pub stands : TreeStandsFor new (with_record value id rec)
   pub heads_are : heads ≡ heads_of (header_of new)
+  pub header : KeepsOutside 20 32 (block_of old 0) (block_of new 0)
   pub at_least : (header_of old).blocks ≤ heads.blocks
   pub sum : heads.blocks ≡ blocks_with old (heads_of (header_of old)) id
   pub growth : (header_of old).blocks < heads.blocks → heads.free ≡ 0
+  pub rest : length (free_blocks new heads) ≡ length (free_blocks old (heads_of (header_of old))) - blocks_taken old (heads_of (header_of old)) id
   pub new_data : (block : ℕ) → StandsIn (data_blocks new heads.blocks) block → times (data_blocks old (header_of old).blocks) block ≡ 0 → (header_of old).first ≡ 0

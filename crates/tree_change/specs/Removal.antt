@@ -1,6 +1,7 @@
 -- A record that is removed from a tree file in place.
 use Rattle.std.specs.Prelude.{◌≡◌, ℕ, List, None, []}
 use Rattle.std.specs.FinMap.{remove}
+use Rattle.quota_types.specs.Span.{KeepsOutside}
 use Rattle.quota_types.specs.declared.file_kind.Format.{Format}
 use Rattle.file_blocks.specs.Block.{block_of}
 use Rattle.quota_blocks.specs.QuotaValue.{QuotaValue, Records, without_record}
@@ -13,11 +14,12 @@ use Rattle.tree_build.specs.TreeFile.{TreeStandsFor}
 use Rattle.tree_change.specs.Freed.{FreesBlocks, freed_blocks}
 use Rattle.tree_change.specs.Shows.{IsWholeTree}
 
--- Bytes stand for a value without a record. The heads are those that their header states, there are as many blocks as before, and those
--- that the removal frees stand before the free ones.
+-- Bytes stand for a value without a record. The heads are those that their header states, all other bytes of whose block stay. There
+-- are as many blocks as before, and those that the removal frees stand before the free ones.
 pub record RemovesRecord (id : ℕ) (value : QuotaValue) (old new : List ℕ) (heads : Heads) : Type 0 where
   pub stands : TreeStandsFor new (without_record value id)
   pub heads_are : heads ≡ heads_of (header_of new)
+  pub header : KeepsOutside 20 32 (block_of old 0) (block_of new 0)
   pub blocks : heads.blocks ≡ (header_of old).blocks
   pub freed : FreesBlocks (freed_blocks old new heads.blocks id) old new (heads_of (header_of old)) heads
 

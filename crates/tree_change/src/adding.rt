@@ -1,14 +1,14 @@
 //! A data block that is added for a record.
 
-ghost use Rattle.std.specs.Prelude.{◌≡◌, ◌+◌, ◌-◌, ◌≤◌, length, IfErr, IfOk, OnErr, OnOk, None, is_ok};
-ghost use Rattle.std.specs.FinMap.{get};
+ghost use Rattle.std.specs.Prelude.{◌≡◌, ◌+◌, ◌≤◌, length, IfErr, IfOk, OnErr, OnOk, ⊤, is_ok};
 ghost use Rattle.quota_types.specs.Format.{IsTreeFormat};
 ghost use Rattle.quota_types.specs.Kept.{IsKept};
 ghost use Rattle.quota_pages.specs.Pages.{pages_of};
 ghost use Rattle.quota_pages.specs.Used.{IsKnown, Uses, shown_over};
-ghost use Rattle.tree_change.specs.Enters.{EntersRecord};
+ghost use Rattle.tree_change.specs.Enters.{EntersEachTree};
 ghost use Rattle.tree_change.specs.Fresh.{IsTakeFault};
-ghost use Rattle.tree_change.specs.Shows.{OfEachTree};
+ghost use Rattle.tree_change.specs.Putting.{TakesWithin};
+ghost use Rattle.tree_change.specs.Shows.{OfChange};
 
 use crate::change_fault::ChangeFault;
 use crate::fresh::take_one;
@@ -37,16 +37,13 @@ pub fn add_block<S: Store>(
     requires tree { IsTreeFormat format }
     requires kept { IsKept format id rec.now }
     requires room { length (pages_of pages.old) + 3 ≤ 12 }
-    ensures added { IfOk result (λ block. OfEachTree S.tells format (S.seen store.old) pages.old heads.old (λ held records.
-        get records id ≡ None → EntersRecord block id rec.now 1 held format (shown_over (S.seen store.old) pages.old)
-        (shown_over (S.seen store.new) pages.new) heads.old heads.new records)) }
-    ensures at_least { OnOk result (heads.old.blocks ≤ heads.new.blocks) }
-    ensures within { OnOk result (heads.old.blocks ≤ limit → heads.new.blocks ≤ limit) }
+    ensures added { IfOk result (λ block. OfChange S.tells (S.seen store.old) (S.seen store.new) pages.old pages.new
+        (λ before after. EntersEachTree block id rec.now 1 format before after heads.old heads.new)) }
+    ensures takes { OnOk result (TakesWithin limit ⊤ heads.old heads.new pages.old pages.new) }
     ensures uses { Uses S.tells (is_ok result) 3 (S.seen store.old) (S.seen store.new) pages.old pages.new }
     ensures stays { OnErr result (heads.new ≡ heads.old) }
     ensures refused { IfErr result (IsTakeFault (S.seen store.old).faults (S.seen store.new).faults
-        (IsKnown S.tells (S.seen store.old) pages.old)
-        (shown_over (S.seen store.old) pages.old) heads.old limit 1) }
+        (IsKnown S.tells (S.seen store.old) pages.old) (shown_over (S.seen store.old) pages.old) heads.old limit 1) }
 {
     let mut now = *heads;
     let block = take_one(pages, store, &mut now, limit)?;

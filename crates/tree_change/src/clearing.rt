@@ -9,13 +9,14 @@ ghost use Rattle.file_blocks.specs.Block.{block_of};
 ghost use Rattle.entry_codec.specs.Entry.{entries_per_block};
 ghost use Rattle.quota_pages.specs.Page.{HasRoomFor, is_buffered};
 ghost use Rattle.quota_pages.specs.Pages.{pages_of};
-ghost use Rattle.quota_pages.specs.Used.{IsKnown, LendsSome, LooksAtSome, missing, shown_over};
+ghost use Rattle.quota_pages.specs.Used.{LendsSome, LooksAtSome};
 ghost use Rattle.tree_build.specs.Entries.{record_by, used_ids};
 ghost use Rattle.tree_build.specs.EntryPlaces.{ClearsEntry};
 ghost use Rattle.tree_build.specs.TreeFile.{record_in};
 ghost use Rattle.tree_steps.specs.EntrySteps.{LosesEntry};
 ghost use Rattle.tree_change.specs.ChangeFault.{IsStepFault};
 ghost use Rattle.tree_change.specs.Clears.{IsCleared, LosesRecord};
+ghost use Rattle.tree_change.specs.Shows.{LendsOne, LooksAtOne, OfChange, OfShown};
 
 use crate::change_fault::ChangeFault;
 use crate::overwriting::place_of;
@@ -87,18 +88,14 @@ fn clear_at<S: Store>(
     requires tree { IsTreeFormat format }
     requires place { place < entries_per_block format }
     requires room { HasRoomFor (pages_of pages.old) block }
-    ensures cleared { IfOk result (λ cleared. IsKnown S.tells (S.seen store.old) pages.old → (id : ℕ)
-        → IsSome (record_by format (block_of (shown_over (S.seen store.old) pages.old) block) id place)
-        → LosesEntry format block place id
-        (shown_over (S.seen store.old) pages.old) (shown_over (S.seen store.new) pages.new)) }
-    ensures left { IfOk result (λ cleared. IsKnown S.tells (S.seen store.old) pages.old
-        → IsCleared format (block_of (shown_over (S.seen store.old) pages.old) block)
-        (block_of (shown_over (S.seen store.new) pages.new) block) cleared) }
+    ensures cleared { IfOk result (λ cleared. OfChange S.tells (S.seen store.old) (S.seen store.new) pages.old pages.new
+        (λ before after. (id : ℕ) → IsSome (record_by format (block_of before block) id place)
+        → LosesEntry format block place id before after)) }
+    ensures left { IfOk result (λ cleared. OfChange S.tells (S.seen store.old) (S.seen store.new) pages.old pages.new
+        (λ before after. IsCleared format (block_of before block) (block_of after block) cleared)) }
     ensures brought { OnOk result (is_buffered (pages_of pages.new) block ≡ true) }
-    ensures lends { OnOk result (LendsSome S.tells true (missing (pages_of pages.old) block) (block ∷ [])
-        (S.seen store.old) (S.seen store.new) pages.old pages.new) }
-    ensures kept { OnErr result (LooksAtSome S.tells false (missing (pages_of pages.old) block)
-        (S.seen store.old) (S.seen store.new) pages.old pages.new) }
+    ensures lends { OnOk result (LendsOne S.tells block (S.seen store.old) (S.seen store.new) pages.old pages.new) }
+    ensures kept { OnErr result (LooksAtOne S.tells block (S.seen store.old) (S.seen store.new) pages.old pages.new) }
     ensures cause { OnErr result (Rose (S.seen store.old).faults (S.seen store.new).faults) }
 {
     let bytes = pages.page(store, block)?;
@@ -121,17 +118,14 @@ pub fn clear_record<S: Store>(
 ) -> Result<Cleared, ChangeFault>
     requires tree { IsTreeFormat format }
     requires room { length (pages_of pages.old) < 12 }
-    ensures cleared { IfOk result (λ cleared. IsKnown S.tells (S.seen store.old) pages.old
-        → LosesRecord format block id cleared
-        (shown_over (S.seen store.old) pages.old) (shown_over (S.seen store.new) pages.new)) }
+    ensures cleared { IfOk result (λ cleared. OfChange S.tells (S.seen store.old) (S.seen store.new) pages.old pages.new
+        (λ before after. LosesRecord format block id cleared before after)) }
     ensures lends { OnOk result (LendsSome S.tells true 1 (block ∷ [])
         (S.seen store.old) (S.seen store.new) pages.old pages.new) }
     ensures brought { OnOk result (is_buffered (pages_of pages.new) block ≡ true) }
-    ensures kept { OnErr result (LooksAtSome S.tells false 1
-        (S.seen store.old) (S.seen store.new) pages.old pages.new) }
+    ensures kept { OnErr result (LooksAtSome S.tells false 1 (S.seen store.old) (S.seen store.new) pages.old pages.new) }
     ensures refused { IfErr result (IsStepFault (S.seen store.old).faults (S.seen store.new).faults
-        (IsKnown S.tells (S.seen store.old) pages.old
-        → record_in format (block_of (shown_over (S.seen store.old) pages.old) block) id ≡ None)) }
+        (OfShown S.tells (S.seen store.old) pages.old (λ file. record_in format (block_of file block) id ≡ None))) }
 {
     let place = place_of(pages, store, format, block, id)?;
     Ok(clear_at(pages, store, format, block, place)?)

@@ -1,18 +1,17 @@
 //! A record that is entered in a data block that has room.
 
-ghost use Rattle.std.specs.Prelude.{◌≡◌, ◌≢◌, ◌⊎◌, ◌+◌, ◌<◌, ◌≤◌, length, true, false, IfErr, IfOk, OnErr, OnOk, None, is_ok};
-ghost use Rattle.std.specs.FinMap.{get};
+ghost use Rattle.std.specs.Prelude.{◌≡◌, ◌≢◌, ◌⊎◌, ◌+◌, ◌<◌, ◌≤◌, length, true, false, IfErr, IfOk, OnErr, OnOk, is_ok};
 ghost use Rattle.quota_types.specs.Format.{IsTreeFormat};
 ghost use Rattle.quota_types.specs.Kept.{IsKept};
 ghost use Rattle.entry_codec.specs.Entry.{entries_per_block, is_unused};
 ghost use Rattle.file_blocks.specs.Block.{block_of};
-ghost use Rattle.quota_pages.specs.Page.{is_buffered};
+ghost use Rattle.quota_pages.specs.Page.{is_buffered, is_lent};
 ghost use Rattle.quota_pages.specs.Pages.{pages_of};
-ghost use Rattle.quota_pages.specs.Used.{IsKnown, LooksAtSome, Uses, shown_over};
+ghost use Rattle.quota_pages.specs.Used.{LooksAtSome, Uses};
 ghost use Rattle.tree_build.specs.Entries.{entry_bytes, has_unused};
 ghost use Rattle.tree_change.specs.ChangeFault.{IsStepFault};
-ghost use Rattle.tree_change.specs.Enters.{EntersRecord};
-ghost use Rattle.tree_change.specs.Shows.{IsNoTree, OfEachTree};
+ghost use Rattle.tree_change.specs.Enters.{EntersEachTree};
+ghost use Rattle.tree_change.specs.Shows.{IsNoTree, OfChange, OfShown};
 
 use crate::change_fault::ChangeFault;
 use crate::writing::write_record;
@@ -37,13 +36,13 @@ fn place_in<S: Store>(
     requires tree { IsTreeFormat format }
     requires room { length (pages_of pages.old) < 12 }
     ensures low { IfOk result (λ place. place < entries_per_block format) }
-    ensures unused { IfOk result (λ place. IsKnown S.tells (S.seen store.old) pages.old
-        → is_unused (entry_bytes format (block_of (shown_over (S.seen store.old) pages.old) block) place) ≡ true) }
+    ensures unused { IfOk result (λ place. OfShown S.tells (S.seen store.old) pages.old
+        (λ file. is_unused (entry_bytes format (block_of file block) place) ≡ true)) }
     ensures looked { LooksAtSome S.tells (is_ok result) 1 (S.seen store.old) (S.seen store.new) pages.old pages.new }
     ensures brought { OnOk result (is_buffered (pages_of pages.new) block ≡ true) }
     ensures refused { IfErr result (IsStepFault (S.seen store.old).faults (S.seen store.new).faults
-        (IsKnown S.tells (S.seen store.old) pages.old → (blocks ≤ block)
-        ⊎ (has_unused format (block_of (shown_over (S.seen store.old) pages.old) block) ≡ false))) }
+        (OfShown S.tells (S.seen store.old) pages.old
+        (λ file. (blocks ≤ block) ⊎ (has_unused format (block_of file block) ≡ false)))) }
 {
     if block >= blocks {
         return Err(ChangeFault::Damage(damage_at(DamageKind::ChainOut, block)));
@@ -74,15 +73,14 @@ pub fn enter_record<S: Store>(
     requires kept { IsKept format id rec.now }
     requires some { heads.old.first ≢ 0 }
     requires room { length (pages_of pages.old) + 4 ≤ 12 }
-    ensures entered { IfOk result (λ block. OfEachTree S.tells format (S.seen store.old) pages.old heads.old (λ held records.
-        get records id ≡ None → EntersRecord block id rec.now 0 held format (shown_over (S.seen store.old) pages.old)
-        (shown_over (S.seen store.new) pages.new) heads.old heads.new records)) }
+    ensures entered { IfOk result (λ block. OfChange S.tells (S.seen store.old) (S.seen store.new) pages.old pages.new
+        (λ before after. EntersEachTree block id rec.now 0 format before after heads.old heads.new)) }
     ensures blocks { OnOk result (heads.new.blocks ≡ heads.old.blocks) }
+    ensures header { OnOk result (is_lent (pages_of pages.new) 0 ≡ is_lent (pages_of pages.old) 0) }
     ensures uses { Uses S.tells (is_ok result) 4 (S.seen store.old) (S.seen store.new) pages.old pages.new }
     ensures stays { OnErr result (heads.new ≡ heads.old) }
     ensures refused { IfErr result (IsStepFault (S.seen store.old).faults (S.seen store.new).faults
-        (IsKnown S.tells (S.seen store.old) pages.old
-        → IsNoTree format (shown_over (S.seen store.old) pages.old) heads.old)) }
+        (OfShown S.tells (S.seen store.old) pages.old (λ file. IsNoTree format file heads.old))) }
 {
     let block = heads.first;
     let place = place_in(pages, store, format, heads.blocks, block)?;

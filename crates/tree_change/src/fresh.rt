@@ -1,12 +1,15 @@
 //! Blocks that are taken for a change.
 
-ghost use Rattle.std.specs.Prelude.{◌≡◌, ◌+◌, ◌≤◌, ◌∷◌, [], length, true, false, IfErr, IfOk, OnErr, OnOk, is_ok};
+ghost use Rattle.std.specs.Prelude.{◌≡◌, ◌≢◌, ◌+◌, ◌≤◌, ◌∷◌, [], length, true, false, IfErr, IfOk, OnErr, OnOk, ⊤, is_ok};
+ghost use Rattle.quota_types.specs.Times.{times};
 ghost use Rattle.arrayvec.specs.ArrayVec.{array_vec_len};
 ghost use Rattle.quota_pages.specs.Page.{is_buffered};
 ghost use Rattle.quota_pages.specs.Pages.{pages_of};
 ghost use Rattle.quota_pages.specs.Used.{IsKnown, LendsSome, LooksAtSome, Uses, shown_over};
 ghost use Rattle.quota_radix.specs.Link.{AreBuffered};
 ghost use Rattle.tree_change.specs.Fresh.{IsTakeFault, TakesFresh};
+ghost use Rattle.tree_change.specs.Putting.{TakesWithin};
+ghost use Rattle.tree_change.specs.Shows.{OfChange};
 
 use crate::change_fault::ChangeFault;
 use arrayvec::ArrayVec;
@@ -28,20 +31,18 @@ pub(crate) fn take_one<S: Store>(
     limit: u32,
 ) -> Result<u32, ChangeFault>
     requires room { length (pages_of pages.old) + 1 ≤ 12 }
-    ensures taken { IfOk result (λ block. IsKnown S.tells (S.seen store.old) pages.old
-        → TakesFresh (block ∷ []) (shown_over (S.seen store.old) pages.old) (shown_over (S.seen store.new) pages.new)
-        heads.old heads.new) }
+    ensures taken { IfOk result (λ block. OfChange S.tells (S.seen store.old) (S.seen store.new) pages.old pages.new
+        (λ before after. TakesFresh (block ∷ []) before after heads.old heads.new)) }
     ensures first { OnOk result (heads.new.first ≡ heads.old.first) }
-    ensures at_least { OnOk result (heads.old.blocks ≤ heads.new.blocks) }
-    ensures within { OnOk result (heads.old.blocks ≤ limit → heads.new.blocks ≤ limit) }
+    ensures takes { OnOk result (TakesWithin limit ⊤ heads.old heads.new pages.old pages.new) }
+    ensures beside { IfOk result (λ block. heads.old.blocks ≢ 0 → block ≢ 0) }
     ensures lends { IfOk result (λ block. LendsSome S.tells true 1 (block ∷ [])
         (S.seen store.old) (S.seen store.new) pages.old pages.new) }
     ensures brought { IfOk result (λ block. is_buffered (pages_of pages.new) block ≡ true) }
     ensures kept { OnErr result (LooksAtSome S.tells false 1 (S.seen store.old) (S.seen store.new) pages.old pages.new) }
     ensures stays { OnErr result (heads.new ≡ heads.old) }
     ensures refused { IfErr result (IsTakeFault (S.seen store.old).faults (S.seen store.new).faults
-        (IsKnown S.tells (S.seen store.old) pages.old)
-        (shown_over (S.seen store.old) pages.old) heads.old limit 1) }
+        (IsKnown S.tells (S.seen store.old) pages.old) (shown_over (S.seen store.old) pages.old) heads.old limit 1) }
 {
     if heads.free == 0 && heads.blocks >= limit {
         return Err(ChangeFault::Full {
@@ -69,18 +70,16 @@ pub fn take_fresh<S: Store>(
     requires count { count ≤ 4 }
     requires room { length (pages_of pages.old) + count ≤ 12 }
     ensures count { IfOk result (λ fresh. array_vec_len fresh ≡ count) }
-    ensures taken { IfOk result (λ fresh. IsKnown S.tells (S.seen store.old) pages.old
-        → TakesFresh fresh.items (shown_over (S.seen store.old) pages.old) (shown_over (S.seen store.new) pages.new)
-        heads.old heads.new) }
+    ensures taken { IfOk result (λ fresh. OfChange S.tells (S.seen store.old) (S.seen store.new) pages.old pages.new
+        (λ before after. TakesFresh fresh.items before after heads.old heads.new)) }
     ensures first { OnOk result (heads.new.first ≡ heads.old.first) }
-    ensures at_least { OnOk result (heads.old.blocks ≤ heads.new.blocks) }
-    ensures within { OnOk result (heads.old.blocks ≤ limit → heads.new.blocks ≤ limit) }
+    ensures takes { OnOk result (TakesWithin limit ⊤ heads.old heads.new pages.old pages.new) }
+    ensures beside { IfOk result (λ fresh. heads.old.blocks ≢ 0 → times fresh.items 0 ≡ 0) }
     ensures brought { IfOk result (λ fresh. AreBuffered (pages_of pages.new) fresh.items) }
     ensures uses { Uses S.tells (is_ok result) count (S.seen store.old) (S.seen store.new) pages.old pages.new }
     ensures stays { OnErr result (heads.new ≡ heads.old) }
     ensures refused { IfErr result (IsTakeFault (S.seen store.old).faults (S.seen store.new).faults
-        (IsKnown S.tells (S.seen store.old) pages.old)
-        (shown_over (S.seen store.old) pages.old) heads.old limit count) }
+        (IsKnown S.tells (S.seen store.old) pages.old) (shown_over (S.seen store.old) pages.old) heads.old limit count) }
 {
     let mut now = *heads;
     let mut fresh = ArrayVec::new();

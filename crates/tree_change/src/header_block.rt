@@ -2,11 +2,13 @@
 
 ghost use Rattle.std.specs.Prelude.{◌≡◌, ◌↔◌, ◌+◌, ◌≤◌, ◌∷◌, [], length, true, false, is_ok, IsTrue, OnErr, OnOk};
 ghost use Rattle.entry_codec.specs.Header.{AreOf, header_of};
+ghost use Rattle.quota_types.specs.Span.{KeepsOutside};
 ghost use Rattle.outside.specs.Count.{Rose};
-ghost use Rattle.quota_pages.specs.Page.{HasRoomFor, lent_count};
+ghost use Rattle.quota_pages.specs.Page.{HasRoomFor};
 ghost use Rattle.quota_pages.specs.Pages.{pages_of};
-ghost use Rattle.quota_pages.specs.Used.{IsKnown, KeepsBlocksBut, LendsSome, LooksAtSome, Uses, missing, shown_over};
-ghost use Rattle.tree_change.specs.HeaderHeads.{HasHeads, with_heads};
+ghost use Rattle.quota_pages.specs.Used.{KeepsBlocksBut, Uses, shown_over};
+ghost use Rattle.tree_change.specs.HeaderHeads.{HasHeads, SetsHeads, with_heads};
+ghost use Rattle.tree_change.specs.Shows.{LendsOne, LooksAtOne, OfChange};
 
 use entry_codec::Header;
 use free_chains::Heads;
@@ -31,18 +33,20 @@ pub(crate) fn heads_in(header: &Header) -> Heads
 fn write_heads(heads: &Heads, bytes: &mut [u8])
     requires { 32 ≤ length bytes.old }
     ensures heads { header_of bytes.new ≡ with_heads (header_of bytes.old) heads.now }
+    ensures others { KeepsOutside 20 32 bytes.old bytes.new }
 {
     set_le32s_at(bytes, HEADS_AT, &[heads.blocks, heads.free, heads.first]);
 }
 
 fn write_in(heads: &Heads, block: &mut [u8; 1024])
     ensures heads { header_of block.new ≡ with_heads (header_of block.old) heads.now }
+    ensures others { KeepsOutside 20 32 block.old block.new }
     ensures whole { length block.new ≡ 1024 }
 {
     write_heads(heads, &mut block[..]);
 }
 
-/// Writes heads in the header, which has its other numbers as before. Block 0 is lent for writing.
+/// Writes heads in the header. All other bytes of its block stay. Block 0 is lent for writing.
 ///
 /// # Errors
 ///
@@ -53,13 +57,10 @@ pub fn set_heads<S: Store>(
     heads: &Heads,
 ) -> Result<(), StoreFault>
     requires { HasRoomFor (pages_of pages.old) 0 }
-    ensures heads { OnOk result (IsKnown S.tells (S.seen store.old) pages.old
-        → header_of (shown_over (S.seen store.new) pages.new)
-        ≡ with_heads (header_of (shown_over (S.seen store.old) pages.old)) heads.now) }
-    ensures lends { OnOk result (LendsSome S.tells true (missing (pages_of pages.old) 0) (0 ∷ [])
-        (S.seen store.old) (S.seen store.new) pages.old pages.new) }
-    ensures kept { OnErr result (LooksAtSome S.tells false (missing (pages_of pages.old) 0)
-        (S.seen store.old) (S.seen store.new) pages.old pages.new) }
+    ensures set { OnOk result (OfChange S.tells (S.seen store.old) (S.seen store.new) pages.old pages.new
+        (SetsHeads heads.now)) }
+    ensures lends { OnOk result (LendsOne S.tells 0 (S.seen store.old) (S.seen store.new) pages.old pages.new) }
+    ensures kept { OnErr result (LooksAtOne S.tells 0 (S.seen store.old) (S.seen store.new) pages.old pages.new) }
     ensures cause { OnErr result (Rose (S.seen store.old).faults (S.seen store.new).faults) }
 {
     let block = pages.page(store, 0)?;
@@ -88,11 +89,9 @@ pub(crate) fn renew_heads<S: Store>(
     requires room { length (pages_of pages.old) + 1 ≤ 12 }
     ensures keeps { OnOk result (KeepsBlocksBut (0 ∷ [])
         (shown_over (S.seen store.old) pages.old) (shown_over (S.seen store.new) pages.new)) }
-    ensures heads { OnOk result (IsKnown S.tells (S.seen store.old) pages.old
-        → AreOf header.now (header_of (shown_over (S.seen store.old) pages.old))
-        → header_of (shown_over (S.seen store.new) pages.new)
-        ≡ with_heads (header_of (shown_over (S.seen store.old) pages.old)) heads.now) }
-    ensures idle { HasHeads header.now heads.now → lent_count (pages_of pages.new) ≡ lent_count (pages_of pages.old) }
+    ensures set { OnOk result (OfChange S.tells (S.seen store.old) (S.seen store.new) pages.old pages.new
+        (λ before after. AreOf header.now (header_of before) → SetsHeads heads.now before after)) }
+    ensures idle { HasHeads header.now heads.now → pages_of pages.new ≡ pages_of pages.old }
     ensures uses { Uses S.tells (is_ok result) 1 (S.seen store.old) (S.seen store.new) pages.old pages.new }
     ensures cause { OnErr result (Rose (S.seen store.old).faults (S.seen store.new).faults) }
 {

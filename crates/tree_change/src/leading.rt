@@ -1,17 +1,14 @@
 //! A way to a leaf that is awaited.
 
-ghost use Rattle.std.specs.Prelude.{◌≡◌, ◌+◌, ◌-◌, ◌≤◌, List, ℕ, length, IfErr, OnErr, OnOk, None, Some, is_ok};
+ghost use Rattle.std.specs.Prelude.{◌≡◌, ◌≢◌, ◌+◌, ◌-◌, ◌≤◌, length, slice_index, IfErr, OnErr, OnOk, is_ok};
 ghost use Rattle.arrayvec.specs.ArrayVec.{array_vec_len};
-ghost use Rattle.quota_types.specs.declared.file_kind.Format.{Format};
-ghost use Rattle.quota_blocks.specs.QuotaValue.{Records};
 ghost use Rattle.quota_pages.specs.Pages.{pages_of};
 ghost use Rattle.quota_pages.specs.Used.{IsKnown, Uses, shown_over};
 ghost use Rattle.quota_radix.specs.Link.{AreBuffered};
-ghost use Rattle.quota_radix.specs.Way.{blocks_on_way};
-ghost use Rattle.tree_build.specs.Loose.{loose_of};
 ghost use Rattle.tree_change.specs.Fresh.{IsTakeFault};
-ghost use Rattle.tree_change.specs.Leads.{LeadsLeaf};
-ghost use Rattle.tree_change.specs.Shows.{ShowsTree};
+ghost use Rattle.tree_change.specs.Leads.{LeadsEachTree};
+ghost use Rattle.tree_change.specs.Putting.{TakesWithin};
+ghost use Rattle.tree_change.specs.Shows.{OfChange};
 
 use crate::change_fault::ChangeFault;
 use crate::fresh::take_fresh;
@@ -41,16 +38,12 @@ pub fn lead_to<S: Store>(
     requires few { array_vec_len path.now.found ≤ 4 }
     requires brought { AreBuffered (pages_of pages.old) path.now.found.items }
     requires room { length (pages_of pages.old) + (4 - array_vec_len path.now.found) ≤ 12 }
-    ensures led { OnOk result (IsKnown S.tells (S.seen store.old) pages.old
-        → (held : List ℕ) (format : Format) (records : Records)
-        → path.now.found.items ≡ blocks_on_way (shown_over (S.seen store.old) pages.old) heads.old.blocks id
-        → ShowsTree (loose_of held (Some (record { number = id; block = leaf_block })) None) format
-        (S.seen store.old) pages.old heads.old records
-        → LeadsLeaf (4 - array_vec_len path.now.found) (record { number = id; block = leaf_block }) held format
-        (shown_over (S.seen store.old) pages.old) (shown_over (S.seen store.new) pages.new) heads.old heads.new records) }
+    ensures led { OnOk result (OfChange S.tells (S.seen store.old) (S.seen store.new) pages.old pages.new (λ before after.
+        LeadsEachTree path.now.found.items (4 - array_vec_len path.now.found) (record { number = id; block = leaf_block })
+        before after heads.old heads.new)) }
     ensures first { OnOk result (heads.new.first ≡ heads.old.first) }
-    ensures at_least { OnOk result (heads.old.blocks ≤ heads.new.blocks) }
-    ensures within { OnOk result (heads.old.blocks ≤ limit → heads.new.blocks ≤ limit) }
+    ensures takes { OnOk result (TakesWithin limit
+        (slice_index path.now.found.items (array_vec_len path.now.found - 1) ≢ 0) heads.old heads.new pages.old pages.new) }
     ensures uses { Uses S.tells (is_ok result) (4 - array_vec_len path.now.found)
         (S.seen store.old) (S.seen store.new) pages.old pages.new }
     ensures stays { OnErr result (heads.new ≡ heads.old) }

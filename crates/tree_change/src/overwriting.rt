@@ -1,25 +1,23 @@
 //! A record that is overwritten in its data block.
 
-ghost use Rattle.std.specs.Prelude.{◌≡◌, ◌+◌, ◌<◌, ◌≤◌, ◌∷◌, [], ℕ, List, length, true, false, None, Some, IsSome, IfErr, IfOk, OnErr, OnOk, is_ok};
+ghost use Rattle.std.specs.Prelude.{◌≡◌, ◌≢◌, ◌+◌, ◌<◌, ◌≤◌, ◌∷◌, [], length, true, false, None, Some, IsSome, IfErr, IfOk, OnErr, OnOk, is_ok};
 ghost use Rattle.quota_types.specs.Format.{IsTreeFormat};
 ghost use Rattle.quota_types.specs.Kept.{IsKept};
 ghost use Rattle.entry_codec.specs.Entry.{entries_per_block};
 ghost use Rattle.file_blocks.specs.Block.{block_of};
 ghost use Rattle.outside.specs.Count.{Rose};
-ghost use Rattle.quota_blocks.specs.QuotaValue.{Records};
-ghost use Rattle.quota_pages.specs.Page.{HasRoomFor, is_buffered, lent_count};
+ghost use Rattle.quota_pages.specs.Page.{HasRoomFor, is_buffered, is_lent, lent_count};
 ghost use Rattle.quota_pages.specs.Pages.{pages_of};
-ghost use Rattle.quota_pages.specs.Used.{IsKnown, LendsSome, LooksAtSome, Uses, missing, shown_over};
+ghost use Rattle.quota_pages.specs.Used.{LooksAtSome, Uses};
 ghost use Rattle.quota_radix.specs.Descent.{leaf_block};
 ghost use Rattle.free_chains.specs.declared.heads.Heads.{Heads};
 ghost use Rattle.tree_build.specs.Entries.{record_by};
-ghost use Rattle.tree_build.specs.Loose.{loose_of};
 ghost use Rattle.tree_build.specs.TreeFile.{record_in};
 ghost use Rattle.tree_steps.specs.EntrySteps.{RewritesEntry};
 ghost use Rattle.tree_change.specs.ChangeFault.{IsStepFault};
-ghost use Rattle.tree_change.specs.Overwrites.{OverwritesRecord};
+ghost use Rattle.tree_change.specs.Overwrites.{OverwritesEachTree};
 ghost use Rattle.tree_change.specs.Put.{PutsOver};
-ghost use Rattle.tree_change.specs.Shows.{IsNoCompleteTree, ShowsTree};
+ghost use Rattle.tree_change.specs.Shows.{IsNoCompleteTree, LendsOne, LooksAtOne, OfChange, OfShown};
 
 use crate::change_fault::ChangeFault;
 use outside::{Store, StoreFault};
@@ -53,13 +51,12 @@ pub(crate) fn place_of<S: Store>(
     requires tree { IsTreeFormat format }
     requires room { length (pages_of pages.old) < 12 }
     ensures low { IfOk result (λ place. place < entries_per_block format) }
-    ensures used { IfOk result (λ place. IsKnown S.tells (S.seen store.old) pages.old
-        → IsSome (record_by format (block_of (shown_over (S.seen store.old) pages.old) block) id place)) }
+    ensures used { IfOk result (λ place. OfShown S.tells (S.seen store.old) pages.old
+        (λ file. IsSome (record_by format (block_of file block) id place))) }
     ensures looked { LooksAtSome S.tells (is_ok result) 1 (S.seen store.old) (S.seen store.new) pages.old pages.new }
     ensures brought { OnOk result (is_buffered (pages_of pages.new) block ≡ true) }
     ensures refused { IfErr result (IsStepFault (S.seen store.old).faults (S.seen store.new).faults
-        (IsKnown S.tells (S.seen store.old) pages.old
-        → record_in format (block_of (shown_over (S.seen store.old) pages.old) block) id ≡ None)) }
+        (OfShown S.tells (S.seen store.old) pages.old (λ file. record_in format (block_of file block) id ≡ None))) }
 {
     let bytes = pages.peek(store, block)?;
     match find_place(format, bytes, id) {
@@ -90,14 +87,11 @@ fn rewrite_record<S: Store>(
     requires place { place < entries_per_block format }
     requires kept { IsKept format id rec.now }
     requires room { HasRoomFor (pages_of pages.old) block }
-    ensures rewritten { OnOk result (IsKnown S.tells (S.seen store.old) pages.old
-        → IsSome (record_by format (block_of (shown_over (S.seen store.old) pages.old) block) id place)
-        → RewritesEntry format block place (record { id = id; rec = rec.now })
-        (shown_over (S.seen store.old) pages.old) (shown_over (S.seen store.new) pages.new)) }
-    ensures lends { OnOk result (LendsSome S.tells true (missing (pages_of pages.old) block) (block ∷ [])
-        (S.seen store.old) (S.seen store.new) pages.old pages.new) }
-    ensures kept { OnErr result (LooksAtSome S.tells false (missing (pages_of pages.old) block)
-        (S.seen store.old) (S.seen store.new) pages.old pages.new) }
+    ensures rewritten { OnOk result (OfChange S.tells (S.seen store.old) (S.seen store.new) pages.old pages.new
+        (λ before after. IsSome (record_by format (block_of before block) id place)
+        → RewritesEntry format block place (record { id = id; rec = rec.now }) before after)) }
+    ensures lends { OnOk result (LendsOne S.tells block (S.seen store.old) (S.seen store.new) pages.old pages.new) }
+    ensures kept { OnErr result (LooksAtOne S.tells block (S.seen store.old) (S.seen store.new) pages.old pages.new) }
     ensures cause { OnErr result (Rose (S.seen store.old).faults (S.seen store.new).faults) }
 {
     let bytes = pages.page(store, block)?;
@@ -122,18 +116,14 @@ pub fn overwrite_record<S: Store>(
     requires tree { IsTreeFormat format }
     requires kept { IsKept format id rec.now }
     requires room { length (pages_of pages.old) < 12 }
-    ensures overwritten { OnOk result (IsKnown S.tells (S.seen store.old) pages.old
-        → (held : List ℕ) (heads : Heads) (records : Records)
-        → leaf_block (shown_over (S.seen store.old) pages.old) heads.blocks id ≡ Some block
-        → ShowsTree (loose_of held None None) format (S.seen store.old) pages.old heads records
-        → OverwritesRecord id rec.now held format (shown_over (S.seen store.old) pages.old)
-        (shown_over (S.seen store.new) pages.new) heads records) }
+    ensures overwritten { OnOk result (OfChange S.tells (S.seen store.old) (S.seen store.new) pages.old pages.new
+        (λ before after. OverwritesEachTree block id rec.now format before after)) }
     ensures uses { Uses S.tells (is_ok result) 1 (S.seen store.old) (S.seen store.new) pages.old pages.new }
     ensures lends { lent_count (pages_of pages.new) ≤ lent_count (pages_of pages.old) + 1 }
+    ensures header { OnOk result (block ≢ 0 → is_lent (pages_of pages.new) 0 ≡ is_lent (pages_of pages.old) 0) }
     ensures refused { IfErr result (IsStepFault (S.seen store.old).faults (S.seen store.new).faults
-        (IsKnown S.tells (S.seen store.old) pages.old → (heads : Heads)
-        → leaf_block (shown_over (S.seen store.old) pages.old) heads.blocks id ≡ Some block
-        → IsNoCompleteTree format (shown_over (S.seen store.old) pages.old) heads)) }
+        (OfShown S.tells (S.seen store.old) pages.old (λ file. (heads : Heads)
+        → leaf_block file heads.blocks id ≡ Some block → IsNoCompleteTree format file heads))) }
 {
     let place = place_of(pages, store, format, block, id)?;
     rewrite_record(pages, store, format, block, place, id, rec)?;

@@ -1,6 +1,6 @@
 //! A record that is put into a tree file.
 
-ghost use Rattle.std.specs.Prelude.{◌≡◌, ◌+◌, ◌-◌, ◌*◌, ◌≤◌, length, IfErr, IfOk, IsSome, OnErr, OnOk, None, is_ok};
+ghost use Rattle.std.specs.Prelude.{◌≡◌, ◌≢◌, ◌+◌, ◌-◌, ◌*◌, ◌≤◌, length, slice_index, IfErr, IfOk, IsSome, OnErr, OnOk, ⊤, is_ok};
 ghost use Rattle.std.specs.FinMap.{get};
 ghost use Rattle.arrayvec.specs.ArrayVec.{array_vec_len};
 ghost use Rattle.quota_types.specs.Format.{IsTreeFormat};
@@ -10,9 +10,9 @@ ghost use Rattle.quota_pages.specs.Pages.{pages_of};
 ghost use Rattle.quota_pages.specs.Used.{IsKnown, Uses, shown_over};
 ghost use Rattle.quota_radix.specs.Link.{AreBuffered};
 ghost use Rattle.tree_change.specs.ChangeFault.{IfFull};
-ghost use Rattle.tree_change.specs.Enters.{EntersRecord};
-ghost use Rattle.tree_change.specs.Putting.{EndsEarly, IsEnterFault, IsPutFault, IsPutInFault, PutsIn, PutsOverOne, data_wanted};
-ghost use Rattle.tree_change.specs.Shows.{OfEachTree};
+ghost use Rattle.tree_change.specs.Enters.{EntersEachTree};
+ghost use Rattle.tree_change.specs.Putting.{EndsEarly, IsEnterFault, IsPutFault, IsPutInFault, PutsInEachTree, PutsOverOne, TakesWithin, data_wanted};
+ghost use Rattle.tree_change.specs.Shows.{OfChange, OfEachTree};
 
 use crate::adding::add_block;
 use crate::change_fault::ChangeFault;
@@ -52,11 +52,9 @@ fn enter_data<S: Store>(
     requires tree { IsTreeFormat format }
     requires kept { IsKept format id rec.now }
     requires room { length (pages_of pages.old) + (4 - data_wanted heads.old) ≤ 12 }
-    ensures entered { IfOk result (λ block. OfEachTree S.tells format (S.seen store.old) pages.old heads.old (λ held records.
-        get records id ≡ None → EntersRecord block id rec.now (data_wanted heads.old) held format
-        (shown_over (S.seen store.old) pages.old) (shown_over (S.seen store.new) pages.new) heads.old heads.new records)) }
-    ensures at_least { OnOk result (heads.old.blocks ≤ heads.new.blocks) }
-    ensures within { OnOk result (heads.old.blocks ≤ limit → heads.new.blocks ≤ limit) }
+    ensures entered { IfOk result (λ block. OfChange S.tells (S.seen store.old) (S.seen store.new) pages.old pages.new
+        (λ before after. EntersEachTree block id rec.now (data_wanted heads.old) format before after heads.old heads.new)) }
+    ensures takes { OnOk result (TakesWithin limit ⊤ heads.old heads.new pages.old pages.new) }
     ensures uses { Uses S.tells (is_ok result) (4 - data_wanted heads.old)
         (S.seen store.old) (S.seen store.new) pages.old pages.new }
     ensures stays { OnErr result (heads.new ≡ heads.old) }
@@ -95,11 +93,10 @@ fn put_new<S: Store>(
     requires brought { AreBuffered (pages_of pages.old) path.now.found.items }
     requires room { length (pages_of pages.old) + (2 * (4 - array_vec_len path.now.found) + 4) ≤ 12 }
     ensures put { OnOk result (EndsEarly (shown_over (S.seen store.old) pages.old) heads.old.blocks id path.now.found.items
-        → OfEachTree S.tells format (S.seen store.old) pages.old heads.old (λ held records.
-        PutsIn id rec.now held format (shown_over (S.seen store.old) pages.old)
-        (shown_over (S.seen store.new) pages.new) heads.old heads.new records)) }
-    ensures at_least { OnOk result (heads.old.blocks ≤ heads.new.blocks) }
-    ensures within { OnOk result (heads.old.blocks ≤ limit → heads.new.blocks ≤ limit) }
+        → OfChange S.tells (S.seen store.old) (S.seen store.new) pages.old pages.new
+        (λ before after. PutsInEachTree id rec.now format before after heads.old heads.new)) }
+    ensures takes { OnOk result (TakesWithin limit
+        (slice_index path.now.found.items (array_vec_len path.now.found - 1) ≢ 0) heads.old heads.new pages.old pages.new) }
     ensures uses { Uses S.tells (is_ok result) (2 * (4 - array_vec_len path.now.found) + 4)
         (S.seen store.old) (S.seen store.new) pages.old pages.new }
     ensures stays { OnErr result (heads.new ≡ heads.old) }
@@ -146,11 +143,10 @@ pub fn put_in<S: Store>(
     requires tree { IsTreeFormat format }
     requires kept { IsKept format id rec.now }
     requires room { length (pages_of pages.old) + 11 ≤ 12 }
-    ensures put { OnOk result (OfEachTree S.tells format (S.seen store.old) pages.old heads.old (λ held records.
-        PutsIn id rec.now held format (shown_over (S.seen store.old) pages.old)
-        (shown_over (S.seen store.new) pages.new) heads.old heads.new records)) }
-    ensures at_least { OnOk result (heads.old.blocks ≤ heads.new.blocks) }
-    ensures within { OnOk result (heads.old.blocks ≤ limit → heads.new.blocks ≤ limit) }
+    ensures put { OnOk result (OfChange S.tells (S.seen store.old) (S.seen store.new) pages.old pages.new
+        (λ before after. PutsInEachTree id rec.now format before after heads.old heads.new)) }
+    ensures takes { OnOk result (TakesWithin limit (IsKnown S.tells (S.seen store.old) pages.old)
+        heads.old heads.new pages.old pages.new) }
     ensures uses { Uses S.tells (is_ok result) 11 (S.seen store.old) (S.seen store.new) pages.old pages.new }
     ensures stays { OnErr result (heads.new ≡ heads.old) }
     ensures refused { IfErr result (IsPutInFault (S.seen store.old).faults (S.seen store.new).faults

@@ -1,18 +1,18 @@
 //! A record that is put into a tree file in place.
 
-ghost use Rattle.std.specs.Prelude.{◌≡◌, ◌<◌, ◌≤◌, [], is_ok, IfErr, IfOk, IsSome, OnOk};
+ghost use Rattle.std.specs.Prelude.{◌≡◌, ◌<◌, ◌≤◌, [], false, is_ok, IfErr, IfOk, IsSome, OnOk};
 ghost use Rattle.std.specs.FinMap.{get};
 ghost use Rattle.entry_codec.specs.Header.{header_of};
 ghost use Rattle.quota_types.specs.Format.{IsTreeFormat};
 ghost use Rattle.quota_types.specs.Kept.{IsKept};
-ghost use Rattle.quota_pages.specs.Page.{lent_count};
+ghost use Rattle.quota_pages.specs.Page.{is_lent, lent_count};
 ghost use Rattle.quota_pages.specs.Pages.{pages_of};
-ghost use Rattle.quota_pages.specs.Used.{Uses, shown_over};
+ghost use Rattle.quota_pages.specs.Used.{IsKnown, Uses, shown_over};
 ghost use Rattle.tree_build.specs.IsTree.{heads_of};
 ghost use Rattle.tree_change.specs.ChangeFault.{IfFull, IsChangeFault};
 ghost use Rattle.tree_change.specs.HeaderHeads.{HasHeads};
 ghost use Rattle.tree_change.specs.Putting.{PutsRecord, blocks_with};
-ghost use Rattle.tree_change.specs.Shows.{OfEachValue};
+ghost use Rattle.tree_change.specs.Shows.{OfEachValue, OfValueChange};
 
 use crate::change_fault::ChangeFault;
 use crate::header_block::{heads_in, renew_heads};
@@ -26,7 +26,7 @@ use quota_types::Rec;
 /// Puts the record of an identifier into a tree file with this header, and answers the heads that the file has then.
 ///
 /// At most twelve blocks are read. What the file should be is left in the buffer; nothing is written yet. For an identifier
-/// that has a record at most one block is lent for writing, and at most eleven are where the heads stay.
+/// that has a record at most one block is lent for writing. Where the heads stay at most eleven are, and not the header's.
 ///
 /// # Errors
 ///
@@ -45,12 +45,13 @@ pub fn put_record<S: Store>(
     requires empty { pages_of pages.old ≡ [] }
     requires two { 2 ≤ header.now.blocks }
     requires few { header.now.blocks ≤ limit }
-    ensures shown { IfOk result (λ heads. OfEachValue S.tells (S.seen store.old) pages.old header.now (λ value.
-        PutsRecord id rec.now value (shown_over (S.seen store.old) pages.old)
-        (shown_over (S.seen store.new) pages.new) heads)) }
+    ensures shown { IfOk result (λ heads. OfValueChange S.tells (S.seen store.old) (S.seen store.new) pages.old pages.new
+        header.now (λ value before after. PutsRecord id rec.now value before after heads)) }
     ensures known { OnOk result (OfEachValue S.tells (S.seen store.old) pages.old header.now (λ value.
         IsSome (get value.records id) → lent_count (pages_of pages.new) ≤ 1)) }
     ensures header { IfOk result (λ heads. HasHeads header.now heads → lent_count (pages_of pages.new) ≤ 11) }
+    ensures header_stays { IfOk result (λ heads. HasHeads header.now heads
+        → IsKnown S.tells (S.seen store.old) pages.old → is_lent (pages_of pages.new) 0 ≡ false) }
     ensures few { IfOk result (λ heads. (2 ≤ heads.blocks) × (heads.blocks ≤ limit)) }
     ensures refused { IfErr result (IsChangeFault (S.seen store.old).faults (S.seen store.new).faults
         (OfEachValue S.tells (S.seen store.old) pages.old header.now (λ _. ⊥))

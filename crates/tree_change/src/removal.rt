@@ -10,7 +10,7 @@ ghost use Rattle.quota_radix.specs.Link.{AreBuffered};
 ghost use Rattle.quota_radix.specs.Way.{blocks_on_way};
 ghost use Rattle.tree_change.specs.ChangeFault.{IsChangeFault};
 ghost use Rattle.tree_change.specs.Removal.{HasNoWay, RemovesRecord, TakesRecord};
-ghost use Rattle.tree_change.specs.Shows.{OfEachValue};
+ghost use Rattle.tree_change.specs.Shows.{OfChange, OfEachValue, OfShown, OfValueChange};
 
 use crate::change_fault::ChangeFault;
 use crate::header_block::{heads_in, renew_heads};
@@ -41,15 +41,14 @@ fn take_out<S: Store>(
     requires found { array_vec_len path.now.found ≡ 5 }
     requires buffered { AreBuffered (pages_of pages.old) (take 4 path.now.found.items) }
     requires room { length (pages_of pages.old) + 4 ≤ 12 }
-    ensures taken { OnOk result (IsKnown S.tells (S.seen store.old) pages.old
-        → TakesRecord format path.now.found.items id (shown_over (S.seen store.old) pages.old)
-        (shown_over (S.seen store.new) pages.new) heads.old heads.new) }
+    ensures taken { OnOk result (OfChange S.tells (S.seen store.old) (S.seen store.new) pages.old pages.new
+        (λ before after. TakesRecord format path.now.found.items id before after heads.old heads.new)) }
     ensures blocks { OnOk result (heads.new.blocks ≡ heads.old.blocks) }
     ensures uses { Uses S.tells (is_ok result) 4 (S.seen store.old) (S.seen store.new) pages.old pages.new }
     ensures stays { OnErr result (heads.new ≡ heads.old) }
     ensures refused { IfErr result (IsChangeFault (S.seen store.old).faults (S.seen store.new).faults
-        (IsKnown S.tells (S.seen store.old) pages.old
-        → HasNoWay format path.now.found.items id (shown_over (S.seen store.old) pages.old) heads.old) (λ _ _. ⊥)) }
+        (OfShown S.tells (S.seen store.old) pages.old (λ file. HasNoWay format path.now.found.items id file heads.old))
+        (λ _ _. ⊥)) }
 {
     let mut now = *heads;
     unlink_leaf(pages, store, &mut now, path, id)?;
@@ -78,9 +77,8 @@ fn remove_found<S: Store>(
     requires room { length (pages_of pages.old) + 5 ≤ 12 }
     ensures removed { IfOk result (λ heads.
         path.now.found.items ≡ blocks_on_way (shown_over (S.seen store.old) pages.old) header.now.blocks id
-        → OfEachValue S.tells (S.seen store.old) pages.old header.now (λ value.
-        RemovesRecord id value (shown_over (S.seen store.old) pages.old)
-        (shown_over (S.seen store.new) pages.new) heads)) }
+        → OfValueChange S.tells (S.seen store.old) (S.seen store.new) pages.old pages.new header.now
+        (λ value before after. RemovesRecord id value before after heads)) }
     ensures blocks { IfOk result (λ heads. heads.blocks ≡ header.now.blocks) }
     ensures uses { Uses S.tells (is_ok result) 5 (S.seen store.old) (S.seen store.new) pages.old pages.new }
     ensures refused { IfErr result (IsChangeFault (S.seen store.old).faults (S.seen store.new).faults
@@ -112,9 +110,8 @@ pub fn remove_record<S: Store>(
     requires tree { IsTreeFormat header.now.format }
     requires empty { pages_of pages.old ≡ [] }
     ensures shown { IfOk result (λ found. IfSome found (λ heads.
-        OfEachValue S.tells (S.seen store.old) pages.old header.now (λ value.
-        RemovesRecord id value (shown_over (S.seen store.old) pages.old)
-        (shown_over (S.seen store.new) pages.new) heads))) }
+        OfValueChange S.tells (S.seen store.old) (S.seen store.new) pages.old pages.new header.now
+        (λ value before after. RemovesRecord id value before after heads))) }
     ensures blocks { IfOk result (λ found. IfSome found (λ heads. heads.blocks ≡ header.now.blocks)) }
     ensures found { IfOk result (λ found. OfEachValue S.tells (S.seen store.old) pages.old header.now (λ value.
         is_none (get value.records id) ≡ is_none found)) }

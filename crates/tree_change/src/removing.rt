@@ -5,9 +5,10 @@ ghost use Rattle.quota_types.specs.Format.{IsTreeFormat};
 ghost use Rattle.quota_types.specs.declared.file_kind.Format.{Format as QuotaFormat};
 ghost use Rattle.quota_pages.specs.Page.{is_buffered};
 ghost use Rattle.quota_pages.specs.Pages.{pages_of};
-ghost use Rattle.quota_pages.specs.Used.{IsKnown, Uses, shown_over};
+ghost use Rattle.quota_pages.specs.Used.{Uses};
 ghost use Rattle.tree_change.specs.ChangeFault.{IsStepFault};
 ghost use Rattle.tree_change.specs.Removes.{AwaitsInNoTree, EntersTree, GivesTree, IsNoTreeMisplacing, IsNoTreeOf, LeavesTree, RemovesEntry};
+ghost use Rattle.tree_change.specs.Shows.{OfChange, OfShown};
 
 use crate::change_fault::ChangeFault;
 use crate::clearing::{Cleared, clear_record};
@@ -28,16 +29,15 @@ fn leave_list<S: Store>(
     block: u32,
 ) -> Result<(), ChangeFault>
     requires room { length (pages_of pages.old) + 3 ≤ 12 }
-    ensures left { OnOk result (IsKnown S.tells (S.seen store.old) pages.old → (format : QuotaFormat)
-        → LeavesTree format block (shown_over (S.seen store.old) pages.old) (shown_over (S.seen store.new) pages.new)
-        heads.old heads.new) }
+    ensures left { OnOk result (OfChange S.tells (S.seen store.old) (S.seen store.new) pages.old pages.new
+        (λ before after. (format : QuotaFormat) → LeavesTree format block before after heads.old heads.new)) }
     ensures blocks { OnOk result (heads.new.blocks ≡ heads.old.blocks) }
     ensures free { OnOk result (heads.new.free ≡ heads.old.free) }
     ensures uses { Uses S.tells (is_ok result) 3 (S.seen store.old) (S.seen store.new) pages.old pages.new }
     ensures stays { OnErr result (heads.new ≡ heads.old) }
     ensures refused { IfErr result (IsStepFault (S.seen store.old).faults (S.seen store.new).faults
-        (IsKnown S.tells (S.seen store.old) pages.old → (format : QuotaFormat)
-        → IsNoTreeMisplacing format (shown_over (S.seen store.old) pages.old) heads.old block)) }
+        (OfShown S.tells (S.seen store.old) pages.old (λ file. (format : QuotaFormat)
+        → IsNoTreeMisplacing format file heads.old block))) }
 {
     leave_entry_list(pages, store, heads, block)?;
     Ok(())
@@ -55,15 +55,14 @@ fn enter_list<S: Store>(
     block: u32,
 ) -> Result<(), ChangeFault>
     requires room { length (pages_of pages.old) + 2 ≤ 12 }
-    ensures entered { OnOk result (IsKnown S.tells (S.seen store.old) pages.old → (format : QuotaFormat)
-        → EntersTree format block (shown_over (S.seen store.old) pages.old) (shown_over (S.seen store.new) pages.new)
-        heads.old heads.new) }
+    ensures entered { OnOk result (OfChange S.tells (S.seen store.old) (S.seen store.new) pages.old pages.new
+        (λ before after. (format : QuotaFormat) → EntersTree format block before after heads.old heads.new)) }
     ensures blocks { OnOk result (heads.new.blocks ≡ heads.old.blocks) }
     ensures uses { Uses S.tells (is_ok result) 2 (S.seen store.old) (S.seen store.new) pages.old pages.new }
     ensures stays { OnErr result (heads.new ≡ heads.old) }
     ensures refused { IfErr result (IsStepFault (S.seen store.old).faults (S.seen store.new).faults
-        (IsKnown S.tells (S.seen store.old) pages.old → (format : QuotaFormat)
-        → IsNoTreeOf format (shown_over (S.seen store.old) pages.old) heads.old)) }
+        (OfShown S.tells (S.seen store.old) pages.old (λ file. (format : QuotaFormat)
+        → IsNoTreeOf format file heads.old))) }
 {
     enter_entry_list(pages, store, heads, block)?;
     Ok(())
@@ -83,15 +82,14 @@ fn give_up<S: Store>(
 ) -> Result<(), ChangeFault>
     requires there { is_buffered (pages_of pages.old) block ≡ true }
     requires room { length (pages_of pages.old) + 3 ≤ 12 }
-    ensures given { OnOk result (IsKnown S.tells (S.seen store.old) pages.old → (format : QuotaFormat)
-        → GivesTree format block (shown_over (S.seen store.old) pages.old) (shown_over (S.seen store.new) pages.new)
-        heads.old heads.new) }
+    ensures given { OnOk result (OfChange S.tells (S.seen store.old) (S.seen store.new) pages.old pages.new
+        (λ before after. (format : QuotaFormat) → GivesTree format block before after heads.old heads.new)) }
     ensures blocks { OnOk result (heads.new.blocks ≡ heads.old.blocks) }
     ensures uses { Uses S.tells (is_ok result) 3 (S.seen store.old) (S.seen store.new) pages.old pages.new }
     ensures stays { OnErr result (heads.new ≡ heads.old) }
     ensures refused { IfErr result (IsStepFault (S.seen store.old).faults (S.seen store.new).faults
-        (IsKnown S.tells (S.seen store.old) pages.old → (format : QuotaFormat)
-        → IsNoTreeMisplacing format (shown_over (S.seen store.old) pages.old) heads.old block)) }
+        (OfShown S.tells (S.seen store.old) pages.old (λ file. (format : QuotaFormat)
+        → IsNoTreeMisplacing format file heads.old block))) }
 {
     let mut now = *heads;
     leave_list(pages, store, &mut now, block)?;
@@ -117,15 +115,13 @@ pub fn remove_entry<S: Store>(
 ) -> Result<(), ChangeFault>
     requires tree { IsTreeFormat format }
     requires room { length (pages_of pages.old) + 4 ≤ 12 }
-    ensures removed { OnOk result (IsKnown S.tells (S.seen store.old) pages.old
-        → RemovesEntry format id block
-        (shown_over (S.seen store.old) pages.old) (shown_over (S.seen store.new) pages.new) heads.old heads.new) }
+    ensures removed { OnOk result (OfChange S.tells (S.seen store.old) (S.seen store.new) pages.old pages.new
+        (λ before after. RemovesEntry format id block before after heads.old heads.new)) }
     ensures blocks { OnOk result (heads.new.blocks ≡ heads.old.blocks) }
     ensures uses { Uses S.tells (is_ok result) 4 (S.seen store.old) (S.seen store.new) pages.old pages.new }
     ensures stays { OnErr result (heads.new ≡ heads.old) }
     ensures refused { IfErr result (IsStepFault (S.seen store.old).faults (S.seen store.new).faults
-        (IsKnown S.tells (S.seen store.old) pages.old
-        → AwaitsInNoTree format (shown_over (S.seen store.old) pages.old) heads.old id block)) }
+        (OfShown S.tells (S.seen store.old) pages.old (λ file. AwaitsInNoTree format file heads.old id block))) }
 {
     match clear_record(pages, store, format, block, id)? {
         Cleared::Last => give_up(pages, store, heads, block),

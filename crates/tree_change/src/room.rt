@@ -3,11 +3,11 @@
 ghost use Rattle.std.specs.Prelude.{◌≡◌, ◌+◌, ◌<◌, ◌≤◌, ℕ, List, length, IfErr, OnOk, is_ok};
 ghost use Rattle.quota_types.specs.declared.file_kind.Format.{Format};
 ghost use Rattle.quota_pages.specs.Pages.{pages_of};
-ghost use Rattle.quota_pages.specs.Used.{IsKnown, LooksAtSome, shown_over};
+ghost use Rattle.quota_pages.specs.Used.{LooksAtSome};
 ghost use Rattle.free_chains.specs.Chain.{IsChain};
 ghost use Rattle.tree_change.specs.ChangeFault.{IsChangeFault};
 ghost use Rattle.tree_change.specs.Room.{LeavesRoom, NeedsBlocks};
-ghost use Rattle.tree_change.specs.Shows.{IsNoTree};
+ghost use Rattle.tree_change.specs.Shows.{IsNoTree, OfShown};
 
 use crate::change_fault::ChangeFault;
 use free_chains::{Heads, count_free};
@@ -30,14 +30,12 @@ pub fn has_room<S: Store>(
 ) -> Result<(), ChangeFault>
     requires need { need ≤ 4 }
     requires room { length (pages_of pages.old) + need ≤ 12 }
-    ensures room { OnOk result (IsKnown S.tells (S.seen store.old) pages.old
-        → (free : List ℕ) → IsChain (shown_over (S.seen store.old) pages.old) heads.now.blocks heads.now.free free 0
-        → LeavesRoom heads.now limit need free) }
+    ensures room { OnOk result (OfShown S.tells (S.seen store.old) pages.old (λ file. (free : List ℕ)
+        → IsChain file heads.now.blocks heads.now.free free 0 → LeavesRoom heads.now limit need free)) }
     ensures refused { IfErr result (IsChangeFault (S.seen store.old).faults (S.seen store.new).faults
-        (IsKnown S.tells (S.seen store.old) pages.old
-        → (format : Format) → IsNoTree format (shown_over (S.seen store.old) pages.old) heads.now)
-        (λ blocks most. (most ≡ limit) × (limit < blocks) × (IsKnown S.tells (S.seen store.old) pages.old
-        → NeedsBlocks (shown_over (S.seen store.old) pages.old) heads.now need blocks))) }
+        (OfShown S.tells (S.seen store.old) pages.old (λ file. (format : Format) → IsNoTree format file heads.now))
+        (λ blocks most. (most ≡ limit) × (limit < blocks)
+        × OfShown S.tells (S.seen store.old) pages.old (λ file. NeedsBlocks file heads.now need blocks))) }
     ensures looked { LooksAtSome S.tells (is_ok result) need (S.seen store.old) (S.seen store.new) pages.old pages.new }
 {
     let free = count_free(pages, store, heads, need)?;

@@ -4,8 +4,9 @@ ghost use Rattle.std.specs.Prelude.{◌≡◌, ◌+◌, ◌≤◌, length, take,
 ghost use Rattle.arrayvec.specs.ArrayVec.{array_vec_len};
 ghost use Rattle.outside.specs.Count.{Rose};
 ghost use Rattle.quota_pages.specs.Pages.{pages_of};
-ghost use Rattle.quota_pages.specs.Used.{IsKnown, Uses, missing_among, shown_over};
+ghost use Rattle.quota_pages.specs.Used.{Uses, missing_among};
 ghost use Rattle.quota_radix.specs.Link.{AreBuffered};
+ghost use Rattle.tree_change.specs.Shows.{OfChange};
 ghost use Rattle.tree_change.specs.Unlinked.{GivesHeld, UnlinksLeaf};
 
 use free_chains::{Heads, give_block};
@@ -32,9 +33,8 @@ pub fn unlink_leaf<S: Store>(
     requires found { array_vec_len path.now.found ≡ 5 }
     requires room { length (pages_of pages.old)
         + missing_among (pages_of pages.old) (take 4 path.now.found.items) ≤ 12 }
-    ensures unlinked { OnOk result (IsKnown S.tells (S.seen store.old) pages.old
-        → UnlinksLeaf path.now.found.items id (shown_over (S.seen store.old) pages.old)
-        (shown_over (S.seen store.new) pages.new) heads.old heads.new) }
+    ensures unlinked { OnOk result (OfChange S.tells (S.seen store.old) (S.seen store.new) pages.old pages.new
+        (λ before after. UnlinksLeaf path.now.found.items id before after heads.old heads.new)) }
     ensures blocks { heads.new.blocks ≡ heads.old.blocks }
     ensures first { heads.new.first ≡ heads.old.first }
     ensures brought { OnOk result (AreBuffered (pages_of pages.new) (take 4 path.now.found.items)) }
@@ -59,9 +59,8 @@ pub(crate) fn give_all<S: Store>(
     given: &[u32],
 ) -> Result<(), StoreFault>
     requires buffered { AreBuffered (pages_of pages.old) given.now }
-    ensures given { OnOk result (IsKnown S.tells (S.seen store.old) pages.old
-        → GivesHeld given.now (shown_over (S.seen store.old) pages.old)
-        (shown_over (S.seen store.new) pages.new) heads.old heads.new) }
+    ensures given { OnOk result (OfChange S.tells (S.seen store.old) (S.seen store.new) pages.old pages.new
+        (λ before after. GivesHeld given.now before after heads.old heads.new)) }
     ensures blocks { heads.new.blocks ≡ heads.old.blocks }
     ensures first { heads.new.first ≡ heads.old.first }
     ensures uses { Uses S.tells (is_ok result) 0 (S.seen store.old) (S.seen store.new) pages.old pages.new }

@@ -8,10 +8,10 @@ ghost use Rattle.file_blocks.specs.Block.{block_of};
 ghost use Rattle.outside.specs.Count.{Rose};
 ghost use Rattle.quota_pages.specs.Page.{HasRoomFor, is_buffered};
 ghost use Rattle.quota_pages.specs.Pages.{pages_of};
-ghost use Rattle.quota_pages.specs.Used.{IsKnown, LendsSome, LooksAtSome, missing, shown_over};
 ghost use Rattle.tree_build.specs.Entries.{entry_bytes, has_unused};
 ghost use Rattle.tree_steps.specs.EntrySteps.{WritesEntry};
 ghost use Rattle.tree_change.specs.Put.{PutsCounted};
+ghost use Rattle.tree_change.specs.Shows.{LendsOne, LooksAtOne, OfChange};
 
 use entry_codec::entries_per_block;
 use file_blocks::set_le16;
@@ -58,16 +58,13 @@ pub fn write_record<S: Store>(
     requires place { place < entries_per_block format }
     requires kept { IsKept format id rec.now }
     requires room { HasRoomFor (pages_of pages.old) block }
-    ensures written { OnOk result (IsKnown S.tells (S.seen store.old) pages.old
-        → is_unused (entry_bytes format (block_of (shown_over (S.seen store.old) pages.old) block) place) ≡ true
-        → WritesEntry format block place (record { id = id; rec = rec.now })
-        (shown_over (S.seen store.old) pages.old) (shown_over (S.seen store.new) pages.new)) }
-    ensures room { IfOk result (λ room. IsKnown S.tells (S.seen store.old) pages.old
-        → room ≡ has_unused format (block_of (shown_over (S.seen store.new) pages.new) block)) }
-    ensures lends { OnOk result (LendsSome S.tells true (missing (pages_of pages.old) block) (block ∷ [])
-        (S.seen store.old) (S.seen store.new) pages.old pages.new) }
-    ensures kept { OnErr result (LooksAtSome S.tells false (missing (pages_of pages.old) block)
-        (S.seen store.old) (S.seen store.new) pages.old pages.new) }
+    ensures written { OnOk result (OfChange S.tells (S.seen store.old) (S.seen store.new) pages.old pages.new
+        (λ before after. is_unused (entry_bytes format (block_of before block) place) ≡ true
+        → WritesEntry format block place (record { id = id; rec = rec.now }) before after)) }
+    ensures room { IfOk result (λ room. OfChange S.tells (S.seen store.old) (S.seen store.new) pages.old pages.new
+        (λ before after. room ≡ has_unused format (block_of after block))) }
+    ensures lends { OnOk result (LendsOne S.tells block (S.seen store.old) (S.seen store.new) pages.old pages.new) }
+    ensures kept { OnErr result (LooksAtOne S.tells block (S.seen store.old) (S.seen store.new) pages.old pages.new) }
     ensures brought { OnOk result (is_buffered (pages_of pages.new) block ≡ true) }
     ensures cause { OnErr result (Rose (S.seen store.old).faults (S.seen store.new).faults) }
 {

@@ -1,5 +1,5 @@
 -- What putting a record into a file, and taking one out of it, makes of the file.
-use Rattle.std.proofs.Common.{◌≡◌, ℕ, ◌^◌, ◌<◌, ◌≤◌, false, List, refl, sym, ap, subst, ◌∙◌, arith}
+use Rattle.std.proofs.Common.{◌≡◌, ℕ, ◌^◌, ◌-◌, ◌<◌, ◌≤◌, false, List, length, refl, sym, ap, subst, ◌∙◌, arith}
 use Rattle.std.specs.Prelude.{is_none}
 use Rattle.std.specs.FinMap.{get}
 use Rattle.quota_types.specs.Times.{StandsIn}
@@ -13,8 +13,8 @@ use Rattle.quota_radix.specs.Tree.{data_blocks}
 use Rattle.tree_build.specs.IsTree.{heads_of}
 use Rattle.tree_build.specs.TreeFile.{TreeStandsFor}
 use Rattle.tree_file.specs.InPlace.{ChangesTree, MayChange}
-use Rattle.tree_change.specs.Freed.{FreesBlocks, freed_blocks}
-use Rattle.tree_change.specs.Putting.{PutsRecord}
+use Rattle.tree_change.specs.Freed.{FreesBlocks, free_blocks, freed_blocks}
+use Rattle.tree_change.specs.Putting.{PutsRecord, blocks_taken}
 use Rattle.tree_change.specs.Removal.{RemovesRecord}
 use Rattle.tree_file.proofs.InPlaceLemmas.{KeepsHead}
 use Rattle.tree_file.proofs.RoomLemmas.{wanted_put, wanted_removed}
@@ -28,9 +28,11 @@ put_changes limit id rec value old new heads small stands few puts =
       heads_are = puts.heads_are;
       few = few;
       changed = record {
+        header = puts.header;
         at_least = omega (arith, puts.at_least, blocks);
         sum = sym blocks ∙ puts.sum;
         growth = λ more. sym (ap (λ (h : Heads). h.free) puts.heads_are) ∙ puts.growth (omega (arith, more, blocks));
+        rest = subst (λ (h : Heads). length (free_blocks new h) ≡ length (free_blocks old (heads_of (header_of old))) - blocks_taken old (heads_of (header_of old)) id) puts.heads_are puts.rest;
         new_data = λ block stands none. puts.new_data block (subst (λ (n : ℕ). StandsIn (data_blocks new n) block) (sym blocks) stands) none;
       };
       room = wanted_put old value id rec small stands ∙ sym puts.sum;
@@ -46,6 +48,7 @@ remove_changes id value old new heads stands there removes =
       heads_are = removes.heads_are;
       few = omega (arith, removes.blocks);
       changed = record {
+        header = removes.header;
         blocks = sym blocks ∙ removes.blocks;
         freed = subst (λ (h : Heads). FreesBlocks (freed_blocks old new h.blocks id) old new (heads_of (header_of old)) h) removes.heads_are removes.freed;
       };

@@ -4,7 +4,8 @@ use Rattle.std.specs.Prelude.{IsSomeAnd}
 use Rattle.std.proofs.lemmas.Bool.{false≢true}
 use Rattle.file_blocks.specs.Block.{bytes_of}
 use Rattle.outside.specs.Count.{Rose}
-use Rattle.outside.specs.Frame.{IsSynced, ReplacesOne}
+use Rattle.outside.specs.Frame.{IsSynced}
+use Rattle.quota_blocks.specs.EditsOne.{EditsOne}
 use Rattle.outside.specs.Seen.{StoreSeen}
 use Rattle.outside.specs.World.{World}
 use Rattle.outside.proofs.WorldLemmas.{KeepsOthers-with_file, with_file-at}
@@ -157,7 +158,7 @@ wanted_grace tells grace old = record { busy = λ value holds. refl; room = λ n
 
 -- grace periods were set
 pub changes_graced : (tells : Bool) (grace : Grace) (one other : List ℕ) (opened : FileUse) (header : Header) (coming none : Coming) (limit : ℕ) (before now : StoreSeen) (told : Unit {0}) → other ≡ one
-    → (IsTrue tells → GracesFile grace one before.files now.files) → (IsTrue tells → IsSynced one before now) → ReplacesOne one before now
+    → (IsTrue tells → GracesFile grace one before.files now.files) → (IsTrue tells → IsSynced one before now) → EditsOne one before now
     → now.reads ≤ before.reads + 1 → now.writes ≤ before.writes + 1 → ((records : Records) → HoldsComing records none)
     → Changes (SetGrace grace) (tree_laws tells) (tree_at tells one opened header coming limit before) (tree_at tells other opened (record header { grace = grace }) none limit now) (Ok told)
 changes_graced tells grace one other opened header coming none limit before now told name done synced leaves reads writes nothing =
@@ -173,7 +174,7 @@ changes_graced tells grace one other opened header coming none limit before now 
 
 -- the store failed
 pub changes_not_graced : (tells : Bool) (grace : Grace) (one other : List ℕ) (opened after : FileUse) (header : Header) (coming : Coming) (limit : ℕ) (before now : StoreSeen) (fault : FileFault) → fault ≡ Store → other ≡ one
-    → (IsTrue tells → IsGraceLeft grace one before.files now.files) → Rose before.faults now.faults → ReplacesOne one before now
+    → (IsTrue tells → IsGraceLeft grace one before.files now.files) → Rose before.faults now.faults → EditsOne one before now
     → now.reads ≤ before.reads + 1 → now.writes ≤ before.writes + 1
     → ((name : List ℕ) → CountsRefusal false (seen_in opened name header.format limit) (seen_in after name header.format limit))
     → Changes (SetGrace grace) (tree_laws tells) (tree_at tells one opened header coming limit before) (tree_at tells other after header coming limit now) (Err fault)

@@ -4,7 +4,8 @@ use Rattle.std.specs.Prelude.{IsSome, IsSomeAnd, not}
 use Rattle.std.proofs.lemmas.Bool.{false≢true}
 use Rattle.quota_types.specs.declared.file_kind.Format.{Format}
 use Rattle.quota_types.specs.declared.record.Grace.{Grace}
-use Rattle.outside.specs.Frame.{IsSynced, ReplacesOne}
+use Rattle.outside.specs.Frame.{IsSynced}
+use Rattle.quota_blocks.specs.EditsOne.{EditsOne}
 use Rattle.outside.specs.Seen.{StoreSeen}
 use Rattle.outside.specs.World.{World}
 use Rattle.file_blocks.specs.Block.{bytes_of}
@@ -135,7 +136,7 @@ module _ (tells : Bool) (change : FileChange) (limit : ℕ) (name : List ℕ) (b
   pub changes_made : (heads : Heads) (now : StoreSeen) (other : List ℕ) (none : Coming) (told : Unit {0}) → other ≡ name → ((records : Records) → HoldsComing records none)
       → (IsTrue tells → WritesSo (MayChange limit change header heads) name before.files now.files)
       → ((value : QuotaValue) → held value → now.writes ≤ before.writes + tree_done_writes old.seen value change)
-      → (IsTrue tells → IsSynced name before now) → ReplacesOne name before now
+      → (IsTrue tells → IsSynced name before now) → EditsOne name before now
       → IsBounded change (tree_laws tells) old (tree_at tells other opened (with_heads header heads) none limit now)
       → Changes change (tree_laws tells) old (tree_at tells other opened (with_heads header heads) none limit now) (Ok told)
   changes_made heads now other none told same nothing done writes synced leaves bounded =
@@ -162,7 +163,7 @@ module _ (tells : Bool) (change : FileChange) (limit : ℕ) (name : List ℕ) (b
       → ((blocks most : ℕ) → full blocks most → (value : QuotaValue) → held value → has_nothing_to_do change value ≡ false)
       → EndsEarly tells (MayChange limit change header) name before now fault
       → ((n : List ℕ) → CountsRefusal (not (is_store_fault (file_fault fault))) (seen_in opened n header.format limit) (seen_in then n header.format limit))
-      → ReplacesOne name before now → IsBounded change (tree_laws tells) old (tree_at tells other then header coming limit now)
+      → EditsOne name before now → IsBounded change (tree_laws tells) old (tree_at tells other then header coming limit now)
       → Changes change (tree_laws tells) old (tree_at tells other then header coming limit now) (Err (file_fault fault))
   changes_ended now other then full Store same cause lacking busy (inl read) counted leaves bounded =
       changes-unwritten change (tree_laws tells) old (tree_at tells other then header coming limit now) cause tt

@@ -57,6 +57,7 @@ torn_flushed buffer old new partly =
     record {
       numbers = lent_numbers pages;
       few = few_numbers buffer;
+      near = keeps_flushed old name pages;
       others =
           subst (λ (file : List ℕ). KeepsBlocksBut (lent_numbers pages) (bytes_of (old name)) file) (sym (ap (λ (files : World). bytes_of (files name)) partly.files))
           (keeps_more (lent_numbers pages) (stands_in_part pages partly.count) (keeps_flushed old name (take partly.count pages)));

@@ -18,6 +18,7 @@ pub use Rattle.quota_blocks.specs.FileChange
 pub use Rattle.quota_blocks.specs.FileUse
 pub use Rattle.quota_blocks.specs.Frame
 pub use Rattle.quota_blocks.specs.Listed
+pub use Rattle.quota_blocks.specs.Passing
 pub use Rattle.quota_blocks.specs.QuotaFile
 pub use Rattle.quota_blocks.specs.QuotaValue
 pub use Rattle.quota_blocks.specs.Replace

@@ -1,6 +1,7 @@
 ghost use Rattle.std.specs.Prelude.{◌≡◌, ◌+◌, ◌∷◌, ◌^◌, ◌<◌, ◌≤◌, [], length, true, false, IsTrue, OnErr, OnOk};
 ghost use Rattle.outside.specs.Count.{Rose};
-ghost use Rattle.outside.specs.Frame.{IsSynced, ReplacesOne};
+ghost use Rattle.outside.specs.Frame.{IsSynced};
+ghost use Rattle.quota_blocks.specs.EditsOne.{EditsOne};
 ghost use Rattle.outside.specs.World.{KeepsOthers};
 ghost use Rattle.file_blocks.specs.Block.{file_of};
 ghost use Rattle.quota_blocks.specs.QuotaFile.{ChangesBlocks};
@@ -81,7 +82,7 @@ pub(crate) fn set_grace_in<S: Store>(
     ensures torn { OnErr result (IsTrue S.tells
         → IsGraceLeft grace (name_of pages.old) (S.seen store.old).files (S.seen store.new).files) }
     ensures cause { OnErr result (Rose (S.seen store.old).faults (S.seen store.new).faults) }
-    ensures leaves { ReplacesOne (name_of pages.old) (S.seen store.old) (S.seen store.new) }
+    ensures leaves { EditsOne (name_of pages.old) (S.seen store.old) (S.seen store.new) }
     ensures few { IsTrue S.tells → ChangesBlocks 12 (file_of (S.seen store.old).files (name_of pages.old))
         (file_of (S.seen store.new).files (name_of pages.old)) }
     ensures others { KeepsOthers (name_of pages.old) (S.seen store.old).files (S.seen store.new).files }

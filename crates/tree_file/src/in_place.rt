@@ -4,7 +4,8 @@ ghost use Rattle.std.specs.Prelude.{◌≡◌, ◌+◌, ◌<◌, ◌≤◌, [], 
 ghost use Rattle.std.specs.FinMap.{get};
 ghost use Rattle.entry_codec.specs.Header.{header_of};
 ghost use Rattle.file_blocks.specs.Block.{file_of};
-ghost use Rattle.outside.specs.Frame.{IsSynced, OnlyReads, ReplacesOne};
+ghost use Rattle.outside.specs.Frame.{IsSynced, OnlyReads};
+ghost use Rattle.quota_blocks.specs.EditsOne.{EditsOne};
 ghost use Rattle.outside.specs.World.{KeepsOthers};
 ghost use Rattle.quota_blocks.specs.FileChange.{Put, Remove};
 ghost use Rattle.quota_blocks.specs.QuotaFile.{ChangesBlocks};
@@ -64,7 +65,7 @@ pub(crate) fn put_in<S: Store>(
     ensures few { IsTrue S.tells → ChangesBlocks 12 (file_of (S.seen store.old).files (name_of pages.old))
         (file_of (S.seen store.new).files (name_of pages.old)) }
     ensures others { KeepsOthers (name_of pages.old) (S.seen store.old).files (S.seen store.new).files }
-    ensures leaves { ReplacesOne (name_of pages.old) (S.seen store.old) (S.seen store.new) }
+    ensures leaves { EditsOne (name_of pages.old) (S.seen store.old) (S.seen store.new) }
     ensures reads { (S.seen store.new).reads ≤ (S.seen store.old).reads + 12 }
     ensures writes { (S.seen store.new).writes ≤ (S.seen store.old).writes + 12 }
     ensures name { name_of pages.new ≡ name_of pages.old }
@@ -115,7 +116,7 @@ pub(crate) fn remove_in<S: Store>(
     ensures few { IsTrue S.tells → ChangesBlocks 12 (file_of (S.seen store.old).files (name_of pages.old))
         (file_of (S.seen store.new).files (name_of pages.old)) }
     ensures others { KeepsOthers (name_of pages.old) (S.seen store.old).files (S.seen store.new).files }
-    ensures leaves { ReplacesOne (name_of pages.old) (S.seen store.old) (S.seen store.new) }
+    ensures leaves { EditsOne (name_of pages.old) (S.seen store.old) (S.seen store.new) }
     ensures reads { (S.seen store.new).reads ≤ (S.seen store.old).reads + 12 }
     ensures writes { (S.seen store.new).writes ≤ (S.seen store.old).writes + 12 }
     ensures name { name_of pages.new ≡ name_of pages.old }

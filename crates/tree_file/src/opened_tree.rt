@@ -1,4 +1,4 @@
-ghost use Rattle.std.specs.Prelude.{◌≡◌, ◌^◌, ◌<◌, ◌≤◌, Bool, List, ℕ, Option, [], None, true};
+ghost use Rattle.std.specs.Prelude.{◌≡◌, ◌^◌, ◌<◌, ◌≤◌, Bool, List, ℕ, Option, [], None};
 ghost use Rattle.quota_types.specs.Format.{IsTreeFormat};
 ghost use Rattle.quota_types.specs.Range.{grace_unfit};
 ghost use Rattle.quota_blocks.specs.QuotaValue.{QuotaValue, Records};
@@ -89,6 +89,7 @@ fn file_fault(fault: ChangeFault) -> FileFault
 }
 
 impl<S: Store> QuotaFile<S> for TreeFile {
+    ghost use Rattle.std.proofs.Common.{le_refl};
     ghost use Rattle.quota_blocks.specs.FileUse.{seen_in};
     ghost use Rattle.tree_file.specs.Opened.{HoldsTree, IsNamedDefect, LacksRoom, MayRefuse};
     ghost use Rattle.tree_file.specs.Rests.{held_stands, rests_on_named};
@@ -108,8 +109,6 @@ impl<S: Store> QuotaFile<S> for TreeFile {
 
     ghost lacks_room = { λ seen file _ value blocks limit. LacksRoom seen file value blocks limit };
 
-    ghost in_place = { λ _ _. true };
-
     ghost makes = { λ seen change. TreeMakes seen.limit change };
 
     ghost may_leave = { λ _ _ old after left. TreeLeaves old after left };
@@ -117,6 +116,8 @@ impl<S: Store> QuotaFile<S> for TreeFile {
     ghost get_reads = { λ _. 5 };
 
     ghost next_reads = { λ _ _. 8 };
+
+    ghost passing_reads = { λ _ _ _ _. 8 };
 
     ghost change_reads = { tree_change_reads };
 
@@ -128,6 +129,8 @@ impl<S: Store> QuotaFile<S> for TreeFile {
         rests_on_named _ _ _ file.header file.coming file.limit value named held };
 
     ghost held_stands = { λ file store value held. held_stands _ _ file.header file.coming file.limit value held };
+
+    ghost passing_adds_up = { λ seen file from mid to first second. le_refl _ };
 
     fn format(&self) -> Format {
         self.header.format

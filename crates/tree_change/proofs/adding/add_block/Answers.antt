@@ -1,10 +1,13 @@
-use Rattle.std.proofs.Common.{ℕ, List, sym, subst, arith}
+use Rattle.std.proofs.Common.{◌≡◌, ℕ, List, [], ◌∷◌, sym, ap, subst, ◌∙◌, arith}
 use Rattle.std.proofs.lemmas.Result.{err_from_is_err_and}
 use Rattle.quota_pages.specs.Used.{shown_over}
 use Rattle.quota_pages.proofs.UsedLemmas.{shown_over-lends}
+use Rattle.quota_types.proofs.TimesLemmas.{times-append}
+use Rattle.free_chains.specs.Links.{led_to}
 use Rattle.free_chains.specs.declared.heads.Heads.{Heads}
 use Rattle.tree_change.specs.Enters.{EntersRecord}
 use Rattle.tree_change.proofs.AddedLemmas.{added, entering_refused}
+use Rattle.tree_change.proofs.WithinLemmas.{no_link_to_header, other_block}
 use Rattle.tree_change.proofs.adding.add_block.Goals as goal
 
 pub returns-in_err-enter_entry_list-clause-refused :
@@ -14,6 +17,21 @@ returns-in_err-enter_entry_list-clause-refused g c =
     let took = c.in_ok-block.ensures in
     rw (p.1, p.2) (entering_refused _ _ _ _ c.in_ok-block.block c.args.limit _ _ c.args.heads.now c.take_one.new.heads _
     (omega (arith, took.lends.leaves.later, c.in_ok-write_record.ensures.lends.leaves.later)) took.taken c.in_err-enter_entry_list.ensures.refused)
+
+pub returns-clause-takes : goal.returns-clause-takes
+returns-clause-takes g c =
+    let took = c.in_ok-block.ensures in
+    let block : ℕ = c.in_ok-block.block in
+    let entered = c.in_ok-enter_entry_list.ensures in
+    let same : c.enter_entry_list.new.heads.blocks ≡ c.take_one.new.heads.blocks = ap (λ (heads : Heads). heads.blocks) entered.head in
+    record {
+      at_least = omega (arith, took.takes.at_least, same);
+      within = λ few. omega (arith, took.takes.within few, same);
+      header = λ is some.
+          let other = other_block block (took.beside some) in
+          entered.lends.lent 0 (omega (arith, other, no_link_to_header c.take_one.new.heads.first, times-append (block ∷ []) (led_to c.take_one.new.heads.first) 0))
+          ∙ c.in_ok-write_record.ensures.lends.lent 0 other ∙ took.takes.header is some;
+    }
 
 pub returns-clause-added : goal.returns-clause-added
 returns-clause-added g c = λ known held records tree none.

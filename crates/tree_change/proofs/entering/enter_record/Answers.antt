@@ -1,16 +1,19 @@
-use Rattle.std.proofs.Common.{◌≡◌, true, ℕ, ◌==◌, if◌then◌else◌, List, sym, subst, ◌∙◌, arith}
+use Rattle.std.proofs.Common.{◌≡◌, true, ℕ, ◌==◌, if◌then◌else◌, List, [], ◌∷◌, ◌++◌, sym, subst, ◌∙◌, arith}
 use Rattle.std.proofs.lemmas.Result.{err_from_is_err_and}
 use Rattle.entry_codec.specs.Entry.{is_unused}
 use Rattle.file_blocks.specs.Block.{block_of}
 use Rattle.quota_types.specs.declared.record.Entry.{Entry}
 use Rattle.quota_pages.specs.Used.{IsKnown, shown_over}
 use Rattle.quota_pages.proofs.UsedLemmas.{shown_over-lends, shown_over-looks}
+use Rattle.quota_types.proofs.TimesLemmas.{times-append}
 use Rattle.free_chains.specs.EntryList.{LeavesList}
+use Rattle.free_chains.specs.Links.{led_to}
 use Rattle.free_chains.specs.declared.heads.Heads.{Heads}
 use Rattle.tree_build.specs.Entries.{entry_bytes}
 use Rattle.tree_steps.specs.EntrySteps.{WritesEntry}
 use Rattle.tree_change.specs.Enters.{EntersRecord}
 use Rattle.tree_change.proofs.EnteredLemmas.{entered_and_left, entered_with_room, leaving_refused, placing_refused}
+use Rattle.tree_change.proofs.WithinLemmas.{no_link_to_header, other_block}
 use Rattle.tree_change.proofs.entering.enter_record.Goals as goal
 
 pub returns-in_err-place-clause-refused : goal.returns-in_err-place-clause-refused
@@ -36,6 +39,25 @@ returns-then-branch-clause-entered g c = λ known held records tree none.
     subst (λ (file : List ℕ). WritesEntry c.args.format block place entry file one) same (c.in_ok-write_record.ensures.written known' unused) in
     entered_with_room held c.args.format old one c.args.heads.now records place c.args.id c.args.rec.now (omega (arith, c.ranges.id.fits)) none c.requires.some writes tree
     (sym (c.in_ok-write_record.ensures.room known') ∙ c.if-branch.true)
+
+pub returns-then-branch-clause-header : goal.returns-then-branch-clause-header
+returns-then-branch-clause-header g c =
+    c.in_ok-write_record.ensures.lends.lent 0 (other_block c.args.heads.now.first c.requires.some) ∙ c.in_ok-place.ensures.looked.lent 0
+
+pub returns-clause-header : goal.returns-clause-header
+returns-clause-header g c =
+    let out = c.in_ok-leave_entry_list.ensures.taken_out in
+    let block : ℕ = c.args.heads.now.first in
+    let other = other_block block c.requires.some in
+    out.lends.lent 0 (omega (
+      arith,
+      other,
+      no_link_to_header out.previous,
+      no_link_to_header out.next,
+      times-append (block ∷ []) (led_to out.previous ++ led_to out.next) 0,
+      times-append (led_to out.previous) (led_to out.next) 0,
+    ))
+    ∙ c.in_ok-write_record.ensures.lends.lent 0 other ∙ c.in_ok-place.ensures.looked.lent 0
 
 pub returns-in_err-leave_entry_list-clause-refused :
     goal.returns-in_err-leave_entry_list-clause-refused

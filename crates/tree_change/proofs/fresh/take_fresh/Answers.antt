@@ -1,7 +1,8 @@
 use Rattle.std.proofs.Common.{true, ◌≡◌, ℕ, ◌∷◌, [], ◌++◌, List, inl, inr, sym, ap, subst, ◌∙◌, arith}
+use Rattle.std.specs.Prelude.{⊤}
 use Rattle.std.proofs.lemmas.Result.{err_from_is_err_and}
-use Rattle.quota_types.specs.Times.{StandsIn}
-use Rattle.quota_types.proofs.TimesLemmas.{only_one, stands_either}
+use Rattle.quota_types.specs.Times.{StandsIn, times}
+use Rattle.quota_types.proofs.TimesLemmas.{only_one, stands_either, times-append}
 use Rattle.quota_pages.specs.Page.{is_buffered}
 use Rattle.quota_pages.specs.Pages.{pages_of}
 use Rattle.quota_pages.specs.Used.{shown_over}
@@ -9,6 +10,7 @@ use Rattle.quota_pages.proofs.UsedLemmas.{shown_over-lends}
 use Rattle.quota_pages.proofs.UsesLemmas.{uses_of_lends, uses_then}
 use Rattle.tree_change.specs.Fresh.{TakesFresh}
 use Rattle.tree_change.proofs.FreshLemmas.{takes_one_more, taking_refused}
+use Rattle.tree_change.proofs.WithinLemmas.{other_block, takes_then}
 use Rattle.tree_change.proofs.fresh.take_fresh.Goals as goal
 
 pub returns-in_err-block-clause-refused : goal.returns-in_err-block-clause-refused
@@ -27,8 +29,14 @@ loop-preserved g c =
     let items : c.push.new.self.items ≡ fresh ++ block ∷ [] = c.push.ensures.items in
     record {
       long = omega (arith, c.push.ensures.len, kept.long);
-      at_least = omega (arith, took.at_least, kept.at_least);
-      within = λ few. took.within (kept.within few);
+      takes = takes_then c.args.limit ⊤ ⊤ c.args.heads.now c.loop.now c.take_one.new.heads c.args.pages.now c.loop.pages c.take_one.new.pages (λ is. is) kept.takes took.takes;
+      beside = λ some. subst (λ (xs : List ℕ). times xs 0 ≡ 0) (sym items)
+          (omega (
+            arith,
+            kept.beside some,
+            other_block block (took.beside (λ none. some (omega (arith, none, kept.takes.at_least)))),
+            times-append fresh (block ∷ []) 0,
+          ));
       first = took.first ∙ kept.first;
       same = kept.same;
       brought = subst (λ (xs : List ℕ). (number : ℕ) → StandsIn xs number → is_buffered (pages_of c.take_one.new.pages) number ≡ true) (sym items)

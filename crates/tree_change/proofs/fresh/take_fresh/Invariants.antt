@@ -1,8 +1,11 @@
-use Rattle.std.proofs.Common.{◌≡◌, ◌≤◌, true, length}
+use Rattle.std.proofs.Common.{◌≡◌, ◌≢◌, true, length}
+use Rattle.std.specs.Prelude.{⊤}
+use Rattle.quota_types.specs.Times.{times}
 use Rattle.quota_pages.specs.Pages.{pages_of}
 use Rattle.quota_pages.specs.Used.{IsKnown, Uses, shown_over}
 use Rattle.quota_radix.specs.Link.{AreBuffered}
 use Rattle.tree_change.specs.Fresh.{TakesFresh}
+use Rattle.tree_change.specs.Putting.{TakesWithin}
 use Rattle.tree_change.proofs.fresh.take_fresh.Given as goal
 
 abbrev pub invariant-loop : goal.invariant-loop
@@ -10,8 +13,8 @@ invariant-loop g l =
     let S = g.S.Store in
     record {
       long : length l.fresh.items ≡ l.counter;
-      at_least : l.fn.heads.blocks ≤ l.now.blocks;
-      within : l.fn.heads.blocks ≤ l.fn.limit → l.now.blocks ≤ l.fn.limit;
+      takes : TakesWithin l.fn.limit ⊤ l.fn.heads l.now l.fn.pages l.pages;
+      beside : l.fn.heads.blocks ≢ 0 → times l.fresh.items 0 ≡ 0;
       first : l.now.first ≡ l.fn.heads.first;
       same : l.heads ≡ l.fn.heads;
       brought : AreBuffered (pages_of l.pages) l.fresh.items;

@@ -6,6 +6,7 @@ use Rattle.quota_pages.proofs.PageLemmas.{shown-covers}
 use Rattle.quota_pages.proofs.UsedLemmas.{shown_over-lends}
 use Rattle.tree_change.proofs.ChangeFaultLemmas.{of_chain}
 use Rattle.tree_change.proofs.FreshLemmas.{full_no_room, stops_no_tree, takes_one}
+use Rattle.tree_change.proofs.WithinLemmas.{block_taken, takes_head}
 use Rattle.tree_change.proofs.fresh.take_one.Goals as goal
 
 pub returns-then-heads-limit-clause-refused : goal.returns-then-heads-limit-clause-refused
@@ -24,6 +25,14 @@ pub returns-clause-taken : goal.returns-clause-taken
 returns-clause-taken g c = λ known.
     let took = c.in_ok-take_block.ensures in
     takes_one _ _ c.args.heads.now c.take_block.new.heads _ (shown_over-lends took.lends) (took.taken known) took.head (shown-covers _ (pages_of c.take_block.new.pages) _ took.marked)
+
+pub returns-clause-takes : goal.returns-clause-takes
+returns-clause-takes g c =
+    let took = c.in_ok-take_block.ensures in
+    takes_head c.args.limit c.args.heads.now c.take_block.new.heads _ _ _ took.head (λ none. grind (arith, none)) (took.lends.lent 0)
+
+pub returns-clause-beside : goal.returns-clause-beside
+returns-clause-beside g c = block_taken c.args.heads.now _ _ c.in_ok-take_block.ensures.head
 
 pub returns-clause-brought : goal.returns-clause-brought
 returns-clause-brought g c = buffered_if_lent (pages_of c.take_block.new.pages) c.in_ok-take_block.field-0 c.in_ok-take_block.ensures.marked

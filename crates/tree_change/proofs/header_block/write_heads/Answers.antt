@@ -17,4 +17,5 @@ returns c =
         free = written 1 (omega arith) i;
         first = written 2 (omega arith) i;
       };
+      others = others;
     }

@@ -1,5 +1,7 @@
-use Rattle.std.proofs.Common.{◌≡◌, ℕ, ◌+◌, ◌-◌, List, length, sym, subst, arith}
+use Rattle.std.proofs.Common.{◌≡◌, ℕ, ◌+◌, ◌-◌, List, [], ◌∷◌, length, get_or, sym, ap, subst, ◌∙◌, arith}
 use Rattle.std.proofs.lemmas.Result.{err_from_is_err_and}
+use Rattle.quota_types.specs.Times.{times}
+use Rattle.quota_types.proofs.TimesLemmas.{times-append}
 use Rattle.quota_pages.specs.Pages.{pages_of}
 use Rattle.quota_pages.specs.Used.{shown_over}
 use Rattle.quota_pages.proofs.UsedLemmas.{shown_over-lends}
@@ -8,6 +10,7 @@ use Rattle.quota_radix.specs.Link.{AreBuffered, changed_blocks}
 use Rattle.tree_change.specs.Fresh.{TakesFresh}
 use Rattle.tree_change.specs.Leads.{LeadsLeaf}
 use Rattle.tree_change.proofs.LeadingLemmas.{changed_buffered, led_by_fresh}
+use Rattle.tree_change.proofs.WithinLemmas.{other_block}
 use Rattle.tree_change.proofs.leading.lead_to.Goals as goal
 
 pub link-requires-clause-room : goal.link-requires-clause-room
@@ -29,6 +32,25 @@ returns-in_err-link-clause-uses g c =
     (uses_more (4 - length c.args.path.now.found.items)
     (omega (arith, none_missing (pages_of c.take_fresh.new.pages) (changed_blocks c.args.path.now.found.items c.as_slice.result.now) there, c.len-lacking.ensures.value))
     (uses_then took.uses (uses_of_looks c.in_err-link.ensures.kept)))
+
+pub returns-clause-takes : goal.returns-clause-takes
+returns-clause-takes g c =
+    let took = c.in_ok-fresh.ensures in
+    let found : List ℕ = c.args.path.now.found.items in
+    let fresh : List ℕ = c.as_slice.result.now in
+    let last : ℕ = get_or found (length found - 1) 0 in
+    record {
+      at_least = took.takes.at_least;
+      within = took.takes.within;
+      header = λ other some.
+          c.in_ok-link.ensures.lends.lent 0 (omega (
+            arith,
+            other_block last other,
+            took.beside some,
+            ap {B = ℕ} (λ (xs : List ℕ). times xs 0) c.as_slice.ensures.value,
+            times-append (last ∷ []) fresh 0,
+          )) ∙ took.takes.header tt some;
+    }
 
 pub returns-clause-led : goal.returns-clause-led
 returns-clause-led g c = λ known held format records way tree.

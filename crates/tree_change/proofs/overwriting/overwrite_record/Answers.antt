@@ -1,4 +1,4 @@
-use Rattle.std.proofs.Common.{◌≡◌, ℕ, List, sym, subst, arith}
+use Rattle.std.proofs.Common.{◌≡◌, ℕ, List, sym, subst, ◌∙◌, arith}
 use Rattle.std.specs.Prelude.{IsSome}
 use Rattle.std.proofs.lemmas.Result.{err_from_is_err_and}
 use Rattle.file_blocks.specs.Block.{block_of}
@@ -7,12 +7,17 @@ use Rattle.quota_pages.proofs.UsedLemmas.{shown_over-looks}
 use Rattle.tree_build.specs.Entries.{record_by}
 use Rattle.tree_steps.specs.EntrySteps.{RewritesEntry}
 use Rattle.tree_change.proofs.OverLemmas.{overwrites, overwriting_refused}
+use Rattle.tree_change.proofs.WithinLemmas.{other_block}
 use Rattle.tree_change.proofs.overwriting.overwrite_record.Goals as goal
 
 pub returns-in_err-place-clause-refused : goal.returns-in_err-place-clause-refused
 returns-in_err-place-clause-refused g c =
     let p = err_from_is_err_and c.from_residual.result c.from_residual.ensures.1 in
     rw (p.1, p.2) (overwriting_refused _ _ _ c.args.format _ c.args.block c.args.id _ (omega (arith, c.ranges.id.fits)) c.in_err-place.ensures.refused)
+
+pub returns-clause-header : goal.returns-clause-header
+returns-clause-header g c = λ other.
+    c.in_ok-rewrite_record.ensures.lends.lent 0 (other_block c.args.block other) ∙ c.in_ok-place.ensures.looked.lent 0
 
 pub returns-clause-overwritten : goal.returns-clause-overwritten
 returns-clause-overwritten g c = λ known held heads records led tree.

@@ -17,6 +17,7 @@ use Rattle.tree_change.specs.Putting.{EndsEarly, IsPutFault, IsPutInFault, PutsI
 use Rattle.tree_change.specs.Shows.{IsNoCompleteTree, IsWholeTree}
 use Rattle.tree_change.proofs.ChangeFaultLemmas.{full_then, of_full, walk_not_full}
 use Rattle.tree_change.proofs.PuttingLemmas.{long_way_found, no_record_of, over_refused, put_over_whole, put_refused, short_way_found, taken_absent, wanted_as, way_refused, whole_way_found}
+use Rattle.tree_change.proofs.WithinLemmas.{last_beside, led_beside, takes_none, takes_then}
 use Rattle.tree_change.proofs.putting.put_in.Goals as goal
 
 pub returns-in_err-path-clause-refused : goal.returns-in_err-path-clause-refused
@@ -159,6 +160,29 @@ returns-in-None-clause-full g c =
     (subst (λ (file : List ℕ). IsWholeTree (loose_of held None None) c.args.format file heads records) (sym same) tree)
     ∙ looked.lent_count) h)
     c.put_new.ensures.full
+
+-- neither lends the header's page
+pub returns-in-Some-clause-takes : goal.returns-in-Some-clause-takes
+returns-in-Some-clause-takes g c =
+    let S = g.S.Store in
+    let block : ℕ = c.in-Some.block in
+    let heads : Heads = c.args.heads.now in
+    let id : ℕ = c.args.id in
+    on_ok_weaker c.overwrite_record.result
+    (λ stays. takes_none c.args.limit _ heads heads c.args.pages.now c.overwrite_record.new.pages refl
+    (λ known. stays (led_beside (shown_over (S.seen c.args.store.now) c.args.pages.now) heads.blocks 4 id block
+    (sym (c.in_ok-path.ensures.leaf known) ∙ sym c.leaf.ensures ∙ c.in-Some.is)) ∙ c.in_ok-path.ensures.looked.lent 0))
+    c.overwrite_record.ensures.header
+
+pub returns-in-None-clause-takes : goal.returns-in-None-clause-takes
+returns-in-None-clause-takes g c =
+    let S = g.S.Store in
+    let heads : Heads = c.args.heads.now in
+    on_ok_weaker c.put_new.result
+    (λ takes. takes_then c.args.limit _ _ heads heads c.put_new.new.heads c.args.pages.now c.find_path.new.pages c.put_new.new.pages
+    (λ known. last_beside (shown_over (S.seen c.args.store.now) c.args.pages.now) heads.blocks c.args.id c.in_ok-path.path.found.items (c.in_ok-path.ensures.found known) c.in_ok-path.ensures.from_root.some)
+    (takes_none c.args.limit _ heads heads c.args.pages.now c.find_path.new.pages refl (λ known. c.in_ok-path.ensures.looked.lent 0)) takes)
+    c.put_new.ensures.takes
 
 pub returns-in_err-path-clause-full : goal.returns-in_err-path-clause-full
 returns-in_err-path-clause-full g c =

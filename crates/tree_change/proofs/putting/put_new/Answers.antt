@@ -1,4 +1,5 @@
-use Rattle.std.proofs.Common.{◌≡◌, ℕ, ◌+◌, ◌-◌, ◌≤◌, List, None, length, sym, subst, arith}
+use Rattle.std.proofs.Common.{◌≡◌, ℕ, ◌+◌, ◌-◌, ◌≤◌, List, None, length, refl, sym, subst, arith}
+use Rattle.std.specs.Prelude.{⊤}
 use Rattle.std.specs.FinMap.{get}
 use Rattle.std.proofs.lemmas.Result.{err_from_is_err_and}
 use Rattle.quota_blocks.specs.QuotaValue.{Records}
@@ -11,6 +12,7 @@ use Rattle.tree_change.specs.Putting.{EndsEarly, IsPutFault, data_wanted}
 use Rattle.tree_change.specs.Shows.{IsWholeTree}
 use Rattle.tree_change.proofs.ChangeFaultLemmas.{if_full, of_full}
 use Rattle.tree_change.proofs.PuttingLemmas.{CanGoOn, goes_on, goes_on_entered, no_record_of, no_room_refused, put_whole, step_refused, take_enters}
+use Rattle.tree_change.proofs.WithinLemmas.{takes_none, takes_then}
 use Rattle.tree_change.proofs.putting.put_new.Goals as goal
 
 pub returns-in_err-has_room-clause-refused : goal.returns-in_err-has_room-clause-refused
@@ -88,6 +90,13 @@ returns-clause-put g c = λ ends known held records tree.
     put_whole held c.args.format old new (shown_over (S.seen c.lead_to.new.store) c.lead_to.new.pages) c.args.path.now.found.items heads middle c.lead_to.new.heads records c.in_ok-block.block id c.args.rec.now
     (omega (arith, c.ranges.id.fits)) ends.way c.requires.few enters
     (λ way whole. c.in_ok-lead_to.ensures.led (entered.uses.known known') held c.args.format _ way whole)
+
+pub returns-clause-takes : goal.returns-clause-takes
+returns-clause-takes g c =
+    let entered = takes_then c.args.limit _ ⊤ c.args.heads.now c.args.heads.now c.enter_data.new.heads c.args.pages.now c.has_room.new.pages c.enter_data.new.pages (λ is. tt)
+    (takes_none c.args.limit _ c.args.heads.now c.args.heads.now c.args.pages.now c.has_room.new.pages refl (λ is. c.in_ok-has_room.ensures.looked.lent 0)) c.in_ok-block.ensures.takes in
+    takes_then c.args.limit _ _ c.args.heads.now c.enter_data.new.heads c.lead_to.new.heads c.args.pages.now c.enter_data.new.pages c.lead_to.new.pages (λ is. is)
+    entered c.in_ok-lead_to.ensures.takes
 
 -- what was decided first is that there is room for the record and its way
 pub returns-in_err-has_room-clause-full : goal.returns-in_err-has_room-clause-full

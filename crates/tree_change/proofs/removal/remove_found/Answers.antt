@@ -18,4 +18,4 @@ returns-clause-removed g c = λ is known are value stands.
     let took = c.in_ok-take_out.ensures in
     let wrote = c.in_ok-renew_heads.ensures in
     removes_record c.args.id c.args.path.now.found.items c.args.header.now c.heads_in-heads.result c.take_out.new.heads _ _ _ value (omega (arith, c.ranges.id.fits)) are start.blocks start.free start.first is stands
-    (took.taken known) took.blocks wrote.keeps (wrote.heads (took.uses.known known))
+    (took.taken known) took.blocks wrote.keeps (wrote.set (took.uses.known known))
