@@ -1,18 +1,19 @@
 -- What is said of a change of an opened file, from what was done for it.
-use Rattle.std.proofs.Common.{◌≡◌, ℕ, ◌+◌, ◌<◌, ◌≤◌, ◌⊎◌, Bool, true, false, IsTrue, List, Option, Some, None, Result, Ok, Err, OnOk, OnErr, IfErr, inl, inr, refl, sym, ap, subst, ◌∙◌, arith}
-use Rattle.std.specs.Prelude.{IsSomeAnd, not}
+use Rattle.std.proofs.Common.{◌≡◌, ℕ, ◌+◌, ◌<◌, ◌≤◌, ◌⊎◌, Bool, true, false, IsTrue, List, Option, Some, None, Result, Ok, Err, inl, inr, refl, sym, ap, subst, ◌∙◌, arith}
+use Rattle.std.specs.Prelude.{IsSomeAnd}
 use Rattle.std.proofs.lemmas.Bool.{false≢true}
 use Rattle.quota_blocks.specs.Changes.{Changes, FileAt, FileLaws, IsRefused, LacksRoom, LacksRoomFor, StandsForEdited}
 use Rattle.outside.specs.Count.{Rose}
 use Rattle.quota_blocks.specs.FileChange.{FileChange, IsLeft, changed_value, edit_by, has_nothing_to_do, may_lack_room}
-use Rattle.outside.specs.Frame.{IsSynced, OnlyReads, ReplacesOne}
+use Rattle.quota_blocks.specs.EditsOne.{EditsOne}
+use Rattle.outside.specs.Frame.{IsSynced, OnlyReads}
 use Rattle.quota_blocks.specs.QuotaFile.{CountsRefusal, IfFull, IsChangeFault, UnlessStoreFailed, is_store_fault}
 use Rattle.quota_blocks.specs.QuotaValue.{QuotaValue}
-use Rattle.quota_blocks.specs.Replace.{IsRewriteFault}
 use Rattle.outside.specs.World.{World}
 use Rattle.quota_blocks.specs.declared.quota_file.FileFault.{FileFault}
 use Rattle.quota_blocks.specs.declared.quota_file.FileFault.TheVariants.{Store, Damage, Full, Memory}
-use Rattle.outside.proofs.FrameLemmas.{is_synced-read, only_reads-less, replaces_one-read}
+use Rattle.outside.proofs.FrameLemmas.{is_synced-read}
+use Rattle.quota_blocks.proofs.EditsOneLemmas.{edits_one-read}
 
 -- a fact that always holds
 pub unless_store-always : (fault : FileFault) (P : Type 0) → P → UnlessStoreFailed fault P
@@ -54,7 +55,8 @@ changes-idle change laws old new told idle set read same bounded = record {
     refused = tt;
     idle = λ value holds is. read;
     full = λ needs value blocks limit holds lacks. read;
-    leaves = replaces_one-read old.seen.name old.store new.store read;
+    leaves = edits_one-read old.seen.name old.store new.store read;
+    writes = (change, bounded.writes);
   };
   ends = tt;
   torn = tt;
@@ -67,7 +69,7 @@ pub changes-done : (change : FileChange) (laws : FileLaws) (old new : FileAt) (t
     → ((value : QuotaValue) → old.holds value → new.holds (changed_value change value))
     → ((value : QuotaValue) → old.holds value → laws.makes old.seen change old.seen.name old.store.files new.store.files)
     → ((value : QuotaValue) → old.holds value → new.store.writes ≤ old.store.writes + laws.done_writes old.seen value change)
-    → (IsTrue laws.tells → IsSynced old.seen.name old.store new.store) → new.seen ≡ old.seen → ReplacesOne old.seen.name old.store new.store
+    → (IsTrue laws.tells → IsSynced old.seen.name old.store new.store) → new.seen ≡ old.seen → EditsOne old.seen.name old.store new.store
     → IsBounded change laws old new → Changes change laws old new (Ok told)
 changes-done change laws old new told wanted set makes writes synced same leaves bounded = record {
   edits = record {
@@ -83,6 +85,7 @@ changes-done change laws old new told wanted set makes writes synced same leaves
     idle = λ value holds is. absurd (false≢true (sym (wanted.busy value holds) ∙ is));
     full = λ needs value blocks limit holds lacks. absurd (wanted.room needs value blocks limit holds lacks);
     leaves = leaves;
+    writes = (change, bounded.writes);
   };
   ends = tt;
   torn = tt;
@@ -118,7 +121,8 @@ changes-refused change laws old new fault other cause may passes busy counted st
     };
     idle = λ value holds is. read;
     full = λ needs value blocks limit holds lacks. read;
-    leaves = replaces_one-read old.seen.name old.store new.store read;
+    leaves = edits_one-read old.seen.name old.store new.store read;
+    writes = (change, bounded.writes);
   };
   ends = λ is. absurd (false≢true (sym other ∙ is));
   torn = λ tells. inl (ap (λ (files : World). files old.seen.name) read.files);
@@ -135,14 +139,10 @@ pub record IsTorn (change : FileChange) (laws : FileLaws) (old : FileAt) (files 
   pub between : IsTrue laws.tells → (files old.seen.name ≡ old.store.files old.seen.name)
       ⊎ ((after : Option (List ℕ)) × laws.may_leave old.seen.format change (old.store.files old.seen.name) after (files old.seen.name))
 
--- the named file is as it was
-pub torn-none : (change : FileChange) (laws : FileLaws) (old : FileAt) (files : World) → files old.seen.name ≡ old.store.files old.seen.name → IsTorn change laws old files
-torn-none change laws old files same = record { left = λ value holds. inl same; between = λ tells. inl same }
-
 -- the store failed while the change was written
 pub changes-torn : (change : FileChange) (laws : FileLaws) (old new : FileAt) → IsWanted change laws old
     → Rose old.store.faults new.store.faults → laws.may_refuse old.seen.format Store
-    → CountsRefusal false old.seen new.seen → IsTorn change laws old new.store.files → ReplacesOne old.seen.name old.store new.store
+    → CountsRefusal false old.seen new.seen → IsTorn change laws old new.store.files → EditsOne old.seen.name old.store new.store
     → IsBounded change laws old new → Changes change laws old new (Err Store)
 changes-torn change laws old new wanted rose may counted torn leaves bounded = record {
   edits = record {
@@ -166,6 +166,7 @@ changes-torn change laws old new wanted rose may counted torn leaves bounded = r
     idle = λ value holds is. absurd (false≢true (sym (wanted.busy value holds) ∙ is));
     full = λ needs value blocks limit holds lacks. absurd (wanted.room needs value blocks limit holds lacks);
     leaves = leaves;
+    writes = (change, bounded.writes);
   };
   ends = λ is. counted.usable;
   torn = torn.between;
@@ -198,46 +199,14 @@ changes-unwritten change laws old new rose may counted read bounded =
         };
         idle = λ value holds is. read;
         full = λ needs value blocks limit holds lacks. read;
-        leaves = replaces_one-read old.seen.name old.store new.store read;
+        leaves = edits_one-read old.seen.name old.store new.store read;
+        writes = (change, bounded.writes);
       };
       ends = λ is. counted.usable;
       torn = λ tells. inl same;
       reads = bounded.reads;
       writes = bounded.writes;
     }
-
--- the store failed while the file was written anew, and the named file is as it was
-pub changes-failed : (change : FileChange) (laws : FileLaws) (old new : FileAt) → IsWanted change laws old
-    → Rose old.store.faults new.store.faults → laws.may_refuse old.seen.format Store
-    → CountsRefusal false old.seen new.seen
-    → new.store.files old.seen.name ≡ old.store.files old.seen.name → ReplacesOne old.seen.name old.store new.store
-    → IsBounded change laws old new → Changes change laws old new (Err Store)
-changes-failed change laws old new wanted rose may counted same leaves bounded =
-    changes-torn change laws old new wanted rose may counted (torn-none change laws old new.store.files same) leaves bounded
-
--- The file was to be written anew for a change that was wanted.
-pub changes-anew : (change : FileChange) (laws : FileLaws) (old new : FileAt) (result : Result (Unit {0}) FileFault) → IsWanted change laws old
-    → laws.may_refuse old.seen.format Store → laws.may_refuse old.seen.format Memory
-    → OnOk result ((value : QuotaValue) → old.holds value → new.holds (changed_value change value))
-    → OnOk result ((value : QuotaValue) → old.holds value → laws.makes old.seen change old.seen.name old.store.files new.store.files)
-    → OnOk result ((value : QuotaValue) → old.holds value → new.store.writes ≤ old.store.writes + laws.done_writes old.seen value change)
-    → OnOk result (IsTrue laws.tells → IsSynced old.seen.name old.store new.store)
-    → OnOk result (new.seen ≡ old.seen)
-    → IfErr result (IsRewriteFault old.store.faults new.store.faults)
-    → OnErr result (new.store.files old.seen.name ≡ old.store.files old.seen.name)
-    → OnErr result (new.store.files ≡ old.store.files → (value : QuotaValue) → old.holds value → new.holds value)
-    → IfErr result (λ fault. UnlessStoreFailed fault (OnlyReads true old.seen.name old.store new.store))
-    → IfErr result (λ fault. CountsRefusal (not (is_store_fault fault)) old.seen new.seen)
-    → ReplacesOne old.seen.name old.store new.store → IsBounded change laws old new
-    → Changes change laws old new result
-changes-anew change laws old new (Ok told) wanted may_store may_memory set makes writes synced same refused unchanged stays unwritten counted leaves bounded =
-    changes-done change laws old new told wanted set makes writes synced same leaves bounded
-changes-anew change laws old new (Err Store) wanted may_store may_memory set makes writes synced same refused unchanged stays unwritten counted leaves bounded =
-    changes-failed change laws old new wanted refused may_store counted unchanged leaves bounded
-changes-anew change laws old new (Err (Damage at)) wanted may_store may_memory set makes writes synced same refused unchanged stays unwritten counted leaves bounded = absurd refused
-changes-anew change laws old new (Err (Full blocks limit)) wanted may_store may_memory set makes writes synced same refused unchanged stays unwritten counted leaves bounded = absurd refused
-changes-anew change laws old new (Err Memory) wanted may_store may_memory set makes writes synced same refused unchanged stays unwritten counted leaves bounded =
-    changes-refused change laws old new Memory refl tt may_memory tt wanted.busy counted (stays unwritten.files) (only_reads-less old.seen.name old.store new.store unwritten) bounded
 
 -- What is said of the changes of one type of file is said of those of another one, for this change of this file: what it makes
 -- and leaves, and the faults that may come, are some of the other's, and of the values that it becomes the same lack room.
@@ -312,6 +281,7 @@ changes-wider change laws wider old new (Ok told) so changes = record {
     idle = changes.edits.idle;
     full = λ needs value blocks limit holds lacks. changes.edits.full needs value blocks limit holds (so.has value blocks limit holds lacks);
     leaves = changes.edits.leaves;
+    writes = (change, omega (arith, so.writes, changes.writes));
   };
   ends = tt;
   torn = tt;
@@ -325,6 +295,7 @@ changes-wider change laws wider old new (Err fault) so changes = record {
     idle = changes.edits.idle;
     full = λ needs value blocks limit holds lacks. changes.edits.full needs value blocks limit holds (so.has value blocks limit holds lacks);
     leaves = changes.edits.leaves;
+    writes = (change, omega (arith, so.writes, changes.writes));
   };
   ends = changes.ends;
   torn = λ told. elim (changes.torn (subst IsTrue so.tells told)) [

@@ -1,7 +1,9 @@
 pub mod ChangesLemmas
+pub mod EditsOneLemmas
 pub mod EntriesLemmas
 pub mod ListedLemmas
 pub mod LoadLemmas
 pub mod LookupLemmas
 pub mod LooksUpLemmas
+pub mod PassingLemmas
 pub mod ReplaceLemmas

@@ -13,7 +13,8 @@ use Rattle.outside.specs.Seen.{StoreSeen}
 use Rattle.outside.specs.World.{World}
 use Rattle.quota_blocks.specs.declared.quota_file.FileFault.{FileFault}
 use Rattle.quota_blocks.specs.declared.quota_file.FileFault.TheVariants.{Store, Damage, Full, Memory}
-use Rattle.outside.proofs.FrameLemmas.{is_synced-read, is_synced-then, only_reads-then, replaces_one-after_read}
+use Rattle.outside.proofs.FrameLemmas.{is_synced-read, is_synced-then, only_reads-then}
+use Rattle.quota_blocks.proofs.EditsOneLemmas.{edits_one-after_read}
 
 -- What calls that only looked something up left, as far as an edit goes on from there.
 pub record IsLookedUp (old new : FileAt) : Type 0 where
@@ -137,7 +138,8 @@ module _ (edit next : ValueEdit) (laws : FileLaws) (old new : FileAt) (held : Qu
             rw (same.edited value holds, same.change value holds)
             (IfOk-weaker (next.edited value) _ _ (λ edited only lacks. read (only_reads-then old.seen.name old.store _ new.store up.leaves (only lacks)))
             (edits.full (sym same.room ∙ needs) value blocks limit (up.stays value holds)));
-        leaves = replaces_one-after_read old.seen.name old.store _ new.store up.leaves edits.leaves;
+        leaves = edits_one-after_read old.seen.name old.store _ new.store up.leaves edits.leaves;
+        writes = (edits.writes.0, omega (arith, up.leaves.writes, edits.writes.1));
       }
 
 -- an edit after calls that only looked something up, which told that another edit is the one that is wanted of what the file holds

@@ -1,15 +1,15 @@
 -- A file that is written in pieces under another name, and then renamed.
-use Rattle.std.proofs.Common.{◌≡◌, ◌≢◌, ◌⊎◌, inl, inr, Bool, cond, ℕ, ◌+◌, ◌-◌, ◌%◌, ◌<◌, ◌≤◌, min, List, [], ◌++◌, length, take, drop, replicate, Option, None, Some, sym, ap, subst, ◌∙◌, arith, append-nil, length-append, length-take}
+use Rattle.std.proofs.Common.{◌≡◌, ◌≢◌, ◌⊎◌, inl, inr, ℕ, ◌+◌, ◌-◌, ◌%◌, ◌<◌, ◌≤◌, min, List, [], ◌++◌, length, take, drop, replicate, Option, None, Some, sym, ap, ◌∙◌, arith, append-nil, length-append, length-take}
 use Rattle.std.specs.Prelude.{codes}
-use Rattle.std.specs.Option.{IsSomeAnd, option_map_or, unwrap_or}
+use Rattle.std.specs.Option.{option_map_or, unwrap_or}
 use Rattle.std.proofs.Math.Seq.{take-add}
 use Rattle.std.proofs.lemmas.Bool.{cases_lt}
 use Rattle.outside.specs.Count.{counted}
 use Rattle.std.proofs.lemmas.List.{take_all, drop_all}
-use Rattle.quota_blocks.specs.Replace.{WritesAnew, pieces_of}
-use Rattle.outside.specs.Replacement.{replaced_files, replacement_name}
+use Rattle.quota_blocks.specs.Replace.{pieces_of}
+use Rattle.outside.specs.Replacement.{replacement_name}
 use Rattle.outside.specs.World.{World, overwritten, with_bytes, with_file, with_new_name}
-use Rattle.outside.proofs.WorldLemmas.{bytes_eq-ne, with_file-at, with_file-again}
+use Rattle.outside.proofs.WorldLemmas.{with_file-at, with_file-again}
 
 -- a piece written behind the pieces before it
 overwritten-piece : (bytes : List ℕ) (at end : ℕ) → at ≤ end → end ≤ length bytes → overwritten (take at bytes) at (take (end - at) (drop at bytes)) ≡ take end bytes
@@ -46,28 +46,6 @@ with_new_name-replaced files now from to bytes is =
     ap (λ (f : World). with_new_name f from to) is
     ∙ ap (λ (file : Option (List ℕ)). option_map_or (λ (b : List ℕ). with_file (with_file (with_file files from (Some bytes)) from None) to (Some b)) file (with_file files from (Some bytes))) (with_file-at files from (Some bytes))
     ∙ ap (λ (f : World). with_file f to (Some bytes)) (with_file-again files from (Some bytes) None)
-
--- once a file was replaced there is none under the name that the new one was written under
-pub replaced-cleared : (files : World) (name bytes : List ℕ) → with_file (with_file files (replacement_name name) None) name (Some bytes) (replacement_name name) ≡ None
-replaced-cleared files name bytes =
-    ap (λ (same : Bool). cond same (Some bytes) (with_file files (replacement_name name) None (replacement_name name)))
-    (bytes_eq-ne name (replacement_name name) (λ same. replacement_name-ne name (sym same)))
-    ∙ with_file-at files (replacement_name name) None
-
--- the named file, once it was replaced by these bytes
-pub replaced-named : (files new : World) (name bytes : List ℕ) → new ≡ replaced_files files name bytes → new name ≡ Some bytes
-replaced-named files new name bytes is =
-    ap (λ (f : World). f name) is ∙ with_file-at (with_file files (replacement_name name) None) name (Some bytes)
-
--- a file that was there was written anew
-pub writes_anew : (so : List ℕ → List ℕ → Type 0) (files new : World) (name before bytes : List ℕ) → files name ≡ Some before → new ≡ replaced_files files name bytes → so before bytes
-    → WritesAnew so name files new
-writes_anew so files new name before bytes was is changed = record {
-  named =
-      subst (λ (n : Option (List ℕ)). IsSomeAnd n (λ (b : List ℕ). IsSomeAnd (new name) (so b))) (sym was)
-      (subst (λ (n : Option (List ℕ)). IsSomeAnd n (so before)) (sym (replaced-named files new name bytes is)) changed);
-  cleared = ap (λ (f : World). f (replacement_name name)) is ∙ replaced-cleared files name bytes;
-}
 
 -- pieces of 1,024 bytes end at a multiple of that, or at the end
 pub piece-whole : (at end long : ℕ) → at < long → end ≡ min long (at + 1024) → (at % 1024 ≡ 0) ⊎ (at ≡ long) → (end % 1024 ≡ 0) ⊎ (end ≡ long)

@@ -3,7 +3,8 @@
 use Rattle.std.specs.Prelude.{◌≡◌, ◌⊎◌, ℕ, ◌+◌, ◌<◌, ◌≤◌, Bool, true, false, IsTrue, is_ok, IsOk, IsOkAnd, IfOk, IfErr, IfSome, OnErr, OnOk, List, Option, Some, Result}
 use Rattle.quota_types.specs.declared.file_kind.Format.{Format}
 use Rattle.quota_blocks.specs.FileChange.{FileChange, IsLeft, ValueEdit, edit_by}
-use Rattle.outside.specs.Frame.{IsSynced, OnlyReads, ReplacesOne}
+use Rattle.quota_blocks.specs.EditsOne.{EditsOne}
+use Rattle.outside.specs.Frame.{IsSynced, OnlyReads}
 use Rattle.quota_blocks.specs.QuotaFile.{CountsRefusal, FileSeen, IfFull, IsChangeFault, UnlessStoreFailed, is_store_fault}
 use Rattle.quota_blocks.specs.QuotaValue.{QuotaValue}
 use Rattle.outside.specs.Seen.{StoreSeen}
@@ -109,15 +110,17 @@ pub record IsRefused (edit : ValueEdit) (laws : FileLaws) (old new : FileAt) (fa
       × laws.may_leave old.seen.format change (old.store.files old.seen.name) after (new.store.files old.seen.name))
 
 -- An edit of the value of an opened file, whose result may have a fault of the file: where it is Ok it was done, and where it
--- has one it was refused so. However it ended, nothing was written where nothing was to be done or the file lacks room, and no
--- file but the named one, or the one that is written in its place, has changed.
+-- has one it was refused so. However it ended, and whatever the store tells, no file but the named one has changed, with no more
+-- calls of `write` than some change of this file may make; and nothing was written where nothing was to be done or the file lacks
+-- room.
 pub record EditsValue {T E : Type 0} (fault_of : E → Option FileFault) (edit : ValueEdit) (laws : FileLaws) (old new : FileAt) (result : Result T E) : Type 0 where
   pub done : OnOk result (IsDone edit laws old new)
   pub refused : IfErr result (λ fault. IfSome (fault_of fault) (IsRefused edit laws old new))
   pub idle : (value : QuotaValue) → old.holds value → IsTrue (edit.is_idle value) → OnlyReads (is_ok result) old.seen.name old.store new.store
   pub full : IsTrue edit.needs_room → (value : QuotaValue) (blocks limit : ℕ) → old.holds value
       → IfOk (edit.edited value) (λ edited. LacksRoom laws old (edit.change value) edited blocks limit → OnlyReads (is_ok result) old.seen.name old.store new.store)
-  pub leaves : ReplacesOne old.seen.name old.store new.store
+  pub leaves : EditsOne old.seen.name old.store new.store
+  pub writes : (change : FileChange) × (new.store.writes ≤ old.store.writes + laws.change_writes old.seen change)
 
 -- A change of an opened file: the edit of its value by that change. After a fault of the store the file is not used again. Over
 -- a store that tells, whatever the opened file holds, a refusal leaves the named file as it was, or as this change may leave it.

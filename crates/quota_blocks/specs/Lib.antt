@@ -1,10 +1,12 @@
 pub mod Changes
+pub mod EditsOne
 pub mod FileChange
 pub mod FileUse
 pub mod Listed
 pub mod Load
 pub mod LooksUp
 pub mod Opening
+pub mod Passing
 pub mod QuotaFile
 pub mod QuotaValue
 pub mod Replace

@@ -1,4 +1,4 @@
-ghost use Rattle.std.specs.Prelude.{◌≡◌, ◌^◌, ◌<◌, ℕ, Bool, List, Option, None, Some, IsTrue, IfErr, IfOk, IfSome, IsSomeAnd};
+ghost use Rattle.std.specs.Prelude.{◌≡◌, ◌+◌, ◌^◌, ◌<◌, ◌≤◌, ℕ, List, Option, None, Some, IsTrue, IfErr, IfOk, IfSome, IsSomeAnd};
 ghost use Rattle.std.specs.FinMap.{get};
 ghost use Rattle.quota_types.specs.declared.damage.Damage.{Damage};
 ghost use Rattle.quota_types.specs.declared.file_kind.Format.{Format};
@@ -8,12 +8,13 @@ ghost use Rattle.quota_types.specs.Rec.{IsNull};
 ghost use Rattle.quota_blocks.specs.Changes.{Changes, file_at, laws_of};
 ghost use Rattle.quota_blocks.specs.FileChange.{FileChange, Put, Remove, SetGrace};
 ghost use Rattle.quota_blocks.specs.LooksUp.{LooksUp};
+ghost use Rattle.quota_blocks.specs.Passing.{first_after, passed_up_to};
 ghost use Rattle.quota_blocks.specs.QuotaFile.{FileSeen, IfDamage, IfFull, StaysInPlace};
 ghost use Rattle.quota_blocks.specs.QuotaValue.{QuotaValue, IsAfter, IsNextAfter};
 ghost use Rattle.outside.specs.World.{World};
 ghost use Rattle.quota_blocks.specs.declared.quota_file.FileFault.{FileFault};
 
-use crate::{CheckFault, ReplaceFault, Store};
+use crate::{CheckFault, Store};
 use quota_types::{Damage, Entry, Format, Grace, Rec};
 
 /// Why a call on an opened quota file was refused.
@@ -32,20 +33,6 @@ pub enum FileFault {
     },
     /// There was not enough memory.
     Memory,
-}
-
-impl From<ReplaceFault> for FileFault {
-    ghost use Rattle.quota_blocks.specs.Replace.{file_fault};
-
-    ghost from_gives = { λ fault gives. gives ≡ file_fault fault };
-
-    fn from(fault: ReplaceFault) -> Self {
-        match fault {
-            ReplaceFault::Store => FileFault::Store,
-            ReplaceFault::Full { blocks, limit } => FileFault::Full { blocks, limit },
-            ReplaceFault::Memory => FileFault::Memory,
-        }
-    }
 }
 
 /// Why a quota file could not be opened.
@@ -97,12 +84,11 @@ impl From<CheckFault> for OpenFault {
 
 /// An opened quota file, whatever its format. Each call is given the store that the file was opened from.
 ///
-/// What a change needs of memory is taken from the allocator that the opened file keeps. A change for which there is no
+/// A change is made where the bytes lie, in place: it takes no memory, and writes no other file. One for which there is no
 /// room writes nothing, whatever else fails, and one that is refused for anything but a fault of the store has changed
 /// nothing. After one in which the store failed the opened file is not used again, and the named file is as it was, or as
-/// `may_leave` says, between the old file and one that stands for the changed value. That rests on how the type writes: one
-/// that writes the whole file anew and then renames it leaves the old one, and one that writes in place may have written some
-/// blocks. After a look-up in which the store failed the opened file may be used again.
+/// `may_leave` says, between the old file and one that stands for the changed value, since some blocks may have been written.
+/// After a look-up in which the store failed the opened file may be used again.
 ///
 /// No refusal is lost: `seen` has a count of them, which each refused call raises and no other call changes.
 pub trait QuotaFile<S: Store> {
@@ -127,9 +113,6 @@ pub trait QuotaFile<S: Store> {
     /// so many.
     ghost lacks_room: { FileSeen → Option (List ℕ) → FileChange → QuotaValue → ℕ → ℕ → Type 0 };
 
-    /// A change of a file of this format is made in place: no other file is written, and no memory is taken.
-    ghost in_place: { Format → FileChange → Bool };
-
     /// What a change of a file that is seen so, and has this name, makes of the files, as far as its format says more than which
     /// value the file stands for.
     ghost makes: { FileSeen → FileChange → List ℕ → World → World → Type 0 };
@@ -142,6 +125,10 @@ pub trait QuotaFile<S: Store> {
 
     /// How many calls of `read` one call of `next_after` makes at most, on a file of these bytes.
     ghost next_reads: { FileSeen → Option (List ℕ) → ℕ };
+
+    /// How many calls of `read` one call of `next_after` makes at most where the opened file holds a value, in a file of these bytes,
+    /// by the identifiers that it passes: from one up to another one.
+    ghost passing_reads: { FileSeen → Option (List ℕ) → ℕ → ℕ → ℕ };
 
     /// How many calls of `read` a change makes at most.
     ghost change_reads: { FileSeen → FileChange → ℕ };
@@ -202,36 +189,36 @@ pub trait QuotaFile<S: Store> {
             change_reads change_writes done_writes)
             (file_at (holds self.old store.old) (seen self.old) (S.seen store.old))
             (file_at (holds self.new store.new) (seen self.new) (S.seen store.new)) (next_reads (seen self.old)
-            ((S.seen store.old).files (seen self.old).name)) result };
+            ((S.seen store.old).files (seen self.old).name)) result }
+        ensures passing { (value : QuotaValue) → holds self.old store.old value → (S.seen store.new).reads
+            ≤ (S.seen store.old).reads + passing_reads (seen self.old) ((S.seen store.old).files (seen self.old).name)
+            (first_after after) (passed_up_to result) };
 
     /// Gives an identifier this record, in place of the one that it may have. All other records stay. The record limits
     /// or counts something, and the format keeps it as it is. What was written is synced then.
     ///
     /// # Errors
     ///
-    /// The store failed, the file is damaged or full, or there is not enough memory.
+    /// The store failed, or the file is damaged or full.
     fn put(&mut self, store: &mut S, id: u32, rec: Rec) -> Result<(), FileFault>
         requires usable { IsTrue (seen self.old).usable }
         requires not_null { ¬ (IsNull rec) }
         requires kept { IsKept (seen self.old).format id rec }
-        ensures in_place { IsTrue (in_place (seen self.old).format (Put id rec))
-            → StaysInPlace S.tells (seen self.old).name (S.seen store.old).files (S.seen store.new).files result }
+        ensures in_place { StaysInPlace S.tells (seen self.old).name (S.seen store.old).files (S.seen store.new).files result }
         ensures changes { Changes (Put id rec) (laws_of S.tells stands_for makes may_leave lacks_room may_refuse
             change_reads change_writes done_writes)
             (file_at (holds self.old store.old) (seen self.old) (S.seen store.old))
             (file_at (holds self.new store.new) (seen self.new) (S.seen store.new)) result };
 
     /// Takes an identifier's record away. All other records stay. Where it has none nothing is written, and nothing but a
-    /// fault of the store refuses it. What was written is synced then. `Full` never comes, and `Memory` never where the
-    /// change is made in place.
+    /// fault of the store refuses it. What was written is synced then. `Full` never comes.
     ///
     /// # Errors
     ///
-    /// The store failed, the file is damaged, or there is not enough memory.
+    /// The store failed, or the file is damaged.
     fn remove(&mut self, store: &mut S, id: u32) -> Result<(), FileFault>
         requires { IsTrue (seen self.old).usable }
-        ensures in_place { IsTrue (in_place (seen self.old).format (Remove id))
-            → StaysInPlace S.tells (seen self.old).name (S.seen store.old).files (S.seen store.new).files result }
+        ensures in_place { StaysInPlace S.tells (seen self.old).name (S.seen store.old).files (S.seen store.new).files result }
         ensures never_full { IfErr result (λ fault. IfFull fault (λ _ _. ⊥)) }
         ensures changes { Changes (Remove id) (laws_of S.tells stands_for makes may_leave lacks_room may_refuse
             change_reads change_writes done_writes)
@@ -239,16 +226,15 @@ pub trait QuotaFile<S: Store> {
             (file_at (holds self.new store.new) (seen self.new) (S.seen store.new)) result };
 
     /// Sets both grace periods, for which the format has room. All records stay. What was written is synced then.
-    /// `Full` never comes, and `Memory` never where the change is made in place.
+    /// `Full` never comes.
     ///
     /// # Errors
     ///
-    /// The store failed, the file is damaged, or there is not enough memory.
+    /// The store failed, or the file is damaged.
     fn set_grace(&mut self, store: &mut S, grace: Grace) -> Result<(), FileFault>
         requires usable { IsTrue (seen self.old).usable }
         requires fits { grace_unfit (seen self.old).format grace ≡ None }
-        ensures in_place { IsTrue (in_place (seen self.old).format (SetGrace grace))
-            → StaysInPlace S.tells (seen self.old).name (S.seen store.old).files (S.seen store.new).files result }
+        ensures in_place { StaysInPlace S.tells (seen self.old).name (S.seen store.old).files (S.seen store.new).files result }
         ensures changes { Changes (SetGrace grace) (laws_of S.tells stands_for makes may_leave lacks_room may_refuse
             change_reads change_writes done_writes)
             (file_at (holds self.old store.old) (seen self.old) (S.seen store.old))
@@ -262,4 +248,8 @@ pub trait QuotaFile<S: Store> {
     /// The named file stands for what an opened file with its store holds.
     ghost held_stands: { (file : Self) (store : S) (value : QuotaValue) → holds file store value
         → IsSomeAnd ((S.seen store).files (seen file).name) (λ bytes. stands_for (seen file).format bytes value) };
+
+    /// Two calls of `next_after` in a row read little more than one that passes as much: what one that passes nothing may read.
+    ghost passing_adds_up: { (seen : FileSeen) (file : Option (List ℕ)) (from mid to : ℕ) → from ≤ mid → mid ≤ to
+        → passing_reads seen file from mid + passing_reads seen file mid to ≤ passing_reads seen file from to + passing_reads seen file 0 0 };
 }

@@ -17,13 +17,13 @@ use Rattle.tree_build.specs.Size.{ids_in}
 use Rattle.tree_build.specs.TreeFile.{TreeStandsFor}
 use Rattle.quota_pages.specs.Pages.{name_of}
 use Rattle.tree_file.specs.Room.{blocks_wanted}
-use Rattle.tree_file.specs.TreeChange.{TreeLeaves, tree_at, tree_change_reads, tree_change_writes, tree_done_writes, tree_laws}
+use Rattle.tree_file.specs.TreeChange.{TreeLeaves, most_blocks, tree_at, tree_change_reads, tree_change_writes, tree_done_writes, tree_laws}
 use Rattle.tree_file.specs.declared.opened_tree.TreeFile.{TreeFile}
 use Rattle.quota_v1.specs.Opened.{flat_at, flat_laws, most_next_reads}
 use Rattle.quota_v1.specs.declared.flat_file.V1File.{V1File}
 use Rattle.quota_map.specs.declared.any_file.AnyFile.{AnyFile}
 use Rattle.quota_map.specs.declared.any_file.AnyFile.TheVariants.{V1, Tree}
-use Rattle.quota_map.specs.AnyFile.{AnyLeaves, any_at, any_change_reads, any_change_writes, any_done_writes, any_get_reads, any_in_place, any_laws, any_next_reads, any_seen, done_writes_of, reads_of_change, reads_of_next, writes_of_change}
+use Rattle.quota_map.specs.AnyFile.{AnyLeaves, any_at, any_change_reads, any_change_writes, any_done_writes, any_get_reads, any_laws, any_next_reads, any_seen, done_writes_of, reads_of_change, reads_of_get, reads_of_next, writes_of_change}
 use Rattle.quota_map.specs.Rests.{stands_as_tree}
 use Rattle.quota_map.specs.StandsFor.{StandsForAs}
 use Rattle.std.specs.String.{string_bytes}
@@ -69,6 +69,36 @@ tree_reads seen change other = tree_reads_in seen.format seen change other
 tree_writes : (seen : FileSeen) (change : FileChange) → IsTreeFormat seen.format → tree_change_writes seen change ≤ any_change_writes seen change
 unfolding any_change_writes
 tree_writes seen change other = tree_writes_in seen.format seen change other
+
+tree_few : (change : FileChange) → most_blocks change ≤ 12
+tree_few (Put id rec) = omega arith
+tree_few (Remove id) = omega arith
+tree_few (SetGrace grace) = omega arith
+
+few_in : (format : Format) (seen : FileSeen) (change : FileChange) → writes_of_change format seen change ≤ 12
+few_in Flat seen change = omega arith
+few_in V2R0 seen change = tree_few change
+few_in V2R1 seen change = tree_few change
+
+reads_few_in : (format : Format) (seen : FileSeen) (change : FileChange) → reads_of_change format seen change ≤ 12
+reads_few_in Flat seen change = omega arith
+reads_few_in V2R0 seen change = tree_few change
+reads_few_in V2R1 seen change = tree_few change
+
+-- a change of any file makes twelve calls of `read` at most
+pub any_few_reads : (seen : FileSeen) (change : FileChange) → any_change_reads seen change ≤ 12
+unfolding any_change_reads
+any_few_reads seen change = reads_few_in seen.format seen change
+
+-- one call of `get` makes five at most
+pub any_few_gets : any_get_reads ≡ 5
+unfolding any_get_reads
+any_few_gets = refl
+
+-- a change of any file makes twelve calls of `write` at most
+pub any_few_writes : (seen : FileSeen) (change : FileChange) → any_change_writes seen change ≤ 12
+unfolding any_change_writes
+any_few_writes seen change = few_in seen.format seen change
 
 -- nor where it succeeds, whatever the format
 flat_done_writes : (seen : FileSeen) (value : QuotaValue) (change : FileChange) → seen.format ≡ Flat → 1 ≤ any_done_writes seen value change
@@ -141,10 +171,18 @@ tree_changes self file file' tells old new change result is other changes =
     })
     changes)
 
--- a look-up in a tree file makes no more calls of `read` than one in any file may make
-pub tree_get_few : 5 ≤ any_get_reads
+-- a look-up in a tree file makes no more calls of `read` than one in any file of its format may make
+pub tree_get_few : (format : Format) → IsTreeFormat format → 5 ≤ reads_of_get format
+tree_get_few Flat other = absurd (true≢false other)
+tree_get_few V2R0 other = omega arith
+tree_get_few V2R1 other = omega arith
+
+-- whatever the format, there are no more than in any file
+pub get_few : (format : Format) → reads_of_get format ≤ any_get_reads
 unfolding any_get_reads
-tree_get_few = omega arith
+get_few Flat = omega arith
+get_few V2R0 = omega arith
+get_few V2R1 = omega arith
 
 next_few_in : (format : Format) → IsTreeFormat format → 8 ≤ reads_of_next format
 next_few_in Flat other = absurd (true≢false other)
@@ -156,9 +194,8 @@ unfolding any_next_reads
 tree_next_few seen file other = next_few_in seen.format other
 
 -- nor does one in a flat file
-pub flat_get_few : 1 ≤ any_get_reads
-unfolding any_get_reads
-flat_get_few = omega arith
+pub flat_get_few : (format : Format) → format ≡ Flat → 1 ≤ reads_of_get format
+flat_get_few format is = subst (λ (f : Format). 1 ≤ reads_of_get f) (sym is) (omega arith)
 
 pub flat_next_few : (seen : FileSeen) (file : Option (List ℕ)) → seen.format ≡ Flat → most_next_reads ≤ any_next_reads seen file
 unfolding any_next_reads
@@ -198,13 +235,13 @@ tree_looks {T} self file file' tells old new few most result is other within loo
     })
 
 -- a change of a flat file is made in place
-pub flat_in_place : (self : AnyFile) (file : V1File) (change : FileChange) (tells : Bool) (old new : World) (result : Result (Unit {0}) FileFault) → self ≡ V1 file
-    → StaysInPlace tells (string_bytes file.name) old new result → IsTrue (any_in_place (any_seen self).format change) → StaysInPlace tells (any_seen self).name old new result
-flat_in_place self file change tells old new result is stays =
-    subst (λ (f : AnyFile). IsTrue (any_in_place (any_seen f).format change) → StaysInPlace tells (any_seen f).name old new result) (sym is) (λ here. stays)
+pub flat_in_place : (self : AnyFile) (file : V1File) (tells : Bool) (old new : World) (result : Result (Unit {0}) FileFault) → self ≡ V1 file
+    → StaysInPlace tells (string_bytes file.name) old new result → StaysInPlace tells (any_seen self).name old new result
+flat_in_place self file tells old new result is stays =
+    subst (λ (f : AnyFile). StaysInPlace tells (any_seen f).name old new result) (sym is) stays
 
 -- one of a tree file is
-pub tree_in_place : (self : AnyFile) (file : TreeFile) (change : FileChange) (tells : Bool) (old new : World) (result : Result (Unit {0}) FileFault) → self ≡ Tree file
-    → StaysInPlace tells (name_of file.pages) old new result → IsTrue (any_in_place (any_seen self).format change) → StaysInPlace tells (any_seen self).name old new result
-tree_in_place self file change tells old new result is stays =
-    subst (λ (f : AnyFile). IsTrue (any_in_place (any_seen f).format change) → StaysInPlace tells (any_seen f).name old new result) (sym is) (λ here. stays)
+pub tree_in_place : (self : AnyFile) (file : TreeFile) (tells : Bool) (old new : World) (result : Result (Unit {0}) FileFault) → self ≡ Tree file
+    → StaysInPlace tells (name_of file.pages) old new result → StaysInPlace tells (any_seen self).name old new result
+tree_in_place self file tells old new result is stays =
+    subst (λ (f : AnyFile). StaysInPlace tells (any_seen f).name old new result) (sym is) stays

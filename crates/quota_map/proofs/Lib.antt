@@ -4,3 +4,4 @@ pub mod ViewLemmas
 pub mod SeenLemmas
 pub mod ReplacedLemmas
 pub mod LeftLemmas
+pub mod PassingLemmas

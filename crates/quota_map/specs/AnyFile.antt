@@ -1,6 +1,7 @@
 -- An opened quota file of any format: what it holds with its store, what is seen of it, and what is said of all its calls.
 use Rattle.std.specs.Prelude.{◌≡◌, Bool, true, List, Option, ℕ}
 use Rattle.std.specs.String.{string_bytes}
+use Rattle.quota_blocks.specs.Block.{bytes_of}
 use Rattle.quota_types.specs.Format.{IsTreeFormat, is_flat}
 use Rattle.quota_types.specs.declared.damage.Damage.{Damage}
 use Rattle.quota_types.specs.declared.file_kind.Format.{Format}
@@ -18,6 +19,7 @@ use Rattle.tree_file.specs.Opened.{HoldsTree, IsNamedDefect, LacksRoom, MayRefus
 use Rattle.tree_file.specs.TreeChange.{TreeLeaves, TreeMakes, tree_change_reads, tree_change_writes, tree_done_writes}
 use Rattle.quota_v1.specs.Change.{FlatLeaves, FlatMakes, MayRefuse as MayRefuseFlat}
 use Rattle.quota_v1.specs.Opened.{HoldsFlat, IsNamedDefect as IsCutOff, flat_seen, most_next_reads}
+use Rattle.quota_v1.specs.Window.{passing_reads}
 use Rattle.quota_map.specs.StandsFor.{StandsForAs}
 use Rattle.quota_map.specs.declared.any_file.AnyFile.{AnyFile}
 use Rattle.quota_map.specs.declared.any_file.AnyFile.TheVariants.{V1, Tree}
@@ -46,12 +48,6 @@ pub record MayRefuse (format : Format) (fault : FileFault) : Type 0 where
 abbrev pub IsAnyDamage : (tells : Bool) → World → AnyFile → Damage → Type 0
 IsAnyDamage tells files (V1 file) damage = IsCutOff tells (files (string_bytes file.name)) damage
 IsAnyDamage tells files (Tree file) damage = IsNamedDefect tells (files (name_of file.pages)) file.header damage
-
--- a change of a file of this format is made in place, as each is
-abbrev pub any_in_place : Format → FileChange → Bool
-any_in_place Flat change = true
-any_in_place V2R0 change = true
-any_in_place V2R1 change = true
 
 -- A change of a file that is seen so makes what one of a flat file makes, or what one of a tree file makes.
 pub record AnyMakes (seen : FileSeen) (change : FileChange) (name : List ℕ) (old new : World) : Type 0 where
@@ -97,6 +93,12 @@ done_writes_of V2R1 seen value change = tree_done_writes seen value change
 unfoldable pub any_done_writes : FileSeen → QuotaValue → FileChange → ℕ
 any_done_writes seen value change = done_writes_of seen.format seen value change
 
+-- how many calls of `read` one call of `get` makes at most, by the format
+abbrev pub reads_of_get : Format → ℕ
+reads_of_get Flat = 1
+reads_of_get V2R0 = 5
+reads_of_get V2R1 = 5
+
 -- How many calls of `read` one call of `get` makes at most, in a file of any format. What is said of calls that stand on it holds for
 -- any number in its place.
 unfoldable pub any_get_reads : ℕ
@@ -112,6 +114,17 @@ reads_of_next V2R1 = 8
 -- holds for any number in its place.
 unfoldable pub any_next_reads : FileSeen → Option (List ℕ) → ℕ
 any_next_reads seen file = reads_of_next seen.format
+
+-- how many calls of `read` one call of `next_after` makes at most in a file of these bytes, by the format and by the identifiers that it
+-- passes, from one up to another one: in a flat file by how many records stand there
+abbrev pub reads_of_passing : Format → Option (List ℕ) → (from to : ℕ) → ℕ
+reads_of_passing Flat file from to = passing_reads (bytes_of file) from to
+reads_of_passing V2R0 file from to = 8
+reads_of_passing V2R1 file from to = 8
+
+-- The same of a file that is seen so. What is said of calls that stand on it holds for all numbers in its place that add up.
+unfoldable pub any_passing_reads : FileSeen → Option (List ℕ) → (from to : ℕ) → ℕ
+any_passing_reads seen file from to = reads_of_passing seen.format file from to
 
 -- what is said of all calls on one
 abbrev pub any_laws : (tells : Bool) → FileLaws

@@ -1,4 +1,5 @@
 pub mod AnyFile
+pub mod Passing
 pub mod Reading
 pub mod Replacing
 pub mod Rests

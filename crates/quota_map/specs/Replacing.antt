@@ -13,11 +13,12 @@ use Rattle.quota_types.specs.declared.record.Grace.{Grace}
 use Rattle.tree_build.specs.Build.{HasNoPadding, HasOneRoom}
 use Rattle.tree_build.specs.Size.{blocks_needed}
 use Rattle.quota_v1.specs.Build.{IsZeroElsewhere, records_needed}
+use Rattle.quota_v1.specs.Place.{block_time_start, inode_time_start, record_start}
 use Rattle.quota_map.specs.StandsFor.{StandsFor}
 
 -- how many bytes a file of these identifiers is built of: a flat file of records of 40 bytes, a tree file of blocks of 1,024
 abbrev pub built_size : Format → List ℕ → ℕ
-built_size V1 ids = 40 * records_needed ids
+built_size V1 ids = record_start (records_needed ids)
 built_size V2R0 ids = 1024 * blocks_needed V2R0 ids
 built_size V2R1 ids = 1024 * blocks_needed V2R1 ids
 
@@ -29,8 +30,8 @@ flags_in V2R1 flags = flags
 
 -- The two times of record 0 of a flat file are the grace periods as they were given.
 pub record HasTimes (grace : Grace) (file : List ℕ) : Type 0 where
-  pub block : number_at 8 file 24 ≡ grace.block
-  pub inode : number_at 8 file 32 ≡ grace.inode
+  pub block : number_at 8 file (block_time_start 0) ≡ grace.block
+  pub inode : number_at 8 file (inode_time_start 0) ≡ grace.inode
 
 -- A file of these identifiers has nothing beside what it stands for. Of a flat file each byte of an identifier that is not
 -- one of these is 0, but for the grace periods. Of a tree file at most one data block has room, and each byte that no field

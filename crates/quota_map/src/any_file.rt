@@ -33,7 +33,8 @@ impl AnyFile {
 
 impl<S: Store> QuotaFile<S> for AnyFile {
     ghost use Rattle.tree_file.specs.Opened.{LacksRoom};
-    ghost use Rattle.quota_map.specs.AnyFile.{AnyLeaves, AnyMakes, HoldsAny, IsAnyDamage, MayRefuse, any_change_reads, any_change_writes, any_done_writes, any_get_reads, any_in_place, any_next_reads, any_seen};
+    ghost use Rattle.quota_map.specs.AnyFile.{AnyLeaves, AnyMakes, HoldsAny, IsAnyDamage, MayRefuse, any_change_reads, any_change_writes, any_done_writes, any_next_reads, any_passing_reads, any_seen, reads_of_get};
+    ghost use Rattle.quota_map.specs.Passing.{any_adds_up};
     ghost use Rattle.quota_map.specs.Rests.{held_stands, rests_on_named};
     ghost use Rattle.quota_map.specs.StandsFor.{StandsForAs};
 
@@ -49,15 +50,15 @@ impl<S: Store> QuotaFile<S> for AnyFile {
 
     ghost lacks_room = { λ seen file _ value blocks limit. LacksRoom seen file value blocks limit };
 
-    ghost in_place = { any_in_place };
-
     ghost makes = { AnyMakes };
 
     ghost may_leave = { λ format _. AnyLeaves format };
 
-    ghost get_reads = { λ _. any_get_reads };
+    ghost get_reads = { reads_of_get };
 
     ghost next_reads = { any_next_reads };
+
+    ghost passing_reads = { any_passing_reads };
 
     ghost change_reads = { any_change_reads };
 
@@ -69,6 +70,8 @@ impl<S: Store> QuotaFile<S> for AnyFile {
         rests_on_named S.tells (S.seen one).files (S.seen other).files file value named held };
 
     ghost held_stands = { λ file store value held. held_stands S.tells (S.seen store).files file value held };
+
+    ghost passing_adds_up = { any_adds_up };
 
     fn format(&self) -> Format {
         match self {

@@ -1,7 +1,10 @@
 //! Laws of quota files of all formats.
 
-ghost use Rattle.std.specs.Prelude.{◌≡◌, ℕ, List};
+ghost use Rattle.std.specs.Prelude.{◌≡◌, ◌≤◌, ℕ, List};
+ghost use Rattle.quota_types.specs.declared.file_kind.Format.{Format};
+ghost use Rattle.quota_types.specs.declared.file_kind.Format.TheVariants.{V1};
 ghost use Rattle.quota_blocks.specs.QuotaValue.{QuotaValue};
+ghost use Rattle.quota_map.specs.AnyFile.{reads_of_get};
 ghost use Rattle.quota_map.specs.StandsFor.{StandsFor};
 
 /// A file stands for one value of a kind and format at most.
@@ -12,3 +15,9 @@ pub fn a_file_has_one_meaning_of_a_kind_and_format()
     tree_file::laws::a_file_has_one_meaning();
     quota_v1::laws::a_file_has_one_meaning_of_a_kind();
 }
+
+/// A look-up makes one call of `read` at most in a flat file, and five in a file of any format.
+pub fn a_look_up_reads_five_times_at_most()
+    ensures flat { reads_of_get V1 ≡ 1 }
+    ensures all { (format : Format) → reads_of_get format ≤ 5 }
+{}

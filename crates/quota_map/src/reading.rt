@@ -5,7 +5,8 @@ ghost use Rattle.quota_types.specs.Kept.{IsKept};
 ghost use Rattle.quota_blocks.specs.Listed.{ids_of, records_of};
 ghost use Rattle.quota_blocks.specs.QuotaValue.{QuotaValue};
 ghost use Rattle.quota_blocks.specs.LooksUp.{LooksUp};
-ghost use Rattle.quota_map.specs.AnyFile.{HoldsAny, any_at, any_laws, any_next_reads, any_seen};
+ghost use Rattle.quota_blocks.specs.Passing.{reads_over};
+ghost use Rattle.quota_map.specs.AnyFile.{HoldsAny, any_at, any_laws, any_next_reads, any_passing_reads, any_seen};
 ghost use Rattle.quota_map.specs.Reading.{file_refusal};
 
 use crate::AnyFile;
@@ -38,7 +39,7 @@ pub fn read_all<S: Store>(
         + any_next_reads (any_seen file.old) ((S.seen store.old).files (any_seen file.old).name) * (length list.items + 1)) }
     ensures few { (value : QuotaValue) → HoldsAny S.tells (S.seen store.old).files file.old value
         → (S.seen store.new).reads ≤ (S.seen store.old).reads
-        + any_next_reads (any_seen file.old) ((S.seen store.old).files (any_seen file.old).name) * (length (entries value.records) + 1) }
+        + reads_over (any_passing_reads (any_seen file.old) ((S.seen store.old).files (any_seen file.old).name)) (length (entries value.records)) }
 {
     let mut list = Vec::new(alloc);
     let mut after = None;

@@ -24,6 +24,7 @@ use Rattle.quota_blocks.specs.Listed.{ids_of, records_of, value_of}
 use Rattle.quota_blocks.specs.Span.{KeepsOutside}
 use Rattle.quota_v1.specs.Build.{IsZeroElsewhere, greatest}
 use Rattle.quota_v1.specs.FlatFile.{FlatStandsFor, flat_record, timed_record, unless_zeros}
+use Rattle.quota_v1.specs.Place.{block_time_start, inode_time_start, record_start}
 use Rattle.quota_v1.proofs.RecordLemmas.{flat_record-read, flat_record-written, stored_grace, stored_time-kept, timed_record-same, unless_zeros-past}
 
 -- an entry, for the places past the end of a list
@@ -51,6 +52,7 @@ zeros_outside count file keeps =
 -- nothing but the grace periods
 pub built_none : (grace : Grace) (count : ℕ) (file : List ℕ) → count % 40 ≡ 0 → length file ≡ count → number_at 8 file 24 ≡ grace.block → number_at 8 file 32 ≡ grace.inode
     → KeepsOutside 24 40 (replicate count 0) file → IsBuiltOf grace [] count file
+unfolding record_start block_time_start inode_time_start
 built_none grace count file whole long block inode keeps =
     let zeros : KeepsOutside 24 40 [] file = zeros_outside count file keeps in
     record {
@@ -85,6 +87,7 @@ find_unlisted (entry ∷ entries) id none =
 pub built_more : (grace : Grace) (entries : List Entry) (count : ℕ) (entry : Entry) (old new : List ℕ) → IsBuiltOf grace entries count old → length new ≡ length old
     → timed_record new entry.id ≡ entry.rec → KeepsOutside (40 * entry.id) (40 * entry.id + 40) old new → (entry.id ≡ 0 → KeepsOutside 0 24 old new)
     → is_zeros entry.rec ≡ false → ¬ Contains (ids_of entries) entry.id → IsBuiltOf grace (entries ++ entry ∷ []) count new
+unfolding record_start block_time_start inode_time_start
 built_more grace entries count entry old new built same is keeps times some unlisted = record {
   whole = built.whole;
   long = same ∙ built.long;

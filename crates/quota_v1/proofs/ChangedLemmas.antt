@@ -2,10 +2,11 @@
 use Rattle.std.proofs.Common.{◌≡◌, ◌⊎◌, ℕ, zero, suc, ◌+◌, ◌*◌, ◌≤◌, Bool, true, false, IsTrue, List, length, Result, Ok, Err, OnErr, OnOk, inl, inr, refl, sym, ap, subst, ◌∙◌, arith}
 use Rattle.file_blocks.specs.Block.{bytes_of}
 use Rattle.outside.specs.Count.{Rose}
-use Rattle.outside.specs.Frame.{ChangesOne, IsSynced, OnlyReads, ReplacesOne}
+use Rattle.outside.specs.Frame.{ChangesOne, IsSynced, OnlyReads}
 use Rattle.outside.specs.Seen.{StoreSeen}
 use Rattle.outside.specs.World.{World, overwritten, with_bytes}
-use Rattle.outside.proofs.FrameLemmas.{is_synced-read, is_synced-then, replaces_one-after_read, replaces_one-read}
+use Rattle.outside.proofs.FrameLemmas.{is_synced-read, is_synced-then}
+use Rattle.quota_blocks.proofs.EditsOneLemmas.{edits_one-after_read, edits_one-changed, edits_one-read}
 use Rattle.quota_types.specs.Bytes.{byte_at, number_at}
 use Rattle.quota_types.specs.Kept.{IsKept, without_timers_of_zero}
 use Rattle.quota_types.specs.Rec.{kib_of}
@@ -16,6 +17,7 @@ use Rattle.quota_types.specs.declared.record.Rec.{Rec}
 use Rattle.quota_v1.specs.Change.{FlatGraced}
 use Rattle.quota_v1.specs.FlatFile.{stored_at}
 use Rattle.quota_v1.specs.Slot.{AreFrom, ChangesFile, MakesOne, PutsRecord}
+use Rattle.quota_v1.specs.Place.{block_time_start, inode_time_start, record_start}
 use Rattle.quota_v1.proofs.SlotLemmas.{inside_overwritten, keeps_overwritten, long_overwritten, made_overwritten, number_overwritten, stored_overwritten}
 
 -- the bytes of a record, with two times in the place of its timers
@@ -32,6 +34,7 @@ kept_again (suc n) rec times kept other =
 -- the bytes of a record that were written in its place
 pub puts_record : (old : List ℕ) (id : ℕ) (rec : Rec) (times stood : Grace) (at : ℕ) (bytes : List ℕ) → at ≡ 40 * id → length bytes ≡ 40 → stored_at bytes 0 ≡ with_times rec stood → IsKept V1 id rec
     → (id ≡ 0 → stood ≡ times) → (¬ (id ≡ 0) → (stood.block ≡ rec.btime) × (stood.inode ≡ rec.itime)) → PutsRecord id rec times old (overwritten old at bytes)
+unfolding record_start block_time_start inode_time_start
 puts_record old id rec times stood at bytes place long stored kept first other =
     let new : List ℕ = overwritten old at bytes in
     record {
@@ -52,6 +55,7 @@ puts_record old id rec times stood at bytes place long stored kept first other =
 -- the bytes of record 0 that were written over with other times
 pub puts_grace : (old : List ℕ) (grace : Grace) (shown bytes : List ℕ) → AreFrom old 0 shown → length shown ≡ 40 → length bytes ≡ 40 → KeepsOutside 24 40 shown bytes
     → number_at 8 bytes 24 ≡ grace.block → number_at 8 bytes 32 ≡ grace.inode → FlatGraced grace old (overwritten old 0 bytes)
+unfolding record_start block_time_start inode_time_start
 puts_grace old grace shown bytes from whole long keeps block inode =
     let new : List ℕ = overwritten old 0 bytes in
     let outside : KeepsOutside 0 40 old new = keeps_overwritten old 0 bytes 40 (omega (arith, long)) in
@@ -68,14 +72,6 @@ puts_grace old grace shown bytes from whole long keeps block inode =
       inode_time = number_overwritten 8 old 0 bytes 32 (omega (arith, long)) ∙ inode;
     }
 
--- a change of one name replaces no other file
-replaces_one-changed : (name : List ℕ) (old new : StoreSeen) → ChangesOne name old new → ReplacesOne name old new
-replaces_one-changed name old new leaves = record {
-  files = λ other differ differs. leaves.files other differ;
-  unsynced = λ other differ differs. leaves.unsynced other differ;
-  later = leaves.later;
-}
-
 -- bytes were written into a file and synced, after a call that only read
 pub changes_file : {E : Type 0} (tells : Bool) (so : (before after : List ℕ) → Type 0) (name : List ℕ) (at : ℕ) (bytes : List ℕ) (old mid new : StoreSeen) (result : Result (Unit {0}) E)
     → OnlyReads true name old mid → mid.reads ≤ old.reads + 1
@@ -89,7 +85,7 @@ changes_file tells so name at bytes old mid new (Ok told) read few written synce
   torn = tt;
   cause = tt;
   others = λ other differ. leaves.files other differ ∙ ap (λ (files : World). files other) read.files;
-  leaves = replaces_one-after_read name old mid new read (replaces_one-changed name mid new leaves);
+  leaves = edits_one-after_read name old mid new read (edits_one-changed name mid new leaves);
   reads = omega (arith, few, leaves.reads);
   writes = omega (arith, writes, read.writes);
 }
@@ -102,7 +98,7 @@ changes_file tells so name at bytes old mid new (Err fault) read few written syn
   ];
   cause = omega (arith, cause, read.later);
   others = λ other differ. leaves.files other differ ∙ ap (λ (files : World). files other) read.files;
-  leaves = replaces_one-after_read name old mid new read (replaces_one-changed name mid new leaves);
+  leaves = edits_one-after_read name old mid new read (edits_one-changed name mid new leaves);
   reads = omega (arith, few, leaves.reads);
   writes = omega (arith, writes, read.writes);
 }
@@ -116,7 +112,7 @@ changes_none tells so name old new fault read few cause = record {
   torn = λ tell. inl read.files;
   cause = cause;
   others = λ other differ. ap (λ (files : World). files other) read.files;
-  leaves = replaces_one-read name old new read;
+  leaves = edits_one-read name old new read;
   reads = few;
   writes = omega (arith, read.writes);
 }
@@ -130,7 +126,7 @@ changes_after_read tells so name old mid new (Ok told) read few same changes = r
   torn = tt;
   cause = tt;
   others = λ other differ. changes.others other differ ∙ ap (λ (files : World). files other) read.files;
-  leaves = replaces_one-after_read name old mid new read changes.leaves;
+  leaves = edits_one-after_read name old mid new read changes.leaves;
   reads = omega (arith, few, same);
   writes = omega (arith, changes.writes, read.writes);
 }
@@ -140,7 +136,7 @@ changes_after_read tells so name old mid new (Err fault) read few same changes =
   torn = λ tell. subst (λ (files : World). (new.files ≡ files) ⊎ MakesOne so name files new.files) read.files (changes.torn tell);
   cause = omega (arith, changes.cause, read.later);
   others = λ other differ. changes.others other differ ∙ ap (λ (files : World). files other) read.files;
-  leaves = replaces_one-after_read name old mid new read changes.leaves;
+  leaves = edits_one-after_read name old mid new read changes.leaves;
   reads = omega (arith, few, same);
   writes = omega (arith, changes.writes, read.writes);
 }

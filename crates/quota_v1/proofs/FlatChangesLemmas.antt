@@ -29,6 +29,7 @@ use Rattle.quota_v1.specs.Opened.{AgreesFlat, HoldsFlat, flat_at, flat_laws}
 use Rattle.quota_v1.specs.Slot.{ChangesFile, MakesOne, PutsRecord}
 use Rattle.quota_v1.specs.View.{flat_limit}
 use Rattle.quota_v1.specs.declared.window.Window.{Window}
+use Rattle.quota_v1.specs.Place.{block_time_start, inode_time_start, record_start}
 use Rattle.quota_v1.proofs.LooksLemmas.{forgotten}
 use Rattle.quota_v1.proofs.MakesLemmas.{flat_graced, flat_put, flat_removed}
 
@@ -97,6 +98,7 @@ module _ (change : FileChange) (tells : Bool) (so : (before after : List ℕ) �
 
   right_of : WritesRight → (value : QuotaValue) (held : HoldsFlat tells (old.files name) len times window value) (made : MakesOne so name old.files new.files)
       → IsRight change len' times' window' held.file made.after
+  unfolding record_start block_time_start inode_time_start
   right_of right value held made = right value held made.after (made_of so name old.files new.files held.file made held.there)
 
   makes_flat : WritesRight → (value : QuotaValue) → HoldsFlat tells (old.files name) len times window value → (made : MakesOne so name old.files new.files) → ((other : List ℕ) → ¬ (other ≡ name) → new.files other ≡ old.files other)
@@ -176,6 +178,7 @@ id_kept id rec kept = id_fits id rec kept.fits
 -- a record that is put is right
 pub put_right : (id : ℕ) (rec : Rec) (len len' : ℕ) (times : Grace) (window window' : Window) (before after : List ℕ) → IsKept V1 id rec → ¬ IsNull rec → len' ≡ max len (40 * id + 40) → window'.known ≡ false
     → length before ≤ flat_limit → length before % 40 ≡ 0 → AgreesFlat len times window before → PutsRecord id rec times before after → IsRight (Put id rec) len' times window' before after
+unfolding record_start block_time_start inode_time_start
 put_right id rec len len' times window window' before after kept some long forgets few whole agrees puts =
     let is = flat_put before after id rec times whole agrees.block_time agrees.inode_time puts some in
     let low : id ≤ 1048575 = id_kept id rec kept in
@@ -193,6 +196,7 @@ put_right id rec len len' times window window' before after kept some long forge
 -- a record of zeros that takes the place of one is right
 pub remove_right : (id : ℕ) (rec found : Rec) (len : ℕ) (times : Grace) (window window' : Window) (before after : List ℕ) → unless_zeros rec ≡ None → Some found ≡ flat_record before id → window'.known ≡ false
     → length before ≤ flat_limit → length before % 40 ≡ 0 → AgreesFlat len times window before → PutsRecord id rec times before after → IsRight (Remove id) len times window' before after
+unfolding record_start block_time_start inode_time_start
 remove_right id rec found len times window window' before after none there forgets few whole agrees puts =
     let is = flat_removed before after id rec times whole agrees.block_time agrees.inode_time puts found there none in
     record {
@@ -209,6 +213,7 @@ remove_right id rec found len times window window' before after none there forge
 -- and so are grace periods that are set
 pub grace_right : (grace : Grace) (len len' : ℕ) (times : Grace) (window window' : Window) (before after : List ℕ) → grace_unfit V1 grace ≡ None → len' ≡ max len 40 → window'.known ≡ false
     → length before ≤ flat_limit → length before % 40 ≡ 0 → AgreesFlat len times window before → FlatGraced grace before after → IsRight (SetGrace grace) len' grace window' before after
+unfolding record_start block_time_start inode_time_start
 grace_right grace len len' times window window' before after fits long forgets few whole agrees graced = record {
   change_of = flat_graced before after grace whole graced fits;
   few = omega (arith, graced.long, few);

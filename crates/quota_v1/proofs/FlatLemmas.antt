@@ -12,6 +12,7 @@ use Rattle.quota_types.specs.declared.record.Entry.{Entry}
 use Rattle.quota_blocks.specs.QuotaValue.{QuotaValue, Records, IsAfter, IsNextAfter}
 use Rattle.quota_v1.specs.FlatFile.{flat_record, flat_grace, FlatStandsFor, timed_record, unless_zeros}
 use Rattle.quota_v1.specs.Slot.{IsFirstRecord}
+use Rattle.quota_v1.specs.Place.{block_time_start, inode_time_start, record_start}
 
 -- a record put in where there is one
 with_record : Option Rec → ℕ → Records → Records
@@ -72,6 +73,7 @@ unfolding flat_value
 flat_value-kind kind file = refl
 
 pub flat_record-past : (file : List ℕ) (id : ℕ) → length file / 40 ≤ id → flat_record file id ≡ None
+unfolding record_start block_time_start inode_time_start
 flat_record-past file id h =
     let long : nat_le (40 * id + 40) (length file) ≡ false = lt-leb (40 * id + 40) (length file) (omega arith) in
     ap (λ (b : Bool). cond b (unless_zeros (timed_record file id)) None) long

@@ -6,6 +6,7 @@ pub mod BuildLemmas
 pub mod SlotLemmas
 pub mod ChangedLemmas
 pub mod WindowLemmas
+pub mod PassingLemmas
 pub mod FlatChangesLemmas
 pub mod LooksLemmas
 pub mod OpenLemmas

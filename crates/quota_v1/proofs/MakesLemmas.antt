@@ -13,21 +13,26 @@ use Rattle.quota_blocks.specs.QuotaValue.{QuotaValue}
 use Rattle.quota_v1.specs.Change.{FlatGraced, IsFlatChange}
 use Rattle.quota_v1.specs.FlatFile.{FlatStandsFor, flat_record, unless_zeros}
 use Rattle.quota_v1.specs.Slot.{PutsRecord}
+use Rattle.quota_v1.specs.Place.{block_time_start, inode_time_start, record_start}
 use Rattle.quota_v1.proofs.RecordLemmas.{flat_record-read, stands_graced, stands_put, stands_removed, time_stays, unless_zeros-some, within_of_found}
 
 module _ (old new : List ℕ) (id : ℕ) (rec : Rec) (times : Grace) (whole : length old % 40 ≡ 0) (block : number_at 8 old 24 ≡ times.block) (inode : number_at 8 old 32 ≡ times.inode)
     (puts : PutsRecord id rec times old new) where
   new_whole : length new % 40 ≡ 0
+  unfolding record_start block_time_start inode_time_start
   new_whole = omega (arith, whole, puts.long)
 
   block_stays : number_at 8 new 24 ≡ number_at 8 old 24
+  unfolding record_start block_time_start inode_time_start
   block_stays = time_stays old new id 24 times.block (omega arith) puts.others puts.block_time block
 
   inode_stays : number_at 8 new 32 ≡ number_at 8 old 32
+  unfolding record_start block_time_start inode_time_start
   inode_stays = time_stays old new id 32 times.inode (omega arith) puts.others puts.inode_time inode
 
   -- the bytes with a record that limits or counts something
   pub flat_put : ¬ IsNull rec → IsFlatChange (Put id rec) old new
+  unfolding record_start block_time_start inode_time_start
   flat_put some = record {
     changed = record {
       long = omega (arith, puts.long);
@@ -41,6 +46,7 @@ module _ (old new : List ℕ) (id : ℕ) (rec : Rec) (times : Grace) (whole : le
 
   -- the bytes with a record of zeros, within the file
   pub flat_removed : (found : Rec) → Some found ≡ flat_record old id → unless_zeros rec ≡ None → IsFlatChange (Remove id) old new
+  unfolding record_start block_time_start inode_time_start
   flat_removed found is none = record {
     changed = record {
       long = omega (arith, puts.long, within_of_found old id found is);
@@ -54,6 +60,7 @@ module _ (old new : List ℕ) (id : ℕ) (rec : Rec) (times : Grace) (whole : le
 
 -- the bytes with other grace periods
 pub flat_graced : (old new : List ℕ) (grace : Grace) → length old % 40 ≡ 0 → FlatGraced grace old new → grace_unfit V1 grace ≡ None → IsFlatChange (SetGrace grace) old new
+unfolding record_start block_time_start inode_time_start
 flat_graced old new grace whole graced fits = record {
   changed = graced;
   stands = λ value stands. stands_graced old new value grace stands (omega (arith, whole, graced.long)) graced.block_time graced.inode_time graced.others fits;

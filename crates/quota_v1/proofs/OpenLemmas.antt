@@ -10,6 +10,7 @@ use Rattle.quota_v1.specs.Opened.{HoldsFlat}
 use Rattle.quota_v1.specs.Slot.{AreFrom}
 use Rattle.quota_v1.specs.View.{IsFlatView, flat_limit}
 use Rattle.quota_v1.specs.declared.window.Window.{Window}
+use Rattle.quota_v1.specs.Place.{block_time_start, inode_time_start, record_start}
 use Rattle.quota_v1.proofs.LooksLemmas.{forgotten}
 use Rattle.quota_v1.proofs.SlotLemmas.{number_from}
 use Rattle.quota_v1.proofs.ViewLemmas.{value_seen}
@@ -23,6 +24,7 @@ value_of_length (Some file) kind len there few whole = value_seen (Some file) ki
 pub holds_opened : (tells : Bool) (named named' : Option (List ℕ)) (kind : Kind) (len : ℕ) (times : Grace) (window : Window) (value : QuotaValue) (first : List ℕ) → IsTrue tells → named' ≡ named
     → IsSomeAnd named (λ file. length file ≡ len) → AreFrom (bytes_of named) 0 first → length first ≡ 40 → number_at 8 first 24 ≡ times.block → number_at 8 first 32 ≡ times.inode → window.known ≡ false
     → IsFlatView named kind (Ok value) → HoldsFlat tells named' len times window value
+unfolding record_start block_time_start inode_time_start
 holds_opened tells None named' kind len times window value first told same there from long block inode none view = absurd view.0
 holds_opened tells (Some file) named' kind len times window value first told same there from long block inode none view = record {
   told = told;

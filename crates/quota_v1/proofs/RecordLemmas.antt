@@ -15,6 +15,7 @@ use Rattle.quota_types.proofs.BytesLemmas.{number_at-past}
 use Rattle.quota_blocks.specs.QuotaValue.{QuotaValue, with_record, without_record, with_grace}
 use Rattle.quota_blocks.specs.Span.{KeepsOutside}
 use Rattle.quota_v1.specs.FlatFile.{FlatStandsFor, flat_record, flat_grace, or_week, stored_record, timed_record, unless_zeros}
+use Rattle.quota_v1.specs.Place.{block_time_start, inode_time_start, record_start}
 use Rattle.quota_types.proofs.BytesLemmas.{number_same}
 use Rattle.quota_types.proofs.NumberLemmas.{number_before, number_behind}
 
@@ -30,6 +31,7 @@ pub written_record : (file : List ℕ) (id : ℕ) (rec : Rec) → (id == 0) ≡ 
     → number_at 4 file (40 * id) ≡ rec.bhard → number_at 4 file (40 * id + 4) ≡ rec.bsoft → number_at 4 file (40 * id + 8) ≡ kib_of rec.space
     → number_at 4 file (40 * id + 12) ≡ rec.ihard → number_at 4 file (40 * id + 16) ≡ rec.isoft → number_at 4 file (40 * id + 20) ≡ rec.inodes
     → number_at 8 file (40 * id + 24) ≡ rec.btime → number_at 8 file (40 * id + 32) ≡ rec.itime → timed_record file id ≡ rec
+unfolding record_start block_time_start inode_time_start
 written_record file id rec other kept e1 e2 e3 e4 e5 e6 e7 e8 =
     let whole : record rec { space = 1024 * kib_of rec.space } ≡ rec =
     sym (ap (λ (b : Bool). cond b (record rec { space = 1024 * kib_of rec.space; btime = 0; itime = 0 }) (record rec { space = 1024 * kib_of rec.space })) other) ∙ kept in
@@ -39,6 +41,7 @@ written_record file id rec other kept e1 e2 e3 e4 e5 e6 e7 e8 =
 -- the record of an identifier whose bytes stayed; the times of record 0 are no part of one
 pub timed_record-same : (old new : List ℕ) (q : ℕ) → ((k : ℕ) → 40 * q ≤ k → k < 40 * q + 24 → byte_at new k ≡ byte_at old k)
     → (0 < q → (k : ℕ) → 40 * q + 24 ≤ k → k < 40 * q + 40 → byte_at new k ≡ byte_at old k) → timed_record new q ≡ timed_record old q
+unfolding record_start block_time_start inode_time_start
 timed_record-same old new zero numbers times =
     let same : (width at : ℕ) → at + width ≤ 24 → number_at width new at ≡ number_at width old at = λ width at h. number_same width at new old (λ k a b. numbers k (omega arith) (omega arith)) in
     rw (same 4 0 (omega arith), same 4 4 (omega arith), same 4 8 (omega arith), same 4 12 (omega arith), same 4 16 (omega arith), same 4 20 (omega arith))
@@ -60,6 +63,7 @@ timed_record-same old new (suc n) numbers times =
 
 -- past the end there are zeros
 pub unless_zeros-past : (file : List ℕ) (q : ℕ) → length file ≤ 40 * q → unless_zeros (timed_record file q) ≡ None
+unfolding record_start block_time_start inode_time_start
 unless_zeros-past file zero h =
     let past : (width at : ℕ) → number_at width file at ≡ 0 = λ width at. number_at-past width at file (omega arith) in
     rw (past 4 0, past 4 4, past 4 8, past 4 12, past 4 16, past 4 20)
@@ -80,6 +84,7 @@ unless_zeros-past file (suc n) h =
 
 -- so the record is what is read, whether it is within the file or past its end
 pub flat_record-read : (file : List ℕ) (q : ℕ) → length file % 40 ≡ 0 → flat_record file q ≡ unless_zeros (timed_record file q)
+unfolding record_start block_time_start inode_time_start
 flat_record-read file q whole = elim (cases_lt (length file) (40 * q + 40)) [
   | inl short ↦ ap (λ (b : Bool). cond b (unless_zeros (timed_record file q)) None) (lt-leb (40 * q + 40) (length file) short)
       ∙ sym (unless_zeros-past file q (omega arith))
@@ -101,6 +106,7 @@ unless_zeros-some rec some = elim (cases_Bool (is_zeros rec)) [
 -- the records of all identifiers, where one was written
 pub flat_record-written : (old new : List ℕ) (id q : ℕ) (rec : Rec) → length old % 40 ≡ 0 → length new % 40 ≡ 0 → timed_record new id ≡ rec
     → KeepsOutside (40 * id) (40 * id + 40) old new → flat_record new q ≡ cond (q == id) (unless_zeros rec) (flat_record old q)
+unfolding record_start block_time_start inode_time_start
 flat_record-written old new id q rec whole whole' is keeps = flat_record-read new q whole' ∙ elim (eqb_tells q id) [
   | inl same ↦ ap (λ (k : ℕ). unless_zeros (timed_record new k)) same.1 ∙ ap unless_zeros is
       ∙ sym (ap (λ (b : Bool). cond b (unless_zeros rec) (flat_record old q)) same.0)
@@ -118,6 +124,7 @@ flat_record-written old new id q rec whole whole' is keeps = flat_record-read ne
 
 -- the grace periods stay, where the times of record 0 do
 flat_grace-kept : (old new : List ℕ) → number_at 8 new 24 ≡ number_at 8 old 24 → number_at 8 new 32 ≡ number_at 8 old 32 → flat_grace new ≡ flat_grace old
+unfolding record_start block_time_start inode_time_start
 flat_grace-kept old new block inode = rw (block, inode)
 
 pub stands_put : (old new : List ℕ) (value : QuotaValue) (id : ℕ) (rec : Rec) → FlatStandsFor old value → length new % 40 ≡ 0 → timed_record new id ≡ rec
@@ -174,6 +181,7 @@ same_grace grace block inode b i = rw (b, i)
 
 -- the grace periods of a file whose times of record 0 are those
 pub stored_grace : (file : List ℕ) (grace : Grace) → number_at 8 file 24 ≡ grace.block → number_at 8 file 32 ≡ grace.inode → grace_unfit V1 grace ≡ None → grace ≡ flat_grace file
+unfolding record_start block_time_start inode_time_start
 stored_grace file grace block inode fits =
     let some = grace_not_zero grace fits in
     same_grace grace (or_week (number_at 8 file 24)) (or_week (number_at 8 file 32)) (ap or_week block ∙ or_week-some grace.block some.0) (ap or_week inode ∙ or_week-some grace.inode some.1)
@@ -202,6 +210,7 @@ stored_time-kept old new (suc n) at low high keeps times = number_before 8 at (4
 
 -- a record that is there lies within the file
 pub within_of_found : (file : List ℕ) (id : ℕ) (rec : Rec) → Some rec ≡ flat_record file id → 40 * id + 40 ≤ length file
+unfolding record_start block_time_start inode_time_start
 within_of_found file id rec is = elim (cases_lt (length file) (40 * id + 40)) [
   | inl short ↦
       let none : flat_record file id ≡ None = ap (λ (b : Bool). cond b (unless_zeros (timed_record file id)) None) (lt-leb (40 * id + 40) (length file) short) in

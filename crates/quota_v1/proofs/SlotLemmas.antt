@@ -19,6 +19,7 @@ use Rattle.quota_v1.specs.FlatFile.{flat_record, stored_at, timed_at, timed_reco
 use Rattle.quota_v1.proofs.RecordLemmas.{flat_record-read}
 use Rattle.std.proofs.lemmas.Bool.Decides.{nat_tests}
 use Rattle.quota_v1.specs.Slot.{AreFrom, MakesOne}
+use Rattle.quota_v1.specs.Place.{block_time_start, inode_time_start, record_start}
 
 -- a buffer has so many bytes behind those that were read, and none behind these
 room_behind : (count room : ℕ) (buffer : List ℕ) → length buffer ≡ room → length (mid_of count (room - count) buffer) ≡ room - count
@@ -162,6 +163,7 @@ made_overwritten so old new name at bytes is some few made = record {
 
 -- the record of an identifier is what stands in its place among bytes of the file
 timed_from : (file : List ℕ) (start : ℕ) (bytes : List ℕ) (at id : ℕ) → AreFrom file start bytes → at + 40 ≤ length bytes → start + at ≡ 40 * id → timed_at bytes at id ≡ timed_record file id
+unfolding record_start block_time_start inode_time_start
 timed_from file start bytes at id from within place =
     ap (without_timers_of_zero id) (stored_from file start bytes at from within ∙ ap (stored_at file) place)
 
@@ -172,6 +174,7 @@ record_from file start bytes at id whole from within place = flat_record-read fi
 -- so it is where it was read alone, from a file that has all its bytes
 pub record_read : (named : Option (List ℕ)) (file : List ℕ) (start : ℕ) (bytes : List ℕ) (id : ℕ) (found : Option Rec) → named ≡ Some file → AreFrom (bytes_of named) start bytes → start ≡ 40 * id
     → length bytes ≡ 40 → 40 * id + 40 ≤ length file → found ≡ unless_zeros (timed_at bytes 0 id) → found ≡ flat_record file id
+unfolding record_start block_time_start inode_time_start
 record_read named file start bytes id found is from place long there value =
     let of_file : AreFrom file start bytes = subst (λ (n : Option (List ℕ)). AreFrom (bytes_of n) start bytes) is from in
     let inside : nat_le (40 * id + 40) (length file) ≡ true = grind (arith, nat_tests) in

@@ -1,8 +1,9 @@
 -- A whole new flat file, from a list of entries. Source: the table of vfsold, `struct v1_disk_dqblk` of the quota tools,
 -- as they write it on 64-bit x86.
-use Rattle.std.specs.Prelude.{◌≡◌, ℕ, ◌+◌, ◌*◌, ◌<◌, max, List, [], ◌∷◌}
+use Rattle.std.specs.Prelude.{◌≡◌, ℕ, ◌+◌, ◌<◌, max, List, [], ◌∷◌}
 use Rattle.std.specs.List.{Contains}
 use Rattle.quota_types.specs.Bytes.{byte_at}
+use Rattle.quota_v1.specs.Place.{block_time_at, record_size, record_start}
 
 -- the greatest of some numbers, or 0 of none
 abbrev pub greatest : List ℕ → ℕ
@@ -16,4 +17,4 @@ records_needed ids = greatest ids + 1
 -- Each byte of an identifier that is not one of these is 0, but for the times of record 0.
 abbrev pub IsZeroElsewhere : List ℕ → List ℕ → Type 0
 IsZeroElsewhere ids file =
-    (id : ℕ) → ¬ Contains ids id → (at : ℕ) → at < 40 → (id ≡ 0 → at < 24) → byte_at file (40 * id + at) ≡ 0
+    (id : ℕ) → ¬ Contains ids id → (at : ℕ) → at < record_size → (id ≡ 0 → at < block_time_at) → byte_at file (record_start id + at) ≡ 0

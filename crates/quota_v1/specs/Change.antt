@@ -1,5 +1,5 @@
 -- What a change of a flat file makes of it, and why a call on it may be refused.
-use Rattle.std.specs.Prelude.{◌≡◌, ◌⊎◌, ℕ, ◌+◌, ◌*◌, ◌≤◌, max, IsSomeAnd, List, length, Option, None, Some, ⊤}
+use Rattle.std.specs.Prelude.{◌≡◌, ◌⊎◌, ℕ, ◌+◌, ◌≤◌, max, IsSomeAnd, List, length, Option, None, Some, ⊤}
 use Rattle.quota_types.specs.declared.damage.DamageKind.TheVariants.{PartialRecord}
 use Rattle.quota_types.specs.declared.record.Grace.{Grace}
 use Rattle.quota_types.specs.declared.record.Rec.{Rec}
@@ -11,32 +11,33 @@ use Rattle.quota_blocks.specs.World.{KeepsOthers, World}
 use Rattle.quota_blocks.specs.declared.quota_file.FileFault.{FileFault}
 use Rattle.quota_blocks.specs.declared.quota_file.FileFault.TheVariants.{Store, Damage, Full, Memory}
 use Rattle.quota_v1.specs.FlatFile.{FlatStandsFor, flat_record}
+use Rattle.quota_v1.specs.Place.{block_time_start, inode_time_start, record_size, record_start}
 use Rattle.quota_v1.specs.View.{flat_limit}
 
 -- A record was put: the file is lengthened with zeros up to the end of the record, and all bytes outside of the record
 -- stay. The two times of record 0, which are the grace periods, stay too.
 pub record FlatPut (id : ℕ) (rec : Rec) (before after : List ℕ) : Type 0 where
-  pub long : length after ≡ max (length before) (40 * (id + 1))
-  pub others : KeepsOutside (40 * id) (40 * id + 40) before after
-  pub block_time : number_at 8 after 24 ≡ number_at 8 before 24
-  pub inode_time : number_at 8 after 32 ≡ number_at 8 before 32
+  pub long : length after ≡ max (length before) (record_start id + record_size)
+  pub others : KeepsOutside (record_start id) (record_start id + record_size) before after
+  pub block_time : number_at 8 after (block_time_start 0) ≡ number_at 8 before (block_time_start 0)
+  pub inode_time : number_at 8 after (inode_time_start 0) ≡ number_at 8 before (inode_time_start 0)
   pub written : flat_record after id ≡ Some rec
 
 -- a record was taken away: the file is as long as before, and all bytes outside of the record and the times of record 0
 -- stay
 pub record FlatRemoved (id : ℕ) (before after : List ℕ) : Type 0 where
   pub long : length after ≡ length before
-  pub others : KeepsOutside (40 * id) (40 * id + 40) before after
-  pub block_time : number_at 8 after 24 ≡ number_at 8 before 24
-  pub inode_time : number_at 8 after 32 ≡ number_at 8 before 32
+  pub others : KeepsOutside (record_start id) (record_start id + record_size) before after
+  pub block_time : number_at 8 after (block_time_start 0) ≡ number_at 8 before (block_time_start 0)
+  pub inode_time : number_at 8 after (inode_time_start 0) ≡ number_at 8 before (inode_time_start 0)
   pub removed : flat_record after id ≡ None
 
 -- the grace periods were set, which are the times of record 0: the file has a record 0 then, and all other bytes stay
 pub record FlatGraced (grace : Grace) (before after : List ℕ) : Type 0 where
-  pub long : length after ≡ max (length before) 40
-  pub others : KeepsOutside 24 40 before after
-  pub block_time : number_at 8 after 24 ≡ grace.block
-  pub inode_time : number_at 8 after 32 ≡ grace.inode
+  pub long : length after ≡ max (length before) (record_start 1)
+  pub others : KeepsOutside (block_time_start 0) (record_start 1) before after
+  pub block_time : number_at 8 after (block_time_start 0) ≡ grace.block
+  pub inode_time : number_at 8 after (inode_time_start 0) ≡ grace.inode
 
 -- what a change makes of the bytes of a flat file
 abbrev pub FlatChanged : FileChange → List ℕ → List ℕ → Type 0

@@ -9,6 +9,7 @@ use Rattle.quota_types.specs.Bytes.{number_at}
 use Rattle.quota_types.specs.Kept.{without_timers_of_zero}
 use Rattle.quota_types.specs.Rec.{is_zeros}
 use Rattle.quota_blocks.specs.QuotaValue.{QuotaValue}
+use Rattle.quota_v1.specs.Place.{block_time_at, block_time_start, inode_time_at, inode_time_start, record_size, record_start}
 
 -- the 40 bytes from a place on, as a record; the space is in KiB on disk
 abbrev pub stored_at : List ℕ → ℕ → Rec
@@ -19,8 +20,8 @@ stored_at bytes at = record {
   ihard = number_at 4 bytes (at + 12);
   isoft = number_at 4 bytes (at + 16);
   inodes = number_at 4 bytes (at + 20);
-  btime = number_at 8 bytes (at + 24);
-  itime = number_at 8 bytes (at + 32);
+  btime = number_at 8 bytes (at + block_time_at);
+  itime = number_at 8 bytes (at + inode_time_at);
 }
 
 -- the 40 bytes from a place on, as the record of an identifier: identifier 0 has no timers, since the times of record 0 are the
@@ -30,11 +31,11 @@ timed_at bytes at id = without_timers_of_zero id (stored_at bytes at)
 
 -- the 40 bytes of an identifier, as a record
 abbrev pub stored_record : List ℕ → ℕ → Rec
-stored_record file id = stored_at file (40 * id)
+stored_record file id = stored_at file (record_start id)
 
 -- the record of an identifier
 abbrev pub timed_record : List ℕ → ℕ → Rec
-timed_record file id = timed_at file (40 * id) id
+timed_record file id = timed_at file (record_start id) id
 
 -- none where all is zero
 abbrev pub unless_zeros : Rec → Option Rec
@@ -42,7 +43,7 @@ unless_zeros rec = if is_zeros rec then None else Some rec
 
 -- the record of an identifier, where the file has all its 40 bytes and the record is not all zero
 abbrev pub flat_record : List ℕ → ℕ → Option Rec
-flat_record file id = if nat_le (40 * id + 40) (length file) then unless_zeros (timed_record file id) else None
+flat_record file id = if nat_le (record_start id + record_size) (length file) then unless_zeros (timed_record file id) else None
 
 -- a grace period as it is stored, where 0 stands for 7 days
 abbrev pub or_week : ℕ → ℕ
@@ -50,12 +51,12 @@ or_week seconds = if seconds == 0 then 604800 else seconds
 
 -- the grace periods are the times of record 0; where there is none they are 0
 abbrev pub flat_grace : List ℕ → Grace
-flat_grace file = record { block = or_week (number_at 8 file 24); inode = or_week (number_at 8 file 32) }
+flat_grace file = record { block = or_week (number_at 8 file (block_time_start 0)); inode = or_week (number_at 8 file (inode_time_start 0)) }
 
 -- The file is whole records, and the value has the records and the grace periods of the file. It may be one of users
 -- or of groups.
 pub record FlatStandsFor (file : List ℕ) (value : QuotaValue) : Type 0 where
-  pub whole : length file % 40 ≡ 0
+  pub whole : length file % record_size ≡ 0
   pub format : value.format ≡ V1
   pub flags : value.flags ≡ 0
   pub grace : value.grace ≡ flat_grace file

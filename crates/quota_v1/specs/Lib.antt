@@ -2,6 +2,8 @@ pub mod Build
 pub mod Change
 pub mod FlatFile
 pub mod Opened
+pub mod Passing
+pub mod Place
 pub mod Rests
 pub mod Slot
 pub mod View

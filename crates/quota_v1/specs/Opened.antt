@@ -13,6 +13,7 @@ use Rattle.quota_blocks.specs.Seen.{StoreSeen}
 use Rattle.quota_blocks.specs.declared.file_use.FileUse.{FileUse}
 use Rattle.quota_v1.specs.Change.{FlatLeaves, FlatMakes, MayRefuse}
 use Rattle.quota_v1.specs.FlatFile.{FlatStandsFor}
+use Rattle.quota_v1.specs.Place.{block_time_start, inode_time_start}
 use Rattle.quota_v1.specs.View.{IsFlatDefect, flat_limit}
 use Rattle.quota_v1.specs.Window.{HoldsWindow}
 use Rattle.quota_v1.specs.declared.window.Window.{Window}
@@ -21,8 +22,8 @@ use Rattle.quota_v1.specs.declared.window.Window.{Window}
 -- that were read.
 pub record AgreesFlat (len : ℕ) (times : Grace) (window : Window) (file : List ℕ) : Type 0 where
   pub long : len ≡ length file
-  pub block_time : number_at 8 file 24 ≡ times.block
-  pub inode_time : number_at 8 file 32 ≡ times.inode
+  pub block_time : number_at 8 file (block_time_start 0) ≡ times.block
+  pub inode_time : number_at 8 file (inode_time_start 0) ≡ times.inode
   pub next : HoldsWindow file window
 
 -- The store tells its files, the named file stands for the value and has no more bytes than a flat file may have, and what is kept

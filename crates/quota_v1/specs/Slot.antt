@@ -1,8 +1,9 @@
 -- The bytes of records where they stand in a flat file, and how one record is written there.
-use Rattle.std.specs.Prelude.{◌≡◌, ◌⊎◌, ℕ, ◌+◌, ◌*◌, ◌<◌, ◌≤◌, max, Bool, IsTrue, List, length, None, OnErr, OnOk, Option, Result, Some}
+use Rattle.std.specs.Prelude.{◌≡◌, ◌⊎◌, ℕ, ◌+◌, ◌<◌, ◌≤◌, max, Bool, IsTrue, List, length, None, OnErr, OnOk, Option, Result, Some}
 use Rattle.file_blocks.specs.Block.{file_of}
 use Rattle.outside.specs.Count.{Rose}
-use Rattle.outside.specs.Frame.{IsSynced, ReplacesOne}
+use Rattle.outside.specs.Frame.{IsSynced}
+use Rattle.quota_blocks.specs.EditsOne.{EditsOne}
 use Rattle.outside.specs.Seen.{StoreSeen}
 use Rattle.outside.specs.World.{KeepsOthers, World, with_file}
 use Rattle.quota_types.specs.Bytes.{byte_at, number_at}
@@ -15,6 +16,7 @@ use Rattle.quota_blocks.specs.QuotaFile.{ChangesBlocks}
 use Rattle.quota_blocks.specs.declared.quota_file.FileFault.{FileFault}
 use Rattle.quota_blocks.specs.declared.quota_file.FileFault.TheVariants.{Store, Damage as Damaged, Full, Memory}
 use Rattle.quota_v1.specs.FlatFile.{flat_record, timed_record}
+use Rattle.quota_v1.specs.Place.{block_time_start, inode_time_start, record_size, record_start}
 
 -- the bytes are those of a file from a place on, of which those past its end count as 0
 abbrev pub AreFrom : (file : List ℕ) (at : ℕ) (bytes : List ℕ) → Type 0
@@ -32,11 +34,11 @@ IsFirstRecord file from to (Some entry) =
 -- The record of an identifier was written where it stands, of which the file has all bytes then. All other bytes stay. The two
 -- times of record 0 are the given ones, where that is the record.
 pub record PutsRecord (id : ℕ) (rec : Rec) (times : Grace) (before after : List ℕ) : Type 0 where
-  pub long : length after ≡ max (length before) (40 * id + 40)
-  pub others : KeepsOutside (40 * id) (40 * id + 40) before after
+  pub long : length after ≡ max (length before) (record_start id + record_size)
+  pub others : KeepsOutside (record_start id) (record_start id + record_size) before after
   pub written : timed_record after id ≡ rec
-  pub block_time : id ≡ 0 → number_at 8 after 24 ≡ times.block
-  pub inode_time : id ≡ 0 → number_at 8 after 32 ≡ times.inode
+  pub block_time : id ≡ 0 → number_at 8 after (block_time_start 0) ≡ times.block
+  pub inode_time : id ≡ 0 → number_at 8 after (inode_time_start 0) ≡ times.inode
 
 -- The named file has other bytes, which are related so to those before, and no other file has changed. Where it was not there it
 -- is made. Of its blocks, of 1,024 bytes each, twelve have changed at most.
@@ -54,7 +56,7 @@ pub record ChangesFile {E : Type 0} (tells : Bool) (so : (before after : List �
   pub torn : OnErr result (IsTrue tells → (new.files ≡ old.files) ⊎ MakesOne so name old.files new.files)
   pub cause : OnErr result (Rose old.faults new.faults)
   pub others : KeepsOthers name old.files new.files
-  pub leaves : ReplacesOne name old new
+  pub leaves : EditsOne name old new
   pub reads : new.reads ≤ old.reads + 1
   pub writes : new.writes ≤ old.writes + 1
 

@@ -8,6 +8,7 @@ use Rattle.quota_blocks.specs.QuotaValue.{QuotaValue}
 use Rattle.quota_blocks.specs.declared.quota_file.OpenFault.{OpenFault}
 use Rattle.quota_blocks.specs.declared.quota_file.OpenFault.TheVariants.{Store, NoFile, TooLarge, Memory, Damage as Damaged}
 use Rattle.quota_v1.specs.FlatFile.{FlatStandsFor}
+use Rattle.quota_v1.specs.Place.{record_size}
 
 -- how many bytes a flat file may have: 40 for each identifier below 1,048,576
 abbrev pub flat_limit : ℕ
@@ -15,9 +16,9 @@ flat_limit = 41943040
 
 -- what is wrong with the bytes of a flat file: the last record is cut off
 pub record IsFlatDefect (file : List ℕ) (damage : Damage) : Type 0 where
-  pub cut : length file % 40 ≢ 0
+  pub cut : length file % record_size ≢ 0
   pub kind : damage.kind ≡ PartialRecord
-  pub block : damage.block ≡ length file / 40
+  pub block : damage.block ≡ length file / record_size
   pub id : damage.id ≡ 0
 
 -- The file stands for a value of the kind, or is refused: there is none, it is too large, or it is damaged, in this

@@ -9,6 +9,7 @@ ghost use Rattle.quota_types.specs.declared.file_kind.Kind.{Kind};
 ghost use Rattle.quota_blocks.specs.Listed.{ids_of, value_of};
 ghost use Rattle.quota_v1.specs.Build.{IsZeroElsewhere, records_needed};
 ghost use Rattle.quota_v1.specs.FlatFile.{FlatStandsFor};
+ghost use Rattle.quota_v1.specs.Place.{block_time_start, inode_time_start, record_start};
 ghost use Rattle.quota_v1.specs.View.{flat_limit};
 
 use crate::flat_change::{TIMES, write_record, write_times};
@@ -25,6 +26,7 @@ use std::alloc::{AllocError, Global};
 /// # Errors
 ///
 /// There was not enough memory.
+#[tactic(auto, unfolding(crate::specs::Place::record_start, crate::specs::Place::block_time_start, crate::specs::Place::inode_time_start))]
 pub fn build_v1(alloc: Global, grace: Grace, list: &[Entry]) -> Result<Vec<u8>, AllocError>
     requires grace { grace_unfit V1 grace ≡ None }
     requires ascending { IsStrictlyIncreasing (ids_of list.now) }
@@ -32,10 +34,10 @@ pub fn build_v1(alloc: Global, grace: Grace, list: &[Entry]) -> Result<Vec<u8>, 
     requires kept { All (λ entry. kept_of V1 entry.id entry.rec ≡ entry.rec) list.now }
     requires not_zeros { All (λ entry. is_zeros entry.rec ≡ false) list.now }
     ensures stands { IfOk result (λ file. (kind : Kind) → FlatStandsFor file.items (value_of kind V1 grace 0 list.now)) }
-    ensures size { IfOk result (λ file. vec_len file ≡ 40 * records_needed (ids_of list.now)) }
+    ensures size { IfOk result (λ file. vec_len file ≡ record_start (records_needed (ids_of list.now))) }
     ensures limited { IfOk result (λ file. vec_len file ≤ flat_limit) }
-    ensures block_time { IfOk result (λ file. number_at 8 file.items 24 ≡ grace.block) }
-    ensures inode_time { IfOk result (λ file. number_at 8 file.items 32 ≡ grace.inode) }
+    ensures block_time { IfOk result (λ file. number_at 8 file.items (block_time_start 0) ≡ grace.block) }
+    ensures inode_time { IfOk result (λ file. number_at 8 file.items (inode_time_start 0) ≡ grace.inode) }
     ensures elsewhere { IfOk result (λ file. IsZeroElsewhere (ids_of list.now) file.items) }
 {
     let mut file = vec![in alloc; 0; RECORD * records_needed(list)]?;

@@ -6,6 +6,7 @@ ghost use Rattle.quota_types.specs.Range.{unfit};
 ghost use Rattle.quota_types.specs.Rec.{kib_of};
 ghost use Rattle.quota_blocks.specs.Span.{KeepsOutside};
 ghost use Rattle.quota_v1.specs.FlatFile.{timed_record};
+ghost use Rattle.quota_v1.specs.Place.{block_time_at, block_time_start, record_size, record_start};
 
 use crate::flat_record::RECORD;
 use quota_types::{Rec, set_le32_at, set_le64_at};
@@ -52,7 +53,7 @@ pub(crate) fn write_times(bytes: &mut [u8], at: usize, block: u64, inode: u64)
 
 /// Writes the record of an identifier, but its times.
 pub(crate) fn write_numbers(bytes: &mut [u8], at: usize, rec: &Rec)
-    requires within { at + 24 ≤ length bytes.old }
+    requires within { at + block_time_at ≤ length bytes.old }
     requires fits { unfit V1 0 rec.now ≡ None }
     ensures bhard { number_at 4 bytes.new at ≡ rec.now.bhard }
     ensures bsoft { number_at 4 bytes.new (at + 4) ≡ rec.now.bsoft }
@@ -60,19 +61,20 @@ pub(crate) fn write_numbers(bytes: &mut [u8], at: usize, rec: &Rec)
     ensures ihard { number_at 4 bytes.new (at + 12) ≡ rec.now.ihard }
     ensures isoft { number_at 4 bytes.new (at + 16) ≡ rec.now.isoft }
     ensures inodes { number_at 4 bytes.new (at + 20) ≡ rec.now.inodes }
-    ensures kept { KeepsOutside at (at + 24) bytes.old bytes.new }
+    ensures kept { KeepsOutside at (at + block_time_at) bytes.old bytes.new }
 {
     write_limits(bytes, at, rec.bhard, rec.bsoft, rec.kib());
     write_limits(bytes, at + 12, rec.ihard, rec.isoft, rec.inodes);
 }
 
 /// Writes the record of an identifier. The times of record 0 stay.
+#[tactic(auto, unfolding(crate::specs::Place::record_start, crate::specs::Place::block_time_start))]
 pub(crate) fn write_record(bytes: &mut [u8], id: usize, rec: &Rec)
-    requires within { 40 * id + 40 ≤ length bytes.old }
+    requires within { record_start id + record_size ≤ length bytes.old }
     requires kept { IsKept V1 id rec.now }
     ensures written { timed_record bytes.new id ≡ rec.now }
-    ensures others { KeepsOutside (40 * id) (40 * id + 40) bytes.old bytes.new }
-    ensures times { id ≡ 0 → KeepsOutside 0 24 bytes.old bytes.new }
+    ensures others { KeepsOutside (record_start id) (record_start id + record_size) bytes.old bytes.new }
+    ensures times { id ≡ 0 → KeepsOutside (record_start 0) (block_time_start 0) bytes.old bytes.new }
 {
     let start = RECORD * id;
     write_numbers(bytes, start, rec);

@@ -1,4 +1,5 @@
-ghost use Rattle.std.specs.Prelude.{◌≡◌, ◌%◌, ◌≤◌, true};
+ghost use Rattle.std.specs.Prelude.{◌≡◌, ◌%◌, ◌≤◌};
+ghost use Rattle.quota_v1.specs.Place.{record_size};
 ghost use Rattle.quota_v1.specs.View.{flat_limit};
 
 use crate::flat_record::{RECORD, first_after, or_week};
@@ -18,16 +19,19 @@ pub struct V1File {
     pub(crate) len: u64,
     pub(crate) times: Grace,
     pub(crate) window: Window,
-    ghost whole: { len % 40 ≡ 0 },
+    ghost whole: { len % record_size ≡ 0 },
     ghost limited: { len ≤ flat_limit },
 }
 
 impl<S: Store> QuotaFile<S> for V1File {
     ghost use Rattle.std.specs.String.{string_bytes};
+    ghost use Rattle.file_blocks.specs.Block.{bytes_of};
     ghost use Rattle.quota_v1.specs.Change.{FlatLeaves, FlatMakes, MayRefuse};
     ghost use Rattle.quota_v1.specs.FlatFile.{FlatStandsFor};
     ghost use Rattle.quota_v1.specs.Opened.{HoldsFlat, IsNamedDefect, flat_seen, most_next_reads};
+    ghost use Rattle.quota_v1.specs.Passing.{passing_adds_up};
     ghost use Rattle.quota_v1.specs.Rests.{held_stands, rests_on_named};
+    ghost use Rattle.quota_v1.specs.Window.{passing_reads};
 
     ghost holds = { λ file store value. HoldsFlat S.tells ((S.seen store).files (string_bytes file.name))
         file.len file.times file.window value };
@@ -42,8 +46,6 @@ impl<S: Store> QuotaFile<S> for V1File {
 
     ghost lacks_room = { λ _ _ _ _ _ _. ⊥ };
 
-    ghost in_place = { λ _ _. true };
-
     ghost makes = { λ _ change. FlatMakes change };
 
     ghost may_leave = { λ _ _ old after left. FlatLeaves old after left };
@@ -51,6 +53,8 @@ impl<S: Store> QuotaFile<S> for V1File {
     ghost get_reads = { λ _. 1 };
 
     ghost next_reads = { λ _ _. most_next_reads };
+
+    ghost passing_reads = { λ _ file. passing_reads (bytes_of file) };
 
     ghost change_reads = { λ _ _. 1 };
 
@@ -62,6 +66,8 @@ impl<S: Store> QuotaFile<S> for V1File {
         rests_on_named _ _ _ file.len file.times file.window value named held };
 
     ghost held_stands = { λ file store value held. held_stands _ _ file.len file.times file.window value held };
+
+    ghost passing_adds_up = { λ _ file from mid to first second. passing_adds_up (bytes_of file) from mid to first second };
 
     fn format(&self) -> Format {
         Format::V1
@@ -78,6 +84,7 @@ impl<S: Store> QuotaFile<S> for V1File {
         }
     }
 
+    #[tactic(auto, unfolding(crate::specs::Place::record_start))]
     fn get(&mut self, store: &mut S, id: u32) -> Result<Option<Rec>, FileFault> {
         self.window.forget();
         match read_record(store, self.name.as_str(), self.len, id) {
@@ -86,6 +93,7 @@ impl<S: Store> QuotaFile<S> for V1File {
         }
     }
 
+    #[tactic(auto, unfolding(crate::specs::Place::record_start))]
     fn next_after(
         &mut self,
         store: &mut S,
@@ -102,6 +110,7 @@ impl<S: Store> QuotaFile<S> for V1File {
         }
     }
 
+    #[tactic(auto, unfolding(crate::specs::Place::record_start))]
     fn put(&mut self, store: &mut S, id: u32, rec: Rec) -> Result<(), FileFault> {
         self.window.forget();
         match write_record(store, self.name.as_str(), id, &rec, self.times) {
@@ -113,6 +122,7 @@ impl<S: Store> QuotaFile<S> for V1File {
         }
     }
 
+    #[tactic(auto, unfolding(crate::specs::Place::record_start))]
     fn remove(&mut self, store: &mut S, id: u32) -> Result<(), FileFault> {
         self.window.forget();
         match read_record(store, self.name.as_str(), self.len, id) {
@@ -126,6 +136,7 @@ impl<S: Store> QuotaFile<S> for V1File {
         }
     }
 
+    #[tactic(auto, unfolding(crate::specs::Place::record_start))]
     fn set_grace(&mut self, store: &mut S, grace: Grace) -> Result<(), FileFault> {
         self.window.forget();
         match write_grace(store, self.name.as_str(), grace) {

@@ -3,6 +3,7 @@ ghost use Rattle.quota_types.specs.declared.file_kind.Kind.{Kind};
 ghost use Rattle.quota_types.specs.declared.file_kind.Format.TheVariants.{V1};
 ghost use Rattle.quota_blocks.specs.Frame.{OnlyReads};
 ghost use Rattle.quota_blocks.specs.QuotaValue.{QuotaValue};
+ghost use Rattle.quota_v1.specs.Place.{record_size};
 ghost use Rattle.quota_v1.specs.View.{IsFlatView, IsFlatFault, flat_limit};
 
 use crate::V1File;
@@ -61,7 +62,7 @@ pub fn open_v1<S: Store>(alloc: Global, store: &mut S, name: &str) -> Result<V1F
 fn accepted_len<S: Store>(store: &mut S, name: &str) -> Result<u64, OpenFault>
     ensures there { IfOk result (λ len. IsTrue S.tells
         → IsSomeAnd ((S.seen store.old).files name.now) (λ file. length file ≡ len)) }
-    ensures whole { IfOk result (λ len. len % 40 ≡ 0) }
+    ensures whole { IfOk result (λ len. len % record_size ≡ 0) }
     ensures limited { IfOk result (λ len. len ≤ flat_limit) }
     ensures refused { IfErr result (IsFlatFault (S.seen store.old).faults (S.seen store.new).faults S.tells
         ((S.seen store.old).files name.now)) }

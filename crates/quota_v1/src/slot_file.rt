@@ -45,6 +45,7 @@ pub(crate) fn read_from<S: Store>(
 /// # Errors
 ///
 /// The store failed, or the file ends within the record.
+#[tactic(auto, unfolding(crate::specs::Place::record_start))]
 pub(crate) fn read_record<S: Store>(
     store: &mut S,
     name: &str,
@@ -115,6 +116,7 @@ fn write_synced<S: Store>(
 /// # Errors
 ///
 /// The store failed. The file is as before, or has the record.
+#[tactic(auto, unfolding(crate::specs::Place::record_start))]
 pub(crate) fn write_record<S: Store>(
     store: &mut S,
     name: &str,

@@ -4,6 +4,7 @@ ghost use Rattle.outside.specs.Count.{Rose};
 ghost use Rattle.outside.specs.Frame.{OnlyReads};
 ghost use Rattle.quota_types.specs.Kept.{IsKept};
 ghost use Rattle.quota_types.specs.declared.file_kind.Format.TheVariants.{V1};
+ghost use Rattle.quota_v1.specs.Place.{record_size};
 ghost use Rattle.quota_v1.specs.Slot.{IsFirstRecord};
 ghost use Rattle.quota_v1.specs.Window.{HoldsWindow, window_reads};
 
@@ -54,6 +55,7 @@ impl Window {
     }
 
     /// Brings the record of an identifier in, with those that follow it, unless it is known.
+    #[tactic(auto, unfolding(crate::specs::Place::record_start))]
     fn bring<S: Store>(&mut self, store: &mut S, name: &str, id: u32) -> Result<(), StoreFault>
         requires { id < 1048576 }
         ensures has { OnOk result ((self.new.known ≡ true) × (self.new.first ≤ id) × (id < self.new.first + 25)) }
@@ -76,12 +78,13 @@ impl Window {
     }
 
     /// The first record that is known, from an identifier up to another one that is known or follows those.
+    #[tactic(auto, unfolding(crate::specs::Place::record_start))]
     fn first_known(&self, from: u32, to: u32) -> Option<Entry>
         requires begins { self.now.first ≤ from }
         requires ends { to ≤ self.now.first + 25 }
         requires known { self.now.known ≡ true }
         requires small { to ≤ 1048576 }
-        ensures found { (file : List ℕ) → length file % 40 ≡ 0 → HoldsWindow file self.now
+        ensures found { (file : List ℕ) → length file % record_size ≡ 0 → HoldsWindow file self.now
             → IsFirstRecord file from to result }
         ensures kept { IfSome result (λ entry. IsKept V1 entry.id entry.rec) }
         ensures between { IfSome result (λ entry. (from ≤ entry.id) × (entry.id < to)) }
@@ -95,6 +98,7 @@ impl Window {
     /// # Errors
     ///
     /// The store failed.
+    #[tactic(auto, unfolding(crate::specs::Place::record_start))]
     pub(crate) fn first_from<S: Store>(
         &mut self,
         store: &mut S,
@@ -104,7 +108,7 @@ impl Window {
     ) -> Result<Option<Entry>, StoreFault>
         requires { records ≤ 1048576 }
         ensures found { IfOk result (λ found. IsTrue S.tells → (file : List ℕ)
-            → (S.seen store.old).files name.now ≡ Some file → length file % 40 ≡ 0 → HoldsWindow file self.old
+            → (S.seen store.old).files name.now ≡ Some file → length file % record_size ≡ 0 → HoldsWindow file self.old
             → IsFirstRecord file from records found) }
         ensures kept { IfOk result (λ found. IfSome found (λ entry. IsKept V1 entry.id entry.rec)) }
         ensures between { IfOk result (λ found. IfSome found (λ entry. (from ≤ entry.id) × (entry.id < records))) }
@@ -113,6 +117,8 @@ impl Window {
         ensures cause { OnErr result (Rose (S.seen store.old).faults (S.seen store.new).faults) }
         ensures leaves { OnlyReads (is_ok result) name.now (S.seen store.old) (S.seen store.new) }
         ensures reads { (S.seen store.new).reads ≤ (S.seen store.old).reads + window_reads from records }
+        ensures near { IfOk result (λ found. IfSome found (λ entry. (S.seen store.new).reads
+            ≤ (S.seen store.old).reads + window_reads from (entry.id + 1))) }
     {
         let mut next = from;
         while next < records {

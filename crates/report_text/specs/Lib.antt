@@ -6,6 +6,7 @@ pub use Rattle.id_names.specs.NamesFile
 pub use Rattle.quota_blocks.specs.Changes
 pub use Rattle.quota_blocks.specs.Frame
 pub use Rattle.quota_blocks.specs.LooksUp
+pub use Rattle.quota_blocks.specs.Passing
 pub use Rattle.quota_blocks.specs.QuotaFile
 pub use Rattle.quota_blocks.specs.QuotaValue
 pub use Rattle.quota_blocks.specs.Seen

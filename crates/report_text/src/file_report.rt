@@ -1,9 +1,10 @@
-ghost use Rattle.std.specs.Prelude.{◌≡◌, ◌+◌, ◌*◌, ◌^◌, ◌≤◌, ◌++◌, IsTrue, OnOk, OnErr, IfErr};
+ghost use Rattle.std.specs.Prelude.{◌≡◌, ◌+◌, ◌*◌, ◌^◌, ◌≤◌, ◌++◌, length, IsTrue, OnOk, OnErr, IfErr};
 ghost use Rattle.std.specs.FinMap.{entries};
 ghost use Rattle.id_names.specs.FirstMatch.{first_name};
 ghost use Rattle.quota_blocks.specs.Changes.{file_at, laws_of};
 ghost use Rattle.quota_blocks.specs.Count.{Rose};
 ghost use Rattle.quota_blocks.specs.LooksUp.{LooksUp};
+ghost use Rattle.quota_blocks.specs.Passing.{reads_over};
 ghost use Rattle.quota_blocks.specs.QuotaValue.{QuotaValue};
 ghost use Rattle.quota_blocks.specs.Text.{AppendsPrefix, Gathers, WritesPrefix};
 ghost use Rattle.report_text.specs.Fault.{OnSink, file_fault};
@@ -47,6 +48,8 @@ pub fn report<S: Store, F: QuotaFile<S>, O: Sink>(
         F.change_reads F.change_writes F.done_writes) (file_at (F.holds file.old store.old) (F.seen file.old) (S.seen store.old))
         (file_at (F.holds file.new store.new) (F.seen file.new) (S.seen store.new))
         (F.next_reads (F.seen file.old) ((S.seen store.old).files (F.seen file.old).name) * (2 ^ 32 + 1)) result }
+    ensures few { (value : QuotaValue) → F.holds file.old store.old value → (S.seen store.new).reads ≤ (S.seen store.old).reads
+        + reads_over (F.passing_reads (F.seen file.old) ((S.seen store.old).files (F.seen file.old).name)) (length (entries value.records)) }
     ensures unsent { IfErr result (λ fault. OnSink fault (Rose (O.seen sink.old).faults (O.seen sink.new).faults)) }
     ensures sink_later { (O.seen sink.old).faults ≤ (O.seen sink.new).faults }
 {
@@ -78,6 +81,8 @@ fn put_entries<S: Store, F: QuotaFile<S>, O: Sink>(
         F.change_reads F.change_writes F.done_writes) (file_at (F.holds file.old store.old) (F.seen file.old) (S.seen store.old))
         (file_at (F.holds file.new store.new) (F.seen file.new) (S.seen store.new))
         (F.next_reads (F.seen file.old) ((S.seen store.old).files (F.seen file.old).name) * (2 ^ 32 + 1)) result }
+    ensures few { (value : QuotaValue) → F.holds file.old store.old value → (S.seen store.new).reads ≤ (S.seen store.old).reads
+        + reads_over (F.passing_reads (F.seen file.old) ((S.seen store.old).files (F.seen file.old).name)) (length (entries value.records)) }
     ensures unsent { IfErr result (λ fault. OnSink fault (Rose (O.seen sink.old).faults (O.seen sink.new).faults)) }
     ensures sink_later { (O.seen sink.old).faults ≤ (O.seen sink.new).faults }
 {

@@ -1,10 +1,11 @@
 -- An edit of an opened file: after a lookup, and from one change of the file.
-use Rattle.std.proofs.Common.{◌≡◌, ℕ, Bool, false, IfOk, Some, Result, Ok, Err, inl, refl, sym, ap, subst, ◌∙◌}
+use Rattle.std.proofs.Common.{◌≡◌, ◌≤◌, ◌+◌, ℕ, Bool, true, false, IfOk, Some, Result, Ok, Err, inl, refl, sym, ap, subst, ◌∙◌, arith}
 use Rattle.std.proofs.lemmas.Bool.{false≢true}
 use Rattle.std.proofs.lemmas.Result.{IfErr-weaker}
 use Rattle.quota_types.specs.declared.field.Field.{Field}
-use Rattle.quota_blocks.specs.Changes.{Changes, FileAt, FileLaws, LacksRoomFor}
-use Rattle.quota_blocks.specs.FileChange.{FileChange, edit_by}
+use Rattle.quota_types.specs.declared.field.NoRoom.{NoRoom}
+use Rattle.quota_blocks.specs.Changes.{Changes, FileAt, FileLaws, IsDone, LacksRoomFor}
+use Rattle.quota_blocks.specs.FileChange.{FileChange, Remove, edit_by}
 use Rattle.quota_blocks.specs.Frame.{OnlyReads}
 use Rattle.quota_blocks.specs.LooksUp.{LooksUp}
 use Rattle.quota_blocks.specs.QuotaFile.{CountsRefusal, FileSeen, IfFull, IsChangeFault, IsLookupFault, UnlessStoreFailed}
@@ -12,12 +13,13 @@ use Rattle.quota_blocks.specs.QuotaValue.{QuotaValue}
 use Rattle.quota_blocks.specs.World.{World}
 use Rattle.quota_blocks.specs.declared.quota_file.FileFault.{FileFault}
 use Rattle.quota_blocks.specs.declared.quota_file.FileFault.TheVariants.{Store, Damage, Full, Memory}
-use Rattle.outside.proofs.FrameLemmas.{only_reads-then, replaces_one-read}
+use Rattle.outside.proofs.FrameLemmas.{only_reads-then}
+use Rattle.quota_blocks.proofs.EditsOneLemmas.{edits_one-read}
 use Rattle.quota_blocks.proofs.LookupLemmas.{IsLookedUp, IsSameAt, edits_value-after, is_answer-itself}
 use Rattle.set_edit.specs.declared.fault.EditFault.{EditFault}
 use Rattle.set_edit.specs.declared.fault.EditFault.TheVariants.{File, NoRoom as Unfit}
 use Rattle.set_edit.specs.EditFault.{IfNoRoom, file_fault}
-use Rattle.set_edit.specs.Editing.{Edit, Edits, LacksField, value_edit}
+use Rattle.set_edit.specs.Editing.{Edit, Edits, LacksField, ReadsOnce, value_edit}
 
 -- At the values that a file holds two edits are one; and whatever the store tells, the second may lack room only for what
 -- the first may.
@@ -67,6 +69,40 @@ edits-changed edit change laws old mid new told (Err fault) changes up same = re
   no_room = tt;
 }
 
+-- what holds of all holds of the one that was answered
+IfOk-all : {A E : Type 0} (result : Result A E) (P : A → Type 0) → ((a : A) → P a) → IfOk result P
+IfOk-all (Ok a) P all = all a
+IfOk-all (Err e) P all = tt
+
+-- an edit of a value for which the format has no room
+pub edits-unfit : {T : Type 0} (edit : Edit) (laws : FileLaws) (old new : FileAt) (out : NoRoom) → LacksField edit old new out → Edits {T = T} edit laws old new (Err (Unfit out))
+edits-unfit edit laws old new out lacks = record {
+  value = record {
+    done = tt;
+    refused = tt;
+    idle = λ value holds idle. lacks.unwritten;
+    full = λ needs value blocks limit holds. IfOk-all (edit.edited value) _ (λ edited is. lacks.unwritten);
+    leaves = edits_one-read old.seen.name old.store new.store lacks.unwritten;
+    writes = (Remove edit.id, omega (arith, lacks.unwritten.writes));
+  };
+  no_room = lacks;
+}
+
+-- an edit that was done since nothing was to be done
+pub edits-idle : {T : Type 0} (edit : Edit) (laws : FileLaws) (old new : FileAt) (told : T) → IsDone (value_edit edit) laws old new → OnlyReads true old.seen.name old.store new.store
+    → Edits edit laws old new (Ok told)
+edits-idle edit laws old new told done read = record {
+  value = record {
+    done = done;
+    refused = tt;
+    idle = λ value holds idle. read;
+    full = λ needs value blocks limit holds. IfOk-all (edit.edited value) _ (λ edited is. read);
+    leaves = edits_one-read old.seen.name old.store new.store read;
+    writes = (Remove edit.id, omega (arith, read.writes));
+  };
+  no_room = tt;
+}
+
 -- an edit before which a lookup was refused
 pub edits-unlooked : {T U : Type 0} (edit : Edit) (laws : FileLaws) (old new : FileAt) (most : ℕ) (fault : FileFault) → LooksUp {T = U} Some laws old new most (Err fault)
     → Edits {T = T} edit laws old new (Err (File fault))
@@ -88,7 +124,8 @@ edits-unlooked edit laws old new most fault looked = record {
     };
     idle = λ value holds idle. looked.leaves;
     full = λ needs value blocks limit holds. IfOk-all (edit.edited value) _ (λ edited lacks. looked.leaves);
-    leaves = replaces_one-read old.seen.name old.store new.store looked.leaves;
+    leaves = edits_one-read old.seen.name old.store new.store looked.leaves;
+    writes = (Remove edit.id, omega (arith, looked.leaves.writes));
   };
   no_room = tt;
 }
@@ -112,6 +149,13 @@ edits-unlooked edit laws old new most fault looked = record {
     lookup_busy before now holds P (Full blocks limit) cause = absurd cause
     lookup_busy before now holds P Memory cause = absurd cause
 
-    IfOk-all : {A E : Type 0} (result : Result A E) (P : A → Type 0) → ((a : A) → P a) → IfOk result P
-    IfOk-all (Ok a) P all = all a
-    IfOk-all (Err e) P all = tt
+-- a look-up, and then a change
+pub reads_once : (look : ℕ) (most : FileSeen → FileChange → ℕ) (change : FileChange) (old mid : FileSeen) (before middle now : ℕ) → mid ≡ old → middle ≤ before + look → now ≤ middle + most mid change
+    → ReadsOnce look (most old) before now
+reads_once look most change old mid before middle now same first second =
+    let then = subst (λ (s : FileSeen). now ≤ middle + most s change) same second in
+    record { change = change; few = omega (arith, first, then) }
+
+-- a look-up, and no change
+pub reads_looked : (look : ℕ) (most : FileChange → ℕ) (before now : ℕ) → now ≤ before + look → ReadsOnce look most before now
+reads_looked look most before now few = record { change = Remove 0; few = omega (arith, few) }

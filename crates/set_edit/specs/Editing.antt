@@ -1,5 +1,5 @@
 -- What is said of every edit of an opened quota file, whatever it sets and whatever the format. Source: this project's own.
-use Rattle.std.specs.Prelude.{◌≡◌, ℕ, Bool, false, IfErr, Result, Err}
+use Rattle.std.specs.Prelude.{◌≡◌, ◌≤◌, ◌+◌, ℕ, Bool, false, IfErr, Result, Err}
 use Rattle.quota_types.specs.declared.field.Field.{Field}
 use Rattle.quota_types.specs.declared.field.NoRoom.{NoRoom}
 use Rattle.quota_types.specs.declared.file_kind.Format.{Format}
@@ -30,6 +30,11 @@ value_edit edit = record {
   is_idle = edit.is_idle;
   needs_room = edit.needs_room;
 }
+
+-- There were no more calls of `read` than one look-up makes, and some change after it.
+pub record ReadsOnce (look : ℕ) (most : FileChange → ℕ) (before now : ℕ) : Type 0 where
+  pub change : FileChange
+  pub few : now ≤ before + (look + most change)
 
 -- An edit was refused since the format has no room for a field: the edit of each value that the file holds is refused so;
 -- whatever the store tells, the format may have no room for that field; and the edit's identifier is named. The file holds

@@ -3,7 +3,7 @@ ghost use Rattle.quota_types.specs.Kept.{IsKept};
 ghost use Rattle.quota_types.specs.Rec.{zero_record};
 ghost use Rattle.quota_blocks.specs.Changes.{Changes, file_at, laws_of};
 ghost use Rattle.set_edit.specs.Edited.{change_to, with_limits};
-ghost use Rattle.set_edit.specs.Editing.{Edits};
+ghost use Rattle.set_edit.specs.Editing.{Edits, ReadsOnce};
 ghost use Rattle.set_edit.specs.Edits.{limits_edit};
 
 use crate::{EditFault, Limits};
@@ -19,8 +19,7 @@ use quota_types::{Rec, next_kept};
 /// `Field`, with its value. Then, and where the file has no room or there is no memory, nothing has changed; where there is
 /// no room nothing is written whatever fails besides. Where the store failed and the file may still be used, nothing has
 /// changed either; where it may not, the named file is as it was, or lies between the old one and what the change would have
-/// made of it. A file that is replaced by each change is as before after any refusal. Each fault of the opened file is
-/// answered as it is, and raises its count of refusals.
+/// made of it. Each fault of the opened file is answered as it is, and raises its count of refusals.
 pub fn set_limits<S: Store, F: QuotaFile<S>>(
     file: &mut F,
     store: &mut S,
@@ -33,6 +32,9 @@ pub fn set_limits<S: Store, F: QuotaFile<S>>(
         (laws_of S.tells F.stands_for F.makes F.may_leave F.lacks_room F.may_refuse F.change_reads F.change_writes F.done_writes)
         (file_at (F.holds file.old store.old) (F.seen file.old) (S.seen store.old))
         (file_at (F.holds file.new store.new) (F.seen file.new) (S.seen store.new)) result }
+    // However it ended, no more was read than a look-up and some change of the file may read.
+    ensures reads { ReadsOnce (F.get_reads (F.seen file.old).format) (F.change_reads (F.seen file.old))
+        (S.seen store.old).reads (S.seen store.new).reads }
 {
     let old = file.get(store, id)?;
     let rec = limited(old, limits);

@@ -9,7 +9,9 @@ use Rattle.quota_blocks.specs.Listed.{ids_of}
 use Rattle.quota_blocks.specs.QuotaFile.{FileSeen}
 use Rattle.quota_blocks.specs.QuotaValue.{IsAfter, IsNextAfter}
 use Rattle.quota_blocks.proofs.LooksUpLemmas.{looks_up-answer, looks_up-more, looks_up-none, looks_up-within}
-use Rattle.quota_map.specs.AnyFile.{any_at, any_laws, any_next_reads, any_seen}
+use Rattle.quota_blocks.proofs.PassingLemmas.{passed_all, passed_end, passed_found, passed_none, passed_part, passing_still}
+use Rattle.quota_map.specs.Passing.{any_adds_up}
+use Rattle.quota_map.specs.AnyFile.{any_at, any_laws, any_next_reads, any_passing_reads, any_seen}
 use Rattle.quota_map.proofs.ReadingLemmas.{AscendTo, IsReadUpTo, ascend_more, ascend_none, more_few, read_more, read_none, read_whole}
 use Rattle.quota_map.proofs.reading.read_all.Goals as goal
 
@@ -21,6 +23,7 @@ loop-list-init g c =
     let at = any_at S.tells (S.seen c.args.store.now) c.args.file.now in
     record {
       read = λ value holds. subst (IsReadUpTo value.records None) (sym none) (read_none value.records);
+      passed = λ value holds. passed_none _ value.records _;
       ascends = subst (λ (list : List Entry). AscendTo None (ids_of list)) (sym none) ascend_none;
       narrow = λ k d lt. absurd (omega (arith, lt, c.new-list.ensures.len, ap length none));
       kept = λ k d lt. absurd (omega (arith, lt, ap length none));
@@ -47,6 +50,11 @@ loop-list-preserved g c =
           let next : IsNextAfter c.loop-list.after value.records (Some entry) =
           subst (IsNextAfter c.loop-list.after value.records) c.in-Some.is (found.found value (so_far.up.stays value holds)) in
           subst (IsReadUpTo value.records (Some entry.id)) (sym pushed) (read_more value.records c.loop-list.after c.loop-list.list.items entry (so_far.read value holds) next);
+      passed = λ value holds.
+          let next : IsNextAfter c.loop-list.after value.records (Some entry) =
+          subst (IsNextAfter c.loop-list.after value.records) c.in-Some.is (found.found value (so_far.up.stays value holds)) in
+          let few = passing_still Some _ _ _ _ _ any_passing_reads _ _ _ _ so_far.up (found.passing value (so_far.up.stays value holds)) in
+          passed_found _ c.loop-list.after value.records entry _ _ _ _ (any_adds_up _ _) (so_far.passed value holds) next is_after is_narrow c.in-Some.is few;
       ascends = subst (AscendTo (Some entry.id)) (sym (ap ids_of pushed ∙ map-append (λ (e : Entry). e.id) c.loop-list.list.items (entry ∷ [])))
           (ascend_more c.loop-list.after (ids_of c.loop-list.list.items) entry.id so_far.ascends is_after);
       narrow = subst (All (λ (e : Entry). e.id < 2 ^ 32)) (sym pushed) (All-push (λ (e : Entry). e.id < 2 ^ 32) c.loop-list.list.items entry so_far.narrow is_narrow);
@@ -64,3 +72,28 @@ returns-clause-records g c = λ value holds.
     let none : IsNextAfter c.loop-list.after value.records None =
     subst (IsNextAfter c.loop-list.after value.records) c.in_default.is (c.in_ok-entry.ensures.found value (c.loop-list.invariant.up.stays value holds)) in
     read_whole value.records c.loop-list.after c.loop-list.list.items (c.loop-list.invariant.read value holds) none
+
+pub returns-clause-few : goal.returns-clause-few
+returns-clause-few g c = λ value holds.
+    let so_far = c.loop-list.invariant in
+    passed_end _ c.loop-list.after value.records _ _ _ _ (any_adds_up _ _) (so_far.passed value holds) c.in_default.is
+    (passing_still Some _ _ _ _ _ any_passing_reads _ _ _ _ so_far.up (c.in_ok-entry.ensures.passing value (so_far.up.stays value holds)))
+
+pub returns-in_err-entry-clause-few : goal.returns-in_err-entry-clause-few
+returns-in_err-entry-clause-few g c = λ value holds.
+    let so_far = c.loop-list.invariant in
+    passed_all _ c.loop-list.after value.records _ _ _ (any_adds_up _ _) (so_far.passed value holds)
+    (passing_still Some _ _ _ _ _ any_passing_reads _ _ _ _ so_far.up (c.in_err-entry.ensures.passing value (so_far.up.stays value holds)))
+
+pub returns-then-is_err-clause-few : goal.returns-then-is_err-clause-few
+returns-then-is_err-clause-few g c = λ value holds.
+    let so_far = c.loop-list.invariant in
+    let found = c.in_ok-entry.ensures in
+    let entry : Entry = c.in-Some.entry in
+    let is_after : IsAfter c.loop-list.after entry.id = subst (λ (o : Option Entry). IfSome o (λ e. IsAfter c.loop-list.after e.id)) c.in-Some.is found.ascends in
+    let is_narrow : entry.id < 2 ^ 32 = subst (λ (o : Option Entry). IfSome o (λ e. e.id < 2 ^ 32)) c.in-Some.is found.narrow in
+    let next : IsNextAfter c.loop-list.after value.records (Some entry) =
+    subst (IsNextAfter c.loop-list.after value.records) c.in-Some.is (found.found value (so_far.up.stays value holds)) in
+    let few = passing_still Some _ _ _ _ _ any_passing_reads _ _ _ _ so_far.up (found.passing value (so_far.up.stays value holds)) in
+    passed_part _ entry.id value.records _ _ (any_adds_up _ _)
+    (passed_found _ c.loop-list.after value.records entry _ _ _ _ (any_adds_up _ _) (so_far.passed value holds) next is_after is_narrow c.in-Some.is few)

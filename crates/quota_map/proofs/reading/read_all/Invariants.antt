@@ -6,7 +6,8 @@ use Rattle.quota_blocks.specs.Listed.{ids_of}
 use Rattle.quota_blocks.specs.LooksUp.{LooksUp}
 use Rattle.quota_blocks.specs.QuotaValue.{QuotaValue}
 use Rattle.quota_blocks.proofs.EntriesLemmas.{ids_after}
-use Rattle.quota_map.specs.AnyFile.{HoldsAny, any_at, any_laws, any_next_reads, any_seen}
+use Rattle.quota_blocks.proofs.PassingLemmas.{IsPassed}
+use Rattle.quota_map.specs.AnyFile.{HoldsAny, any_at, any_laws, any_next_reads, any_passing_reads, any_seen}
 use Rattle.quota_map.proofs.ReadingLemmas.{AscendTo, IsReadUpTo}
 use Rattle.quota_map.proofs.reading.read_all.Given as goal
 
@@ -15,6 +16,8 @@ invariant-loop-list g l =
     let S = g.S.Store in
     record {
       read : (value : QuotaValue) → HoldsAny S.tells (S.seen l.fn.store).files l.fn.file value → IsReadUpTo value.records l.after l.list.items;
+      passed : (value : QuotaValue) → HoldsAny S.tells (S.seen l.fn.store).files l.fn.file value
+          → IsPassed (any_passing_reads (any_seen l.fn.file) ((S.seen l.fn.store).files (any_seen l.fn.file).name)) l.after value.records (S.seen l.fn.store).reads (S.seen l.store).reads;
       ascends : AscendTo l.after (ids_of l.list.items);
       narrow : All (λ (entry : Entry). entry.id < 2 ^ 32) l.list.items;
       kept : All (λ (entry : Entry). IsKept (any_seen l.fn.file).format entry.id entry.rec) l.list.items;

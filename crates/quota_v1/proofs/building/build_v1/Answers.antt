@@ -4,9 +4,11 @@ use Rattle.quota_types.specs.declared.record.Entry.{Entry}
 use Rattle.quota_blocks.specs.Listed.{ids_of}
 use Rattle.quota_v1.specs.Build.{records_needed}
 use Rattle.quota_v1.proofs.BuildLemmas.{IsBuiltOf, built_all, built_more, built_none, built_stands, greatest_fits, id_le_greatest, no_entry, not_before, written_whole}
+use Rattle.quota_v1.specs.Place.{block_time_start, inode_time_start, record_start}
 use Rattle.quota_v1.proofs.building.build_v1.Goals as goal
 
 pub loop-entry-init : goal.loop-entry-init
+unfolding record_start block_time_start inode_time_start
 loop-entry-init c =
     let count : ℕ = 40 * records_needed (ids_of c.args.list.now) in
     let zeros : c.deref_mut.result.now ≡ replicate count 0 = search rules in
@@ -16,10 +18,12 @@ loop-entry-init c =
     (rw zeros at c.write_times.ensures.kept))
 
 pub write_record-requires-clause-within : goal.write_record-requires-clause-within
+unfolding record_start block_time_start inode_time_start
 write_record-requires-clause-within c =
     omega (arith, id_le_greatest c.args.list.now c.loop-entry.entry-index c.loop-entry-test.true, c.loop-entry.invariant.long, c.deref_mut-in-loop-entry.ensures.len, c.loop-entry.file.ok.0)
 
 pub loop-entry-preserved : goal.loop-entry-preserved
+unfolding record_start block_time_start inode_time_start
 loop-entry-preserved c =
     let count : ℕ = 40 * records_needed (ids_of c.args.list.now) in
     let place : ℕ = c.loop-entry.entry-index in
@@ -35,14 +39,17 @@ loop-entry-preserved c =
     (subst (λ (es : List Entry). IsBuiltOf c.args.grace es count c.write_record.new.bytes) (sym (take_more c.args.list.now place no_entry c.loop-entry-test.true)) more)
 
 pub returns-clause-stands : goal.returns-clause-stands
+unfolding record_start block_time_start inode_time_start
 returns-clause-stands c = λ kind.
     built_stands c.args.grace c.args.list.now _ c.loop-entry.file.items kind
     (built_all c.args.grace c.args.list.now c.loop-entry.entry-index _ c.loop-entry.file.items c.loop-entry-test.false c.loop-entry.invariant) c.requires.grace
 
 pub returns-clause-limited : goal.returns-clause-limited
+unfolding record_start block_time_start inode_time_start
 returns-clause-limited c =
     omega (arith, greatest_fits c.args.list.now c.requires.fits, c.loop-entry.invariant.long, c.loop-entry.file.ok.0)
 
 pub returns-clause-elsewhere : goal.returns-clause-elsewhere
+unfolding record_start block_time_start inode_time_start
 returns-clause-elsewhere c =
     (built_all c.args.grace c.args.list.now c.loop-entry.entry-index _ c.loop-entry.file.items c.loop-entry-test.false c.loop-entry.invariant).elsewhere

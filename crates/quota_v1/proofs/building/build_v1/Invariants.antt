@@ -1,8 +1,9 @@
 use Rattle.std.proofs.Common.{◌*◌, take}
 use Rattle.quota_v1.specs.Build.{records_needed}
+use Rattle.quota_v1.specs.Place.{record_start}
 use Rattle.quota_blocks.specs.Listed.{ids_of}
 use Rattle.quota_v1.proofs.BuildLemmas.{IsBuiltOf}
 use Rattle.quota_v1.proofs.building.build_v1.Given as goal
 
 abbrev pub invariant-loop-entry : goal.invariant-loop-entry
-invariant-loop-entry l = IsBuiltOf l.fn.grace (take l.entry-index l.list) (40 * records_needed (ids_of l.list)) l.file.items
+invariant-loop-entry l = IsBuiltOf l.fn.grace (take l.entry-index l.list) (record_start (records_needed (ids_of l.list))) l.file.items

@@ -3,12 +3,15 @@ use Rattle.quota_types.specs.declared.file_kind.Format.TheVariants.{V1}
 use Rattle.outside.specs.World.{World}
 use Rattle.quota_blocks.specs.FileUse.{seen_in}
 use Rattle.quota_v1.proofs.OpenLemmas.{holds_opened, value_of_length}
+use Rattle.quota_v1.specs.Place.{block_time_start, inode_time_start, record_start}
 use Rattle.quota_v1.proofs.opening.open_v1.Goals as goal
 
 pub returns-clause-seen : goal.returns-clause-seen
+unfolding record_start block_time_start inode_time_start
 returns-clause-seen g c = λ told kind. value_of_length _ kind c.in_ok-len.len (c.in_ok-len.ensures.there told) c.in_ok-len.ensures.limited c.in_ok-len.ensures.whole
 
 pub returns-clause-held : goal.returns-clause-held
+unfolding record_start block_time_start inode_time_start
 returns-clause-held g c = λ told kind value view.
     let S = g.S.Store in
     let name = c.args.name.now in
@@ -19,4 +22,5 @@ returns-clause-held g c = λ told kind value view.
     (rw (ap (λ (files : World). files name) len.leaves.files) at (read.shown told)) (omega (arith, c.read_from.auto.buf)) (sym c.le64_at.ensures) (sym c.le64_at-2.ensures) c.none.ensures view
 
 pub returns-clause-fresh : goal.returns-clause-fresh
+unfolding record_start block_time_start inode_time_start
 returns-clause-fresh g c = ap (λ (n : List ℕ). seen_in c.new.result n V1 0) c.in-Ok.ensures.ok ∙ c.new.ensures c.args.name.now V1 0

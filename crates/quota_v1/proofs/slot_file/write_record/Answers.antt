@@ -2,9 +2,11 @@ use Rattle.std.proofs.Common.{arith}
 use Rattle.outside.proofs.FrameLemmas.{only_reads-none}
 use Rattle.file_blocks.specs.Block.{bytes_of}
 use Rattle.quota_v1.proofs.ChangedLemmas.{changes_file, puts_record}
+use Rattle.quota_v1.specs.Place.{block_time_start, inode_time_start, record_start}
 use Rattle.quota_v1.proofs.slot_file.write_record.Goals as goal
 
 pub returns : goal.returns
+unfolding record_start block_time_start inode_time_start
 returns g c =
     let S = g.S.Store in
     let wrote = c.write_synced.ensures in

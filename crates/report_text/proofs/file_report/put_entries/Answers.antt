@@ -4,6 +4,7 @@ use Rattle.quota_types.specs.declared.record.Entry.{Entry}
 use Rattle.quota_blocks.specs.QuotaFile.{FileSeen}
 use Rattle.quota_blocks.specs.QuotaValue.{IsAfter, IsNextAfter}
 use Rattle.quota_blocks.proofs.LooksUpLemmas.{looks_up-answer, looks_up-none, looks_up-stopped, looks_up-then, looks_up-within}
+use Rattle.quota_blocks.proofs.PassingLemmas.{passed_all, passed_end, passed_found, passed_none, passed_part, passing_still}
 use Rattle.report_text.proofs.LookingLemmas.{last_one, one_more, sink_failed}
 use Rattle.report_text.proofs.LinesLemmas.{put_none, put_more, put_all, put_fault, put_part}
 use Rattle.report_text.proofs.file_report.put_entries.Goals as goal
@@ -11,6 +12,7 @@ use Rattle.report_text.proofs.file_report.put_entries.Goals as goal
 pub loop-entry-init : goal.loop-entry-init
 loop-entry-init g c = record {
   lines = λ value holds. put_none _ _ _ _ _ _ value.records;
+  passed = λ value holds. passed_none _ value.records _;
   usable = c.requires;
   up = looks_up-within Some _ _ _ 0 _ (Ok (tt {0})) (omega arith) (looks_up-none Some _ _ (tt {0}));
   sink_later = omega arith;
@@ -44,6 +46,11 @@ loop-entry-preserved g c =
           let next = let P : Option Entry → Type 0 = λ o. IsNextAfter c.loop-entry.after value.records o in
           subst P c.in-Some.is (c.in_ok-entry.ensures.found value (kept.up.stays value holds)) in
           put_more _ _ _ _ _ _ _ _ _ _ (kept.lines value holds) _ _ _ next put.ok;
+      passed = λ value holds.
+          let next = let P : Option Entry → Type 0 = λ o. IsNextAfter c.loop-entry.after value.records o in
+          subst P c.in-Some.is (found.found value (kept.up.stays value holds)) in
+          let few = passing_still Some _ _ _ _ _ g.F.QuotaFile.passing_reads _ _ _ _ kept.up (found.passing value (kept.up.stays value holds)) in
+          passed_found _ c.loop-entry.after value.records entry _ _ _ _ (g.met.F.QuotaFile.passing_adds_up _ _) (kept.passed value holds) next is_after is_narrow c.in-Some.is few;
       usable = subst (λ (seen : FileSeen). IsTrue seen.usable) (sym found.looks.same) kept.usable;
       up = looks_up-answer Some Some _ _ _ _ _ (Ok (tt {0})) tt (one_more _ _ _ _ g.F.QuotaFile.next_reads c.loop-entry.after entry.id _ is_after is_narrow kept.up found.looks);
       sink_later = omega (arith, put.later, kept.sink_later);
@@ -69,3 +76,28 @@ returns-in_err-put_entry-clause-looks g c =
 
 pub returns-clause-looks : goal.returns-clause-looks
 returns-clause-looks g c = last_one _ _ _ _ g.F.QuotaFile.next_reads c.loop-entry.after (Ok c.in_ok-entry.field-0) (Ok (tt {0})) tt c.loop-entry.invariant.up c.in_ok-entry.ensures.looks
+
+pub returns-in_err-entry-clause-few : goal.returns-in_err-entry-clause-few
+returns-in_err-entry-clause-few g c = λ value holds.
+    let kept = c.loop-entry.invariant in
+    passed_all _ c.loop-entry.after value.records _ _ _ (g.met.F.QuotaFile.passing_adds_up _ _) (kept.passed value holds)
+    (passing_still Some _ _ _ _ _ g.F.QuotaFile.passing_reads _ _ _ _ kept.up (c.in_err-entry.ensures.passing value (kept.up.stays value holds)))
+
+pub returns-clause-few : goal.returns-clause-few
+returns-clause-few g c = λ value holds.
+    let kept = c.loop-entry.invariant in
+    passed_end _ c.loop-entry.after value.records _ _ _ _ (g.met.F.QuotaFile.passing_adds_up _ _) (kept.passed value holds) c.in_default.is
+    (passing_still Some _ _ _ _ _ g.F.QuotaFile.passing_reads _ _ _ _ kept.up (c.in_ok-entry.ensures.passing value (kept.up.stays value holds)))
+
+pub returns-in_err-put_entry-clause-few : goal.returns-in_err-put_entry-clause-few
+returns-in_err-put_entry-clause-few g c = λ value holds.
+    let kept = c.loop-entry.invariant in
+    let found = c.in_ok-entry.ensures in
+    let entry : Entry = c.in-Some.entry in
+    let is_after : IsAfter c.loop-entry.after entry.id = subst (λ (o : Option Entry). IfSome o (λ e. IsAfter c.loop-entry.after e.id)) c.in-Some.is found.ascends in
+    let is_narrow : entry.id < 2 ^ 32 = subst (λ (o : Option Entry). IfSome o (λ e. e.id < 2 ^ 32)) c.in-Some.is found.narrow in
+    let next = let P : Option Entry → Type 0 = λ o. IsNextAfter c.loop-entry.after value.records o in
+    subst P c.in-Some.is (found.found value (kept.up.stays value holds)) in
+    let few = passing_still Some _ _ _ _ _ g.F.QuotaFile.passing_reads _ _ _ _ kept.up (found.passing value (kept.up.stays value holds)) in
+    passed_part _ entry.id value.records _ _ (g.met.F.QuotaFile.passing_adds_up _ _)
+    (passed_found _ c.loop-entry.after value.records entry _ _ _ _ (g.met.F.QuotaFile.passing_adds_up _ _) (kept.passed value holds) next is_after is_narrow c.in-Some.is few)

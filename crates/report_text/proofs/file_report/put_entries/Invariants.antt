@@ -4,6 +4,7 @@ use Rattle.quota_blocks.specs.Changes.{file_at, laws_of}
 use Rattle.quota_blocks.specs.LooksUp.{LooksUp}
 use Rattle.quota_blocks.specs.QuotaValue.{QuotaValue}
 use Rattle.quota_blocks.proofs.EntriesLemmas.{ids_after}
+use Rattle.quota_blocks.proofs.PassingLemmas.{IsPassed}
 use Rattle.report_text.proofs.LinesLemmas.{IsPutUpTo}
 use Rattle.report_text.proofs.file_report.put_entries.Given as goal
 
@@ -15,6 +16,8 @@ invariant-loop-entry g l =
     record {
       lines : (value : QuotaValue) → F.holds l.fn.file l.fn.store value
           → IsPutUpTo (first_name l.names) l.now l.options O.tells (O.seen l.fn.sink).written l.fn.text (O.seen l.sink).written l.text value.records l.after;
+      passed : (value : QuotaValue) → F.holds l.fn.file l.fn.store value
+          → IsPassed (F.passing_reads (F.seen l.fn.file) ((S.seen l.fn.store).files (F.seen l.fn.file).name)) l.after value.records (S.seen l.fn.store).reads (S.seen l.store).reads;
       usable : IsTrue (F.seen l.file).usable;
       up : LooksUp Some (laws_of S.tells F.stands_for F.makes F.may_leave F.lacks_room F.may_refuse F.change_reads F.change_writes F.done_writes)
           (file_at (F.holds l.fn.file l.fn.store) (F.seen l.fn.file) (S.seen l.fn.store)) (file_at (F.holds l.file l.store) (F.seen l.file) (S.seen l.store))

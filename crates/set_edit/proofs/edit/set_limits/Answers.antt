@@ -1,6 +1,8 @@
-use Rattle.std.proofs.Common.{Ok, Err}
+use Rattle.std.proofs.Common.{Ok, Err, rules}
 use Rattle.std.proofs.lemmas.Result.{err_from_is_err_and}
 use Rattle.quota_blocks.proofs.LooksUpLemmas.{is_looked_up}
+use Rattle.set_edit.specs.Edits.{limits_edit}
+use Rattle.set_edit.proofs.EditingLemmas.{edits-unfit, edits-unlooked, reads_looked, reads_once}
 use Rattle.set_edit.proofs.EditsLemmas.{limits-edits}
 use Rattle.set_edit.proofs.edit.set_limits.Goals as goal
 
@@ -16,6 +18,7 @@ returns g c =
             value = c.format.ensures.value _;
           })
           (c.grace.ensures.value _) c.limited-rec.ensures next.wanted next.kept next.null;
+      reads = reads_once _ g.F.QuotaFile.change_reads _ _ _ _ _ _ looked_up.looks.same looked_up.looks.reads c.in_ok-put_or_remove.ensures.changes.reads;
     }
 
 pub returns-in_err-put_or_remove : goal.returns-in_err-put_or_remove
@@ -31,4 +34,21 @@ returns-in_err-put_or_remove g c =
             value = c.format.ensures.value _;
           })
           (c.grace.ensures.value _) c.limited-rec.ensures next.wanted next.kept next.null);
+      reads = reads_once _ g.F.QuotaFile.change_reads _ _ _ _ _ _ looked_up.looks.same looked_up.looks.reads c.in_err-put_or_remove.ensures.changes.reads;
     }
+
+pub returns-in_err-old-clause-reads : goal.returns-in_err-old-clause-reads
+returns-in_err-old-clause-reads g c = reads_looked _ _ _ _ c.in_err-old.ensures.looks.reads
+
+pub returns-in_err-next-clause-reads : goal.returns-in_err-next-clause-reads
+returns-in_err-next-clause-reads g c = reads_looked _ _ _ _ c.in_ok-old.ensures.looks.reads
+
+pub returns-in_err-old-clause-edits : goal.returns-in_err-old-clause-edits
+returns-in_err-old-clause-edits g c =
+    let p = err_from_is_err_and c.from_residual.result c.from_residual.ensures.1 in
+    rw (p.1, p.2) (edits-unlooked (limits_edit c.args.id c.args.limits.now c.args.now) _ _ _ _ c.in_err-old.field-0.0 c.in_err-old.ensures.looks)
+
+pub returns-in_err-next-clause-edits : goal.returns-in_err-next-clause-edits
+returns-in_err-next-clause-edits g c =
+    let p = err_from_is_err_and c.from_residual-in_err-next.result c.from_residual-in_err-next.ensures.1 in
+    rw (p.1, p.2) (edits-unfit _ _ _ _ c.in_err-next.field-0.0 (search rules))

@@ -1,10 +1,10 @@
-use Rattle.std.proofs.Common.{◌≡◌, false, Ok, Err, sym, subst}
+use Rattle.std.proofs.Common.{◌≡◌, false, Ok, Err, sym, subst, rules}
 use Rattle.std.proofs.lemmas.Result.{err_from_is_err_and}
 use Rattle.set_edit.specs.Times.{skips_both}
 use Rattle.set_edit.specs.declared.skipped.Skipped.{Skipped}
 use Rattle.set_edit.specs.Edits.{times_edit}
 use Rattle.quota_blocks.proofs.LooksUpLemmas.{is_looked_up}
-use Rattle.set_edit.proofs.EditingLemmas.{edits-unlooked}
+use Rattle.set_edit.proofs.EditingLemmas.{edits-idle, edits-unfit, edits-unlooked}
 use Rattle.set_edit.proofs.EditsLemmas.{times-edits}
 use Rattle.set_edit.proofs.times.set_times.Goals as goal
 
@@ -41,3 +41,11 @@ returns-in_err-get-clause-edits g c =
     let looked_up = c.in_err-get.ensures in
     rw (p.1, p.2)
     (edits-unlooked (times_edit c.args.id c.args.block c.args.inode c.args.now) _ _ _ _ c.in_err-get.field-0.0 looked_up.looks)
+
+pub returns-in_err-next-clause-edits : goal.returns-in_err-next-clause-edits
+returns-in_err-next-clause-edits g c =
+    let p = err_from_is_err_and c.from_residual-in_err-next.result c.from_residual-in_err-next.ensures.1 in
+    rw (p.1, p.2) (edits-unfit _ _ _ _ c.in_err-next.field-0.0 (search rules))
+
+pub returns-then-both-clause-edits : goal.returns-then-both-clause-edits
+returns-then-both-clause-edits g c = edits-idle _ _ _ _ _ (search rules) c.in_ok-get.ensures.looks.leaves

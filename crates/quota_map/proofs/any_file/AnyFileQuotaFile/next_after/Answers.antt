@@ -1,11 +1,14 @@
-use Rattle.std.proofs.Common.{◌≡◌, IfOk, refl, sym, subst}
+use Rattle.std.proofs.Common.{◌≡◌, ◌+◌, ◌≤◌, IfOk, refl, sym, subst}
+use Rattle.quota_blocks.specs.Passing.{first_after, passed_up_to}
 use Rattle.quota_blocks.specs.QuotaValue.{IsNextAfter, QuotaValue}
 use Rattle.quota_types.specs.Format.{IsTreeFormat}
 use Rattle.quota_types.specs.declared.file_kind.Format.TheVariants.{V1 as Flat}
 use Rattle.quota_v1.specs.Opened.{most_next_reads}
 use Rattle.quota_map.proofs.AnyLemmas.{flat_looks, flat_next_few, tree_looks, tree_next_few}
-use Rattle.quota_map.specs.AnyFile.{HoldsAny, any_seen}
+use Rattle.quota_map.proofs.PassingLemmas.{flat_passing, tree_passing}
+use Rattle.quota_map.specs.AnyFile.{HoldsAny, any_passing_reads, any_seen}
 use Rattle.quota_map.specs.declared.any_file.AnyFile.{AnyFile}
+use Rattle.quota_map.specs.declared.any_file.AnyFile.TheVariants.{V1, Tree}
 use Rattle.quota_map.proofs.any_file.AnyFileQuotaFile.next_after.Goals as goal
 
 pub returns-in-V1-clause-looks : goal.returns-in-V1-clause-looks
@@ -20,3 +23,21 @@ returns-in-V1-clause-found g c =
     let S = g.S.Store in
     subst (λ (file : AnyFile). IfOk c.next_after.result (λ found. (value : QuotaValue) → HoldsAny S.tells (S.seen c.args.store.now).files file value → IsNextAfter c.args.after value.records found)) (sym c.in-V1.is)
     c.next_after.ensures.found
+
+pub returns-in-V1-clause-passing : goal.returns-in-V1-clause-passing
+returns-in-V1-clause-passing g c =
+    let S = g.S.Store in
+    subst
+    (λ (file : AnyFile). (value : QuotaValue) → HoldsAny S.tells (S.seen c.args.store.now).files file value
+    → (S.seen c.next_after.new.store).reads ≤ (S.seen c.args.store.now).reads + any_passing_reads (any_seen file) ((S.seen c.args.store.now).files (any_seen file).name) (first_after c.args.after) (passed_up_to c.next_after.result))
+    (sym c.in-V1.is)
+    (λ value held. flat_passing (any_seen (V1 c.in-V1.file)) _ _ _ _ _ refl (c.next_after.ensures.passing value held))
+
+pub returns-in-Tree-clause-passing : goal.returns-in-Tree-clause-passing
+returns-in-Tree-clause-passing g c =
+    let S = g.S.Store in
+    subst
+    (λ (file : AnyFile). (value : QuotaValue) → HoldsAny S.tells (S.seen c.args.store.now).files file value
+    → (S.seen c.next_after-in-Tree.new.store).reads ≤ (S.seen c.args.store.now).reads + any_passing_reads (any_seen file) ((S.seen c.args.store.now).files (any_seen file).name) (first_after c.args.after) (passed_up_to c.next_after-in-Tree.result))
+    (sym c.in-Tree.is)
+    (λ value held. tree_passing (any_seen (Tree c.in-Tree.file)) _ _ _ _ _ c.in-Tree.file.tree (c.next_after-in-Tree.ensures.passing value held))

@@ -1,18 +1,17 @@
-use Rattle.std.proofs.Common.{refl}
 use Rattle.quota_blocks.specs.FileChange.{Remove}
 use Rattle.quota_map.proofs.AnyLemmas.{flat_changes, flat_in_place, tree_changes, tree_in_place}
 use Rattle.quota_map.proofs.any_file.AnyFileQuotaFile.remove.Goals as goal
 
 pub returns-in-V1 : goal.returns-in-V1
 returns-in-V1 g c = record {
-  in_place = flat_in_place c.args.self.now c.in-V1.file (Remove c.args.id) g.S.Store.tells _ _ _ c.in-V1.is (c.remove.ensures.in_place refl);
+  in_place = flat_in_place c.args.self.now c.in-V1.file g.S.Store.tells _ _ _ c.in-V1.is c.remove.ensures.in_place;
   never_full = c.remove.ensures.never_full;
   changes = flat_changes c.args.self.now c.in-V1.file c.remove.new.self g.S.Store.tells _ _ (Remove c.args.id) _ c.in-V1.is c.remove.ensures.changes;
 }
 
 pub returns-in-Tree : goal.returns-in-Tree
 returns-in-Tree g c = record {
-  in_place = tree_in_place c.args.self.now c.in-Tree.file (Remove c.args.id) g.S.Store.tells _ _ _ c.in-Tree.is (c.remove-in-Tree.ensures.in_place refl);
+  in_place = tree_in_place c.args.self.now c.in-Tree.file g.S.Store.tells _ _ _ c.in-Tree.is c.remove-in-Tree.ensures.in_place;
   never_full = c.remove-in-Tree.ensures.never_full;
   changes = tree_changes c.args.self.now c.in-Tree.file c.remove-in-Tree.new.self g.S.Store.tells _ _ (Remove c.args.id) _ c.in-Tree.is c.in-Tree.file.tree c.remove-in-Tree.ensures.changes;
 }

@@ -7,9 +7,11 @@ use Rattle.quota_v1.proofs.ChangedLemmas.{changes_after_read}
 use Rattle.quota_v1.proofs.FlatChangesLemmas.{flat_done, flat_torn, remove_right, stays_done, stays_failed}
 use Rattle.quota_v1.proofs.LooksLemmas.{forgotten, removes_none, removes_refused}
 use Rattle.quota_v1.proofs.MakesLemmas.{value_found}
+use Rattle.quota_v1.specs.Place.{block_time_start, inode_time_start, record_start}
 use Rattle.quota_v1.proofs.flat_file.V1FileQuotaFile.remove.Goals as goal
 
 pub returns-in-Ok-None-clause-changes : goal.returns-in-Ok-None-clause-changes
+unfolding record_start block_time_start inode_time_start
 returns-in-Ok-None-clause-changes g c =
     let S = g.S.Store in
     let was = c.args.self.now in
@@ -18,6 +20,7 @@ returns-in-Ok-None-clause-changes g c =
     (λ value held. forgotten c.forget.new.self held.file c.forget.ensures) c.args.id tt did.leaves did.reads (λ told file is long. sym c.in-Ok-None.field-0-is ∙ did.found told file is long)
 
 pub returns-in-Err-clause-changes : goal.returns-in-Err-clause-changes
+unfolding record_start block_time_start inode_time_start
 returns-in-Err-clause-changes g c =
     let S = g.S.Store in
     let was = c.args.self.now in
@@ -26,6 +29,7 @@ returns-in-Err-clause-changes g c =
     (λ value held. forgotten c.forget.new.self held.file c.forget.ensures) c.refused.ensures.same did.leaves did.reads did.refused did.may c.refused.ensures.counted
 
 pub returns-in-Ok : goal.returns-in-Ok
+unfolding record_start block_time_start inode_time_start
 returns-in-Ok g c =
     let S = g.S.Store in
     let was = c.args.self.now in
@@ -37,7 +41,7 @@ returns-in-Ok g c =
     let none : unless_zeros c.default.result ≡ None = rw (zeros.0, zeros.1.0, zeros.1.1.0, zeros.1.1.1.0, zeros.1.1.1.1.0, zeros.1.1.1.1.1.0, zeros.1.1.1.1.1.1.0, zeros.1.1.1.1.1.1.1) in
     let changes = changes_after_read S.tells (PutsRecord c.args.id c.default.result was.times) (string_bytes was.name) old (S.seen c.read_record.new.store) new _ read.leaves read.reads (omega (arith, did.reads)) did.changes in
     record {
-      in_place = λ _. stays_done S.tells _ (string_bytes was.name) old new _ tt changes;
+      in_place = stays_done S.tells _ (string_bytes was.name) old new _ tt changes;
       never_full = tt;
       changes = flat_done (Remove c.args.id) S.tells (PutsRecord c.args.id c.default.result was.times) old new (string_bytes was.name) was.opened was.len was.len was.times was.times was.window c.forget.new.self _ tt changes
           (λ value held. value_found held.file value c.args.id c.in-Ok-Some.field-0-0 (sym c.in-Ok-Some.field-0-is ∙ read.found held.told held.file held.there (sym held.agrees.long)) held.stands)
@@ -47,7 +51,8 @@ returns-in-Ok g c =
     }
 
 pub returns-in-Err-write_record-clause-in_place : goal.returns-in-Err-write_record-clause-in_place
-returns-in-Err-write_record-clause-in_place g c = λ _.
+unfolding record_start block_time_start inode_time_start
+returns-in-Err-write_record-clause-in_place g c =
     let S = g.S.Store in
     let was = c.args.self.now in
     let old = S.seen c.args.store.now in
@@ -58,6 +63,7 @@ returns-in-Err-write_record-clause-in_place g c = λ _.
     stays_failed S.tells _ (string_bytes was.name) old new _ c.refused-in-Err-write_record.result c.refused-in-Err-write_record.ensures.same changes
 
 pub returns-in-Err-write_record-clause-changes : goal.returns-in-Err-write_record-clause-changes
+unfolding record_start block_time_start inode_time_start
 returns-in-Err-write_record-clause-changes g c =
     let S = g.S.Store in
     let was = c.args.self.now in

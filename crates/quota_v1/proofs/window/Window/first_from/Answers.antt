@@ -1,9 +1,11 @@
 use Rattle.std.proofs.Common.{◌≡◌, ◌+◌, ◌<◌, min, arith}
 use Rattle.outside.proofs.FrameLemmas.{only_reads-then}
 use Rattle.quota_v1.proofs.WindowLemmas.{first_then, held_of_file, held_on, none_then, reads_exact, reads_within}
+use Rattle.quota_v1.specs.Place.{block_time_start, inode_time_start, record_start}
 use Rattle.quota_v1.proofs.window.Window.first_from.Goals as goal
 
 pub returns-in-Some-clause-found : goal.returns-in-Some-clause-found
+unfolding record_start block_time_start inode_time_start
 returns-in-Some-clause-found g c = λ told file is whole held.
     let so_far = c.loop-next.invariant in
     let on = held_on _ _ c.args.name.now c.args.self.now c.loop-next.self c.bring.new.self so_far.leaves.files (so_far.held told) (c.bring.ensures.held told) in
@@ -11,11 +13,19 @@ returns-in-Some-clause-found g c = λ told file is whole held.
     (so_far.none told file is whole held) (c.in-Some.ensures.found file whole (held_of_file _ file c.args.self.now c.bring.new.self is on held))
 
 pub returns-in-Some-clause-held : goal.returns-in-Some-clause-held
+unfolding record_start block_time_start inode_time_start
 returns-in-Some-clause-held g c = λ told.
     let so_far = c.loop-next.invariant in
     held_on _ _ c.args.name.now c.args.self.now c.loop-next.self c.bring.new.self so_far.leaves.files (so_far.held told) (c.bring.ensures.held told)
 
+pub returns-in-Some-clause-near : goal.returns-in-Some-clause-near
+unfolding record_start block_time_start inode_time_start
+returns-in-Some-clause-near g c =
+    let so_far = c.loop-next.invariant in
+    omega (arith, so_far.exact c.loop-next-test.true, so_far.later, c.bring.ensures.reads, c.in-Some.ensures.between.0)
+
 pub loop-next-preserved : goal.loop-next-preserved
+unfolding record_start block_time_start inode_time_start
 loop-next-preserved g c =
     let so_far = c.loop-next.invariant in
     let has = c.in_ok-bring.ensures.has in
