@@ -1,5 +1,5 @@
 -- Commands whose words are refused, and what all commands share.
-use Rattle.std.proofs.Common.{◌≡◌, ◌≢◌, ◌∙◌, ℕ, Bool, true, false, IsTrue, List, [], ◌∷◌, Option, None, Some, Ok, Err, Result, inl, inr, refl, sym, ap, subst, arith}
+use Rattle.std.proofs.Common.{◌≡◌, ◌≢◌, ◌∙◌, ℕ, ◌≤◌, ◌+◌, Bool, true, false, IsTrue, List, [], ◌∷◌, Option, None, Some, Ok, Err, Result, inl, inr, refl, sym, ap, subst, arith}
 use Rattle.std.specs.Prelude.{IfErr, IfSome, IsErr, IsErrAnd, OnErr, OnOk, ◌↔◌}
 use Rattle.std.proofs.lemmas.Bool.{false≢true}
 use Rattle.std.proofs.lemmas.Result.{on_ok_weaker}
@@ -26,10 +26,11 @@ use Rattle.command_words.specs.Usage.{IsUsageFault, usage_refusal}
 use Rattle.command_words.specs.Asked.{command_of}
 use Rattle.command_words.proofs.KnownLemmas.{IsKnown, is_known}
 use Rattle.command_words.proofs.NameLemmas.{never_new}
-use Rattle.run_steps.specs.Done.{RunSeen, RunTells}
+use Rattle.run_steps.specs.Done.{IsWorldTold, RunSeen, RunTells, outside_of}
 use Rattle.run_steps.specs.Naming.{NamesMayRefuse}
 use Rattle.run_steps.specs.Showing.{ShowingMayRefuse}
 use Rattle.run_steps.specs.Steps.{Steps}
+use Rattle.run_steps.specs.Writes.{ReadsWithin}
 use Rattle.run_steps.specs.declared.invocation.Invocation.{Invocation}
 use Rattle.run_steps.proofs.PhaseLemmas.{carries_more, nothing_carried, stop_carried}
 use Rattle.edit_commands.specs.Apply.{ApplyMayRefuse}
@@ -49,7 +50,7 @@ use Rattle.option_words.specs.declared.export.Export.{Export}
 use Rattle.serve_command.specs.Serve.{ExportingMayRefuse, ServeMayRefuse}
 use Rattle.serve_command.specs.Words.{CanServe}
 use Rattle.serve_command.proofs.WordLemmas.{asked_serves}
-use Rattle.command_table.specs.Description.{Description, IsCarriedOut, IsLeftByEdit}
+use Rattle.command_table.specs.Description.{ChangesWithin, Description, IsCarriedOut, IsLeftByEdit}
 use Rattle.command_table.specs.Table.{asked_by, described, not_here, refused, unknown_command}
 
 -- No command that was read is refused for its words.
@@ -156,6 +157,9 @@ read_carried table command asked invocation tells old new result is carried =
       carries = carries_more _ _ _ _ tells old new result (λ cause said may. inr may) carried.carries;
       named = carried.named;
       edited = carried.edited;
+      within = record { alone = carried.within.alone; few = carried.within.few };
+      reads = carried.reads;
+      made = carried.made;
       synced = carried.synced;
       unfinished = carried.unfinished;
       untaken = carried.untaken;
@@ -178,6 +182,11 @@ holds_of_one : (file : Option (List ℕ)) (holds : List ℕ → Type 0) → ((on
 holds_of_one None holds all = tt
 holds_of_one (Some one) holds all = all one
 
+-- as many calls as there were are no more than others
+most_same : (most : Option ℕ) (writes : ℕ) → IfSome most (λ (m : ℕ). writes ≤ writes + m)
+most_same None writes = tt
+most_same (Some m) writes = omega arith
+
 pub not_read : (table : Command → Description) (asked : Result Command Refusal) (invocation : Invocation) (tells : RunTells) (old : RunSeen) (fault : UsageFault) → IsUsageFault asked fault
     → IsCarriedOut (asked_by table asked) invocation tells old old (Err (usage_refusal fault))
 not_read table (Ok command) invocation tells old (UsageOf kind word) is = absurd (cc)
@@ -185,6 +194,9 @@ not_read table (Ok command) invocation tells old NoMemory is = record {
   carries = nothing_carried ((table command).steps invocation) _ _ tells old (usage_refusal NoMemory) tt (inl refl) (record { line = λ no. refl; input_line = λ no. refl });
   named = holds_of_one (table command).replaces _ (λ file told. refl);
   edited = holds_of_one (table command).edits _ (λ file told other. inl refl);
+  within = record { alone = holds_of_one (table command).alone _ (λ file other differ. refl); few = most_same (table command).most_writes old.store.writes };
+  reads = tt;
+  made = tt;
   synced = tt;
   unfinished = λ link. absurd (cc);
   untaken = λ one five. refl;
@@ -197,6 +209,9 @@ not_read table (Err refusal) invocation tells old (UsageOf kind word) is =
       carries = stop_carried _ (refused (usage_refusal (UsageOf kind word))).may tells old (usage_refusal (UsageOf kind word)) (λ stated fact. fact) refl (record { line = λ no. refl; input_line = λ no. refl });
       named = tt;
       edited = tt;
+      within = record { alone = tt; few = tt };
+      reads = tt;
+      made = tt;
       synced = tt;
       unfinished = λ link. tt;
       untaken = λ one five. refl;
@@ -211,6 +226,9 @@ not_here_carried invocation tells old = record {
   carries = stop_carried not_here.uses not_here.may tells old unknown_command (λ stated fact. fact) refl (record { line = λ no. refl; input_line = λ no. refl });
   named = tt;
   edited = tt;
+  within = record { alone = tt; few = tt };
+  reads = tt;
+  made = tt;
   synced = tt;
   unfinished = λ link. tt;
   untaken = λ one five. refl;
@@ -257,6 +275,11 @@ pub read_synced : (steps : Steps) (uses : Uses) (may : Cause → List ℕ → Ty
 read_synced steps uses may tells old new result reads carries none =
     on_ok_weaker result (λ added told. record { none = added; changed = λ name. inr (ap (λ (files : World). files name) (carries.only_reads reads).files) }) none
 
+-- what holds always holds where it was done
+pub of_done : (result : Result (Unit {0}) Refusal) (holds : Type 0) → holds → OnOk result holds
+of_done (Ok value) holds is = is
+of_done (Err refusal) holds is = tt
+
 -- a command that uses no link and reads no commands was carried out
 pub carried_alone : (d : Description) (invocation : Invocation) (tells : RunTells) (old new : RunSeen) (result : Result (Unit {0}) Refusal)
     → d.unfinished invocation tells old new → d.uses.reads_commands ≡ false → new.link ≡ old.link → CarriesOut (d.steps invocation) d.uses
@@ -264,11 +287,16 @@ pub carried_alone : (d : Description) (invocation : Invocation) (tells : RunTell
     → IfSome d.replaces (λ (file : List ℕ). OnErr result (IsTrue tells.store → new.store.files file ≡ old.store.files file))
     → IfSome d.edits (λ (file : List ℕ). IfErr result (λ (refusal : Refusal). IsTrue tells.store
     → IsLeftByEdit (status_of refusal.cause) old.store.files new.store.files file))
+    → ChangesWithin d old.store new.store → OnOk result (IsWorldTold tells → ReadsWithin (d.most_reads (outside_of old)) old.store new.store)
+    → OnOk result (IsTrue tells.store → d.made invocation (outside_of old) new.store.files)
     → OnOk result (IsTrue tells.store → AreSynced old.store new.store) → IsCarriedOut d invocation tells old new result
-carried_alone d invocation tells old new result finished one same carries named edited synced = record {
+carried_alone d invocation tells old new result finished one same carries named edited within reads made synced = record {
   carries = carries;
   named = named;
   edited = edited;
+  within = within;
+  reads = reads;
+  made = made;
   synced = synced;
   unfinished = of_refusal result _ (λ refusal failed. finished);
   untaken = λ _. of_refusal result _ (λ refusal five. same);

@@ -1,17 +1,19 @@
 -- What is said of a command, and what all that carry one out keep to.
-use Rattle.std.specs.Prelude.{◌≡◌, ◌≢◌, ◌⊎◌, ℕ, Bool, false, None, IsTrue, IfErr, IfSome, OnErr, OnOk, List, Option, Result}
+use Rattle.std.specs.Prelude.{◌≡◌, ◌≢◌, ◌≤◌, ◌⊎◌, ◌+◌, ℕ, Bool, false, None, IsTrue, IfErr, IfSome, OnErr, OnOk, List, Option, Result}
 use Rattle.std.specs.Result.{result_err}
 use Rattle.quota_blocks.specs.Frame.{AreSynced}
-use Rattle.quota_blocks.specs.World.{World}
+use Rattle.quota_blocks.specs.Seen.{StoreSeen}
+use Rattle.quota_blocks.specs.World.{KeepsOthers, World}
 use Rattle.refusals.specs.declared.cause.Cause.{Cause}
 use Rattle.refusals.specs.declared.cause.Cause.TheVariants.{LinkFault}
 use Rattle.refusals.specs.declared.reason.Refusal.{Refusal}
 use Rattle.refusals.specs.Status.{status_of}
 use Rattle.quota_blocks.specs.QuotaValue.{QuotaValue}
 use Rattle.run_steps.specs.Act.{MayBeLeft}
-use Rattle.run_steps.specs.Done.{Outside, RunSeen, RunTells}
+use Rattle.run_steps.specs.Done.{IsWorldTold, Outside, RunSeen, RunTells, outside_of}
 use Rattle.run_steps.specs.Run.{CarriesOut, Uses}
 use Rattle.run_steps.specs.Steps.{Steps}
+use Rattle.run_steps.specs.Writes.{ReadsWithin}
 use Rattle.run_steps.specs.declared.invocation.Invocation.{Invocation}
 
 -- a command of these uses comes to use the link where it uses it, whatever the input says and whichever its refusal is
@@ -33,6 +35,14 @@ pub record Description : Type 1 where
   pub replaces : Option (List ℕ)
   -- the file that it edits, which stays as it was where the command was refused, but for what an edit that failed may leave of it
   pub edits : Option (List ℕ)
+  -- the only file that it changes, and the only one that it writes, however it ends
+  pub alone : Option (List ℕ)
+  -- how many calls of `write` to the store it makes at most, however it ends, where that rests on nothing but its words
+  pub most_writes : Option ℕ
+  -- how many calls of `read` to the store it makes at most where it was done, by what was outside, where that is said
+  pub most_reads : Outside → Option ℕ
+  -- what stands of the files where it was done, beside what its acts say
+  pub made : Invocation → Outside → World → Type 0
   -- what is known of its words, wherever words ask for it
   pub known : Type 0
   -- what stands where it is said that the link failed: not all that was to be done with the link was done
@@ -62,6 +72,12 @@ abbrev pub IsLeftByEdit : (status : ℕ) (old new : World) → List ℕ → Type
 IsLeftByEdit status old new file =
     status ≢ 0 → (new file ≡ old file) ⊎ ((status ≡ 4) × ((value : QuotaValue) × MayBeLeft value (old file) (new file)))
 
+-- However a command ended, and whatever is told, no other file has changed than the only one that it changes, and there were no more
+-- calls of `write` to the store than it makes.
+pub record ChangesWithin (command : Description) (old new : StoreSeen) : Type 0 where
+  pub alone : IfSome command.alone (λ (file : List ℕ). KeepsOthers file old.files new.files)
+  pub few : IfSome command.most_writes (λ (most : ℕ). new.writes ≤ old.writes + most)
+
 -- A command was carried out but for its error line. Where it was refused, for whichever cause, a file that it replaces as a whole
 -- is as it was, and one that it edits is as an edit leaves it by the status of that cause; and where it was done, what was written has
 -- been synced. The link is said to have failed only where not all was done with it; where memory was wanting for a command that reads
@@ -72,6 +88,9 @@ pub record IsCarriedOut (command : Description) (invocation : Invocation) (tells
   pub named : IfSome command.replaces (λ (file : List ℕ). OnErr result (IsTrue tells.store → new.store.files file ≡ old.store.files file))
   pub edited : IfSome command.edits (λ (file : List ℕ). IfErr result (λ (refusal : Refusal). IsTrue tells.store
       → IsLeftByEdit (status_of refusal.cause) old.store.files new.store.files file))
+  pub within : ChangesWithin command old.store new.store
+  pub reads : OnOk result (IsWorldTold tells → ReadsWithin (command.most_reads (outside_of old)) old.store new.store)
+  pub made : OnOk result (IsTrue tells.store → command.made invocation (outside_of old) new.store.files)
   pub synced : OnOk result (IsTrue tells.store → AreSynced old.store new.store)
   pub unfinished : IfErr result (λ (refusal : Refusal). refusal.cause ≡ LinkFault → command.unfinished invocation tells old new)
   pub untaken : command.uses.reads_commands ≡ false → IfErr result (λ (refusal : Refusal). status_of refusal.cause ≡ 5 → new.link ≡ old.link)

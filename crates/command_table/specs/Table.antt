@@ -20,9 +20,10 @@ use Rattle.run_steps.specs.Showing.{showing_uses}
 use Rattle.run_steps.specs.Steps.{Stop}
 use Rattle.run_steps.specs.declared.invocation.Invocation.{Invocation}
 use Rattle.edit_commands.specs.Apply.{ApplyMayRefuse, ApplySteps, apply_uses}
-use Rattle.edit_commands.specs.Batch.{BatchMayRefuse, BatchSteps, batch_uses}
+use Rattle.edit_commands.specs.Batch.{BatchMayRefuse, BatchSteps, batch_reads, batch_uses}
 use Rattle.edit_commands.specs.EditWords.{words_warn}
 use Rattle.edit_commands.specs.Edits.{EditMayRefuse, EditSteps, faulty_edit}
+use Rattle.edit_commands.specs.Made.{MakesWords}
 use Rattle.edit_commands.specs.Print.{PrintMayRefuse, PrintSteps, faulty_print}
 use Rattle.edit_commands.specs.Room.{IsFullForForm, IsFullForLine, IsFullForWords}
 use Rattle.edit_commands.specs.declared.edit.EditWords.{EditWords}
@@ -34,7 +35,7 @@ use Rattle.file_commands.specs.Report.{ReportMayRefuse, ReportSteps}
 use Rattle.option_words.specs.declared.export.Export.{Export}
 use Rattle.rquota_serve.specs.Exported.{Exported, nothing_exported}
 use Rattle.rquota_serve.specs.Serving.{Stopped}
-use Rattle.serve_command.specs.Serve.{AreExported, MayExport, ServeMayRefuse, ServeSteps, serve_uses}
+use Rattle.serve_command.specs.Serve.{AreExported, MayExport, ServeMayRefuse, ServeSteps, serve_uses, serving_reads}
 use Rattle.command_table.specs.Conditions.{CanApply, CanCheck, CanConvert, CanEdit, CanEditLines, CanPrint, CanReport}
 use Rattle.command_table.specs.Description.{Description, links_as}
 
@@ -43,6 +44,14 @@ use Rattle.command_table.specs.Description.{Description, links_as}
 -- a command that edits no file: a check and a conversion make a file anew and look at none that is full
 abbrev pub edits_none : Invocation → Outside → World → Refusal → (blocks limit : ℕ) → Type 0
 edits_none invocation old files refusal blocks limit = ⊤
+
+-- it isn't said how many calls of `read` there are
+abbrev pub reads_unsaid : Outside → Option ℕ
+reads_unsaid old = None
+
+-- nothing more is said of the files
+abbrev pub makes_none : Invocation → Outside → World → Type 0
+makes_none invocation old files = ⊤
 
 -- the report of a file
 abbrev pub reporting : Common → Options → List ℕ → Description
@@ -53,6 +62,10 @@ reporting common options file = record {
   faulty = None;
   replaces = None;
   edits = None;
+  alone = None;
+  most_writes = None;
+  most_reads = reads_unsaid;
+  made = makes_none;
   known = ⊤;
   unfinished = λ (invocation : Invocation) (tells : RunTells) (old new : RunSeen). ⊤;
   full = edits_none;
@@ -69,6 +82,10 @@ editing common words file = record {
   faulty = faulty_edit common words;
   replaces = None;
   edits = if words_warn words then None else Some file;
+  alone = Some file;
+  most_writes = Some 12;
+  most_reads = reads_unsaid;
+  made = λ (invocation : Invocation) (old : Outside) (files : World). MakesWords common words file invocation.now old.files files;
   known = ⊤;
   unfinished = λ (invocation : Invocation) (tells : RunTells) (old new : RunSeen). ⊤;
   full = λ (invocation : Invocation) (old : Outside) (files : World) (refusal : Refusal) (blocks limit : ℕ).
@@ -86,6 +103,10 @@ editing_lines common input file = record {
   faulty = None;
   replaces = None;
   edits = None;
+  alone = Some file;
+  most_writes = None;
+  most_reads = λ (old : Outside). batch_reads common input file old.files old.input;
+  made = makes_none;
   known = ⊤;
   unfinished = λ (invocation : Invocation) (tells : RunTells) (old new : RunSeen). ⊤;
   full = λ (invocation : Invocation) (old : Outside) (files : World) (refusal : Refusal) (blocks limit : ℕ).
@@ -103,6 +124,10 @@ printing common name file = record {
   faulty = faulty_print common name;
   replaces = None;
   edits = None;
+  alone = None;
+  most_writes = None;
+  most_reads = reads_unsaid;
+  made = makes_none;
   known = ⊤;
   unfinished = λ (invocation : Invocation) (tells : RunTells) (old new : RunSeen). ⊤;
   full = edits_none;
@@ -119,6 +144,10 @@ applying common input name file = record {
   faulty = faulty_print common name;
   replaces = None;
   edits = Some file;
+  alone = Some file;
+  most_writes = Some 12;
+  most_reads = reads_unsaid;
+  made = makes_none;
   known = ⊤;
   unfinished = λ (invocation : Invocation) (tells : RunTells) (old new : RunSeen). ⊤;
   full = λ (invocation : Invocation) (old : Outside) (files : World) (refusal : Refusal) (blocks limit : ℕ).
@@ -136,6 +165,10 @@ checking common fresh device input file = record {
   faulty = None;
   replaces = Some file;
   edits = None;
+  alone = None;
+  most_writes = None;
+  most_reads = reads_unsaid;
+  made = makes_none;
   known = ⊤;
   unfinished = λ (invocation : Invocation) (tells : RunTells) (old new : RunSeen). ⊤;
   full = edits_none;
@@ -153,6 +186,10 @@ converting kind old new source target = record {
   faulty = None;
   replaces = Some target;
   edits = None;
+  alone = None;
+  most_writes = None;
+  most_reads = reads_unsaid;
+  made = makes_none;
   known = source ≢ replacement_name target;
   unfinished = λ (invocation : Invocation) (tells : RunTells) (old new : RunSeen). ⊤;
   full = edits_none;
@@ -170,6 +207,10 @@ serving format calls exports = record {
   faulty = None;
   replaces = None;
   edits = None;
+  alone = None;
+  most_writes = None;
+  most_reads = λ (old : Outside). Some (serving_reads format calls exports old.files);
+  made = makes_none;
   known = (0 < calls) × MayExport [] exports;
   unfinished = λ (invocation : Invocation) (tells : RunTells) (old new : RunSeen). IsTrue tells.link
       → Stopped (λ (exported : Exported). IsTrue tells.store × AreExported format old.store.files exports nothing_exported exported) calls old.link new.link;
@@ -187,6 +228,10 @@ generating seed count file = record {
   faulty = None;
   replaces = None;
   edits = None;
+  alone = None;
+  most_writes = None;
+  most_reads = reads_unsaid;
+  made = makes_none;
   known = count < 2 ^ 32;
   unfinished = λ (invocation : Invocation) (tells : RunTells) (old new : RunSeen). ⊤;
   full = edits_none;
@@ -207,6 +252,10 @@ refused refusal = record {
   faulty = Some refusal;
   replaces = None;
   edits = None;
+  alone = None;
+  most_writes = None;
+  most_reads = reads_unsaid;
+  made = makes_none;
   known = ⊤;
   unfinished = λ (invocation : Invocation) (tells : RunTells) (old new : RunSeen). ⊤;
   full = edits_none;

@@ -6,7 +6,8 @@ use Rattle.std.proofs.lemmas.Bool.{false≢true}
 use Rattle.id_names.specs.NamesFile.{NameLine}
 use Rattle.quota_types.specs.declared.field.Field.{Field}
 use Rattle.quota_types.specs.declared.file_kind.Format.{Format}
-use Rattle.quota_blocks.specs.Frame.{OnlyReads, ReplacesOne}
+use Rattle.quota_blocks.specs.EditsOne.{EditsOne}
+use Rattle.quota_blocks.specs.Frame.{OnlyReads}
 use Rattle.quota_blocks.specs.QuotaValue.{QuotaValue}
 use Rattle.quota_blocks.specs.Seen.{StoreSeen}
 use Rattle.outside.proofs.FrameLemmas.{only_reads-none}
@@ -113,7 +114,7 @@ made_steps file now lines rest start tells old before after holds ended are has 
 -- All edits were made.
 
 pub all_carried : (file : List ℕ) (now : ℕ) (lines : List LineEdit) (start : QuotaValue) (may : Cause → List ℕ → Type 0) (tells : RunTells) (old : RunSeen) (store : StoreSeen) (holds : QuotaValue → Type 0)
-    → (IsTrue tells.store → AreMade file now lines [] start old.store store holds) → ReplacesOne file old.store store
+    → (IsTrue tells.store → AreMade file now lines [] start old.store store holds) → EditsOne file old.store store
     → CarriesOut (LineSteps file now lines start) line_uses may tells old (with_store old store) (Ok tt)
 all_carried file now lines start may tells old store holds made leaves =
     carried_whole (LineSteps file now lines start) line_uses may tells old (with_store old store) tt
@@ -131,7 +132,7 @@ pub line_refused : (file : List ℕ) (now : ℕ) (lines : List LineEdit) (line :
     → (IsTrue tells.store → AreMade file now lines (line ∷ rest) start old.store before holds)
     → ((value : QuotaValue) → holds value → IsRefusedAt file (edit_of line now) value (IsTrue tells.store) before after (edit_cause fault))
     → HasEditCause (edit_of line now) (before.files file) before.faults after.faults holds fault
-    → ReplacesOne file old.store before → ReplacesOne file before after → may (edit_cause fault) file
+    → EditsOne file old.store before → EditsOne file before after → may (edit_cause fault) file
     → CarriesOut (LineSteps file now lines start) line_uses may tells old (with_store old after) (Err (at_line line.number (refusal_of (edit_cause fault) file)))
 line_refused file now lines line rest start may tells old before after holds fault made refused cause first leaves allowed =
     let edit = edit_of line now in

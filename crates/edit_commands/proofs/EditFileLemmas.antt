@@ -1,9 +1,8 @@
 -- From what an edit says of an opened file of any format to what a command says of the file.
-use Rattle.std.proofs.Common.{◌⊎◌, inl, inr, ◌≡◌, ◌≢◌, ℕ, Bool, true, false, IsTrue, List, Option, Some, Ok, Err, Result, if◌then◌else◌, refl, sym, ap, subst, ◌∙◌, arith}
+use Rattle.std.proofs.Common.{◌⊎◌, inl, inr, ◌≡◌, ◌≢◌, ◌+◌, ◌≤◌, ℕ, Bool, true, false, IsTrue, List, Option, Some, Ok, Err, Result, if◌then◌else◌, refl, sym, ap, subst, ◌∙◌, arith}
 use Rattle.std.specs.Prelude.{◌&&◌, ◌<◌, nat_lt, IfOk, IsOk, IsOkAnd}
 use Rattle.std.proofs.lemmas.Bool.{false≢true}
 use Rattle.std.proofs.lemmas.Bool.Decides.{nat_tests}
-use Rattle.std.specs.String.{string_bytes}
 use Rattle.quota_types.specs.Kept.{kept_of}
 use Rattle.quota_types.specs.Rec.{is_null_of}
 use Rattle.quota_types.specs.declared.field.Field.{Field}
@@ -28,6 +27,7 @@ use Rattle.quota_map.specs.StandsFor.{StandsForAs}
 use Rattle.quota_map.specs.declared.any_file.AnyFile.{AnyFile}
 use Rattle.quota_map.specs.declared.any_file.AnyFile.TheVariants.{V1 as FlatFile, Tree as TreeFile}
 use Rattle.quota_map.specs.View.{IsOpenedAs, blocks_allowed, fresh_seen, most_blocks}
+use Rattle.quota_map.proofs.AnyLemmas.{any_few_writes}
 use Rattle.quota_map.proofs.LeftLemmas.{held_format, left_seen}
 use Rattle.quota_map.proofs.SeenLemmas.{any_held_seen, tree_limit}
 use Rattle.set_edit.specs.Edited.{with_kept}
@@ -113,6 +113,14 @@ not_so false never = refl
 abbrev pub AnyEdits : {T : Type 0} → Edit → Bool → (opened file : AnyFile) (before after : StoreSeen) → Result T EditFault → Type 0
 AnyEdits edit tells opened file before after result = Edits edit (any_laws tells) (any_at tells before opened) (any_at tells after file) result
 
+-- an edit makes twelve calls of `write` at most, however it ended
+pub few_writes : {T : Type 0} (tells : Bool) (edit : Edit) (opened file : AnyFile) (before after : StoreSeen) (result : Result T EditFault) → AnyEdits edit tells opened file before after result
+    → after.writes ≤ before.writes + 12
+few_writes tells edit opened file before after result edits =
+    let some = edits.value.writes in
+    let few = any_few_writes (any_seen opened) some.0 in
+    omega (arith, some.1, few)
+
 -- an edited value that the opened file holds is seen of the file, which is not too large
 edited_seen : (tells : Bool) (edit : Edit) (opened file : AnyFile) (before after : StoreSeen) (name : List ℕ) (format : Format) (value : QuotaValue) (edited : Result QuotaValue (Field × ℕ))
     → edit.edited value ≡ edited → KeepsFormat edit → any_seen opened ≡ fresh_seen name format → any_seen file ≡ fresh_seen name format → HoldsAny tells before.files opened value
@@ -141,6 +149,7 @@ any_made tells edit opened file before after name format value told keeps was he
           (λ needs blocks limit some. subst (λ (n : List ℕ). IfOk (edit.edited value) (λ (new : QuotaValue). ¬ LacksRoom (any_seen opened) (before.files n) new blocks limit)) named
           (done.room needs value blocks limit (held told) some));
       leaves = rw named at edits.value.leaves;
+      few = few_writes tells edit opened file before after _ edits;
     }
 
 -- Refused edits.
@@ -245,6 +254,7 @@ any_refused {T} name edit tells opened file before after format value (File faul
           (edits.value.full both.0 value blocks most_blocks (held told)) is
           (lacks_most tells before.files opened bytes value new name format was (held told) (keeps value new is) (less_of most_blocks blocks both.1)));
       leaves = rw named at edits.value.leaves;
+      few = few_writes tells edit opened file before after _ edits;
     }
 any_refused name edit tells opened file before after format value (Unfit out) keeps was held edits =
     let named : (any_seen opened).name ≡ name = ap (λ (s : FileSeen). s.name) was in
@@ -304,10 +314,10 @@ pub edits_unskipped : (edit : Edit) (tells : Bool) (opened file : AnyFile) (befo
     → AnyEdits edit tells opened file before after (unskipped done)
 edits_unskipped edit tells opened file before after (Ok done) edits =
     let value = edits.value in
-    record { value = record { done = value.done; refused = tt; idle = value.idle; full = value.full; leaves = value.leaves }; no_room = tt }
+    record { value = record { done = value.done; refused = tt; idle = value.idle; full = value.full; leaves = value.leaves; writes = value.writes }; no_room = tt }
 edits_unskipped edit tells opened file before after (Err fault) edits =
     let value = edits.value in
-    record { value = record { done = tt; refused = value.refused; idle = value.idle; full = value.full; leaves = value.leaves }; no_room = edits.no_room }
+    record { value = record { done = tt; refused = value.refused; idle = value.idle; full = value.full; leaves = value.leaves; writes = value.writes }; no_room = edits.no_room }
 
 -- Times that are skipped.
 

@@ -1,11 +1,12 @@
 -- From an edit of an opened file to what a command does that edits it.
-use Rattle.std.proofs.Common.{◌≡◌, ℕ, ◌≤◌, Bool, true, false, IsTrue, List, [], ◌∷◌, ◌++◌, take, Option, None, Some, Ok, Err, Result, inr, if◌then◌else◌, refl, sym, ap, subst, ◌∙◌, arith, append-nil, append_assoc}
+use Rattle.std.proofs.Common.{◌≡◌, ℕ, ◌+◌, ◌≤◌, Bool, true, false, IsTrue, List, [], ◌∷◌, ◌++◌, take, Option, None, Some, Ok, Err, Result, inr, if◌then◌else◌, refl, sym, ap, subst, ◌∙◌, arith, append-nil, append_assoc}
 use Rattle.std.specs.Prelude.{IsOkAnd}
 use Rattle.std.specs.List.{concat}
 use Rattle.std.proofs.lemmas.Bool.{false≢true}
 use Rattle.quota_types.specs.declared.field.Field.{Field}
 use Rattle.quota_blocks.specs.Count.{Rose}
-use Rattle.quota_blocks.specs.Frame.{OnlyReads, ReplacesOne}
+use Rattle.quota_blocks.specs.EditsOne.{EditsOne}
+use Rattle.quota_blocks.specs.Frame.{OnlyReads}
 use Rattle.quota_blocks.specs.QuotaValue.{QuotaValue}
 use Rattle.quota_blocks.specs.Seen.{SinkSeen, StoreSeen}
 use Rattle.quota_blocks.specs.Text.{AppendsPrefix}
@@ -23,9 +24,10 @@ use Rattle.run_steps.specs.Steps.{DoingAll, Finish, Steps, Then}
 use Rattle.run_steps.specs.Changing.{blocks_after, edit_uses, written}
 use Rattle.edit_commands.specs.Batch.{value_left}
 use Rattle.edit_commands.specs.Edits.{IsSaidInPart, changed, edit_step, is_too_large, said_acts}
-use Rattle.run_steps.proofs.ActLemmas.{answers-append, appends_nothing, changes_none_before, err_bytes-append, follows-append, none_in_part, out_bytes-append}
+use Rattle.run_steps.proofs.ActLemmas.{answers-append, appends_nothing, err_bytes-append, follows-append, none_in_part, out_bytes-append}
 use Rattle.run_steps.proofs.DoingLemmas.{AreWritten, done_steps, written_none}
 use Rattle.run_steps.proofs.PartLemmas.{acts_in_part, carried_whole}
+use Rattle.run_steps.proofs.WritesLemmas.{writes_for-before, writes_for-edit}
 
 -- what is seen once the store was used, and lines were said
 abbrev pub with_said : RunSeen → StoreSeen → SinkSeen → RunSeen
@@ -67,7 +69,7 @@ all_said acts lines tells old store err are said = record {
   err = λ told. said told ∙ ap (λ (b : List ℕ). old.err.written ++ b) (sym (all_err acts lines old.store store are));
   answered = sym (append-nil old.link.answers) ∙ ap (λ (b : List (List ℕ)). old.link.answers ++ b)
       (sym (answers-append acts (said_acts lines) ∙ ap (λ (b : List (List ℕ)). b ++ answers (said_acts lines)) are.answered ∙ said_answers lines));
-  writes = λ none. are.writes (changes_none_before acts (said_acts lines) none);
+  writes = writes_for-before acts (said_acts lines) old.store.writes store.writes are.writes;
 }
 
 -- so many lines were said, and of the next one a prefix
@@ -83,7 +85,7 @@ said_up_to acts lines said unsaid tells old store err are whole part =
       out = λ told. appends_nothing (old.out.written ++ out_bytes (acts ++ said_acts said)) old.out.written (out_bytes (take 1 (said_acts unsaid))) (first.out told);
       err = λ told. subst (λ (b : List ℕ). AppendsPrefix (old.err.written ++ b) err.written (err_bytes (take 1 (said_acts unsaid)))) (sym (all_err acts said old.store store are)) (part told);
       answered = first.answered;
-      writes = λ none. first.writes (changes_none_before (acts ++ said_acts said) (take 1 (said_acts unsaid)) none);
+      writes = writes_for-before (acts ++ said_acts said) (take 1 (said_acts unsaid)) old.store.writes store.writes first.writes;
     }
 
 -- the error output failed in a line
@@ -110,11 +112,12 @@ EditedSeen name file store edit value edited =
     IsOkAnd edited (λ (new : QuotaValue). IsView (store.files name) new.kind (Some new.format) (Ok new) × (edit.is_idle value ≡ false → is_too_large edit file new ≡ false))
 
 -- What an edit of a value leaves that was made: where so much is told nothing is written where nothing is to be done, and the file
--- is seen as the edited value; and all files stay but the named one and the one with `.new` added to its name.
+-- is seen as the edited value; and all other files stay, with twelve calls of `write` at most.
 pub record IsMade (name : List ℕ) (edit : Edit) (value : QuotaValue) (told : Type 0) (old new : StoreSeen) : Type 0 where
   pub idle : told → IsTrue (edit.is_idle value) → OnlyReads true name old new
   pub set : told → EditedSeen name (old.files name) new edit value (edit.edited value)
-  pub leaves : ReplacesOne name old new
+  pub leaves : EditsOne name old new
+  pub few : new.writes ≤ old.writes + 12
 
 -- where there is room, a change passes with its acts
 pub written_passes : (name : List ℕ) (blocks : ℕ) (new : QuotaValue) (idle large : Bool) → (idle ≡ false → large ≡ false) → written name blocks new idle large ≡ Passed (change_acts name new idle)
@@ -129,21 +132,21 @@ step_passes name edit file value (Ok new) store seen = written_passes name (bloc
 step_passes name edit file value (Err out) store seen = absurd seen
 
 change_written : {done : Bool} (name : List ℕ) (new : QuotaValue) (idle : Bool) (old store : StoreSeen) → (IsTrue idle → OnlyReads done name old store)
-    → IsView (store.files name) new.kind (Some new.format) (Ok new) → ReplacesOne name old store → AreWritten (change_acts name new idle) old store
-change_written name new true old store same view leaves = written_none name old store (same refl)
-change_written name new false old store same view leaves = record {
+    → IsView (store.files name) new.kind (Some new.format) (Ok new) → EditsOne name old store → store.writes ≤ old.writes + 12 → AreWritten (change_acts name new idle) old store
+change_written name new true old store same view leaves few = written_none name old store (same refl)
+change_written name new false old store same view leaves few = record {
   files = (store.files, (view, leaves.files), refl);
-  writes = λ none. absurd none;
+  writes = writes_for-edit name new old.writes store.writes few;
   out = refl;
   err = refl;
   answered = refl;
 }
 
 edited_written : {done : Bool} (name : List ℕ) (edit : Edit) (value : QuotaValue) (edited : Result QuotaValue (Field × ℕ)) (old store : StoreSeen)
-    → (IsTrue (edit.is_idle value) → OnlyReads done name old store) → EditedSeen name (old.files name) store edit value edited → ReplacesOne name old store
+    → (IsTrue (edit.is_idle value) → OnlyReads done name old store) → EditedSeen name (old.files name) store edit value edited → EditsOne name old store → store.writes ≤ old.writes + 12
     → AreWritten (change_acts name (value_left edited value) (edit.is_idle value)) old store
-edited_written name edit value (Ok new) old store same seen leaves = change_written name new (edit.is_idle value) old store same seen.0 leaves
-edited_written name edit value (Err out) old store same seen leaves = absurd seen
+edited_written name edit value (Ok new) old store same seen leaves few = change_written name new (edit.is_idle value) old store same seen.0 leaves few
+edited_written name edit value (Err out) old store same seen leaves few = absurd seen
 
 -- the acts of an edit of a value
 abbrev pub acts_of : List ℕ → Edit → QuotaValue → List Act
@@ -154,7 +157,7 @@ step_made name edit value told old store made is = step_passes name edit (old.fi
 
 -- its acts were done
 pub acts_written : (name : List ℕ) (edit : Edit) (value : QuotaValue) (told : Type 0) (old store : StoreSeen) → IsMade name edit value told old store → told → AreWritten (acts_of name edit value) old store
-acts_written name edit value told old store made is = edited_written name edit value (edit.edited value) old store (made.idle is) (made.set is) made.leaves
+acts_written name edit value told old store made is = edited_written name edit value (edit.edited value) old store (made.idle is) (made.set is) made.leaves made.few
 
 -- the steps of an edit with this outcome, which says these lines
 abbrev pub Saying : Outcome (List Act) → List (List ℕ) → Steps

@@ -1,18 +1,19 @@
 -- An edit of a file that was refused: its steps and its reason.
-use Rattle.std.proofs.Common.{◌≡◌, ◌≢◌, ℕ, ◌≤◌, Bool, true, false, IsTrue, List, [], ◌∷◌, ◌++◌, Option, Some, Ok, Err, Result, inl, refl, sym, ap, subst, ◌∙◌, append-nil, arith}
+use Rattle.std.proofs.Common.{◌≡◌, ◌≢◌, ℕ, ◌+◌, ◌≤◌, Bool, true, false, IsTrue, List, [], ◌∷◌, ◌++◌, Option, Some, Ok, Err, Result, inl, refl, sym, ap, subst, ◌∙◌, append-nil, arith}
 use Rattle.std.specs.Prelude.{◌&&◌, ◌<◌, nat_lt, IfSome, IsOkAnd}
 use Rattle.std.proofs.lemmas.Bool.{false≢true}
 use Rattle.std.proofs.lemmas.Bool.Decides.{nat_tests}
 use Rattle.quota_types.specs.declared.field.Field.{Field}
 use Rattle.quota_types.specs.declared.field.NoRoom.{NoRoom}
-use Rattle.quota_blocks.specs.Frame.{OnlyReads, ReplacesOne}
+use Rattle.quota_blocks.specs.EditsOne.{EditsOne}
+use Rattle.quota_blocks.specs.Frame.{OnlyReads}
 use Rattle.quota_blocks.specs.QuotaFile.{IsChangeFault, UnlessStoreFailed}
 use Rattle.quota_blocks.specs.QuotaValue.{QuotaValue}
 use Rattle.quota_blocks.specs.Seen.{StoreSeen}
 use Rattle.quota_blocks.specs.World.{World}
 use Rattle.quota_blocks.specs.declared.quota_file.FileFault.{FileFault}
 use Rattle.quota_blocks.specs.declared.quota_file.FileFault.TheVariants.{Store, Damage, Full, Memory}
-use Rattle.outside.proofs.FrameLemmas.{replaces_one-read}
+use Rattle.quota_blocks.proofs.EditsOneLemmas.{edits_one-read}
 use Rattle.quota_map.specs.View.{most_blocks}
 use Rattle.set_edit.specs.EditFault.{IfNoRoom, file_fault}
 use Rattle.set_edit.specs.Editing.{Edit}
@@ -35,18 +36,20 @@ use Rattle.run_steps.proofs.ActLemmas.{appends_nothing}
 use Rattle.run_steps.proofs.OpeningLemmas.{refused_steps, unwritten, with_store}
 use Rattle.run_steps.proofs.PartLemmas.{nothing_begun, part_from}
 use Rattle.run_steps.proofs.ReasonLemmas.{reason_but_stated}
+use Rattle.run_steps.proofs.WritesLemmas.{writes_for-edit}
 use Rattle.edit_commands.proofs.EditLemmas.{Saying}
 
 -- What an edit of a value left that was refused: nothing was written unless the store failed. Where so much is told, nothing was
 -- written either where nothing is to be done, the value does not fit or there is no room for it, and the named file is what an edit
--- to the edited value that failed may leave. All files stay but the named one and the one with `.new` added to its name.
+-- to the edited value that failed may leave. All other files stay, with twelve calls of `write` at most.
 pub record IsRefusedAt (name : List ℕ) (edit : Edit) (value : QuotaValue) (told : Type 0) (old new : StoreSeen) (cause : Cause) : Type 0 where
   pub whole : status_of cause ≢ 4 → OnlyReads false name old new
   pub idle : told → IsTrue (edit.is_idle value) → OnlyReads false name old new
   pub named : told → (edited : QuotaValue) → edit.edited value ≡ Ok edited → MayBeLeft edited (old.files name) (new.files name)
   pub unfit : told → (out : Field × ℕ) → edit.edited value ≡ Err out → OnlyReads false name old new
   pub full : told → (edited : QuotaValue) → edit.edited value ≡ Ok edited → IsTrue (is_too_large edit (old.files name) edited) → OnlyReads false name old new
-  pub leaves : ReplacesOne name old new
+  pub leaves : EditsOne name old new
+  pub few : new.writes ≤ old.writes + 12
 
 -- an edit that was refused and only read
 pub refused_read : (name : List ℕ) (edit : Edit) (value : QuotaValue) (told : Type 0) (old new : StoreSeen) (cause : Cause) → OnlyReads false name old new
@@ -57,7 +60,8 @@ refused_read name edit value told old new cause read = record {
   named = λ is edited set. inl (ap (λ (files : World). files name) read.files);
   unfit = λ is out unfit. read;
   full = λ is edited set large. read;
-  leaves = replaces_one-read name old new read;
+  leaves = edits_one-read name old new read;
+  few = omega (arith, read.writes);
 }
 
 -- a file that was only read before an edit that was refused
@@ -75,12 +79,12 @@ read_part : {done : Bool} (name : List ℕ) (steps : Steps) (tells : RunTells) (
 read_part name steps tells old store reads = nothing_begun steps tells old (with_store old store) reads.files (λ told. refl) (λ told. refl) refl refl reads.writes
 
 written_part : {done : Bool} (name : List ℕ) (blocks : ℕ) (edited : QuotaValue) (idle large : Bool) (next : List Act → Steps) (tells : RunTells) (old : RunSeen) (store : StoreSeen) → BeginsWith next
-    → (IsTrue idle → OnlyReads done name old.store store) → (IsTrue large → OnlyReads done name old.store store) → MayBeLeft edited (old.store.files name) (store.files name) → ReplacesOne name old.store store
+    → (IsTrue idle → OnlyReads done name old.store store) → (IsTrue large → OnlyReads done name old.store store) → MayBeLeft edited (old.store.files name) (store.files name) → EditsOne name old.store store → store.writes ≤ old.store.writes + 12
     → IsDoneInPart (Then (written name blocks edited idle large) next) tells old (with_store old store)
-written_part name blocks edited true large next tells old store begins same full named leaves = read_part name (next []) tells old store (same refl)
-written_part name blocks edited false true next tells old store begins same full named leaves =
+written_part name blocks edited true large next tells old store begins same full named leaves few = read_part name (next []) tells old store (same refl)
+written_part name blocks edited false true next tells old store begins same full named leaves few =
     read_part name (Then (written name blocks edited false true) next) tells old store (full refl)
-written_part name blocks edited false false next tells old store begins same full named leaves = record {
+written_part name blocks edited false false next tells old store begins same full named leaves few = record {
   done = [];
   hand = Change name edited ∷ [];
   now = outside_of old;
@@ -90,7 +94,7 @@ written_part name blocks edited false false next tells old store begins same ful
   err = λ told. appends_nothing (old.err.written ++ []) old.err.written [] (sym (append-nil old.err.written));
   answered = sym (append-nil old.link.answers);
   datagrams = refl;
-  writes = λ none. absurd none;
+  writes = writes_for-edit name edited old.store.writes store.writes few;
 }
 
 changed_part : (name : List ℕ) (edit : Edit) (value : QuotaValue) (edited : Result QuotaValue (Field × ℕ)) (next : List Act → Steps) (tells : RunTells) (old : RunSeen) (store : StoreSeen) (cause : Cause)
@@ -98,7 +102,7 @@ changed_part : (name : List ℕ) (edit : Edit) (value : QuotaValue) (edited : Re
     → IsDoneInPart (Then (changed name edit (old.store.files name) value edited) next) tells old (with_store old store)
 changed_part name edit value (Ok one) next tells old store cause set begins refused is =
     written_part name (blocks_after (old.store.files name) one) one (edit.is_idle value) (is_too_large edit (old.store.files name) one) next tells old store begins (refused.idle is) (refused.full is one set)
-    (refused.named is one set) refused.leaves
+    (refused.named is one set) refused.leaves refused.few
 changed_part name edit value (Err out) next tells old store cause set begins refused is =
     read_part name (Then (changed name edit (old.store.files name) value (Err out)) next) tells old store (refused.unfit is out set)
 

@@ -1,6 +1,6 @@
 -- `setquota -b`: new limits of many identifiers, a line of an input each. Source: the manual page of setquota; what stands in
 -- a line, and that the edits of the lines before a refused one stay, is this project's own.
-use Rattle.std.specs.Prelude.{◌≡◌, ◌⊎◌, ℕ, ◌+◌, Bool, true, false, if◌then◌else◌, List, [], ◌∷◌, Option, Some, None, is_none, Result, Ok, Err}
+use Rattle.std.specs.Prelude.{◌≡◌, ◌⊎◌, ℕ, ◌+◌, ◌*◌, length, Bool, true, false, if◌then◌else◌, List, [], ◌∷◌, Option, Some, None, is_none, Result, Ok, Err}
 use Rattle.std.specs.List.{list_all}
 use Rattle.std.specs.Str.{is_utf8}
 use Rattle.id_names.specs.NamesFile.{NameLine}
@@ -9,7 +9,9 @@ use Rattle.quota_types.specs.declared.file_kind.Format.{Format}
 use Rattle.quota_blocks.specs.InputLines.{InputLines, NoLine, LineThen, LongNext, PastNext, input_lines}
 use Rattle.quota_blocks.specs.QuotaValue.{QuotaValue}
 use Rattle.quota_blocks.specs.Words.{words_of}
+use Rattle.quota_blocks.specs.Block.{file_of}
 use Rattle.quota_blocks.specs.World.{World}
+use Rattle.quota_map.specs.View.{opening_reads}
 use Rattle.set_edit.specs.Editing.{Edit}
 use Rattle.set_edit.specs.Edits.{limits_edit}
 use Rattle.set_edit.specs.declared.limits.Limits.{Limits as FourLimits}
@@ -181,6 +183,19 @@ abbrev pub BatchSteps : Common → Option (List ℕ) → List ℕ → Invocation
 BatchSteps common from file invocation =
     Naming common.kind common.names (λ (names : List NameLine).
     Opening common.kind common.format file (ReadSteps names from file invocation.now))
+
+-- how many calls of `read` the edits make at most that an input asks for: seventeen each
+abbrev pub line_reads : List NameLine → (bytes : List ℕ) → ℕ
+line_reads names bytes = 17 * length (input_asks names [] bytes).edits
+
+-- that many, where there is neither a file of names nor one of lines, which are read besides
+abbrev pub if_neither : (names from : Option (List ℕ)) → ℕ → Option ℕ
+if_neither None None reads = Some reads
+if_neither names from reads = None
+
+-- how many calls of `read` lines of the standard input make at most, the opening of the file with them, where there are no names
+abbrev pub batch_reads : Common → Option (List ℕ) → List ℕ → World → (bytes : List ℕ) → Option ℕ
+batch_reads common from file files bytes = if_neither common.names from (opening_reads common.format (file_of files file) + line_reads [] bytes)
 
 -- edits of lines change the store, and those before a refused one stay
 abbrev pub line_uses : Uses

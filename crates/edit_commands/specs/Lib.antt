@@ -2,6 +2,7 @@ pub mod Apply
 pub mod Batch
 pub mod EditWords
 pub mod Edits
+pub mod Made
 pub mod Print
 pub mod Room
 pub use Rattle.quota_blocks.specs.Frame

@@ -6,6 +6,7 @@ ghost use Rattle.run_steps.specs.Done.{seen_of, tells_of};
 ghost use Rattle.refusals.specs.Outcome.{refusal_in};
 ghost use Rattle.run_steps.specs.Run.{CarriesOut};
 ghost use Rattle.run_steps.specs.Steps.{Then};
+ghost use Rattle.run_steps.specs.Writes.{EditsAlone};
 ghost use Rattle.edit_commands.specs.Apply.{ApplyMayRefuse, ApplySteps, FormEditMayRefuse, FormSteps, NamedApplyMayRefuse, apply_uses};
 ghost use Rattle.edit_commands.specs.Edits.{IsLeftFor};
 ghost use Rattle.edit_commands.specs.Print.{faulty_print};
@@ -50,6 +51,8 @@ pub fn apply_by_word<S: Store, I: Source, E: Sink>(
     // Where it was refused, the file is as it was, or as an edit that failed may leave it.
     ensures named { IfErr result (λ refusal. IsTrue S.tells
         → IsLeftFor refusal.cause ((S.seen store.old).files file) ((S.seen store.new).files file)) }
+    // No file but this one has changed, with twelve calls of `write` at most, however it ended.
+    ensures alone { EditsAlone file (S.seen store.old) (S.seen store.new) }
     // Where it was done, what was written has been synced.
     ensures synced { OnOk result (IsTrue S.tells → AreSynced (S.seen store.old) (S.seen store.new)) }
     ensures untouched { IsSome from → input.new ≡ input.old }
@@ -93,6 +96,7 @@ fn apply_named<S: Store, I: Source, E: Sink>(
     ensures store { (refusal : Refusal) → refusal_in (identifier_of names.now word) ≡ Some refusal → store.new ≡ store.old }
     ensures named { IfErr result (λ refusal. IsTrue S.tells
         → IsLeftFor refusal.cause ((S.seen store.old).files file) ((S.seen store.new).files file)) }
+    ensures alone { EditsAlone file (S.seen store.old) (S.seen store.new) }
     ensures synced { OnOk result (IsTrue S.tells → AreSynced (S.seen store.old) (S.seen store.new)) }
     ensures untouched { IsSome from → input.new ≡ input.old }
     ensures keeps { I.keeps false input.old input.new }
@@ -127,6 +131,7 @@ fn apply_form<S: Store, I: Source, E: Sink>(
         (seen_of (S.seen store.new) (I.seen input.new) out (E.seen err.new) link) result }
     ensures named { IfErr result (λ refusal. IsTrue S.tells
         → IsLeftFor refusal.cause ((S.seen store.old).files file) ((S.seen store.new).files file)) }
+    ensures alone { EditsAlone file (S.seen store.old) (S.seen store.new) }
     ensures synced { OnOk result (IsTrue S.tells → AreSynced (S.seen store.old) (S.seen store.new)) }
     ensures untouched { IsSome from → input.new ≡ input.old }
     ensures keeps { I.keeps false input.old input.new }

@@ -1,13 +1,16 @@
-ghost use Rattle.std.specs.Prelude.{ℕ, Option, ◌≡◌, Bool, false, IsSome, IsTrue, OnOk};
+ghost use Rattle.std.specs.Prelude.{ℕ, ◌+◌, ◌*◌, ◌≤◌, Option, None, ◌≡◌, Bool, false, IsSome, IsTrue, OnOk, length};
 ghost use Rattle.quota_types.specs.declared.file_kind.Format.{Format as FormatOf};
+ghost use Rattle.quota_blocks.specs.Block.{file_of};
 ghost use Rattle.quota_blocks.specs.Frame.{AreSynced};
 ghost use Rattle.quota_blocks.specs.QuotaValue.{QuotaValue};
 ghost use Rattle.quota_blocks.specs.Seen.{LinkSeen, SinkSeen, SourceSeen};
-ghost use Rattle.quota_map.specs.View.{IsOpenedAs, fresh_seen};
+ghost use Rattle.quota_blocks.specs.World.{KeepsOthers};
+ghost use Rattle.quota_map.specs.View.{IsOpenedAs, fresh_seen, opening_reads};
 ghost use Rattle.run_steps.specs.Done.{seen_of, tells_of};
 ghost use Rattle.run_steps.specs.Run.{CarriesOut};
 ghost use Rattle.run_steps.specs.Steps.{Opening};
-ghost use Rattle.edit_commands.specs.Batch.{BatchMayRefuse, BatchSteps, LineSteps, LineEditMayRefuse, NamedBatchMayRefuse, ReadSteps, batch_uses, line_uses};
+ghost use Rattle.run_steps.specs.Writes.{ReadsWithin};
+ghost use Rattle.edit_commands.specs.Batch.{BatchMayRefuse, BatchSteps, LineSteps, LineEditMayRefuse, NamedBatchMayRefuse, ReadSteps, batch_reads, batch_uses, line_reads, line_uses};
 
 use crate::batch_input::{Batch, take_batch};
 use crate::batch_line::{LineEdit, at_line};
@@ -41,8 +44,14 @@ pub fn apply_lines<S: Store, I: Source>(
         (tells_of S.tells I.tells out_tells err_tells link_tells)
         (seen_of (S.seen store.old) (I.seen input.old) out err link)
         (seen_of (S.seen store.new) (I.seen input.new) out err link) result }
+    // No file but this one has changed, however it ended.
+    ensures alone { KeepsOthers file (S.seen store.old).files (S.seen store.new).files }
     // Where it was done, what was written has been synced.
     ensures synced { OnOk result (IsTrue S.tells → AreSynced (S.seen store.old) (S.seen store.new)) }
+    // Where it was done without a file of names, and out of the standard input, no more was read than the opening of the file takes, and
+    // seventeen blocks for each line that asks for an edit.
+    ensures reads { OnOk result (IsTrue S.tells → IsTrue I.tells
+        → ReadsWithin (batch_reads common from file (S.seen store.old).files (I.seen input.old).left) (S.seen store.old) (S.seen store.new)) }
     ensures untouched { IsSome from → input.new ≡ input.old }
     ensures keeps { I.keeps false input.old input.new }
 {
@@ -75,7 +84,10 @@ fn apply_named<S: Store, I: Source>(
         (tells_of S.tells I.tells out_tells err_tells link_tells)
         (seen_of (S.seen store.old) (I.seen input.old) out err link)
         (seen_of (S.seen store.new) (I.seen input.new) out err link) result }
+    ensures alone { KeepsOthers file (S.seen store.old).files (S.seen store.new).files }
     ensures synced { OnOk result (IsTrue S.tells → AreSynced (S.seen store.old) (S.seen store.new)) }
+    ensures reads { from ≡ None → OnOk result (IsTrue S.tells → IsTrue I.tells → (S.seen store.new).reads ≤ (S.seen store.old).reads
+        + (opening_reads format (file_of (S.seen store.old).files file) + line_reads names.now (I.seen input.old).left)) }
     ensures untouched { IsSome from → input.new ≡ input.old }
     ensures keeps { I.keeps false input.old input.new }
 {
@@ -104,7 +116,10 @@ fn apply_opened<S: Store, I: Source>(
         (tells_of S.tells I.tells out_tells err_tells link_tells)
         (seen_of (S.seen store.old) (I.seen input.old) out err link)
         (seen_of (S.seen store.new) (I.seen input.new) out err link) result }
+    ensures alone { KeepsOthers file (S.seen store.old).files (S.seen store.new).files }
     ensures synced { OnOk result (IsTrue S.tells → AreSynced (S.seen store.old) (S.seen store.new)) }
+    ensures reads { from ≡ None → OnOk result (IsTrue S.tells → IsTrue I.tells
+        → (S.seen store.new).reads ≤ (S.seen store.old).reads + line_reads names.now (I.seen input.old).left) }
     ensures untouched { IsSome from → input.new ≡ input.old }
     ensures keeps { I.keeps false input.old input.new }
 {
@@ -139,7 +154,9 @@ fn edit_all<S: Store>(
         (tells_of S.tells input_tells out_tells err_tells link_tells)
         (seen_of (S.seen store.old) input out err link)
         (seen_of (S.seen store.new) input out err link) result }
+    ensures alone { KeepsOthers file (S.seen store.old).files (S.seen store.new).files }
     ensures synced { OnOk result (IsTrue S.tells → AreSynced (S.seen store.old) (S.seen store.new)) }
+    ensures reads { OnOk result ((S.seen store.new).reads ≤ (S.seen store.old).reads + 17 * length lines.now) }
 {
     for line in lines {
         match set_limits(opened, store, line.id, &line.limits, now) {

@@ -61,6 +61,7 @@ pub fn take_batch<S: Store, I: Source>(
     ensures ended { IfOk result (λ batch. batch.refusal ≡ None → from ≡ None → IsTrue I.tells → (I.seen input.new).left ≡ []) }
     ensures behind { IsTrue I.tells → IsBehind (I.seen input.old).left (I.seen input.new).left }
     ensures untouched { IsSome from → input.new ≡ input.old }
+    ensures unread { from ≡ None → store.new ≡ store.old }
     ensures may_ask { IfOk result (λ batch. IfSome batch.refusal (IsOfLine names.now (input_name from))) }
     ensures refused { IfErr result (λ refusal. IsInputFault (Rose (S.seen store.old).faults (S.seen store.new).faults)
         (Rose (I.seen input.old).faults (I.seen input.new).faults) (IsTrue S.tells × IsTrue I.tells)

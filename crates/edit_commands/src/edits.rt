@@ -9,9 +9,11 @@ ghost use Rattle.run_steps.specs.Done.{seen_of, tells_of};
 ghost use Rattle.refusals.specs.Outcome.{refusal_in};
 ghost use Rattle.run_steps.specs.Run.{CarriesOut};
 ghost use Rattle.run_steps.specs.Steps.{Then};
+ghost use Rattle.run_steps.specs.Writes.{EditsAlone};
 ghost use Rattle.edit_commands.specs.Edits.{EditMayRefuse, EditSteps, FileEditMayRefuse, FileEditSteps, IsLeftFor, NamedEditMayRefuse, edit_cause, faulty_edit, unskipped};
 ghost use Rattle.run_steps.specs.Changing.{edit_uses};
 ghost use Rattle.edit_commands.specs.declared.edit.FileEdit.{FileEdit as FileEditOf};
+ghost use Rattle.edit_commands.specs.Made.{MakesEdit, MakesNamed, MakesWords};
 ghost use Rattle.edit_commands.specs.EditWords.{MaySkip, edit_meant, edit_read, edit_warns, skipped_by, words_warn};
 
 use crate::EditWords;
@@ -55,6 +57,11 @@ pub fn edit_by_words<S: Store, E: Sink>(
     // Where it was refused, the file is as it was, or as an edit that failed may leave it, unless it warns.
     ensures named { words_warn words ≡ false → IfErr result (λ refusal. IsTrue S.tells
         → IsLeftFor refusal.cause ((S.seen store.old).files file) ((S.seen store.new).files file)) }
+    // No file but this one has changed, with twelve calls of `write` at most, however it ended.
+    ensures alone { EditsAlone file (S.seen store.old) (S.seen store.new) }
+    // Where it was done, the files are what a change of such a file makes of them.
+    ensures made { OnOk result (IsTrue S.tells
+        → MakesWords common words file invocation.now (S.seen store.old).files (S.seen store.new).files) }
     // Where it was done, what was written has been synced.
     ensures synced { OnOk result (IsTrue S.tells → AreSynced (S.seen store.old) (S.seen store.new)) }
     ensures quiet { words_warn words ≡ false → err.new ≡ err.old }
@@ -96,6 +103,9 @@ fn edit_named<S: Store, E: Sink>(
     ensures silent { (refusal : Refusal) → refusal_in (edit_read names.now words) ≡ Some refusal → err.new ≡ err.old }
     ensures named { words_warn words ≡ false → IfErr result (λ refusal. IsTrue S.tells
         → IsLeftFor refusal.cause ((S.seen store.old).files file) ((S.seen store.new).files file)) }
+    ensures alone { EditsAlone file (S.seen store.old) (S.seen store.new) }
+    ensures made { OnOk result (IsTrue S.tells
+        → MakesNamed names.now kind format words file invocation.now (S.seen store.old).files (S.seen store.new).files) }
     ensures synced { OnOk result (IsTrue S.tells → AreSynced (S.seen store.old) (S.seen store.new)) }
     ensures quiet { words_warn words ≡ false → err.new ≡ err.old }
 {
@@ -127,6 +137,9 @@ pub fn edit_file<S: Store, E: Sink>(
         (seen_of (S.seen store.new) input out (E.seen err.new) link) result }
     ensures named { edit_warns edit.now ≡ false → IfErr result (λ refusal. IsTrue S.tells
         → IsLeftFor refusal.cause ((S.seen store.old).files file) ((S.seen store.new).files file)) }
+    ensures alone { EditsAlone file (S.seen store.old) (S.seen store.new) }
+    ensures made { OnOk result (IsTrue S.tells
+        → MakesEdit kind format (edit_meant edit.now invocation.now) file (S.seen store.old).files (S.seen store.new).files) }
     ensures synced { OnOk result (IsTrue S.tells → AreSynced (S.seen store.old) (S.seen store.new)) }
     ensures quiet { edit_warns edit.now ≡ false → err.new ≡ err.old }
 {

@@ -26,13 +26,14 @@ use Rattle.run_steps.specs.Done.{IsUnwritten, IsWorldTold, RunSeen, RunTells}
 use Rattle.run_steps.specs.Run.{CarriesOut, HasReason, HasSteps, IsDoneInPart, Uses}
 use Rattle.run_steps.specs.Showing.{ShowingMayRefuse, ShowingSteps, showing_uses}
 use Rattle.run_steps.specs.Steps.{Doing, Finish, Steps}
-use Rattle.run_steps.proofs.DoingLemmas.{part_of}
+use Rattle.run_steps.proofs.DoingLemmas.{part_of, written_yet}
 use Rattle.run_steps.proofs.OpeningLemmas.{refused_so, store_later, with_out, with_store}
 use Rattle.run_steps.proofs.PartLemmas.{acts_in_part, carried_whole}
 use Rattle.run_steps.proofs.PhaseLemmas.{nothing_carried, placed_nowhere}
 use Rattle.run_steps.proofs.ReasonLemmas.{reason_since}
 use Rattle.run_steps.proofs.SeenOnceLemmas.{seen_once}
 use Rattle.run_steps.proofs.ShowingLemmas.{told_begun, told_steps}
+use Rattle.run_steps.proofs.WritesLemmas.{writes_for-replacement}
 use Rattle.file_commands.specs.FileValue.{replace_cause}
 use Rattle.file_commands.specs.Generate.{GenerateMayRefuse, IsUnreported, gathered_cause, generate_uses}
 
@@ -48,7 +49,7 @@ changed_steps name new next tells refusal old store to follows has = record {
     out = has.done.out;
     err = has.done.err;
     answered = has.done.answered;
-    writes = λ none. absurd none;
+    writes = writes_for-replacement name new has.acts old.store.writes to.store.writes;
   };
 }
 
@@ -64,7 +65,7 @@ changed_part name new next tells old store to follows part = record {
   err = part.err;
   answered = part.answered;
   datagrams = part.datagrams;
-  writes = λ none. absurd none;
+  writes = writes_for-replacement name new (part.done ++ part.hand) old.store.writes to.store.writes;
 }
 
 -- a file was changed, and the next steps were carried out
@@ -102,7 +103,7 @@ change_failed name text new tells old store rose same leaves later =
       done = tt;
       refused = rose;
       part = λ told. acts_in_part acts None tells old (with_store old store) refl
-          (part_of [] acts tells old old.store store (record { files = refl; writes = λ none. refl; out = refl; err = refl; answered = refl }) (same, leaves) (λ none. absurd none));
+          (part_of [] acts tells old old.store store (written_yet old.store) (same, leaves) (writes_for-replacement name new [] old.store.writes store.writes));
       may_refuse = inr tt;
       placed = record { line = λ no. refl; input_line = λ no. refl };
       only_reads = λ only. absurd (false≢true (sym only));

@@ -31,10 +31,11 @@ use Rattle.run_steps.specs.Changing.{blocks_of, edit_uses, if_room}
 use Rattle.file_commands.specs.FileValue.{IsInOrder, IsMadeAnew, WritingMayRefuse, replace_cause, value_in}
 use Rattle.refusals.specs.Outcome.{Outcome, Passed, Refused}
 use Rattle.refusals.specs.Refusals.{refusal_of}
-use Rattle.run_steps.proofs.DoingLemmas.{AreWritten, done_of, done_steps, part_of}
+use Rattle.run_steps.proofs.DoingLemmas.{AreWritten, done_of, done_steps, part_of, written_yet}
 use Rattle.run_steps.proofs.OpeningLemmas.{store_later, with_store}
 use Rattle.run_steps.proofs.PartLemmas.{acts_in_part, carried_whole}
 use Rattle.run_steps.proofs.PhaseLemmas.{nothing_carried, stop_carried}
+use Rattle.run_steps.proofs.WritesLemmas.{writes_for-replacement}
 
 -- how many blocks a file of a value needs, by its list
 pub needed_of : (value : FileValue) → IsInOrder value → blocks_of (value_in value) ≡ blocks_needed value.format (ids_of value.entries.items)
@@ -61,7 +62,7 @@ by_outcome name new outcome may tells old to result is carries =
 
 -- the change of one file was written
 change_written : (name : List ℕ) (new : QuotaValue) (old store : StoreSeen) → IsView (store.files name) new.kind (Some new.format) (Ok new) → ReplacesOnly name old.files store.files → AreWritten (Replace name new ∷ []) old store
-change_written name new old store view leaves = record { files = (store.files, (view, leaves), refl); writes = λ none. absurd none; out = refl; err = refl; answered = refl }
+change_written name new old store view leaves = record { files = (store.files, (view, leaves), refl); writes = writes_for-replacement name new [] old.writes store.writes; out = refl; err = refl; answered = refl }
 
 -- the file was replaced
 pub replace_made : (name : List ℕ) (new : QuotaValue) (may : Cause → List ℕ → Type 0) (tells : RunTells) (old : RunSeen) (store : StoreSeen)
@@ -85,7 +86,7 @@ replace_failed name new may tells old store rose same leaves later few allowed =
       done = tt;
       refused = rose;
       part = λ told. acts_in_part acts None tells old (with_store old store) refl
-          (part_of [] acts tells old old.store store (record { files = refl; writes = λ none. refl; out = refl; err = refl; answered = refl }) (same, leaves) (λ none. absurd none));
+          (part_of [] acts tells old old.store store (written_yet old.store) (same, leaves) (writes_for-replacement name new [] old.store.writes store.writes));
       may_refuse = allowed;
       placed = record { line = λ no. refl; input_line = λ no. refl };
       only_reads = λ only. absurd (false≢true (sym only));

@@ -18,6 +18,7 @@ use Rattle.run_steps.specs.Done.{AppendsUnless, IsAllTold, IsLater, IsUnwritten,
 use Rattle.run_steps.specs.Meaning.{EndsBy, IsSure, closing}
 use Rattle.run_steps.specs.OneCommand.{AreReceived, ReadsToEnd, Receives}
 use Rattle.run_steps.specs.Run.{CarriesOut, HasFailed, HasReason, HasSteps, IsDoneInPart, Uses}
+use Rattle.run_steps.specs.Writes.{ReadsWithin}
 use Rattle.quota_cli.specs.Headline.{HasEffect, HasEffectUpToErr, HasSaid, IsRefusedWord, IsStopped, Keeps, Setting, asked, steps_asked, uses_asked}
 use Rattle.quota_cli.specs.Script.{StandsInScript}
 use Rattle.command_words.specs.Asked.{command_of}
@@ -324,6 +325,9 @@ run_keeps setting tells old new said result status carried stands finished usage
   named = run_named (asked setting).replaces (λ (file : List ℕ). IsTrue tells.store → new.store.files file ≡ old.store.files file) result status finished.status_is carried.named;
   edited = run_edited (asked setting).edits (λ (s : ℕ) (file : List ℕ). IsTrue tells.store → IsLeftByEdit s old.store.files new.store.files file) result status finished.status_is
       (λ file told other. absurd (other refl)) carried.edited;
+  within = record { alone = carried.within.alone; few = carried.within.few };
+  reads = run_synced (IsWorldTold tells → ReadsWithin ((asked setting).most_reads (outside_of old)) old.store new.store) result status finished.status_is carried.reads;
+  made = run_synced (IsTrue tells.store → (asked setting).made setting.invocation (outside_of old) new.store.files) result status finished.status_is carried.made;
   synced = run_synced (IsTrue tells.store → AreSynced old.store new.store) result status finished.status_is carried.synced;
   untaken = λ one. run_untaken (new.link ≡ old.link) result status finished.status_is (carried.untaken one);
   unlinked = record {

@@ -212,6 +212,9 @@ text_carried text invocation tells old new result carried = record {
   carries = carries_more _ _ _ (asked_in_script text).may tells old new result (λ cause name may. inr may) carried.carries;
   named = carried.named;
   edited = carried.edited;
+  within = record { alone = carried.within.alone; few = carried.within.few };
+  reads = carried.reads;
+  made = carried.made;
   synced = carried.synced;
   unfinished = carried.unfinished;
   untaken = carried.untaken;
@@ -223,6 +226,11 @@ every_file : (file : Option (List ℕ)) (holds : List ℕ → Type 0) → ((one 
 every_file None holds all = tt
 every_file (Some one) holds all = all one
 
+-- as many calls as there were are no more than others
+as_many : (most : Option ℕ) (writes : ℕ) → IfSome most (λ (m : ℕ). writes ≤ writes + m)
+as_many None writes = tt
+as_many (Some m) writes = omega arith
+
 -- memory was wanting for the words of a line
 pub text_wanting : (text : List ℕ) (invocation : Invocation) (tells : RunTells) (old : RunSeen) → IsCarriedOut (asked_in_script text) invocation tells old old (Err (refusal_of Memory []))
 text_wanting text invocation tells old =
@@ -231,6 +239,9 @@ text_wanting text invocation tells old =
       carries = nothing_carried (asked.steps invocation) asked.uses asked.may tells old (refusal_of Memory []) tt (inl refl) (placed_nowhere asked.uses (refusal_of Memory []) refl);
       named = every_file asked.replaces _ (λ file told. refl);
       edited = every_file asked.edits _ (λ file told other. inl refl);
+      within = record { alone = every_file asked.alone _ (λ file other differ. refl); few = as_many asked.most_writes old.store.writes };
+      reads = tt;
+      made = tt;
       synced = tt;
       unfinished = λ failed. absurd (cc);
       untaken = λ one five. refl;
@@ -291,6 +302,9 @@ script_carried invocation tells old input new result said later is behind ended 
       (script_taken said.refusal old.input.left input.left (behind told.input) (λ none. ended none told.input))) (λ cause name may. may) carried.carries;
   named = tt;
   edited = tt;
+  within = record { alone = tt; few = tt };
+  reads = on_ok_weaker result (λ synced told. tt) carried.synced;
+  made = on_ok_weaker result (λ synced told. tt) carried.synced;
   synced = carried.synced;
   unfinished = IfErr-weaker result _ _ (λ refusal left failed told. (
     input,
@@ -365,6 +379,9 @@ script_unread invocation tells old input fault later rose = record {
   };
   named = tt;
   edited = tt;
+  within = record { alone = tt; few = tt };
+  reads = tt;
+  made = tt;
   synced = tt;
   unfinished = λ failed. absurd (unread_unlinked fault failed);
   untaken = λ one five. refl;

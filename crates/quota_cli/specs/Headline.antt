@@ -13,9 +13,10 @@ use Rattle.run_steps.specs.Meaning.{HasEffectOf, IsSure}
 use Rattle.run_steps.specs.OneCommand.{AreReceived, Receives}
 use Rattle.run_steps.specs.Run.{HasReason, HasSteps, IsDoneInPart, IsPlacedBy, Uses}
 use Rattle.run_steps.specs.Steps.{Steps}
+use Rattle.run_steps.specs.Writes.{ReadsWithin}
 use Rattle.run_steps.specs.declared.invocation.Invocation.{Invocation}
 use Rattle.command_words.specs.Asked.{command_of}
-use Rattle.command_table.specs.Description.{Description, IsLeftByEdit, IsOnlyRead}
+use Rattle.command_table.specs.Description.{ChangesWithin, Description, IsLeftByEdit, IsOnlyRead}
 use Rattle.command_table.specs.Table.{asked_by}
 use Rattle.quota_cli.specs.Script.{StandsInScript, commanded}
 
@@ -159,6 +160,18 @@ pub record Keeps (setting : Setting) (tells : RunTells) (old new : RunSeen) (sta
   -- leave it. With status 0 nothing is said here.
   pub edited : IfSome (asked setting).edits (λ (file : List ℕ). IsTrue tells.store
       → IsLeftByEdit status old.store.files new.store.files file)
+  -- Whatever is told, and with any status, no other file has changed than the only one that the command changes, and there were no more
+  -- calls of `write` to the store than it makes: twelve at most where it edits a file once. What many edits come to is said of the acts in
+  -- `part`: twelve for each one that was done, and twelve for the one at hand.
+  pub within : ChangesWithin (asked setting) old.store new.store
+  -- With status 0 there were no more calls of `read` to the store than the command makes, where that is said: of `rquotad` those of
+  -- opening each file, and five for each datagram; of `setquota -b` without a file of names and out of the standard input those of
+  -- opening the file, and seventeen for each line that asks for an edit.
+  pub reads : status ≡ 0 → IsWorldTold tells → ReadsWithin ((asked setting).most_reads (outside_of old)) old.store new.store
+  -- With status 0 the files are what a change of such a file makes of them, beside standing for the edited value, where the words ask
+  -- for new limits, new times or new grace periods: of a tree file into which a record was put, that it has no more blocks than before
+  -- unless none is free then, and that a block became a data block only where none had room.
+  pub made : status ≡ 0 → IsTrue tells.store → (asked setting).made setting.invocation (outside_of old) new.store.files
   -- With status 0 what was written has been synced: no name is unsynced that was not, and that of each file that has
   -- changed is not.
   pub synced : status ≡ 0 → IsTrue tells.store → AreSynced old.store new.store

@@ -5,9 +5,11 @@ use Rattle.quota_blocks.specs.Text.{AppendsPrefix}
 use Rattle.quota_blocks.specs.World.{World}
 use Rattle.refusals.specs.declared.reason.Refusal.{Refusal}
 use Rattle.refusals.specs.Line.{closing_line, error_line}
-use Rattle.run_steps.specs.Act.{Act, ToOut, ToErr, Answer, Change, Replace, ChangesNone, Follows, FollowsInPart, answers, err_bytes, out_bytes}
+use Rattle.run_steps.specs.Act.{Act, ToOut, ToErr, Answer, Change, Replace, Follows, FollowsInPart, answers, err_bytes, out_bytes}
 use Rattle.run_steps.specs.Done.{AreDone, AreDoneInPart, RunSeen, RunTells}
 use Rattle.run_steps.specs.Meaning.{closing}
+use Rattle.run_steps.specs.Writes.{WritesFor}
+use Rattle.run_steps.proofs.WritesLemmas.{writes_for-before}
 
 pub out_bytes-append : (acts more : List Act) → out_bytes (acts ++ more) ≡ out_bytes acts ++ out_bytes more
 out_bytes-append [] more = refl
@@ -23,13 +25,6 @@ pub answers-append : (acts more : List Act) → answers (acts ++ more) ≡ answe
 answers-append [] more = refl
 answers-append (Answer bytes ∷ acts) more = ap (λ (b : List (List ℕ)). bytes ∷ b) (answers-append acts more)
 answers-append (_ ∷ acts) more = answers-append acts more
-
--- where more acts change no file, the first ones change none
-pub changes_none_before : (acts more : List Act) → ChangesNone (acts ++ more) → ChangesNone acts
-changes_none_before [] more none = tt
-changes_none_before (Change name value ∷ acts) more none = none
-changes_none_before (Replace name value ∷ acts) more none = none
-changes_none_before (_ ∷ acts) more none = changes_none_before acts more none
 
 -- files that follow an act and then others
 pub follows-append : (acts more : List Act) (old middle new : World) → Follows acts old middle → Follows more middle new → Follows (acts ++ more) old new
@@ -55,7 +50,7 @@ answers-closing (Some refusal) = refl
 
 -- files that are as they were follow any acts of which none was begun
 pub none_in_part : (acts : List Act) (old new : World) → new ≡ old → FollowsInPart acts old new
-none_in_part (Change name value ∷ acts) old new same = (inl (ap (λ (w : World). w name) same), λ other differ differs. ap (λ (w : World). w other) same)
+none_in_part (Change name value ∷ acts) old new same = (inl (ap (λ (w : World). w name) same), λ other differ. ap (λ (w : World). w other) same)
 none_in_part (Replace name value ∷ acts) old new same = (ap (λ (w : World). w name) same, λ other differ differs. ap (λ (w : World). w other) same)
 none_in_part _ old new same = same
 
@@ -86,9 +81,9 @@ first_err : (rest more : List Act) (old new : List ℕ) → AppendsPrefix old ne
 first_err [] more old new p = appends_nothing old new (err_bytes (take 1 more)) (none_appended old new p)
 first_err (act ∷ rest) more old new p = p
 
-first_none : (done rest more : List Act) → ChangesNone (done ++ take 1 (rest ++ more)) → ChangesNone (done ++ take 1 rest)
-first_none done [] more none = subst (λ (acts : List Act). ChangesNone acts) (sym (append-nil done)) (changes_none_before done (take 1 more) none)
-first_none done (act ∷ rest) more none = none
+first_writes : (done rest more : List Act) (old new : ℕ) → WritesFor (done ++ take 1 rest) old new → WritesFor (done ++ take 1 (rest ++ more)) old new
+first_writes done [] more old new writes = writes_for-before done (take 1 more) old new (subst (λ (acts : List Act). WritesFor acts old new) (append-nil done) writes)
+first_writes done (act ∷ rest) more old new writes = writes
 
 -- acts that were done in part are some of more acts
 pub part_of_more : (tells : RunTells) (acts more : List Act) (old new : RunSeen) → AreDoneInPart tells acts old new → AreDoneInPart tells (acts ++ more) old new
@@ -100,7 +95,7 @@ part_of_more tells acts more old new part = record {
   out = λ told. first_out part.rest more (old.out.written ++ out_bytes part.done) new.out.written (part.out told);
   err = λ told. first_err part.rest more (old.err.written ++ err_bytes part.done) new.err.written (part.err told);
   answered = part.answered;
-  writes = λ none. part.writes (first_none part.done part.rest more none);
+  writes = first_writes part.done part.rest more old.store.writes new.store.writes part.writes;
 }
 
 pub more_out : (refusal : Option Refusal) (acts : List Act) → out_bytes (acts ++ closing refusal) ≡ out_bytes acts
@@ -124,5 +119,5 @@ done_and_said tells refusal acts old new said err_tells are whole = record {
   out = λ told. are.out told ∙ ap (λ (b : List ℕ). old.out.written ++ b) (sym (more_out refusal acts));
   err = whole;
   answered = are.answered ∙ ap (λ (b : List (List ℕ)). old.link.answers ++ b) (sym (more_answers refusal acts));
-  writes = λ none. are.writes (changes_none_before acts (closing refusal) none);
+  writes = writes_for-before acts (closing refusal) old.store.writes new.store.writes are.writes;
 }

@@ -4,13 +4,15 @@ use Rattle.quota_blocks.specs.Frame.{OnlyReads}
 use Rattle.quota_blocks.specs.Seen.{StoreSeen}
 use Rattle.quota_blocks.specs.World.{World}
 use Rattle.refusals.specs.declared.reason.Refusal.{Refusal}
-use Rattle.run_steps.specs.Act.{Act, Change, Replace, ChangesNone, Follows, FollowsInPart, answers, err_bytes, out_bytes}
+use Rattle.run_steps.specs.Act.{Act, Follows, FollowsInPart, answers, err_bytes, out_bytes}
 use Rattle.run_steps.specs.Done.{AreDone, AreDoneInPart, Outside, RunSeen, RunTells, outside_of}
 use Rattle.run_steps.specs.Meaning.{EndsBy}
 use Rattle.run_steps.specs.Run.{HasSteps}
 use Rattle.run_steps.specs.Steps.{AreDoneThen}
-use Rattle.run_steps.proofs.ActLemmas.{answers-append, appends_nothing, changes_none_before, err_bytes-append, follows-append, out_bytes-append}
+use Rattle.run_steps.proofs.ActLemmas.{answers-append, appends_nothing, err_bytes-append, follows-append, out_bytes-append}
 use Rattle.run_steps.proofs.OpeningLemmas.{with_store}
+use Rattle.run_steps.specs.Writes.{WritesFor}
+use Rattle.run_steps.proofs.WritesLemmas.{writes_for-same, writes_for-then}
 
 -- the end is the stated one
 pub doing_ends : (acts : List Act) (end : Option Refusal) (from : Outside) (done : List Act) (to : Outside) (ended : Option Refusal) → EndsBy (AreDoneThen acts end) from done to ended → ended ≡ end
@@ -37,24 +39,22 @@ done_steps acts end tells old new input left done = record {
 -- these acts were done to the store, and nothing else was done
 pub record AreWritten (acts : List Act) (old new : StoreSeen) : Type 0 where
   pub files : Follows acts old.files new.files
-  pub writes : ChangesNone acts → new.writes ≡ old.writes
+  pub writes : WritesFor acts old.writes new.writes
   pub out : out_bytes acts ≡ []
   pub err : err_bytes acts ≡ []
   pub answered : answers acts ≡ []
 
 pub written_none : {done : Bool} (name : List ℕ) (old new : StoreSeen) → OnlyReads done name old new → AreWritten [] old new
-written_none name old new reads = record { files = reads.files; writes = λ none. reads.writes; out = refl; err = refl; answered = refl }
+written_none name old new reads = record { files = reads.files; writes = writes_for-same [] old.writes new.writes reads.writes; out = refl; err = refl; answered = refl }
 
-pub changes_none_behind : (acts more : List Act) → ChangesNone (acts ++ more) → ChangesNone more
-changes_none_behind [] more none = none
-changes_none_behind (Change name value ∷ acts) more none = absurd none
-changes_none_behind (Replace name value ∷ acts) more none = absurd none
-changes_none_behind (_ ∷ acts) more none = changes_none_behind acts more none
+-- nothing was done yet
+pub written_yet : (seen : StoreSeen) → AreWritten [] seen seen
+written_yet seen = record { files = refl; writes = writes_for-same [] seen.writes seen.writes refl; out = refl; err = refl; answered = refl }
 
 pub written_both : (acts more : List Act) (old middle new : StoreSeen) → AreWritten acts old middle → AreWritten more middle new → AreWritten (acts ++ more) old new
 written_both acts more old middle new one two = record {
   files = follows-append acts more old.files middle.files new.files one.files two.files;
-  writes = λ none. two.writes (changes_none_behind acts more none) ∙ one.writes (changes_none_before acts more none);
+  writes = writes_for-then acts more old.writes middle.writes new.writes one.writes two.writes;
   out = out_bytes-append acts more ∙ ap (λ (b : List ℕ). b ++ out_bytes more) one.out ∙ two.out;
   err = err_bytes-append acts more ∙ ap (λ (b : List ℕ). b ++ err_bytes more) one.err ∙ two.err;
   answered = answers-append acts more ∙ ap (λ (b : List (List ℕ)). b ++ answers more) one.answered ∙ two.answered;
@@ -72,7 +72,7 @@ done_of acts tells old store written = record {
 
 -- they were done, and of the rest the first in part
 pub part_of : (acts rest : List Act) (tells : RunTells) (old : RunSeen) (middle store : StoreSeen) → AreWritten acts old.store middle → FollowsInPart rest middle.files store.files
-    → (ChangesNone (take 1 rest) → store.writes ≡ middle.writes) → AreDoneInPart tells (acts ++ rest) old (with_store old store)
+    → WritesFor (take 1 rest) middle.writes store.writes → AreDoneInPart tells (acts ++ rest) old (with_store old store)
 part_of acts rest tells old middle store written in_part writes = record {
   done = acts;
   rest = rest;
@@ -83,5 +83,5 @@ part_of acts rest tells old middle store written in_part writes = record {
   err = λ told. appends_nothing (old.err.written ++ err_bytes acts) old.err.written (err_bytes (take 1 rest))
       (sym (append-nil old.err.written) ∙ ap (λ (b : List ℕ). old.err.written ++ b) (sym written.err));
   answered = sym (append-nil old.link.answers) ∙ ap (λ (b : List (List ℕ)). old.link.answers ++ b) (sym written.answered);
-  writes = λ none. writes (changes_none_behind acts (take 1 rest) none) ∙ written.writes (changes_none_before acts (take 1 rest) none);
+  writes = writes_for-then acts (take 1 rest) old.store.writes middle.writes store.writes written.writes writes;
 }

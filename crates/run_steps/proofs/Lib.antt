@@ -19,3 +19,4 @@ pub mod SeenAgainLemmas
 pub mod SeenOnceLemmas
 pub mod ShowingLemmas
 pub mod TakingLemmas
+pub mod WritesLemmas

@@ -25,6 +25,7 @@ use Rattle.run_steps.specs.Opening.{IsDamageAs, MayRefuseOpening, asks_tree, ope
 use Rattle.run_steps.specs.Run.{CarriesOut, HasReason, HasSteps, IsDoneInPart, IsPlacedBy, Uses}
 use Rattle.run_steps.specs.Steps.{Opening, Steps}
 use Rattle.run_steps.proofs.PartLemmas.{nothing_begun}
+use Rattle.run_steps.proofs.WritesLemmas.{writes_for-same}
 use Rattle.refusals.specs.Refusals.{refusal_of}
 
 -- what is seen once the store was used; once the output was used too; and once bytes were taken from the input
@@ -62,7 +63,7 @@ none_done tells old store input same = record {
   out = λ told. sym (append-nil old.out.written);
   err = λ told. sym (append-nil old.err.written);
   answered = sym (append-nil old.link.answers);
-  writes = λ none. same.writes;
+  writes = writes_for-same [] old.store.writes store.writes same.writes;
 }
 
 -- no act, and a refusal

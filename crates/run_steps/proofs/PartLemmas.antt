@@ -6,15 +6,17 @@ use Rattle.quota_blocks.specs.Text.{AppendsPrefix}
 use Rattle.quota_blocks.specs.World.{World}
 use Rattle.refusals.specs.declared.cause.Cause.{Cause}
 use Rattle.refusals.specs.declared.reason.Refusal.{Refusal}
-use Rattle.run_steps.specs.Act.{Act, Change, Replace, ChangesNone, Follows, FollowsInPart, out_bytes, err_bytes}
+use Rattle.run_steps.specs.Act.{Act, Change, Replace, Follows, FollowsInPart, out_bytes, err_bytes}
 use Rattle.run_steps.specs.Done.{AreDoneInPart, IsLater, IsUnwritten, IsWorldTold, Outside, RunSeen, RunTells, outside_of}
 use Rattle.run_steps.specs.Meaning.{EndsBy, HasBegun}
 use Rattle.run_steps.specs.OneCommand.{IsFirstPart, LooksFirstBy, UnlessFull}
 use Rattle.run_steps.specs.Run.{CarriesOut, HasSteps, IsDoneInPart, Uses}
 use Rattle.run_steps.specs.Steps.{AreDoneThen, Steps}
-use Rattle.run_steps.proofs.ActLemmas.{appends_nothing, changes_none_before, none_appended, none_in_part}
+use Rattle.run_steps.proofs.ActLemmas.{appends_nothing, none_appended, none_in_part}
 use Rattle.run_steps.proofs.MeaningLemmas.{begun_follow, ended_begun, first_part, looks_same, unbegun}
 use Rattle.run_steps.proofs.RoomLemmas.{unless_full}
+use Rattle.run_steps.specs.Writes.{WritesFor}
+use Rattle.run_steps.proofs.WritesLemmas.{writes_for-before, writes_for-same}
 
 -- nothing was done
 pub nothing_begun : (steps : Steps) (tells : RunTells) (old new : RunSeen) → new.store.files ≡ old.store.files → (IsTrue tells.out → new.out.written ≡ old.out.written)
@@ -31,7 +33,7 @@ nothing_begun steps tells old new files out err sent left writes =
       err = λ told. appends_nothing (old.err.written ++ []) new.err.written (err_bytes start.0) (err told ∙ sym (append-nil old.err.written));
       answered = sent ∙ sym (append-nil old.link.answers);
       datagrams = left;
-      writes = λ none. writes;
+      writes = writes_for-same start.0 old.store.writes new.store.writes writes;
     }
 
 -- what was done whole was done in part
@@ -46,7 +48,7 @@ whole_begun steps tells refusal old new has = record {
   err = λ told. appends_nothing (old.err.written ++ err_bytes has.acts) new.err.written [] (has.done.err told);
   answered = has.done.answered;
   datagrams = refl;
-  writes = λ none. has.done.writes (changes_none_before has.acts [] none);
+  writes = writes_for-before has.acts [] old.store.writes new.store.writes has.done.writes;
 }
 
 -- a command whose steps ended with no refusal was carried out
@@ -82,7 +84,7 @@ part_from next steps tells old store input new same leads part = record {
   err = part.err;
   answered = part.answered;
   datagrams = part.datagrams;
-  writes = λ none. part.writes none ∙ same;
+  writes = subst (λ (w : ℕ). WritesFor (part.done ++ part.hand) w new.store.writes) same part.writes;
 }
 
 -- acts of which the first ones were done have begun
@@ -149,10 +151,10 @@ hand_prefix bytes_of hand rest old new nothing (inl none) prefix =
     appends_nothing old new (bytes_of (take 1 rest)) (none_appended old new (subst (λ (b : List ℕ). AppendsPrefix old new b) (ap bytes_of none ∙ nothing) prefix))
 hand_prefix bytes_of hand rest old new nothing (inr first) prefix = subst (λ (a : List Act). AppendsPrefix old new (bytes_of a)) first prefix
 
-hand_none : (done hand rest : List Act) → (hand ≡ []) ⊎ (hand ≡ take 1 rest) → ChangesNone (done ++ take 1 rest) → ChangesNone (done ++ hand)
-hand_none done hand rest (inl none) changes =
-    subst (λ (a : List Act). ChangesNone (done ++ a)) (sym none) (subst (λ (a : List Act). ChangesNone a) (sym (append-nil done)) (changes_none_before done (take 1 rest) changes))
-hand_none done hand rest (inr first) changes = subst (λ (a : List Act). ChangesNone (done ++ a)) (sym first) changes
+hand_writes : (done hand rest : List Act) (old new : ℕ) → (hand ≡ []) ⊎ (hand ≡ take 1 rest) → WritesFor (done ++ hand) old new → WritesFor (done ++ take 1 rest) old new
+hand_writes done hand rest old new (inl none) writes =
+    writes_for-before done (take 1 rest) old new (subst (λ (a : List Act). WritesFor a old new) (append-nil done) (subst (λ (a : List Act). WritesFor (done ++ a) old new) none writes))
+hand_writes done hand rest old new (inr first) writes = subst (λ (a : List Act). WritesFor (done ++ a) old new) first writes
 
 pub part_of_end : (rooms : Bool) (steps : Steps) (tells : RunTells) (old new : RunSeen) (acts : List Act) (to : Outside) (refusal : Option Refusal) → LooksFirstBy rooms true true steps → IsDoneInPart steps tells old new
     → EndsBy steps (outside_of old) acts to refusal → UnlessFull rooms refusal (AreDoneInPart tells acts old new)
@@ -165,6 +167,6 @@ part_of_end rooms steps tells old new acts to refusal looks part ends =
       out = λ told. hand_prefix out_bytes part.hand first.rest (old.out.written ++ out_bytes part.done) new.out.written refl first.next (part.out told);
       err = λ told. hand_prefix err_bytes part.hand first.rest (old.err.written ++ err_bytes part.done) new.err.written refl first.next (part.err told);
       answered = part.answered;
-      writes = λ none. part.writes (hand_none part.done part.hand first.rest first.next none);
+      writes = hand_writes part.done part.hand first.rest old.store.writes new.store.writes first.next part.writes;
     })
     (first_part rooms true true steps (outside_of old) (outside_of old) part.done part.hand acts part.now to refusal looks (looks_same true true (outside_of old)) part.begun ends)

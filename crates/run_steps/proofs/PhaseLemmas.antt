@@ -26,6 +26,7 @@ use Rattle.run_steps.specs.Meaning.{EndsBy, HasBegun, IsTaken}
 use Rattle.run_steps.specs.Naming.{FileOfNamesMayRefuse, IsNamesFault, NamesMayRefuse, names_seen}
 use Rattle.run_steps.specs.Run.{CarriesOut, HasReason, HasSteps, IsDoneInPart, IsPlacedBy, Uses}
 use Rattle.run_steps.specs.Steps.{Steps, Looking, Naming, Opening, Reading, Stop, Then}
+use Rattle.run_steps.specs.Writes.{WritesFor}
 use Rattle.outside.proofs.FrameLemmas.{only_reads-none}
 use Rattle.run_steps.proofs.OpeningLemmas.{outside_same, refused_reads, refused_steps, with_input, with_store}
 use Rattle.run_steps.proofs.PartLemmas.{part_from}
@@ -104,7 +105,7 @@ steps_on name next steps tells refusal old store input new reads leads has = rec
     out = has.done.out;
     err = has.done.err;
     answered = has.done.answered;
-    writes = λ none. has.done.writes none ∙ reads.writes;
+    writes = subst (λ (w : ℕ). WritesFor has.acts w new.store.writes) reads.writes has.done.writes;
   };
 }
 

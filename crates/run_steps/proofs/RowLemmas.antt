@@ -3,13 +3,14 @@ use Rattle.std.proofs.Common.{◌≡◌, ℕ, List, ◌++◌, Option, None, Some
 use Rattle.quota_blocks.specs.Text.{AppendsPrefix}
 use Rattle.refusals.specs.declared.reason.Refusal.{Refusal}
 use Rattle.refusals.specs.Refusals.{in_line}
-use Rattle.run_steps.specs.Act.{Act, ChangesNone, answers, err_bytes, out_bytes}
+use Rattle.run_steps.specs.Act.{Act, answers, err_bytes, out_bytes}
 use Rattle.run_steps.specs.Done.{AreDone, Outside, RunSeen, RunTells, outside_of}
 use Rattle.run_steps.specs.Meaning.{EndsBy, HasBegun}
 use Rattle.run_steps.specs.Run.{HasSteps, IsDoneInPart}
 use Rattle.run_steps.specs.Steps.{Before, InLine, Steps}
-use Rattle.run_steps.proofs.ActLemmas.{answers-append, changes_none_before, err_bytes-append, follows-append, out_bytes-append}
-use Rattle.run_steps.proofs.DoingLemmas.{changes_none_behind}
+use Rattle.run_steps.proofs.ActLemmas.{answers-append, err_bytes-append, follows-append, out_bytes-append}
+use Rattle.run_steps.specs.Writes.{WritesFor}
+use Rattle.run_steps.proofs.WritesLemmas.{writes_for-then}
 use Rattle.run_steps.proofs.PartLemmas.{part_from}
 
 -- acts that were done, and then others
@@ -22,7 +23,7 @@ done_both tells acts more old middle new one two = record {
       ∙ ap (λ (b : List ℕ). old.err.written ++ b) (sym (err_bytes-append acts more));
   answered = two.answered ∙ ap (λ (b : List (List ℕ)). b ++ answers more) one.answered ∙ append_assoc old.link.answers (answers acts) (answers more)
       ∙ ap (λ (b : List (List ℕ)). old.link.answers ++ b) (sym (answers-append acts more));
-  writes = λ none. two.writes (changes_none_behind acts more none) ∙ one.writes (changes_none_before acts more none);
+  writes = writes_for-then acts more old.store.writes middle.store.writes new.store.writes one.writes two.writes;
 }
 
 -- Steps that are led to.
@@ -69,9 +70,8 @@ part_led acts next steps tells old middle new leads first part = record {
   answered = part.answered ∙ ap (λ (b : List (List ℕ)). b ++ answers part.done) first.answered ∙ append_assoc old.link.answers (answers acts) (answers part.done)
       ∙ ap (λ (b : List (List ℕ)). old.link.answers ++ b) (sym (answers-append acts part.done));
   datagrams = part.datagrams;
-  writes = λ none.
-      let all = subst (λ (a : List Act). ChangesNone a) (append_assoc acts part.done part.hand) none in
-      part.writes (changes_none_behind acts (part.done ++ part.hand) all) ∙ first.writes (changes_none_before acts (part.done ++ part.hand) all);
+  writes = subst (λ (a : List Act). WritesFor a old.store.writes new.store.writes) (sym (append_assoc acts part.done part.hand))
+      (writes_for-then acts (part.done ++ part.hand) old.store.writes middle.store.writes new.store.writes first.writes part.writes);
 }
 
 -- Commands one after another.

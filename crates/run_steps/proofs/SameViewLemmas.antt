@@ -5,14 +5,14 @@ use Rattle.std.proofs.lemmas.Bool.{false≢true}
 use Rattle.quota_types.specs.declared.file_kind.Kind.{Kind}
 use Rattle.quota_types.specs.declared.file_kind.Format.{Format}
 use Rattle.quota_blocks.specs.Seen.{Datagram}
-use Rattle.quota_blocks.specs.World.{World, with_file}
+use Rattle.quota_blocks.specs.World.{KeepsOthers, World, with_file}
 use Rattle.quota_blocks.specs.QuotaValue.{QuotaValue}
 use Rattle.quota_blocks.specs.declared.quota_file.OpenFault.{OpenFault}
 use Rattle.outside.proofs.WorldLemmas.{bytes_eq-ne, bytes_eq-same}
 use Rattle.quota_map.specs.View.{IsView}
 use Rattle.refusals.specs.declared.reason.Refusal.{Refusal}
 use Rattle.refusals.specs.Refusals.{in_line, refusal_of}
-use Rattle.run_steps.specs.Act.{Act, Change, Replace, FollowsAct, StandsFor}
+use Rattle.run_steps.specs.Act.{Act, Change, Replace, FollowsAct, IsSeenAs}
 use Rattle.run_steps.specs.Done.{Outside}
 use Rattle.run_steps.specs.Meaning.{EndsBy}
 use Rattle.run_steps.specs.OneCommand.{AreSameSteps, IsFull, LooksFirstBy, RestsOnNone, UnlessOneFull, leaves_files}
@@ -220,20 +220,22 @@ same_acts rooms looks takes one other (InLine line steps) here there acts new re
 
 -- As they end in one world, they may end in the other.
 
--- a file that stands for a value in one world may stand for it in the other: it gets the same bytes
-stands_too : (name : List ℕ) (value : QuotaValue) (old new from : World) → StandsFor name value old new → (to : World) × StandsFor name value from to
-stands_too name value old new from stands = (
+-- a file that is seen as a value in one world may be seen so in the other: it gets the same bytes
+seen_as_too : (name : List ℕ) (value : QuotaValue) (new from : World) → IsSeenAs name value new → (to : World) × (IsSeenAs name value to × KeepsOthers name from to)
+seen_as_too name value new from seen = (
   with_file from name (new name),
   (
-    subst (λ (f : Option (List ℕ)). IsView f value.kind (Some value.format) (Ok value)) (sym (ap (λ (b : Bool). if b then new name else from name) (bytes_eq-same name))) stands.0,
-    λ other differ differs. ap (λ (b : Bool). if b then new name else from other) (bytes_eq-ne name other (λ is. differ (sym is))),
+    subst (λ (f : Option (List ℕ)). IsView f value.kind (Some value.format) (Ok value)) (sym (ap (λ (b : Bool). if b then new name else from name) (bytes_eq-same name))) seen,
+    λ other differ. ap (λ (b : Bool). if b then new name else from other) (bytes_eq-ne name other (λ is. differ (sym is))),
   ),
 )
 
 -- files that follow an act in one world may follow it in the other
 follow_too : (act : Act) (old new from : World) → FollowsAct act old new → (to : World) × FollowsAct act from to
-follow_too (Change name value) old new from follows = stands_too name value old new from follows
-follow_too (Replace name value) old new from follows = stands_too name value old new from follows
+follow_too (Change name value) old new from follows = seen_as_too name value new from follows.0
+follow_too (Replace name value) old new from follows =
+    let to = seen_as_too name value new from follows.0 in
+    (to.0, (to.1.0, λ other differ differs. to.1.1 other differ))
 follow_too _ old new from follows = (from, refl)
 
 -- steps end so from there too, unless room is wanting; and so do other steps, whose ends follow from theirs

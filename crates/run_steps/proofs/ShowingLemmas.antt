@@ -24,6 +24,7 @@ use Rattle.run_steps.specs.Showing.{ShowingMayRefuse, ShowingSteps, showing_uses
 use Rattle.run_steps.proofs.ActLemmas.{appends_nothing}
 use Rattle.run_steps.specs.Steps.{Doing, Finish}
 use Rattle.run_steps.proofs.OpeningLemmas.{outside_same, refused_so, unwritten, with_out}
+use Rattle.run_steps.proofs.WritesLemmas.{writes_for-same}
 use Rattle.run_steps.proofs.PartLemmas.{carried_whole, part_from}
 
 -- What was done while a text was shown: the store was only read, and the output got the text about each value that the file
@@ -50,7 +51,7 @@ told_begun text tells old store out same prefix = record {
   err = λ told. appends_nothing (old.err.written ++ []) old.err.written [] (sym (append-nil old.err.written));
   answered = sym (append-nil old.link.answers);
   datagrams = refl;
-  writes = λ none. same.writes;
+  writes = writes_for-same (ToOut text ∷ []) old.store.writes store.writes same.writes;
 }
 
 -- a text was written whole
@@ -65,7 +66,7 @@ told_steps text tells old store out same whole = record {
     out = λ told. whole told ∙ ap (λ (b : List ℕ). old.out.written ++ b) (sym (append-nil text));
     err = λ told. sym (append-nil old.err.written);
     answered = sym (append-nil old.link.answers);
-    writes = λ none. same.writes;
+    writes = writes_for-same (ToOut text ∷ []) old.store.writes store.writes same.writes;
   };
 }
 

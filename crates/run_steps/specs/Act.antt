@@ -1,7 +1,7 @@
 -- What a command does to what is outside, act by act, and how the files follow.
 use Rattle.std.specs.Prelude.{◌≡◌, ◌⊎◌, ℕ, List, [], ◌∷◌, ◌++◌, Option, Some, Ok, ⊤}
 use Rattle.quota_blocks.specs.Replacement.{ReplacesOnly}
-use Rattle.quota_blocks.specs.World.{World}
+use Rattle.quota_blocks.specs.World.{KeepsOthers, World}
 use Rattle.quota_blocks.specs.QuotaValue.{QuotaValue}
 use Rattle.quota_map.specs.AnyFile.{AnyLeaves}
 use Rattle.quota_map.specs.View.{IsView}
@@ -40,17 +40,15 @@ ChangesNone (Change name value ∷ acts) = ⊥
 ChangesNone (Replace name value ∷ acts) = ⊥
 ChangesNone (_ ∷ acts) = ChangesNone acts
 
--- The named file is seen as the value, and all other files are the same but for the one with `.new` added to the name.
-abbrev pub StandsFor : List ℕ → QuotaValue → World → World → Type 0
-StandsFor name value old new =
-    IsView (new name) value.kind (Some value.format) (Ok value)
-    × ReplacesOnly name old new
+-- the named file is seen as the value
+abbrev pub IsSeenAs : List ℕ → QuotaValue → World → Type 0
+IsSeenAs name value files = IsView (files name) value.kind (Some value.format) (Ok value)
 
--- Files follow one act. After an edit and after a replacement the named file stands for the new value. The other acts leave
--- all files.
+-- Files follow one act. After an edit and after a replacement the named file stands for the new value; an edit leaves all other
+-- files, and a replacement all others but the one with `.new` added to the name. The other acts leave all files.
 abbrev pub FollowsAct : Act → World → World → Type 0
-FollowsAct (Change name value) old new = StandsFor name value old new
-FollowsAct (Replace name value) old new = StandsFor name value old new
+FollowsAct (Change name value) old new = IsSeenAs name value new × KeepsOthers name old new
+FollowsAct (Replace name value) old new = IsSeenAs name value new × ReplacesOnly name old new
 FollowsAct _ old new = new ≡ old
 
 -- files follow acts, one after another
@@ -65,10 +63,10 @@ MayBeLeft value old left =
     (left ≡ old)
     ⊎ ((after : Option (List ℕ)) × IsView after value.kind (Some value.format) (Ok value) × AnyLeaves value.format old after left)
 
--- Files after acts of which at most the first was begun. A replacement leaves the named file as it was, and an edit leaves
--- what an edit that failed may leave; both leave all other files but the one with `.new` added to the name.
+-- Files after acts of which at most the first was begun. An edit leaves what an edit that failed may leave of the named file, and
+-- all other files; a replacement leaves the named file as it was, and all others but the one with `.new` added to the name.
 abbrev pub FollowsInPart : List Act → World → World → Type 0
 FollowsInPart [] old new = new ≡ old
-FollowsInPart (Change name value ∷ _) old new = MayBeLeft value (old name) (new name) × ReplacesOnly name old new
+FollowsInPart (Change name value ∷ _) old new = MayBeLeft value (old name) (new name) × KeepsOthers name old new
 FollowsInPart (Replace name value ∷ _) old new = (new name ≡ old name) × ReplacesOnly name old new
 FollowsInPart (_ ∷ _) old new = new ≡ old

@@ -13,6 +13,7 @@ pub mod SameViews
 pub mod Showing
 pub mod Steps
 pub mod Taking
+pub mod Writes
 pub use Rattle.quota_blocks.specs.Frame
 pub use Rattle.quota_blocks.specs.Unsynced
 pub use Rattle.refusals.specs.Outcome

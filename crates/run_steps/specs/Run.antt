@@ -7,10 +7,11 @@ use Rattle.refusals.specs.declared.cause.Cause.TheVariants.{StoreFault, SourceFa
 use Rattle.refusals.specs.declared.reason.Refusal.{Refusal}
 use Rattle.refusals.specs.Refusals.{stands_in_line}
 use Rattle.refusals.specs.Status.{ByGroup, group_of, status_of}
-use Rattle.run_steps.specs.Act.{Act, ChangesNone, FollowsInPart, answers, err_bytes, out_bytes}
+use Rattle.run_steps.specs.Act.{Act, FollowsInPart, answers, err_bytes, out_bytes}
 use Rattle.run_steps.specs.Done.{AreDone, IsLater, IsUnwritten, IsWorldTold, Outside, RunSeen, RunTells, outside_of}
 use Rattle.run_steps.specs.Meaning.{EndsBy, HasBegun}
 use Rattle.run_steps.specs.Steps.{Steps}
+use Rattle.run_steps.specs.Writes.{WritesFor}
 
 -- Which objects a command uses. A command that changes no file only reads the store; one that is all or nothing has
 -- written nothing where it was refused, unless something outside failed. One that warns writes more to the error output
@@ -57,7 +58,8 @@ pub record HasSteps (steps : Steps) (tells : RunTells) (refusal : Option Refusal
 
 -- Steps were done in part: they have begun, and the act that is at hand, if there is one, may have been done in part: bytes by
 -- a prefix of them, an edit as one that failed may leave the file, and a replacement and an answer not at all. Nothing else was
--- done. What is left of the input is not said.
+-- done, and there were no more calls of `write` to the store than these acts come to, the one at hand with them. What is left of
+-- the input is not said.
 pub record IsDoneInPart (steps : Steps) (tells : RunTells) (old new : RunSeen) : Type 0 where
   pub done : List Act
   pub hand : List Act
@@ -68,7 +70,7 @@ pub record IsDoneInPart (steps : Steps) (tells : RunTells) (old new : RunSeen) :
   pub err : IsTrue tells.err → AppendsPrefix (old.err.written ++ err_bytes done) new.err.written (err_bytes hand)
   pub answered : new.link.answers ≡ old.link.answers ++ answers done
   pub datagrams : new.link.left ≡ now.datagrams
-  pub writes : ChangesNone (done ++ hand) → new.store.writes ≡ old.store.writes
+  pub writes : WritesFor (done ++ hand) old.store.writes new.store.writes
 
 -- A command was carried out but for the error line. Where it ended well or was refused by a step, its steps say so and
 -- its acts were done. Where it was stopped, there is a reason. In every case its steps were done in part, if not whole. Nothing

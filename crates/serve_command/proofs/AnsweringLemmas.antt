@@ -33,6 +33,7 @@ use Rattle.run_steps.specs.Steps.{Steps}
 use Rattle.run_steps.proofs.ActLemmas.{appends_nothing, none_in_part}
 use Rattle.run_steps.proofs.PartLemmas.{nothing_begun, whole_begun}
 use Rattle.run_steps.proofs.ShowingLemmas.{damage_may}
+use Rattle.run_steps.proofs.WritesLemmas.{writes_for-same}
 use Rattle.serve_command.specs.Serve.{AnsweringMayRefuse, AnsweringSteps, IsAsAsked, Replying, serve_cause, serve_uses}
 
 -- what is seen once the store and the link were used
@@ -127,7 +128,7 @@ served_steps exported calls serves tells old store link is files writes served =
         out = λ told. sym (append-nil old.out.written) ∙ ap (λ (b : List ℕ). old.out.written ++ b) (sym (answering-out sent));
         err = λ told. sym (append-nil old.err.written) ∙ ap (λ (b : List ℕ). old.err.written ++ b) (sym (answering-err sent));
         answered = served.answers exported is ∙ ap (λ (l : List (List ℕ)). old.link.answers ++ l) (sym (answering-answers sent));
-        writes = λ none. writes;
+        writes = writes_for-same (acts_of exported served.taken) old.store.writes store.writes writes;
       };
     }
 
@@ -203,7 +204,7 @@ stopped_part exported calls serves tells old store link is files writes stopped 
       err = λ told. appends_nothing _ old.err.written (err_bytes begun.0) (sym (append-nil old.err.written) ∙ ap (λ (b : List ℕ). old.err.written ++ b) (sym (answering-err sent)));
       answered = stopped.answers exported is ∙ ap (λ (l : List (List ℕ)). old.link.answers ++ l) (sym (answering-answers sent));
       datagrams = refl;
-      writes = λ none. writes;
+      writes = writes_for-same (acts_of exported stopped.done ++ begun.0) old.store.writes store.writes writes;
     }
 
 -- What was carried out.

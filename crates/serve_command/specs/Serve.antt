@@ -1,6 +1,6 @@
 -- `rquotad`. Source: the manual page of rpc.rquotad; that so many calls are answered, and that quota files are named together with
 -- the paths under which they are told of, is this project's own.
-use Rattle.std.specs.Prelude.{◌≡◌, ◌⊎◌, ℕ, zero, suc, true, false, List, [], ◌∷◌, map, Option, Some, None, ⊤}
+use Rattle.std.specs.Prelude.{◌≡◌, ◌⊎◌, ◌+◌, ◌*◌, ℕ, zero, suc, true, false, List, [], ◌∷◌, map, Option, Some, None, ⊤}
 use Rattle.quota_types.specs.declared.file_kind.Format.{Format}
 use Rattle.quota_blocks.specs.QuotaValue.{QuotaValue}
 use Rattle.quota_blocks.specs.Seen.{Datagram}
@@ -8,7 +8,7 @@ use Rattle.quota_blocks.specs.World.{World}
 use Rattle.quota_map.specs.View.{IsOpenedAs}
 use Rattle.rquota_xdr.specs.Reply.{spelling_of}
 use Rattle.rquota_xdr.specs.declared.reply.Reply.{Reply}
-use Rattle.rquota_serve.specs.Adding.{AreToldOf, MayAddAll, NewSeen}
+use Rattle.rquota_serve.specs.Adding.{AreToldOf, MayAddAll, NewSeen, reads_of}
 use Rattle.rquota_serve.specs.Exported.{Exported, nothing_exported, with_export}
 use Rattle.rquota_serve.specs.Exports.{ExportSeen}
 use Rattle.rquota_serve.specs.Serving.{datagram_reply}
@@ -67,6 +67,11 @@ news_of exports = map new_of exports
 -- These files are exported beside what is exported before: each is seen as a value, which is exported under its path for its kind.
 abbrev pub AreExported : Option Format → World → List Export → (before exported : Exported) → Type 0
 AreExported format files exports before exported = AreToldOf format files (news_of exports) before exported
+
+-- How many calls of `read` it takes at most to answer so many datagrams out of these files: those of opening each, and five for each
+-- datagram.
+abbrev pub serving_reads : Option Format → (calls : ℕ) → List Export → World → ℕ
+serving_reads format calls exports files = reads_of format files (news_of exports) + 5 * calls
 
 -- These files may be exported one after another behind those that are exported before: there are 16 at most, and no two have the same
 -- path and kind.

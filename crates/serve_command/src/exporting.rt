@@ -1,4 +1,4 @@
-ghost use Rattle.std.specs.Prelude.{ℕ, Option, [], ◌≡◌, ◌≤◌, ◌⊎◌, Bool, List, Result, IsTrue, IfOk, OnOk, OnErr, length};
+ghost use Rattle.std.specs.Prelude.{ℕ, Option, [], ◌≡◌, ◌≤◌, ◌+◌, ◌⊎◌, Bool, List, Result, IsTrue, IfOk, OnOk, OnErr, length};
 ghost use Rattle.std.specs.List.{All};
 ghost use Rattle.quota_blocks.specs.Seen.{LinkSeen, SinkSeen, SourceSeen};
 ghost use Rattle.quota_blocks.specs.Unsynced.{AddsNone};
@@ -8,7 +8,7 @@ ghost use Rattle.refusals.specs.declared.reason.Refusal.{Refusal};
 ghost use Rattle.run_steps.specs.Done.{IsUnwritten, RunSeen, seen_of, tells_of};
 ghost use Rattle.run_steps.specs.Run.{CarriesOut};
 ghost use Rattle.run_steps.specs.Steps.{Steps};
-ghost use Rattle.rquota_serve.specs.Adding.{news_seen};
+ghost use Rattle.rquota_serve.specs.Adding.{news_seen, reads_of};
 ghost use Rattle.rquota_serve.specs.Exported.{Exported};
 ghost use Rattle.rquota_serve.specs.Exports.{Serves, exports_seen};
 ghost use Rattle.serve_command.specs.Serve.{AnsweringMayRefuse, AreExported, ExportingMayRefuse, IsAsAsked, MayExport, OpeningAll, news_of, serve_uses};
@@ -54,6 +54,8 @@ pub(crate) fn add_all<S: Store>(
         (tells_of S.tells input_tells out_tells err_tells link_tells)
         (seen_of (S.seen store.old) input out err link) (seen_of (S.seen store.new) input out err link) result) }
     ensures as_asked { OnOk result (All (IsAsAsked format) (exports_seen exports.new)) }
+    ensures reads { OnOk result (IsTrue S.tells → (S.seen store.new).reads
+        ≤ (S.seen store.old).reads + reads_of format (S.seen store.old).files (news_of list.now)) }
     ensures unwritten { IsUnwritten (S.seen store.old) (S.seen store.new) }
     ensures later { (S.seen store.old).faults ≤ (S.seen store.new).faults }
     ensures synced { OnOk result (AddsNone (S.seen store.old).unsynced (S.seen store.new).unsynced) }

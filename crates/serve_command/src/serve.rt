@@ -1,4 +1,4 @@
-ghost use Rattle.std.specs.Prelude.{ℕ, Option, ◌≡◌, ◌<◌, [], Bool, List, IsTrue, IfOk, IfErr, OnOk, OnErr};
+ghost use Rattle.std.specs.Prelude.{ℕ, Option, ◌≡◌, ◌<◌, ◌≤◌, ◌+◌, ◌*◌, [], Bool, List, IsTrue, IfOk, IfErr, OnOk, OnErr};
 ghost use Rattle.std.specs.List.{All};
 ghost use Rattle.quota_blocks.specs.Seen.{LinkSeen, SinkSeen, SourceSeen};
 ghost use Rattle.quota_blocks.specs.Unsynced.{AddsNone};
@@ -12,7 +12,7 @@ ghost use Rattle.run_steps.specs.declared.invocation.Invocation.{Invocation};
 ghost use Rattle.rquota_serve.specs.Exported.{Exported, nothing_exported};
 ghost use Rattle.rquota_serve.specs.Exports.{Serves, exports_seen};
 ghost use Rattle.rquota_serve.specs.Serving.{Stopped};
-ghost use Rattle.serve_command.specs.Serve.{AnsweringMayRefuse, AnsweringSteps, AreExported, IsAsAsked, MayExport, ServeMayRefuse, ServeSteps, first_file, serve_cause, serve_uses};
+ghost use Rattle.serve_command.specs.Serve.{AnsweringMayRefuse, AnsweringSteps, AreExported, IsAsAsked, MayExport, ServeMayRefuse, ServeSteps, first_file, serve_cause, serve_uses, serving_reads};
 
 use crate::exporting::add_all;
 use option_words::{Export, ExportList};
@@ -53,6 +53,9 @@ pub fn serve_files<S: Store, L: Link>(
     ensures stopped { IfErr result (λ refusal. refusal.cause ≡ LinkFault → IsTrue L.tells
         → Stopped (λ exported. IsTrue S.tells × AreExported format (S.seen store.old).files exports nothing_exported exported) calls
         (L.seen link.old) (L.seen link.new)) }
+    // Where it was done, no more was read than the opening of each file takes, and five blocks for each datagram.
+    ensures reads { OnOk result (IsTrue S.tells → (S.seen store.new).reads
+        ≤ (S.seen store.old).reads + serving_reads format calls exports (S.seen store.old).files) }
     ensures synced { OnOk result (AddsNone (S.seen store.old).unsynced (S.seen store.new).unsynced) }
 {
     let mut opened = Exports::new(alloc);
@@ -102,6 +105,7 @@ fn answer_calls<S: Store, L: Link>(
     ensures unwanting { IfErr result (λ refusal. ¬ (status_of refusal.cause ≡ 5)) }
     ensures stopped { OnErr result (IsTrue L.tells → Stopped (Serves S.tells (S.seen store.old).files opened.old) calls
         (L.seen link.old) (L.seen link.new)) }
+    ensures reads { OnOk result ((S.seen store.new).reads ≤ (S.seen store.old).reads + 5 * calls) }
     ensures synced { OnOk result (AddsNone (S.seen store.old).unsynced (S.seen store.new).unsynced) }
 {
     if link.start(port).is_err() {

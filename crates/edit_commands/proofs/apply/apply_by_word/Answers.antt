@@ -5,6 +5,7 @@ use Rattle.outside.proofs.FrameLemmas.{are_synced-read, are_synced-then}
 use Rattle.run_steps.proofs.PhaseLemmas.{carries_naming, naming_refused}
 use Rattle.edit_commands.proofs.RefusedEditLemmas.{left_for-read}
 use Rattle.edit_commands.proofs.WordLemmas.{faulty_word_given, faulty_word_none}
+use Rattle.edit_commands.proofs.AloneLemmas.{edits_alone-after, edits_alone-read}
 use Rattle.edit_commands.proofs.apply.apply_by_word.Goals as goal
 
 pub returns-in-Ok-clause-carries : goal.returns-in-Ok-clause-carries
@@ -46,3 +47,9 @@ returns-in-Ok-clause-named g c =
 
 pub returns-in-Err-clause-named : goal.returns-in-Err-clause-named
 returns-in-Err-clause-named g c = λ told. inl (ap (λ (w : World). w c.args.file) c.in-Err.ensures.leaves.files)
+
+pub returns-in-Ok-clause-alone : goal.returns-in-Ok-clause-alone
+returns-in-Ok-clause-alone g c = edits_alone-after c.args.file _ _ _ _ c.in-Ok.ensures.leaves c.apply_named.ensures.alone
+
+pub returns-in-Err-clause-alone : goal.returns-in-Err-clause-alone
+returns-in-Err-clause-alone g c = edits_alone-read c.args.file _ _ _ c.in-Err.ensures.leaves

@@ -3,6 +3,7 @@ use Rattle.refusals.specs.declared.reason.Refusal.{Refusal}
 use Rattle.run_steps.specs.Numbers.{identifier_of}
 use Rattle.run_steps.proofs.PhaseLemmas.{carries_then}
 use Rattle.edit_commands.proofs.WordLemmas.{identifier_refusal, passed_not, refused_as, word_refused}
+use Rattle.edit_commands.proofs.AloneLemmas.{edits_alone-none}
 use Rattle.edit_commands.proofs.apply.apply_named.Goals as goal
 
 pub returns-in-Ok-clause-carries : goal.returns-in-Ok-clause-carries
@@ -27,3 +28,6 @@ returns-in-Err-clause-word g c = λ refusal is. ap (λ (r : Refusal). Err r) (re
 
 pub returns-in-Err-clause-named : goal.returns-in-Err-clause-named
 returns-in-Err-clause-named g c = λ told. inl refl
+
+pub returns-in-Err-clause-alone : goal.returns-in-Err-clause-alone
+returns-in-Err-clause-alone g c = edits_alone-none c.args.file _

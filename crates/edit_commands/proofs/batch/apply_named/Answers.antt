@@ -1,8 +1,9 @@
-use Rattle.std.proofs.Common.{inl, inr, sym}
+use Rattle.std.proofs.Common.{inl, inr, sym, arith}
 use Rattle.std.proofs.lemmas.Result.{on_ok_weaker}
-use Rattle.outside.proofs.FrameLemmas.{are_synced-read, are_synced-then}
+use Rattle.outside.proofs.FrameLemmas.{are_synced-read, are_synced-then, keeps_others-then}
 use Rattle.run_steps.proofs.OpeningLemmas.{not_opened}
 use Rattle.run_steps.proofs.PhaseLemmas.{carries_opening}
+use Rattle.edit_commands.proofs.AloneLemmas.{others-read}
 use Rattle.edit_commands.proofs.batch.apply_named.Goals as goal
 
 pub returns-in-Ok-clause-carries : goal.returns-in-Ok-clause-carries
@@ -23,3 +24,17 @@ returns-in-Err-clause-carries g c = λ out err link out_tells err_tells link_tel
     rw (c.of.ensures, c.opening_cause.ensures)
     (not_opened c.args.kind c.args.format c.args.file _ _ _ _ _ _ c.in-Err.fault
     (rw c.as_str.ensures at c.in-Err.ensures.refused) (rw c.as_str.ensures at c.in-Err.ensures.leaves) (λ cause may. inl (inr may)))
+
+pub returns-in-Ok-clause-alone : goal.returns-in-Ok-clause-alone
+returns-in-Ok-clause-alone g c = keeps_others-then c.args.file _ _ _ (others-read c.args.file _ _ _ c.in-Ok.ensures.leaves) c.apply_opened.ensures.alone
+
+pub returns-in-Err-clause-alone : goal.returns-in-Err-clause-alone
+returns-in-Err-clause-alone g c = others-read c.args.file _ _ _ c.in-Err.ensures.leaves
+
+pub returns-in-Ok-clause-reads : goal.returns-in-Ok-clause-reads
+returns-in-Ok-clause-reads g c = λ none.
+    let S = g.S.Store in
+    on_ok_weaker c.apply_opened.result (λ few told input_told.
+    let opening = (rw c.as_str.ensures at c.in-Ok.ensures.reads) told in
+    let lines = few told input_told in
+    omega (arith, opening, lines)) (c.apply_opened.ensures.reads none)

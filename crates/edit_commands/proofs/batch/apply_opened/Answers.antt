@@ -2,7 +2,7 @@ use Rattle.std.proofs.Common.{false, Option, inl, inr, sym, ap, subst}
 use Rattle.std.specs.Prelude.{IfSome}
 use Rattle.std.proofs.lemmas.Bool.{false≢true}
 use Rattle.quota_blocks.specs.World.{World}
-use Rattle.outside.proofs.FrameLemmas.{are_synced-then}
+use Rattle.outside.proofs.FrameLemmas.{are_synced-then, keeps_others-then}
 use Rattle.quota_map.specs.AnyFile.{HoldsAny}
 use Rattle.refusals.specs.declared.reason.Refusal.{Refusal}
 use Rattle.run_steps.specs.Taking.{Lines, input_name}
@@ -10,6 +10,8 @@ use Rattle.edit_commands.specs.Batch.{Applying, Asked, IsOfLine, LineEditMayRefu
 use Rattle.edit_commands.proofs.BatchLemmas.{ends_none, then_ended, then_refused, then_stopped}
 use Rattle.run_steps.proofs.PhaseLemmas.{placed_nowhere}
 use Rattle.run_steps.proofs.TakingLemmas.{carries_taking, fault_more, has_taken, input_refused}
+use Rattle.edit_commands.proofs.AloneLemmas.{others-read}
+use Rattle.edit_commands.proofs.ReadsLemmas.{asked_reads}
 use Rattle.edit_commands.proofs.batch.apply_opened.Goals as goal
 
 pub returns-in-Some-clause-carries : goal.returns-in-Some-clause-carries
@@ -71,3 +73,24 @@ returns-clause-carries g c = λ format as_asked value held out err link out_tell
     (λ told. has_taken c.args.from false _ _ (took.behind told.input) (λ all. absurd (false≢true all))
     (λ some. ap (λ i. (g.I.Source.seen i).left) (took.untouched some)))
     took.may (inr (inl took.may)) (placed_nowhere line_uses c.in-Err.refusal took.placed)
+
+pub returns-in-Some-clause-alone : goal.returns-in-Some-clause-alone
+returns-in-Some-clause-alone g c = keeps_others-then c.args.file _ _ _ (others-read c.args.file _ _ _ c.in-Ok.ensures.leaves) c.in-Ok-edit_all.ensures.alone
+
+pub returns-in-Ok-edit_all-clause-alone : goal.returns-in-Ok-edit_all-clause-alone
+returns-in-Ok-edit_all-clause-alone g c = keeps_others-then c.args.file _ _ _ (others-read c.args.file _ _ _ c.in-Ok.ensures.leaves) c.in-Ok-edit_all.ensures.alone
+
+pub returns-in-Ok-clause-alone : goal.returns-in-Ok-clause-alone
+returns-in-Ok-clause-alone g c = keeps_others-then c.args.file _ _ _ (others-read c.args.file _ _ _ c.in-Ok.ensures.leaves) c.in-Err-edit_all.ensures.alone
+
+pub returns-clause-alone : goal.returns-clause-alone
+returns-clause-alone g c = others-read c.args.file _ _ _ c.in-Err.ensures.leaves
+
+pub returns-in-Ok-edit_all-clause-reads : goal.returns-in-Ok-edit_all-clause-reads
+returns-in-Ok-edit_all-clause-reads g c = λ none told input_told.
+    let S = g.S.Store in
+    let took = c.in-Ok.ensures in
+    let asked : Asked = record { edits = c.in-Ok.batch.edits.items; refusal = c.in-Ok.batch.refusal } in
+    asked_reads c.args.names.now c.args.from (S.seen c.args.store.now).files _ asked (S.seen c.args.store.now).reads (S.seen c.take_batch.new.store).reads _ none (took.read told input_told)
+    (ap (λ s. (S.seen s).reads) (took.unread none))
+    (rw c.as_slice.ensures.value at c.in-Ok-edit_all.ensures.reads)

@@ -1,5 +1,6 @@
-use Rattle.std.proofs.Common.{◌≡◌, IsTrue, drop}
-use Rattle.quota_blocks.specs.Frame.{AreSynced, ReplacesOne}
+use Rattle.std.proofs.Common.{◌≡◌, ◌≤◌, ◌+◌, ◌*◌, IsTrue, drop, length}
+use Rattle.quota_blocks.specs.EditsOne.{EditsOne}
+use Rattle.quota_blocks.specs.Frame.{AreSynced}
 use Rattle.quota_blocks.specs.QuotaValue.{QuotaValue}
 use Rattle.quota_map.specs.AnyFile.{HoldsAny, any_seen}
 use Rattle.edit_commands.proofs.BatchLemmas.{AreMade}
@@ -12,6 +13,8 @@ invariant-loop-line g l =
       made : IsTrue S.tells → (start : QuotaValue) → HoldsAny S.tells (S.seen l.fn.store).files l.fn.opened start
           → AreMade l.file l.now l.lines (drop l.line-index l.lines) start (S.seen l.fn.store) (S.seen l.store) (HoldsAny S.tells (S.seen l.store).files l.opened);
       same : any_seen l.opened ≡ any_seen l.fn.opened;
-      leaves : ReplacesOne l.file (S.seen l.fn.store) (S.seen l.store);
+      leaves : EditsOne l.file (S.seen l.fn.store) (S.seen l.store);
+      reads : (S.seen l.store).reads ≤ (S.seen l.fn.store).reads + 17 * l.line-index;
+      within : l.line-index ≤ length l.lines;
       synced : IsTrue S.tells → AreSynced (S.seen l.fn.store) (S.seen l.store);
     }

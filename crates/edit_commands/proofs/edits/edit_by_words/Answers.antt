@@ -6,6 +6,8 @@ use Rattle.edit_commands.specs.EditWords.{names_wanted}
 use Rattle.run_steps.proofs.PhaseLemmas.{carries_naming, naming_refused}
 use Rattle.edit_commands.proofs.RefusedEditLemmas.{left_for-read}
 use Rattle.edit_commands.proofs.WordLemmas.{faulty_given, faulty_none}
+use Rattle.edit_commands.proofs.AloneLemmas.{edits_alone-after, edits_alone-read}
+use Rattle.edit_commands.proofs.MadeLemmas.{words_made}
 use Rattle.edit_commands.proofs.edits.edit_by_words.Goals as goal
 
 pub returns-in-Ok-clause-carries : goal.returns-in-Ok-clause-carries
@@ -56,3 +58,15 @@ returns-in-Err-clause-store g c = λ refusal faulty.
 
 pub returns-in-Err-clause-named : goal.returns-in-Err-clause-named
 returns-in-Err-clause-named g c = λ no told. inl (ap (λ (w : World). w c.args.file) c.in-Err.ensures.leaves.files)
+
+pub returns-in-Ok-clause-alone : goal.returns-in-Ok-clause-alone
+returns-in-Ok-clause-alone g c = edits_alone-after c.args.file _ _ _ _ c.in-Ok.ensures.leaves c.edit_named.ensures.alone
+
+pub returns-in-Err-clause-alone : goal.returns-in-Err-clause-alone
+returns-in-Err-clause-alone g c = edits_alone-read c.args.file _ _ _ c.in-Err.ensures.leaves
+
+pub returns-in-Ok-clause-made : goal.returns-in-Ok-clause-made
+returns-in-Ok-clause-made g c =
+    let read = rw c.names_wanted-names.ensures at c.in-Ok.ensures in
+    on_ok_weaker c.edit_named.result (λ made told.
+    words_made c.args.common c.args.words c.args.file c.args.invocation.now _ _ _ c.in-Ok.names (read.read told) read.leaves.files (made told)) c.edit_named.ensures.made

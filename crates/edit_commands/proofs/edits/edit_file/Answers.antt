@@ -1,6 +1,5 @@
-use Rattle.std.proofs.Common.{◌≡◌, ℕ, IsTrue, List, inl, inr, refl, sym, ap, ◌∙◌}
+use Rattle.std.proofs.Common.{ℕ, IsTrue, List, inl, inr, refl, sym, ap, ◌∙◌}
 use Rattle.std.proofs.lemmas.Bool.{false≢true}
-use Rattle.quota_blocks.specs.QuotaFile.{FileSeen}
 use Rattle.quota_blocks.specs.World.{World}
 use Rattle.outside.proofs.FrameLemmas.{are_synced, are_synced-read, are_synced-then}
 use Rattle.quota_map.specs.AnyFile.{any_seen}
@@ -13,6 +12,8 @@ use Rattle.edit_commands.proofs.RefusedEditLemmas.{edit_unmade, left_for-read}
 use Rattle.run_steps.proofs.LookingLemmas.{carries_looking}
 use Rattle.run_steps.proofs.OpeningLemmas.{not_opened}
 use Rattle.run_steps.proofs.PhaseLemmas.{carries_opening}
+use Rattle.edit_commands.proofs.AloneLemmas.{edits_alone-after, edits_alone-edits, edits_alone-read}
+use Rattle.edit_commands.proofs.MadeLemmas.{makes_opened}
 use Rattle.edit_commands.proofs.edits.edit_file.Goals as goal
 
 pub returns-in-Ok-write_warnings-clause-carries : goal.returns-in-Ok-write_warnings-clause-carries
@@ -100,3 +101,32 @@ returns-in-Ok-write_warnings-clause-quiet g c = λ no.
 pub returns-in-Err-write_warnings-clause-quiet : goal.returns-in-Err-write_warnings-clause-quiet
 returns-in-Err-write_warnings-clause-quiet g c = λ no.
     absurd (false≢true (sym no ∙ skips_warn c.args.edit.now c.in-Ok-make_edit.skipped c.in-Ok-make_edit.ensures.skips c.in-Err-write_warnings.ensures.some))
+
+pub returns-in-Ok-write_warnings-clause-alone : goal.returns-in-Ok-write_warnings-clause-alone
+returns-in-Ok-write_warnings-clause-alone g c =
+    let opened = c.in-Ok.ensures in
+    let was = opened.fresh ∙ ap (λ (n : List ℕ). fresh_seen n (any_seen c.in-Ok.opened).format) c.as_str.ensures in
+    edits_alone-after c.args.file _ _ _ _ opened.leaves (edits_alone-edits c.args.file _ _ _ _ _ _ _ _ was c.in-Ok-make_edit.ensures.edits)
+
+pub returns-in-Err-write_warnings-clause-alone : goal.returns-in-Err-write_warnings-clause-alone
+returns-in-Err-write_warnings-clause-alone g c =
+    let opened = c.in-Ok.ensures in
+    let was = opened.fresh ∙ ap (λ (n : List ℕ). fresh_seen n (any_seen c.in-Ok.opened).format) c.as_str.ensures in
+    edits_alone-after c.args.file _ _ _ _ opened.leaves (edits_alone-edits c.args.file _ _ _ _ _ _ _ _ was c.in-Ok-make_edit.ensures.edits)
+
+pub returns-in-Err-make_edit-clause-alone : goal.returns-in-Err-make_edit-clause-alone
+returns-in-Err-make_edit-clause-alone g c =
+    let opened = c.in-Ok.ensures in
+    let was = opened.fresh ∙ ap (λ (n : List ℕ). fresh_seen n (any_seen c.in-Ok.opened).format) c.as_str.ensures in
+    edits_alone-after c.args.file _ _ _ _ opened.leaves (edits_alone-edits c.args.file _ _ _ _ _ _ _ _ was c.in-Err-make_edit.ensures.edits)
+
+pub returns-in-Err-clause-alone : goal.returns-in-Err-clause-alone
+returns-in-Err-clause-alone g c = edits_alone-read c.args.file _ _ _ c.in-Err.ensures.leaves
+
+pub returns-in-Ok-write_warnings-clause-made : goal.returns-in-Ok-write_warnings-clause-made
+returns-in-Ok-write_warnings-clause-made g c = λ told value view busy.
+    let opened = c.in-Ok.ensures in
+    let name = c.as_str.ensures in
+    let was = opened.fresh ∙ ap (λ (n : List ℕ). fresh_seen n (any_seen c.in-Ok.opened).format) name in
+    makes_opened c.args.file _ _ _ _ _ _ _ value _ c.in-Ok-make_edit.skipped was opened.leaves.files (opened.held told value (rw (sym name) at view)) busy
+    c.in-Ok-make_edit.ensures.edits

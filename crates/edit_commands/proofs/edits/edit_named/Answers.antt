@@ -1,8 +1,10 @@
 use Rattle.std.proofs.Common.{Err, inl, inr, refl, ap, ◌∙◌}
+use Rattle.std.proofs.lemmas.Result.{on_ok_weaker}
 use Rattle.refusals.specs.declared.reason.Refusal.{Refusal}
 use Rattle.edit_commands.specs.EditWords.{edit_read}
 use Rattle.run_steps.proofs.PhaseLemmas.{carries_then}
 use Rattle.edit_commands.proofs.WordLemmas.{passed_not, refused_as, warns_read, words_refused}
+use Rattle.edit_commands.proofs.AloneLemmas.{edits_alone-none}
 use Rattle.edit_commands.proofs.edits.edit_named.Goals as goal
 
 pub returns-in-Ok-clause-carries : goal.returns-in-Ok-clause-carries
@@ -37,3 +39,9 @@ returns-in-Err-clause-word g c = λ refusal is. ap (λ (r : Refusal). Err r) (re
 
 pub returns-in-Err-clause-named : goal.returns-in-Err-clause-named
 returns-in-Err-clause-named g c = λ no told. inl refl
+
+pub returns-in-Err-clause-alone : goal.returns-in-Err-clause-alone
+returns-in-Err-clause-alone g c = edits_alone-none c.args.file _
+
+pub returns-in-Ok-clause-made : goal.returns-in-Ok-clause-made
+returns-in-Ok-clause-made g c = on_ok_weaker c.edit_file.result (λ made told. (c.in-Ok.edit, c.in-Ok.ensures, made told)) c.edit_file.ensures.made

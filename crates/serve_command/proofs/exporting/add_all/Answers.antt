@@ -1,6 +1,6 @@
-use Rattle.std.proofs.Common.{◌≡◌, List, length, take, sym, ap, subst, ◌∙◌, arith}
+use Rattle.std.proofs.Common.{◌≡◌, ◌+◌, ◌≤◌, List, length, take, sym, ap, subst, ◌∙◌, arith}
 use Rattle.std.proofs.lemmas.List.{length-map}
-use Rattle.rquota_serve.specs.Adding.{AreToldOf, IsRefusedAt, MayAddAll, NewSeen, ReadsEach, new_seen, news_seen}
+use Rattle.rquota_serve.specs.Adding.{AreToldOf, IsRefusedAt, MayAddAll, NewSeen, ReadsEach, new_seen, news_seen, reads_of}
 use Rattle.rquota_serve.specs.Exports.{Serves, exports_seen}
 use Rattle.rquota_serve.proofs.AddingLemmas.{all_seen, asked_all, few_news, stays_each, stays_refused, synced_each}
 use Rattle.serve_command.specs.Serve.{new_of, news_of}
@@ -81,3 +81,10 @@ pub returns-in-Err-clause-later : goal.returns-in-Err-clause-later
 returns-in-Err-clause-later g c =
     let S = g.S.Store in
     (stays_refused S.tells c.args.format c.in-Err.met.place (news_seen c.as_slice.result.now) c.in-Err.met.fault (S.seen c.args.store.now) (S.seen c.add_all.new.store) c.in-Err.ensures.refused).later
+
+pub returns-in-Ok-clause-reads : goal.returns-in-Ok-clause-reads
+returns-in-Ok-clause-reads g c = λ told.
+    let S = g.S.Store in
+    let old = S.seen c.args.store.now in
+    let same : news_seen c.as_slice.result.now ≡ news_of c.args.list.now = ap news_seen c.as_slice.ensures.value ∙ c.news_of-news.ensures in
+    subst (λ (l : List NewSeen). (S.seen c.add_all.new.store).reads ≤ old.reads + reads_of c.args.format old.files l) same (c.in-Ok.ensures.reads told)

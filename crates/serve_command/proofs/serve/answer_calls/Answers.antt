@@ -1,4 +1,5 @@
-use Rattle.std.proofs.Common.{sym, ◌∙◌, arith}
+use Rattle.std.proofs.Common.{◌+◌, ◌*◌, ◌≤◌, ℕ, sym, subst, ◌∙◌, arith}
+use Rattle.quota_map.proofs.AnyLemmas.{any_few_gets}
 use Rattle.quota_blocks.specs.Count.{Rose}
 use Rattle.run_steps.specs.Done.{seen_of, tells_of}
 use Rattle.rquota_serve.specs.Exports.{Serves, exports_seen}
@@ -43,3 +44,8 @@ returns-in-Err-clause-carries g c = λ exported input out err input_tells out_te
     c.start.ensures.later serves
     (λ told. stopped_since _ c.args.calls (L.seen c.args.link.now) (L.seen c.start.new.self) (L.seen c.serve.new.link) c.start.ensures.left c.start.ensures.answers (stopped.stopped told))
     (serve_fault _ _ _ _ _ c.in-Err.fault stopped.unlinked stopped.looks.refused) c.requires.asked (on_file _ c.in-Err.fault stopped.looks.may))
+
+pub returns-in-Ok-clause-reads : goal.returns-in-Ok-clause-reads
+returns-in-Ok-clause-reads g c =
+    let S = g.S.Store in
+    subst (λ (each : ℕ). (S.seen c.serve.new.store).reads ≤ (S.seen c.args.store.now).reads + each * c.args.calls) any_few_gets c.in-Ok.ensures.looks.reads

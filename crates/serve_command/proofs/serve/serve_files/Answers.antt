@@ -1,4 +1,5 @@
-use Rattle.std.proofs.Common.{◌≡◌, [], inl, inr, refl, subst, IsTrue}
+use Rattle.std.proofs.Common.{◌≡◌, [], inl, inr, refl, subst, IsTrue, arith}
+use Rattle.std.proofs.lemmas.Result.{on_ok_weaker}
 use Rattle.refusals.specs.Refusals.{refusal_of}
 use Rattle.refusals.specs.declared.cause.Cause.TheVariants.{Memory}
 use Rattle.run_steps.specs.Done.{seen_of, tells_of}
@@ -70,3 +71,9 @@ returns-clause-carries g c = λ input out err input_tells out_tells err_tells in
 pub returns-clause-stopped : goal.returns-clause-stopped
 returns-clause-stopped g c = λ cause told.
     nothing_stopped _ c.args.calls (g.L.Link.seen c.args.link.now) (g.L.Link.seen c.args.link.now) c.requires.some refl refl
+
+pub returns-in-Ok-first_file-clause-reads : goal.returns-in-Ok-first_file-clause-reads
+returns-in-Ok-first_file-clause-reads g c =
+    on_ok_weaker c.answer_calls.result (λ few told.
+    let opening = (rw c.as_slice.ensures at c.in-Ok.ensures.reads) told in
+    omega (arith, few, opening)) c.answer_calls.ensures.reads
