@@ -1,7 +1,7 @@
 use crate::made_files::{LIMITS, Made};
 use crate::opened_steps::{Part, Step, Story, are_parts, expect_stories};
 use quota_blocks::FileFault;
-use quota_types::{Entry, Format, Grace, Kind, Rec};
+use quota_types::{Damage, DamageKind, Entry, Format, Grace, Kind, Rec};
 use quota_v1::build_v1;
 use std::alloc::{AllocError, Global};
 use std::process::Abort;
@@ -84,6 +84,59 @@ const STORIES: &[Story] = &[
 #[test]
 fn a_change_of_a_flat_file_leaves_its_other_bytes(rt: HostRuntime) {
     expect_stories(&rt, rt.alloc(), STORIES);
+}
+
+/// Record 0 with its times, and records of the identifiers 1 and 2.
+const THREE: Made = Made::Written(&[
+    (24, TIMES_BYTES),
+    (40, LIMITS_BYTES),
+    (80, LIMITS_BYTES),
+    (119, b"\0"),
+]);
+
+/// Two records of `THREE`, and three.
+const FIRST_TWO: &[Part] = &[(24, TIMES_BYTES), (40, LIMITS_BYTES)];
+
+const ALL_THREE: &[Part] = &[(24, TIMES_BYTES), (40, LIMITS_BYTES), (80, LIMITS_BYTES)];
+
+/// The entry of identifier 1 in `THREE`.
+const ONE: Entry = Entry { id: 1, rec: LIMITS };
+
+/// The file ends within record 2.
+const WITHIN_TWO: FileFault = FileFault::Damage(Damage {
+    kind: DamageKind::PartialRecord,
+    block: 2,
+    id: 0,
+});
+
+#[rattlefmt::skip]
+const CUT: &[Story] = &[
+    Story { title: "behind the new end there are no records, and a put lengthens the file again", made: THREE, failing: &[],
+        kind: Kind::User, format: Some(Format::V1), limit: None,
+        openings: &[&[Step::Get(2, Some(LIMITS)), Step::Cut(80), Step::Get(2, None), Step::Get(1, Some(LIMITS)),
+            Step::Next(Some(0), Some(ONE)), Step::Next(Some(1), None), Step::File(80, FIRST_TWO),
+            Step::Put(2, LIMITS), Step::Get(2, Some(LIMITS)), Step::File(120, ALL_THREE)]] },
+    Story { title: "a put further on leaves zeros between", made: THREE, failing: &[], kind: Kind::User,
+        format: Some(Format::V1), limit: None,
+        openings: &[&[Step::Cut(40), Step::Put(2, LIMITS), Step::Next(Some(0), Some(Entry { id: 2, rec: LIMITS })),
+            Step::File(120, &[(24, TIMES_BYTES), (80, LIMITS_BYTES)])]] },
+    Story { title: "a record that is cut off is a damage until it is put", made: THREE, failing: &[], kind: Kind::User,
+        format: Some(Format::V1), limit: None,
+        openings: &[&[Step::Cut(100), Step::GetFails(2, WITHIN_TWO), Step::Usable(true), Step::Get(1, Some(LIMITS)),
+            Step::Put(2, LIMITS), Step::Get(2, Some(LIMITS)), Step::File(120, ALL_THREE)]] },
+    Story { title: "none is removed behind the new end", made: THREE, failing: &[], kind: Kind::User,
+        format: Some(Format::V1), limit: None,
+        openings: &[&[Step::Cut(80), Step::Remove(2), Step::File(80, FIRST_TWO), Step::Remove(1),
+            Step::File(80, &[(24, TIMES_BYTES)])]] },
+    Story { title: "grace periods are set where all is cut off", made: THREE, failing: &[], kind: Kind::User,
+        format: Some(Format::V1), limit: None,
+        openings: &[&[Step::Cut(0), Step::Get(1, None), Step::Next(None, None), Step::SetGrace(TIMES),
+            Step::File(40, &[(24, TIMES_BYTES)])]] },
+];
+
+#[test]
+fn a_flat_file_that_is_cut_behind_its_opening_loses_nothing_more(rt: HostRuntime) {
+    expect_stories(&rt, rt.alloc(), CUT);
 }
 
 /// A built file has to have so many bytes, and zeros but for these parts.

@@ -1,7 +1,7 @@
 //! Steps of opened files of all formats, and the stories that are made of them.
 
 use crate::made_files::{Made, make};
-use quota_blocks::{FileFault, MemStore, QuotaFile};
+use quota_blocks::{FileFault, MemStore, QuotaFile, Store};
 use quota_map::{AnyFile, open_file, read_all};
 use quota_types::{Entry, Format, Grace, Kind, Rec};
 use row_files::{Act, get, next_after};
@@ -20,11 +20,14 @@ pub(crate) enum Step {
     Usable(bool),
     All(&'static [Entry]),
     Get(u32, Option<Rec>),
+    GetFails(u32, FileFault),
     Next(Option<u32>, Option<Entry>),
     Put(u32, Rec),
     PutFails(u32, Rec, FileFault),
     Remove(u32),
     SetGrace(Grace),
+    /// Another program cuts the file of the store to so many bytes, of which there are no more than 1,024.
+    Cut(usize),
     /// How many bytes the file of the store has, and the parts of it that aren't zeros.
     File(usize, &'static [Part]),
 }
@@ -103,13 +106,37 @@ fn changes(file: &mut AnyFile, store: &mut MemStore, step: &Step) -> bool {
     }
 }
 
+/// Cuts the file `q` to so many bytes. Whether that was done.
+fn cut(alloc: Global, store: &mut MemStore, len: usize) -> bool {
+    let Ok(kept) = Vec::from_slice(alloc, store.file("q").unwrap_or(b"")) else {
+        return false;
+    };
+    let Some(kept) = kept.as_slice().get(..len) else {
+        return false;
+    };
+    if kept.len() > 1024 || store.create("q").is_err() {
+        return false;
+    }
+    kept.is_empty() || store.write("q", 0, kept).is_ok()
+}
+
+/// Whether a look-up answers as told.
+fn looks_up(file: &mut AnyFile, store: &mut MemStore, step: &Step) -> bool {
+    match step {
+        Step::Get(id, want) => get(file, store, *id) == Some(Ok(*want)),
+        Step::GetFails(id, fault) => get(file, store, *id) == Some(Err(*fault)),
+        Step::Next(after, want) => next_after(file, store, *after) == Some(Ok(*want)),
+        _ => false,
+    }
+}
+
 /// Whether the step is as told.
 fn does(alloc: Global, file: &mut AnyFile, store: &mut MemStore, step: &Step) -> bool {
     match step {
         Step::Is(_) | Step::Flags(_) | Step::Grace(_) | Step::Usable(_) => is_so(file, step),
         Step::All(want) => has_all(alloc, file, store, want),
-        Step::Get(id, want) => get(file, store, *id) == Some(Ok(*want)),
-        Step::Next(after, want) => next_after(file, store, *after) == Some(Ok(*want)),
+        Step::Get(_, _) | Step::GetFails(_, _) | Step::Next(_, _) => looks_up(file, store, step),
+        Step::Cut(len) => cut(alloc, store, *len),
         Step::File(len, parts) => are_parts(alloc, store.file("q").unwrap_or(b""), *len, parts),
         _ => changes(file, store, step),
     }

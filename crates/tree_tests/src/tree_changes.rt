@@ -32,6 +32,9 @@ const NULL: Rec = Rec {
     ..LIMITS
 };
 
+/// A soft limit of one block, and nothing else.
+const SOFT: Rec = Rec { bsoft: 1, ..NULL };
+
 /// What the named file is after its changes.
 enum After {
     /// The file that is described.
@@ -140,6 +143,24 @@ const ENTRY_WITH_LIMITS: &[Change] = &[
     (ENTRY + 48, 0),
 ];
 
+/// The numbers of the six-block file once identifier 65536 has the soft limit: the tree blocks 6 and 7 lead to its entry.
+#[rattlefmt::skip]
+const WITH_65536: &[Change] = &[
+    (BLOCKS, 8), (2052, 6), (6144, 7), (7168, 5), (STATED, 2), (ENTRY + 72, 65_536), (ENTRY + 112, 1),
+];
+
+/// A hundred bytes behind the sixth block, each of them 255.
+#[rattlefmt::skip]
+const BEHIND: &[Change] = &[
+    (6144, ALL_ONES), (6148, ALL_ONES), (6152, ALL_ONES), (6156, ALL_ONES), (6160, ALL_ONES), (6164, ALL_ONES),
+    (6168, ALL_ONES), (6172, ALL_ONES), (6176, ALL_ONES), (6180, ALL_ONES), (6184, ALL_ONES), (6188, ALL_ONES),
+    (6192, ALL_ONES), (6196, ALL_ONES), (6200, ALL_ONES), (6204, ALL_ONES), (6208, ALL_ONES), (6212, ALL_ONES),
+    (6216, ALL_ONES), (6220, ALL_ONES), (6224, ALL_ONES), (6228, ALL_ONES), (6232, ALL_ONES), (6236, ALL_ONES),
+    (6240, ALL_ONES),
+];
+
+const ALL_ONES: u32 = u32::MAX;
+
 const CHANGED: &[ChangeRow] = &[
     ChangeRow {
         title: "a record is written over the old one",
@@ -196,6 +217,39 @@ const CHANGED: &[ChangeRow] = &[
         after: Is((6144, &[])),
         flags: 0,
         records: &[(1000, Some(USED)), (u32::MAX, None)],
+    },
+    ChangeRow {
+        title: "a file that lacks room for two tree blocks tells both numbers",
+        file: (6144, &[]),
+        limit: 6,
+        acts: &[Act::Put(65_536, SOFT)],
+        fault: Some(FileFault::Full {
+            blocks: 8,
+            limit: 6,
+        }),
+        after: Is((6144, &[])),
+        flags: 0,
+        records: &[(1000, Some(USED)), (65_536, None)],
+    },
+    ChangeRow {
+        title: "two tree blocks are added, and the entry list stays",
+        file: (6144, &[]),
+        limit: 8,
+        acts: &[Act::Put(65_536, SOFT)],
+        fault: None,
+        after: Is((8192, &[WITH_65536])),
+        flags: 0,
+        records: &[(1000, Some(USED)), (65_536, Some(SOFT))],
+    },
+    ChangeRow {
+        title: "new blocks are written over what is behind the last one",
+        file: (6244, &[BEHIND]),
+        limit: 8,
+        acts: &[Act::Put(65_536, SOFT)],
+        fault: None,
+        after: Is((8192, &[WITH_65536])),
+        flags: 0,
+        records: &[(1000, Some(USED)), (65_536, Some(SOFT))],
     },
     ChangeRow {
         title: "a file has room up to its limit",
