@@ -1,10 +1,12 @@
 #!/usr/bin/env bash
-# Measures, in one run, changes of the tree files of `bench/tree.sh` where they stand. First one change, of a user who is
-# known, of one who is new and of one whose record goes: beside reading the file once in pieces of 1,024 bytes the ratio of
-# their times (the best of five each), the most memory that the program holds, and its calls of the system. Then, of the
-# file of the users 0 to 999,999, `setquota -b` of 10,000 lines (`lines=NUMBER` asks for another number), for known users and
-# for new ones: a line beside writing one block of a copy of the file and syncing it, which is done half as often as there
-# are lines before the batch, and half as often behind it; and what a line costs over a folder in memory, without a disk.
+# Measures, in one run, changes of the tree files of `bench/tree.sh` where they stand, and of the flat file of
+# `bench/setquota.sh`. First one change, of a user who is known, of one who is new and of one whose record goes: beside
+# reading the file once in pieces of 1,024 bytes the ratio of their times (the best of five each), the most memory that the
+# program holds, and its calls of the system. Then, of the file of the users 0 to 999,999 and of the flat one, `setquota -b`
+# of 1,000 lines and of 10,000 (`lines=NUMBER` asks for another number than that), for known users and, of the tree file,
+# for new ones: a line beside writing one block of a copy of the file and syncing it, and beside doing so behind its end, by
+# which it grows as by a new user; each is done half as often as there are lines before the batch, and half as often behind
+# it. And what a line costs over a folder in memory, without a disk, and the calls of the system for a line.
 maker=make_tree_file.py
 . "$(dirname "${BASH_SOURCE[0]}")/measure.sh"
 "$top/bin/quota_cli" edquota --print -u 7 q >said
@@ -20,7 +22,7 @@ declare -A step=([known]=7007 [new]=16777216 [leaving]=42000)
 next() {
     local limits=(100 200 10 20)
     if [ "$1" = leaving ]; then limits=(0 0 0 0); fi
-    change=("$program" setquota -u "${user[$1]}" "${limits[@]}" q)
+    change=("$program" setquota "${format[@]}" -u "${user[$1]}" "${limits[@]}" q)
     user[$1]=$((user[$1] + step[$1]))
 }
 
@@ -39,14 +41,16 @@ one_change() {
     calls 'pread64|write|fsync|fdatasync' "${change[@]:1}"
 }
 
-# synced NUMBER: so many times writes a block of the copy and syncs it.
+# synced WHERE NUMBER: so many times writes a block of the copy and syncs it, `within` its blocks or `behind` its end.
 synced() {
-    python3 - "$1" <<'PY'
+    python3 - "$1" "$2" <<'PY'
 import os, sys
+where, number = sys.argv[1], int(sys.argv[2])
 file = os.open("copy", os.O_RDWR)
 blocks = os.fstat(file).st_size // 1024
-for at in range(int(sys.argv[1])):
-    os.pwrite(file, b"x" * 1024, at * 7 % blocks * 1024)
+for count in range(number):
+    block = blocks + count if where == "behind" else count * 7 % blocks
+    os.pwrite(file, b"x" * 1024, block * 1024)
     os.fsync(file)
 PY
 }
@@ -56,22 +60,40 @@ each() {
     echo "$1 $lines" | awk '{ printf "%.3f", $1 / $2 * 1000 }'
 }
 
-# batch KIND FIRST STEP: a batch for the users of these numbers.
+# batch KIND FIRST STEP NUMBER: a batch of so many lines, for the users of these numbers.
 batch() {
-    local ours before behind theirs
+    local lines=$4 ours where
+    local batch=("$program" setquota "${format[@]}" -u -b q)
+    local -A theirs=()
     seq "$2" "$3" $(($2 + (lines - 1) * $3)) | awk '{ print $1, 100, 200, 10, 20 }' >given
     cp q copy
     if [ -n "$memory" ]; then cp q given "$memory"; fi
     sync
-    before=$(time_of synced $((lines / 2)))
-    ours=$(time_of "$program" setquota -u -b q <given)
-    behind=$(time_of synced $((lines - lines / 2)))
-    theirs=$(echo "$before $behind" | awk '{ print $1 + $2 }')
-    echo "setquota -b for $1 users: $(each "$ours") ms a line, a block and a sync: $(each "$theirs") ms, ratio $(ratio "$ours" "$theirs")"
+    for where in within behind; do theirs[$where]=$(time_of synced $where $((lines / 2))); done
+    ours=$(time_of "${batch[@]}" <given)
+    echo "setquota -b of $lines lines for $1 users: $(each "$ours") ms a line"
+    for where in within behind; do
+        theirs[$where]=$(echo "${theirs[$where]} $(time_of synced $where $((lines - lines / 2)))" | awk '{ print $1 + $2 }')
+        echo "a block $where the file and a sync: $(each "${theirs[$where]}") ms, ratio $(ratio "$ours" "${theirs[$where]}")"
+    done
     if [ -n "$memory" ]; then
-        ours=$(cd "$memory" && time_of "$program" setquota -u -b q <given)
+        ours=$(cd "$memory" && time_of "${batch[@]}" <given)
         echo "the same in memory: $(each "$ours") ms a line"
     fi
+}
+
+# batches KIND FIRST STEP: a batch of 1,000 lines, with its calls of the system for a line, and one of `lines` lines.
+batches() {
+    local first=$2
+    batch "$1" "$first" "$3" 1000
+    first=$((first + 1000 * $3))
+    if command -v strace >/dev/null; then
+        seq "$first" "$3" $((first + 999 * $3)) | awk '{ print $1, 100, 200, 10, 20 }' >given
+        strace -f -c -o calls "$program" setquota "${format[@]}" -u -b q <given >/dev/null
+        awk '/pread64|pwrite64|fsync|fdatasync/ { printf "calls of the system a line: %s %.2f\n", $NF, $4 / 1000 }' calls
+    fi
+    first=$((first + 1000 * $3))
+    batch "$1" "$first" "$3" "$lines"
 }
 
 memory=
@@ -80,18 +102,33 @@ if [ -d /dev/shm ] && [ -w /dev/shm ]; then
     trap 'rm -rf "$folder" "$memory"' EXIT
 fi
 
-# changes: one change of each kind. As many users leave as are new.
+# changes: one change of each kind.
 changes() {
     local kind
     for kind in known new leaving; do one_change "$kind"; done
+}
+
+# has_all: looks whether a tree file has its users still: as many leave as are new.
+has_all() {
     "$program" repquota -u -v q >report
     if [ "$(grep -c '^#' report)" != 1000000 ]; then echo "the file has not 1,000,000 users" >&2; fi
 }
 
+format=()
 echo "users 0 to 999,999:"
 changes
-batch known 0 97
-batch new 2000000 1000
+has_all
+batches known 0 80
+batches new 2000000 1000
 echo "multiples of 7, the blocks shuffled:"
 make_file spread
 changes
+has_all
+maker=make_flat_file.py
+format=(-F vfsold)
+user[new]=1100000
+step[new]=1000
+echo "a flat file of 1,048,576 records:"
+make_file
+changes
+batches known 0 80

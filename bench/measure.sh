@@ -153,13 +153,14 @@ conversion_beside_copy() {
 }
 
 # seconds WORD..: how long a client takes to ask the server of these words for the limits of `calls` users, each after the
-# answer to the one before. The server gets the port behind its words. The users are multiples of `each`.
+# answer to the one before. The server gets the port behind its words. The users are multiples of `each`. The seconds that
+# the program spends in its own code, and in the system, are left in `used`.
 seconds() {
     local port server
     port=$("$client" free)
     case $1 in
     echo) "$client" echo "$port" "$calls" & ;;
-    *) "$@" rquotad --calls "$calls" --port "$port" --export /home user q & ;;
+    *) { TIMEFORMAT='%U %S' && time "$@" rquotad --calls "$calls" --port "$port" --export /home user q; } 2>used & ;;
     esac
     server=$!
     "$client" many "$port" "$calls" "$each"
@@ -170,12 +171,16 @@ calls=${calls:-100000}
 each=1
 
 # answers_beside_echo: the answers a second of `rquotad` over the loopback, beside a plain UDP server that sends each datagram
-# back; and the program's calls of the system for one answer.
+# back, by the best of three times of each; how much of the time of an answer the program spends in its own code, with the
+# opening of the file; and its calls of the system for one answer.
 answers_beside_echo() {
-    local ours theirs
-    ours=$(seconds "$program")
-    theirs=$(seconds echo)
+    local ours=999999 theirs=999999
+    for _ in 1 2 3; do
+        ours=$(least "$ours" "$(seconds "$program")")
+        theirs=$(least "$theirs" "$(seconds echo)")
+    done
     echo "rquotad: $ours s, echo: $theirs s for $calls calls; $(echo "$calls $ours" | awk '{ printf "%.0f", $1 / $2 }') a second, ratio of rates $(ratio "$theirs" "$ours")"
+    awk -v calls="$calls" -v all="$ours" '{ printf "of %.1f us for an answer %.1f us in its own code\n", all / calls * 1000000, $1 / calls * 1000000 }' used
     if command -v strace >/dev/null; then
         seconds strace -c -f -o counted "$program" >/dev/null
         awk -v calls="$calls" '$NF == "total" { printf "calls of the system: %.2f an answer\n", $4 / calls }' counted
