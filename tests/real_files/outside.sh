@@ -35,7 +35,8 @@ order() {
         sed -e "s|$(pwd -P)/||" -e "s|$(pwd -P)|.|" | uniq
 }
 
-# The new file is safe on the disk before it gets the name of the old one, and its folder after that.
+# The new file and its name are safe on the disk before it gets the name of the old one, and the folder is once more after
+# that.
 if strace -o trace.txt true 2>err.txt; then
     : >q
     mkdir below
@@ -43,11 +44,13 @@ if strace -o trace.txt true 2>err.txt; then
     same 'the order of a replacement' "$(order q)" 'make q.new with mode 0600
 write q.new
 sync q.new
+sync .
 rename q.new to q
 sync .'
     same 'the order of a replacement in another folder' "$(order below/q)" 'make below/q.new with mode 0600
 write below/q.new
 sync below/q.new
+sync below
 rename below/q.new to below/q
 sync below'
 else
