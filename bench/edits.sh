@@ -4,8 +4,8 @@
 # reading the file once in pieces of 1,024 bytes the ratio of their times (the best of five each), the most memory that the
 # program holds, and its calls of the system. Then, of the file of the users 0 to 999,999 and of the flat one, `setquota -b`
 # of 1,000 lines and of 10,000 (`lines=NUMBER` asks for another number than that), for known users and, of the tree file,
-# for new ones: a line beside writing one block of a copy of the file and syncing it, and beside doing so behind its end, by
-# which it grows as by a new user; each is done half as often as there are lines before the batch, and half as often behind
+# for new ones: a line beside writing one block of a copy of the file and syncing it, and beside four, as many as a new user
+# wants, one of them behind the end; each is done half as often as there are lines before the batch, and half as often behind
 # it. And what a line costs over a folder in memory, without a disk, and the calls of the system for a line.
 maker=make_tree_file.py
 . "$(dirname "${BASH_SOURCE[0]}")/measure.sh"
@@ -41,16 +41,18 @@ one_change() {
     calls 'pread64|write|fsync|fdatasync' "${change[@]:1}"
 }
 
-# synced WHERE NUMBER: so many times writes a block of the copy and syncs it, `within` its blocks or `behind` its end.
+# synced WHAT NUMBER: so many times writes blocks of the copy and syncs it: `one` block, or `four`, as many as a new user
+# wants: the first one, two others, and one behind the end.
 synced() {
     python3 - "$1" "$2" <<'PY'
 import os, sys
-where, number = sys.argv[1], int(sys.argv[2])
+what, number = sys.argv[1], int(sys.argv[2])
 file = os.open("copy", os.O_RDWR)
 blocks = os.fstat(file).st_size // 1024
 for count in range(number):
-    block = blocks + count if where == "behind" else count * 7 % blocks
-    os.pwrite(file, b"x" * 1024, block * 1024)
+    one = count * 7 % blocks
+    for block in [one] if what == "one" else [0, one, count * 11 % blocks, blocks + count]:
+        os.pwrite(file, b"x" * 1024, block * 1024)
     os.fsync(file)
 PY
 }
@@ -62,19 +64,19 @@ each() {
 
 # batch KIND FIRST STEP NUMBER: a batch of so many lines, for the users of these numbers.
 batch() {
-    local lines=$4 ours where
+    local lines=$4 ours what
     local batch=("$program" setquota "${format[@]}" -u -b q)
     local -A theirs=()
     seq "$2" "$3" $(($2 + (lines - 1) * $3)) | awk '{ print $1, 100, 200, 10, 20 }' >given
     cp q copy
     if [ -n "$memory" ]; then cp q given "$memory"; fi
     sync
-    for where in within behind; do theirs[$where]=$(time_of synced $where $((lines / 2))); done
+    for what in one four; do theirs[$what]=$(time_of synced $what $((lines / 2))); done
     ours=$(time_of "${batch[@]}" <given)
     echo "setquota -b of $lines lines for $1 users: $(each "$ours") ms a line"
-    for where in within behind; do
-        theirs[$where]=$(echo "${theirs[$where]} $(time_of synced $where $((lines - lines / 2)))" | awk '{ print $1 + $2 }')
-        echo "a block $where the file and a sync: $(each "${theirs[$where]}") ms, ratio $(ratio "$ours" "${theirs[$where]}")"
+    for what in one four; do
+        theirs[$what]=$(echo "${theirs[$what]} $(time_of synced $what $((lines - lines / 2)))" | awk '{ print $1 + $2 }')
+        echo "$what written and synced: $(each "${theirs[$what]}") ms, ratio $(ratio "$ours" "${theirs[$what]}")"
     done
     if [ -n "$memory" ]; then
         ours=$(cd "$memory" && time_of "${batch[@]}" <given)
@@ -102,10 +104,10 @@ if [ -d /dev/shm ] && [ -w /dev/shm ]; then
     trap 'rm -rf "$folder" "$memory"' EXIT
 fi
 
-# changes: one change of each kind.
+# changes KIND..: one change of each of these kinds.
 changes() {
     local kind
-    for kind in known new leaving; do one_change "$kind"; done
+    for kind in "$@"; do one_change "$kind"; done
 }
 
 # has_all: looks whether a tree file has its users still: as many leave as are new.
@@ -116,19 +118,17 @@ has_all() {
 
 format=()
 echo "users 0 to 999,999:"
-changes
+changes known new leaving
 has_all
 batches known 0 80
 batches new 2000000 1000
 echo "multiples of 7, the blocks shuffled:"
 make_file spread
-changes
+changes known new leaving
 has_all
 maker=make_flat_file.py
 format=(-F vfsold)
-user[new]=1100000
-step[new]=1000
-echo "a flat file of 1,048,576 records:"
+echo "a flat file of 1,048,576 records, which is full:"
 make_file
-changes
+changes known leaving
 batches known 0 80
