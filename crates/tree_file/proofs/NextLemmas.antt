@@ -1,8 +1,10 @@
 -- The next record of an opened tree file, and the answers that come behind it.
 use Rattle.std.proofs.Common.{◌≡◌, ℕ, ◌^◌, ◌<◌, ◌≤◌, Bool, List, Option, Some, None, unwrap_or, sym, ap, subst, ◌∙◌, inl, inr, arith}
 use Rattle.std.specs.FinMap.{get}
-use Rattle.std.specs.Option.{option_map}
+use Rattle.std.specs.Option.{option_and_then, option_map}
 use Rattle.quota_types.specs.Ids.{IsAfter}
+use Rattle.quota_types.specs.declared.file_kind.Format.{Format}
+use Rattle.quota_types.specs.declared.record.Entry.{Entry}
 use Rattle.quota_types.specs.declared.record.Rec.{Rec}
 use Rattle.outside.specs.Seen.{StoreSeen}
 use Rattle.quota_blocks.specs.QuotaValue.{IsNextAfter, QuotaValue}
@@ -18,6 +20,7 @@ use Rattle.quota_radix.specs.declared.tree_path.TreePath.{TreePath}
 use Rattle.quota_radix.proofs.DescentLemmas.{option_cases}
 use Rattle.tree_build.specs.TreeFile.{TreeStandsFor, record_in}
 use Rattle.tree_file.specs.Coming.{HoldsComing}
+use Rattle.tree_file.specs.Leaf.{entry_led_to}
 use Rattle.tree_file.specs.declared.coming.Coming.{Coming}
 use Rattle.tree_file.proofs.LookupLemmas.{next_leaf, none_next, one_next, one_record}
 
@@ -56,6 +59,19 @@ next_found header file after id block rec value of stands low is found = elim (o
       subst (λ (n : ℕ). IsNextAfter after value.records (Some (record { id = n; rec = rec }))) id_is
       (one_next header file after (first_after after) leaf rec of (first_is after) (is_first after) here value stands has)
 ]
+
+-- So the entry to which the first leaf behind an identifier leads is none, or has its record.
+module _ (format : Format) (file : List ℕ) (blocks : ℕ) (after : Option ℕ) where
+  abbrev entry_by : ℕ × ℕ → Option Entry
+  entry_by leaf = option_map (λ (rec : Rec). record { id = leaf.0; rec = rec }) (record_in format (block_of file leaf.1) leaf.0)
+
+  pub entry_none : None ≡ leaf_after file blocks after → None ≡ entry_led_to format file blocks after
+  entry_none none = ap (option_and_then entry_by) none
+
+  pub entry_found : (id block : ℕ) (rec : Rec) → Some (id, block) ≡ leaf_after file blocks after → record_in format (block_of file block) id ≡ Some rec
+      → Some (record { id = id; rec = rec }) ≡ entry_led_to format file blocks after
+  entry_found id block rec is found =
+      ap (option_map (λ (rec : Rec). record { id = id; rec = rec })) (sym found) ∙ ap (option_and_then entry_by) is
 
 -- The answers that come next are kept of what was shown behind two look-ups, which is what was shown before them.
 pub coming_before : {tells one two : Bool} {few more : ℕ} {before between now : StoreSeen} {old middle new : Pages} (coming : Coming) → LooksAtSome tells one few before between old middle

@@ -12,7 +12,7 @@ ghost use Rattle.quota_types.specs.Kept.{IsKept};
 ghost use Rattle.tree_build.specs.Defect.{IsTreeDefect};
 ghost use Rattle.tree_build.specs.TreeFile.{TreeStandsFor, record_in};
 ghost use Rattle.tree_file.specs.Coming.{FitsComing, HoldsComing};
-ghost use Rattle.tree_file.specs.Leaf.{IsLeafFault};
+ghost use Rattle.tree_file.specs.Leaf.{IsLeafFault, entry_led_to, record_led_to};
 
 use crate::coming::Coming;
 use entry_codec::Header;
@@ -71,6 +71,8 @@ pub(crate) fn record_of<S: Store>(
 ) -> Result<Option<Rec>, WalkFault>
     requires tree { IsTreeFormat header.now.format }
     requires room { length (pages_of pages.old) + 5 ≤ 12 }
+    ensures led { IfOk result (λ found. IsKnown S.tells (S.seen store.old) pages.old
+        → found ≡ record_led_to header.now.format (shown_over (S.seen store.old) pages.old) header.now.blocks id) }
     ensures found { IfOk result (λ found. IsKnown S.tells (S.seen store.old) pages.old
         → AreOf header.now (header_of (shown_over (S.seen store.old) pages.old))
         → (value : QuotaValue) → TreeStandsFor (shown_over (S.seen store.old) pages.old) value
@@ -111,6 +113,8 @@ pub(crate) fn next_record<S: Store>(
 ) -> Result<Option<Entry>, WalkFault>
     requires tree { IsTreeFormat header.now.format }
     requires room { length (pages_of pages.old) + 8 ≤ 12 }
+    ensures led { IfOk result (λ found. IsKnown S.tells (S.seen store.old) pages.old
+        → found ≡ entry_led_to header.now.format (shown_over (S.seen store.old) pages.old) header.now.blocks after) }
     ensures found { IfOk result (λ found. IsKnown S.tells (S.seen store.old) pages.old
         → AreOf header.now (header_of (shown_over (S.seen store.old) pages.old))
         → (value : QuotaValue) → TreeStandsFor (shown_over (S.seen store.old) pages.old) value

@@ -3,7 +3,7 @@ use Rattle.std.proofs.lemmas.Result.{err_from_is_err_and}
 use Rattle.quota_pages.specs.Used.{shown_over}
 use Rattle.quota_radix.proofs.LeafLemmas.{leaf_of_block}
 use Rattle.tree_file.proofs.ComingLemmas.{next_leads}
-use Rattle.tree_file.proofs.NextLemmas.{coming_before, next_found, next_none}
+use Rattle.tree_file.proofs.NextLemmas.{coming_before, entry_found, entry_none, next_found, next_none}
 use Rattle.tree_file.proofs.WalkFaultLemmas.{found_before, leaf_walk}
 use Rattle.tree_file.proofs.lookup.next_record.Goals as goal
 
@@ -34,3 +34,14 @@ returns-clause-next g c = λ known of value stands.
     coming_before c.beside.result c.in_ok-id.ensures.looked c.in_ok-rec.ensures.looked known c.args.header.now c.in-Some.id c.in-Some.block value of stands
     (next_leads file c.args.header.now.blocks c.args.after c.in-Some.id c.in-Some.block (grind (arith, c.next_leaf.type_inv)) (sym c.in-Some.is ∙ c.in_ok-id.ensures.found known))
     (λ seen_known are stood leads. c.beside.ensures.next _ _ c.args.header.now value seen_known are refl refl stood leads)
+
+pub returns-in_default-clause-led : goal.returns-in_default-clause-led
+returns-in_default-clause-led g c = λ known.
+    let file : List ℕ = shown_over (g.S.Store.seen c.args.store.now) c.args.pages.now in
+    entry_none c.args.header.now.format file c.args.header.now.blocks c.args.after (sym c.in_default.is ∙ c.in_ok-id.ensures.found known)
+
+pub returns-clause-led : goal.returns-clause-led
+returns-clause-led g c = λ known.
+    let file : List ℕ = shown_over (g.S.Store.seen c.args.store.now) c.args.pages.now in
+    entry_found c.args.header.now.format file c.args.header.now.blocks c.args.after c.in-Some.id c.in-Some.block c.in_ok-rec.rec (sym c.in-Some.is ∙ c.in_ok-id.ensures.found known)
+    (found_before c.args.header.now.format c.in-Some.block c.in-Some.id c.in_ok-rec.rec c.in_ok-id.ensures.looked known c.in_ok-rec.ensures.found)

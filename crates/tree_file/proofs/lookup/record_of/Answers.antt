@@ -1,8 +1,11 @@
-use Rattle.std.proofs.Common.{◌≡◌, ℕ, List, Some, None, sym, ◌∙◌, arith}
+use Rattle.std.proofs.Common.{◌≡◌, ℕ, List, Some, None, ap, sym, ◌∙◌, arith}
 use Rattle.std.proofs.lemmas.Result.{err_from_is_err_and}
+use Rattle.std.specs.Option.{option_and_then}
+use Rattle.file_blocks.specs.Block.{block_of}
 use Rattle.quota_pages.specs.Used.{shown_over}
 use Rattle.quota_radix.specs.Descent.{leaf_block}
 use Rattle.quota_radix.proofs.LeafLemmas.{leaf_of_block, no_leaf_of_block}
+use Rattle.tree_build.specs.TreeFile.{record_in}
 use Rattle.tree_file.proofs.WalkFaultLemmas.{found_before, leaf_walk, way_walk}
 use Rattle.tree_file.proofs.LookupLemmas.{no_record, one_record}
 use Rattle.tree_file.proofs.lookup.record_of.Goals as goal
@@ -34,3 +37,16 @@ returns-clause-found g c = λ known of value stands.
     sym (one_record c.args.header.now file (record { number = c.args.id; block = c.in-Some.block }) c.in_ok-rec.rec of
     (leaf_of_block file c.args.header.now.blocks c.args.id c.in-Some.block (omega arith) led)
     (found_before c.args.header.now.format c.in-Some.block c.args.id c.in_ok-rec.rec c.in_ok-block.ensures.looked known c.in_ok-rec.ensures.found) value stands)
+
+pub returns-in_default-clause-led : goal.returns-in_default-clause-led
+returns-in_default-clause-led g c = λ known.
+    let file : List ℕ = shown_over (g.S.Store.seen c.args.store.now) c.args.pages.now in
+    let led : None ≡ leaf_block file c.args.header.now.blocks c.args.id = sym c.in_default.is ∙ c.in_ok-block.ensures.found known in
+    ap (option_and_then (λ (block : ℕ). record_in c.args.header.now.format (block_of file block) c.args.id)) led
+
+pub returns-clause-led : goal.returns-clause-led
+returns-clause-led g c = λ known.
+    let file : List ℕ = shown_over (g.S.Store.seen c.args.store.now) c.args.pages.now in
+    let led : Some c.in-Some.block ≡ leaf_block file c.args.header.now.blocks c.args.id = sym c.in-Some.is ∙ c.in_ok-block.ensures.found known in
+    sym (found_before c.args.header.now.format c.in-Some.block c.args.id c.in_ok-rec.rec c.in_ok-block.ensures.looked known c.in_ok-rec.ensures.found)
+    ∙ ap (option_and_then (λ (block : ℕ). record_in c.args.header.now.format (block_of file block) c.args.id)) led
