@@ -110,9 +110,9 @@ pub record IsRefused (edit : ValueEdit) (laws : FileLaws) (old new : FileAt) (fa
       × laws.may_leave old.seen.format change (old.store.files old.seen.name) after (new.store.files old.seen.name))
 
 -- An edit of the value of an opened file, whose result may have a fault of the file: where it is Ok it was done, and where it
--- has one it was refused so. However it ended, and whatever the store tells, no file but the named one has changed, with no more
--- calls of `write` than some change of this file may make; and nothing was written where nothing was to be done or the file lacks
--- room.
+-- has one it was refused so. However it ended, and whatever the store tells, no file but the named one has changed, and that one not
+-- either unless calls of `write` were counted, which are no more than some change of this file may make; and nothing was written where
+-- nothing was to be done or the file lacks room.
 pub record EditsValue {T E : Type 0} (fault_of : E → Option FileFault) (edit : ValueEdit) (laws : FileLaws) (old new : FileAt) (result : Result T E) : Type 0 where
   pub done : OnOk result (IsDone edit laws old new)
   pub refused : IfErr result (λ fault. IfSome (fault_of fault) (IsRefused edit laws old new))

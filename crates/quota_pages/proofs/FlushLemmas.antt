@@ -6,9 +6,9 @@ use Rattle.std.proofs.Math.Bool.{or-false, or-true}
 use Rattle.std.proofs.lemmas.Bool.{cases_Bool, cond-true, cond-false, false_from_ne_true, true≢false}
 use Rattle.std.proofs.lemmas.List.{take-append-drop, take_more}
 use Rattle.std.proofs.lemmas.List.Folds.{list_any-append, list_any_at}
-use Rattle.std.proofs.lemmas.List.Sums.{sum_by-append}
+use Rattle.std.proofs.lemmas.List.Sums.{sum_by-append, sum_by-cons}
 use Rattle.file_blocks.specs.Block.{bytes_of}
-use Rattle.outside.specs.Count.{counted}
+use Rattle.outside.specs.Count.{Rose, counted}
 use Rattle.outside.specs.Unsynced.{Names, with_name}
 use Rattle.outside.specs.World.{World, overwritten, with_bytes, with_file}
 use Rattle.outside.proofs.UnsyncedLemmas.{with_name-again}
@@ -186,6 +186,32 @@ names-more old now new name pages place page d within is was wrote =
     ∙ ap (λ (b : Bool). cond b (with_name old name true) old) (sym (some_lent-push (take place pages) page))
     ∙ ap (λ (p : Page). flushed_names old name (take place pages ++ p ∷ [])) is
     ∙ ap (λ (ps : List Page). flushed_names old name ps) (sym (take_more pages place d within))
+
+-- calls that were counted raise the count
+counted_by-rises : (count more : ℕ) → Rose count (counted (counted_by count more))
+counted_by-rises count zero = omega arith
+counted_by-rises count (suc more) = omega (arith, counted_by-rises count more)
+
+pub counted_once : (before now new more : ℕ) (lent : Bool) → lent ≡ true → now ≡ counted_by before more → new ≡ cond lent (counted now) now → Rose before new
+counted_once before now new more lent is was counts =
+    omega (arith, counted_by-rises before more, ap counted was, counts ∙ ap (λ (b : Bool). cond {A = ℕ} b (counted now) now) is)
+
+-- and so do as many as there are pages that were lent for writing, where some was
+some_counted : (pages : List Page) → is_some_lent pages ≡ true → 1 ≤ lent_count pages
+some_counted [] some = absurd (true≢false (sym some))
+some_counted (page ∷ pages) some =
+    let one = sum_by-cons (λ (p : Page). cond {A = ℕ} p.lent 1 0) page pages in
+    elim (cases_Bool page.lent) [
+      | inl lent ↦ omega (arith, one, ap (λ (b : Bool). cond {A = ℕ} b 1 0) lent)
+      | inr kept ↦ omega (arith, one, some_counted pages (sym (ap (λ (b : Bool). b || is_some_lent pages) kept) ∙ some))
+    ]
+
+pub some_rose : (pages : List Page) (before : ℕ) → is_some_lent pages ≡ true → Rose before (counted_by before (lent_count pages))
+some_rose pages before some = of_more (lent_count pages) (some_counted pages some)
+  where
+    of_more : (more : ℕ) → 1 ≤ more → Rose before (counted_by before more)
+    of_more zero some = absurd (omega (arith, some))
+    of_more (suc more) some = counted_by-rises before more
 
 pub counted_by-most : (count more : ℕ) → counted_by count more ≤ count + more
 counted_by-most count zero = omega arith

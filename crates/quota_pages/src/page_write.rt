@@ -23,6 +23,7 @@ pub(crate) fn write_pages<S: Store>(
     ensures cause { OnErr result (Rose (S.seen store.old).faults (S.seen store.new).faults) }
     ensures writes { OnOk result ((S.seen store.new).writes ≡ counted_by (S.seen store.old).writes
         (lent_count (pages_in held.now.heads.items held.now.blocks.items))) }
+    ensures rose { OnErr result (Rose (S.seen store.old).writes (S.seen store.new).writes) }
     ensures tried { OnErr result ((S.seen store.new).writes
         ≤ (S.seen store.old).writes + lent_count (pages_in held.now.heads.items held.now.blocks.items)) }
     ensures unsynced { OnOk result (IsTrue S.tells → (S.seen store.new).unsynced

@@ -77,19 +77,19 @@ pub changes_file : {E : Type 0} (tells : Bool) (so : (before after : List ℕ) �
     → OnlyReads true name old mid → mid.reads ≤ old.reads + 1
     → OnOk result (IsTrue tells → new.files ≡ with_bytes mid.files name at bytes) → OnOk result (IsTrue tells → IsSynced name mid new)
     → OnErr result (IsTrue tells → (new.files ≡ mid.files) ⊎ (new.files ≡ with_bytes mid.files name at bytes)) → OnErr result (Rose mid.faults new.faults)
-    → ChangesOne name mid new → new.writes ≤ mid.writes + 1 → length bytes ≡ 40
+    → ChangesOne name mid new → new.writes ≤ mid.writes + 1 → Rose mid.writes new.writes → length bytes ≡ 40
     → (IsTrue tells → so (bytes_of (old.files name)) (overwritten (bytes_of (old.files name)) at bytes)) → ChangesFile tells so name old new result
-changes_file tells so name at bytes old mid new (Ok told) read few written synced torn cause leaves writes long made = record {
+changes_file tells so name at bytes old mid new (Ok told) read few written synced torn cause leaves writes rose long made = record {
   changed = λ tell. made_overwritten so old.files new.files name at bytes (written tell ∙ ap (λ (files : World). with_bytes files name at bytes) read.files) (omega (arith, long)) (omega (arith, long)) (made tell);
   synced = λ tell. is_synced-then name old mid new (is_synced-read name old mid read) (synced tell);
   torn = tt;
   cause = tt;
   others = λ other differ. leaves.files other differ ∙ ap (λ (files : World). files other) read.files;
-  leaves = edits_one-after_read name old mid new read (edits_one-changed name mid new leaves);
+  leaves = edits_one-after_read name old mid new read (edits_one-changed name mid new leaves (inr rose));
   reads = omega (arith, few, leaves.reads);
   writes = omega (arith, writes, read.writes);
 }
-changes_file tells so name at bytes old mid new (Err fault) read few written synced torn cause leaves writes long made = record {
+changes_file tells so name at bytes old mid new (Err fault) read few written synced torn cause leaves writes rose long made = record {
   changed = tt;
   synced = tt;
   torn = λ tell. elim (torn tell) [
@@ -98,7 +98,7 @@ changes_file tells so name at bytes old mid new (Err fault) read few written syn
   ];
   cause = omega (arith, cause, read.later);
   others = λ other differ. leaves.files other differ ∙ ap (λ (files : World). files other) read.files;
-  leaves = edits_one-after_read name old mid new read (edits_one-changed name mid new leaves);
+  leaves = edits_one-after_read name old mid new read (edits_one-changed name mid new leaves (inr rose));
   reads = omega (arith, few, leaves.reads);
   writes = omega (arith, writes, read.writes);
 }

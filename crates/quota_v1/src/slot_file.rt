@@ -105,6 +105,7 @@ fn write_synced<S: Store>(
     ensures cause { OnErr result (Rose (S.seen store.old).faults (S.seen store.new).faults) }
     ensures leaves { ChangesOne name.now (S.seen store.old) (S.seen store.new) }
     ensures writes { (S.seen store.new).writes ≤ (S.seen store.old).writes + 1 }
+    ensures rose { Rose (S.seen store.old).writes (S.seen store.new).writes }
 {
     store.write(name, at, bytes)?;
     store.sync(name)

@@ -33,7 +33,7 @@ no_fifth (a ∷ b ∷ c ∷ d ∷ []) few = refl
 no_fifth (a ∷ b ∷ c ∷ d ∷ e ∷ rest) few = absurd (omega (arith, few))
 
 -- and one of five does
-fifth : (way : List ℕ) → 5 ≤ length way → slice_get way 4 ≡ Some (get_or way 4 0)
+pub fifth : (way : List ℕ) → 5 ≤ length way → slice_get way 4 ≡ Some (get_or way 4 0)
 fifth [] some = absurd (omega (arith, some))
 fifth (a ∷ []) some = absurd (omega (arith, some))
 fifth (a ∷ b ∷ []) some = absurd (omega (arith, some))

@@ -9,7 +9,7 @@ use Rattle.quota_types.specs.declared.file_kind.Format.{Format}
 use Rattle.quota_types.specs.Times.{StandsIn, times}
 use Rattle.quota_types.proofs.TimesLemmas.{only_one, stands_either, stands_left, stands_right, times-append, times-cons-same}
 use Rattle.file_blocks.specs.Block.{block_of, leads}
-use Rattle.file_blocks.proofs.LeadsLemmas.{leads_from}
+use Rattle.file_blocks.proofs.LeadsLemmas.{leads_from, leads_within}
 use Rattle.quota_blocks.specs.QuotaValue.{Records}
 use Rattle.quota_pages.specs.Used.{KeepsBlocksBut}
 use Rattle.quota_radix.specs.Tree.{blocks_of, data_blocks, leaves, tree_blocks}
@@ -26,6 +26,7 @@ use Rattle.tree_build.proofs.MovedLemmas.{times-roles}
 use Rattle.tree_steps.proofs.OneBlockLemmas.{one_role}
 use Rattle.tree_change.specs.Freed.{FreesBeside, FreesBlocks, HasLinkAlone, free_blocks, unnamed_of}
 use Rattle.tree_change.specs.Shows.{IsWholeTree}
+use Rattle.tree_change.proofs.BehindLemmas.{behind_none, behind_of, behind_then}
 use Rattle.tree_change.proofs.FreshLemmas.{role_above}
 use Rattle.tree_change.proofs.HeaderStaysLemmas.{header_apart}
 
@@ -47,12 +48,13 @@ module _ (loose : Loose) (format : Format) (old new : List ℕ) (heads : Heads) 
   free_kept block stands = keeps.others block (not_changed block (subst (λ (free : List ℕ). StandsIn free block) (free_are old heads tree.roles.free tree.roles.is_free) stands))
 
   -- none was freed, whatever became of the entry list
-  pub frees_none : (first : ℕ) → FreesBlocks [] old new heads (record heads { first = first })
-  frees_none first = record {
+  pub frees_none : ((number : ℕ) → StandsIn numbers number → number < heads.blocks) → (first : ℕ) → FreesBlocks [] old new heads (record heads { first = first })
+  frees_none inside first = record {
     list = free_are new heads tree.roles.free (chain-stays numbers old new heads.blocks heads.free tree.roles.free 0 keeps not_changed tree.roles.is_free)
         ∙ sym (free_are old heads tree.roles.free tree.roles.is_free);
     blank = λ block stands. absurd (omega (arith, stands));
     kept = free_kept;
+    behind = behind_of numbers heads.blocks heads.blocks old new (omega arith) inside keeps;
   }
 
 -- Nor is one of them of the tree.
@@ -116,6 +118,8 @@ module _ (held : List ℕ) (awaited : Option TreePath) (format : Format) (old ne
           ∙ ap (λ (free : List ℕ). block ∷ free) (sym (free_are old heads tree.roles.free tree.roles.is_free));
       blank = λ number stands. subst (HasLinkAlone new) (only_one block number stands) gives.blank;
       kept = free_kept was format old new heads records (block ∷ []) tree keeps (λ number stands. (is_apart number stands).1);
+      behind = behind_of (block ∷ []) heads.blocks heads.blocks old new (omega arith)
+          (λ number stands. omega (arith, only_one block number stands, (leads_within heads.blocks block is_inside).1)) keeps;
     };
     ways = ways_apart was format old new heads records (block ∷ []) tree keeps (λ number stands. (is_apart number stands).0);
     named = named_apart was format old new heads records (block ∷ []) tree keeps (λ number stands. (is_apart number stands).0);
@@ -136,6 +140,7 @@ frees_then first second old between new heads middle now one two =
             (sym (two.kept block (in_list block (stands_left first (free_blocks old heads) block before)))) (one.blank block before)
       ];
       kept = λ block stands. two.kept block (in_list block (stands_right first (free_blocks old heads) block stands)) ∙ one.kept block stands;
+      behind = behind_then heads.blocks middle.blocks now.blocks old between new one.behind two.behind;
     }
 
 pub beside_then : (first second : List ℕ) (old between new : List ℕ) (heads middle now : Heads) → FreesBeside first old between heads middle → FreesBeside second between new middle now
@@ -150,7 +155,7 @@ beside_then first second old between new heads middle now one two = record {
 -- nothing was done
 pub beside_none : (file : List ℕ) (heads : Heads) → FreesBeside [] file file heads heads
 beside_none file heads = record {
-  frees = record { list = refl; blank = λ block stands. absurd (omega (arith, stands)); kept = λ block stands. refl };
+  frees = record { list = refl; blank = λ block stands. absurd (omega (arith, stands)); kept = λ block stands. refl; behind = behind_none heads.blocks file };
   ways = λ id small. refl;
   named = refl;
   header = refl;

@@ -17,7 +17,8 @@ use Rattle.free_chains.specs.FreeList.{StopsTaking, TakesBlock, TakesHead, Takes
 use Rattle.free_chains.specs.declared.heads.Heads.{Heads}
 use Rattle.free_chains.proofs.ChainLemmas.{one_chain}
 use Rattle.free_chains.proofs.SpliceLemmas.{chain-none, first_is_head, goes_linked, head_leads, links_lead, none_of_one, other_than}
-use Rattle.tree_build.specs.Loose.{leaves_with, loose_of}
+use Rattle.tree_build.specs.Loose.{Loose, leaves_with, loose_of}
+use Rattle.tree_build.specs.Roles.{OneRole, roles}
 use Rattle.tree_build.proofs.AsideLemmas.{reordered}
 use Rattle.tree_build.proofs.MovedLemmas.{times-data_with, times-roles}
 use Rattle.tree_build.proofs.TakenLemmas.{taken}
@@ -26,6 +27,7 @@ use Rattle.tree_change.specs.Fresh.{HasFresh, IsTakeFault, TakesFresh}
 use Rattle.tree_change.specs.Putting.{TakesCounted}
 use Rattle.tree_change.specs.Room.{FileHasRoom}
 use Rattle.tree_change.specs.Shows.{IsNoTree, IsWholeTree}
+use Rattle.tree_change.proofs.BehindLemmas.{behind_of, taken_low}
 use Rattle.tree_change.proofs.ChangeFaultLemmas.{of_later}
 use Rattle.tree_change.proofs.CountedLemmas.{counted_then, room_after}
 use Rattle.tree_change.proofs.HeaderStaysLemmas.{header_apart}
@@ -36,6 +38,13 @@ role_below blocks number low = ap {B = ℕ} (λ (b : Bool). if b then 1 else 0) 
 
 pub role_above : (blocks number : ℕ) → blocks ≤ number → ◌≡◌ {A = ℕ} (if nat_lt number blocks then 1 else 0) 0
 role_above blocks number high = ap {B = ℕ} (λ (b : Bool). if b then 1 else 0) (le-ltb number blocks high)
+
+-- so a block with a role is one of the file
+pub role_low : (loose : Loose) (file : List ℕ) (blocks head : ℕ) (are : OneRole loose file blocks head) (number : ℕ) → StandsIn (roles loose file blocks are.free) number → number < blocks
+role_low loose file blocks head are number stands = elim (cases_lt number blocks) [
+  | inl low ↦ low
+  | inr high ↦ absurd (omega (arith, stands, are.once number, role_above blocks number high))
+]
 
 -- an empty list has the head 0
 pub no_head : (file : List ℕ) (blocks head : ℕ) → IsChain file blocks head [] 0 → head ≡ 0
@@ -124,6 +133,9 @@ takes_one old new heads now block keeps takes head whole = record {
   counted = record {
     sum = λ free is_free. (one_less old new heads now block takes head free is_free).0;
     rest = λ free is_free. let less = one_less old new heads now block takes head free is_free in (less.1, less.2, less.3);
+    behind =
+        let low = taken_low heads now block head in
+        behind_of (block ∷ []) heads.blocks now.blocks old new low.0 (λ number stands. omega (arith, only_one block number stands, low.1)) keeps;
   };
 }
 

@@ -1,8 +1,8 @@
 -- A leaf that is linked by fresh blocks.
-use Rattle.std.proofs.Common.{true, ◌≡◌, ℕ, suc, ◌+◌, ◌-◌, ◌^◌, ◌<◌, ◌≤◌, List, length, get_or, None, Some, ◌⊎◌, inl, inr, sym, ap, subst, ◌∙◌, arith}
+use Rattle.std.proofs.Common.{true, ◌≡◌, ℕ, suc, ◌+◌, ◌-◌, ◌^◌, ◌<◌, ◌≤◌, List, ◌++◌, length, get_or, None, Some, ◌⊎◌, inl, inr, sym, ap, subst, ◌∙◌, arith}
 use Rattle.quota_types.specs.declared.file_kind.Format.{Format}
 use Rattle.quota_types.specs.Times.{StandsIn, times}
-use Rattle.quota_types.proofs.TimesLemmas.{StandsIn-get_or, stands_cons}
+use Rattle.quota_types.proofs.TimesLemmas.{StandsIn-get_or, stands_cons, times-append}
 use Rattle.quota_blocks.specs.QuotaValue.{Records}
 use Rattle.quota_pages.specs.Page.{Page, is_buffered}
 use Rattle.quota_pages.specs.Used.{KeepsBlocksBut}
@@ -12,13 +12,15 @@ use Rattle.quota_radix.specs.Way.{blocks_on_way}
 use Rattle.quota_radix.specs.declared.tree_path.TreePath.{TreePath}
 use Rattle.quota_radix.proofs.LinkWayLemmas.{changed_distinct}
 use Rattle.free_chains.specs.declared.heads.Heads.{Heads}
-use Rattle.tree_build.specs.Loose.{loose_of}
+use Rattle.tree_build.specs.Loose.{Loose, loose_of}
 use Rattle.tree_build.proofs.LinkedLemmas.{changed_which, data_same, linkable, linked_found, not_free}
+use Rattle.tree_build.proofs.MovedLemmas.{times-roles}
 use Rattle.tree_change.specs.Fresh.{HasFresh, TakesFresh}
 use Rattle.tree_change.specs.Leads.{LeadsLeaf}
 use Rattle.tree_change.specs.Putting.{TakesCounted}
 use Rattle.tree_change.specs.Shows.{IsWholeTree}
 use Rattle.tree_change.proofs.CountedLemmas.{counted_none, counted_then}
+use Rattle.tree_change.proofs.FreshLemmas.{role_low}
 use Rattle.tree_change.proofs.HeaderStaysLemmas.{none_is_header_or_fresh}
 
 -- the blocks that a link changes are buffered where the way and the fresh ones are
@@ -56,12 +58,18 @@ led_by_fresh fresh held format old between new found heads now records id leaf_b
     subst (λ (count : ℕ). GainsBlocks (whole_way found fresh leaf_block) fresh count now.blocks between new) is_suc (links.levels can) in
     let which : (block : ℕ) → StandsIn (changed_blocks found fresh) block → StandsIn (tree_blocks between now.blocks) block ⊎ StandsIn fresh block =
     changed_which held format between new found fresh (length between) now records id leaf_block gone is_suc four small has.tree can links.keeps along (links.leaves can) gains in
+    let was : Loose = loose_of (fresh ++ held) (Some leaf) None in
+    let low : (block : ℕ) → StandsIn (tree_blocks between now.blocks) block ⊎ StandsIn fresh block → block < now.blocks = λ block either. elim either [
+      | inl in_tree ↦ role_low was between now.blocks now.free has.tree.roles block (omega (arith, in_tree, times-roles was between now.blocks has.tree.roles.free block))
+      | inr is_fresh ↦ role_low was between now.blocks now.free has.tree.roles block (omega (arith, is_fresh, times-append fresh held block, times-roles was between now.blocks has.tree.roles.free block))
+    ] in
     record {
       tree = linked_found held format between new found fresh (length between) (length new) now records id leaf_block has.tree some four can links.keeps along (links.leaves can) (links.levels can) links.keeps.longer;
       counted = subst (λ (count : ℕ). TakesCounted count old new heads now) (let e : length fresh + 0 ≡ length fresh = omega arith in e)
           (counted_then (length fresh) 0 old between new heads now now takes.counted
           (counted_none (changed_blocks found fresh) between new now now has.tree.roles.free links.keeps (omega arith) (omega arith) has.tree.roles.is_free
-          (not_free held format between new found fresh (length between) now records id leaf_block gone is_suc four small has.tree can links.keeps along (links.leaves can) gains)));
+          (not_free held format between new found fresh (length between) now records id leaf_block gone is_suc four small has.tree can links.keeps along (links.leaves can) gains)
+          (λ block stands. low block (which block stands))));
       same_data = λ block.
           ap (λ (xs : List ℕ). times xs block) (data_same held format between new found fresh (length between) now records id leaf_block gone is_suc four small has.tree can links.keeps along (links.leaves can) gains)
           ∙ has.same_data block;

@@ -21,6 +21,7 @@ use Rattle.tree_steps.proofs.UnlinkedLemmas.{changed_old, unlinkable, unlinked}
 use Rattle.tree_change.specs.Freed.{FreesBlocks, lost_blocks}
 use Rattle.tree_change.specs.Unlinked.{GivesHeld, UnlinksLeaf}
 use Rattle.tree_change.proofs.FreedLemmas.{frees_none, frees_then}
+use Rattle.tree_change.proofs.FreshLemmas.{role_low}
 use Rattle.tree_change.proofs.HeaderStaysLemmas.{none_is_header}
 
 -- The same blocks are data once the leaf is awaited.
@@ -79,7 +80,11 @@ unlinks_leaf way emptied id old between new heads now five small answered same c
       in_tree block stands,
       one_role (loose_of held None None) old heads.blocks heads.free tree.roles block,
       times-roles (loose_of held None None) old heads.blocks tree.roles.free block,
-    )) heads.first in
+    )) (λ block stands. role_low (loose_of held None None) old heads.blocks heads.free tree.roles block (omega (
+      arith,
+      in_tree block stands,
+      times-roles (loose_of held None None) old heads.blocks tree.roles.free block,
+    ))) heads.first in
     let left : take (4 - length emptied) way ≡ blocks_on_way new heads.blocks id =
     (loses can).can.way ∙ sym (rest.1.ways id small) ∙ ap (λ (n : ℕ). blocks_on_way new n id) same in (
       record {

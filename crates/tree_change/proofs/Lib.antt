@@ -1,6 +1,7 @@
 pub mod AbsentLemmas
 pub mod AddedLemmas
 pub mod AwaitedEntryLemmas
+pub mod BehindLemmas
 pub mod ChangeFaultLemmas
 pub mod ClearsLemmas
 pub mod CountedLemmas
@@ -14,6 +15,7 @@ pub mod LeadingLemmas
 pub mod LeafGoneLemmas
 pub mod ListLeftLemmas
 pub mod OverLemmas
+pub mod ManyBlocksLemmas
 pub mod PutLemmas
 pub mod PuttingLemmas
 pub mod RecordingLemmas

@@ -52,7 +52,7 @@ each_named ps = among ps (λ leaf stands. stands)
     )
 
 -- the block is data
-led_data : (held : List ℕ) (format : Format) (old : List ℕ) (heads : Heads) (records : Records) (block id : ℕ) → id < 2 ^ 32 → leaf_block old heads.blocks id ≡ Some block
+pub led_data : (held : List ℕ) (format : Format) (old : List ℕ) (heads : Heads) (records : Records) (block id : ℕ) → id < 2 ^ 32 → leaf_block old heads.blocks id ≡ Some block
     → IsWholeTree (loose_of held None None) format old heads records → StandsIn (data_with (loose_of held None None) old heads.blocks) block
 led_data held format old heads records block id small led tree =
     let found : find (λ (leaf : TreePath). leaf.number == id) (leaves old heads.blocks) ≡ Some (record { number = id; block = block }) = leaf_of_block old heads.blocks id block small (sym led) in

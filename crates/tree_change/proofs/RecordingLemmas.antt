@@ -1,9 +1,10 @@
 -- A record that is put into a file: it is put into the tree, and then the heads are written in the header.
-use Rattle.std.proofs.Common.{◌≡◌, ℕ, ◌+◌, ◌-◌, ◌<◌, ◌≤◌, List, [], ◌∷◌, length, get_or, None, sym, ap, subst, ◌∙◌, inl, inr, arith}
+use Rattle.std.proofs.Common.{◌≡◌, ℕ, ◌+◌, ◌*◌, ◌-◌, ◌^◌, ◌<◌, ◌≤◌, List, [], ◌∷◌, length, get_or, Option, None, refl, sym, ap, subst, ◌∙◌, inl, inr, arith}
+use Rattle.std.specs.Prelude.{IsSome}
 use Rattle.std.specs.FinMap.{insert}
 use Rattle.std.proofs.lemmas.Bool.{cases_eq, le-leb}
 use Rattle.quota_types.specs.Times.{StandsIn, times}
-use Rattle.quota_types.proofs.TimesLemmas.{stands_cons, times-cons-other}
+use Rattle.quota_types.proofs.TimesLemmas.{only_one, stands_cons, times-cons-other}
 use Rattle.quota_types.specs.declared.file_kind.Format.{Format}
 use Rattle.quota_types.specs.declared.record.Rec.{Rec}
 use Rattle.quota_types.specs.Span.{KeepsOutside}
@@ -24,13 +25,17 @@ use Rattle.tree_build.specs.TreeFile.{TreeStandsFor}
 use Rattle.tree_build.proofs.AsideLemmas.{header_changed}
 use Rattle.tree_build.proofs.FrameLemmas.{data_kept, data_leads}
 use Rattle.tree_build.proofs.MovedLemmas.{keeps_entries}
+use Rattle.tree_steps.proofs.OneLeafLemmas.{inserted_own}
 use Rattle.tree_change.specs.Freed.{free_blocks}
 use Rattle.tree_change.specs.HeaderHeads.{SetsHeads, with_heads}
 use Rattle.tree_change.specs.Putting.{PutsIn, PutsRecord, TakesCounted, blocks_taken, blocks_with}
 use Rattle.tree_change.specs.Shows.{IsNoCompleteTree, IsWholeTree}
+use Rattle.tree_change.specs.Behind.{KeepsBehind}
+use Rattle.tree_change.proofs.BehindLemmas.{behind_of, behind_then}
 use Rattle.tree_change.proofs.FreedLemmas.{free_are}
 use Rattle.tree_change.proofs.HeaderChangedLemmas.{format_is, header_same, heads_are, tree_by_header, value_with_heads}
 use Rattle.tree_change.proofs.HeaderStaysLemmas.{header_apart}
+use Rattle.tree_change.proofs.ManyBlocksLemmas.{long_with_record}
 
 -- a list of free blocks that has none begins with no block
 no_head : (file : List ℕ) (blocks head : ℕ) (chain : List ℕ) → length chain ≡ 0 → IsChain file blocks head chain 0 → head ≡ 0
@@ -92,13 +97,13 @@ new_only id rec format old between new start heads records puts keeps block stan
 ]
 
 -- A record was put into the tree of a file, and the heads were written in its header.
-pub puts_record : (id : ℕ) (rec : Rec) (header : Header) (start heads : Heads) (old between new : List ℕ) (value : QuotaValue)
+pub puts_record : (id : ℕ) (rec : Rec) (header : Header) (start heads : Heads) (old between new : List ℕ) (value : QuotaValue) → id < 2 ^ 32
     → AreOf header (header_of old) → start.blocks ≡ header.blocks → start.free ≡ header.free → start.first ≡ header.first → TreeStandsFor old value
     → ((held : List ℕ) (records : Records) → IsWholeTree (loose_of held None None) header.format old start records → PutsIn id rec held header.format old between start heads records)
     → start.blocks ≤ heads.blocks
     → KeepsBlocksBut (0 ∷ []) between new → (AreOf header (header_of between) → SetsHeads heads between new)
     → PutsRecord id rec value old new heads
-puts_record id rec header start heads old between new value are blocks free first stands puts at_least keeps writes =
+puts_record id rec header start heads old between new value small are blocks free first stands puts at_least keeps writes =
     let at : start ≡ heads_of (header_of old) = heads_are header (header_of old) start are blocks free first in
     let before : IsWholeTree (loose_of [] None None) header.format old start value.records = tree_by_header old header start value are at stands in
     let put : PutsIn id rec [] header.format old between start heads value.records = puts [] value.records before in
@@ -108,11 +113,18 @@ puts_record id rec header start heads old between new value are blocks free firs
     set.numbers ∙ ap (λ (was : HeaderNumbers). with_heads was heads) unchanged in
     let tree : IsWholeTree (loose_of [] None None) header.format new heads (insert value.records id rec) =
     header_changed [] None header.format between new (length between) (length new) heads (insert value.records id rec) put.tree keeps keeps.longer in
+    let behind : KeepsBehind start.blocks heads.blocks old new =
+    behind_then start.blocks heads.blocks heads.blocks old between new put.counted.behind
+    (behind_of (0 ∷ []) heads.blocks heads.blocks between new (omega arith) (λ number stands. omega (arith, only_one 0 number stands, put.tree.two)) keeps) in
+    let long : 1024 * heads.blocks ≤ length new =
+    long_with_record [] header.format new heads (insert value.records id rec) id small tree (subst (λ (found : Option Rec). IsSome found) (sym (inserted_own value.records id rec)) refl) in
     record {
       stands = value_with_heads old new value (insert value.records id rec) heads stands numbers
           (subst (λ (format : Format). IsWholeTree (loose_of [] None None) format new heads (insert value.records id rec)) (sym (format_is header old value are stands)) tree);
       heads_are = ap heads_of (sym numbers);
       header = subst (λ (block : List ℕ). KeepsOutside 20 32 block (block_of new 0)) put.header set.others;
+      behind = behind.behind;
+      long = omega (arith, behind.longer, behind.within, long);
       at_least = subst (λ (h : Heads). h.blocks ≤ heads.blocks) at at_least;
       sum = subst (λ (h : Heads). heads.blocks ≡ blocks_with old h id) at (more_by_count (blocks_taken old start id) old between start heads put.counted before.roles.free before.roles.is_free);
       growth = subst (λ (h : Heads). h.blocks < heads.blocks → heads.free ≡ 0) at (none_left (blocks_taken old start id) old between start heads put.counted before.roles.free before.roles.is_free);

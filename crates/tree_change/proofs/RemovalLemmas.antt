@@ -1,5 +1,5 @@
 -- A record that is removed: its leaf is unlinked first, and then its entry is cleared.
-use Rattle.std.proofs.Common.{◌≡◌, ℕ, ◌^◌, ◌<◌, ◌==◌, List, [], ◌∷◌, ◌++◌, length, get_or, drop, filter, take, Some, None, refl, sym, ap, subst, ◌∙◌, arith}
+use Rattle.std.proofs.Common.{◌≡◌, ℕ, ◌*◌, ◌^◌, ◌<◌, ◌≤◌, ◌==◌, List, [], ◌∷◌, ◌++◌, length, get_or, drop, filter, take, Some, None, refl, sym, ap, subst, ◌∙◌, arith}
 use Rattle.std.specs.FinMap.{remove}
 use Rattle.quota_types.specs.Times.{StandsIn, times}
 use Rattle.quota_types.specs.declared.file_kind.Format.{Format}
@@ -28,6 +28,7 @@ use Rattle.tree_change.specs.Unlinked.{TreeStays, UnlinksLeaf}
 use Rattle.tree_change.proofs.FreedLemmas.{frees_none, frees_then, named_apart, ways_apart}
 use Rattle.tree_change.proofs.HeaderChangedLemmas.{format_is, header_same, heads_are, tree_by_header, value_with_heads}
 use Rattle.tree_change.proofs.HeaderStaysLemmas.{header_apart}
+use Rattle.tree_change.proofs.ManyBlocksLemmas.{long_by_way}
 
 -- a way of five blocks has the fifth one behind four
 fifth_alone : (way : List ℕ) → length way ≡ 5 → drop 4 way ≡ get_or way 4 0 ∷ []
@@ -86,7 +87,7 @@ header_frees format between new heads records tree keeps =
     let not_free : (number : ℕ) → StandsIn (0 ∷ []) number → times tree.roles.free number ≡ 0 = λ number stands.
     subst (λ (n : ℕ). times tree.roles.free n ≡ 0) (only_one 0 number stands)
     (omega (arith, one_role loose between heads.blocks heads.free tree.roles 0, times-roles loose between heads.blocks tree.roles.free 0, times-cons-same 0 [])) in (
-      frees_none loose format between new heads records (0 ∷ []) tree keeps not_free heads.first,
+      frees_none loose format between new heads records (0 ∷ []) tree keeps not_free (λ number stands. omega (arith, only_one 0 number stands, tree.two)) heads.first,
       ways_apart loose format between new heads records (0 ∷ []) tree keeps no_tree,
       named_apart loose format between new heads records (0 ∷ []) tree keeps no_tree,
     )
@@ -101,12 +102,14 @@ freed_same old between new blocks id way named =
 -- A record was taken out of a file, and the heads were written in its header.
 pub removes_record : (id : ℕ) (way : List ℕ) (header : Header) (start heads : Heads) (old between new : List ℕ) (value : QuotaValue)
     → id < 2 ^ 32 → AreOf header (header_of old) → start.blocks ≡ header.blocks → start.free ≡ header.free → start.first ≡ header.first
-    → way ≡ blocks_on_way old header.blocks id → TreeStandsFor old value → TakesRecord header.format way id old between start heads → heads.blocks ≡ start.blocks
+    → way ≡ blocks_on_way old header.blocks id → length way ≡ 5 → TreeStandsFor old value → TakesRecord header.format way id old between start heads → heads.blocks ≡ start.blocks
     → KeepsBlocksBut (0 ∷ []) between new → (AreOf header (header_of between) → SetsHeads heads between new)
     → RemovesRecord id value old new heads
-removes_record id way header start heads old between new value small are blocks free first is stands takes same keeps writes =
+removes_record id way header start heads old between new value small are blocks free first is five stands takes same keeps writes =
     let at : start ≡ heads_of (header_of old) = heads_are header (header_of old) start are blocks free first in
-    let taken = takes value.records (is ∙ ap (λ (n : ℕ). blocks_on_way old n id) (sym blocks)) (tree_by_header old header start value are at stands) in
+    let was : IsWholeTree (loose_of [] None None) header.format old start value.records = tree_by_header old header start value are at stands in
+    let found : way ≡ blocks_on_way old start.blocks id = is ∙ ap (λ (n : ℕ). blocks_on_way old n id) (sym blocks) in
+    let taken = takes value.records found was in
     let unchanged : header_of between ≡ header_of old = header_same old between taken.header in
     let set : SetsHeads heads between new = writes (subst (AreOf header) (sym unchanged) are) in
     let numbers : header_of new ≡ with_heads (header_of old) heads =
@@ -114,15 +117,18 @@ removes_record id way header start heads old between new value small are blocks 
     let tree : IsWholeTree (loose_of [] None None) header.format new heads (remove value.records id) =
     header_changed [] None header.format between new (length between) (length new) heads (remove value.records id) taken.tree keeps keeps.longer in
     let beside = header_frees header.format between new heads (remove value.records id) taken.tree keeps in
+    let freed = frees_then (freed_blocks old between heads.blocks id) [] old between new start heads heads taken.freed beside.0 in
+    let long : 1024 * start.blocks ≤ length old =
+    long_by_way [] header.format old start value.records id small was (omega (arith, five, ap {B = ℕ} length found)) in
     record {
       stands = value_with_heads old new value (remove value.records id) heads stands numbers
           (subst (λ (format : Format). IsWholeTree (loose_of [] None None) format new heads (remove value.records id)) (sym (format_is header old value are stands)) tree);
       heads_are = ap heads_of (sym numbers);
       header = subst (λ (block : List ℕ). KeepsOutside 20 32 block (block_of new 0)) taken.header set.others;
       blocks = same ∙ blocks ∙ sym are.blocks;
+      long = omega (arith, freed.behind.longer, freed.behind.within, long, same);
       freed = subst (λ (h : Heads). FreesBlocks (freed_blocks old new heads.blocks id) old new h heads) at
-          (subst (λ (freed : List ℕ). FreesBlocks freed old new start heads) (freed_same old between new heads.blocks id (beside.1 id small) beside.2)
-          (frees_then (freed_blocks old between heads.blocks id) [] old between new start heads heads taken.freed beside.0));
+          (subst (λ (freed : List ℕ). FreesBlocks freed old new start heads) (freed_same old between new heads.blocks id (beside.1 id small) beside.2) freed);
     }
 
 -- Where none could be taken out of it the file stands for no value.

@@ -22,13 +22,21 @@ use Rattle.tree_change.specs.Freed.{FreesBeside}
 use Rattle.tree_change.specs.Putting.{TakesCounted}
 use Rattle.tree_change.specs.Shows.{IsWholeTree}
 use Rattle.tree_change.proofs.CountedLemmas.{counted_none}
-use Rattle.tree_change.proofs.FreshLemmas.{role_above, role_below}
+use Rattle.tree_change.proofs.FreshLemmas.{role_above, role_below, role_low}
 use Rattle.tree_change.proofs.FreedLemmas.{frees_none, named_apart, not_changed, ways_apart}
 use Rattle.tree_change.proofs.HeaderStaysLemmas.{aside_from_header}
 
 module _ (loose : Loose) (format : Format) (old new : List ℕ) (heads : Heads) (records : Records) (numbers : List ℕ)
     (tree : IsWholeTree loose format old heads records) (keeps : KeepsBlocksBut numbers old new)
     (aside : (number : ℕ) → StandsIn numbers number → StandsIn (loose.held ++ data_with loose old heads.blocks) number) where
+  stands_low : (number : ℕ) → StandsIn numbers number → number < heads.blocks
+  stands_low number stands = role_low loose old heads.blocks heads.free tree.roles number (omega (
+    arith,
+    aside number stands,
+    times-append loose.held (data_with loose old heads.blocks) number,
+    times-roles loose old heads.blocks tree.roles.free number,
+  ))
+
   no_other_role : (number : ℕ) → StandsIn numbers number → (times (tree_blocks old heads.blocks) number ≡ 0) × (times tree.roles.free number ≡ 0)
   no_other_role number stands =
       let all = times-roles loose old heads.blocks tree.roles.free number in
@@ -44,14 +52,14 @@ module _ (loose : Loose) (format : Format) (old new : List ℕ) (heads : Heads) 
   pub counted_stays : (now : Heads) → now.blocks ≡ heads.blocks → now.free ≡ heads.free → TakesCounted 0 old new heads now
   counted_stays now blocks_are free_is =
       counted_none numbers old new heads now tree.roles.free keeps blocks_are free_is tree.roles.is_free
-      (not_changed loose format old new heads records numbers tree keeps (λ number stands. (no_other_role number stands).1))
+      (not_changed loose format old new heads records numbers tree keeps (λ number stands. (no_other_role number stands).1)) stands_low
 
   pub header_stays : block_of new 0 ≡ block_of old 0
   header_stays = keeps.others 0 (aside_from_header loose old heads.blocks heads.free tree.roles numbers aside)
 
   pub none_freed : (first : ℕ) → FreesBeside [] old new heads (record heads { first = first })
   none_freed first = record {
-    frees = frees_none loose format old new heads records numbers tree keeps (λ number stands. (no_other_role number stands).1) first;
+    frees = frees_none loose format old new heads records numbers tree keeps (λ number stands. (no_other_role number stands).1) stands_low first;
     ways = ways_stay;
     named = named_apart loose format old new heads records numbers tree keeps (λ number stands. (no_other_role number stands).0);
     header = header_stays;

@@ -11,6 +11,7 @@ use Rattle.quota_radix.specs.Way.{blocks_on_way}
 use Rattle.free_chains.specs.Chain.{chain_from}
 use Rattle.free_chains.specs.declared.heads.Heads.{Heads}
 use Rattle.tree_build.specs.Loose.{Loose}
+use Rattle.tree_change.specs.Behind.{KeepsBehind}
 use Rattle.tree_change.specs.Shows.{IsWholeTree}
 
 -- the free blocks of a file with these heads, in the order of their list
@@ -21,11 +22,13 @@ free_blocks file heads = chain_from file heads.blocks heads.free heads.blocks
 abbrev pub HasLinkAlone : List ℕ → (block : ℕ) → Type 0
 HasLinkAlone file block = (at : ℕ) → 4 ≤ at → byte_at (block_of file block) at ≡ 0
 
--- These blocks stand now before those that were free, and have their links and nothing else. The blocks that were free are as before.
+-- These blocks stand now before those that were free, and have their links and nothing else. The blocks that were free are as before, and
+-- so is what lies behind the last block.
 pub record FreesBlocks (freed : List ℕ) (old new : List ℕ) (heads now : Heads) : Type 0 where
   pub list : free_blocks new now ≡ freed ++ free_blocks old heads
   pub blank : (block : ℕ) → StandsIn freed block → HasLinkAlone new block
   pub kept : (block : ℕ) → StandsIn (free_blocks old heads) block → block_of new block ≡ block_of old block
+  pub behind : KeepsBehind heads.blocks now.blocks old new
 
 -- Blocks were freed so. The way of each identifier, the blocks to which leaves lead and the header's block are as before.
 pub record FreesBeside (freed : List ℕ) (old new : List ℕ) (heads now : Heads) : Type 0 where

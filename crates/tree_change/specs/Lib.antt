@@ -1,3 +1,4 @@
+pub mod Behind
 pub mod ChangeFault
 pub mod Clears
 pub mod Enters

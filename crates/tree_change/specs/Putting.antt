@@ -1,5 +1,5 @@
 -- A record that is put into a tree file.
-use Rattle.std.specs.Prelude.{◌≡◌, ◌≢◌, ℕ, ◌+◌, ◌-◌, ◌<◌, ◌≤◌, ◌==◌, nat_lt, if◌then◌else◌, List, length, None}
+use Rattle.std.specs.Prelude.{◌≡◌, ◌≢◌, ℕ, ◌+◌, ◌*◌, ◌-◌, ◌<◌, ◌≤◌, ◌==◌, max, nat_lt, if◌then◌else◌, List, length, None}
 use Rattle.std.specs.FinMap.{insert}
 use Rattle.quota_types.specs.Span.{KeepsOutside}
 use Rattle.quota_types.specs.Times.{StandsIn, times}
@@ -21,6 +21,7 @@ use Rattle.quota_radix.specs.Way.{blocks_on_way}
 use Rattle.free_chains.specs.declared.heads.Heads.{Heads}
 use Rattle.tree_build.specs.Loose.{loose_of}
 use Rattle.tree_change.specs.declared.change_fault.ChangeFault.{ChangeFault}
+use Rattle.tree_change.specs.Behind.{KeepsBehind}
 use Rattle.tree_change.specs.ChangeFault.{IsChangeFault}
 use Rattle.tree_change.specs.Freed.{free_blocks}
 use Rattle.tree_change.specs.Room.{FileHasRoom, NeedsBlocks}
@@ -70,10 +71,12 @@ IsPutInFault before now known format file heads limit id fault =
     (λ blocks most. (most ≡ limit) × (limit < blocks)
     × (known → (held : List ℕ) (records : Records) → IsWholeTree (loose_of held None None) format file heads records → blocks ≡ blocks_with file heads id)) fault
 
--- So many blocks were taken: those of the list of free blocks first, which is shorter by them, and new ones for the others.
+-- So many blocks were taken: those of the list of free blocks first, which is shorter by them, and new ones for the others. What lies
+-- behind the last block is as before.
 pub record TakesCounted (count : ℕ) (old new : List ℕ) (heads now : Heads) : Type 0 where
   pub sum : (free : List ℕ) → IsChain old heads.blocks heads.free free 0 → now.blocks ≡ heads.blocks + (count - length free)
   pub rest : (free : List ℕ) → IsChain old heads.blocks heads.free free 0 → (rest : List ℕ) × IsChain new now.blocks now.free rest 0 × (length rest ≡ length free - count)
+  pub behind : KeepsBehind heads.blocks now.blocks old new
 
 -- The record of an identifier was put into a tree of which no leaf is awaited: it has it, and all other records. So many blocks were
 -- taken; the data blocks are those that were where one of them had room; and the header's block is as before.
@@ -102,11 +105,14 @@ pub record PutsOverOne (old new : List Page) (heads now : Heads) : Type 0 where
 
 -- A file of a value became one of the value in which the identifier has this record. The heads are those that its header states,
 -- all other bytes of whose block stay. It has as many blocks as that takes, more only where none is free then, and fewer free ones by
--- those that were taken; and it has a new data block only where none had room.
+-- those that were taken; and it has a new data block only where none had room. All bytes behind the last block are as before, and it is as
+-- long as it was, or up to the end of the last block where that is longer.
 pub record PutsRecord (id : ℕ) (rec : Rec) (value : QuotaValue) (old new : List ℕ) (heads : Heads) : Type 0 where
   pub stands : TreeStandsFor new (with_record value id rec)
   pub heads_are : heads ≡ heads_of (header_of new)
   pub header : KeepsOutside 20 32 (block_of old 0) (block_of new 0)
+  pub behind : KeepsOutside 0 (1024 * heads.blocks) old new
+  pub long : length new ≡ max (length old) (1024 * heads.blocks)
   pub at_least : (header_of old).blocks ≤ heads.blocks
   pub sum : heads.blocks ≡ blocks_with old (heads_of (header_of old)) id
   pub growth : (header_of old).blocks < heads.blocks → heads.free ≡ 0

@@ -1,5 +1,5 @@
 -- A record that is removed from a tree file in place.
-use Rattle.std.specs.Prelude.{◌≡◌, ℕ, List, None, []}
+use Rattle.std.specs.Prelude.{◌≡◌, ℕ, List, length, None, []}
 use Rattle.std.specs.FinMap.{remove}
 use Rattle.quota_types.specs.Span.{KeepsOutside}
 use Rattle.quota_types.specs.declared.file_kind.Format.{Format}
@@ -15,12 +15,13 @@ use Rattle.tree_change.specs.Freed.{FreesBlocks, freed_blocks}
 use Rattle.tree_change.specs.Shows.{IsWholeTree}
 
 -- Bytes stand for a value without a record. The heads are those that their header states, all other bytes of whose block stay. There
--- are as many blocks as before, and those that the removal frees stand before the free ones.
+-- are as many blocks as before, and those that the removal frees stand before the free ones. The file is as long as before.
 pub record RemovesRecord (id : ℕ) (value : QuotaValue) (old new : List ℕ) (heads : Heads) : Type 0 where
   pub stands : TreeStandsFor new (without_record value id)
   pub heads_are : heads ≡ heads_of (header_of new)
   pub header : KeepsOutside 20 32 (block_of old 0) (block_of new 0)
   pub blocks : heads.blocks ≡ (header_of old).blocks
+  pub long : length new ≡ length old
   pub freed : FreesBlocks (freed_blocks old new heads.blocks id) old new (heads_of (header_of old)) heads
 
 -- A tree of which nothing is loose lost the record of an identifier: nothing is loose of it, the header's block is as before, and the

@@ -1,7 +1,8 @@
 -- What putting a record into a file, and taking one out of it, makes of the file.
-use Rattle.std.proofs.Common.{◌≡◌, ℕ, ◌^◌, ◌-◌, ◌<◌, ◌≤◌, false, List, length, refl, sym, ap, subst, ◌∙◌, arith}
-use Rattle.std.specs.Prelude.{is_none}
+use Rattle.std.proofs.Common.{◌≡◌, ℕ, ◌*◌, ◌^◌, ◌-◌, ◌<◌, ◌≤◌, false, List, length, refl, sym, ap, subst, ◌∙◌, arith}
+use Rattle.std.specs.Prelude.{is_none, max}
 use Rattle.std.specs.FinMap.{get}
+use Rattle.quota_types.specs.Span.{KeepsOutside}
 use Rattle.quota_types.specs.Times.{StandsIn}
 use Rattle.quota_types.specs.declared.record.Rec.{Rec}
 use Rattle.quota_blocks.specs.FileChange.{Put, Remove}
@@ -29,6 +30,8 @@ put_changes limit id rec value old new heads small stands few puts =
       few = few;
       changed = record {
         header = puts.header;
+        behind = subst (λ (n : ℕ). KeepsOutside 0 (1024 * n) old new) blocks puts.behind;
+        long = puts.long ∙ ap (λ (n : ℕ). max (length old) (1024 * n)) blocks;
         at_least = omega (arith, puts.at_least, blocks);
         sum = sym blocks ∙ puts.sum;
         growth = λ more. sym (ap (λ (h : Heads). h.free) puts.heads_are) ∙ puts.growth (omega (arith, more, blocks));
@@ -49,6 +52,8 @@ remove_changes id value old new heads stands there removes =
       few = omega (arith, removes.blocks);
       changed = record {
         header = removes.header;
+        behind = subst (λ (n : ℕ). KeepsOutside 0 (1024 * n) old new) blocks removes.freed.behind.behind;
+        long = removes.long;
         blocks = sym blocks ∙ removes.blocks;
         freed = subst (λ (h : Heads). FreesBlocks (freed_blocks old new h.blocks id) old new (heads_of (header_of old)) h) removes.heads_are removes.freed;
       };

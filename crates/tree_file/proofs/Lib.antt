@@ -7,6 +7,7 @@ pub mod GracedLemmas
 pub mod HeaderKeptLemmas
 pub mod HeldLemmas
 pub mod InPlaceLemmas
+pub mod LeftBehindLemmas
 pub mod LookupLemmas
 pub mod LooksUpLemmas
 pub mod NextLemmas

@@ -1,21 +1,27 @@
 -- A file of which a flush wrote some blocks: each is the old or the new one.
 use Rattle.std.proofs.Common.{◌≡◌, ℕ, ◌≤◌, arith, length, Bool, true, false, ◌&&◌, ◌||◌, List, [], ◌∷◌, take, drop, Option, Some, inl, inr, sym, ap, subst, ◌∙◌, refl}
-use Rattle.std.specs.Prelude.{◌==◌, IsSome}
+use Rattle.std.specs.Prelude.{◌==◌, IsSome, fold}
 use Rattle.std.proofs.lemmas.Bool.{cases_Bool, cond-true, cond-false, false≢true}
 use Rattle.std.proofs.lemmas.List.{take-append-drop}
 use Rattle.std.proofs.lemmas.List.Folds.{list_any-append}
+use Rattle.std.proofs.lemmas.List.Sums.{fold-append}
 use Rattle.quota_types.specs.Times.{StandsIn}
 use Rattle.file_blocks.specs.Block.{block_of, bytes_of}
+use Rattle.outside.specs.Frame.{ChangesOne, OnlyReads}
+use Rattle.outside.specs.Seen.{StoreSeen}
 use Rattle.outside.specs.World.{World, with_file}
 use Rattle.outside.proofs.WorldLemmas.{with_file-at}
+use Rattle.quota_blocks.specs.EditsOne.{EditsOne, StaysUnlessWritten}
 use Rattle.quota_blocks.specs.QuotaFile.{ChangesBlocks}
+use Rattle.quota_blocks.proofs.EditsOneLemmas.{edits_one-after_read, edits_one-changed}
 use Rattle.quota_pages.specs.Flushed.{IsPartlyFlushed, flushed_files}
-use Rattle.quota_pages.specs.Page.{Page, is_lent, is_some_lent, lent_numbers, shown}
+use Rattle.quota_pages.specs.Page.{Page, is_lent, is_some_lent, lent_numbers, shown, with_page}
 use Rattle.quota_pages.specs.Pages.{name_of, pages_of}
 use Rattle.quota_pages.specs.Used.{KeepsBlocksBut}
 use Rattle.quota_pages.specs.declared.page_buffer.Pages.{Pages}
 use Rattle.quota_pages.proofs.BufferLemmas.{block_left}
 use Rattle.quota_pages.proofs.FlushLemmas.{bytes_flushed}
+use Rattle.quota_pages.proofs.PageLemmas.{shown-grows}
 use Rattle.quota_pages.proofs.LentLemmas.{few_numbers, keeps_flushed, lent_of_stands, lent_stands}
 use Rattle.quota_pages.proofs.UsedLemmas.{keeps_more}
 use Rattle.tree_file.specs.TreeChange.{IsTorn, TreeLeaves}
@@ -48,6 +54,14 @@ lent_in_part pages count number lent =
 stands_in_part : (pages : List Page) (count number : ℕ) → StandsIn (lent_numbers (take count pages)) number → StandsIn (lent_numbers pages) number
 stands_in_part pages count number stands = lent_stands pages number (lent_in_part pages count number (lent_of_stands (take count pages) number stands))
 
+-- what all pages show is no shorter than what the first ones do
+grows_on : (pages : List Page) (count : ℕ) (file : List ℕ) → length (shown (take count pages) file) ≤ length (shown pages file)
+unfolding shown
+grows_on pages count file =
+    let whole : fold with_page file pages ≡ fold with_page (fold with_page file (take count pages)) (drop count pages) =
+    ap (fold with_page file) (sym (take-append-drop count pages)) ∙ fold-append with_page file (take count pages) (drop count pages) in
+    omega (arith, ap {B = ℕ} length whole, shown-grows (fold with_page file (take count pages)) (drop count pages))
+
 -- of the blocks that were lent for writing each is the old or the new one, and all others stay
 pub torn_flushed : (buffer : Pages) (old new : World) → IsPartlyFlushed (name_of buffer) (pages_of buffer) old new
     → IsTorn (bytes_of (old (name_of buffer))) (bytes_of (flushed_files old (name_of buffer) (pages_of buffer) (name_of buffer))) (bytes_of (new (name_of buffer)))
@@ -61,6 +75,12 @@ torn_flushed buffer old new partly =
       others =
           subst (λ (file : List ℕ). KeepsBlocksBut (lent_numbers pages) (bytes_of (old name)) file) (sym (ap (λ (files : World). bytes_of (files name)) partly.files))
           (keeps_more (lent_numbers pages) (stands_in_part pages partly.count) (keeps_flushed old name (take partly.count pages)));
+      shorter = omega (
+        arith,
+        grows_on pages partly.count (bytes_of (old name)),
+        ap {B = ℕ} length (ap (λ (files : World). bytes_of (files name)) partly.files ∙ bytes_flushed old name (take partly.count pages)),
+        ap {B = ℕ} length (bytes_flushed old name pages),
+      );
       each = λ number. elim (block_left buffer old new number partly) [
         | inl kept ↦ inl kept
         | inr shows ↦ inr (shows ∙ sym (ap (λ (file : List ℕ). block_of file number) (bytes_flushed old name pages)))
@@ -110,3 +130,9 @@ few_same name old new same = record {
   longer = let e = ap (λ (files : World). length (bytes_of (files name))) same in omega (arith, e);
   within = λ blocks below. let e = ap (λ (files : World). length (bytes_of (files name))) same in omega (arith, e);
 }
+
+-- a flush behind calls that only read is a change of one file
+pub edits_flushed : {done : Bool} (name one : List ℕ) (before between now : StoreSeen) → one ≡ name → OnlyReads done name before between → ChangesOne one between now → StaysUnlessWritten between now
+    → EditsOne name before now
+edits_flushed name one before between now same read leaves written =
+    edits_one-after_read name before between now read (edits_one-changed name between now (subst (λ (n : List ℕ). ChangesOne n between now) same leaves) written)

@@ -1,5 +1,5 @@
 -- What a change of a tree file makes of the files.
-use Rattle.std.specs.Prelude.{◌≡◌, ◌⊎◌, ℕ, ◌-◌, ◌<◌, ◌≤◌, max, Bool, IsSome, IsSomeAnd, List, length, Option, None, Some}
+use Rattle.std.specs.Prelude.{◌≡◌, ◌⊎◌, ℕ, ◌*◌, ◌-◌, ◌<◌, ◌≤◌, max, Bool, IsSome, IsSomeAnd, List, length, Option, None, Some}
 use Rattle.std.specs.FinMap.{get}
 use Rattle.quota_types.specs.declared.record.Grace.{Grace}
 use Rattle.quota_types.specs.declared.record.Rec.{Rec}
@@ -28,9 +28,12 @@ use Rattle.tree_change.specs.Putting.{blocks_taken, blocks_with}
 
 -- A record of an identifier was put: of the header's block the heads alone change; there are as many blocks as that takes, no fewer than
 -- before, and more only where none is free then; there are fewer free ones by those that were taken; and a block became a data block
--- only where none had room.
+-- only where none had room. All bytes behind the last block are as before, and the file is as long as it was, or up to the end of the last
+-- block where that is longer.
 pub record PutsInPlace (id : ℕ) (before after : List ℕ) : Type 0 where
   pub header : KeepsOutside 20 32 (block_of before 0) (block_of after 0)
+  pub behind : KeepsOutside 0 (1024 * (header_of after).blocks) before after
+  pub long : length after ≡ max (length before) (1024 * (header_of after).blocks)
   pub at_least : (header_of before).blocks ≤ (header_of after).blocks
   pub sum : (header_of after).blocks ≡ blocks_with before (heads_of (header_of before)) id
   pub growth : (header_of before).blocks < (header_of after).blocks → (header_of after).free ≡ 0
@@ -39,9 +42,12 @@ pub record PutsInPlace (id : ℕ) (before after : List ℕ) : Type 0 where
       → (header_of before).first ≡ 0
 
 -- The record of an identifier was taken away: of the header's block the heads alone change; there are as many blocks as before, and those
--- that it freed stand before the free ones, with nothing but their links.
+-- that it freed stand before the free ones, with nothing but their links. All bytes behind the last block are as before, and the file is
+-- as long.
 pub record RemovesInPlace (id : ℕ) (before after : List ℕ) : Type 0 where
   pub header : KeepsOutside 20 32 (block_of before 0) (block_of after 0)
+  pub behind : KeepsOutside 0 (1024 * (header_of after).blocks) before after
+  pub long : length after ≡ length before
   pub blocks : (header_of after).blocks ≡ (header_of before).blocks
   pub freed : FreesBlocks (freed_blocks before after (header_of after).blocks id) before after (heads_of (header_of before)) (heads_of (header_of after))
 
@@ -72,12 +78,14 @@ TreeChanged (SetGrace grace) = IsGraced grace
 abbrev pub TreeMakes : (limit : ℕ) → FileChange → List ℕ → World → World → Type 0
 TreeMakes limit change = WritesInPlace (MakesFew limit (TreeChanged change))
 
--- Of twelve blocks at most each is the old or the new one, and all others are as they were, as they are in the changed file.
+-- Of twelve blocks at most each is the old or the new one, and all others are as they were, as they are in the changed file. What is left
+-- is no longer than that.
 pub record IsTorn (before made left : List ℕ) : Type 0 where
   pub numbers : List ℕ
   pub few : length numbers ≤ 12
   pub near : KeepsBlocksBut numbers before made
   pub others : KeepsBlocksBut numbers before left
+  pub shorter : length left ≤ length made
   pub each : (number : ℕ) → (block_of left number ≡ block_of before number) ⊎ (block_of left number ≡ block_of made number)
 
 -- what a change that failed may leave of a tree file: the old file, or one that lies between it and the changed one

@@ -2,6 +2,7 @@ ghost use Rattle.std.specs.Prelude.{◌≡◌, ◌+◌, ◌≤◌, [], IsTrue, O
 ghost use Rattle.outside.specs.Count.{Rose};
 ghost use Rattle.outside.specs.Frame.{ChangesOne, IsSynced};
 ghost use Rattle.file_blocks.specs.Block.{file_of};
+ghost use Rattle.quota_blocks.specs.EditsOne.{StaysUnlessWritten};
 ghost use Rattle.quota_blocks.specs.QuotaFile.{ChangesBlocks};
 ghost use Rattle.quota_pages.specs.Flushed.{IsPartlyFlushed, flushed_files};
 ghost use Rattle.quota_pages.specs.Page.{lent_count};
@@ -27,6 +28,7 @@ pub(crate) fn finish<S: Store>(pages: &mut Pages, store: &mut S) -> Result<(), S
     ensures cause { OnErr result (Rose (S.seen store.old).faults (S.seen store.new).faults) }
     ensures leaves { ChangesOne (name_of pages.old) (S.seen store.old) (S.seen store.new) }
     ensures writes { (S.seen store.new).writes ≤ (S.seen store.old).writes + lent_count (pages_of pages.old) }
+    ensures written { StaysUnlessWritten (S.seen store.old) (S.seen store.new) }
     ensures name { name_of pages.new ≡ name_of pages.old }
     ensures empty { pages_of pages.new ≡ [] }
 {

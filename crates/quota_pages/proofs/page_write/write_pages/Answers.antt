@@ -1,11 +1,11 @@
-use Rattle.std.proofs.Common.{◌≡◌, ◌+◌, List, take, refl, sym, ap, ◌∙◌, arith}
-use Rattle.std.proofs.lemmas.Bool.{false≢true}
+use Rattle.std.proofs.Common.{◌≡◌, ◌+◌, List, inl, inr, take, refl, sym, ap, ◌∙◌, arith}
+use Rattle.std.proofs.lemmas.Bool.{cases_Bool, false≢true}
 use Rattle.std.proofs.lemmas.List.{take_all}
 use Rattle.outside.proofs.FrameLemmas.{changes_one-none, changes_one-then}
 use Rattle.quota_pages.specs.Flushed.{counted_by, flushed_files, flushed_names}
 use Rattle.quota_pages.specs.Held.{pages_in}
 use Rattle.quota_pages.specs.Page.{Page, lent_count}
-use Rattle.quota_pages.proofs.FlushLemmas.{counted-more, counted-most, flushed-more, flushed-nil, lent-none, names-more, names-nil, on_err, partly}
+use Rattle.quota_pages.proofs.FlushLemmas.{counted-more, counted-most, counted_once, flushed-more, flushed-nil, lent-none, names-more, names-nil, on_err, partly}
 use Rattle.quota_pages.proofs.HeldLemmas.{length-pages_in, no_page, page_at, page_of}
 use Rattle.quota_pages.proofs.page_write.write_pages.Goals as goal
 
@@ -43,6 +43,16 @@ returns-in_err-write_page-clause-tried g c =
     let page : Page = page_of c.head-head.result c.block.result.now in
     let at = page_at c.args.held.now.heads.items c.args.held.now.blocks.items place c.head-head.result c.block.result.now c.requires (omega arith) c.head-head.ensures c.block.ensures.value in
     on_err c.from_residual.result _ (counted-most _ _ pages (place + 1) (counted-more _ _ _ pages place page no_page at.0 at.1 c.loop-place.invariant.writes c.in_err-write_page.ensures.writes))
+
+-- the call that failed was counted
+pub returns-in_err-write_page-clause-rose : goal.returns-in_err-write_page-clause-rose
+returns-in_err-write_page-clause-rose g c =
+    let pages = pages_in c.args.held.now.heads.items c.args.held.now.blocks.items in
+    let wrote = c.in_err-write_page.ensures in
+    on_err c.from_residual.result _ (elim (cases_Bool c.head-head.result.lent) [
+      | inl lent ↦ counted_once _ _ _ (lent_count (take c.loop-place.place pages)) c.head-head.result.lent lent c.loop-place.invariant.writes wrote.writes
+      | inr kept ↦ absurd (false≢true (wrote.idle kept).0)
+    ])
 
 -- where no page was lent no call is made that could fail
 pub returns-in_err-write_page-clause-idle : goal.returns-in_err-write_page-clause-idle

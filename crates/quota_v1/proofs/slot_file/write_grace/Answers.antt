@@ -13,7 +13,7 @@ returns g c =
     let times = c.write_times.ensures in
     record {
       changes = changes_file S.tells _ c.args.name.now 0 c.write_times.new.bytes (S.seen c.args.store.now) (S.seen c.read_from.new.store) (S.seen c.write_synced.new.store) c.write_synced.result
-          read.leaves (omega (arith, read.reads)) wrote.written wrote.synced wrote.torn wrote.cause wrote.leaves wrote.writes (omega (arith, c.write_times.auto.bytes, c.read_from.auto.buf))
+          read.leaves (omega (arith, read.reads)) wrote.written wrote.synced wrote.torn wrote.cause wrote.leaves wrote.writes wrote.rose (omega (arith, c.write_times.auto.bytes, c.read_from.auto.buf))
           (λ told. puts_grace (bytes_of ((S.seen c.args.store.now).files c.args.name.now)) c.args.grace c.read_from.new.buf c.write_times.new.bytes
           (read.shown told) (omega (arith, c.read_from.auto.buf)) (omega (arith, c.write_times.auto.bytes, c.read_from.auto.buf)) times.kept times.block times.inode);
     }

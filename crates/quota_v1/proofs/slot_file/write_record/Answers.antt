@@ -14,7 +14,7 @@ returns g c =
     let times = c.times_in-times.ensures in
     record {
       changes = changes_file S.tells _ c.args.name.now _ c.record_bytes-bytes.result (S.seen c.args.store.now) (S.seen c.args.store.now) (S.seen c.write_synced.new.store) c.write_synced.result
-          (only_reads-none _ _) (omega arith) wrote.written wrote.synced wrote.torn wrote.cause wrote.leaves wrote.writes bytes.whole
+          (only_reads-none _ _) (omega arith) wrote.written wrote.synced wrote.torn wrote.cause wrote.leaves wrote.writes wrote.rose bytes.whole
           (λ told. puts_record (bytes_of ((S.seen c.args.store.now).files c.args.name.now)) c.args.id c.args.rec.now c.args.times c.times_in-times.result _ c.record_bytes-bytes.result
           (omega (arith, c.from.ensures)) bytes.whole bytes.stored c.requires times.first times.other);
       reads = wrote.leaves.reads;

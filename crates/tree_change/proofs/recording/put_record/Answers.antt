@@ -22,7 +22,7 @@ pub returns-clause-shown : goal.returns-clause-shown
 returns-clause-shown g c = λ known are value stands.
     let start = c.heads_in-heads.ensures in
     let put = c.in_ok-put_in.ensures in
-    puts_record c.args.id c.args.rec.now c.args.header.now _ _ _ _ _ value are start.blocks start.free start.first stands (put.put known) put.takes.at_least
+    puts_record c.args.id c.args.rec.now c.args.header.now _ _ _ _ _ value (omega (arith, c.ranges.id.fits)) are start.blocks start.free start.first stands (put.put known) put.takes.at_least
     c.in_ok-renew_heads.ensures.keeps (c.in_ok-renew_heads.ensures.set (put.uses.known known))
 
 pub returns-clause-known : goal.returns-clause-known

@@ -17,5 +17,5 @@ returns-clause-removed g c = λ is known are value stands.
     let start = c.heads_in-heads.ensures in
     let took = c.in_ok-take_out.ensures in
     let wrote = c.in_ok-renew_heads.ensures in
-    removes_record c.args.id c.args.path.now.found.items c.args.header.now c.heads_in-heads.result c.take_out.new.heads _ _ _ value (omega (arith, c.ranges.id.fits)) are start.blocks start.free start.first is stands
+    removes_record c.args.id c.args.path.now.found.items c.args.header.now c.heads_in-heads.result c.take_out.new.heads _ _ _ value (omega (arith, c.ranges.id.fits)) are start.blocks start.free start.first is c.requires.found stands
     (took.taken known) took.blocks wrote.keeps (wrote.set (took.uses.known known))

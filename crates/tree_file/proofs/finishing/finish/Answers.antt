@@ -1,9 +1,11 @@
-use Rattle.std.proofs.Common.{length, List, sym, ap, ◌∙◌, arith}
+use Rattle.std.proofs.Common.{◌≡◌, length, List, inl, inr, sym, ap, ◌∙◌, arith}
+use Rattle.std.proofs.lemmas.Bool.{cases_Bool}
 use Rattle.std.proofs.lemmas.List.{take_all}
+use Rattle.outside.specs.Seen.{StoreSeen}
 use Rattle.quota_pages.specs.Flushed.{flushed_files}
-use Rattle.quota_pages.specs.Page.{Page, lent_count}
+use Rattle.quota_pages.specs.Page.{Page, is_some_lent, lent_count}
 use Rattle.quota_pages.specs.Pages.{name_of, pages_of}
-use Rattle.quota_pages.proofs.FlushLemmas.{counted_by-most, on_err}
+use Rattle.quota_pages.proofs.FlushLemmas.{counted_by-most, on_err, some_rose}
 use Rattle.tree_file.proofs.TornLemmas.{few_flushed, few_torn}
 use Rattle.tree_file.proofs.finishing.finish.Goals as goal
 
@@ -29,3 +31,16 @@ returns-in_err-flushed-clause-few g c = λ told. few_torn c.args.pages.now (g.S.
 pub returns-clause-few : goal.returns-clause-few
 returns-clause-few g c = λ told.
     few_flushed c.args.pages.now (g.S.Store.seen c.args.store.now).files (g.S.Store.seen c.sync.new.self).files (c.sync.ensures.leaves.files ∙ c.in_ok-flushed.ensures.flushed told)
+
+-- where no page was lent for writing nothing was written
+pub returns-clause-written : goal.returns-clause-written
+returns-clause-written g c =
+    let S = g.S.Store in
+    let pages = pages_of c.args.pages.now in
+    let synced = c.sync.ensures.leaves in
+    elim (cases_Bool (is_some_lent pages)) [
+      | inl some ↦ inr (omega (arith, some_rose pages (S.seen c.args.store.now).writes some, c.in_ok-flushed.ensures.writes, synced.writes))
+      | inr none ↦
+          let same : S.seen c.flush-flushed.new.store ≡ S.seen c.args.store.now = ap S.seen (c.in_ok-flushed.ensures.idle none).1 in
+          inl (synced.files ∙ ap (λ (seen : StoreSeen). seen.files) same, synced.writes ∙ ap (λ (seen : StoreSeen). seen.writes) same)
+    ]

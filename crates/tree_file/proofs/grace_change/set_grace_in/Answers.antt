@@ -3,8 +3,9 @@ use Rattle.file_blocks.specs.Block.{bytes_of}
 use Rattle.outside.specs.World.{World}
 use Rattle.quota_blocks.specs.QuotaFile.{ChangesBlocks}
 use Rattle.quota_pages.specs.Pages.{name_of}
-use Rattle.tree_file.proofs.TornLemmas.{few_same}
+use Rattle.tree_file.proofs.TornLemmas.{edits_flushed, few_same}
 use Rattle.tree_file.proofs.GraceChangeLemmas.{err_then, grace_left, graces_flushed, known_empty, ok_then}
+use Rattle.quota_blocks.proofs.EditsOneLemmas.{edits_one-read}
 use Rattle.tree_file.proofs.grace_change.set_grace_in.Goals as goal
 
 pub returns-in-Ok-clause-graced : goal.returns-in-Ok-clause-graced
@@ -35,3 +36,13 @@ returns-in-Ok-clause-few g c = λ told.
 
 pub returns-in-Err-clause-few : goal.returns-in-Err-clause-few
 returns-in-Err-clause-few g c = λ told. few_same (name_of c.args.pages.now) (g.S.Store.seen c.args.store.now).files (g.S.Store.seen c.lend_periods.new.store).files c.in-Err.ensures.kept.leaves.files
+
+pub returns-in-Ok-clause-leaves : goal.returns-in-Ok-clause-leaves
+returns-in-Ok-clause-leaves g c =
+    let S = g.S.Store in
+    let lends = c.in-Ok.ensures.lends in
+    edits_flushed (name_of c.args.pages.now) (name_of c.lend_periods.new.pages) (S.seen c.args.store.now) (S.seen c.lend_periods.new.store) (S.seen c.finish.new.store) lends.name lends.leaves c.finish.ensures.leaves c.finish.ensures.written
+
+pub returns-in-Err-clause-leaves : goal.returns-in-Err-clause-leaves
+returns-in-Err-clause-leaves g c =
+    edits_one-read (name_of c.args.pages.now) (g.S.Store.seen c.args.store.now) (g.S.Store.seen c.lend_periods.new.store) c.in-Err.ensures.kept.leaves

@@ -7,6 +7,9 @@ use Rattle.tree_file.specs.InPlace.{MayChange}
 use Rattle.tree_file.proofs.ChangedLemmas.{put_changes}
 use Rattle.tree_file.proofs.FlushedLemmas.{left_so, of_named, refused_shown, written}
 use Rattle.tree_file.proofs.GraceChangeLemmas.{known_empty}
+use Rattle.quota_blocks.proofs.EditsOneLemmas.{edits_one-read}
+use Rattle.quota_pages.specs.Pages.{name_of}
+use Rattle.tree_file.proofs.TornLemmas.{edits_flushed}
 use Rattle.tree_file.proofs.in_place.put_in.Goals as goal
 
 pub returns-in_ok-finish-in-Ok-clause-done : goal.returns-in_ok-finish-in-Ok-clause-done
@@ -45,3 +48,18 @@ pub returns-in-Err-clause-refused : goal.returns-in-Err-clause-refused
 returns-in-Err-clause-refused g c =
     let S = g.S.Store in
     refused_shown S.tells (S.seen c.args.store.now) c.args.pages.now c.requires.empty c.args.header.now (S.seen c.put_record.new.store).faults c.args.limit c.args.id c.in-Err.fault c.in-Err.ensures.refused
+
+pub returns-in_ok-finish-in-Ok-clause-leaves : goal.returns-in_ok-finish-in-Ok-clause-leaves
+returns-in_ok-finish-in-Ok-clause-leaves g c =
+    let S = g.S.Store in
+    let uses = c.in-Ok.ensures.uses in
+    edits_flushed (name_of c.args.pages.now) (name_of c.put_record.new.pages) (S.seen c.args.store.now) (S.seen c.put_record.new.store) (S.seen c.finish.new.store) uses.name uses.leaves c.finish.ensures.leaves c.finish.ensures.written
+
+pub returns-in_err-finish-in-Ok-clause-leaves : goal.returns-in_err-finish-in-Ok-clause-leaves
+returns-in_err-finish-in-Ok-clause-leaves g c =
+    let S = g.S.Store in
+    let uses = c.in-Ok.ensures.uses in
+    edits_flushed (name_of c.args.pages.now) (name_of c.put_record.new.pages) (S.seen c.args.store.now) (S.seen c.put_record.new.store) (S.seen c.finish.new.store) uses.name uses.leaves c.finish.ensures.leaves c.finish.ensures.written
+
+pub returns-in-Err-clause-leaves : goal.returns-in-Err-clause-leaves
+returns-in-Err-clause-leaves g c = edits_one-read (name_of c.args.pages.now) (g.S.Store.seen c.args.store.now) (g.S.Store.seen c.put_record.new.store) c.in-Err.ensures.uses.leaves
