@@ -3,7 +3,7 @@ use Rattle.std.proofs.Common.{◌≡◌, ℕ, Bool, true, false, Option, None, S
 use Rattle.std.specs.Prelude.{◌&&◌, is_none, if◌then◌else◌}
 use Rattle.std.specs.FinMap.{get}
 use Rattle.quota_types.specs.Kept.{kept_of}
-use Rattle.quota_types.specs.Range.{unfit}
+use Rattle.quota_types.specs.Range.{grace_unfit, unfit}
 use Rattle.quota_types.specs.Rec.{is_null_of, zero_record}
 use Rattle.quota_types.specs.Timers.{timers_of}
 use Rattle.quota_types.specs.declared.field.Field.{Field}
@@ -12,16 +12,17 @@ use Rattle.quota_types.specs.declared.record.Grace.{Grace}
 use Rattle.quota_types.specs.declared.record.Rec.{Rec}
 use Rattle.quota_types.proofs.KeptLemmas.{kept_null}
 use Rattle.quota_blocks.specs.Changes.{Changes, FileAt, FileLaws}
-use Rattle.quota_blocks.specs.FileChange.{FileChange, Put, Remove, changed_value, edit_by, has_nothing_to_do, may_lack_room}
-use Rattle.quota_blocks.specs.QuotaValue.{QuotaValue}
+use Rattle.quota_blocks.specs.FileChange.{FileChange, Put, Remove, SetGrace, changed_value, edit_by, has_nothing_to_do, may_lack_room}
+use Rattle.quota_blocks.specs.QuotaValue.{QuotaValue, with_grace}
 use Rattle.quota_blocks.specs.declared.quota_file.FileFault.{FileFault}
+use Rattle.outside.proofs.FrameLemmas.{only_reads-none}
 use Rattle.quota_blocks.proofs.LookupLemmas.{IsLookedUp, IsSameAt}
 use Rattle.set_edit.specs.declared.limits.Limits.{Limits}
 use Rattle.set_edit.specs.declared.skipped.Skipped.{Skipped}
 use Rattle.set_edit.specs.declared.time_word.TimeWord.{TimeWord}
 use Rattle.set_edit.specs.Edited.{change_to, edited, kept_change, unless_unfit, wanted_limits, with_kept, with_limits, with_or_without}
 use Rattle.set_edit.specs.Editing.{Edit, Edits, value_edit}
-use Rattle.set_edit.specs.Edits.{limits_edit, times_edit}
+use Rattle.set_edit.specs.Edits.{grace_edit, limits_edit, times_edit}
 use Rattle.set_edit.specs.Times.{found_or_zeros, skips_both, times_skipped, wanted_times, with_times}
 use Rattle.set_edit.proofs.EditingLemmas.{edit_answer, edits-changed}
 
@@ -126,3 +127,18 @@ times-edits id block inode now laws old mid new told result found format rec nex
     ∙ edited-fits value id _ next (is value holds).0 (is value holds).1)
     (λ value holds. change_to-is value.format id _ next (is value holds).1)
     (λ value holds. busy_same (get value.records id) (is_null_of next) (is value holds).2))
+
+-- grace periods for which the format has room are set by the change to them
+pub grace-edits : (grace : Grace) (laws : FileLaws) (old new : FileAt) (result : Result (Unit {0}) FileFault) (format : Format)
+    → Changes (SetGrace grace) laws old new result → ((value : QuotaValue) → old.holds value → format ≡ value.format)
+    → grace_unfit format grace ≡ None → Edits (grace_edit grace) laws old new (edit_answer (tt {0}) result)
+grace-edits grace laws old new result format changes is fits =
+    edits-changed (grace_edit grace) (SetGrace grace) laws old old new (tt {0}) result changes
+    (record { stays = λ value holds. holds; leaves = only_reads-none old.seen.name old.store; same = refl })
+    (record {
+      edited = λ value holds. ap (λ (out : Option (Field × ℕ)). unless_unfit out (with_grace value grace))
+          (subst (λ (f : Format). grace_unfit f grace ≡ None) (is value holds) fits);
+      change = λ value holds. refl;
+      idle = λ value holds. refl;
+      room = refl;
+    })
