@@ -34,7 +34,7 @@ use Rattle.run_steps.specs.Writes.{ReadsWithin}
 use Rattle.run_steps.specs.declared.invocation.Invocation.{Invocation}
 use Rattle.run_steps.proofs.PhaseLemmas.{carries_more, nothing_carried, stop_carried}
 use Rattle.edit_commands.specs.Apply.{ApplyMayRefuse}
-use Rattle.edit_commands.specs.Batch.{BatchMayRefuse}
+use Rattle.batch_commands.specs.Batch.{BatchMayRefuse}
 use Rattle.edit_commands.specs.EditWords.{names_wanted}
 use Rattle.edit_commands.specs.Edits.{EditMayRefuse, FileEditMayRefuse}
 use Rattle.edit_commands.specs.Print.{PrintMayRefuse}

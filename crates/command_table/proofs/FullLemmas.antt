@@ -9,7 +9,8 @@ use Rattle.run_steps.specs.Done.{Outside}
 use Rattle.run_steps.specs.Meaning.{EndsBy}
 use Rattle.run_steps.specs.declared.invocation.Invocation.{Invocation}
 use Rattle.edit_commands.specs.declared.edit.EditWords.TheVariants.{Limits, Copy, Grace, Times}
-use Rattle.edit_commands.proofs.FullLemmas.{form_full, lines_full, words_full}
+use Rattle.edit_commands.proofs.FullLemmas.{form_full, words_full}
+use Rattle.batch_commands.proofs.FullLemmas.{lines_full}
 use Rattle.command_table.specs.Description.{Description}
 use Rattle.command_table.specs.Table.{asked_by, described}
 

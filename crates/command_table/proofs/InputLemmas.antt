@@ -19,7 +19,7 @@ use Rattle.run_steps.specs.Naming.{NamesMayRefuse}
 use Rattle.run_steps.specs.Showing.{ShowingMayRefuse}
 use Rattle.run_steps.specs.Taking.{AForm, AListing, InputKind, InputMayRefuse, Lines}
 use Rattle.edit_commands.specs.Apply.{ApplyMayRefuse}
-use Rattle.edit_commands.specs.Batch.{BatchMayRefuse}
+use Rattle.batch_commands.specs.Batch.{BatchMayRefuse}
 use Rattle.edit_commands.specs.EditWords.{names_wanted}
 use Rattle.edit_commands.specs.Edits.{EditMayRefuse, FileEditMayRefuse}
 use Rattle.edit_commands.specs.Print.{PrintMayRefuse}

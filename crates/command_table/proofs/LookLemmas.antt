@@ -17,7 +17,8 @@ use Rattle.run_steps.specs.declared.invocation.Invocation.{Invocation}
 use Rattle.run_steps.proofs.RoomLemmas.{unless_one_full}
 use Rattle.run_steps.proofs.SameViewLemmas.{both_end_so, other_ends_so}
 use Rattle.edit_commands.specs.declared.edit.EditWords.TheVariants.{Limits, Copy, Grace, Times}
-use Rattle.edit_commands.proofs.LookLemmas.{apply_alike, apply_opens, batch_alike, batch_opens, edit_alike, edit_opens, grace_alike, print_alike, print_opens}
+use Rattle.edit_commands.proofs.LookLemmas.{apply_alike, apply_opens, edit_alike, edit_opens, grace_alike, print_alike, print_opens}
+use Rattle.batch_commands.proofs.LookLemmas.{batch_alike, batch_opens}
 use Rattle.file_commands.proofs.LookLemmas.{check_alike, check_opens, convert_alike, convert_opens, fresh_opens, generate_alike, generate_opens, report_alike, report_opens}
 use Rattle.serve_command.proofs.LookLemmas.{serve_alike, serve_opens}
 use Rattle.command_table.specs.Table.{described}

@@ -7,7 +7,8 @@ use Rattle.run_steps.specs.OneCommand.{LooksFirstBy, ReadsToEnd}
 use Rattle.run_steps.specs.declared.invocation.Invocation.{Invocation}
 use Rattle.run_steps.proofs.MeaningLemmas.{looks_wider}
 use Rattle.edit_commands.specs.declared.edit.EditWords.TheVariants.{Limits, Copy, Grace, Times}
-use Rattle.edit_commands.proofs.MeaningLemmas.{apply_looks, apply_reads, batch_looks, batch_reads, edit_looks, print_looks}
+use Rattle.edit_commands.proofs.MeaningLemmas.{apply_looks, apply_reads, edit_looks, print_looks}
+use Rattle.batch_commands.proofs.MeaningLemmas.{batch_looks, batch_reads}
 use Rattle.file_commands.proofs.GenerateStepLemmas.{generate_looks}
 use Rattle.file_commands.proofs.StepLemmas.{check_looks, check_reads, convert_looks, report_looks}
 use Rattle.rquota_serve.specs.Exported.{Exported, nothing_exported}

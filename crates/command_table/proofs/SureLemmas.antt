@@ -10,7 +10,8 @@ use Rattle.run_steps.specs.declared.invocation.Invocation.{Invocation}
 use Rattle.edit_commands.specs.Edits.{EditSteps}
 use Rattle.edit_commands.specs.declared.edit.EditWords.{EditWords}
 use Rattle.edit_commands.specs.declared.edit.EditWords.TheVariants.{Limits, Copy, Grace, Times}
-use Rattle.edit_commands.proofs.MeaningLemmas.{apply_sure, batch_sure, edit_sure, print_sure}
+use Rattle.edit_commands.proofs.MeaningLemmas.{apply_sure, edit_sure, print_sure}
+use Rattle.batch_commands.proofs.MeaningLemmas.{batch_sure}
 use Rattle.file_commands.proofs.GenerateStepLemmas.{generate_sure}
 use Rattle.file_commands.proofs.StepLemmas.{check_sure, convert_sure, report_sure}
 use Rattle.rquota_serve.specs.Exported.{Exported, nothing_exported}

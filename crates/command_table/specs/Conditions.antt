@@ -19,9 +19,10 @@ use Rattle.run_steps.specs.Numbers.{identifier_of}
 use Rattle.run_steps.specs.Taking.{input_said}
 use Rattle.run_steps.specs.declared.invocation.Invocation.{Invocation}
 use Rattle.edit_commands.specs.Apply.{form_step}
-use Rattle.edit_commands.specs.Batch.{Asked, batch_step}
+use Rattle.batch_commands.specs.Batch.{Asked, batch_step}
 use Rattle.edit_commands.specs.EditWords.{edit_meant, edit_read, names_wanted}
-use Rattle.edit_commands.specs.Room.{AllFit, Fits}
+use Rattle.batch_commands.specs.Room.{AllFit}
+use Rattle.edit_steps.specs.Room.{Fits}
 use Rattle.edit_commands.specs.declared.edit.EditWords.{EditWords}
 use Rattle.edit_commands.specs.declared.edit.FileEdit.{FileEdit}
 use Rattle.file_commands.specs.Check.{IsToBeChecked, checked, scan_step}

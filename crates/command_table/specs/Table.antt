@@ -20,12 +20,13 @@ use Rattle.run_steps.specs.Showing.{showing_uses}
 use Rattle.run_steps.specs.Steps.{Stop}
 use Rattle.run_steps.specs.declared.invocation.Invocation.{Invocation}
 use Rattle.edit_commands.specs.Apply.{ApplyMayRefuse, ApplySteps, apply_uses}
-use Rattle.edit_commands.specs.Batch.{BatchMayRefuse, BatchSteps, batch_reads, batch_uses}
+use Rattle.batch_commands.specs.Batch.{BatchMayRefuse, BatchSteps, batch_reads, batch_uses}
 use Rattle.edit_commands.specs.EditWords.{words_warn}
 use Rattle.edit_commands.specs.Edits.{EditMayRefuse, EditSteps, faulty_edit}
 use Rattle.edit_commands.specs.Made.{MakesWords}
 use Rattle.edit_commands.specs.Print.{PrintMayRefuse, PrintSteps, faulty_print}
-use Rattle.edit_commands.specs.Room.{IsFullForForm, IsFullForLine, IsFullForWords}
+use Rattle.edit_commands.specs.Room.{IsFullForForm, IsFullForWords}
+use Rattle.batch_commands.specs.Room.{IsFullForLine}
 use Rattle.edit_commands.specs.declared.edit.EditWords.{EditWords}
 use Rattle.edit_commands.specs.declared.edit.EditWords.TheVariants.{Limits, Copy, Grace, Times}
 use Rattle.file_commands.specs.Check.{CheckMayRefuse, CheckSteps, check_uses}

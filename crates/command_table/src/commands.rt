@@ -6,8 +6,9 @@ ghost use Rattle.command_table.specs.Table.{described};
 ghost use Rattle.refusals.specs.declared.reason.Refusal.{Refusal};
 
 use crate::usage::unknown_command;
+use batch_commands::apply_lines;
 use command_words::Command;
-use edit_commands::{EditWords, apply_by_word, apply_lines, edit_by_words, print_by_word};
+use edit_commands::{EditWords, apply_by_word, edit_by_words, print_by_word};
 use file_commands::{check_file, convert_file, generate_file, report_file};
 use quota_blocks::{Link, Sink, Source, Store};
 use refusals::Refusal;

@@ -4,7 +4,7 @@ use Rattle.quota_blocks.specs.Frame.{OnlyReads}
 use Rattle.quota_blocks.specs.QuotaFile.{FileSeen}
 use Rattle.quota_blocks.specs.Seen.{StoreSeen}
 use Rattle.quota_blocks.specs.World.{KeepsOthers}
-use Rattle.outside.proofs.FrameLemmas.{keeps_others-same, keeps_others-then}
+use Rattle.outside.proofs.FrameLemmas.{keeps_others-then}
 use Rattle.quota_types.specs.declared.file_kind.Format.{Format}
 use Rattle.quota_map.specs.AnyFile.{any_seen}
 use Rattle.quota_map.specs.View.{fresh_seen}
@@ -12,11 +12,8 @@ use Rattle.quota_map.specs.declared.any_file.AnyFile.{AnyFile}
 use Rattle.set_edit.specs.Editing.{Edit}
 use Rattle.set_edit.specs.declared.fault.EditFault.{EditFault}
 use Rattle.run_steps.specs.Writes.{EditsAlone}
-use Rattle.edit_commands.proofs.EditFileLemmas.{AnyEdits, few_writes}
-
--- calls that only read leave all files
-pub others-read : {done : Bool} (file name : List ℕ) (old new : StoreSeen) → OnlyReads done name old new → KeepsOthers file old.files new.files
-others-read file name old new read = keeps_others-same file old.files new.files read.files
+use Rattle.edit_steps.proofs.EditFileLemmas.{AnyEdits, few_writes}
+use Rattle.edit_steps.proofs.AloneLemmas.{others-read}
 
 pub others-after : {done : Bool} (file name : List ℕ) (old between new : StoreSeen) → OnlyReads done name old between → KeepsOthers file between.files new.files → KeepsOthers file old.files new.files
 others-after file name old between new read others = keeps_others-then file old.files between.files new.files (others-read file name old between read) others

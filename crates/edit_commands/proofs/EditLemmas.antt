@@ -1,33 +1,29 @@
--- From an edit of an opened file to what a command does that edits it.
-use Rattle.std.proofs.Common.{◌≡◌, ℕ, ◌+◌, ◌≤◌, Bool, true, false, IsTrue, List, [], ◌∷◌, ◌++◌, take, Option, None, Some, Ok, Err, Result, inr, if◌then◌else◌, refl, sym, ap, subst, ◌∙◌, arith, append-nil, append_assoc}
-use Rattle.std.specs.Prelude.{IsOkAnd}
+-- From an edit that was made to what a command does that edits a file, and warns.
+use Rattle.std.proofs.Common.{◌≡◌, ℕ, ◌+◌, ◌≤◌, Bool, true, false, IsTrue, List, [], ◌∷◌, ◌++◌, take, None, Ok, Err, inr, refl, sym, ap, subst, ◌∙◌, arith, append-nil, append_assoc}
 use Rattle.std.specs.List.{concat}
 use Rattle.std.proofs.lemmas.Bool.{false≢true}
-use Rattle.quota_types.specs.declared.field.Field.{Field}
 use Rattle.quota_blocks.specs.Count.{Rose}
-use Rattle.quota_blocks.specs.EditsOne.{EditsOne}
-use Rattle.quota_blocks.specs.Frame.{OnlyReads}
 use Rattle.quota_blocks.specs.QuotaValue.{QuotaValue}
 use Rattle.quota_blocks.specs.Seen.{SinkSeen, StoreSeen}
 use Rattle.quota_blocks.specs.Text.{AppendsPrefix}
 use Rattle.quota_blocks.specs.World.{World}
-use Rattle.quota_map.specs.View.{IsView}
 use Rattle.set_edit.specs.Editing.{Edit}
 use Rattle.refusals.specs.declared.cause.Cause.{Cause}
 use Rattle.refusals.specs.declared.cause.Cause.TheVariants.{SinkFault}
 use Rattle.refusals.specs.Refusals.{refusal_of}
-use Rattle.refusals.specs.Outcome.{Outcome, Passed}
-use Rattle.run_steps.specs.Act.{Act, Change, Follows, ToErr, answers, err_bytes, out_bytes}
+use Rattle.refusals.specs.Outcome.{Outcome}
+use Rattle.run_steps.specs.Act.{Act, Follows, ToErr, answers, err_bytes, out_bytes}
 use Rattle.run_steps.specs.Done.{AreDone, AreDoneInPart, RunSeen, RunTells}
 use Rattle.run_steps.specs.Run.{CarriesOut, HasSteps, IsDoneInPart}
 use Rattle.run_steps.specs.Steps.{DoingAll, Finish, Steps, Then}
-use Rattle.run_steps.specs.Changing.{blocks_after, edit_uses, written}
-use Rattle.edit_commands.specs.Batch.{value_left}
-use Rattle.edit_commands.specs.Edits.{IsSaidInPart, changed, edit_step, is_too_large, said_acts}
+use Rattle.run_steps.specs.Changing.{edit_uses}
+use Rattle.edit_commands.specs.Edits.{IsSaidInPart, said_acts}
+use Rattle.edit_steps.specs.EditStep.{edit_step}
 use Rattle.run_steps.proofs.ActLemmas.{answers-append, appends_nothing, err_bytes-append, follows-append, none_in_part, out_bytes-append}
-use Rattle.run_steps.proofs.DoingLemmas.{AreWritten, done_steps, written_none}
+use Rattle.run_steps.proofs.DoingLemmas.{AreWritten, done_steps}
 use Rattle.run_steps.proofs.PartLemmas.{acts_in_part, carried_whole}
-use Rattle.run_steps.proofs.WritesLemmas.{writes_for-before, writes_for-edit}
+use Rattle.run_steps.proofs.WritesLemmas.{writes_for-before}
+use Rattle.edit_steps.proofs.EditLemmas.{IsMade, acts_of, step_made, acts_written}
 
 -- what is seen once the store was used, and lines were said
 abbrev pub with_said : RunSeen → StoreSeen → SinkSeen → RunSeen
@@ -101,63 +97,6 @@ unsaid_case acts lines tells old store err true is are part = unsaid_told acts l
 unsaid_case acts lines tells old store err false is are part = said_up_to acts lines [] lines tells old store err are refl (λ told. absurd (false≢true (is ∙ told)))
 
 -- Edits that were made.
-
--- the acts of an edit: the change, unless nothing is to be done
-abbrev pub change_acts : List ℕ → QuotaValue → Bool → List Act
-change_acts name new idle = if idle then [] else Change name new ∷ []
-
--- an edited value is seen of the file, in which, as it was, there was room for it where something was to be done
-abbrev pub EditedSeen : List ℕ → Option (List ℕ) → StoreSeen → Edit → QuotaValue → Result QuotaValue (Field × ℕ) → Type 0
-EditedSeen name file store edit value edited =
-    IsOkAnd edited (λ (new : QuotaValue). IsView (store.files name) new.kind (Some new.format) (Ok new) × (edit.is_idle value ≡ false → is_too_large edit file new ≡ false))
-
--- What an edit of a value leaves that was made: where so much is told nothing is written where nothing is to be done, and the file
--- is seen as the edited value; and all other files stay, with twelve calls of `write` at most.
-pub record IsMade (name : List ℕ) (edit : Edit) (value : QuotaValue) (told : Type 0) (old new : StoreSeen) : Type 0 where
-  pub idle : told → IsTrue (edit.is_idle value) → OnlyReads true name old new
-  pub set : told → EditedSeen name (old.files name) new edit value (edit.edited value)
-  pub leaves : EditsOne name old new
-  pub few : new.writes ≤ old.writes + 12
-
--- where there is room, a change passes with its acts
-pub written_passes : (name : List ℕ) (blocks : ℕ) (new : QuotaValue) (idle large : Bool) → (idle ≡ false → large ≡ false) → written name blocks new idle large ≡ Passed (change_acts name new idle)
-written_passes name blocks new true large room = refl
-written_passes name blocks new false true room = let no = room refl in absurd (cc)
-written_passes name blocks new false false room = refl
-
--- the step of an edit that was made passes with its acts
-step_passes : (name : List ℕ) (edit : Edit) (file : Option (List ℕ)) (value : QuotaValue) (edited : Result QuotaValue (Field × ℕ)) (store : StoreSeen) → EditedSeen name file store edit value edited
-    → changed name edit file value edited ≡ Passed (change_acts name (value_left edited value) (edit.is_idle value))
-step_passes name edit file value (Ok new) store seen = written_passes name (blocks_after file new) new (edit.is_idle value) (is_too_large edit file new) seen.1
-step_passes name edit file value (Err out) store seen = absurd seen
-
-change_written : {done : Bool} (name : List ℕ) (new : QuotaValue) (idle : Bool) (old store : StoreSeen) → (IsTrue idle → OnlyReads done name old store)
-    → IsView (store.files name) new.kind (Some new.format) (Ok new) → EditsOne name old store → store.writes ≤ old.writes + 12 → AreWritten (change_acts name new idle) old store
-change_written name new true old store same view leaves few = written_none name old store (same refl)
-change_written name new false old store same view leaves few = record {
-  files = (store.files, (view, leaves.files), refl);
-  writes = writes_for-edit name new old.writes store.writes few;
-  out = refl;
-  err = refl;
-  answered = refl;
-}
-
-edited_written : {done : Bool} (name : List ℕ) (edit : Edit) (value : QuotaValue) (edited : Result QuotaValue (Field × ℕ)) (old store : StoreSeen)
-    → (IsTrue (edit.is_idle value) → OnlyReads done name old store) → EditedSeen name (old.files name) store edit value edited → EditsOne name old store → store.writes ≤ old.writes + 12
-    → AreWritten (change_acts name (value_left edited value) (edit.is_idle value)) old store
-edited_written name edit value (Ok new) old store same seen leaves few = change_written name new (edit.is_idle value) old store same seen.0 leaves few
-edited_written name edit value (Err out) old store same seen leaves few = absurd seen
-
--- the acts of an edit of a value
-abbrev pub acts_of : List ℕ → Edit → QuotaValue → List Act
-acts_of name edit value = change_acts name (value_left (edit.edited value) value) (edit.is_idle value)
-
-pub step_made : (name : List ℕ) (edit : Edit) (value : QuotaValue) (told : Type 0) (old store : StoreSeen) → IsMade name edit value told old store → told → edit_step name edit (old.files name) value ≡ Passed (acts_of name edit value)
-step_made name edit value told old store made is = step_passes name edit (old.files name) value (edit.edited value) store (made.set is)
-
--- its acts were done
-pub acts_written : (name : List ℕ) (edit : Edit) (value : QuotaValue) (told : Type 0) (old store : StoreSeen) → IsMade name edit value told old store → told → AreWritten (acts_of name edit value) old store
-acts_written name edit value told old store made is = edited_written name edit value (edit.edited value) old store (made.idle is) (made.set is) made.leaves made.few
 
 -- the steps of an edit with this outcome, which says these lines
 abbrev pub Saying : Outcome (List Act) → List (List ℕ) → Steps

@@ -1,16 +1,12 @@
 pub mod AlikeLemmas
 pub mod AloneLemmas
-pub mod BatchInputLemmas
-pub mod BatchLemmas
 pub mod EditFileLemmas
 pub mod EditLemmas
 pub mod FormLemmas
 pub mod FullLemmas
-pub mod LimitsLemmas
 pub mod LookLemmas
 pub mod MadeLemmas
 pub mod MeaningLemmas
-pub mod ReadsLemmas
 pub mod RefusedEditLemmas
 pub mod WarningLemmas
 pub mod WordLemmas

@@ -1,5 +1,5 @@
 -- What the commands of this crate look at: that their looks at the files are alike in two worlds, and which file they come to open.
-use Rattle.std.proofs.Common.{◌≡◌, inl, refl, ℕ, Bool, true, false, List, [], ◌∷◌, ◌++◌, Option, None, ap}
+use Rattle.std.proofs.Common.{◌≡◌, inl, refl, ℕ, Bool, true, false, List, ◌++◌, Option, None, ap}
 use Rattle.quota_types.specs.declared.file_kind.Kind.{Kind}
 use Rattle.quota_types.specs.declared.file_kind.Format.{Format}
 use Rattle.quota_blocks.specs.QuotaValue.{QuotaValue}
@@ -13,24 +13,21 @@ use Rattle.run_steps.specs.OneCommand.{AreSameSteps}
 use Rattle.run_steps.specs.Numbers.{grace_read, identifier_of}
 use Rattle.run_steps.specs.SameViews.{FileAsked, IsSameFile, LooksAlike, LooksAlikeBy, Opens}
 use Rattle.run_steps.specs.Showing.{ShowingSteps}
-use Rattle.run_steps.specs.Steps.{Doing, DoingAll, Finish, Looking, Opening, Steps, Then}
+use Rattle.run_steps.specs.Steps.{Doing, DoingAll, Finish, Looking, Steps, Then}
 use Rattle.run_steps.specs.declared.invocation.Invocation.{Invocation}
 use Rattle.run_steps.proofs.LookLemmas.{alike_done, alike_naming, alike_taking, alike_then, opens_done, opens_naming, opens_opening, opens_taking, opens_then}
-use Rattle.run_steps.proofs.LookingLemmas.{alike_doing, opens_doing}
-use Rattle.refusals.specs.declared.reason.Refusal.{Refusal}
 use Rattle.refusals.specs.Outcome.{Outcome, Passed, Refused, and_then}
-use Rattle.edit_commands.specs.declared.batch_line.LineEdit.{LineEdit}
 use Rattle.edit_commands.specs.declared.edit.EditWords.{EditWords}
 use Rattle.edit_commands.specs.declared.edit.FileEdit.{FileEdit}
 use Rattle.edit_commands.specs.declared.edit.EditWords.TheVariants.{Grace}
 use Rattle.edit_commands.specs.declared.edit.FileEdit.TheVariants.{Limits, Grace as Periods}
 use Rattle.edit_commands.specs.Apply.{ApplySteps, FormSteps, form_step}
-use Rattle.edit_commands.specs.Batch.{Applying, Asked, BatchSteps, EditsThen, ReadSteps, batch_step, edit_of, is_to_end, met_at, value_left}
-use Rattle.edit_commands.specs.Edits.{EditSteps, FileEditSteps, edit_step, said_acts, warnings}
+use Rattle.edit_commands.specs.Edits.{EditSteps, FileEditSteps, said_acts, warnings}
+use Rattle.edit_steps.specs.EditStep.{edit_step}
 use Rattle.edit_commands.specs.EditWords.{edit_meant, edit_read, names_wanted, skipped_by}
 use Rattle.edit_commands.specs.Print.{PrintSteps, form_on}
 use Rattle.set_edit.specs.declared.limits.Limits.{Limits as FourLimits}
-use Rattle.edit_commands.proofs.AlikeLemmas.{edit_steps_alike, line_steps_alike, step_same}
+use Rattle.edit_commands.proofs.AlikeLemmas.{edit_steps_alike, step_same}
 
 -- what comes of an edit
 abbrev Edited : FileEdit → List ℕ → Invocation → QuotaValue → List Act → Steps
@@ -79,22 +76,6 @@ apply_alike one other common from word file invocation names input = alike_namin
     alike_then true one other (identifier_of lines word) _ (λ id.
     alike_taking true one other from (λ limits. true) (form_step common.kind lines file id from) _ input (λ limits. room_edit_alike one other common.kind common.format (Limits id limits) file invocation)))
 
-lines_alike : (one other : World) (file : List ℕ) (now : ℕ) (lines : List LineEdit) (value : QuotaValue) (behind : Option Refusal) → LooksAlikeBy true one other (EditsThen file now lines value behind)
-lines_alike one other file now [] value behind = tt
-lines_alike one other file now (line ∷ lines) value behind =
-    let edit = edit_of line now in
-    let rest = EditsThen file now lines (value_left (edit.edited value) value) behind in
-    let next = λ (acts : List Act). DoingAll acts rest in (
-      line_steps_alike file edit (one file) (other file) value line.number next,
-      alike_then true one other (met_at line.number (edit_step file edit (one file) value)) next
-          (λ acts. alike_doing true one other acts rest (lines_alike one other file now lines (value_left (edit.edited value) value) behind)),
-    )
-
-pub batch_alike : (one other : World) (common : Common) (from : Option (List ℕ)) (file : List ℕ) (invocation : Invocation) → IsSameFile one other common.names → IsSameFile one other from
-    → LooksAlikeBy true one other (BatchSteps common from file invocation)
-batch_alike one other common from file invocation names input = alike_naming true one other common.kind common.names _ names (λ lines value.
-    alike_taking true one other from is_to_end (batch_step lines from) _ input (λ asked. lines_alike one other file invocation.now asked.edits value asked.refusal))
-
 -- The file that they open.
 
 -- it is the one of this name, for the kind and in the format that are asked for
@@ -135,25 +116,3 @@ apply_opens common from word file invocation old opened opens =
     opens_then is (identifier_of lines word) (next lines) old opened (λ id.
     opens_taking is from (λ limits. true) (form_step common.kind lines file id from) (λ (limits : FourLimits). FileEditSteps common.kind common.format (Limits id limits) file invocation) old opened (λ limits.
     file_edit_opens common (Limits id limits) file invocation old opened))) opens
-
--- edits of lines open none
-lines_open : (holds : Type 0) (file : List ℕ) (now : ℕ) (lines : List LineEdit) (value : QuotaValue) (behind : Option Refusal) (old : Outside) (opened : FileAsked) → Opens (EditsThen file now lines value behind) old opened → holds
-lines_open holds file now [] value behind old opened opens = absurd opens
-lines_open holds file now (line ∷ lines) value behind old opened opens =
-    let edit = edit_of line now in
-    let left = value_left (edit.edited value) value in
-    let rest = EditsThen file now lines left behind in
-    opens_then holds (met_at line.number (edit_step file edit (old.files file) value)) (λ (acts : List Act). DoingAll acts rest) old opened (λ acts more.
-    lines_open holds file now lines left behind old opened (opens_doing acts rest old opened more)) opens
-
-applying_opens : (holds : Type 0) (file : List ℕ) (now : ℕ) (value : QuotaValue) (asked : Asked) (old : Outside) (opened : FileAsked) → Opens (Applying file now value asked) old opened → holds
-applying_opens holds file now value asked old opened opens = lines_open holds file now asked.edits value asked.refusal old opened opens
-
-pub batch_opens : (common : Common) (from : Option (List ℕ)) (file : List ℕ) (invocation : Invocation) (old : Outside) (opened : FileAsked) → Opens (BatchSteps common from file invocation) old opened → IsFileOf common file opened
-batch_opens common from file invocation old opened opens =
-    let is = IsFileOf common file opened in
-    let next = λ (lines : List NameLine). Opening common.kind common.format file (ReadSteps lines from file invocation.now) in
-    opens_naming is common.kind common.names next old opened (λ lines.
-    opens_opening is common.kind common.format file (ReadSteps lines from file invocation.now) old opened (λ same. same) (λ value.
-    opens_taking is from is_to_end (batch_step lines from) (Applying file invocation.now value) old opened (λ asked.
-    applying_opens is file invocation.now value asked old opened))) opens

@@ -17,7 +17,7 @@ use Rattle.run_steps.specs.Naming.{names_seen}
 use Rattle.edit_commands.specs.EditWords.{names_wanted}
 use Rattle.edit_commands.specs.Made.{MakesNamed, MakesWords}
 use Rattle.edit_commands.specs.declared.edit.EditWords.{EditWords}
-use Rattle.edit_commands.proofs.EditFileLemmas.{AnyEdits}
+use Rattle.edit_steps.proofs.EditFileLemmas.{AnyEdits}
 
 -- an edit of a file that was just opened
 pub makes_opened : {T : Type 0} (file : List ℕ) (tells : Bool) (edit : Edit) (opened after : AnyFile) (first : World) (old new : StoreSeen) (value : QuotaValue) (format : Format) (told : T)

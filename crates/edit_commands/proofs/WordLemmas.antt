@@ -1,6 +1,6 @@
 -- Words that stand for identifiers, limits and times, of which one is faulty.
-use Rattle.std.proofs.Common.{◌≡◌, ℕ, Bool, true, false, cond, if◌then◌else◌, nat_lt, ◌^◌, List, [], ◌∷◌, length, Option, None, Some, Err, ◌⊎◌, inl, inr, refl, sym, ap, subst, ◌∙◌}
-use Rattle.std.specs.Prelude.{⊤, ◌&&◌, codes, is_none}
+use Rattle.std.proofs.Common.{◌≡◌, ℕ, true, false, if◌then◌else◌, nat_lt, ◌^◌, List, [], ◌∷◌, length, Option, None, Some, Err, ◌⊎◌, inl, inr, refl, sym, ap, subst, ◌∙◌}
+use Rattle.std.specs.Prelude.{◌&&◌, codes, is_none}
 use Rattle.std.proofs.lemmas.Option.{none-some}
 use Rattle.std.specs.Str.{all_ascii_digits, bytes_eq}
 use Rattle.id_names.specs.FirstMatch.{first_id}
@@ -25,25 +25,11 @@ use Rattle.run_steps.specs.Naming.{MayBeNames}
 use Rattle.edit_commands.specs.EditWords.{edit_read, edit_warns, words_warn}
 use Rattle.run_steps.specs.Numbers.{grace_read, identifier_of, known, limit_read, limits_read, number_or_refused, seconds_read, time_read}
 use Rattle.run_steps.proofs.PhaseLemmas.{stop_carried}
+use Rattle.edit_steps.proofs.OutcomeLemmas.{OnlyRefused, only_then, only_if}
 
 -- a refusal of a word that names nothing or is no number, which stands in no line
 abbrev pub IsOfWord : Refusal → Type 0
 IsOfWord refusal = ((refusal.cause ≡ UnknownName) ⊎ (refusal.cause ≡ BadNumber)) × (refusal.place ≡ nowhere)
-
--- an outcome that is refused only so
-abbrev pub OnlyRefused : {V : Type 0} → (Refusal → Type 0) → Outcome V → Type 0
-OnlyRefused so (Passed value) = ⊤
-OnlyRefused so (Refused refusal) = so refusal
-
-pub only_then : {V W : Type 0} (so : Refusal → Type 0) (outcome : Outcome V) (next : V → Outcome W) → OnlyRefused so outcome
-    → ((value : V) → OnlyRefused so (next value)) → OnlyRefused so (and_then outcome next)
-only_then so (Passed value) next one two = two value
-only_then so (Refused refusal) next one two = one
-
-pub only_if : {V : Type 0} (so : Refusal → Type 0) (test : Bool) (one other : Outcome V) → OnlyRefused so one → OnlyRefused so other
-    → OnlyRefused so (cond test one other)
-only_if so true one other a b = a
-only_if so false one other a b = b
 
 known_word : (found : Option ℕ) (word : List ℕ) → OnlyRefused IsOfWord (known found word)
 known_word (Some id) word = tt

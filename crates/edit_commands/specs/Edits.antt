@@ -1,51 +1,32 @@
 -- Commands that edit a file: new limits, those of another identifier, new grace periods, and new times. Source: the manual
 -- page of setquota; that the words are read from left to right, all before the file is opened, is this project's own.
-use Rattle.std.specs.Prelude.{◌≡◌, ◌<◌, ◌⊎◌, ℕ, IsTrue, Bool, nat_lt, ◌&&◌, if◌then◌else◌, List, [], ◌∷◌, ◌++◌, map, codes, Option, None, is_none, Result, Ok, Err}
+use Rattle.std.specs.Prelude.{◌≡◌, ◌⊎◌, ℕ, IsTrue, Bool, if◌then◌else◌, List, [], ◌∷◌, ◌++◌, map, codes, Option, None, is_none, Result, Ok, Err}
 use Rattle.std.specs.List.{concat}
 use Rattle.id_names.specs.NamesFile.{NameLine}
-use Rattle.quota_types.specs.declared.field.Field.{Field}
 use Rattle.quota_blocks.specs.QuotaValue.{QuotaValue}
 use Rattle.quota_blocks.specs.Text.{AppendsPrefix}
 use Rattle.quota_blocks.specs.World.{World}
-use Rattle.quota_map.specs.View.{IsOpenedAs, most_blocks}
-use Rattle.set_edit.specs.Editing.{Edit}
 use Rattle.set_edit.specs.declared.fault.EditFault.{EditFault}
-use Rattle.set_edit.specs.declared.fault.EditFault.TheVariants.{File, NoRoom as Unfit}
 use Rattle.set_edit.specs.declared.skipped.Skipped.{Skipped}
 use Rattle.quota_types.specs.declared.file_kind.Format.{Format}
 use Rattle.quota_types.specs.declared.file_kind.Kind.{Kind}
 use Rattle.refusals.specs.declared.cause.Cause.{Cause}
-use Rattle.refusals.specs.declared.cause.Cause.TheVariants.{SinkFault, NoRoom, Full}
+use Rattle.refusals.specs.declared.cause.Cause.TheVariants.{SinkFault}
 use Rattle.refusals.specs.declared.reason.Refusal.{Refusal}
 use Rattle.command_words.specs.declared.command.Common.{Common}
 use Rattle.edit_commands.specs.declared.edit.EditWords.{EditWords}
 use Rattle.edit_commands.specs.declared.edit.FileEdit.{FileEdit}
 use Rattle.run_steps.specs.Act.{Act, MayBeLeft, ToErr}
 use Rattle.run_steps.specs.Naming.{MayBeNames, NamesMayRefuse}
-use Rattle.run_steps.specs.Opening.{MayRefuseOpening, asks_tree, file_cause}
-use Rattle.refusals.specs.Outcome.{Outcome, Passed, Refused, refusal_in}
+use Rattle.run_steps.specs.Opening.{MayRefuseOpening}
+use Rattle.refusals.specs.Outcome.{Passed, Refused, refusal_in}
 use Rattle.refusals.specs.Line.{front_of}
 use Rattle.refusals.specs.Refusals.{refusal_of}
 use Rattle.refusals.specs.Status.{status_of}
-use Rattle.run_steps.specs.Changing.{blocks_after, written}
 use Rattle.run_steps.specs.Steps.{DoingAll, Finish, Looking, Naming, Opening, Steps, Then}
 use Rattle.run_steps.specs.declared.invocation.Invocation.{Invocation}
 use Rattle.edit_commands.specs.EditWords.{edit_meant, edit_read, edit_warns, names_wanted, skipped_by, skips_none}
-
--- The edit.
-
--- There is no room for the value in this file, as it is: with its records it would have more blocks than a file may have.
-abbrev pub is_too_large : Edit → Option (List ℕ) → QuotaValue → Bool
-is_too_large edit file new = edit.needs_room && nat_lt most_blocks (blocks_after file new)
-
--- the value of this file was edited, or the format has no room for a field
-abbrev pub changed : List ℕ → Edit → Option (List ℕ) → QuotaValue → Result QuotaValue (Field × ℕ) → Outcome (List Act)
-changed name edit file value (Ok new) = written name (blocks_after file new) new (edit.is_idle value) (is_too_large edit file new)
-changed name edit file value (Err out) = Refused (refusal_of (NoRoom (record { id = edit.id; field = out.0; value = out.1 })) name)
-
--- the value is edited that the file of this name, whose bytes are these, stands for
-abbrev pub edit_step : List ℕ → Edit → Option (List ℕ) → QuotaValue → Outcome (List Act)
-edit_step name edit file value = changed name edit file value (edit.edited value)
+use Rattle.edit_steps.specs.EditStep.{edit_step, ChangeMayRefuse}
 
 -- The warnings.
 
@@ -98,25 +79,10 @@ EditSteps common words file invocation =
 abbrev pub faulty_edit : Common → EditWords → Option Refusal
 faulty_edit common words = if is_none (names_wanted words common.names) then refusal_in (edit_read [] words) else None
 
--- what is said where an edit of an opened file was refused
-abbrev pub edit_cause : EditFault → Cause
-edit_cause (File fault) = file_cause fault
-edit_cause (Unfit out) = NoRoom out
-
 -- What stands of a file whose edit was refused for this cause: it is as it was, or, where something outside failed, what an edit of it
 -- to some value that failed may leave.
 abbrev pub IsLeftFor : Cause → (old left : Option (List ℕ)) → Type 0
 IsLeftFor cause old left = (left ≡ old) ⊎ ((status_of cause ≡ 4) × ((value : QuotaValue) × MayBeLeft value old left))
-
--- the causes for which the change of an opened file may be refused, whatever is told: a field of its format for which there
--- may be no room, or blocks, of which a tree file may have at most as many as the program allows
-abbrev pub ChangeMayRefuse : Option Format → Edit → List ℕ → Cause → List ℕ → Type 0
-ChangeMayRefuse asked edit file (NoRoom out) name =
-    (name ≡ file) × (out.id ≡ edit.id)
-    × ((format : Format) × IsOpenedAs asked format × edit.may_lack format (out.field, out.value))
-ChangeMayRefuse asked edit file (Full blocks limit) name =
-    IsTrue edit.needs_room × IsTrue (asks_tree asked) × (limit ≡ most_blocks) × (limit < blocks) × (name ≡ file)
-ChangeMayRefuse asked edit file _ name = ⊥
 
 -- the causes for which the edit of a file may be refused, whatever is told
 abbrev pub FileEditMayRefuse : Option Format → FileEdit → List ℕ → Cause → List ℕ → Type 0

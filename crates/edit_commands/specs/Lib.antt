@@ -1,5 +1,4 @@
 pub mod Apply
-pub mod Batch
 pub mod EditWords
 pub mod Edits
 pub mod Made

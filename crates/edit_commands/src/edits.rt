@@ -10,7 +10,7 @@ ghost use Rattle.refusals.specs.Outcome.{refusal_in};
 ghost use Rattle.run_steps.specs.Run.{CarriesOut};
 ghost use Rattle.run_steps.specs.Steps.{Then};
 ghost use Rattle.run_steps.specs.Writes.{EditsAlone};
-ghost use Rattle.edit_commands.specs.Edits.{EditMayRefuse, EditSteps, FileEditMayRefuse, FileEditSteps, IsLeftFor, NamedEditMayRefuse, edit_cause, faulty_edit, unskipped};
+ghost use Rattle.edit_commands.specs.Edits.{EditMayRefuse, EditSteps, FileEditMayRefuse, FileEditSteps, IsLeftFor, NamedEditMayRefuse, faulty_edit, unskipped};
 ghost use Rattle.run_steps.specs.Changing.{edit_uses};
 ghost use Rattle.edit_commands.specs.declared.edit.FileEdit.{FileEdit as FileEditOf};
 ghost use Rattle.edit_commands.specs.Made.{MakesEdit, MakesNamed, MakesWords};
@@ -21,12 +21,13 @@ use crate::edit::FileEdit;
 use crate::edit_words::{names_wanted, read_edit};
 use crate::warning::write_warnings;
 use command_words::Common;
+use edit_steps::edit_cause;
 use id_names::Names;
 use quota_blocks::{QuotaFile, Sink, Store};
 use quota_map::{AnyFile, open_file};
 use quota_types::{Format, Kind};
 use refusals::{Cause, Refusal, Word};
-use run_steps::{Invocation, file_cause, opening_cause, read_names};
+use run_steps::{Invocation, opening_cause, read_names};
 use set_edit::{EditFault, Skipped, copy_limits, set_grace_periods, set_limits, set_times};
 use std::alloc::Global;
 
@@ -187,15 +188,5 @@ fn unskipped(done: Result<(), EditFault>) -> Result<Skipped, EditFault>
             inode: false,
         }),
         Err(fault) => Err(fault),
-    }
-}
-
-/// What is said where an edit was refused.
-pub fn edit_cause(fault: EditFault) -> Cause
-    ensures { result ≡ edit_cause fault }
-{
-    match fault {
-        EditFault::File(fault) => file_cause(fault),
-        EditFault::NoRoom(out) => Cause::NoRoom(out),
     }
 }

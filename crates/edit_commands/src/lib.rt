@@ -1,12 +1,10 @@
-//! The commands that edit limits, grace periods and times: `setquota` in all its forms, and `edquota`.
+//! The commands that edit limits, grace periods and times of a file by words or by a form: `setquota` in all its forms but for
+//! `setquota -b`, and `edquota`.
 //!
 //! The one promise: each of them carries out its steps.
 #![tactic(auto)]
 
 mod apply;
-mod batch;
-mod batch_input;
-mod batch_line;
 mod edit;
 mod edit_words;
 mod edits;
@@ -16,7 +14,6 @@ mod print;
 mod warning;
 
 pub use apply::apply_by_word;
-pub use batch::apply_lines;
 pub use edit::EditWords;
 pub use edits::edit_by_words;
 pub use print::print_by_word;

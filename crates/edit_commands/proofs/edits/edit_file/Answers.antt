@@ -4,9 +4,11 @@ use Rattle.quota_blocks.specs.World.{World}
 use Rattle.outside.proofs.FrameLemmas.{are_synced, are_synced-read, are_synced-then}
 use Rattle.quota_map.specs.AnyFile.{any_seen}
 use Rattle.quota_map.specs.View.{fresh_seen}
-use Rattle.edit_commands.specs.Edits.{edit_cause, warnings}
+use Rattle.edit_steps.specs.EditStep.{edit_cause}
+use Rattle.edit_commands.specs.Edits.{warnings}
 use Rattle.edit_commands.specs.EditWords.{edit_meant, skipped_by}
-use Rattle.edit_commands.proofs.EditFileLemmas.{any_cause, any_made, any_left_for, any_refused, edit_may, file_edit_may, keeps_format, skips_quiet, skips_warn}
+use Rattle.edit_steps.proofs.EditFileLemmas.{any_cause, any_made, any_refused, edit_may}
+use Rattle.edit_commands.proofs.EditFileLemmas.{any_left_for, file_edit_may, keeps_format, skips_quiet, skips_warn}
 use Rattle.edit_commands.proofs.EditLemmas.{edit_made, edit_unsaid}
 use Rattle.edit_commands.proofs.RefusedEditLemmas.{edit_unmade, left_for-read}
 use Rattle.run_steps.proofs.LookingLemmas.{carries_looking}

@@ -1,4 +1,4 @@
-use Rattle.edit_commands.proofs.FullLemmas.{form_full, lines_full, words_full}
+use Rattle.edit_commands.proofs.FullLemmas.{form_full, words_full}
 use Rattle.edit_commands.proofs.laws.a_file_that_is_full_is_so_at_the_end.Goals as goal
 
 pub returns-clause-words : goal.returns-clause-words
@@ -6,6 +6,3 @@ returns-clause-words c common words file invocation old new acts refusal blocks 
 
 pub returns-clause-form : goal.returns-clause-form
 returns-clause-form c common from word file invocation old new acts refusal blocks limit ends is = form_full common from word file invocation old acts new refusal blocks limit ends is
-
-pub returns-clause-lines : goal.returns-clause-lines
-returns-clause-lines c common from file invocation old new acts refusal blocks limit ends is = lines_full common from file invocation old acts new refusal blocks limit ends is

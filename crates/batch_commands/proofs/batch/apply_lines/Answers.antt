@@ -1,0 +1,35 @@
+use Rattle.std.proofs.Common.{inl, inr, ap}
+use Rattle.std.proofs.lemmas.Result.{on_ok_weaker}
+use Rattle.outside.proofs.FrameLemmas.{are_synced-read, are_synced-then, keeps_others-then}
+use Rattle.run_steps.proofs.PhaseLemmas.{carries_naming, naming_refused}
+use Rattle.edit_steps.proofs.AloneLemmas.{others-read}
+use Rattle.batch_commands.proofs.ReadsLemmas.{named_within}
+use Rattle.batch_commands.proofs.batch.apply_lines.Goals as goal
+
+pub returns-in-Ok-clause-carries : goal.returns-in-Ok-clause-carries
+returns-in-Ok-clause-carries g c = λ out err link out_tells err_tells link_tells line.
+    let read = c.in-Ok.ensures in
+    carries_naming _ c.args.common.kind c.args.common.names c.in-Ok.names _ _ _ _ _ _ _ _ _ read.leaves read.read
+    (λ cause said may. inr (c.in-Ok.names, read.given, may))
+    (c.apply_named.ensures.carries out err link out_tells err_tells link_tells)
+
+pub returns-in-Ok-clause-synced : goal.returns-in-Ok-clause-synced
+returns-in-Ok-clause-synced g c =
+    on_ok_weaker c.apply_named.result (λ synced told. are_synced-then _ _ _ (are_synced-read _ _ _ c.in-Ok.ensures.leaves) (synced told)) c.apply_named.ensures.synced
+
+pub returns-in-Err-clause-carries : goal.returns-in-Err-clause-carries
+returns-in-Err-clause-carries g c = λ out err link out_tells err_tells link_tells line.
+    let read = c.in-Err.ensures in
+    naming_refused c.args.common.kind c.args.common.names _ _ _ _ _ _ _ read.leaves read.refused read.may (λ may. inl may) read.placed
+
+pub returns-in-Ok-clause-alone : goal.returns-in-Ok-clause-alone
+returns-in-Ok-clause-alone g c = keeps_others-then c.args.file _ _ _ (others-read c.args.file _ _ _ c.in-Ok.ensures.leaves) c.apply_named.ensures.alone
+
+pub returns-in-Err-clause-alone : goal.returns-in-Err-clause-alone
+returns-in-Err-clause-alone g c = others-read c.args.file _ _ _ c.in-Err.ensures.leaves
+
+pub returns-in-Ok-clause-reads : goal.returns-in-Ok-clause-reads
+returns-in-Ok-clause-reads g c =
+    let S = g.S.Store in
+    named_within c.args.common c.args.from c.args.file (g.I.Source.seen c.args.input.now).left c.apply_named.result _ _ c.in-Ok.names (S.seen c.args.store.now) (S.seen c.read_names.new.store) (S.seen c.apply_named.new.store)
+    c.in-Ok.ensures.given (λ none. ap S.seen (c.in-Ok.ensures.untouched none)) c.apply_named.ensures.reads

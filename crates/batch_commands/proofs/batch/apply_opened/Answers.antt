@@ -1,0 +1,96 @@
+use Rattle.std.proofs.Common.{false, Option, inl, inr, sym, ap, subst}
+use Rattle.std.specs.Prelude.{IfSome}
+use Rattle.std.proofs.lemmas.Bool.{false≢true}
+use Rattle.quota_blocks.specs.World.{World}
+use Rattle.outside.proofs.FrameLemmas.{are_synced-then, keeps_others-then}
+use Rattle.quota_map.specs.AnyFile.{HoldsAny}
+use Rattle.refusals.specs.declared.reason.Refusal.{Refusal}
+use Rattle.run_steps.specs.Taking.{Lines, input_name}
+use Rattle.batch_commands.specs.Batch.{Applying, Asked, IsOfLine, LineEditMayRefuse, is_to_end, line_uses}
+use Rattle.batch_commands.proofs.BatchLemmas.{ends_none, then_ended, then_refused, then_stopped}
+use Rattle.run_steps.proofs.PhaseLemmas.{placed_nowhere}
+use Rattle.run_steps.proofs.TakingLemmas.{carries_taking, fault_more, has_taken, input_refused}
+use Rattle.edit_steps.proofs.AloneLemmas.{others-read}
+use Rattle.batch_commands.proofs.ReadsLemmas.{asked_reads}
+use Rattle.batch_commands.proofs.batch.apply_opened.Goals as goal
+
+pub returns-in-Some-clause-carries : goal.returns-in-Some-clause-carries
+returns-in-Some-clause-carries g c = λ format as_asked value held out err link out_tells err_tells link_tells.
+    let took = c.in-Ok.ensures in
+    let asked : Asked = record { edits = c.in-Ok.batch.edits.items; refusal = c.in-Ok.batch.refusal } in
+    let may = subst (λ (o : Option Refusal). IfSome o (IsOfLine c.args.names.now (input_name c.args.from))) c.in-Some.is took.may_ask in
+    carries_taking _ c.args.from is_to_end _ (Applying c.args.file c.args.now value) asked line_uses _ _ _ _ _ _ _ _
+    took.leaves took.later (λ told. took.read told.store told.input)
+    (λ told. has_taken c.args.from (is_to_end asked) _ _ (took.behind told.input)
+    (λ all none. took.ended (ends_none asked.refusal all) none told.input)
+    (λ some. ap (λ i. (g.I.Source.seen i).left) (took.untouched some))) (λ cause said may. may)
+    (then_refused _ _ _ c.args.names.now (input_name c.args.from) asked c.in-Some.refusal (LineEditMayRefuse format c.args.file) _ _ _ _
+    c.in-Some.is may (inr (inr may.may))
+    (rw c.as_slice.ensures.value at (c.in-Ok-edit_all.ensures.carries format as_asked value
+    (λ told. subst (λ (files : World). HoldsAny g.S.Store.tells files c.args.opened value) (sym took.leaves.files) (held told))
+    (g.I.Source.seen c.take_batch.new.input) out err link g.I.Source.tells out_tells err_tells link_tells)))
+
+pub returns-in-Ok-edit_all-clause-carries : goal.returns-in-Ok-edit_all-clause-carries
+returns-in-Ok-edit_all-clause-carries g c = λ format as_asked value held out err link out_tells err_tells link_tells.
+    let took = c.in-Ok.ensures in
+    let asked : Asked = record { edits = c.in-Ok.batch.edits.items; refusal = c.in-Ok.batch.refusal } in
+    carries_taking _ c.args.from is_to_end _ (Applying c.args.file c.args.now value) asked line_uses _ _ _ _ _ _ _ _
+    took.leaves took.later (λ told. took.read told.store told.input)
+    (λ told. has_taken c.args.from (is_to_end asked) _ _ (took.behind told.input)
+    (λ all none. took.ended (ends_none asked.refusal all) none told.input)
+    (λ some. ap (λ i. (g.I.Source.seen i).left) (took.untouched some))) (λ cause said may. may)
+    (then_ended _ _ _ asked (LineEditMayRefuse format c.args.file) _ _ _ _ c.in-None.is
+    (rw c.as_slice.ensures.value at (c.in-Ok-edit_all.ensures.carries format as_asked value
+    (λ told. subst (λ (files : World). HoldsAny g.S.Store.tells files c.args.opened value) (sym took.leaves.files) (held told))
+    (g.I.Source.seen c.take_batch.new.input) out err link g.I.Source.tells out_tells err_tells link_tells)))
+
+pub returns-in-Ok-edit_all-clause-synced : goal.returns-in-Ok-edit_all-clause-synced
+returns-in-Ok-edit_all-clause-synced g c = λ told.
+    let took = c.in-Ok.ensures in
+    are_synced-then _ _ _
+    (record { none = took.synced c.in-None.is; changed = λ name. inr (ap (λ (files : World). files name) took.leaves.files) })
+    (c.in-Ok-edit_all.ensures.synced told)
+
+pub returns-in-Ok-clause-carries : goal.returns-in-Ok-clause-carries
+returns-in-Ok-clause-carries g c = λ format as_asked value held out err link out_tells err_tells link_tells.
+    let took = c.in-Ok.ensures in
+    let asked : Asked = record { edits = c.in-Ok.batch.edits.items; refusal = c.in-Ok.batch.refusal } in
+    carries_taking _ c.args.from is_to_end _ (Applying c.args.file c.args.now value) asked line_uses _ _ _ _ _ _ _ _
+    took.leaves took.later (λ told. took.read told.store told.input)
+    (λ told. has_taken c.args.from (is_to_end asked) _ _ (took.behind told.input)
+    (λ all none. took.ended (ends_none asked.refusal all) none told.input)
+    (λ some. ap (λ i. (g.I.Source.seen i).left) (took.untouched some))) (λ cause said may. may)
+    (then_stopped _ _ _ asked c.in-Err-edit_all.refusal (LineEditMayRefuse format c.args.file) _ _ _ _ (λ cause said may. inl may)
+    (rw c.as_slice.ensures.value at (c.in-Err-edit_all.ensures.carries format as_asked value
+    (λ told. subst (λ (files : World). HoldsAny g.S.Store.tells files c.args.opened value) (sym took.leaves.files) (held told))
+    (g.I.Source.seen c.take_batch.new.input) out err link g.I.Source.tells out_tells err_tells link_tells)))
+
+pub returns-clause-carries : goal.returns-clause-carries
+returns-clause-carries g c = λ format as_asked value held out err link out_tells err_tells link_tells.
+    let took = c.in-Err.ensures in
+    input_refused _ Lines c.args.from is_to_end _ (Applying c.args.file c.args.now value) _ _ _ _ _ _ _ took.leaves took.later
+    (fault_more _ _ _ _ _ _ _ c.in-Err.refusal c.in-Err.refusal.cause (λ rose. rose) (λ rose. rose) (λ told. (told.store, told.input)) took.refused)
+    (λ told. has_taken c.args.from false _ _ (took.behind told.input) (λ all. absurd (false≢true all))
+    (λ some. ap (λ i. (g.I.Source.seen i).left) (took.untouched some)))
+    took.may (inr (inl took.may)) (placed_nowhere line_uses c.in-Err.refusal took.placed)
+
+pub returns-in-Some-clause-alone : goal.returns-in-Some-clause-alone
+returns-in-Some-clause-alone g c = keeps_others-then c.args.file _ _ _ (others-read c.args.file _ _ _ c.in-Ok.ensures.leaves) c.in-Ok-edit_all.ensures.alone
+
+pub returns-in-Ok-edit_all-clause-alone : goal.returns-in-Ok-edit_all-clause-alone
+returns-in-Ok-edit_all-clause-alone g c = keeps_others-then c.args.file _ _ _ (others-read c.args.file _ _ _ c.in-Ok.ensures.leaves) c.in-Ok-edit_all.ensures.alone
+
+pub returns-in-Ok-clause-alone : goal.returns-in-Ok-clause-alone
+returns-in-Ok-clause-alone g c = keeps_others-then c.args.file _ _ _ (others-read c.args.file _ _ _ c.in-Ok.ensures.leaves) c.in-Err-edit_all.ensures.alone
+
+pub returns-clause-alone : goal.returns-clause-alone
+returns-clause-alone g c = others-read c.args.file _ _ _ c.in-Err.ensures.leaves
+
+pub returns-in-Ok-edit_all-clause-reads : goal.returns-in-Ok-edit_all-clause-reads
+returns-in-Ok-edit_all-clause-reads g c = λ none told input_told.
+    let S = g.S.Store in
+    let took = c.in-Ok.ensures in
+    let asked : Asked = record { edits = c.in-Ok.batch.edits.items; refusal = c.in-Ok.batch.refusal } in
+    asked_reads c.args.names.now c.args.from (S.seen c.args.store.now).files _ asked (S.seen c.args.store.now).reads (S.seen c.take_batch.new.store).reads _ none (took.read told input_told)
+    (ap (λ s. (S.seen s).reads) (took.unread none))
+    (rw c.as_slice.ensures.value at c.in-Ok-edit_all.ensures.reads)

@@ -1,0 +1,168 @@
+ghost use Rattle.std.specs.Prelude.{ℕ, ◌+◌, ◌*◌, ◌≤◌, Option, None, ◌≡◌, Bool, false, IsSome, IsTrue, OnOk, length};
+ghost use Rattle.quota_types.specs.declared.file_kind.Format.{Format as FormatOf};
+ghost use Rattle.quota_blocks.specs.Block.{file_of};
+ghost use Rattle.quota_blocks.specs.Frame.{AreSynced};
+ghost use Rattle.quota_blocks.specs.QuotaValue.{QuotaValue};
+ghost use Rattle.quota_blocks.specs.Seen.{LinkSeen, SinkSeen, SourceSeen};
+ghost use Rattle.quota_blocks.specs.World.{KeepsOthers};
+ghost use Rattle.quota_map.specs.View.{IsOpenedAs, fresh_seen, opening_reads};
+ghost use Rattle.run_steps.specs.Done.{seen_of, tells_of};
+ghost use Rattle.run_steps.specs.Run.{CarriesOut};
+ghost use Rattle.run_steps.specs.Steps.{Opening};
+ghost use Rattle.run_steps.specs.Writes.{ReadsWithin};
+ghost use Rattle.batch_commands.specs.Batch.{BatchMayRefuse, BatchSteps, LineSteps, LineEditMayRefuse, NamedBatchMayRefuse, ReadSteps, batch_reads, batch_uses, line_reads, line_uses};
+
+use crate::batch_input::{Batch, take_batch};
+use crate::batch_line::{LineEdit, at_line};
+use command_words::Common;
+use edit_steps::edit_cause;
+use id_names::Names;
+use quota_blocks::{QuotaFile, Source, Store};
+use quota_map::{AnyFile, open_file};
+use quota_types::{Format, Kind};
+use refusals::{Refusal, Word};
+use run_steps::{opening_cause, read_names};
+use set_edit::set_limits;
+use std::alloc::Global;
+
+/// Sets the limits that lines of an input ask for, up to the first that is refused, at the moment `now` in seconds since 1970.
+///
+/// # Errors
+///
+/// The names are not read, the file is not opened, the input is not read, or a line or its edit is refused.
+pub fn apply_lines<S: Store, I: Source>(
+    alloc: Global,
+    common: Common,
+    from: Option<Word>,
+    file: Word,
+    store: &mut S,
+    input: &mut I,
+    now: u64,
+) -> Result<(), Refusal>
+    ensures carries { (out err : SinkSeen) (link : LinkSeen) (out_tells err_tells link_tells : Bool) (line : Option ℕ)
+        → CarriesOut (BatchSteps common from file (record { now = now; line = line })) (batch_uses from) (BatchMayRefuse common from file)
+        (tells_of S.tells I.tells out_tells err_tells link_tells)
+        (seen_of (S.seen store.old) (I.seen input.old) out err link)
+        (seen_of (S.seen store.new) (I.seen input.new) out err link) result }
+    // No file but this one has changed, however it ended.
+    ensures alone { KeepsOthers file (S.seen store.old).files (S.seen store.new).files }
+    // Where it was done, what was written has been synced.
+    ensures synced { OnOk result (IsTrue S.tells → AreSynced (S.seen store.old) (S.seen store.new)) }
+    // Where it was done without a file of names, and out of the standard input, no more was read than the opening of the file takes, and
+    // seventeen blocks for each line that asks for an edit.
+    ensures reads { OnOk result (IsTrue S.tells → IsTrue I.tells
+        → ReadsWithin (batch_reads common from file (S.seen store.old).files (I.seen input.old).left) (S.seen store.old) (S.seen store.new)) }
+    ensures untouched { IsSome from → input.new ≡ input.old }
+    ensures keeps { I.keeps false input.old input.new }
+{
+    let Common {
+        kind,
+        format,
+        names,
+    } = common;
+    match read_names(alloc, kind, names, store) {
+        Ok(names) => apply_named(alloc, &names, kind, format, from, file, store, input, now),
+        Err(refusal) => Err(refusal),
+    }
+}
+
+/// Sets the limits that the lines of an input ask for, where these are the names.
+fn apply_named<S: Store, I: Source>(
+    alloc: Global,
+    names: &Names,
+    kind: Kind,
+    format: Option<Format>,
+    from: Option<Word>,
+    file: Word,
+    store: &mut S,
+    input: &mut I,
+    now: u64,
+) -> Result<(), Refusal>
+    ensures carries { (out err : SinkSeen) (link : LinkSeen) (out_tells err_tells link_tells : Bool)
+        → CarriesOut (Opening kind format file (ReadSteps names.now from file now))
+        (batch_uses from) (NamedBatchMayRefuse format from file names.now)
+        (tells_of S.tells I.tells out_tells err_tells link_tells)
+        (seen_of (S.seen store.old) (I.seen input.old) out err link)
+        (seen_of (S.seen store.new) (I.seen input.new) out err link) result }
+    ensures alone { KeepsOthers file (S.seen store.old).files (S.seen store.new).files }
+    ensures synced { OnOk result (IsTrue S.tells → AreSynced (S.seen store.old) (S.seen store.new)) }
+    ensures reads { from ≡ None → OnOk result (IsTrue S.tells → IsTrue I.tells → (S.seen store.new).reads ≤ (S.seen store.old).reads
+        + (opening_reads format (file_of (S.seen store.old).files file) + line_reads names.now (I.seen input.old).left)) }
+    ensures untouched { IsSome from → input.new ≡ input.old }
+    ensures keeps { I.keeps false input.old input.new }
+{
+    match open_file(alloc, store, file.as_str(), kind, format) {
+        Ok(opened) => apply_opened(alloc, names, opened, from, file, store, input, now),
+        Err(fault) => Err(Refusal::of(opening_cause(fault), file)),
+    }
+}
+
+/// Reads the lines of an input, and sets the limits that they ask for in an opened file.
+fn apply_opened<S: Store, I: Source>(
+    alloc: Global,
+    names: &Names,
+    mut opened: AnyFile,
+    from: Option<Word>,
+    file: Word,
+    store: &mut S,
+    input: &mut I,
+    now: u64,
+) -> Result<(), Refusal>
+    requires { ⟦<AnyFile as QuotaFile<S>>⟧.seen opened ≡ fresh_seen file (⟦<AnyFile as QuotaFile<S>>⟧.seen opened).format }
+    ensures carries { (asked : Option FormatOf) → IsOpenedAs asked (⟦<AnyFile as QuotaFile<S>>⟧.seen opened).format
+        → (value : QuotaValue) → (IsTrue S.tells → ⟦<AnyFile as QuotaFile<S>>⟧.holds opened store.old value)
+        → (out err : SinkSeen) (link : LinkSeen) (out_tells err_tells link_tells : Bool)
+        → CarriesOut (ReadSteps names.now from file now value) (batch_uses from) (NamedBatchMayRefuse asked from file names.now)
+        (tells_of S.tells I.tells out_tells err_tells link_tells)
+        (seen_of (S.seen store.old) (I.seen input.old) out err link)
+        (seen_of (S.seen store.new) (I.seen input.new) out err link) result }
+    ensures alone { KeepsOthers file (S.seen store.old).files (S.seen store.new).files }
+    ensures synced { OnOk result (IsTrue S.tells → AreSynced (S.seen store.old) (S.seen store.new)) }
+    ensures reads { from ≡ None → OnOk result (IsTrue S.tells → IsTrue I.tells
+        → (S.seen store.new).reads ≤ (S.seen store.old).reads + line_reads names.now (I.seen input.old).left) }
+    ensures untouched { IsSome from → input.new ≡ input.old }
+    ensures keeps { I.keeps false input.old input.new }
+{
+    match take_batch(alloc, names, from, store, input) {
+        Ok(batch) => {
+            let Batch { edits, refusal } = batch;
+            match edit_all(&mut opened, edits.as_slice(), file, store, now) {
+                Ok(()) => match refusal {
+                    Some(refusal) => Err(refusal),
+                    None => Ok(()),
+                },
+                Err(refusal) => Err(refusal),
+            }
+        }
+        Err(refusal) => Err(refusal),
+    }
+}
+
+/// Sets the limits that lines ask for in an opened file of this name, in order, up to the first edit that is refused.
+fn edit_all<S: Store>(
+    opened: &mut AnyFile,
+    lines: &[LineEdit],
+    file: Word,
+    store: &mut S,
+    now: u64,
+) -> Result<(), Refusal>
+    requires { ⟦<AnyFile as QuotaFile<S>>⟧.seen opened.old ≡ fresh_seen file (⟦<AnyFile as QuotaFile<S>>⟧.seen opened.old).format }
+    ensures carries { (asked : Option FormatOf) → IsOpenedAs asked (⟦<AnyFile as QuotaFile<S>>⟧.seen opened.old).format
+        → (value : QuotaValue) → (IsTrue S.tells → ⟦<AnyFile as QuotaFile<S>>⟧.holds opened.old store.old value)
+        → (input : SourceSeen) (out err : SinkSeen) (link : LinkSeen) (input_tells out_tells err_tells link_tells : Bool)
+        → CarriesOut (LineSteps file now lines.now value) line_uses (LineEditMayRefuse asked file)
+        (tells_of S.tells input_tells out_tells err_tells link_tells)
+        (seen_of (S.seen store.old) input out err link)
+        (seen_of (S.seen store.new) input out err link) result }
+    ensures alone { KeepsOthers file (S.seen store.old).files (S.seen store.new).files }
+    ensures synced { OnOk result (IsTrue S.tells → AreSynced (S.seen store.old) (S.seen store.new)) }
+    ensures reads { OnOk result ((S.seen store.new).reads ≤ (S.seen store.old).reads + 17 * length lines.now) }
+{
+    for line in lines {
+        match set_limits(opened, store, line.id, &line.limits, now) {
+            Ok(()) => {}
+            Err(fault) => return Err(at_line(line.number, Refusal::of(edit_cause(fault), file))),
+        }
+    }
+    Ok(())
+}

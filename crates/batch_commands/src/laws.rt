@@ -1,0 +1,21 @@
+//! Laws of the steps of a batch.
+
+ghost use Rattle.std.specs.Prelude.{◌≡◌, List, Option, Some, ℕ};
+ghost use Rattle.batch_commands.specs.Batch.{BatchSteps};
+ghost use Rattle.batch_commands.specs.Room.{IsFullForLine};
+ghost use Rattle.command_words.specs.declared.command.Common.{Common};
+ghost use Rattle.refusals.specs.declared.cause.Cause.TheVariants.{Full};
+ghost use Rattle.refusals.specs.declared.reason.Refusal.{Refusal};
+ghost use Rattle.run_steps.specs.Act.{Act};
+ghost use Rattle.run_steps.specs.Done.{Outside};
+ghost use Rattle.run_steps.specs.Meaning.{EndsBy};
+ghost use Rattle.run_steps.specs.declared.invocation.Invocation.{Invocation};
+
+/// Where the edit of a line is refused since a file is full, that file is the one that was to be edited, and at the end, as the lines
+/// before the refused one left it, it has no room for the edit: with the value that the edit makes of it, it would have more blocks
+/// than it may have.
+pub fn a_file_that_is_full_is_so_behind_lines()
+    ensures lines { (common : Common) (from : Option (List ℕ)) (file : List ℕ) (invocation : Invocation) (old new : Outside) (acts : List Act) (refusal : Refusal) (blocks limit : ℕ)
+        → EndsBy (BatchSteps common from file invocation) old acts new (Some refusal) → refusal.cause ≡ Full blocks limit
+        → (refusal.name ≡ file) × IsFullForLine common from file invocation.now old new.files blocks limit }
+{}

@@ -1,0 +1,10 @@
+-- That calls which only read leave all files.
+use Rattle.std.proofs.Common.{ℕ, Bool, List}
+use Rattle.quota_blocks.specs.Frame.{OnlyReads}
+use Rattle.quota_blocks.specs.Seen.{StoreSeen}
+use Rattle.quota_blocks.specs.World.{KeepsOthers}
+use Rattle.outside.proofs.FrameLemmas.{keeps_others-same}
+
+-- calls that only read leave all files
+pub others-read : {done : Bool} (file name : List ℕ) (old new : StoreSeen) → OnlyReads done name old new → KeepsOthers file old.files new.files
+others-read file name old new read = keeps_others-same file old.files new.files read.files

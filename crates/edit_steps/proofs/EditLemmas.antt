@@ -1,0 +1,79 @@
+-- From an edit of an opened file that was made to its acts.
+use Rattle.std.proofs.Common.{◌≡◌, ℕ, ◌+◌, ◌≤◌, Bool, true, false, IsTrue, List, [], ◌∷◌, Option, Some, Ok, Err, Result, if◌then◌else◌, refl, ap, ◌∙◌}
+use Rattle.std.specs.Prelude.{IsOkAnd}
+use Rattle.quota_types.specs.declared.field.Field.{Field}
+use Rattle.quota_blocks.specs.EditsOne.{EditsOne}
+use Rattle.quota_blocks.specs.Frame.{OnlyReads}
+use Rattle.quota_blocks.specs.QuotaValue.{QuotaValue}
+use Rattle.quota_blocks.specs.Seen.{StoreSeen}
+use Rattle.quota_map.specs.View.{IsView}
+use Rattle.set_edit.specs.Editing.{Edit}
+use Rattle.refusals.specs.Outcome.{Passed}
+use Rattle.run_steps.specs.Act.{Act, Change}
+use Rattle.run_steps.specs.Changing.{blocks_after, written}
+use Rattle.edit_steps.specs.EditStep.{value_left, changed, edit_step, is_too_large}
+use Rattle.run_steps.proofs.DoingLemmas.{AreWritten, written_none}
+use Rattle.run_steps.proofs.WritesLemmas.{writes_for-edit}
+use Rattle.edit_steps.specs.Room.{Fits}
+
+-- the acts of an edit: the change, unless nothing is to be done
+abbrev pub change_acts : List ℕ → QuotaValue → Bool → List Act
+change_acts name new idle = if idle then [] else Change name new ∷ []
+
+-- an edited value is seen of the file, in which, as it was, there was room for it where something was to be done
+abbrev pub EditedSeen : List ℕ → Option (List ℕ) → StoreSeen → Edit → QuotaValue → Result QuotaValue (Field × ℕ) → Type 0
+EditedSeen name file store edit value edited =
+    IsOkAnd edited (λ (new : QuotaValue). IsView (store.files name) new.kind (Some new.format) (Ok new) × (edit.is_idle value ≡ false → is_too_large edit file new ≡ false))
+
+-- What an edit of a value leaves that was made: where so much is told nothing is written where nothing is to be done, and the file
+-- is seen as the edited value; and all other files stay, with twelve calls of `write` at most.
+pub record IsMade (name : List ℕ) (edit : Edit) (value : QuotaValue) (told : Type 0) (old new : StoreSeen) : Type 0 where
+  pub idle : told → IsTrue (edit.is_idle value) → OnlyReads true name old new
+  pub set : told → EditedSeen name (old.files name) new edit value (edit.edited value)
+  pub leaves : EditsOne name old new
+  pub few : new.writes ≤ old.writes + 12
+
+-- where there is room, a change passes with its acts
+pub written_passes : (name : List ℕ) (blocks : ℕ) (new : QuotaValue) (idle large : Bool) → (idle ≡ false → large ≡ false) → written name blocks new idle large ≡ Passed (change_acts name new idle)
+written_passes name blocks new true large room = refl
+written_passes name blocks new false true room = let no = room refl in absurd (cc)
+written_passes name blocks new false false room = refl
+
+-- the step of an edit that was made passes with its acts
+step_passes : (name : List ℕ) (edit : Edit) (file : Option (List ℕ)) (value : QuotaValue) (edited : Result QuotaValue (Field × ℕ)) (store : StoreSeen) → EditedSeen name file store edit value edited
+    → changed name edit file value edited ≡ Passed (change_acts name (value_left edited value) (edit.is_idle value))
+step_passes name edit file value (Ok new) store seen = written_passes name (blocks_after file new) new (edit.is_idle value) (is_too_large edit file new) seen.1
+step_passes name edit file value (Err out) store seen = absurd seen
+
+change_written : {done : Bool} (name : List ℕ) (new : QuotaValue) (idle : Bool) (old store : StoreSeen) → (IsTrue idle → OnlyReads done name old store)
+    → IsView (store.files name) new.kind (Some new.format) (Ok new) → EditsOne name old store → store.writes ≤ old.writes + 12 → AreWritten (change_acts name new idle) old store
+change_written name new true old store same view leaves few = written_none name old store (same refl)
+change_written name new false old store same view leaves few = record {
+  files = (store.files, (view, leaves.files), refl);
+  writes = writes_for-edit name new old.writes store.writes few;
+  out = refl;
+  err = refl;
+  answered = refl;
+}
+
+edited_written : {done : Bool} (name : List ℕ) (edit : Edit) (value : QuotaValue) (edited : Result QuotaValue (Field × ℕ)) (old store : StoreSeen)
+    → (IsTrue (edit.is_idle value) → OnlyReads done name old store) → EditedSeen name (old.files name) store edit value edited → EditsOne name old store → store.writes ≤ old.writes + 12
+    → AreWritten (change_acts name (value_left edited value) (edit.is_idle value)) old store
+edited_written name edit value (Ok new) old store same seen leaves few = change_written name new (edit.is_idle value) old store same seen.0 leaves few
+edited_written name edit value (Err out) old store same seen leaves few = absurd seen
+
+-- the acts of an edit of a value
+abbrev pub acts_of : List ℕ → Edit → QuotaValue → List Act
+acts_of name edit value = change_acts name (value_left (edit.edited value) value) (edit.is_idle value)
+
+pub step_made : (name : List ℕ) (edit : Edit) (value : QuotaValue) (told : Type 0) (old store : StoreSeen) → IsMade name edit value told old store → told → edit_step name edit (old.files name) value ≡ Passed (acts_of name edit value)
+step_made name edit value told old store made is = step_passes name edit (old.files name) value (edit.edited value) store (made.set is)
+
+-- its acts were done
+pub acts_written : (name : List ℕ) (edit : Edit) (value : QuotaValue) (told : Type 0) (old store : StoreSeen) → IsMade name edit value told old store → told → AreWritten (acts_of name edit value) old store
+acts_written name edit value told old store made is = edited_written name edit value (edit.edited value) old store (made.idle is) (made.set is) made.leaves made.few
+
+-- the step of an edit that fits passes
+pub step_fits : (name : List ℕ) (edit : Edit) (file : Option (List ℕ)) (value new : QuotaValue) → Fits edit file value new → edit_step name edit file value ≡ Passed (change_acts name new (edit.is_idle value))
+step_fits name edit file value new fits =
+    ap (λ (r : Result QuotaValue (Field × ℕ)). changed name edit file value r) fits.0 ∙ written_passes name (blocks_after file new) new (edit.is_idle value) (is_too_large edit file new) fits.1

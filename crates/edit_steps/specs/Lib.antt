@@ -1,0 +1,2 @@
+pub mod EditStep
+pub mod Room
