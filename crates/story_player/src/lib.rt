@@ -62,26 +62,9 @@
 #![tactic(auto)]
 
 mod files;
-mod gather;
-mod objects;
 mod play;
-mod program;
 mod reading;
-mod report_head;
-mod runs;
-mod scripts;
-mod setting;
-mod stage;
-mod sweeps;
-mod telling;
-mod torn;
-mod turning;
-mod verbs;
-mod watched;
-mod wrong;
 
 pub use files::FILES;
-pub use objects::Streams;
 pub use play::failure_of;
-pub use program::Program;
-pub use watched::{Diary, Watched};
+pub use story_stage::{Diary, Program, Streams, Watched};

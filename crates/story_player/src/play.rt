@@ -1,13 +1,8 @@
-use crate::Program;
-use crate::gather::gather;
 use crate::reading::read;
-use crate::setting::set_up;
-use crate::stage::Stage;
-use crate::sweeps::run;
-use crate::telling::{is_all_told, is_all_used, tell};
-use crate::verbs::{VERBS, Verb, verb_in};
-use crate::wrong::{NO_LINE, Told, Wrong, unmet};
 use std::alloc::{AllocError, Global};
+use story_lines::{gather, is_all_told, is_all_used, set_up, tell};
+use story_runs::run;
+use story_stage::{NO_LINE, Program, Runs, Stage, Told, VERBS, Verb, Wrong, unmet, verb_in};
 
 /// What fails in stories that are carried out one behind the other, in words: the title of the row, the line that does not
 /// hold, and what was there instead. `None` where all of them hold. What a story keeps is there in those behind it.
@@ -64,7 +59,7 @@ fn describe(stage: &Stage, line: &str, why: Wrong) -> Result<String, AllocError>
 }
 
 /// That everything was told of the last run, after which there is none.
-pub(crate) fn is_finished(stage: &mut Stage) -> Told {
+fn is_finished(stage: &mut Stage) -> Told {
     let alloc = stage.alloc;
     if let Some(read) = stage.read.take() {
         return Err(Wrong::Said(read));
@@ -91,6 +86,18 @@ fn begin_row(stage: &mut Stage, line: &str) -> Told {
     Ok(())
 }
 
+/// Runs words, where everything was told of the last run.
+fn run_next<P: Program>(program: &P, stage: &mut Stage, how: Runs, rest: &str) -> Told {
+    is_finished(stage)?;
+    run(program, stage, how, rest)
+}
+
+/// Reads words, where everything was told of the last run.
+fn read_next<P: Program>(program: &P, stage: &mut Stage, line: &str, in_script: bool) -> Told {
+    is_finished(stage)?;
+    read(program, stage, line, in_script)
+}
+
 /// Carries out a line.
 fn take_line<P: Program>(program: &P, stage: &mut Stage, line: &str) -> Told {
     if line.is_empty() {
@@ -101,8 +108,8 @@ fn take_line<P: Program>(program: &P, stage: &mut Stage, line: &str) -> Told {
         Some(Verb::Row) => begin_row(stage, line),
         Some(Verb::Gather(what)) => gather(stage, what, rest),
         Some(Verb::Set(what)) => set_up(stage, what, rest),
-        Some(Verb::Run(how)) => run(program, stage, how, rest),
-        Some(Verb::Read { in_script }) => read(program, stage, line, in_script),
+        Some(Verb::Run(how)) => run_next(program, stage, how, rest),
+        Some(Verb::Read { in_script }) => read_next(program, stage, line, in_script),
         Some(Verb::Tell(what)) => tell(stage, what, rest),
         None => unmet(stage.alloc, NO_LINE),
     }

@@ -1,8 +1,5 @@
-use crate::Program;
-use crate::play::is_finished;
-use crate::stage::Stage;
-use crate::wrong::Told;
 use std::alloc::{AllocError, Global};
+use story_stage::{Program, Stage, Told};
 
 /// The words behind the verb of a line. A verb alone has none behind it; a verb and a space have one, of no bytes.
 fn words_behind(alloc: Global, line: &str) -> Result<Vec<String>, AllocError> {
@@ -20,7 +17,6 @@ pub(crate) fn read<P: Program>(
     line: &str,
     in_script: bool,
 ) -> Told {
-    is_finished(stage)?;
     let words = words_behind(stage.alloc, line)?;
     stage.read = Some(program.read(stage.alloc, &words, in_script)?);
     Ok(())

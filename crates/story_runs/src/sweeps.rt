@@ -1,23 +1,18 @@
-use crate::Program;
-use crate::objects::{calls_made, link_calls_made, reads_made};
-use crate::play::is_finished;
-use crate::runs::{Ran, run_line, run_over};
-use crate::scripts::{is_fault_line, last_line};
-use crate::setting::calls_of;
-use crate::stage::{Last, NamedBytes, Setting, Stage, copied, find, has_name, set};
-use crate::telling::instead;
+use crate::made_calls::{NEVER, calls_made, link_calls_made, reads_made};
 use crate::torn::is_torn;
 use crate::turning::run_turn;
-use crate::verbs::Runs;
-use crate::wrong::{Told, Wrong, holds_if, is_number, unmet};
 use std::alloc::Global;
-
-/// A call that no run of a story makes, so that it is known how many it made.
-const NEVER: u64 = 10_000;
+use story_stage::{
+    Last, NamedBytes, Program, Ran, Runs, Setting, Stage, Told, Wrong, copied, find, has_name,
+    holds_if, instead, is_fault_line, is_number, last_line, run_line, run_over, set, unmet,
+};
 
 /// Carries out a line that runs words.
-pub(crate) fn run<P: Program>(program: &P, stage: &mut Stage, how: Runs, rest: &str) -> Told {
-    is_finished(stage)?;
+///
+/// # Errors
+///
+/// The line does not hold, or there was not enough memory.
+pub fn run<P: Program>(program: &P, stage: &mut Stage, how: Runs, rest: &str) -> Told {
     let mut setting = taken_setting(stage);
     let ran = run_so(program, stage, &mut setting, how, rest)?;
     go_on(stage, ran)
@@ -72,7 +67,7 @@ fn is_said_of_file(by_input: &[u8], by_file: &[u8]) -> bool {
 }
 
 /// Whether some files are the same as others, apart from one of a name.
-pub(crate) fn are_same(files: &[NamedBytes], others: &[NamedBytes], but: &str) -> bool {
+fn are_same(files: &[NamedBytes], others: &[NamedBytes], but: &str) -> bool {
     let mut are_same = true;
     for (name, bytes) in files {
         let is_same = name.as_str() == but || find(others, name.as_str()) == Some(bytes);
@@ -138,7 +133,7 @@ fn run_both<P: Program>(
 /// How many calls of an object a run made, of which the last planned one is [`NEVER`].
 fn made_calls(ran: &mut Ran, object: &str) -> u64 {
     match object {
-        "store" => ran.store.diary.calls,
+        "store" => ran.calls,
         "input" => reads_made(&mut ran.streams.input, NEVER),
         "output" => calls_made(&mut ran.streams.out, NEVER),
         "error" => calls_made(&mut ran.streams.err, NEVER),
@@ -148,7 +143,7 @@ fn made_calls(ran: &mut Ran, object: &str) -> u64 {
 
 /// Sets the one call of an object that is to fail.
 fn plan(alloc: Global, setting: &mut Setting, object: &str, call: u64) -> Told {
-    let Some(calls) = calls_of(&mut setting.failing, object) else {
+    let Some(calls) = setting.failing.calls_of(object) else {
         return unmet(alloc, "there is no such object");
     };
     calls.clear();

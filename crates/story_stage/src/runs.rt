@@ -1,43 +1,14 @@
-use crate::Program;
 use crate::objects::Streams;
+use crate::program::Program;
+use crate::ran::Ran;
 use crate::scripts::add_words;
 use crate::stage::{NamedBytes, Setting, Stage, find};
 use crate::watched::Watched;
 use crate::wrong::{Wrong, holds_if};
 use std::alloc::{AllocError, Global};
 
-/// What a run left.
-#[derive(Drop)]
-pub(crate) struct Ran {
-    pub status: u8,
-    pub store: Watched,
-    pub streams: Streams,
-    /// The files that are there, of those that were there before and of those that the words or a script name.
-    pub files: Vec<NamedBytes>,
-    /// The words, and behind them those of the lines of a script.
-    pub words: Vec<String>,
-    /// How many blocks were read and written.
-    pub reads: u64,
-    pub writes: u64,
-}
-
-impl Ran {
-    pub(crate) fn out(&self) -> &[u8] {
-        self.streams.out.bytes()
-    }
-
-    pub(crate) fn err(&self) -> &[u8] {
-        self.streams.err.bytes()
-    }
-
-    /// How many bytes of the input are left.
-    pub(crate) fn left(&self) -> u64 {
-        self.streams.input.left().len() as u64
-    }
-}
-
 /// The words of a line, parted by single spaces.
-pub(crate) fn words_of(alloc: Global, line: &str) -> Result<Vec<String>, AllocError> {
+fn words_of(alloc: Global, line: &str) -> Result<Vec<String>, AllocError> {
     let mut words = Vec::new(alloc);
     if line.is_empty() {
         return Ok(words);
@@ -115,17 +86,22 @@ fn run_words<P: Program>(
     let writes = store.store.writes().saturating_sub(writes);
     Ok(Ran {
         status,
-        store,
         streams,
         files: after,
         words,
         reads,
         writes,
+        calls: store.diary.calls,
+        noted: store.diary.noted,
     })
 }
 
-/// Runs the words of a line over these files. They must call nothing that they were not given.
-pub(crate) fn run_over<P: Program>(
+/// Runs the words of a line over these files.
+///
+/// # Errors
+///
+/// They called what they were not given, or there was not enough memory.
+pub fn run_over<P: Program>(
     program: &P,
     stage: &Stage,
     files: &[NamedBytes],
@@ -140,7 +116,11 @@ pub(crate) fn run_over<P: Program>(
 }
 
 /// Runs the words of a line over the files that are there.
-pub(crate) fn run_line<P: Program>(
+///
+/// # Errors
+///
+/// They called what they were not given, or there was not enough memory.
+pub fn run_line<P: Program>(
     program: &P,
     stage: &Stage,
     setting: &Setting,

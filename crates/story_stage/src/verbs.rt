@@ -1,6 +1,6 @@
 /// What a line does, by its verb.
 #[derive(Clone, Copy)]
-pub(crate) enum Verb {
+pub enum Verb {
     /// It begins a row.
     Row,
     /// It gathers bytes.
@@ -9,15 +9,18 @@ pub(crate) enum Verb {
     Set(Set),
     /// It runs words.
     Run(Runs),
-    /// Its words are read as a command, in a script or outside of one.
-    Read { in_script: bool },
+    /// Its words are read as a command.
+    Read {
+        /// Whether as one of a script.
+        in_script: bool,
+    },
     /// It says what the last run left.
     Tell(Tell),
 }
 
-/// How a line gathers bytes.
+/// How a line gathers bytes; `VERBS` has the word of each.
 #[derive(Clone, Copy)]
-pub(crate) enum Gather {
+pub enum Gather {
     Line,
     Raw,
     Hex,
@@ -33,9 +36,9 @@ pub(crate) enum Gather {
     Keep,
 }
 
-/// What a line sets.
+/// What a line sets; `VERBS` has the word of each.
 #[derive(Clone, Copy)]
-pub(crate) enum Set {
+pub enum Set {
     File,
     NoFile,
     Input,
@@ -49,16 +52,20 @@ pub(crate) enum Set {
 
 /// How words are run.
 #[derive(Clone, Copy)]
-pub(crate) enum Runs {
+pub enum Runs {
+    /// Once.
     Once,
+    /// By the standard input, and by a file.
     Both,
+    /// With each call of an object failing in turn.
     Sweep,
+    /// Over a store that turns, after each number of reads.
     Turn,
 }
 
-/// Of what a line tells.
+/// Of what a line tells; `VERBS` has the word of each.
 #[derive(Clone, Copy)]
-pub(crate) enum Tell {
+pub enum Tell {
     /// What the words were read as.
     Read,
     Status,
@@ -79,22 +86,28 @@ pub(crate) enum Tell {
 
 /// What a line says of a file, beside what it was before the run.
 #[derive(Clone, Copy)]
-pub(crate) enum OfFile {
+pub enum OfFile {
+    /// It is the same.
     Same,
+    /// It is another one.
     Other,
+    /// It is not there.
     Absent,
 }
 
-/// What a line says of the gathered bytes: they are all those of a file, the first ones, or some of them.
+/// What a line says of the gathered bytes.
 #[derive(Clone, Copy)]
-pub(crate) enum OfBytes {
+pub enum OfBytes {
+    /// They are all those of a file.
     All,
+    /// They are the first ones.
     Start,
+    /// They are some of them, one behind the other.
     Part,
 }
 
-/// Each verb.
-pub(crate) const VERBS: &[(&str, Verb)] = &[
+/// Each verb, by its word.
+pub const VERBS: &[(&str, Verb)] = &[
     ("=", Verb::Row),
     ("text", Verb::Gather(Gather::Line)),
     ("raw", Verb::Gather(Gather::Raw)),
@@ -146,7 +159,7 @@ pub(crate) const VERBS: &[(&str, Verb)] = &[
 ];
 
 /// The verb of a word, among some.
-pub(crate) fn verb_in(verbs: &[(&str, Verb)], word: &str) -> Option<Verb> {
+pub fn verb_in(verbs: &[(&str, Verb)], word: &str) -> Option<Verb> {
     for (known, verb) in verbs {
         if *known == word {
             return Some(*verb);

@@ -1,9 +1,11 @@
-use crate::stage::{Failing, Stage, find, set};
-use crate::verbs::Set;
-use crate::wrong::{Told, Wrong, number, unmet};
+use story_stage::{Set, Stage, Told, Wrong, find, number, set, unmet};
 
 /// Carries out a line that sets a file, or what the next run meets.
-pub(crate) fn set_up(stage: &mut Stage, what: Set, rest: &str) -> Told {
+///
+/// # Errors
+///
+/// The line does not hold, or there was not enough memory.
+pub fn set_up(stage: &mut Stage, what: Set, rest: &str) -> Told {
     match what {
         Set::File => set_file(stage, rest),
         Set::NoFile => drop_file(stage, rest),
@@ -56,23 +58,11 @@ fn set_turn(stage: &mut Stage, rest: &str) -> Told {
     Ok(())
 }
 
-/// The calls of an object that are to fail.
-pub(crate) fn calls_of<'a>(failing: &'a mut Failing, object: &str) -> Option<&'a mut Vec<u64>> {
-    match object {
-        "store" => Some(&mut failing.store),
-        "input" => Some(&mut failing.input),
-        "output" => Some(&mut failing.output),
-        "error" => Some(&mut failing.error),
-        "link" => Some(&mut failing.link),
-        _ => None,
-    }
-}
-
 fn set_failing(stage: &mut Stage, rest: &str) -> Told {
     let (object, calls) = rest.split_once(' ').unwrap_or((rest, ""));
     for word in calls.split(' ') {
         let call = number(stage.alloc, word)?;
-        let Some(plan) = calls_of(&mut stage.setting.failing, object) else {
+        let Some(plan) = stage.setting.failing.calls_of(object) else {
             return unmet(stage.alloc, "there is no such object");
         };
         plan.push(call).map_err(|_| Wrong::Memory)?;

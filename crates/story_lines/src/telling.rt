@@ -1,11 +1,16 @@
 use crate::report_head::head_of;
-use crate::stage::{Last, NamedBytes, Stage, find, has_name};
-use crate::verbs::{OfBytes, OfFile, Tell};
-use crate::wrong::{NO_LINE, Told, Wrong, holds_if, is_number, number, unmet};
 use std::alloc::Global;
+use story_stage::{
+    Last, NO_LINE, NamedBytes, OfBytes, OfFile, Stage, Tell, Told, Wrong, find, has_name, holds_if,
+    instead, is_number, number, unmet,
+};
 
 /// Carries out a line that says what the last run left.
-pub(crate) fn tell(stage: &mut Stage, what: Tell, rest: &str) -> Told {
+///
+/// # Errors
+///
+/// The line does not hold, or there was not enough memory.
+pub fn tell(stage: &mut Stage, what: Tell, rest: &str) -> Told {
     match what {
         Tell::Read => tell_read(stage, rest),
         Tell::Bytes(says) => tell_bytes(stage, rest, says),
@@ -55,22 +60,16 @@ fn tell_number(alloc: Global, is: u64, rest: &str) -> Told {
 }
 
 fn tell_calls(alloc: Global, last: &Last, rest: &str) -> Told {
-    if last.ran.store.diary.noted.as_str().trim_end() == rest {
+    if last.ran.noted.as_str().trim_end() == rest {
         return Ok(());
     }
-    Err(Wrong::Said(last.ran.store.diary.noted.clone()?))
+    Err(Wrong::Said(last.ran.noted.clone()?))
 }
 
 /// The line of a text that begins at a place, without its newline.
 fn line_at(said: &[u8], at: usize) -> &[u8] {
     let rest = said.get(at..).unwrap_or(b"");
     rest.split(|byte| *byte == b'\n').next().unwrap_or(b"")
-}
-
-/// What was there in place of a line that is wanted.
-pub(crate) fn instead<T: Drop>(alloc: Global, line: &[u8]) -> Result<T, Wrong> {
-    let line = String::from_utf8_lossy(alloc, line)?;
-    Err(Wrong::Said(format!(in alloc; "it is '{}'", line.as_str())?))
 }
 
 /// Where a text ends that begins at a place and is the wanted one with a newline.
@@ -110,13 +109,12 @@ fn tell_err_start(alloc: Global, last: &mut Last, want: &str) -> Told {
     Ok(())
 }
 
-impl OfFile {
-    fn holds(self, before: Option<&[u8]>, after: Option<&[u8]>) -> bool {
-        match self {
-            OfFile::Same => before == after,
-            OfFile::Other => before != after,
-            OfFile::Absent => after.is_none(),
-        }
+/// Whether a file is so.
+fn is_so(says: OfFile, before: Option<&[u8]>, after: Option<&[u8]>) -> bool {
+    match says {
+        OfFile::Same => before == after,
+        OfFile::Other => before != after,
+        OfFile::Absent => after.is_none(),
     }
 }
 
@@ -177,22 +175,21 @@ fn tell_files(alloc: Global, last: &mut Last, rest: &str, says: OfFile) -> Told 
         name(alloc, last, file)?;
         is_known(alloc, last, file)?;
         let (before, after) = (find(&last.before, file), find(&last.ran.files, file));
-        if !says.holds(before, after) {
+        if !is_so(says, before, after) {
             return is_instead(alloc, before, after);
         }
     }
     Ok(())
 }
 
-impl OfBytes {
-    fn holds(self, file: &[u8], gathered: &[u8]) -> bool {
-        match self {
-            OfBytes::All => file == gathered,
-            OfBytes::Start => file.starts_with(gathered),
-            OfBytes::Part => file
-                .windows(gathered.len().max(1))
-                .any(|part| part == gathered),
-        }
+/// Whether a file has the gathered bytes so.
+fn has_so(says: OfBytes, file: &[u8], gathered: &[u8]) -> bool {
+    match says {
+        OfBytes::All => file == gathered,
+        OfBytes::Start => file.starts_with(gathered),
+        OfBytes::Part => file
+            .windows(gathered.len().max(1))
+            .any(|part| part == gathered),
     }
 }
 
@@ -200,7 +197,7 @@ impl OfBytes {
 fn has_bytes(alloc: Global, last: &mut Last, file: &str, gathered: &[u8], says: OfBytes) -> Told {
     name(alloc, last, file)?;
     match find(&last.ran.files, file) {
-        Some(bytes) if says.holds(bytes, gathered) => Ok(()),
+        Some(bytes) if has_so(says, bytes, gathered) => Ok(()),
         Some(bytes) => has_instead(alloc, bytes, gathered),
         None => unmet(alloc, "there is no such file"),
     }
@@ -296,7 +293,11 @@ fn untold<'a>(last: &'a Last, files: &'a [NamedBytes]) -> Option<&'a str> {
 }
 
 /// That everything that was gathered or set in a row was of use in it.
-pub(crate) fn is_all_used(stage: &Stage) -> Told {
+///
+/// # Errors
+///
+/// It was not, or there was not enough memory.
+pub fn is_all_used(stage: &Stage) -> Told {
     let alloc = stage.alloc;
     holds_if(
         alloc,
@@ -312,7 +313,11 @@ pub(crate) fn is_all_used(stage: &Stage) -> Told {
 }
 
 /// A run of which everything was told that must be told.
-pub(crate) fn is_all_told(alloc: Global, last: &Last) -> Told {
+///
+/// # Errors
+///
+/// It was not, or there was not enough memory.
+pub fn is_all_told(alloc: Global, last: &Last) -> Told {
     if !last.status_told {
         is_number(alloc, u64::from(last.ran.status), 0)?;
     }

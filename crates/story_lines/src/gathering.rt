@@ -1,10 +1,12 @@
-use crate::stage::{Stage, found, set};
-use crate::verbs::Gather;
-use crate::wrong::{Told, Wrong, holds_if, number, unmet};
 use std::alloc::Global;
+use story_stage::{Gather, Stage, Told, Wrong, found, holds_if, number, set, unmet};
 
 /// Carries out a line that gathers bytes.
-pub(crate) fn gather(stage: &mut Stage, what: Gather, rest: &str) -> Told {
+///
+/// # Errors
+///
+/// The line does not hold, or there was not enough memory.
+pub fn gather(stage: &mut Stage, what: Gather, rest: &str) -> Told {
     match what {
         Gather::Line => add_line(stage, rest),
         Gather::Raw => add(stage, rest.as_bytes()),

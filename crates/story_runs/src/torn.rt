@@ -1,6 +1,6 @@
 //! Tree files of which a call that failed left some blocks old and some new.
 
-use crate::stage::{Stage, find};
+use story_stage::{Stage, find};
 
 /// The bytes of a block.
 const BLOCK: usize = 1024;

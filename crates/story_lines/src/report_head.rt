@@ -1,5 +1,5 @@
-use crate::wrong::{Wrong, unmet};
 use std::alloc::{AllocError, Global};
+use story_stage::{Wrong, unmet};
 
 /// How the line of columns begins, by the kind.
 fn column_of(kind: &str) -> Option<&'static str> {

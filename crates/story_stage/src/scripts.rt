@@ -22,7 +22,7 @@ pub(crate) fn add_words(
 }
 
 /// The last line of a text, with its newline.
-pub(crate) fn last_line(text: &[u8]) -> &[u8] {
+pub fn last_line(text: &[u8]) -> &[u8] {
     let mut last = text;
     for line in text.split_inclusive(|byte| *byte == b'\n') {
         last = line;
@@ -31,7 +31,7 @@ pub(crate) fn last_line(text: &[u8]) -> &[u8] {
 }
 
 /// Whether a line is that of a fault, which may have been met in a line of a script.
-pub(crate) fn is_fault_line(said: &[u8], fault: &[u8]) -> bool {
+pub fn is_fault_line(said: &[u8], fault: &[u8]) -> bool {
     let Some(behind) = said.strip_prefix(b"quota: line ") else {
         return said == fault;
     };

@@ -1,28 +1,46 @@
-use crate::runs::Ran;
+use crate::ran::Last;
 use crate::wrong::{Told, Wrong, unmet};
 use std::alloc::{AllocError, Global};
 
 /// A file: its name and its bytes.
-pub(crate) type NamedBytes = (String, Vec<u8>);
+pub type NamedBytes = (String, Vec<u8>);
 
 /// The calls that are to fail in the next run, of each object.
 #[derive(Drop)]
-pub(crate) struct Failing {
+pub struct Failing {
+    /// Those of the store, from 1 on.
     pub store: Vec<u64>,
+    /// Those of the standard input.
     pub input: Vec<u64>,
+    /// Those of the output.
     pub output: Vec<u64>,
+    /// Those of the error output.
     pub error: Vec<u64>,
+    /// Those of the link.
     pub link: Vec<u64>,
 }
 
 impl Failing {
-    pub(crate) fn none(alloc: Global) -> Failing {
+    /// No call is to fail.
+    pub fn none(alloc: Global) -> Failing {
         Failing {
             store: Vec::new(alloc),
             input: Vec::new(alloc),
             output: Vec::new(alloc),
             error: Vec::new(alloc),
             link: Vec::new(alloc),
+        }
+    }
+
+    /// The calls of an object that are to fail, or `None` where there is no such object.
+    pub fn calls_of(&mut self, object: &str) -> Option<&mut Vec<u64>> {
+        match object {
+            "store" => Some(&mut self.store),
+            "input" => Some(&mut self.input),
+            "output" => Some(&mut self.output),
+            "error" => Some(&mut self.error),
+            "link" => Some(&mut self.link),
+            _ => None,
         }
     }
 
@@ -38,16 +56,20 @@ impl Failing {
 
 /// What the next run meets besides the files.
 #[derive(Drop)]
-pub(crate) struct Setting {
+pub struct Setting {
+    /// The standard input, where there is one.
     pub input: Option<Vec<u8>>,
+    /// The datagrams, each with the moment at which it comes.
     pub datagrams: Vec<(Vec<u8>, u64)>,
+    /// The calls that are to fail.
     pub failing: Failing,
     /// After how many reads the store turns.
     pub good_reads: u64,
 }
 
 impl Setting {
-    pub(crate) fn none(alloc: Global) -> Setting {
+    /// Nothing is set.
+    pub fn none(alloc: Global) -> Setting {
         Setting {
             input: None,
             datagrams: Vec::new(alloc),
@@ -57,7 +79,7 @@ impl Setting {
     }
 
     /// Whether nothing is set.
-    pub(crate) fn is_none(&self) -> bool {
+    pub fn is_none(&self) -> bool {
         self.input.is_none()
             && self.datagrams.is_empty()
             && self.failing.is_none()
@@ -65,34 +87,26 @@ impl Setting {
     }
 }
 
-/// How much of what the last run left was told.
-#[derive(Drop)]
-pub(crate) struct Last {
-    pub ran: Ran,
-    /// The files before the run.
-    pub before: Vec<NamedBytes>,
-    pub status_told: bool,
-    /// How many bytes of the output and of the error output were told, and how many answers.
-    pub out_told: usize,
-    pub err_told: usize,
-    pub answers_told: usize,
-    /// The files that a line names.
-    pub named: Vec<String>,
-}
-
 /// Where a story is.
 #[derive(Drop)]
-pub(crate) struct Stage {
+pub struct Stage {
+    /// What memory is taken from.
     pub alloc: Global,
+    /// The bytes that were gathered.
     pub gathered: Vec<u8>,
+    /// What was kept, for all rows of a story.
     pub kept: Vec<NamedBytes>,
+    /// The files that are there.
     pub files: Vec<NamedBytes>,
+    /// What the next run meets.
     pub setting: Setting,
+    /// The moment of the runs, in seconds since 1970.
     pub now: u64,
     /// The files and the kept bytes that a sweep may leave besides.
     pub may: Vec<(String, String)>,
     /// The files that a sweep must leave as they were.
     pub stays: Vec<String>,
+    /// What the last run left, where it was not told whole.
     pub last: Option<Last>,
     /// What words were read as, where no line has told it yet.
     pub read: Option<String>,
@@ -103,7 +117,8 @@ pub(crate) struct Stage {
 }
 
 impl Stage {
-    pub(crate) fn new(alloc: Global) -> Stage {
+    /// A stage on which nothing is.
+    pub fn new(alloc: Global) -> Stage {
         Stage {
             alloc,
             gathered: Vec::new(alloc),
@@ -121,13 +136,13 @@ impl Stage {
     }
 
     /// Begins a story.
-    pub(crate) fn begin(&mut self) {
+    pub fn begin(&mut self) {
         self.title = String::new(self.alloc);
         self.number = 0;
     }
 
     /// Begins a row.
-    pub(crate) fn clear(&mut self) {
+    pub fn clear(&mut self) {
         self.gathered = Vec::new(self.alloc);
         self.files = Vec::new(self.alloc);
         self.setting = Setting::none(self.alloc);
@@ -137,13 +152,13 @@ impl Stage {
     }
 
     /// The gathered bytes, of which none are left then.
-    pub(crate) fn take(&mut self) -> Vec<u8> {
+    pub fn take(&mut self) -> Vec<u8> {
         std::mem::replace(&mut self.gathered, Vec::new(self.alloc))
     }
 }
 
 /// The bytes under a name.
-pub(crate) fn find<'a>(files: &'a [NamedBytes], name: &str) -> Option<&'a [u8]> {
+pub fn find<'a>(files: &'a [NamedBytes], name: &str) -> Option<&'a [u8]> {
     for (known, bytes) in files {
         if known.as_str() == name {
             return Some(bytes.as_slice());
@@ -153,7 +168,7 @@ pub(crate) fn find<'a>(files: &'a [NamedBytes], name: &str) -> Option<&'a [u8]> 
 }
 
 /// Whether a name is among some.
-pub(crate) fn has_name(names: &[String], wanted: &str) -> bool {
+pub fn has_name(names: &[String], wanted: &str) -> bool {
     let mut is_there = false;
     for name in names {
         is_there = is_there || name.as_str() == wanted;
@@ -161,12 +176,12 @@ pub(crate) fn has_name(names: &[String], wanted: &str) -> bool {
     is_there
 }
 
-/// The bytes under a name, or that there are none.
-pub(crate) fn found<'a>(
-    alloc: Global,
-    files: &'a [NamedBytes],
-    name: &str,
-) -> Result<&'a [u8], Wrong> {
+/// The bytes under a name.
+///
+/// # Errors
+///
+/// There are none, or there was not enough memory to say so.
+pub fn found<'a>(alloc: Global, files: &'a [NamedBytes], name: &str) -> Result<&'a [u8], Wrong> {
     match find(files, name) {
         Some(bytes) => Ok(bytes),
         None => unmet(alloc, "nothing has this name"),
@@ -174,7 +189,11 @@ pub(crate) fn found<'a>(
 }
 
 /// Puts bytes under a name, in the place of those that were there.
-pub(crate) fn set(alloc: Global, files: &mut Vec<NamedBytes>, name: &str, bytes: Vec<u8>) -> Told {
+///
+/// # Errors
+///
+/// There was not enough memory.
+pub fn set(alloc: Global, files: &mut Vec<NamedBytes>, name: &str, bytes: Vec<u8>) -> Told {
     files.retain(|file| file.0.as_str() != name);
     files
         .push((String::from_str(alloc, name)?, bytes))
@@ -182,7 +201,11 @@ pub(crate) fn set(alloc: Global, files: &mut Vec<NamedBytes>, name: &str, bytes:
 }
 
 /// A copy of some files.
-pub(crate) fn copied(alloc: Global, files: &[NamedBytes]) -> Result<Vec<NamedBytes>, AllocError> {
+///
+/// # Errors
+///
+/// There was not enough memory.
+pub fn copied(alloc: Global, files: &[NamedBytes]) -> Result<Vec<NamedBytes>, AllocError> {
     let mut copies = Vec::new(alloc);
     for (name, bytes) in files {
         copies.push((

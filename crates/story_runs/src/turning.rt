@@ -1,9 +1,7 @@
-use crate::Program;
-use crate::runs::{Ran, run_line};
-use crate::stage::{Setting, Stage, find};
 use crate::sweeps::{at_call, is_allowed, run_whole};
-use crate::telling::instead;
-use crate::wrong::{Told, Wrong, holds_if, is_number};
+use story_stage::{
+    Program, Ran, Setting, Stage, Told, Wrong, find, holds_if, instead, is_number, run_line,
+};
 
 /// Whether two runs said the same. What they left is not compared: a change in place writes what it read, and a store that
 /// turns tells no file.

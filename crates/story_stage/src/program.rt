@@ -1,4 +1,5 @@
-use crate::{Streams, Watched};
+use crate::objects::Streams;
+use crate::watched::Watched;
 use std::alloc::{AllocError, Global};
 
 /// The program that a story is about.

@@ -56,7 +56,12 @@ fn link_of(
 }
 
 impl Streams {
-    pub(crate) fn new(alloc: Global, setting: &Setting) -> Result<Streams, AllocError> {
+    /// Objects that meet what is set.
+    ///
+    /// # Errors
+    ///
+    /// There was not enough memory.
+    pub fn new(alloc: Global, setting: &Setting) -> Result<Streams, AllocError> {
         let failing = &setting.failing;
         let input = match &setting.input {
             Some(bytes) => Some(bytes.as_slice()),
@@ -72,8 +77,8 @@ impl Streams {
         })
     }
 
-    /// What a run called that it was not given.
-    pub(crate) fn called(&mut self) -> &'static str {
+    /// What a run called that it was not given, or nothing.
+    pub fn called(&mut self) -> &'static str {
         if !self.is_given_input
             && (self.input.left() != UNREAD || self.input.read(&mut []).is_ok())
         {
@@ -86,34 +91,4 @@ impl Streams {
         }
         ""
     }
-}
-
-/// How many calls of a sink were made, where its call number `planned` is to fail and was not made yet.
-pub(crate) fn calls_made(sink: &mut MemSink, planned: u64) -> u64 {
-    for probe in 1..=planned {
-        if sink.write(b"").is_err() {
-            return planned.saturating_sub(probe);
-        }
-    }
-    0
-}
-
-/// How many calls of a source were made, where its call number `planned` is to fail and was not made yet.
-pub(crate) fn reads_made(source: &mut MemSource, planned: u64) -> u64 {
-    for probe in 1..=planned {
-        if source.read(&mut []).is_err() {
-            return planned.saturating_sub(probe);
-        }
-    }
-    0
-}
-
-/// How many calls of a link were made, where its call number `planned` is to fail and was not made yet.
-pub(crate) fn link_calls_made(link: &mut MemLink, planned: u64) -> u64 {
-    for probe in 1..=planned {
-        if link.start(0).is_err() {
-            return planned.saturating_sub(probe);
-        }
-    }
-    0
 }

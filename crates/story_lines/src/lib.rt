@@ -1,0 +1,12 @@
+//! The lines of a story but those that run or read words: they gather bytes, set what the next run meets, and say what the
+//! last one left. It is there for tests alone.
+#![tactic(auto)]
+
+mod gathering;
+mod report_head;
+mod setting;
+mod telling;
+
+pub use gathering::gather;
+pub use setting::set_up;
+pub use telling::{is_all_told, is_all_used, tell};
