@@ -5,6 +5,7 @@ pub const SET: &str = "\
 = new limits lengthen an empty file
 file q
 run setquota -F vfsold -u 1000 100 200 10 20 q
+writes 1
 zeros 40000
 record 200 100 0 20 10 0 0 0
 holds q
@@ -53,6 +54,7 @@ holds q
 = the record of an identifier stands at its place
 file q
 run setquota -F vfsold -u 65535 1 1 0 0 q
+writes 1
 long q 2621440
 
 = a timer starts where the use exceeds the soft limit
@@ -346,4 +348,88 @@ holds q
 file q
 sweep store setquota -F vfsold -u 10 100 200 10 20 q
 changes q
+
+= so it is of every way to change a record, or the periods
+record 0 0 9 0 0 9 0 9
+record 8 2 4 9 8 9 5 6
+record 0 3 0 0 0 0 0 0
+keep three
+use three
+file q
+sweep store setquota -F vfsold -u 0 1 2 3 4 q
+record 2 1 9 4 3 9 0 9
+record 8 2 4 9 8 9 5 6
+record 0 3 0 0 0 0 0 0
+holds q
+use three
+file q
+sweep store setquota -F vfsold -u 2 0 0 0 0 q
+record 0 0 9 0 0 9 0 9
+record 8 2 4 9 8 9 5 6
+record 0 0 0 0 0 0 0 0
+holds q
+use three
+file q
+sweep store setquota -F vfsold -p 1 0 q
+record 8 2 9 9 8 9 0 9
+record 8 2 4 9 8 9 5 6
+record 0 3 0 0 0 0 0 0
+holds q
+use three
+file q
+sweep store setquota -F vfsold -t 86400 3600 q
+record 0 0 9 0 0 9 86400 3600
+record 8 2 4 9 8 9 5 6
+record 0 3 0 0 0 0 0 0
+holds q
+use three
+file q
+sweep store setquota -F vfsold -T 1 7 unset q
+record 0 0 9 0 0 9 0 9
+record 8 2 4 9 8 9 1700000007 0
+record 0 3 0 0 0 0 0 0
+holds q
+use three
+file q
+text Disk quotas for user #1 (uid 1):
+text Filesystem blocks soft hard inodes soft hard
+text q 4 0 0 9 0 0
+input
+sweep store edquota --apply -F vfsold -u 1 q
+record 0 0 9 0 0 9 0 9
+record 0 0 4 0 0 9 0 0
+record 0 3 0 0 0 0 0 0
+holds q
+
+= whichever call fails under lines, those before it stay
+use three
+file q
+run setquota -F vfsold 3 1 2 0 0 q
+changes q
+get q
+keep first
+use three
+file q
+text 3 1 2 0 0
+text 2 0 0 0 0
+input
+may q first
+sweep store setquota -F vfsold -b q
+record 0 0 9 0 0 9 0 9
+record 8 2 4 9 8 9 5 6
+record 0 0 0 0 0 0 0 0
+record 2 1 0 0 0 0 0 0
+holds q
+use three
+file q
+text setquota -F vfsold 3 1 2 0 0 q
+text setquota -F vfsold 2 0 0 0 0 q
+input
+may q first
+sweep store script
+record 0 0 9 0 0 9 0 9
+record 8 2 4 9 8 9 5 6
+record 0 0 0 0 0 0 0 0
+record 2 1 0 0 0 0 0 0
+holds q
 ";
