@@ -3,7 +3,7 @@ ghost use Rattle.std.specs.Prelude.{◌≤◌, length, IfOk};
 use crate::gathered::Gathered;
 use crate::read_ahead::ReadAhead;
 use std::alloc::Global;
-use std::fs::File;
+use std::fs::{File, Metadata};
 use std::io;
 use std::io::ErrorKind;
 
@@ -58,6 +58,11 @@ impl Opened {
     #[inline(always)]
     pub fn serves(&self, name: &str, access: Access) -> bool {
         self.access.allows(access) && self.name.as_str() == name
+    }
+
+    /// Whether it was opened by this name.
+    pub fn is_named(&self, name: &str) -> bool {
+        self.name.as_str() == name
     }
 
     /// Its length in bytes, once what is to be written was written.
@@ -118,14 +123,15 @@ impl Opened {
         self.gathered.flush(&self.file)
     }
 
-    /// Writes what is to be written, and waits until the file's bytes are on the disk. Source: fsync(2).
+    /// Writes what is to be written, waits until the file's bytes are on the disk, and answers what the system says of it then.
+    /// Source: fdatasync(2).
     ///
     /// # Errors
     ///
     /// The system failed. It is not known which bytes are on the disk.
-    pub fn sync(&mut self) -> io::Result<()> {
-        self.ahead.forget();
+    pub fn sync(&mut self) -> io::Result<Metadata> {
         self.flush()?;
-        self.file.sync_all()
+        self.file.sync_data()?;
+        self.file.metadata()
     }
 }

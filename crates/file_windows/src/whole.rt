@@ -49,6 +49,11 @@ impl WholeFiles {
         Ok(())
     }
 
+    /// Whether a file is kept.
+    pub fn has(&self, name: &str) -> bool {
+        self.named(name).is_some()
+    }
+
     /// The length of a file in bytes, where it is kept.
     pub fn length(&self, name: &str) -> Option<u64> {
         Some(self.named(name)?.len)

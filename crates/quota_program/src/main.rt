@@ -10,6 +10,7 @@ ghost use Rattle.refusals.specs.Status.{status_of};
 ghost use Rattle.run_steps.specs.Done.{AppendsUnless};
 
 use help::{About, tell};
+use journal_store::JournalStore;
 use quota_blocks::Sink;
 use quota_cli::run::{UsageFault, read_words, refuse, run};
 use refusals::{Cause, Refusal, UsageKind, Word};
@@ -66,15 +67,15 @@ fn stop<E: Sink>(err: &mut E, cause: Cause, alloc: Global) -> u8
     refuse(err, &Refusal::of(cause, Word::empty(alloc)))
 }
 
-/// Tells a store how the files of the command are shared with other programs. Words that ask for no command use none, and
+/// Tells a disk how the files of the command are shared with other programs. Words that ask for no command use none, and
 /// are refused when they are carried out.
 fn share_files<R: Files<File = File>>(
-    store: &mut FileDisk<'_, R>,
+    disk: &mut FileDisk<'_, R>,
     words: &[String],
     alloc: Global,
 ) -> Result<(), Cause> {
     match read_words(alloc, words, false) {
-        Ok(command) => match store.share(sharing_of(&command)) {
+        Ok(command) => match disk.share(sharing_of(&command)) {
             Ok(()) => Ok(()),
             Err(_) => Err(Cause::Memory),
         },
@@ -91,10 +92,11 @@ fn main(rt: HostRuntime) -> ExitCode {
             if let Some(about) = About::asked(&words) {
                 return ExitCode::from(tell(&mut out, &mut err, about.text(), rt.alloc()));
             }
-            let mut store = FileDisk::new(rt.alloc(), &rt);
-            if let Err(cause) = share_files(&mut store, &words, rt.alloc()) {
+            let mut disk = FileDisk::new(rt.alloc(), &rt);
+            if let Err(cause) = share_files(&mut disk, &words, rt.alloc()) {
                 return ExitCode::from(stop(&mut err, cause, rt.alloc()));
             }
+            let mut store = JournalStore::new(disk);
             let Ok(stdin) = BufReader::with_capacity(rt.alloc(), READ_AHEAD, rt.stdin()) else {
                 return ExitCode::from(stop(&mut err, Cause::Memory, rt.alloc()));
             };

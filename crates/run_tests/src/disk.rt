@@ -15,6 +15,11 @@ const TWO: &str = "disk_of_run_tests/two";
 
 const THREE: &str = "disk_of_run_tests/three";
 
+/// The undo file of one of them, and what it is called while it is new.
+const UNDO: &str = "disk_of_run_tests/two.undo";
+
+const UND: &str = "disk_of_run_tests/two.und";
+
 /// A name in a folder that is not there.
 const NOWHERE: &str = "disk_of_run_tests/none/one";
 
@@ -44,7 +49,8 @@ enum Step {
 
 use Step::{Create, Cut, Hold, Rename, Show, Stay, Sync, Write};
 
-/// What is absent, then a file that is made, written, cut and renamed, and one that takes its place.
+/// What is absent, then a file that is made, written, cut and renamed, and one that takes its place; then an undo file beside
+/// it, and three files in turn, of which two stay open.
 const STEPS: &[Step] = &[
     Hold(ONE, None),
     Sync(ONE),
@@ -94,6 +100,28 @@ const STEPS: &[Step] = &[
     Show(TWO, Some(b"")),
     Create(TWO),
     Hold(TWO, Some(b"")),
+    Hold(UNDO, None),
+    Sync(UNDO),
+    Create(UND),
+    Write(UND, 0, b"save"),
+    Sync(UND),
+    Rename(UND, UNDO),
+    Hold(UND, None),
+    Show(UNDO, Some(b"save")),
+    Write(TWO, 0, b"a"),
+    Write(UNDO, 0, b"w"),
+    Write(THREE, 0, b"b"),
+    Show(TWO, Some(b"a")),
+    Show(UNDO, Some(b"save")),
+    Show(THREE, Some(b"\0\0w")),
+    Sync(UNDO),
+    Sync(UNDO),
+    Show(UNDO, Some(b"wave")),
+    Sync(TWO),
+    Hold(THREE, Some(b"b\0w")),
+    Write(TWO, 1, b"c"),
+    Sync(TWO),
+    Show(TWO, Some(b"ac")),
 ];
 
 /// Whether bytes are written to a place.
@@ -142,7 +170,7 @@ fn goes<R: Files<File = File>>(
     }
 }
 
-/// The first step that does not go as it should. Two files are in the folder behind the last one, and no others.
+/// The first step that does not go as it should. Three files are in the folder behind the last one, and no others.
 fn first_wrong<R: Files<File = File>>(
     alloc: Global,
     files: &R,
@@ -156,6 +184,7 @@ fn first_wrong<R: Files<File = File>>(
         }
     }
     fs::remove_file(files, TWO)?;
+    fs::remove_file(files, UNDO)?;
     fs::remove_file(files, THREE)?;
     fs::remove_dir(files, FOLDER)?;
     Ok(None)

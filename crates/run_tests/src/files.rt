@@ -1,4 +1,4 @@
-use quota_blocks::Store;
+use crash_disk::Disk;
 use std::alloc::Global;
 use std::fs::{File, Files, OpenOptions};
 use std::os::unix::fs::FileExt;
@@ -77,20 +77,20 @@ fn first_bytes(alloc: Global) -> io::Result<Vec<u8>> {
 }
 
 /// Whether so many bytes from a place on are read as they should be, and no more than the file has.
-fn reads<S: Store>(store: &mut S, wanted: &[u8], at: usize, len: usize) -> bool {
+fn reads<D: Disk>(disk: &mut D, wanted: &[u8], at: usize, len: usize) -> bool {
     let mut buf = [0; 1024];
     let len = len.min(buf.len());
-    let found = store.read(NAME, at as u64, &mut buf[..len]);
+    let found = disk.read(NAME, at as u64, &mut buf[..len]);
     let end = wanted.len().min(at.saturating_add(len));
     let wanted = wanted.get(at..end).unwrap_or_default();
     matches!(found, Ok(count) if buf.get(..count) == Some(wanted))
 }
 
 /// Whether so many bytes of a value are written to a place.
-fn writes<S: Store>(store: &mut S, at: usize, len: usize, value: u8) -> bool {
+fn writes<D: Disk>(disk: &mut D, at: usize, len: usize, value: u8) -> bool {
     let bytes = [value; 1024];
     let len = len.min(bytes.len());
-    len > 0 && at < 2_000_000 && store.write(NAME, at as u64, &bytes[..len]) == Ok(())
+    len > 0 && at < 2_000_000 && disk.write(NAME, at as u64, &bytes[..len]) == Ok(())
 }
 
 /// Writes so many bytes of a value to a place, as another program does.
@@ -116,15 +116,15 @@ fn fill(bytes: &mut Vec<u8>, at: usize, len: usize, value: u8) -> io::Result<()>
 /// Whether a step goes as it should where the file has these bytes, which are changed along with it.
 fn goes<R: Files<File = File>>(
     files: &R,
-    store: &mut FileDisk<'_, R>,
+    disk: &mut FileDisk<'_, R>,
     bytes: &mut Vec<u8>,
     step: Step,
 ) -> io::Result<bool> {
     match step {
-        Read(at, len) => Ok(reads(store, bytes, at, len)),
+        Read(at, len) => Ok(reads(disk, bytes, at, len)),
         Write(at, len, value) => {
             fill(bytes, at, len, value)?;
-            Ok(writes(store, at, len, value))
+            Ok(writes(disk, at, len, value))
         }
         Grow(at, len, value) => {
             fill(bytes, at, len, value)?;
@@ -142,9 +142,9 @@ fn first_wrong<R: Files<File = File>>(
 ) -> io::Result<Option<Step>> {
     let mut bytes = first_bytes(alloc)?;
     fs::write(files, NAME, bytes.as_slice())?;
-    let mut store = FileDisk::new(alloc, files);
+    let mut disk = FileDisk::new(alloc, files);
     for step in steps {
-        if !goes(files, &mut store, &mut bytes, *step)? {
+        if !goes(files, &mut disk, &mut bytes, *step)? {
             return Ok(Some(*step));
         }
     }

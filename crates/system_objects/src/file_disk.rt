@@ -4,46 +4,44 @@ ghost use Rattle.outside.specs.Count.{Rose};
 use crate::open_files::OpenFiles;
 use crate::sharing::Sharing;
 use crash_disk::{Disk, DiskFault};
-use outside::{Store, StoreFault};
 use std::alloc::{AllocError, Global};
 use std::fs::{File, Files};
 use std::io;
 
-/// The files of the system as a store and as a disk, by paths that count from the current folder. It tells nothing of them.
+/// The files of the system as a disk, by paths that count from the current folder. It tells nothing of them.
 ///
-/// The file that was used last stays open. Reads of it that go on where the last one ended come from a window of 65,536
+/// The two files that were used last stay open. Reads of one that go on where the last one ended come from a window of 65,536
 /// bytes, those of other places from eight blocks of 1,024 bytes, and bytes that are to be written side by side are gathered
 /// up to the number of the window, so that all make few calls of the system. What was read is forgotten where the file is
-/// written, cut, synced or renamed, where another file is used, and where a call fails. What was gathered is written before
-/// the file is read, cut, synced or renamed, before its length is asked for, and before another file is used; where that
-/// fails, the call at hand is the one that failed.
+/// written or cut, where it is closed, and where a call on it fails. What was gathered is written before the file is read,
+/// cut, synced or closed, before its length is asked for, and before any file is made or renamed; where that fails, the call
+/// at hand is the one that failed.
 ///
 /// A file that was there when its name was used first is never made by a write to it: where it is gone, the write fails. A
 /// file that is made under a name with `.new` behind that of a link stands beside the file behind the link, and takes its
 /// place there.
 ///
-/// To sync a file is fsync(2) of it, and where its name was made by this object since then of its folder, too; a rename
-/// ends with fsync(2) of the folder. A name that was there before is taken for one that a stop leaves.
+/// A name that ends in `.undo` or `.und` is that of an undo file of the file whose name stands before. It stands beside the
+/// file behind a link, too, is never locked itself, and is changed only where the lock that its file is due is held, and the
+/// file may be written to. It gets the owner and the permissions of its file with a rename.
+///
+/// To sync a file is fdatasync(2) of it, unless this object did that and did not change the file since, and where its name
+/// was made by this object since then fsync(2) of its folder, too; a rename ends with fsync(2) of the folder. A name that was
+/// there before is taken for one that a stop leaves.
 #[derive(Drop)]
 pub struct FileDisk<'a, R> {
     open: OpenFiles<'a, R>,
     faults: u64,
-    reads: u64,
-    writes: u64,
 }
 
 impl<'a, R: Files<File = File>> FileDisk<'a, R> {
     /// The files of the system, none of them open yet, and none to be locked that is there.
     pub fn new(alloc: Global, files: &'a R) -> Self
         ensures faults { result.faults ≡ 0 }
-        ensures reads { result.reads ≡ 0 }
-        ensures writes { result.writes ≡ 0 }
     {
         FileDisk {
             open: OpenFiles::new(alloc, files),
             faults: 0,
-            reads: 0,
-            writes: 0,
         }
     }
 
@@ -54,73 +52,23 @@ impl<'a, R: Files<File = File>> FileDisk<'a, R> {
     /// There is not enough memory for the name of the file that is to be locked.
     pub fn share(&mut self, sharing: Sharing<'_>) -> Result<(), AllocError>
         ensures faults { self.new.faults ≡ self.old.faults }
-        ensures reads { self.new.reads ≡ self.old.reads }
-        ensures writes { self.new.writes ≡ self.old.writes }
     {
         self.open.share(sharing)
     }
 
     /// Turns an error of the system into a fault, which is counted.
-    fn counting<T, E: Copy>(&mut self, answer: io::Result<T>, fault: E) -> Result<T, E>
+    fn counting<T>(&mut self, answer: io::Result<T>) -> Result<T, DiskFault>
         ensures ok { IfOk result (λ value. answer ≡ Ok value) }
         ensures cause { OnErr result (Rose self.old.faults self.new.faults) }
         ensures later { self.old.faults ≤ self.new.faults }
-        ensures reads { self.new.reads ≡ self.old.reads }
-        ensures writes { self.new.writes ≡ self.old.writes }
     {
         match answer {
             Ok(value) => Ok(value),
             Err(_) => {
                 self.faults = self.faults.saturating_add(1);
-                Err(fault)
+                Err(DiskFault)
             }
         }
-    }
-}
-
-impl<'a, R: Files<File = File>> Store for FileDisk<'a, R> {
-    ghost use Rattle.std.specs.Prelude.{false, None};
-
-    ghost tells = { false };
-
-    ghost seen = { λ s. record {
-      files = λ _. None;
-      unsynced = λ _. false;
-      faults = s.faults;
-      reads = s.reads;
-      writes = s.writes;
-    } };
-
-    fn size(&mut self, name: &str) -> Result<Option<u64>, StoreFault> {
-        let found = self.open.length(name);
-        self.counting(found, StoreFault)
-    }
-
-    fn read(&mut self, name: &str, at: u64, buf: &mut [u8]) -> Result<usize, StoreFault> {
-        self.reads = self.reads.saturating_add(1);
-        let count = self.open.read(name, at, buf);
-        self.counting(count, StoreFault)
-    }
-
-    fn write(&mut self, name: &str, at: u64, bytes: &[u8]) -> Result<(), StoreFault> {
-        self.writes = self.writes.saturating_add(1);
-        let done = self.open.write(name, at, bytes);
-        self.counting(done, StoreFault)
-    }
-
-    fn create(&mut self, name: &str) -> Result<(), StoreFault> {
-        let done = self.open.make(name);
-        self.counting(done, StoreFault)
-    }
-
-    fn sync(&mut self, name: &str) -> Result<(), StoreFault> {
-        let done = self.open.sync(name);
-        self.counting(done, StoreFault)
-    }
-
-    fn rename(&mut self, from: &str, to: &str) -> Result<(), StoreFault> {
-        let done = self.open.rename(from, to);
-        self.counting(done, StoreFault)
     }
 }
 
@@ -138,36 +86,36 @@ impl<'a, R: Files<File = File>> Disk for FileDisk<'a, R> {
 
     fn size(&mut self, name: &str) -> Result<Option<u64>, DiskFault> {
         let found = self.open.length(name);
-        self.counting(found, DiskFault)
+        self.counting(found)
     }
 
     fn read(&mut self, name: &str, at: u64, buf: &mut [u8]) -> Result<usize, DiskFault> {
         let count = self.open.read(name, at, buf);
-        self.counting(count, DiskFault)
+        self.counting(count)
     }
 
     fn write(&mut self, name: &str, at: u64, bytes: &[u8]) -> Result<(), DiskFault> {
         let done = self.open.write(name, at, bytes);
-        self.counting(done, DiskFault)
+        self.counting(done)
     }
 
     fn create(&mut self, name: &str) -> Result<(), DiskFault> {
         let done = self.open.make(name);
-        self.counting(done, DiskFault)
+        self.counting(done)
     }
 
     fn cut(&mut self, name: &str, len: u64) -> Result<(), DiskFault> {
         let done = self.open.cut(name, len);
-        self.counting(done, DiskFault)
+        self.counting(done)
     }
 
     fn sync(&mut self, name: &str) -> Result<(), DiskFault> {
         let done = self.open.sync(name);
-        self.counting(done, DiskFault)
+        self.counting(done)
     }
 
     fn rename(&mut self, from: &str, to: &str) -> Result<(), DiskFault> {
         let done = self.open.rename(from, to);
-        self.counting(done, DiskFault)
+        self.counting(done)
     }
 }

@@ -1,5 +1,5 @@
 use crate::locks::LockedFile;
-use crate::stamp::Node;
+use file_names::stamp::Node;
 use file_windows::Access;
 use std::alloc::{AllocError, Global};
 use std::fs::File;
@@ -27,15 +27,39 @@ impl HeldFiles {
         Ok(node)
     }
 
+    /// Whether none is held.
+    pub fn is_empty(&self) -> bool {
+        self.files.is_empty()
+    }
+
+    /// Whether a file is held.
+    pub fn has(&self, node: Node) -> bool {
+        self.named(node).is_some()
+    }
+
+    /// Whether a file is held; that it may not be used so is an error.
+    pub fn may_use(&self, node: Node, access: Access) -> io::Result<bool> {
+        match self.named(node) {
+            Some(held) if held.access.allows(access) => Ok(true),
+            Some(_) => Err(io::Error::from(ErrorKind::PermissionDenied)),
+            None => Ok(false),
+        }
+    }
+
     /// The file once more, where it is held; that it may not be used so is an error.
     pub fn again(&self, node: Node, access: Access) -> io::Result<Option<(File, Access)>> {
-        match self.files.iter().find(|held| held.node == node) {
-            Some(held) if held.access.allows(access) => {
-                Ok(Some((held.file.try_clone()?, held.access)))
-            }
-            Some(_) => Err(io::Error::from(ErrorKind::PermissionDenied)),
+        if !self.may_use(node, access)? {
+            return Ok(None);
+        }
+        match self.named(node) {
+            Some(held) => Ok(Some((held.file.try_clone()?, held.access))),
             None => Ok(None),
         }
+    }
+
+    /// The held file, where it is.
+    fn named(&self, node: Node) -> Option<&LockedFile> {
+        self.files.iter().find(|held| held.node == node)
     }
 
     /// Lets go of a file.

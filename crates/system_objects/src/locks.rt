@@ -1,7 +1,9 @@
-use crate::names::{open_to_lock, stamp_at, stands_for};
 use crate::sharing::Lock;
-use crate::stamp::{Node, Stamp};
+use file_names::names::{open_file, stamp_at, stands_for};
+use file_names::stamp::{Node, Stamp};
+use file_names::undo::is_to_recover;
 use file_windows::Access;
+use std::alloc::Global;
 use std::fs::{File, Files};
 use std::io;
 use std::io::ErrorKind;
@@ -15,6 +17,21 @@ pub(crate) struct LockedFile {
     pub file: File,
     /// What it may be used for.
     pub access: Access,
+}
+
+/// Opens a file that is to be locked alone so that it may be written to, where the system lets us, and any other one so that
+/// it may be read.
+fn open_to_lock<R: Files<File = File>>(
+    files: &R,
+    path: &str,
+    lock: Lock,
+) -> io::Result<(File, Access)> {
+    if lock == Lock::Exclusive {
+        if let Ok(file) = open_file(files, path, Access::Writing) {
+            return Ok((file, Access::Writing));
+        }
+    }
+    Ok((open_file(files, path, Access::Reading)?, Access::Reading))
 }
 
 /// That another program made something else of a file meanwhile.
@@ -60,6 +77,40 @@ pub(crate) fn lock_waiting<R: Files<File = File>>(
         }
     }
     Err(changed_meanwhile())
+}
+
+/// Opens the file of a name and locks it beside others, or alone where it has to be recovered; none where there is no file.
+/// Whether it has to be is looked at again behind the lock. A turn ends otherwise only where that changed since the turn
+/// before, so the bound on the turns is never met.
+pub(crate) fn lock_to_read<R: Files<File = File>>(
+    alloc: Global,
+    files: &R,
+    path: &str,
+    found: Option<Stamp>,
+) -> io::Result<Option<LockedFile>> {
+    let mut found = found;
+    let mut lock = lock_due(alloc, files, path)?;
+    for _ in 0..u64::MAX {
+        let Some(locked) = lock_waiting(files, path, found, lock)? else {
+            return Ok(None);
+        };
+        let due = lock_due(alloc, files, path)?;
+        if due == lock {
+            return Ok(Some(locked));
+        }
+        lock = due;
+        found = stamp_at(files, path)?;
+    }
+    Err(changed_meanwhile())
+}
+
+/// How a file is to be locked that is to be read.
+fn lock_due<R: Files<File = File>>(alloc: Global, files: &R, path: &str) -> io::Result<Lock> {
+    if is_to_recover(alloc, files, path)? {
+        Ok(Lock::Exclusive)
+    } else {
+        Ok(Lock::Shared)
+    }
 }
 
 /// Locks a file that was just made, unless another program was faster.

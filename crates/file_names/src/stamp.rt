@@ -3,7 +3,7 @@ use std::os::unix::fs::MetadataExt;
 
 /// Which file it is, whatever its name.
 #[derive(Clone, Copy, Debug, PartialEq, Eq)]
-pub(crate) struct Node {
+pub struct Node {
     device: u64,
     inode: u64,
 }
@@ -21,7 +21,7 @@ impl Node {
 /// Which file it is, and what changes with each change of it, as far as the clock of the file system tells one moment from
 /// the next.
 #[derive(Clone, Copy, Debug, PartialEq, Eq)]
-pub(crate) struct Stamp {
+pub struct Stamp {
     node: Node,
     len: u64,
     modified: i64,

@@ -1,5 +1,4 @@
 use crate::new_names::folder_of;
-use crate::sharing::Lock;
 use crate::stamp::{Node, Stamp};
 use file_windows::Access;
 use std::alloc::Global;
@@ -12,7 +11,7 @@ use std::{fs, io};
 const GROUP: u32 = 0o070;
 
 /// What is put behind the name of a file that is written anew, until it takes that name.
-pub(crate) const NEW: &str = ".new";
+pub const NEW: &str = ".new";
 
 /// What the system says of what a name stands for; none where that is nothing.
 fn metadata_at<R: Files>(files: &R, path: &str) -> io::Result<Option<Metadata>> {
@@ -27,7 +26,7 @@ fn metadata_at<R: Files>(files: &R, path: &str) -> io::Result<Option<Metadata>> 
 
 /// What a name stands for; none where there is no file. What is no regular file, as a folder or a pipe, is an error: opening
 /// a pipe would wait for whoever writes to it.
-pub(crate) fn stamp_at<R: Files>(files: &R, path: &str) -> io::Result<Option<Stamp>> {
+pub fn stamp_at<R: Files>(files: &R, path: &str) -> io::Result<Option<Stamp>> {
     match metadata_at(files, path)? {
         Some(metadata) if metadata.is_file() => Ok(Some(Stamp::of(&metadata))),
         Some(_) => Err(io::Error::from(ErrorKind::InvalidInput)),
@@ -36,7 +35,7 @@ pub(crate) fn stamp_at<R: Files>(files: &R, path: &str) -> io::Result<Option<Sta
 }
 
 /// What a name stands for that is to be replaced; none where that is no regular file.
-pub(crate) fn replaced_at<R: Files>(files: &R, path: &str) -> io::Result<Option<Stamp>> {
+pub fn replaced_at<R: Files>(files: &R, path: &str) -> io::Result<Option<Stamp>> {
     match metadata_at(files, path)? {
         Some(metadata) if metadata.is_file() => Ok(Some(Stamp::of(&metadata))),
         _ => Ok(None),
@@ -44,14 +43,14 @@ pub(crate) fn replaced_at<R: Files>(files: &R, path: &str) -> io::Result<Option<
 }
 
 /// Whether a name stands for this file.
-pub(crate) fn stands_for<R: Files>(files: &R, path: &str, node: Node) -> io::Result<bool> {
+pub fn stands_for<R: Files>(files: &R, path: &str, node: Node) -> io::Result<bool> {
     let found = stamp_at(files, path)?;
     Ok(found.is_some_and(|stamp| stamp.node() == node))
 }
 
 /// Where a name leads: to the file behind it where it is a link, else nowhere but to itself. A link that leads to no file is
 /// taken for the name of none.
-pub(crate) fn behind_link<R: Files>(alloc: Global, files: &R, name: &str) -> io::Result<String> {
+pub fn behind_link<R: Files>(alloc: Global, files: &R, name: &str) -> io::Result<String> {
     match fs::symlink_metadata(files, name) {
         Ok(metadata) if metadata.file_type().is_symlink() && replaced_at(files, name)?.is_some() =>
             { Ok(files.canonicalize(alloc, name)?.into_string()) }
@@ -60,11 +59,7 @@ pub(crate) fn behind_link<R: Files>(alloc: Global, files: &R, name: &str) -> io:
 }
 
 /// Opens a file that is there, and makes none.
-pub(crate) fn open_file<R: Files<File = File>>(
-    files: &R,
-    path: &str,
-    access: Access,
-) -> io::Result<File> {
+pub fn open_file<R: Files<File = File>>(files: &R, path: &str, access: Access) -> io::Result<File> {
     let mut options = OpenOptions::new();
     options
         .read(true)
@@ -72,24 +67,9 @@ pub(crate) fn open_file<R: Files<File = File>>(
         .open(files, path)
 }
 
-/// Opens a file that is to be locked alone so that it may be written to, where the system lets us, and any other one so that
-/// it may be read.
-pub(crate) fn open_to_lock<R: Files<File = File>>(
-    files: &R,
-    path: &str,
-    lock: Lock,
-) -> io::Result<(File, Access)> {
-    if lock == Lock::Exclusive {
-        if let Ok(file) = open_file(files, path, Access::Writing) {
-            return Ok((file, Access::Writing));
-        }
-    }
-    Ok((open_file(files, path, Access::Reading)?, Access::Reading))
-}
-
 /// Makes a file where there is none, or opens the one that somebody else made meanwhile. Only its owner may read and write
 /// one that is made. Where a link leads to it, its name is on the disk then.
-pub(crate) fn make_absent<R: Files<File = File>>(
+pub fn make_absent<R: Files<File = File>>(
     alloc: Global,
     files: &R,
     path: &str,
@@ -106,7 +86,7 @@ pub(crate) fn make_absent<R: Files<File = File>>(
 
 /// Makes an empty file in place of one that was left behind under its name, which is taken away: what it stood for stays
 /// where it has another name, as behind a link. Only its owner may read and write the new file.
-pub(crate) fn make_anew<R: Files<File = File>>(files: &R, path: &str) -> io::Result<File> {
+pub fn make_anew<R: Files<File = File>>(files: &R, path: &str) -> io::Result<File> {
     match fs::remove_file(files, path) {
         Err(error) if error.kind() != ErrorKind::NotFound => return Err(error),
         _ => {}
@@ -117,7 +97,7 @@ pub(crate) fn make_anew<R: Files<File = File>>(files: &R, path: &str) -> io::Res
 }
 
 /// Refuses a name that stands for a file which another program has locked. What may not be read is passed over.
-pub(crate) fn refuse_locked<R: Files<File = File>>(files: &R, path: &str) -> io::Result<()> {
+pub fn refuse_locked<R: Files<File = File>>(files: &R, path: &str) -> io::Result<()> {
     if let Ok(file) = open_file(files, path, Access::Reading) {
         file.try_lock()?;
     }
@@ -126,7 +106,7 @@ pub(crate) fn refuse_locked<R: Files<File = File>>(files: &R, path: &str) -> io:
 
 /// Gives a file the owner, the group and the permissions that another one has, as far as the system lets us. Where it does
 /// not get the group, its own one may do nothing.
-pub(crate) fn take_owner<R: Files>(files: &R, path: &str, of: &Metadata) {
+pub fn take_owner<R: Files>(files: &R, path: &str, of: &Metadata) {
     let has_group = chown(files, path, None, Some(of.gid())).is_ok();
     let _ = chown(files, path, Some(of.uid()), None);
     let mut permissions = of.permissions();
@@ -137,7 +117,7 @@ pub(crate) fn take_owner<R: Files>(files: &R, path: &str, of: &Metadata) {
 }
 
 /// Gives a file another name, and answers whether it was there.
-pub(crate) fn rename_present<R: Files>(files: &R, from: &str, to: &str) -> io::Result<bool> {
+pub fn rename_present<R: Files>(files: &R, from: &str, to: &str) -> io::Result<bool> {
     match fs::rename(files, from, to) {
         Ok(()) => Ok(true),
         Err(error) if error.kind() == ErrorKind::NotFound => match fs::symlink_metadata(
@@ -151,6 +131,6 @@ pub(crate) fn rename_present<R: Files>(files: &R, from: &str, to: &str) -> io::R
 }
 
 /// Waits until the names in a file's folder are on the disk. Source: fsync(2).
-pub(crate) fn sync_folder<R: Files<File = File>>(files: &R, path: &str) -> io::Result<()> {
+pub fn sync_folder<R: Files<File = File>>(files: &R, path: &str) -> io::Result<()> {
     File::open(files, folder_of(path))?.sync_all()
 }

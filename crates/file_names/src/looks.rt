@@ -10,7 +10,7 @@ struct Look {
 
 /// What each name stood for when it was looked at first.
 #[derive(Drop)]
-pub(crate) struct Looks {
+pub struct Looks {
     alloc: Global,
     looks: Vec<Look>,
 }

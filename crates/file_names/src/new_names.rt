@@ -1,7 +1,7 @@
 use std::alloc::{AllocError, Global};
 
 /// The folder in which a file has its name.
-pub(crate) fn folder_of(path: &str) -> &str {
+pub fn folder_of(path: &str) -> &str {
     match path.rsplit_once('/') {
         Some(("", _)) => "/",
         Some((folder, _)) => folder,
@@ -11,7 +11,7 @@ pub(crate) fn folder_of(path: &str) -> &str {
 
 /// The names that were given or taken away since their folders were synced.
 #[derive(Drop)]
-pub(crate) struct NewNames {
+pub struct NewNames {
     alloc: Global,
     paths: Vec<String>,
 }
@@ -31,6 +31,11 @@ impl NewNames {
             self.paths.push(String::from_str(self.alloc, path)?)?;
         }
         Ok(())
+    }
+
+    /// Whether there is none.
+    pub fn is_empty(&self) -> bool {
+        self.paths.is_empty()
     }
 
     /// Whether a name is one of them.
