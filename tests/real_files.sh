@@ -57,17 +57,6 @@ differing() {
     rm one.whole other.whole
 }
 
-# torn OLD NEW FILE: `old-or-new` where each block of the last file is that of the old one or that of the new one, and
-# its length is not outside theirs; else the blocks that are neither.
-torn() {
-    local size
-    size=$(stat -c %s "$3")
-    differing "$1" "$3" >from_old.txt
-    differing "$2" "$3" >from_new.txt
-    if [ "$size" -lt "$(stat -c %s "$1")" ] || [ "$size" -gt "$(stat -c %s "$2")" ]; then echo "$size bytes"; fi
-    comm -12 from_old.txt from_new.txt | { grep . || echo old-or-new; }
-}
-
 # The first call builds the program where it is stale, and shows how.
 cp "$top/samples/quota.user" quota.user
 "$run" repquota -F vfsold -u -v quota.user >/dev/null
@@ -152,7 +141,7 @@ got=0
 same 'the status stays where the error output is full' "$got" 1
 
 # The parts, in an order that counts: each finds the files that those before it left.
-for part in limits changes large scripts windows in_place serving outside sharing; do
+for part in limits changes large scripts windows in_place serving outside sharing journal; do
     . "$top/tests/real_files/$part.sh"
 done
 

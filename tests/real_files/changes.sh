@@ -48,7 +48,7 @@ rm spread
 
 # A file is converted into each other format and back: the reports are the same but for their first line, which has the
 # name. The source stays, no file is written over, and a refusal makes none.
-rm -f q r
+rm -f q r ./*.undo
 expect 'a file to convert' 0 '' '' quotacheck -c -F vfsv0 q <<<$'1000 100 2049 12 9\n70000 100 2049 13 8'
 expect 'its limits' 0 '' '' setquota 1000 2 4294967295 3 4294967295 q
 "$run" repquota -v q >shown
@@ -75,7 +75,7 @@ expect 'the last identifier of a flat file' 0 '' '' quotacheck -c r <<<'1048575 
 expect 'its conversion' 0 '' '' convertquota -f vfsv1,vfsold r flat
 same 'the size of that file' "$(stat -c %s flat)" 41943040
 same 'nothing is left beside the files' "$(echo *.new)" ''
-rm -f q r back flat shown want ./*.converted
+rm -f q r back flat shown want ./*.converted ./*.undo
 
 # The owner and the permissions stay, and a file that was left behind is not in the way.
 : >q

@@ -37,8 +37,8 @@ edited() {
     fi
 }
 
-# As another user than root, in a folder where nobody may make a file: each command that changes records or grace periods
-# changes at most twelve blocks of a tree file, which keeps its inode, owner and permissions.
+# As another user than root, in a folder where nobody may make a file, and which has the undo file: each command that changes
+# records or grace periods changes at most twelve blocks of a tree file, which keeps its inode, owner and permissions.
 runner=("${somebody[@]}")
 for format in vfsv0 vfsv1; do
     mkdir place
@@ -46,6 +46,13 @@ for format in vfsv0 vfsv1; do
     "$run" quotacheck -c -u -F "$format" --input owners place/t
     chmod 640 place/t
     if [ "$(id -u)" = 0 ]; then chown 65534:65534 place/t place; fi
+    chmod 555 place
+    if [ "$(id -u)" = 0 ]; then
+        expect "a first edit of $format without a place for the undo file" 4 '' 'quota: store fault' \
+            setquota -F "$format" 1999 1 2 3 4 place/t
+    fi
+    chmod 755 place
+    expect "a first edit of $format" 0 '' '' setquota -F "$format" 1999 1 2 3 4 place/t
     chmod 555 place
     edited 'limits of a known identifier' '#1200 .* 4 *100 *200 *- *1 *10 *20 *-' \
         setquota -F "$format" 1200 100 200 10 20 place/t
@@ -92,50 +99,54 @@ same"
 done
 runner=("$run")
 
-# traced WORD..: how often a command that is to change a file writes, syncs, and renames or removes a file.
+# traced WORD..: how often a command that is to change a file writes, syncs, and renames or removes a file. Few are at most
+# two writes for each of twelve places, with those of the head and the gate of the undo file.
 traced() {
     strace -o trace.txt "$folder/program" "$@"
     awk '/^p?write/ && !/^write\([12],/ { writes++ } /^(fsync|fdatasync|sync)/ { syncs++ } /^(rename|unlink)/ { names++ }
-        END { print (writes >= 1 && writes <= 12 ? "few" : writes + 0), syncs + 0, names + 0 }' trace.txt
+        END { print (writes >= 1 && writes <= 28 ? "few" : writes + 0), syncs + 0, names + 0 }' trace.txt
 }
 
-# An edit makes at most twelve calls that write and one that syncs, and renames nothing. A new file is synced, and the folder
-# with its name once before it takes the one that it was asked for and once behind that.
+# An edit syncs the file and its undo file before it begins, and four times in it, and renames nothing. The first one makes
+# the undo file, too: it is synced, and the folder with its name once before it takes its own name and once behind that, and
+# so is each new file.
 if strace -o trace.txt true 2>err.txt; then
     for format in vfsv0 vfsv1; do
         seq 1000 1999 | awk '{ print $1, 100, 1, $1, 8 }' >owners
         "$run" quotacheck -c -u -F "$format" --input owners t
-        same "the calls of a known identifier of $format" "$(traced setquota -F "$format" 1200 1 2 3 4 t)" 'few 1 0'
-        same "the calls of a new identifier of $format" "$(traced setquota -F "$format" 4294967295 1 2 3 4 t)" 'few 1 0'
-        same "the calls of no limits of $format" "$(traced setquota -F "$format" 4294967295 0 0 0 0 t)" 'few 1 0'
-        same "the calls of grace periods of $format" "$(traced setquota -F "$format" -t 1 2 t)" 'few 1 0'
+        same "the calls of a first edit of $format" "$(traced setquota -F "$format" 1201 1 2 3 4 t)" 'few 8 2'
+        same "the calls of a known identifier of $format" "$(traced setquota -F "$format" 1200 1 2 3 4 t)" 'few 6 0'
+        same "the calls of a new identifier of $format" "$(traced setquota -F "$format" 4294967295 1 2 3 4 t)" 'few 6 0'
+        same "the calls of no limits of $format" "$(traced setquota -F "$format" 4294967295 0 0 0 0 t)" 'few 6 0'
+        same "the calls of grace periods of $format" "$(traced setquota -F "$format" -t 1 2 t)" 'few 6 0'
+        same "the calls of three lines of $format" \
+            "$(traced setquota -F "$format" -b t <<<$'1200 4 3 2 1\n1201 4 3 2 1\n1202 4 3 2 1')" 'few 14 0'
         same "the calls of a new file of $format" "$(traced quotacheck -c -u -F "$format" --input owners new)" 'few 3 2'
 
-        # A write that fails, or at which the program is killed, and a sync that fails: each block is the old or the new
-        # one.
+        # A write that fails, or at which the program is killed, and a sync that fails: a command that reads the file
+        # behind that makes it the old or the new one.
         cp t old
         cp t new
         "$run" setquota -F "$format" 4294967295 1 2 3 4 new
-        for at in 1 2 3 4 5 6 7 8 9 10 11 12; do
-            for stop in error=EIO signal=KILL; do
+        for stop in pwrite64:error=EIO pwrite64:signal=KILL fdatasync:error=EIO fsync:error=EIO; do
+            for at in $(seq 30); do
                 cp old stopped
+                rm -f stopped.undo
                 got=0
-                (strace -o trace.txt -e trace=pwrite64 -e "inject=pwrite64:$stop:when=$at" "$folder/program" \
+                (strace -o trace.txt -e trace=pwrite64,fsync,fdatasync -e "inject=$stop:when=$at" "$folder/program" \
                     setquota -F "$format" 4294967295 1 2 3 4 stopped || exit $?) 2>err.txt || got=$?
-                if [ "$got" = 0 ]; then break 2; fi
+                if [ "$got" = 0 ]; then break; fi
                 case $stop in
-                    error=EIO) same "write $at of $format fails" "$got $(cat err.txt)" '4 quota: store fault' ;;
-                    signal=KILL) same "write $at of $format is the end" "$got" 137 ;;
+                    *KILL) same "call $at of $format is the end by $stop" "$got" 137 ;;
+                    *) same "call $at of $format fails by $stop" "$got $(cat err.txt)" '4 quota: store fault' ;;
                 esac
-                same "each block after $stop at write $at of $format" "$(torn old new stopped)" old-or-new
+                "$folder/program" repquota -F "$format" stopped >shown.txt
+                same "the file of $format after $stop at call $at" \
+                    "$(if cmp -s old stopped || cmp -s new stopped; then echo old-or-new; fi)" old-or-new
             done
+            same "a change of $format behind $stop" "$([ "$at" -gt 2 ] && cmp stopped new && echo same)" same
         done
-        same "a change of $format without a fault" "$([ "$at" -gt 3 ] && cmp stopped new && echo same)" same
-        cp old stopped
-        got=0
-        strace -o trace.txt -e trace=fsync -e inject=fsync:error=EIO \
-            "$folder/program" setquota -F "$format" 4294967295 1 2 3 4 stopped 2>err.txt || got=$?
-        same "a sync of $format fails" "$got $(cat err.txt) $(cmp stopped new && echo same)" '4 quota: store fault same'
+        rm t.undo new.undo stopped.undo
         rm t old new stopped owners
     done
 else

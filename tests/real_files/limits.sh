@@ -12,7 +12,7 @@ expect 'the report after new limits' 0 "$head
 #1000        --          0        100        200      -        0       10       20      -" '' repquota -F vfsold -u -v q
 expect 'limits of 0 drop the record' 0 '' '' setquota -F vfsold -u 1000 0 0 0 0 q
 expect 'the report after that' 0 "$head" '' repquota -F vfsold -u -v q
-same 'nothing is left beside the file' "$(echo q.*)" ''
+same 'the undo file alone is left beside the file' "$(echo q.*)" q.undo
 
 # A user whose use exceeds the new soft limit gets a timer, which ends a grace period from now, by the system's clock.
 from=$(date +%s)

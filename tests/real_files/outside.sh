@@ -10,11 +10,12 @@ chmod 400 own/q.new
 if [ "$(id -u)" = 0 ]; then chown -R 65534:65534 own; fi
 runner=("${somebody[@]}")
 expect 'a file left behind that may not be written' 0 '' '' quotacheck -F vfsold own/q <<<'1 0 1 1 8'
+expect 'a first change in place' 0 '' '' setquota -F vfsold -u 2 1 1 0 0 own/q
 cp own/q changed
 chmod 555 own
 expect 'a folder that may not be written' 4 '' 'quota: store fault' quotacheck -F vfsold own/q <<<'2 0 1 1 8'
 same 'the file in that folder' "$(cmp own/q changed && echo same)" same
-expect 'a change in place in that folder' 0 '' '' setquota -F vfsold -u 2 1 1 0 0 own/q
+expect 'a change in place in that folder, with an undo file' 0 '' '' setquota -F vfsold -u 2 3 3 0 0 own/q
 chmod 755 own
 cp own/q changed
 chmod 444 own/q
@@ -35,19 +36,22 @@ order() {
         sed -e "s|$(pwd -P)/||" -e "s|$(pwd -P)|.|" | uniq
 }
 
-# The new file and its name are safe on the disk before it gets the name of the old one, and the folder is once more after
-# that.
+# The old file is waited for before it is read. The new file and its name are safe on the disk before it gets the name of the
+# old one, and the folder is once more after that.
 if strace -o trace.txt true 2>err.txt; then
     : >q
+    rm -f q.undo
     mkdir below
     : >below/q
-    same 'the order of a replacement' "$(order q)" 'make q.new with mode 0600
+    same 'the order of a replacement' "$(order q)" 'sync q
+make q.new with mode 0600
 write q.new
 sync q.new
 sync .
 rename q.new to q
 sync .'
-    same 'the order of a replacement in another folder' "$(order below/q)" 'make below/q.new with mode 0600
+    same 'the order of a replacement in another folder' "$(order below/q)" 'sync below/q
+make below/q.new with mode 0600
 write below/q.new
 sync below/q.new
 sync below

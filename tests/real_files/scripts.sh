@@ -15,7 +15,7 @@ convertquota -f vfsv1,vfsv0 q r
 repquota -v q
 repquota -F vfsv0 -v r
 END
-same 'nothing is left beside the files of a script' "$(echo [qr].*)" ''
+same 'the undo file alone is left beside the files of a script' "$(echo [qr].*)" q.undo
 rm r
 cp empty q
 expect 'a script that ends at a refused line' 1 "$head

@@ -195,10 +195,11 @@ expect 'a new file that another program makes' 4 '' 'quota: store fault' quotach
 same 'it is let be' "$(cat q.new; ls q 2>/dev/null || true)" half
 release
 expect 'a new file in place of one left behind' 0 '' '' quotacheck -c q <<<'1 100 1 1 8'
-same 'none is left' "$(ls q*)" q
+same 'none is left' "$(ls q*)" 'q
+q.undo'
 
 # What is removed while it is changed in place is not made anew.
-"${runner[@]}" setquota -b q <given &
+"${runner[@]}" setquota -b q <given 2>err.txt &
 writer=$!
 exec 8>given
 until_locked q
@@ -206,7 +207,7 @@ rm q
 echo '1 7 8 9 10' >&8
 exec 8>&-
 ended "$writer"
-same 'a removed file stays away' "$(ls q 2>/dev/null || true)" ''
+same 'a removed file stays away' "$got $(cat err.txt)$(ls q 2>/dev/null || true)" '4 quota: store fault'
 
 # A script locks what it changes, without waiting, and only where it is as it was at its first look.
 "${runner[@]}" quotacheck -c q <<<'1 100 1 1 8'
@@ -303,7 +304,7 @@ for format in vfsold vfsv0 vfsv1; do
     same "it is the file of $format" "$(limits_of far/one | tail -n 1)" '3 0 0 0 0'
     rm -f target
     expect "a source of $format behind a link" 0 '' '' convertquota -f "$format,vfsv1" nearer target
-    same "links of $format stay" "$(readlink near nearer | paste -sd ' ') $(ls far)" "far/one $shared/near one"
+    same "links of $format stay" "$(readlink near nearer | paste -sd ' ') $(ls far | paste -sd ' ')" "far/one $shared/near one one.undo"
 done
 format=vfsv1
 ln -s none nowhere

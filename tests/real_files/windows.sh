@@ -52,12 +52,11 @@ $(printf '%-13s' "$title")         used       soft       hard  grace    files   
     expect "a batch in $format of a $kind" 0 '' '' setquota "$letter" -F "$format" -b t <<<$'70000 0 0 0 0\n1000 1 2 3 4'
     same "its report in $format of a $kind" "$("$run" repquota "$letter" -v -F "$format" t | sed 1,4d)" \
         '#1000        --          0          1          2      -        0        3        4      -'
-    same "nothing is left beside $format of a $kind" "$(echo t.*)" ''
+    same "the undo file alone is left beside $format of a $kind" "$(echo t.*)" t.undo
 done
 expect 'a flat file that is not asked for as one' 3 '' 'quota: t: not a quota file' repquota -u t
 
-# The program killed at many moments of a change leaves the old flat file or the new one. A tree file is changed where it
-# stands: each of its blocks is the old one or the new one then.
+# The program killed at many moments of a change: behind a report there is the old file or the new one.
 printf '\x11\x1f\xc0\xd9\x01\x00\x00\x00'"$week$tail" >tree
 for id in 1 2 3 1000 70000 16777216 4294967295; do "$run" setquota "$id" 1 2 3 4 tree; done
 truncate -s 41943040 flat
@@ -70,12 +69,8 @@ for case in 'tree vfsv1 0.0' 'flat vfsold 0.'; do
     for step in $(seq 10 99); do
         cp old killed
         timeout -s KILL "${point}0$step" "$folder/program" setquota -F "$format" 5 1 2 3 4 killed 2>err.txt || true
-        case $name in
-            tree) state=$(torn old new killed) ;;
-            flat) state=$({ cmp -s killed old || cmp -s killed new; } && echo old-or-new || echo neither) ;;
-        esac
-        if [ "$state" = old-or-new ]; then kept=$((kept + 1)); fi
-        rm -f killed.new
+        "$folder/program" repquota -F "$format" killed >shown.txt
+        if cmp -s killed old || cmp -s killed new; then kept=$((kept + 1)); fi
     done
-    same "a $format file after a kill is made of the old or the new one" "$kept" 90
+    same "a $format file after a kill is the old or the new one" "$kept" 90
 done
