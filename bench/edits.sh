@@ -4,9 +4,10 @@
 # reading the file once in pieces of 1,024 bytes the ratio of their times (the best of five each), the most memory that the
 # program holds, and its calls of the system. Then, of the file of the users 0 to 999,999 and of the flat one, `setquota -b`
 # of 1,000 lines and of 10,000 (`lines=NUMBER` asks for another number than that), for known users and, of the tree file,
-# for new ones: a line beside writing one block of a copy of the file and syncing it, and beside four, as many as a new user
-# wants, one of them behind the end; each is done half as often as there are lines before the batch, and half as often behind
-# it. And what a line costs over a folder in memory, without a disk, and the calls of the system for a line.
+# for new ones: a line beside writing one block of a copy of the file and syncing it, beside four, as many as a new user
+# wants, one of them behind the end, and beside what a rollback journal of one block costs at least: its old bytes and its
+# new ones, a gate that is opened and closed, and a sync behind each; each is done half as often as there are lines before
+# the batch, and half as often behind it. And what a line costs over a folder in memory, without a disk, and the calls of the system for a line.
 maker=make_tree_file.py
 . "$(dirname "${BASH_SOURCE[0]}")/measure.sh"
 "$top/bin/quota_cli" edquota --print -u 7 q >said
@@ -42,14 +43,28 @@ one_change() {
 }
 
 # synced WHAT NUMBER: so many times writes blocks of the copy and syncs it: `one` block, or `four`, as many as a new user
-# wants: the first one, two others, and one behind the end.
+# wants: the first one, two others, and one behind the end; or `journaled`, one block by a rollback journal.
 synced() {
     python3 - "$1" "$2" <<'PY'
 import os, sys
 what, number = sys.argv[1], int(sys.argv[2])
 file = os.open("copy", os.O_RDWR)
 blocks = os.fstat(file).st_size // 1024
+undo = os.open("copy.undo", os.O_RDWR | os.O_CREAT)
+os.pwrite(undo, bytes(2064), 0)
+os.fsync(undo)
 for count in range(number):
+    if what == "journaled":
+        place = count * 7 % blocks * 1024
+        for file_of, bytes_of, at in (
+            (undo, bytes(16) + os.pread(file, 1024, place), 1024),
+            (undo, b"\1", 0),
+            (file, b"x" * 1024, place),
+            (undo, b"\0", 0),
+        ):
+            os.pwrite(file_of, bytes_of, at)
+            os.fdatasync(file_of)
+        continue
     one = count * 7 % blocks
     for block in [one] if what == "one" else [0, one, count * 11 % blocks, blocks + count]:
         os.pwrite(file, b"x" * 1024, block * 1024)
@@ -71,10 +86,10 @@ batch() {
     cp q copy
     if [ -n "$memory" ]; then cp q given "$memory"; fi
     sync
-    for what in one four; do theirs[$what]=$(time_of synced $what $((lines / 2))); done
+    for what in one four journaled; do theirs[$what]=$(time_of synced $what $((lines / 2))); done
     ours=$(time_of "${batch[@]}" <given)
     echo "setquota -b of $lines lines for $1 users: $(each "$ours") ms a line"
-    for what in one four; do
+    for what in one four journaled; do
         theirs[$what]=$(echo "${theirs[$what]} $(time_of synced $what $((lines - lines / 2)))" | awk '{ print $1 + $2 }')
         echo "$what written and synced: $(each "${theirs[$what]}") ms, ratio $(ratio "$ours" "${theirs[$what]}")"
     done

@@ -1,0 +1,115 @@
+#!/usr/bin/env bash
+# Measures, in one run, what the journal of a change in place costs: for one change of a known user, of a new one and of one
+# whose record goes, in the tree file of the users 0 to 999,999, the calls of the system, the syncs and the writes with
+# their bytes, and the time (the best and the middle one of `rounds`, with the start of the program); beside it the same of
+# SQLite's rollback journal (synchronous=FULL, pages of 1,024 bytes, in a running Python, a connection for each change) for a
+# change of as many pages, with journal_mode=DELETE and PERSIST, in turn. Then the first change of a file ever, and what a
+# line of `setquota -b` of 1,000 lines costs.
+maker=make_tree_file.py
+. "$(dirname "${BASH_SOURCE[0]}")/measure.sh"
+rounds=${rounds:-15}
+
+# The user whom the next change of each kind meets, and how far it is from there to the one behind.
+declare -A user=([known]=7007 [new]=33554432 [leaving]=42000)
+declare -A step=([known]=7007 [new]=16777216 [leaving]=42000)
+
+# next KIND: puts the words of the next change of a kind into `change`.
+next() {
+    local limits=(100 200 10 20)
+    if [ "$1" = leaving ]; then limits=(0 0 0 0); fi
+    change=("$program" setquota -u "${user[$1]}" "${limits[@]}" q)
+    user[$1]=$((user[$1] + step[$1]))
+}
+
+# blocks: in how many blocks of 1,024 bytes `q` is not what `was` was, with those that are new.
+blocks() {
+    { cmp -l was q || true; } 2>/dev/null | awk '{ print int(($1 - 1) / 1024) }' | uniq | wc -l | awk \
+        -v new="$((($(stat -c %s q) - $(stat -c %s was)) / 1024))" '{ print $1 + new }'
+}
+
+# counts: what a trace has: all its calls, those that sync, those that write, and their bytes.
+counts() {
+    awk '/^[0-9 ]*[a-z_0-9]+\(/ { all++ } / = -1 / { next } /f(data)?sync\(/ { syncs++ }
+        /write(v|64)?\(/ { writes++; bytes += $NF }
+        END { printf "%d calls, %d syncs, %d writes, %d bytes\n", all, syncs, writes, bytes }' "$1"
+}
+
+# Changes of so many pages, one in each of the modes that follow, each with its milliseconds on a line.
+cat >sqlite.py <<'PY'
+import os, sqlite3, sys, time
+
+def connected(mode):
+    base = sqlite3.connect(f"{mode}.db", isolation_level=None)
+    base.execute(f"pragma journal_mode={mode}")
+    base.execute("pragma synchronous=FULL")
+    return base
+
+def make(mode):
+    base = sqlite3.connect(f"{mode}.db", isolation_level=None)
+    base.execute("pragma page_size=1024")
+    base.execute("create table record(id integer primary key, bytes blob)")
+    base.execute("begin")
+    for number in range(20000):
+        base.execute("insert into record values(?, ?)", (number, bytes(900)))
+    base.execute("commit")
+    base.close()
+
+def change(mode, pages):
+    base = connected(mode)
+    base.execute("begin")
+    for page in range(pages):
+        place = (os.getpid() * 31 + page * 977) % 20000
+        base.execute("update record set bytes = ? where id = ?", (os.urandom(900), place))
+    base.execute("commit")
+    base.close()
+
+pages, modes = int(sys.argv[1]), sys.argv[2:]
+for mode in modes:
+    if not os.path.exists(f"{mode}.db"):
+        make(mode)
+        change(mode, 1)
+    begun = time.time()
+    change(mode, pages)
+    print(mode, (time.time() - begun) * 1000)
+PY
+
+# middle WHAT: of the milliseconds of lines of this first word, the least and the middle one.
+middle() {
+    grep "^$1 " times | sort -k 2 -n | awk '{ all[NR] = $2 } END { printf "at best %.3f ms, the middle one %.3f", all[1], all[int((NR + 1) / 2)] }'
+}
+
+# change_beside KIND: changes of a kind beside those of SQLite.
+change_beside() {
+    local pages mode
+    cp q was
+    next "$1"
+    strace -f -o trace "${change[@]}" >/dev/null
+    pages=$(blocks)
+    rm was
+    echo "setquota for a $1 user, $pages blocks: $(counts trace)"
+    for mode in DELETE PERSIST; do
+        strace -f -P "$folder/$mode.db" -P "$folder/$mode.db-journal" -P "$folder" -o trace \
+            python3 sqlite.py "$pages" "$mode" >/dev/null
+        echo "SQLite, $mode: $(counts trace)"
+    done
+    : >times
+    for _ in $(seq "$rounds"); do
+        next "$1"
+        echo "ours $(time_of "${change[@]}" | awk '{ print $1 * 1000 }')" >>times
+        python3 sqlite.py "$pages" DELETE PERSIST >>times
+    done
+    echo "ours: $(middle ours); SQLite, DELETE: $(middle DELETE); PERSIST: $(middle PERSIST)"
+}
+
+python3 sqlite.py 1 DELETE PERSIST >/dev/null
+"$program" setquota -u 7 100 200 10 20 q
+for kind in known new leaving; do change_beside "$kind"; done
+
+rm q.undo
+next known
+strace -f -o trace "${change[@]}" >/dev/null
+echo "the first change of a file ever: $(counts trace)"
+
+seq 0 80 79920 | awk '{ print $1, 100, 200, 10, 20 }' >given
+strace -f -o trace "$program" setquota -u -b --input given q >/dev/null
+echo "setquota -b of 1,000 lines for known users: $(counts trace)"
