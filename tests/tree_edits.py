@@ -7,7 +7,7 @@ tree_edits.py PROGRAM FORMAT SEED ROUNDS LINES RUNS FORMS all|kept [FILE]
     so many rounds: each has a batch of so many lines, so many runs for one user each, and so many forms that are printed,
     changed and read in again. With `kept` no edit takes a record away. Prints `same` where each run for one user changed
     at most twelve blocks; where no run shortened the file, gave it another inode, owner, group or permissions, or made or
-    removed a file beside it; and where the file is sound and has the records of the map after each round, and `repquota`
+    removed a file beside it, with an undo file there; and where the file is sound and has the records of the map after each round, and `repquota`
     shows them at the end. Else it prints what differs first.
 """
 
@@ -111,6 +111,9 @@ class Edited:
         os.chmod(FILE, 0o640)
         if os.geteuid() == 0:
             os.chown(FILE, 65534, 65534)
+        # An undo file that saves nothing is there, which the first edit would make beside the file.
+        with open(FILE + ".undo", "wb") as undo:
+            undo.write(bytes(1024))
         self.state = state()
         if start:
             # (no timer runs then)

@@ -108,8 +108,8 @@ traced() {
 }
 
 # An edit syncs the file and its undo file before it begins, and four times in it, and renames nothing. The first one makes
-# the undo file, too: it is synced, and the folder with its name once before it takes its own name and once behind that, and
-# so is each new file.
+# the undo file, too: it is synced, and the folder with its name once before it takes its own name and once behind that. So is
+# each new file; the listing of it is synced before it is read.
 if strace -o trace.txt true 2>err.txt; then
     for format in vfsv0 vfsv1; do
         seq 1000 1999 | awk '{ print $1, 100, 1, $1, 8 }' >owners
@@ -121,7 +121,7 @@ if strace -o trace.txt true 2>err.txt; then
         same "the calls of grace periods of $format" "$(traced setquota -F "$format" -t 1 2 t)" 'few 6 0'
         same "the calls of three lines of $format" \
             "$(traced setquota -F "$format" -b t <<<$'1200 4 3 2 1\n1201 4 3 2 1\n1202 4 3 2 1')" 'few 14 0'
-        same "the calls of a new file of $format" "$(traced quotacheck -c -u -F "$format" --input owners new)" 'few 3 2'
+        same "the calls of a new file of $format" "$(traced quotacheck -c -u -F "$format" --input owners new)" 'few 4 2'
 
         # A write that fails, or at which the program is killed, and a sync that fails: a command that reads the file
         # behind that makes it the old or the new one.

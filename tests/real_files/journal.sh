@@ -119,6 +119,7 @@ if command -v python3 >/dev/null && [ "$(uname -m)" = x86_64 ]; then
         "$program" $words >shown 2>&1
         same "'$words' recovers" "$(cmp shown wanted && cmp q new && gate q)" 0
     done
+    "$program" quotacheck -c r <<<'1 100 1 1 8'
     cp old q
     open_gate q
     same 'a script recovers' "$("$program" script <<<'edquota --print 1020 q' | tail -n 1) $(cmp q old && gate q)" \
@@ -140,9 +141,14 @@ if command -v python3 >/dev/null && [ "$(uname -m)" = x86_64 ]; then
     "$program" script <<<$'setquota 1 1 2 3 4 r\nrepquota q' >shown 2>said || got=$?
     same 'a script that holds a file does not wait' "$got $(cat said)" '4 quota: line 2: store fault'
     release
-    expect 'names and an input are recovered, too' 1 '' 'quota: unknown name carol' \
-        setquota --names q carol 1 2 3 4 r
-    same 'as a reader does' "$(cmp q old && gate q)" 0
+    expect 'and leaves that file to others' 0 "$("$program" edquota --print 1020 old | sed 's/ old / q /')" '' \
+        edquota --print 1020 q
+    same 'who recover it' "$(cmp q old && gate q)" 0
+    printf 'alice:x:1:1::/:/bin/sh\n#%01000d\n' 0 >names
+    cp names was
+    open_gate names
+    expect 'a file of names is recovered, too' 0 '' '' setquota --names names alice 1 2 3 4 r
+    same 'before it is read' "$(cmp names was && gate names)" 0
 
     # `rquotad` recovers before it serves, and holds nothing then.
     "$program" setquota 1020 100 200 10 20 q
@@ -189,10 +195,14 @@ if command -v python3 >/dev/null && [ "$(uname -m)" = x86_64 ]; then
     fi
     runner=("$run")
 
-    # Names that an undo file has are no quota files, and none that would be too long.
+    # Names of undo files, and names for whose undo file there is no room, are no names of files.
     for name in q.undo q.und "$(printf 'n%.0s' $(seq 251))"; do
-        expect "the name ${name:0:10}" 4 '' 'quota: store fault' repquota "$name"
+        expect "the name ${name:0:10}" 2 '' 'quota: usage: BadFileName at word 1' repquota "$name"
     done
+    name=$(printf 'n%.0s' $(seq 251))
+    cp old "$name"
+    ln -s "$name" long
+    expect 'a file behind a link with a name for whose undo file there is no room' 4 '' 'quota: store fault' repquota long
 else
     echo 'real_files: python3 is not there, or this is not x86-64: no change is stopped' >&2
 fi
