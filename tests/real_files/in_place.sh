@@ -112,6 +112,7 @@ traced() {
 # each new file; the listing of it is synced before it is read.
 if strace -o trace.txt true 2>err.txt; then
     for format in vfsv0 vfsv1; do
+        rm -f t t.undo new new.undo
         seq 1000 1999 | awk '{ print $1, 100, 1, $1, 8 }' >owners
         "$run" quotacheck -c -u -F "$format" --input owners t
         same "the calls of a first edit of $format" "$(traced setquota -F "$format" 1201 1 2 3 4 t)" 'few 8 2'

@@ -9,3 +9,4 @@ pub mod forms;
 pub mod limits;
 pub mod refused_forms;
 pub mod refused_lines;
+pub mod stops;

@@ -1,6 +1,6 @@
 use crate::playing::play;
 use edit_stories::{
-    applied, batches, edits, ended_batches, forms, limits, refused_forms, refused_lines,
+    applied, batches, edits, ended_batches, forms, limits, refused_forms, refused_lines, stops,
 };
 use story_player::FILES;
 
@@ -76,4 +76,31 @@ fn forms_are_refused(rt: HostRuntime) {
 #[test]
 fn the_lines_before_one_at_fault_stay(rt: HostRuntime) {
     play(&rt, rt.alloc(), &[FILES, refused_lines::REFUSED_LINES]);
+}
+
+#[test]
+fn a_stop_leaves_the_old_tree_file_or_the_changed_one(rt: HostRuntime) {
+    play(
+        &rt,
+        rt.alloc(),
+        &[FILES, stops::STOPPED_FILES, stops::STOPPED_TREES],
+    );
+}
+
+#[test]
+fn a_stop_leaves_the_old_file_of_vfsv0_or_the_changed_one(rt: HostRuntime) {
+    play(
+        &rt,
+        rt.alloc(),
+        &[FILES, stops::STOPPED_FILES, stops::STOPPED_TREES_0],
+    );
+}
+
+#[test]
+fn a_stop_leaves_the_old_flat_file_or_the_changed_one(rt: HostRuntime) {
+    play(
+        &rt,
+        rt.alloc(),
+        &[FILES, stops::STOPPED_FILES, stops::STOPPED_FLAT_FILES],
+    );
 }

@@ -17,6 +17,4 @@ mod playing;
 #[cfg(test)]
 mod script_tests;
 #[cfg(test)]
-mod shown;
-#[cfg(test)]
 mod udp;

@@ -1,18 +1,19 @@
-use crate::shown::shown;
+use command_text::shown;
+use quota_blocks::Store;
 use quota_cli::run::{UsageFault, read_words, run};
 use std::alloc::{AllocError, Global};
 use std::process::Abort;
-use story_player::{Program, Streams, Watched, failure_of};
+use story_player::{Program, Streams, failure_of};
 
 /// This program, as stories run it. They look at what is left, and rest on no promise of it.
 struct QuotaCli;
 
 impl Program for QuotaCli {
-    fn run(
+    fn run<S: Store>(
         &self,
         alloc: Global,
         words: &[String],
-        store: &mut Watched,
+        store: &mut S,
         streams: &mut Streams,
         now: u64,
     ) -> u8 {

@@ -1,8 +1,10 @@
 //! The runs of a story: words that are run once, by a file in place of the standard input, with each call of an object
-//! failing in turn, and over a store whose files turn bad. It is there for tests alone.
+//! failing in turn, over a store whose files turn bad, and over a disk that stops at each of its calls. It is there for
+//! tests alone.
 #![tactic(auto)]
 
 mod made_calls;
+mod stops;
 mod sweeps;
 mod torn;
 mod turning;

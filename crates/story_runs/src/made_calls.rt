@@ -1,6 +1,6 @@
 use quota_blocks::{Link, MemLink, MemSink, MemSource, Sink, Source};
 
-/// The number of a call that no run of a story makes of an object, so that it is known how many it made.
+/// The number of a call that no run of a story makes of another object, so that it is known how many it made.
 pub(crate) const NEVER: u64 = 10_000;
 
 /// How many calls of a sink were made, where its call number `planned` is to fail and was not made yet.

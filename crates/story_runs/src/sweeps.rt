@@ -1,10 +1,12 @@
 use crate::made_calls::{NEVER, calls_made, link_calls_made, reads_made};
+use crate::stops::run_stops;
 use crate::torn::is_torn;
 use crate::turning::run_turn;
 use std::alloc::Global;
 use story_stage::{
     Last, NamedBytes, Program, Ran, Runs, Setting, Stage, Told, Wrong, copied, find, has_name,
-    holds_if, instead, is_fault_line, is_number, last_line, run_line, run_over, set, unmet,
+    holds_if, instead, is_fault_line, is_number, last_line, run_journaled, run_line, run_over, set,
+    unmet,
 };
 
 /// Carries out a line that runs words.
@@ -27,10 +29,11 @@ fn run_so<P: Program>(
     rest: &str,
 ) -> Result<Ran, Wrong> {
     match how {
-        Runs::Once => run_line(program, stage, setting, rest),
+        Runs::Once => run_once(program, stage, setting, rest),
         Runs::Both => run_both(program, stage, setting, rest),
         Runs::Sweep => run_sweep(program, stage, setting, rest),
         Runs::Turn => run_turn(program, stage, setting, rest),
+        Runs::Stop => run_stops(program, stage, setting, rest),
     }
 }
 
@@ -58,6 +61,36 @@ fn go_on(stage: &mut Stage, ran: Ran) -> Told {
     Ok(())
 }
 
+/// Whether nothing is set that only a store in memory can meet.
+fn is_met_by_disk(setting: &Setting) -> bool {
+    setting.failing.store.is_empty() && setting.good_reads == u64::MAX
+}
+
+/// Runs words over these files in a store in memory, and where nothing else is set once more on a disk, through a journal.
+fn run_twice<P: Program>(
+    program: &P,
+    stage: &Stage,
+    files: &[NamedBytes],
+    setting: &Setting,
+    line: &str,
+) -> Result<Ran, Wrong> {
+    let ran = run_over(program, stage, files, setting, line)?;
+    if is_met_by_disk(setting) {
+        run_journaled(program, stage, files, setting, line, &ran)?;
+    }
+    Ok(ran)
+}
+
+/// Runs words over the files that are there.
+fn run_once<P: Program>(
+    program: &P,
+    stage: &Stage,
+    setting: &Setting,
+    line: &str,
+) -> Result<Ran, Wrong> {
+    run_twice(program, stage, &stage.files, setting, line)
+}
+
 /// Whether an error output is that of a run that read the file `l`, where the other one read the standard input.
 fn is_said_of_file(by_input: &[u8], by_file: &[u8]) -> bool {
     match by_input.strip_prefix(b"quota: input: ") {
@@ -67,7 +100,7 @@ fn is_said_of_file(by_input: &[u8], by_file: &[u8]) -> bool {
 }
 
 /// Whether some files are the same as others, apart from one of a name.
-fn are_same(files: &[NamedBytes], others: &[NamedBytes], but: &str) -> bool {
+pub(crate) fn are_same(files: &[NamedBytes], others: &[NamedBytes], but: &str) -> bool {
     let mut are_same = true;
     for (name, bytes) in files {
         let is_same = name.as_str() == but || find(others, name.as_str()) == Some(bytes);
@@ -101,7 +134,7 @@ fn run_by_file<P: Program>(
     let copy = Vec::from_slice(stage.alloc, lines)?;
     set(stage.alloc, &mut files, "l", copy)?;
     let words = format!(in stage.alloc; "{line} --input l")?;
-    run_over(program, stage, &files, setting, words.as_str())
+    run_twice(program, stage, &files, setting, words.as_str())
 }
 
 /// That a run by a file in place of the standard input leaves the same.
@@ -125,7 +158,7 @@ fn run_both<P: Program>(
     setting: &mut Setting,
     line: &str,
 ) -> Result<Ran, Wrong> {
-    let by_input = run_line(program, stage, setting, line)?;
+    let by_input = run_once(program, stage, setting, line)?;
     is_same_by_file(program, stage, setting, line, &by_input)?;
     Ok(by_input)
 }
@@ -226,7 +259,11 @@ fn is_failed(stage: &Stage, whole: &Ran, ran: &Ran, object: &str) -> Told {
 }
 
 /// What came of a run, with the number that was set where it is wrong.
-pub(crate) fn at_call(alloc: Global, call: u64, told: Told) -> Told {
+pub(crate) fn at_call<T: Drop>(
+    alloc: Global,
+    call: u64,
+    told: Result<T, Wrong>,
+) -> Result<T, Wrong> {
     match told {
         Err(Wrong::Said(why)) => Err(Wrong::Said(format!(in alloc;
             "where {call} is set: {}",
@@ -237,7 +274,7 @@ pub(crate) fn at_call(alloc: Global, call: u64, told: Told) -> Told {
 }
 
 /// Whether one of these files is so as a line lets a sweep leave it besides.
-fn is_between(stage: &Stage, files: &[NamedBytes]) -> bool {
+pub(crate) fn is_between(stage: &Stage, files: &[NamedBytes]) -> bool {
     let mut is_between = false;
     for (name, bytes) in files {
         is_between = is_between || is_allowed(stage, name.as_str(), Some(bytes));

@@ -2,13 +2,18 @@ use crate::objects::Streams;
 use crate::program::Program;
 use crate::ran::Ran;
 use crate::scripts::add_words;
-use crate::stage::{NamedBytes, Setting, Stage, find};
+use crate::shelf::{NEW, files_on};
+use crate::stage::{NamedBytes, Setting, Stage};
 use crate::watched::Watched;
 use crate::wrong::{Wrong, holds_if};
 use std::alloc::{AllocError, Global};
 
 /// The words of a line, parted by single spaces.
-fn words_of(alloc: Global, line: &str) -> Result<Vec<String>, AllocError> {
+///
+/// # Errors
+///
+/// There was not enough memory.
+pub fn words_of(alloc: Global, line: &str) -> Result<Vec<String>, AllocError> {
     let mut words = Vec::new(alloc);
     if line.is_empty() {
         return Ok(words);
@@ -17,54 +22,6 @@ fn words_of(alloc: Global, line: &str) -> Result<Vec<String>, AllocError> {
         words.push(String::from_str(alloc, word)?)?;
     }
     Ok(words)
-}
-
-/// Keeps a file of the store, where there is one that is not kept yet.
-fn keep_file(
-    alloc: Global,
-    kept: &mut Vec<NamedBytes>,
-    store: &Watched,
-    name: &str,
-) -> Result<(), AllocError> {
-    if find(kept, name).is_some() {
-        return Ok(());
-    }
-    if let Some(bytes) = store.store.file(name) {
-        kept.push((
-            String::from_str(alloc, name)?,
-            Vec::from_slice(alloc, bytes)?,
-        ))?;
-    }
-    Ok(())
-}
-
-/// Keeps a file and the one with `.new` added to its name.
-fn keep_both(
-    alloc: Global,
-    kept: &mut Vec<NamedBytes>,
-    store: &Watched,
-    name: &str,
-) -> Result<(), AllocError> {
-    keep_file(alloc, kept, store, name)?;
-    let new = format!(in alloc; "{name}.new")?;
-    keep_file(alloc, kept, store, new.as_str())
-}
-
-/// The files that a store has under the names of these files and under the words, and with `.new` added to them.
-fn files_of(
-    alloc: Global,
-    store: &Watched,
-    before: &[NamedBytes],
-    words: &[String],
-) -> Result<Vec<NamedBytes>, AllocError> {
-    let mut kept = Vec::new(alloc);
-    for (name, _) in before {
-        keep_both(alloc, &mut kept, store, name.as_str())?;
-    }
-    for word in words {
-        keep_both(alloc, &mut kept, store, word.as_str())?;
-    }
-    Ok(kept)
 }
 
 /// Runs words over these files, and looks at what they left.
@@ -81,7 +38,7 @@ fn run_words<P: Program>(
     let (reads, writes) = (store.store.reads(), store.store.writes());
     let status = program.run(alloc, &words, &mut store, &mut streams, stage.now);
     add_words(alloc, &mut words, &setting.input)?;
-    let after = files_of(alloc, &store, files, &words)?;
+    let after = files_on(alloc, &mut store, files, &words, NEW)?;
     let reads = store.store.reads().saturating_sub(reads);
     let writes = store.store.writes().saturating_sub(writes);
     Ok(Ran {
@@ -96,7 +53,7 @@ fn run_words<P: Program>(
     })
 }
 
-/// Runs the words of a line over these files.
+/// Runs the words of a line over these files in a store in memory.
 ///
 /// # Errors
 ///
@@ -115,7 +72,7 @@ pub fn run_over<P: Program>(
     Ok(ran)
 }
 
-/// Runs the words of a line over the files that are there.
+/// Runs the words of a line over the files that are there, in a store in memory.
 ///
 /// # Errors
 ///

@@ -61,6 +61,8 @@ pub enum Runs {
     Sweep,
     /// Over a store that turns, after each number of reads.
     Turn,
+    /// Over a disk that stops, at each of its calls.
+    Stop,
 }
 
 /// Of what a line tells; `VERBS` has the word of each.
@@ -135,6 +137,7 @@ pub const VERBS: &[(&str, Verb)] = &[
     ("both", Verb::Run(Runs::Both)),
     ("sweep", Verb::Run(Runs::Sweep)),
     ("turn", Verb::Run(Runs::Turn)),
+    ("stop", Verb::Run(Runs::Stop)),
     ("read", Verb::Read { in_script: false }),
     ("line", Verb::Read { in_script: true }),
     ("is", Verb::Tell(Tell::Read)),

@@ -1,11 +1,13 @@
 ghost use Rattle.quota_blocks.specs.InMemory.{mem_store_seen};
 
+use crate::disks::all_making_calls;
+use crate::stage::NamedBytes;
 use quota_blocks::{MemStore, Store, StoreFault};
 use std::alloc::{AllocError, Global};
 
 /// The calls that were made.
 #[derive(Drop)]
-pub struct Diary {
+pub(crate) struct Diary {
     /// How many there were.
     pub calls: u64,
     /// Each of them, and the files that it names. A call for which there is no memory is not written down.
@@ -26,7 +28,7 @@ impl Diary {
 /// A store in memory that counts its calls and writes them down, and whose files turn into bytes of 255 after so many
 /// reads. It tells nothing.
 #[derive(Drop)]
-pub struct Watched {
+pub(crate) struct Watched {
     /// The store whose files it gives.
     pub store: MemStore,
     /// The calls that were made.
@@ -39,14 +41,11 @@ impl Watched {
     /// A store with these files, all of them synced. The calls whose numbers stand in `failing` fail.
     pub(crate) fn new(
         alloc: Global,
-        files: &[(String, Vec<u8>)],
+        files: &[NamedBytes],
         failing: &[u64],
         good_reads: u64,
     ) -> Result<Watched, AllocError> {
-        let mut made = 0u64;
-        for (_, bytes) in files {
-            made = made.saturating_add(making_calls(bytes));
-        }
+        let made = all_making_calls(files);
         let mut plan = Vec::new(alloc);
         for call in failing {
             plan.push(call.saturating_add(made))?;
@@ -64,11 +63,6 @@ impl Watched {
             good_reads,
         })
     }
-}
-
-/// How many calls make a file.
-fn making_calls(bytes: &[u8]) -> u64 {
-    (bytes.len() as u64).div_ceil(1024).saturating_add(2)
 }
 
 /// Makes a file, and syncs it.

@@ -3,8 +3,12 @@ use option_words::ExportList;
 use refusals::Word;
 use std::alloc::{AllocError, Global};
 
-/// A command as one line.
-pub(crate) fn shown(alloc: Global, command: &Command) -> Result<String, AllocError> {
+/// A command as one line: what it does, the words that it was given, and which of its switches are set.
+///
+/// # Errors
+///
+/// There was not enough memory.
+pub fn shown(alloc: Global, command: &Command) -> Result<String, AllocError> {
     match command {
         Command::SetLimits {
             common,

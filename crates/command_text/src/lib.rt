@@ -1,0 +1,6 @@
+//! Commands as text, so that tests can say what words are read as.
+#![tactic(auto)]
+
+mod commands;
+
+pub use commands::shown;

@@ -1,0 +1,309 @@
+//! Changes in place over a disk that stops at each of its calls, and the recovery of what is left then.
+
+/// Files of other rows: of vfsv0 and vfsv1, of which identifier 1000 exceeds its soft limit of blocks (`timed0`, `timed`),
+/// and a flat file, of which identifier 1 exceeds both and identifier 2 uses nothing (`flat`).
+pub const STOPPED_FILES: &str = "\
+= files of other rows
+use timed
+file q
+run convertquota -f vfsv1,vfsv0 q r
+changes r
+get r
+keep timed0
+hex 111fc0d9 00000000 803a0900 803a0900 00000000 02000000 00000000 00000000
+keep empty0
+record 0 0 0 0 0 0 604800 604800
+record 8 2 4 9 8 9 5 6
+record 8 2 0 0 0 0 0 0
+keep flat
+";
+
+/// Files of vfsv1.
+pub const STOPPED_TREES: &str = "\
+= limits of a known identifier
+use timed
+file q
+stop setquota -u 1000 3 9 1 2 q | repquota q
+changes q
+
+= limits of an identifier that has no record
+use timed
+file q
+stop setquota -u 7 1 2 3 4 q | edquota --print 7 q
+changes q
+
+= limits in a file that has no records, and behind them none
+use empty
+file q
+stop setquota -u 1000 100 200 0 0 q | repquota -v q
+long q 6144
+stop setquota -u 1000 0 0 0 0 q | repquota -v q
+long q 6144
+run repquota -v q
+head user q 7days 7days
+
+= an undo file that is there from before
+use timed
+file q
+zeros 1024
+file q.undo
+stop setquota -u 1000 0 0 0 0 q | repquota q
+changes q
+
+= another file is left alone
+use timed
+file q
+use empty
+file r
+stop setquota -u 1000 0 0 0 0 q | repquota q
+changes q
+same r
+
+= copied limits
+use timed
+file q
+stop setquota -u -p 1000 7 q | edquota --print 7 q
+changes q
+
+= periods
+use timed
+file q
+stop setquota -u -t 86400 3600 q | repquota q
+changes q
+
+= times, of which one is passed over
+use timed
+file q
+stop setquota -T -u 1000 3600 unset q | repquota -p q
+! quota: inode time not set, soft limit not exceeded
+changes q
+
+= three lines
+use timed
+file q
+run setquota 7 1 2 0 0 q
+changes q
+get q
+keep first
+run setquota 1000 3 4 0 0 q
+changes q
+get q
+keep second
+use timed
+file q
+text 7 1 2 0 0
+text 1000 3 4 0 0
+text 7 0 0 0 0
+input
+may q first
+may q second
+stop setquota -b q | repquota -v q
+changes q
+
+= a form
+use timed
+file q
+text Disk quotas for user #1000 (uid 1000):
+text   Filesystem blocks soft hard inodes soft hard
+text   q 4 100 200 1 10 20
+input
+stop edquota --apply -u 1000 q | edquota --print 1000 q
+changes q
+
+= a script whose third line is refused
+use empty
+file q
+text setquota -u 1000 100 200 0 0 q
+text repquota -u -v q
+text setquota -u 1000 10x 0 0 0 q
+text repquota -u -v q
+input
+stop script | repquota -v q
+status 1
+head user q 7days 7days
+> #1000        --          0        100        200      -        0        0        0      -
+! quota: line 3: bad number 10x
+long q 6144
+";
+
+/// Files of vfsv0.
+pub const STOPPED_TREES_0: &str = "\
+= limits of a known identifier
+use timed0
+file q
+stop setquota -F vfsv0 -u 1000 3 9 1 2 q | repquota -F vfsv0 q
+changes q
+
+= limits of an identifier that has no record
+use timed0
+file q
+stop setquota -F vfsv0 -u 7 1 2 3 4 q | edquota --print -F vfsv0 7 q
+changes q
+
+= limits in a file that has no records, and behind them none
+use empty0
+file q
+stop setquota -F vfsv0 -u 1000 100 200 0 0 q | repquota -F vfsv0 -v q
+long q 6144
+stop setquota -F vfsv0 -u 1000 0 0 0 0 q | repquota -F vfsv0 -v q
+long q 6144
+run repquota -F vfsv0 -v q
+head user q 7days 7days
+
+= copied limits
+use timed0
+file q
+stop setquota -F vfsv0 -u -p 1000 7 q | edquota --print -F vfsv0 7 q
+changes q
+
+= periods
+use timed0
+file q
+stop setquota -F vfsv0 -u -t 86400 3600 q | repquota -F vfsv0 q
+changes q
+
+= times, of which one is passed over
+use timed0
+file q
+stop setquota -F vfsv0 -T -u 1000 3600 unset q | repquota -F vfsv0 -p q
+! quota: inode time not set, soft limit not exceeded
+changes q
+
+= three lines
+use timed0
+file q
+run setquota -F vfsv0 7 1 2 0 0 q
+changes q
+get q
+keep first
+run setquota -F vfsv0 1000 3 4 0 0 q
+changes q
+get q
+keep second
+use timed0
+file q
+text 7 1 2 0 0
+text 1000 3 4 0 0
+text 7 0 0 0 0
+input
+may q first
+may q second
+stop setquota -b -F vfsv0 q | repquota -F vfsv0 -v q
+changes q
+
+= a form
+use timed0
+file q
+text Disk quotas for user #1000 (uid 1000):
+text   Filesystem blocks soft hard inodes soft hard
+text   q 4 100 200 1 10 20
+input
+stop edquota --apply -F vfsv0 -u 1000 q | edquota --print -F vfsv0 1000 q
+changes q
+
+= a script whose third line is refused
+use empty0
+file q
+text setquota -F vfsv0 -u 1000 100 200 0 0 q
+text repquota -F vfsv0 -u -v q
+text setquota -F vfsv0 -u 1000 10x 0 0 0 q
+text repquota -F vfsv0 -u -v q
+input
+stop script | repquota -F vfsv0 -v q
+status 1
+head user q 7days 7days
+> #1000        --          0        100        200      -        0        0        0      -
+! quota: line 3: bad number 10x
+long q 6144
+";
+
+/// Flat files.
+pub const STOPPED_FLAT_FILES: &str = "\
+= limits of a known identifier
+use flat
+file q
+stop setquota -F vfsold -u 1 3 9 1 2 q | repquota -F vfsold q
+changes q
+
+= limits of an identifier behind the end of the file
+use flat
+file q
+stop setquota -F vfsold -u 60 1 2 3 4 q | edquota --print -F vfsold 60 q
+long q 2440
+
+= limits in an empty file, of which a stop leaves nothing or the whole new one
+file q
+stop setquota -F vfsold -u 1000 100 200 10 20 q | repquota -F vfsold q
+long q 40040
+
+= limits that go
+use flat
+file q
+stop setquota -F vfsold -u 2 0 0 0 0 q | repquota -F vfsold -v q
+changes q
+
+= copied limits
+use flat
+file q
+stop setquota -F vfsold -u -p 1 7 q | edquota --print -F vfsold 7 q
+changes q
+
+= periods
+use flat
+file q
+stop setquota -F vfsold -u -t 86400 3600 q | repquota -F vfsold q
+changes q
+
+= times
+use flat
+file q
+stop setquota -F vfsold -T -u 1 3600 unset q | repquota -F vfsold -p q
+changes q
+
+= three lines
+use flat
+file q
+run setquota -F vfsold 7 1 2 0 0 q
+changes q
+get q
+keep first
+run setquota -F vfsold 1 3 4 0 0 q
+changes q
+get q
+keep second
+use flat
+file q
+text 7 1 2 0 0
+text 1 3 4 0 0
+text 7 0 0 0 0
+input
+may q first
+may q second
+stop setquota -b -F vfsold q | repquota -F vfsold -v q
+changes q
+
+= a form
+use flat
+file q
+text Disk quotas for user #1 (uid 1):
+text   Filesystem blocks soft hard inodes soft hard
+text   q 4 100 200 1 10 20
+input
+stop edquota --apply -F vfsold -u 1 q | edquota --print -F vfsold 1 q
+changes q
+
+= a script whose third line is refused
+use flat
+file q
+text setquota -F vfsold -u 1 100 200 0 0 q
+text repquota -F vfsold -u q
+text setquota -F vfsold -u 1 10x 0 0 0 q
+text repquota -F vfsold -u q
+input
+stop script | repquota -F vfsold q
+status 1
+head user q 7days 7days
+> #1           --          4        100        200      -        9        0        0      -
+! quota: line 3: bad number 10x
+changes q
+";
