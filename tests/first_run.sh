@@ -137,6 +137,21 @@ same 'what it had begun is kept' "$(cat crates/{low,middle,high}/out/kept && ech
 rm "$folder/slow"
 same 'the next call goes on' "$(bin/quota_cli x 2>/dev/null)" 'ran x'
 
+# What is edited while it is proved.
+repository
+echo 1 >"$folder/slow"
+bin/build 2>/dev/null &
+for ((i = 0; i < 2000; i++)); do
+    if [ "$(wc -l <"$folder/said")" = 3 ]; then break; fi
+    sleep 0.01
+done
+touch crates/low/src/lib.rt
+wait $!
+rm "$folder/slow"
+: >"$folder/said"
+same 'a call behind an edit of a crate that was at hand' "$(bin/quota_cli x 2>/dev/null)" 'ran x'
+same 'it proves that one and those above it' "$(tr '\n' ' ' <"$folder/said")" 'lib low lib over run quota_program '
+
 # Two calls at once.
 repository
 bin/quota_cli one >one.txt 2>/dev/null &
