@@ -97,7 +97,7 @@ if command -v dpkg-deb >/dev/null; then
     package=$(sed 's/^made //' said)
     same 'its name' "${package##*/}" "quota-cli_$(dpkg-deb -f "$package" Version)_$(dpkg --print-architecture).deb"
     same 'its version' "$(dpkg-deb -f "$package" Version | grep -cE '^[0-9.]+\+[0-9]{8}\.[0-9]{4}$')" 1
-    same 'what it needs' "$(dpkg-deb -f "$package" Depends | sed -E 's/>= 2\.[0-9.]+/>= 2/')" 'libc6 (>= 2)'
+    same 'what it needs' "$(dpkg-deb -f "$package" Depends | sed -E 's/>= 2\.[0-9.]+/>= 2/; s/, libgcc-s1$//')" 'libc6 (>= 2)'
     same 'what is in it' "$(dpkg-deb -c "$package" | awk '$1 !~ /^d/ { print $1, $2, $6 }' | LC_ALL=C sort -k 3)" \
         '-rwxr-xr-x root/root ./usr/sbin/quota_cli
 -rw-r--r-- root/root ./usr/share/bash-completion/completions/quota_cli
