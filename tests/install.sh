@@ -168,7 +168,11 @@ for name in $commands; do
     same "the options of $name for zsh" "$(for_zsh "$name" || true)" "$(in_page "$name")"
 done
 same 'the formats for zsh' "$(grep -c "formats='($formats)'" "$top/docs/completions/_quota_cli")" 1
-if command -v zsh >/dev/null; then zsh -f -n "$top/docs/completions/_quota_cli" || failed=1; fi
+if command -v zsh >/dev/null; then
+    zsh -f -n "$top/docs/completions/_quota_cli" || failed=1
+else
+    echo 'install: zsh is not there: whether it can read its completion is not looked at' >&2
+fi
 
 if [ "$failed" = 0 ]; then echo 'install: what is installed works, and is taken away whole'; fi
 exit "$failed"
