@@ -1,15 +1,17 @@
 #!/usr/bin/env bash
 # Measures, in one run, what the journal of a change in place costs: for one change of a known user, of a new one and of one
 # whose record goes, in the tree file of the users 0 to 999,999, the calls of the system, the syncs and the writes with
-# their bytes, and the time (the best and the middle one of `rounds`, with the start of the program); beside it the same of
-# SQLite's rollback journal (synchronous=FULL, pages of 1,024 bytes, in a running Python, a connection for each change) for a
-# change of as many pages, with journal_mode=DELETE and PERSIST, in turn. Then the first change of a file ever, and what a
-# line of `setquota -b` of 1,000 lines costs.
+# their bytes, beside those of SQLite's rollback journal (synchronous=FULL, pages of 1,024 bytes) for a change of as many
+# pages, with journal_mode=DELETE and PERSIST. Then the first change of a file ever, what a line of `setquota -b` of 1,000
+# lines costs, and, beside one report of the user 7, the same with a recovery before it. At last the time of such changes of a
+# file of 20,000 users, with the start of the program, beside those of SQLite of 20,000 rows in turn (in a running Python, a
+# connection for each change): the best and the middle one of `rounds`.
 maker=make_tree_file.py
 . "$(dirname "${BASH_SOURCE[0]}")/measure.sh"
 rounds=${rounds:-15}
 
-# The user whom the next change of each kind meets, and how far it is from there to the one behind.
+# The file that is changed, the user whom the next change of each kind meets, and how far it is from there to the one behind.
+file=q
 declare -A user=([known]=7007 [new]=33554432 [leaving]=42000)
 declare -A step=([known]=7007 [new]=16777216 [leaving]=42000)
 
@@ -17,7 +19,7 @@ declare -A step=([known]=7007 [new]=16777216 [leaving]=42000)
 next() {
     local limits=(100 200 10 20)
     if [ "$1" = leaving ]; then limits=(0 0 0 0); fi
-    change=("$program" setquota -u "${user[$1]}" "${limits[@]}" q)
+    change=("$program" setquota -u "${user[$1]}" "${limits[@]}" "$file")
     user[$1]=$((user[$1] + step[$1]))
 }
 
@@ -78,27 +80,34 @@ middle() {
     grep "^$1 " times | sort -k 2 -n | awk '{ all[NR] = $2 } END { printf "at best %.3f ms, the middle one %.3f", all[1], all[int((NR + 1) / 2)] }'
 }
 
-# change_beside KIND: changes of a kind beside those of SQLite.
+# The pages that a change of each kind changed.
+declare -A pages=()
+
+# change_beside KIND: the calls of a change of a kind beside those of SQLite.
 change_beside() {
-    local pages mode
+    local mode
     cp q was
     next "$1"
     strace -f -o trace "${change[@]}" >/dev/null
-    pages=$(blocks)
+    pages[$1]=$(blocks)
     rm was
-    echo "setquota for a $1 user, $pages blocks: $(counts trace)"
+    echo "setquota for a $1 user, ${pages[$1]} blocks: $(counts trace)"
     for mode in DELETE PERSIST; do
         strace -f -P "$folder/$mode.db" -P "$folder/$mode.db-journal" -P "$folder" -o trace \
-            python3 sqlite.py "$pages" "$mode" >/dev/null
+            python3 sqlite.py "${pages[$1]}" "$mode" >/dev/null
         echo "SQLite, $mode: $(counts trace)"
     done
+}
+
+# times_beside KIND: the times of changes of a kind beside those of SQLite.
+times_beside() {
     : >times
     for _ in $(seq "$rounds"); do
         next "$1"
         echo "ours $(time_of "${change[@]}" | awk '{ print $1 * 1000 }')" >>times
-        python3 sqlite.py "$pages" DELETE PERSIST >>times
+        python3 sqlite.py "${pages[$1]}" DELETE PERSIST >>times
     done
-    echo "ours: $(middle ours); SQLite, DELETE: $(middle DELETE); PERSIST: $(middle PERSIST)"
+    echo "for a $1 user: $(middle ours); SQLite, DELETE: $(middle DELETE); PERSIST: $(middle PERSIST)"
 }
 
 python3 sqlite.py 1 DELETE PERSIST >/dev/null
@@ -113,3 +122,27 @@ echo "the first change of a file ever: $(counts trace)"
 seq 0 80 79920 | awk '{ print $1, 100, 200, 10, 20 }' >given
 strace -f -o trace "$program" setquota -u -b --input given q >/dev/null
 echo "setquota -b of 1,000 lines for known users: $(counts trace)"
+
+# A change that is killed where its new bytes are to be written, behind an open gate, leaves what the next command recovers.
+recovered=999999
+plain=999999
+for _ in 1 2 3 4 5; do
+    plain=$(least "$plain" "$(time_of "$program" edquota --print -u 7 q)")
+    for at in $(seq 3 12); do
+        next known
+        strace -f -o trace -e trace=pwrite64,write -e "inject=pwrite64:signal=KILL:when=$at" "${change[@]}" >/dev/null 2>&1 || true
+        if [ "$(head -c 1 q.undo | od -A n -t u1 | tr -d ' ')" = 1 ]; then break; fi
+    done
+    if [ "$(head -c 1 q.undo | od -A n -t u1 | tr -d ' ')" != 1 ]; then echo 'no gate is open' >&2; fi
+    recovered=$(least "$recovered" "$(time_of "$program" edquota --print -u 7 q)")
+done
+echo "one look-up with a recovery before it: $recovered s, without: $plain s, ratio $(ratio "$recovered" "$plain")"
+
+seq 0 19999 | awk '{ print $1, 100, 1, $1, 8 }' >owners
+"$program" quotacheck -c -u --input owners s
+seq 100000 100039 | awk '{ print $1, 100, 200, 10, 20 }' | "$program" setquota -u -b s
+file=s
+user=([known]=7 [new]=33554432 [leaving]=100000)
+step=([known]=101 [new]=16777216 [leaving]=1)
+echo "a file of 20,000 users beside 20,000 rows:"
+for kind in known new leaving; do times_beside "$kind"; done
