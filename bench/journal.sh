@@ -5,7 +5,8 @@
 # pages, with journal_mode=DELETE and PERSIST. Then the first change of a file ever, what a line of `setquota -b` of 1,000
 # lines costs, and, beside one report of the user 7, the same with a recovery before it. At last the time of such changes of a
 # file of 20,000 users, with the start of the program, beside those of SQLite of 20,000 rows in turn (in a running Python, a
-# connection for each change): the best and the middle one of `rounds`.
+# connection for each change): the best and the middle one of `rounds`. And what a line of `setquota -b` of 1,000 lines for
+# them costs beside one of 1,000 changes of a row over one connection, in turn.
 maker=make_tree_file.py
 . "$(dirname "${BASH_SOURCE[0]}")/measure.sh"
 rounds=${rounds:-15}
@@ -146,3 +147,27 @@ user=([known]=7 [new]=33554432 [leaving]=100000)
 step=([known]=101 [new]=16777216 [leaving]=1)
 echo "a file of 20,000 users beside 20,000 rows:"
 for kind in known new leaving; do times_beside "$kind"; done
+
+# Runs the words, a batch of 1,000 lines, and 1,000 changes of one row each in turn, and tells their milliseconds a line.
+cat >lines.py <<'PY'
+import os, sqlite3, subprocess, sys, time
+base = sqlite3.connect("PERSIST.db", isolation_level=None)
+base.execute("pragma journal_mode=PERSIST")
+base.execute("pragma synchronous=FULL")
+with open("given", "rb") as it:
+    given = it.read()
+ours, theirs = [], []
+for turn in range(7):
+    begun = time.time()
+    subprocess.run(sys.argv[1:], input=given, check=True)
+    ours.append(time.time() - begun)
+    begun = time.time()
+    for number in range(1000):
+        base.execute("update record set bytes = ? where id = ?", (os.urandom(900), (number * 20 + turn) % 20000))
+    theirs.append(time.time() - begun)
+best, middle = min(ours) / min(theirs), sorted(ours)[3] / sorted(theirs)[3]
+print(f"ours: {min(ours):.3f} to {max(ours):.3f} ms; PERSIST: {min(theirs):.3f} to {max(theirs):.3f}", end="; ")
+print(f"ratio of the best {best:.2f}, of the middle ones {middle:.2f}")
+PY
+seq 0 20 19980 | awk '{ print $1, 100, 200 + $1, 10, 20 }' >given
+echo "a line of 1,000 lines: $(python3 lines.py "$program" setquota -u -b s)"
