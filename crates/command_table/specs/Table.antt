@@ -200,9 +200,9 @@ converting kind old new source target = record {
 
 -- Calls that are answered out of exported files. One call is to be answered at least, and the files may be exported one after another:
 -- no words ask for anything else. The link is said to have failed only where fewer datagrams were taken, or the last reply was not sent.
-abbrev pub serving : Option Format → (calls : ℕ) → List Export → Description
-serving format calls exports = record {
-  steps = ServeSteps format calls exports;
+abbrev pub serving : Option Format → (calls port : ℕ) → List Export → Description
+serving format calls port exports = record {
+  steps = ServeSteps format calls port exports;
   uses = serve_uses;
   may = ServeMayRefuse format exports;
   faulty = None;
@@ -284,7 +284,7 @@ described (PrintForm common name file) = printing common name file
 described (ApplyForm common input name file) = applying common input name file
 described (Check common fresh device input file) = checking common fresh device input file
 described (Convert kind old new source target) = converting kind old new source target
-described (Serve format calls port exports) = serving format calls exports
+described (Serve format calls port exports) = serving format calls port exports
 described Script = not_here
 described (Generate seed count file) = generating seed count file
 

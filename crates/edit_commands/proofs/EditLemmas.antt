@@ -4,7 +4,7 @@ use Rattle.std.specs.List.{concat}
 use Rattle.std.proofs.lemmas.Bool.{false≢true}
 use Rattle.quota_blocks.specs.Count.{Rose}
 use Rattle.quota_blocks.specs.QuotaValue.{QuotaValue}
-use Rattle.quota_blocks.specs.Seen.{SinkSeen, StoreSeen}
+use Rattle.quota_blocks.specs.Seen.{SinkSeen, Started, StoreSeen}
 use Rattle.quota_blocks.specs.Text.{AppendsPrefix}
 use Rattle.quota_blocks.specs.World.{World}
 use Rattle.set_edit.specs.Editing.{Edit}
@@ -12,14 +12,14 @@ use Rattle.refusals.specs.declared.cause.Cause.{Cause}
 use Rattle.refusals.specs.declared.cause.Cause.TheVariants.{SinkFault}
 use Rattle.refusals.specs.Refusals.{refusal_of}
 use Rattle.refusals.specs.Outcome.{Outcome}
-use Rattle.run_steps.specs.Act.{Act, Follows, ToErr, answers, err_bytes, out_bytes}
+use Rattle.run_steps.specs.Act.{Act, Follows, ToErr, answers, err_bytes, out_bytes, started_by}
 use Rattle.run_steps.specs.Done.{AreDone, AreDoneInPart, RunSeen, RunTells}
 use Rattle.run_steps.specs.Run.{CarriesOut, HasSteps, IsDoneInPart}
 use Rattle.run_steps.specs.Steps.{DoingAll, Finish, Steps, Then}
 use Rattle.run_steps.specs.Changing.{edit_uses}
 use Rattle.edit_commands.specs.Edits.{IsSaidInPart, said_acts}
 use Rattle.edit_steps.specs.EditStep.{edit_step}
-use Rattle.run_steps.proofs.ActLemmas.{answers-append, appends_nothing, err_bytes-append, follows-append, none_in_part, out_bytes-append}
+use Rattle.run_steps.proofs.ActLemmas.{answers-append, appends_nothing, err_bytes-append, follows-append, none_in_part, out_bytes-append, started_by-append}
 use Rattle.run_steps.proofs.DoingLemmas.{AreWritten, done_steps}
 use Rattle.run_steps.proofs.PartLemmas.{acts_in_part, carried_whole}
 use Rattle.run_steps.proofs.WritesLemmas.{writes_for-before}
@@ -47,6 +47,10 @@ said_answers : (lines : List (List ℕ)) → answers (said_acts lines) ≡ []
 said_answers [] = refl
 said_answers (line ∷ lines) = said_answers lines
 
+said_started : (lines : List (List ℕ)) (before : Started) → started_by (said_acts lines) before ≡ before
+said_started [] before = refl
+said_started (line ∷ lines) before = said_started lines before
+
 said_err : (lines : List (List ℕ)) → err_bytes (said_acts lines) ≡ concat lines
 said_err [] = refl
 said_err (line ∷ lines) = ap (λ (b : List ℕ). line ++ b) (said_err lines)
@@ -65,6 +69,7 @@ all_said acts lines tells old store err are said = record {
   err = λ told. said told ∙ ap (λ (b : List ℕ). old.err.written ++ b) (sym (all_err acts lines old.store store are));
   answered = sym (append-nil old.link.answers) ∙ ap (λ (b : List (List ℕ)). old.link.answers ++ b)
       (sym (answers-append acts (said_acts lines) ∙ ap (λ (b : List (List ℕ)). b ++ answers (said_acts lines)) are.answered ∙ said_answers lines));
+  started = sym (started_by-append acts (said_acts lines) old.link.started ∙ said_started lines (started_by acts old.link.started) ∙ are.started old.link.started);
   writes = writes_for-before acts (said_acts lines) old.store.writes store.writes are.writes;
 }
 
@@ -81,6 +86,7 @@ said_up_to acts lines said unsaid tells old store err are whole part =
       out = λ told. appends_nothing (old.out.written ++ out_bytes (acts ++ said_acts said)) old.out.written (out_bytes (take 1 (said_acts unsaid))) (first.out told);
       err = λ told. subst (λ (b : List ℕ). AppendsPrefix (old.err.written ++ b) err.written (err_bytes (take 1 (said_acts unsaid)))) (sym (all_err acts said old.store store are)) (part told);
       answered = first.answered;
+      started = first.started;
       writes = writes_for-before (acts ++ said_acts said) (take 1 (said_acts unsaid)) old.store.writes store.writes first.writes;
     }
 

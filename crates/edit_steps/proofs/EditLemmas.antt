@@ -54,6 +54,7 @@ change_written name new false old store same view leaves few = record {
   out = refl;
   err = refl;
   answered = refl;
+  started = λ before. refl;
 }
 
 edited_written : {done : Bool} (name : List ℕ) (edit : Edit) (value : QuotaValue) (edited : Result QuotaValue (Field × ℕ)) (old store : StoreSeen)

@@ -69,7 +69,7 @@ BeginsWith next = (act : Act) (from : Outside) → HasBegun (next (act ∷ [])) 
 
 -- nothing was begun where the store was only read
 read_part : {done : Bool} (name : List ℕ) (steps : Steps) (tells : RunTells) (old : RunSeen) (store : StoreSeen) → OnlyReads done name old.store store → IsDoneInPart steps tells old (with_store old store)
-read_part name steps tells old store reads = nothing_begun steps tells old (with_store old store) reads.files (λ told. refl) (λ told. refl) refl refl reads.writes
+read_part name steps tells old store reads = nothing_begun steps tells old (with_store old store) reads.files (λ told. refl) (λ told. refl) refl refl refl reads.writes
 
 written_part : {done : Bool} (name : List ℕ) (blocks : ℕ) (edited : QuotaValue) (idle large : Bool) (next : List Act → Steps) (tells : RunTells) (old : RunSeen) (store : StoreSeen) → BeginsWith next
     → (IsTrue idle → OnlyReads done name old.store store) → (IsTrue large → OnlyReads done name old.store store) → MayBeLeft edited (old.store.files name) (store.files name) → EditsOne name old.store store → store.writes ≤ old.store.writes + 12
@@ -86,6 +86,7 @@ written_part name blocks edited false false next tells old store begins same ful
   out = λ told. appends_nothing (old.out.written ++ []) old.out.written [] (sym (append-nil old.out.written));
   err = λ told. appends_nothing (old.err.written ++ []) old.err.written [] (sym (append-nil old.err.written));
   answered = sym (append-nil old.link.answers);
+  started = refl;
   datagrams = refl;
   writes = writes_for-edit name edited old.store.writes store.writes few;
 }

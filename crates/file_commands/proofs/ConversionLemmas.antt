@@ -62,7 +62,7 @@ module _ (source target : List ℕ) (may : Cause → List ℕ → Type 0) (tells
   looked_carried steps refusal reason allowed placed =
       refused_so steps (edit_uses false) may tells old (with_store old store) refusal
       (record { files = looks.files; writes = looks.writes }) refl (store_later old store looks.later)
-      (λ told. nothing_begun steps tells old (with_store old store) looks.files (λ told. refl) (λ told. refl) refl refl looks.writes) reason
+      (λ told. nothing_begun steps tells old (with_store old store) looks.files (λ told. refl) (λ told. refl) refl refl refl looks.writes) reason
       allowed placed
 
   -- steps that end at once

@@ -49,6 +49,7 @@ changed_steps name new next tells refusal old store to follows has = record {
     out = has.done.out;
     err = has.done.err;
     answered = has.done.answered;
+    started = has.done.started;
     writes = writes_for-replacement name new has.acts old.store.writes to.store.writes;
   };
 }
@@ -64,6 +65,7 @@ changed_part name new next tells old store to follows part = record {
   out = part.out;
   err = part.err;
   answered = part.answered;
+  started = part.started;
   datagrams = part.datagrams;
   writes = writes_for-replacement name new (part.done ++ part.hand) old.store.writes to.store.writes;
 }

@@ -62,7 +62,7 @@ by_outcome name new outcome may tells old to result is carries =
 
 -- the change of one file was written
 change_written : (name : List ℕ) (new : QuotaValue) (old store : StoreSeen) → IsView (store.files name) new.kind (Some new.format) (Ok new) → ReplacesOnly name old.files store.files → AreWritten (Replace name new ∷ []) old store
-change_written name new old store view leaves = record { files = (store.files, (view, leaves), refl); writes = writes_for-replacement name new [] old.writes store.writes; out = refl; err = refl; answered = refl }
+change_written name new old store view leaves = record { files = (store.files, (view, leaves), refl); writes = writes_for-replacement name new [] old.writes store.writes; out = refl; err = refl; answered = refl; started = λ before. refl }
 
 -- the file was replaced
 pub replace_made : (name : List ℕ) (new : QuotaValue) (may : Cause → List ℕ → Type 0) (tells : RunTells) (old : RunSeen) (store : StoreSeen)

@@ -274,14 +274,30 @@ use told
 sent
 same q
 
+= the link is started once, at the port that is asked for
+use limited
+file q
+use call
+datagram 1700000000
+use call
+datagram 1700000000
+run rquotad --calls 2 --port 875 --export /home user q
+started 1 port 875
+use told
+sent
+use told
+sent
+same q
+
 = a link that does not start ends the command
 use limited
 file q
 use call
 datagram 1700000000
 fails link 1
-run rquotad --calls 1 --port 0 --export /home user q
+run rquotad --calls 1 --port 875 --export /home user q
 status 4
+started 0
 ! quota: link fault
 same q
 

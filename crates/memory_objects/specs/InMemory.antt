@@ -1,9 +1,9 @@
 -- What is seen of the objects in memory.
-use Rattle.std.specs.Prelude.{ℕ, List, map, drop, Vec}
+use Rattle.std.specs.Prelude.{ℕ, List, map, drop, Option, None, Some, Vec}
 use Rattle.std.specs.declared.alloc.Global.{Global}
 use Rattle.memory_objects.specs.MemStore.{file_named}
 use Rattle.memory_objects.specs.NameSet.{names_in}
-use Rattle.outside.specs.Seen.{Datagram, LinkSeen, SinkSeen, SourceSeen, StoreSeen}
+use Rattle.outside.specs.Seen.{Datagram, LinkSeen, SinkSeen, SourceSeen, Start, StoreSeen}
 use Rattle.memory_objects.specs.declared.failures.Failures.{Failures}
 use Rattle.memory_objects.specs.declared.mem_link.MemLink.{MemLink}
 use Rattle.memory_objects.specs.declared.mem_sink.MemSink.{MemSink}
@@ -66,11 +66,22 @@ datagrams_of given = map datagram_in given
 abbrev pub answers_in : List (Vec ℕ Global) → List (List ℕ)
 answers_in answers = map (λ (answer : Vec ℕ Global). answer.items) answers
 
+-- the last start of a link, kept as its port and as how many of these datagrams were taken before it
+abbrev pub last_start : List Datagram → Option (ℕ × ℕ) → Option Start
+last_start datagrams None = None
+last_start datagrams (Some kept) = Some (record { port = kept.0; left = drop kept.1 datagrams })
+
+-- the port of a start
+abbrev pub port_of : Option Start → Option ℕ
+port_of None = None
+port_of (Some start) = Some start.port
+
 -- what is seen of a link in memory: the datagrams that were not yet taken are left
 abbrev pub mem_link_seen : MemLink → LinkSeen
 mem_link_seen link = record {
   left = drop link.taken (datagrams_of link.datagrams.items);
   answers = answers_in link.answers.items;
+  started = record { times = link.starts; last = last_start (datagrams_of link.datagrams.items) link.last };
   faults = link.failures.faults;
 }
 

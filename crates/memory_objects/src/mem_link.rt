@@ -1,20 +1,24 @@
-ghost use Rattle.std.specs.Prelude.{◌≡◌, ◌≤◌, ◌↔◌, ◌⊎◌, ◌∷◌, ◌++◌, [], length, min, take, Contains, IsErr, IfOk, OnOk, OnErr};
+ghost use Rattle.std.specs.Prelude.{◌≡◌, ◌≤◌, ◌↔◌, ◌⊎◌, ◌∷◌, ◌++◌, [], None, length, min, take, Contains, IsErr, IfOk, OnOk, OnErr};
 ghost use Rattle.outside.specs.Count.{Rose, counted};
-ghost use Rattle.memory_objects.specs.InMemory.{answers_in, datagrams_of, mem_link_plan, mem_link_seen, new_plan};
-ghost use Rattle.outside.specs.Seen.{Datagram};
+ghost use Rattle.memory_objects.specs.InMemory.{answers_in, datagrams_of, mem_link_plan, mem_link_seen, new_plan, port_of};
+ghost use Rattle.outside.specs.Seen.{Datagram, started_at};
 
 use crate::failures::Failures;
 use outside::{Got, Link, LinkFault};
 use std::alloc::AllocError;
 
-/// A link in memory, which tells the datagrams that are left and the answers that were sent. It can be made to fail at
-/// given calls. Where it cannot get memory for an answer, it has failed too.
+/// A link in memory, which tells the datagrams that are left, the answers that were sent and how it was started. It can be
+/// made to fail at given calls. Where it cannot get memory for an answer, it has failed too.
 #[derive(Debug, Drop)]
 pub struct MemLink {
     datagrams: Vec<(Vec<u8>, u64)>,
     /// How many of the datagrams were taken.
     taken: usize,
     answers: Vec<Vec<u8>>,
+    /// How often it was started.
+    starts: u64,
+    /// The port at which it was started last, and how many of the datagrams were taken before.
+    last: Option<(u16, usize)>,
     failures: Failures,
 }
 
@@ -23,7 +27,7 @@ impl MemLink {
     /// fail.
     pub fn new(datagrams: Vec<(Vec<u8>, u64)>, failing: Vec<u64>) -> Self
         ensures seen { ⟦<MemLink as Link>⟧.seen result
-            ≡ record { left = datagrams_of datagrams.items; answers = []; faults = 0 } }
+            ≡ record { left = datagrams_of datagrams.items; answers = []; started = record { times = 0; last = None }; faults = 0 } }
         ensures plan { mem_link_plan result ≡ new_plan failing.items }
     {
         let answers = Vec::new(*datagrams.allocator());
@@ -31,6 +35,8 @@ impl MemLink {
             datagrams,
             taken: 0,
             answers,
+            starts: 0,
+            last: None,
             failures: Failures::new(failing),
         }
     }
@@ -42,12 +48,31 @@ impl MemLink {
         &self.answers
     }
 
+    /// How often it was started, up to the last value of the counter.
+    pub fn starts(&self) -> u64
+        ensures { result ≡ (⟦<MemLink as Link>⟧.seen self.now).started.times }
+    {
+        self.starts
+    }
+
+    /// The port at which it was started last, or `None` where it was not started.
+    pub fn port(&self) -> Option<u16>
+        ensures { result ≡ port_of (⟦<MemLink as Link>⟧.seen self.now).started.last }
+    {
+        match self.last {
+            Some((port, _)) => Some(port),
+            None => None,
+        }
+    }
+
     /// Keeps an answer.
     fn keep(&mut self, bytes: &[u8]) -> Result<(), AllocError>
         ensures ok { OnOk result (answers_in self.new.answers.items ≡ answers_in self.old.answers.items ++ bytes.now ∷ []) }
         ensures err { OnErr result (answers_in self.new.answers.items ≡ answers_in self.old.answers.items) }
         ensures datagrams { self.new.datagrams.items ≡ self.old.datagrams.items }
         ensures taken { self.new.taken ≡ self.old.taken }
+        ensures starts { self.new.starts ≡ self.old.starts }
+        ensures last { self.new.last ≡ self.old.last }
         ensures plan { mem_link_plan self.new ≡ mem_link_plan self.old }
         ensures faults { (mem_link_seen self.new).faults ≡ (mem_link_seen self.old).faults }
     {
@@ -64,11 +89,14 @@ impl Link for MemLink {
 
     ghost seen = { mem_link_seen };
 
-    fn start(&mut self, _port: u16) -> Result<(), LinkFault>
+    fn start(&mut self, port: u16) -> Result<(), LinkFault>
         ensures planned { IsErr result
             ↔ Contains (mem_link_plan self.old).failing (counted (mem_link_plan self.old).calls) }
         ensures plan { mem_link_plan self.new
             ≡ record (mem_link_plan self.old) { calls = counted (mem_link_plan self.old).calls } }
+        ensures started { OnOk result ((mem_link_seen self.new).started
+            ≡ started_at (mem_link_seen self.old).started port (mem_link_seen self.old).left) }
+        ensures fault { OnErr result ((mem_link_seen self.new).started ≡ (mem_link_seen self.old).started) }
         ensures left { (mem_link_seen self.new).left ≡ (mem_link_seen self.old).left }
         ensures answers { (mem_link_seen self.new).answers ≡ (mem_link_seen self.old).answers }
         ensures cause { OnErr result (Rose (mem_link_seen self.old).faults (mem_link_seen self.new).faults) }
@@ -77,6 +105,8 @@ impl Link for MemLink {
         if self.failures.next_fails() {
             return Err(LinkFault);
         }
+        self.starts = self.starts.saturating_add(1);
+        self.last = Some((port, self.taken));
         Ok(())
     }
 
@@ -95,6 +125,7 @@ impl Link for MemLink {
             × (got.now ≡ datagram.moment)) }
         ensures fault { OnErr result ((mem_link_seen self.new).left ≡ (mem_link_seen self.old).left) }
         ensures answers { (mem_link_seen self.new).answers ≡ (mem_link_seen self.old).answers }
+        ensures started { (mem_link_seen self.new).started ≡ (mem_link_seen self.old).started }
         ensures cause { OnErr result (Rose (mem_link_seen self.old).faults (mem_link_seen self.new).faults) }
         ensures later { (mem_link_seen self.old).faults ≤ (mem_link_seen self.new).faults }
     {
@@ -124,6 +155,7 @@ impl Link for MemLink {
         ensures sent { OnOk result ((mem_link_seen self.new).answers ≡ (mem_link_seen self.old).answers ++ bytes.now ∷ []) }
         ensures fault { OnErr result ((mem_link_seen self.new).answers ≡ (mem_link_seen self.old).answers) }
         ensures left { (mem_link_seen self.new).left ≡ (mem_link_seen self.old).left }
+        ensures started { (mem_link_seen self.new).started ≡ (mem_link_seen self.old).started }
         ensures cause { OnErr result (Rose (mem_link_seen self.old).faults (mem_link_seen self.new).faults) }
         ensures later { (mem_link_seen self.old).faults ≤ (mem_link_seen self.new).faults }
     {

@@ -1,5 +1,6 @@
 -- What is seen of the objects outside of the program, as far as they tell it.
-use Rattle.std.specs.Prelude.{ℕ, List}
+use Rattle.std.specs.Prelude.{ℕ, List, Option, Some}
+use Rattle.outside.specs.Count.{counted}
 use Rattle.outside.specs.Unsynced.{Names}
 use Rattle.outside.specs.World.{World}
 
@@ -27,8 +28,23 @@ pub record Datagram : Type 0 where
   pub bytes : List ℕ
   pub moment : ℕ
 
--- A link: the datagrams that are left, the answers that were sent, and how many of its calls have failed.
+-- a start of a link: the port that was asked for, and the datagrams that were left then
+pub record Start : Type 0 where
+  pub port : ℕ
+  pub left : List Datagram
+
+-- How a link was started: how often, up to the last value of a counter of 64 bits, and how the last time, if ever it was.
+pub record Started : Type 0 where
+  pub times : ℕ
+  pub last : Option Start
+
+-- a link is started once more, at this port, when these datagrams are left
+abbrev pub started_at : Started → (port : ℕ) → List Datagram → Started
+started_at before port left = record { times = counted before.times; last = Some (record { port = port; left = left }) }
+
+-- A link: the datagrams that are left, the answers that were sent, how it was started, and how many of its calls have failed.
 pub record LinkSeen : Type 0 where
   pub left : List Datagram
   pub answers : List (List ℕ)
+  pub started : Started
   pub faults : ℕ

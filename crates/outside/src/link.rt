@@ -1,6 +1,6 @@
 ghost use Rattle.std.specs.Prelude.{◌≡◌, ◌≤◌, ◌∷◌, ◌++◌, Bool, [], length, min, take, IsTrue, IfOk, OnOk, OnErr};
 ghost use Rattle.outside.specs.Count.{Rose};
-ghost use Rattle.outside.specs.Seen.{Datagram, LinkSeen};
+ghost use Rattle.outside.specs.Seen.{Datagram, LinkSeen, started_at};
 
 /// A call on a link failed.
 #[derive(Clone, Copy, Debug, PartialEq, Eq)]
@@ -19,19 +19,22 @@ pub struct Got {
 ///
 /// Whatever a link tells, a call fails only where its count of faults rose in that call.
 pub trait Link {
-    /// Whether links of this type tell the datagrams and the answers.
+    /// Whether links of this type tell the datagrams, the answers and how they were started.
     ghost tells: { Bool };
 
-    /// The datagrams that are left and the answers that were sent, which count only where the link tells them, and the
-    /// count of faults.
+    /// The datagrams that are left, the answers that were sent and how the link was started, which count only where the link
+    /// tells them, and the count of faults.
     ghost seen: { Self → LinkSeen };
 
     /// Begins to take datagrams that are sent to this port; 0 stands for a port that the system chooses.
     ///
     /// # Errors
     ///
-    /// The link failed.
+    /// The link failed. It was not started.
     fn start(&mut self, port: u16) -> Result<(), LinkFault>
+        ensures started { OnOk result (IsTrue tells
+            → (seen self.new).started ≡ started_at (seen self.old).started port (seen self.old).left) }
+        ensures fault { OnErr result (IsTrue tells → (seen self.new).started ≡ (seen self.old).started) }
         ensures left { (seen self.new).left ≡ (seen self.old).left }
         ensures answers { (seen self.new).answers ≡ (seen self.old).answers }
         ensures cause { OnErr result (Rose (seen self.old).faults (seen self.new).faults) }
@@ -51,6 +54,7 @@ pub trait Link {
             × (got.now ≡ datagram.moment)) }
         ensures fault { OnErr result (IsTrue tells → (seen self.new).left ≡ (seen self.old).left) }
         ensures answers { IsTrue tells → (seen self.new).answers ≡ (seen self.old).answers }
+        ensures started { (seen self.new).started ≡ (seen self.old).started }
         ensures cause { OnErr result (Rose (seen self.old).faults (seen self.new).faults) }
         ensures later { (seen self.old).faults ≤ (seen self.new).faults };
 
@@ -64,6 +68,7 @@ pub trait Link {
             → (seen self.new).answers ≡ (seen self.old).answers ++ bytes.now ∷ []) }
         ensures fault { OnErr result (IsTrue tells → (seen self.new).answers ≡ (seen self.old).answers) }
         ensures left { (seen self.new).left ≡ (seen self.old).left }
+        ensures started { (seen self.new).started ≡ (seen self.old).started }
         ensures cause { OnErr result (Rose (seen self.old).faults (seen self.new).faults) }
         ensures later { (seen self.old).faults ≤ (seen self.new).faults };
 }

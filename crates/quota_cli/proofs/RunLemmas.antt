@@ -132,7 +132,7 @@ whole_effect setting tells old new status has later told none reads =
     record {
       acts = own ++ closing has.refusal;
       effect = record { own = own; refusal = has.refusal; by_steps = has.has.by_steps; acts_all = refl; ended = has.ended };
-      done = record { files = done.files; out = done.out; err = done.err; answered = done.answered; writes = done.writes };
+      done = record { files = done.files; out = done.out; err = done.err; answered = done.answered; started = done.started; writes = done.writes };
       input = nothing_left setting tells has.refusal old (record new { err = has.before }) status has.has has.ended reads;
       datagrams = taken_so setting tells has.refusal old (record new { err = has.before }) status has.has has.ended;
       full = λ refusal blocks limit is cause. setting_full setting (outside_of old) own (outside_of new) refusal blocks limit

@@ -369,7 +369,7 @@ script_unread invocation tells old input fault later rose = record {
   carries = record {
     done = tt;
     refused = unread_reason fault old (with_input old input) _ rose;
-    part = λ told. nothing_begun (ScriptSteps invocation) tells old (with_input old input) refl (λ is. refl) (λ is. refl) refl refl refl;
+    part = λ told. nothing_begun (ScriptSteps invocation) tells old (with_input old input) refl (λ is. refl) (λ is. refl) refl refl refl refl;
     may_refuse = unread_may fault;
     placed = record { line = λ none. refl; input_line = λ none. refl };
     only_reads = λ only. record { files = refl; writes = refl };

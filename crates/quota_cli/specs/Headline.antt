@@ -46,9 +46,9 @@ abbrev pub Effect : Setting → Outside → List Act → Outside → ℕ → Typ
 Effect setting = HasEffectOf (steps_asked setting)
 
 -- The headline: there are acts that with the status are the effect of the words, and they were done: the output and the
--- error output got exactly their bytes, the link their answers, and the files follow. With status 0 nothing is left of an input
--- that is used, and so many datagrams were taken as the steps receive, the first ones. Where an edit was refused since its file is
--- full, that file has no room for the edit as the store has it at the end.
+-- error output got exactly their bytes, the link was started exactly as they say and sent their answers, and the files follow. With
+-- status 0 nothing is left of an input that is used, and so many datagrams were taken as the steps receive, the first ones. Where an
+-- edit was refused since its file is full, that file has no room for the edit as the store has it at the end.
 pub record HasEffect (setting : Setting) (tells : RunTells) (old new : RunSeen) (status : ℕ) : Type 0 where
   pub acts : List Act
   pub effect : Effect setting (outside_of old) acts (outside_of new) status

@@ -13,7 +13,7 @@ use quota_blocks::{Link, LinkFault, Store};
 use rquota_xdr::{Reply, write_reply};
 
 /// Takes exactly `calls` datagrams from a link, those without a reply counted too, and sends the reply to each, at its own
-/// moment. A datagram is read by its first 4,096 bytes. No memory is taken.
+/// moment. A datagram is read by its first 4,096 bytes. The link is not started by it. No memory is taken.
 ///
 /// # Errors
 ///
@@ -34,6 +34,7 @@ pub fn serve<S: Store, L: Link>(
     // Whatever it answers, only a datagram that was taken makes calls of `read`, and so many at most.
     ensures reads { IsTrue L.tells → ReadsForTaken any_get_reads (L.seen link.old) (L.seen link.new)
         (S.seen store.old).reads (S.seen store.new).reads }
+    ensures started { (L.seen link.new).started ≡ (L.seen link.old).started }
     ensures unlinked { IfErr result (λ fault. OnLink fault (Rose (L.seen link.old).faults (L.seen link.new).faults)) }
     ensures later { (L.seen link.old).faults ≤ (L.seen link.new).faults }
 {
@@ -59,6 +60,7 @@ fn serve_one<S: Store, L: Link>(
         (exports_at S.tells (S.seen store.new) exports.new) any_get_reads result }
     ensures reads { IsTrue L.tells → ReadsForTaken any_get_reads (L.seen link.old) (L.seen link.new)
         (S.seen store.old).reads (S.seen store.new).reads }
+    ensures started { (L.seen link.new).started ≡ (L.seen link.old).started }
     ensures unlinked { IfErr result (λ fault. OnLink fault (Rose (L.seen link.old).faults (L.seen link.new).faults)) }
     ensures later { (L.seen link.old).faults ≤ (L.seen link.new).faults }
 {
@@ -75,6 +77,7 @@ fn send<L: Link>(link: &mut L, reply: Option<Reply>) -> Result<(), LinkFault>
     ensures unsent { OnErr result (IsTrue L.tells → (L.seen link.new).answers ≡ (L.seen link.old).answers) }
     ensures some { OnErr result (IsSome reply) }
     ensures left { (L.seen link.new).left ≡ (L.seen link.old).left }
+    ensures started { (L.seen link.new).started ≡ (L.seen link.old).started }
     ensures cause { OnErr result (Rose (L.seen link.old).faults (L.seen link.new).faults) }
     ensures later { (L.seen link.old).faults ≤ (L.seen link.new).faults }
 {

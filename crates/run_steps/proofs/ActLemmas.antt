@@ -1,11 +1,11 @@
 -- Acts in a row, and acts that were done in part.
 use Rattle.std.proofs.Common.{◌≡◌, ℕ, Bool, IsTrue, List, [], ◌∷◌, ◌++◌, take, Option, None, Some, inl, refl, sym, ap, subst, ◌∙◌, append_assoc, append-nil}
-use Rattle.quota_blocks.specs.Seen.{SinkSeen}
+use Rattle.quota_blocks.specs.Seen.{SinkSeen, Started, started_at}
 use Rattle.quota_blocks.specs.Text.{AppendsPrefix}
 use Rattle.quota_blocks.specs.World.{World}
 use Rattle.refusals.specs.declared.reason.Refusal.{Refusal}
 use Rattle.refusals.specs.Line.{closing_line, error_line}
-use Rattle.run_steps.specs.Act.{Act, ToOut, ToErr, Answer, Change, Replace, Follows, FollowsInPart, answers, err_bytes, out_bytes}
+use Rattle.run_steps.specs.Act.{Act, ToOut, ToErr, Start, Answer, Change, Replace, Follows, FollowsInPart, answers, err_bytes, out_bytes, started_by}
 use Rattle.run_steps.specs.Done.{AreDone, AreDoneInPart, RunSeen, RunTells}
 use Rattle.run_steps.specs.Meaning.{closing}
 use Rattle.run_steps.specs.Writes.{WritesFor}
@@ -25,6 +25,12 @@ pub answers-append : (acts more : List Act) → answers (acts ++ more) ≡ answe
 answers-append [] more = refl
 answers-append (Answer bytes ∷ acts) more = ap (λ (b : List (List ℕ)). bytes ∷ b) (answers-append acts more)
 answers-append (_ ∷ acts) more = answers-append acts more
+
+-- after acts and then others a link was started by the ones, and then by the others
+pub started_by-append : (acts more : List Act) (before : Started) → started_by (acts ++ more) before ≡ started_by more (started_by acts before)
+started_by-append [] more before = refl
+started_by-append (Start port left ∷ acts) more before = started_by-append acts more (started_at before port left)
+started_by-append (_ ∷ acts) more before = started_by-append acts more before
 
 -- files that follow an act and then others
 pub follows-append : (acts more : List Act) (old middle new : World) → Follows acts old middle → Follows more middle new → Follows (acts ++ more) old new
@@ -47,6 +53,10 @@ err_bytes-closing (Some refusal) = append-nil (error_line refusal)
 pub answers-closing : (refusal : Option Refusal) → answers (closing refusal) ≡ []
 answers-closing None = refl
 answers-closing (Some refusal) = refl
+
+pub started_by-closing : (refusal : Option Refusal) (before : Started) → started_by (closing refusal) before ≡ before
+started_by-closing None before = refl
+started_by-closing (Some refusal) before = refl
 
 -- files that are as they were follow any acts of which none was begun
 pub none_in_part : (acts : List Act) (old new : World) → new ≡ old → FollowsInPart acts old new
@@ -95,6 +105,7 @@ part_of_more tells acts more old new part = record {
   out = λ told. first_out part.rest more (old.out.written ++ out_bytes part.done) new.out.written (part.out told);
   err = λ told. first_err part.rest more (old.err.written ++ err_bytes part.done) new.err.written (part.err told);
   answered = part.answered;
+  started = part.started;
   writes = first_writes part.done part.rest more old.store.writes new.store.writes part.writes;
 }
 
@@ -110,6 +121,9 @@ pub more_answers : (refusal : Option Refusal) (acts : List Act) → answers (act
 more_answers refusal acts =
     answers-append acts (closing refusal) ∙ ap (λ (b : List (List ℕ)). answers acts ++ b) (answers-closing refusal) ∙ append-nil (answers acts)
 
+pub more_started : (refusal : Option Refusal) (acts : List Act) (before : Started) → started_by (acts ++ closing refusal) before ≡ started_by acts before
+more_started refusal acts before = started_by-append acts (closing refusal) before ∙ started_by-closing refusal (started_by acts before)
+
 -- Acts were done, and then the error line of a refusal was written, where there is one.
 pub done_and_said : (tells : RunTells) (refusal : Option Refusal) (acts : List Act) (old new : RunSeen) (said : SinkSeen) (err_tells : Bool)
     → AreDone tells acts old new → (IsTrue err_tells → said.written ≡ old.err.written ++ err_bytes (acts ++ closing refusal))
@@ -119,5 +133,6 @@ done_and_said tells refusal acts old new said err_tells are whole = record {
   out = λ told. are.out told ∙ ap (λ (b : List ℕ). old.out.written ++ b) (sym (more_out refusal acts));
   err = whole;
   answered = are.answered ∙ ap (λ (b : List (List ℕ)). old.link.answers ++ b) (sym (more_answers refusal acts));
+  started = are.started ∙ sym (more_started refusal acts old.link.started);
   writes = writes_for-before acts (closing refusal) old.store.writes new.store.writes are.writes;
 }

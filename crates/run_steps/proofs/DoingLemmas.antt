@@ -1,15 +1,15 @@
 -- Acts that are done in order, and then a refusal, if there is one; and acts that only change files.
 use Rattle.std.proofs.Common.{◌≡◌, ℕ, List, [], ◌∷◌, ◌++◌, take, Option, refl, sym, ap, subst, ◌∙◌, append-nil, Bool}
 use Rattle.quota_blocks.specs.Frame.{OnlyReads}
-use Rattle.quota_blocks.specs.Seen.{StoreSeen}
+use Rattle.quota_blocks.specs.Seen.{Started, StoreSeen}
 use Rattle.quota_blocks.specs.World.{World}
 use Rattle.refusals.specs.declared.reason.Refusal.{Refusal}
-use Rattle.run_steps.specs.Act.{Act, Follows, FollowsInPart, answers, err_bytes, out_bytes}
+use Rattle.run_steps.specs.Act.{Act, Follows, FollowsInPart, answers, err_bytes, out_bytes, started_by}
 use Rattle.run_steps.specs.Done.{AreDone, AreDoneInPart, Outside, RunSeen, RunTells, outside_of}
 use Rattle.run_steps.specs.Meaning.{EndsBy}
 use Rattle.run_steps.specs.Run.{HasSteps}
 use Rattle.run_steps.specs.Steps.{AreDoneThen}
-use Rattle.run_steps.proofs.ActLemmas.{answers-append, appends_nothing, err_bytes-append, follows-append, out_bytes-append}
+use Rattle.run_steps.proofs.ActLemmas.{answers-append, appends_nothing, err_bytes-append, follows-append, out_bytes-append, started_by-append}
 use Rattle.run_steps.proofs.OpeningLemmas.{with_store}
 use Rattle.run_steps.specs.Writes.{WritesFor}
 use Rattle.run_steps.proofs.WritesLemmas.{writes_for-same, writes_for-then}
@@ -43,13 +43,14 @@ pub record AreWritten (acts : List Act) (old new : StoreSeen) : Type 0 where
   pub out : out_bytes acts ≡ []
   pub err : err_bytes acts ≡ []
   pub answered : answers acts ≡ []
+  pub started : (before : Started) → started_by acts before ≡ before
 
 pub written_none : {done : Bool} (name : List ℕ) (old new : StoreSeen) → OnlyReads done name old new → AreWritten [] old new
-written_none name old new reads = record { files = reads.files; writes = writes_for-same [] old.writes new.writes reads.writes; out = refl; err = refl; answered = refl }
+written_none name old new reads = record { files = reads.files; writes = writes_for-same [] old.writes new.writes reads.writes; out = refl; err = refl; answered = refl; started = λ before. refl }
 
 -- nothing was done yet
 pub written_yet : (seen : StoreSeen) → AreWritten [] seen seen
-written_yet seen = record { files = refl; writes = writes_for-same [] seen.writes seen.writes refl; out = refl; err = refl; answered = refl }
+written_yet seen = record { files = refl; writes = writes_for-same [] seen.writes seen.writes refl; out = refl; err = refl; answered = refl; started = λ before. refl }
 
 pub written_both : (acts more : List Act) (old middle new : StoreSeen) → AreWritten acts old middle → AreWritten more middle new → AreWritten (acts ++ more) old new
 written_both acts more old middle new one two = record {
@@ -58,6 +59,7 @@ written_both acts more old middle new one two = record {
   out = out_bytes-append acts more ∙ ap (λ (b : List ℕ). b ++ out_bytes more) one.out ∙ two.out;
   err = err_bytes-append acts more ∙ ap (λ (b : List ℕ). b ++ err_bytes more) one.err ∙ two.err;
   answered = answers-append acts more ∙ ap (λ (b : List (List ℕ)). b ++ answers more) one.answered ∙ two.answered;
+  started = λ before. started_by-append acts more before ∙ two.started (started_by acts before) ∙ one.started before;
 }
 
 -- they were done
@@ -67,6 +69,7 @@ done_of acts tells old store written = record {
   out = λ told. sym (append-nil old.out.written) ∙ ap (λ (b : List ℕ). old.out.written ++ b) (sym written.out);
   err = λ told. sym (append-nil old.err.written) ∙ ap (λ (b : List ℕ). old.err.written ++ b) (sym written.err);
   answered = sym (append-nil old.link.answers) ∙ ap (λ (b : List (List ℕ)). old.link.answers ++ b) (sym written.answered);
+  started = sym (written.started old.link.started);
   writes = written.writes;
 }
 
@@ -83,5 +86,6 @@ part_of acts rest tells old middle store written in_part writes = record {
   err = λ told. appends_nothing (old.err.written ++ err_bytes acts) old.err.written (err_bytes (take 1 rest))
       (sym (append-nil old.err.written) ∙ ap (λ (b : List ℕ). old.err.written ++ b) (sym written.err));
   answered = sym (append-nil old.link.answers) ∙ ap (λ (b : List (List ℕ)). old.link.answers ++ b) (sym written.answered);
+  started = sym (written.started old.link.started);
   writes = writes_for-then acts (take 1 rest) old.store.writes middle.writes store.writes written.writes writes;
 }

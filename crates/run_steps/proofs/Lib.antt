@@ -18,5 +18,6 @@ pub mod SameViewLemmas
 pub mod SeenAgainLemmas
 pub mod SeenOnceLemmas
 pub mod ShowingLemmas
+pub mod StartingLemmas
 pub mod TakingLemmas
 pub mod WritesLemmas

@@ -12,11 +12,11 @@ use Rattle.quota_map.specs.View.{IsView}
 use Rattle.quota_map.proofs.SeenLemmas.{view_or_refused}
 use Rattle.refusals.specs.declared.reason.Refusal.{Refusal}
 use Rattle.refusals.specs.Refusals.{in_line}
-use Rattle.run_steps.specs.Act.{Act, Change, Replace, Follows, FollowsAct}
+use Rattle.run_steps.specs.Act.{Act, Change, Replace, Start, Follows, FollowsAct}
 use Rattle.run_steps.specs.Done.{Outside}
 use Rattle.run_steps.specs.Meaning.{EndsBy, HasBegun, IsSure}
 use Rattle.run_steps.specs.OneCommand.{AreReceived, AreSameSteps, IsFirstPart, LooksFirst, LooksFirstBy, ReadsToEnd, Receives, RestsOnNone, UnlessFull, leaves_files}
-use Rattle.run_steps.specs.Steps.{Steps, Ending, Doing, Looking, Opening, Reading, Receiving, Before, InLine}
+use Rattle.run_steps.specs.Steps.{Steps, Ending, Doing, Looking, Opening, Reading, Starting, Receiving, Before, InLine}
 use Rattle.run_steps.proofs.ActLemmas.{follows-append}
 use Rattle.run_steps.proofs.RoomLemmas.{full_begun, full_ended, full_in_line, strictly, unless_full}
 use Rattle.run_steps.proofs.SeenOnceLemmas.{seen_once}
@@ -31,6 +31,7 @@ ended_begun (Looking next) old acts new refusal by = ended_begun (next old.files
 ended_begun (Opening kind asked name next) old acts new refusal (inl seen) = inr (seen.0, seen.1, ended_begun (next seen.0) old acts new refusal seen.2)
 ended_begun (Opening kind asked name next) old acts new refusal (inr bad) = inl (record { done_none = bad.2.acts_none; at_hand = refl; same = bad.2.same })
 ended_begun (Reading whole next) old acts new refusal by = inr (by.0, by.1, ended_begun (next old.input) (record old { input = by.0 }) acts new refusal by.2)
+ended_begun (Starting port next) old acts new refusal by = inr (by.0, by.1, ended_begun next old by.0 new refusal by.2)
 ended_begun (Receiving next) old acts new refusal by = inr (by.0, by.1, by.2, ended_begun (next by.0) (record old { datagrams = by.1 }) acts new refusal by.3)
 ended_begun (Before one others) old acts new refusal (inl stopped) = inl (ended_begun one old acts new (Some stopped.0) stopped.2)
 ended_begun (Before one others) old acts new refusal (inr passed) =
@@ -44,6 +45,7 @@ unbegun (Doing act next) old = (act ∷ [], inl (record { done_none = refl; at_h
 unbegun (Looking next) old = unbegun (next old.files) old
 unbegun (Opening kind asked name next) old = ([], inl (record { done_none = refl; at_hand = refl; same = refl }))
 unbegun (Reading whole next) old = ([], inl (record { done_none = refl; at_hand = refl; same = refl }))
+unbegun (Starting port next) old = ([], inl (record { done_none = refl; at_hand = refl; same = refl }))
 unbegun (Receiving next) old = ([], inl (record { done_none = refl; at_hand = refl; same = refl }))
 unbegun (Before one others) old = let first = unbegun one old in (first.0, inl first.1)
 unbegun (InLine line steps) old = unbegun steps old
@@ -63,6 +65,9 @@ begun_follow (Opening kind asked name next) old done hand now (inl is) = none_fo
 begun_follow (Opening kind asked name next) old done hand now (inr by) = begun_follow (next by.0) old done hand now by.2
 begun_follow (Reading whole next) old done hand now (inl is) = none_follow done old now is.done_none is.same
 begun_follow (Reading whole next) old done hand now (inr by) = begun_follow (next old.input) (record old { input = by.0 }) done hand now by.2
+begun_follow (Starting port next) old done hand now (inl is) = none_follow done old now is.done_none is.same
+begun_follow (Starting port next) old done hand now (inr by) =
+    subst (λ (a : List Act). Follows a old.files now.files) (sym by.1) (old.files, refl, begun_follow next old by.0 hand now by.2)
 begun_follow (Receiving next) old done hand now (inl is) = none_follow done old now is.done_none is.same
 begun_follow (Receiving next) old done hand now (inr by) = begun_follow (next by.0) (record old { datagrams = by.1 }) done hand now by.3
 begun_follow (Before one others) old done hand now (inl by) = begun_follow one old done hand now by
@@ -85,6 +90,7 @@ sure_ends (Looking next) old acts new refusal sure by = sure_ends (next old.file
 sure_ends (Opening kind asked name next) old acts new refusal sure (inl seen) = sure_ends (next seen.0) old acts new refusal (sure.1 seen.0 seen.1) seen.2
 sure_ends (Opening kind asked name next) old acts new refusal sure (inr bad) = absurd (sure.0 bad.0 bad.1)
 sure_ends (Reading whole next) old acts new refusal sure by = sure_ends (next old.input) (record old { input = by.0 }) acts new refusal (sure by.0 by.1) by.2
+sure_ends (Starting port next) old acts new refusal sure by = sure_ends next old by.0 new refusal sure by.2
 sure_ends (Receiving next) old acts new refusal sure by = sure_ends (next by.0) (record old { datagrams = by.1 }) acts new refusal (sure by.0 by.1 by.2) by.3
 sure_ends (Before one others) old acts new refusal sure (inl stopped) = absurd (none-some stopped.0 (sym (sure_ends one old acts new (Some stopped.0) sure.0 stopped.2)))
 sure_ends (Before one others) old acts new refusal sure (inr passed) = sure_ends others passed.1 passed.2 new refusal (sure.1 passed.0 passed.1 passed.4) passed.5
@@ -103,6 +109,8 @@ unrefused_sure (Opening kind asked name next) old never = (
 )
 unrefused_sure (Reading whole next) old never = λ left taken.
     unrefused_sure (next old.input) (record old { input = left }) (λ acts new refusal by. never acts new refusal (left, taken, by))
+unrefused_sure (Starting port next) old never =
+    unrefused_sure next old (λ acts new refusal by. never (Start port old.datagrams ∷ acts) new refusal (acts, refl, by))
 unrefused_sure (Receiving next) old never = λ datagram left is.
     unrefused_sure (next datagram) (record old { datagrams = left }) (λ acts new refusal by. never acts new refusal (datagram, left, is, by))
 unrefused_sure (Before one others) old never = (
@@ -201,6 +209,16 @@ first_part rooms looks takes (Reading whole next) one other done hand acts now n
     first_part rooms looks false (next other.input) (record one { input = by.0 }) (record other { input = ends.0 }) done hand acts now new refusal (first.1 other.input)
     (same_taken looks takes one other by.0 ends.0 same)
     (subst (λ (b : List ℕ). HasBegun (next b) (record one { input = by.0 }) done hand now) (same.input first.0) by.2) ends.2
+first_part rooms looks takes (Starting port next) one other done hand acts now new refusal first same (inl is) ends = inl (first_none done hand acts is.done_none is.at_hand)
+first_part rooms looks takes (Starting port next) one other done hand acts now new refusal first same (inr by) ends =
+    unless_full rooms refusal refusal (λ full. full) (λ (part : IsFirstPart by.0 hand ends.0). record {
+      rest = part.rest;
+      whole = ends.1 ∙ ap (λ (a : List Act). Start port other.datagrams ∷ a) part.whole
+          ∙ ap (λ (d : List Datagram). Start port d ∷ (by.0 ++ part.rest)) (sym same.datagrams)
+          ∙ ap (λ (d : List Act). d ++ part.rest) (sym by.1);
+      next = part.next;
+    })
+    (first_part rooms looks takes next one other by.0 hand ends.0 now new refusal first same by.2 ends.2)
 first_part rooms looks takes (Receiving next) one other done hand acts now new refusal first same (inl is) ends = inl (first_none done hand acts is.done_none is.at_hand)
 first_part rooms looks takes (Receiving next) one other done hand acts now new refusal first same (inr by) ends =
     let left = same_received looks takes one other by.0 ends.0 by.1 ends.1 same by.2 ends.2 in
@@ -226,6 +244,7 @@ looks_wider rooms more looks takes (Looking next) wider first = (looks_or_rests 
     looks_or_rests (inr rests) = inr (λ one other. rests_wider (next one) (next other) (rests one other))
 looks_wider rooms more looks takes (Opening kind asked name next) wider first = (first.0, λ value. looks_wider rooms more looks takes (next value) wider (first.1 value))
 looks_wider rooms more looks takes (Reading whole next) wider first = (first.0, λ bytes. looks_wider rooms more looks false (next bytes) wider (first.1 bytes))
+looks_wider rooms more looks takes (Starting port next) wider first = looks_wider rooms more looks takes next wider first
 looks_wider rooms more looks takes (Receiving next) wider first = λ datagram. looks_wider rooms more looks takes (next datagram) wider (first datagram)
 looks_wider rooms more looks takes (Before one others) wider first = absurd first
 looks_wider rooms more looks takes (InLine line steps) wider first = looks_wider rooms more looks takes steps wider first
@@ -255,6 +274,7 @@ passed_sure looks takes (Reading whole next) one other acts new first same ends 
     passed_sure looks false (next other.input) (record one { input = ends.0 }) (record other { input = left }) acts new (first.1 other.input)
     (same_taken looks takes one other ends.0 left same)
     (subst (λ (b : List ℕ). EndsBy (next b) (record one { input = ends.0 }) acts new None) (same.input first.0) ends.2)
+passed_sure looks takes (Starting port next) one other acts new first same ends = passed_sure looks takes next one other ends.0 new first same ends.2
 passed_sure looks takes (Receiving next) one other acts new first same ends = λ datagram left is.
     let rest = same_received looks takes one other ends.0 datagram ends.1 left same ends.2 is in
     passed_sure looks takes (next datagram) (record one { datagrams = ends.1 }) (record other { datagrams = left }) acts new (first datagram) rest.1
@@ -282,6 +302,7 @@ none_left (Reading whole next) old acts new refusal by none =
     nothing_behind : (taken left : List ℕ) → taken ++ left ≡ [] → left ≡ []
     nothing_behind [] left is = is
     nothing_behind (b ∷ taken) left is = absurd (cc)
+none_left (Starting port next) old acts new refusal by none = none_left next old by.0 new refusal by.2 none
 none_left (Receiving next) old acts new refusal by none = none_left (next by.0) (record old { datagrams = by.1 }) acts new refusal by.3 none
 none_left (Before one others) old acts new refusal (inl stopped) none = none_left one old acts new (Some stopped.0) stopped.2 none
 none_left (Before one others) old acts new refusal (inr passed) none = none_left others passed.1 passed.2 new refusal passed.5 (none_left one old passed.0 passed.1 None passed.4 none)
@@ -302,6 +323,7 @@ to_end (Opening kind asked name next) old acts new reads (inl seen) = to_end (ne
 to_end (Opening kind asked name next) old acts new reads (inr bad) = absurd (none-some _ bad.2.ends)
 to_end (Reading whole next) old acts new reads by =
     taken_to_end (whole old.input) (next old.input) old acts by.0 new by.1.all by.2 (λ later. to_end (next old.input) (record old { input = by.0 }) acts new later by.2) (reads old.input)
+to_end (Starting port next) old acts new reads by = to_end next old by.0 new reads by.2
 to_end (Receiving next) old acts new reads by = to_end (next by.0) (record old { datagrams = by.1 }) acts new (reads by.0) by.3
 to_end (Before one others) old acts new reads (inl stopped) = absurd (none-some stopped.0 stopped.1)
 to_end (Before one others) old acts new (inl reads) (inr passed) = none_left others passed.1 passed.2 new None passed.5 (to_end one old passed.0 passed.1 reads passed.4)
@@ -323,6 +345,7 @@ received count (Looking next) old acts new receives by = received count (next ol
 received count (Opening kind asked name next) old acts new receives (inl seen) = received count (next seen.0) old acts new (receives seen.0) seen.2
 received count (Opening kind asked name next) old acts new receives (inr bad) = absurd (none-some _ bad.2.ends)
 received count (Reading whole next) old acts new receives by = received count (next old.input) (record old { input = by.0 }) acts new (receives old.input) by.2
+received count (Starting port next) old acts new receives by = received count next old by.0 new receives by.2
 received count (Receiving next) old acts new receives by =
     let more = received receives.0 (next by.0) (record old { datagrams = by.1 }) acts new (receives.2 by.0) by.3 in
     record { taken = by.0 ∷ more.taken; behind = by.2 ∙ ap (λ (d : List Datagram). by.0 ∷ d) more.behind; counted = ap suc more.counted ∙ sym receives.1 }

@@ -53,7 +53,7 @@ unwritten name old new reads = record { files = reads.files; writes = reads.writ
 -- nothing was done where the store was only read
 pub nothing_read : {done : Bool} (steps : Steps) (name : List ℕ) (tells : RunTells) (old : RunSeen) (store : StoreSeen) → OnlyReads done name old.store store → IsDoneInPart steps tells old (with_store old store)
 nothing_read steps name tells old store reads =
-    nothing_begun steps tells old (with_store old store) reads.files (λ told. refl) (λ told. refl) refl refl reads.writes
+    nothing_begun steps tells old (with_store old store) reads.files (λ told. refl) (λ told. refl) refl refl refl reads.writes
 
 -- no act was done
 pub none_done : (tells : RunTells) (old : RunSeen) (store : StoreSeen) (input : SourceSeen) → IsUnwritten old.store store
@@ -63,6 +63,7 @@ none_done tells old store input same = record {
   out = λ told. sym (append-nil old.out.written);
   err = λ told. sym (append-nil old.err.written);
   answered = sym (append-nil old.link.answers);
+  started = refl;
   writes = writes_for-same [] old.store.writes store.writes same.writes;
 }
 

@@ -20,8 +20,8 @@ use Rattle.run_steps.proofs.WritesLemmas.{writes_for-before, writes_for-same}
 
 -- nothing was done
 pub nothing_begun : (steps : Steps) (tells : RunTells) (old new : RunSeen) → new.store.files ≡ old.store.files → (IsTrue tells.out → new.out.written ≡ old.out.written)
-    → (IsTrue tells.err → new.err.written ≡ old.err.written) → new.link.answers ≡ old.link.answers → new.link.left ≡ old.link.left → new.store.writes ≡ old.store.writes → IsDoneInPart steps tells old new
-nothing_begun steps tells old new files out err sent left writes =
+    → (IsTrue tells.err → new.err.written ≡ old.err.written) → new.link.answers ≡ old.link.answers → new.link.started ≡ old.link.started → new.link.left ≡ old.link.left → new.store.writes ≡ old.store.writes → IsDoneInPart steps tells old new
+nothing_begun steps tells old new files out err sent started left writes =
     let start = unbegun steps (outside_of old) in
     record {
       done = [];
@@ -32,6 +32,7 @@ nothing_begun steps tells old new files out err sent left writes =
       out = λ told. appends_nothing (old.out.written ++ []) new.out.written (out_bytes start.0) (out told ∙ sym (append-nil old.out.written));
       err = λ told. appends_nothing (old.err.written ++ []) new.err.written (err_bytes start.0) (err told ∙ sym (append-nil old.err.written));
       answered = sent ∙ sym (append-nil old.link.answers);
+      started = started;
       datagrams = left;
       writes = writes_for-same start.0 old.store.writes new.store.writes writes;
     }
@@ -47,6 +48,7 @@ whole_begun steps tells refusal old new has = record {
   out = λ told. appends_nothing (old.out.written ++ out_bytes has.acts) new.out.written [] (has.done.out told);
   err = λ told. appends_nothing (old.err.written ++ err_bytes has.acts) new.err.written [] (has.done.err told);
   answered = has.done.answered;
+  started = has.done.started;
   datagrams = refl;
   writes = writes_for-before has.acts [] old.store.writes new.store.writes has.done.writes;
 }
@@ -83,6 +85,7 @@ part_from next steps tells old store input new same leads part = record {
   out = part.out;
   err = part.err;
   answered = part.answered;
+  started = part.started;
   datagrams = part.datagrams;
   writes = subst (λ (w : ℕ). WritesFor (part.done ++ part.hand) w new.store.writes) same part.writes;
 }
@@ -119,6 +122,7 @@ acts_in_part acts end tells old new left part = record {
   out = part.out;
   err = part.err;
   answered = part.answered;
+  started = part.started;
   datagrams = left;
   writes = part.writes;
 }
@@ -134,6 +138,7 @@ part_but_err steps tells old new said part = record {
   out = part.out;
   err = λ told. absurd (false≢true told);
   answered = part.answered;
+  started = part.started;
   datagrams = part.datagrams;
   writes = part.writes;
 }
@@ -167,6 +172,7 @@ part_of_end rooms steps tells old new acts to refusal looks part ends =
       out = λ told. hand_prefix out_bytes part.hand first.rest (old.out.written ++ out_bytes part.done) new.out.written refl first.next (part.out told);
       err = λ told. hand_prefix err_bytes part.hand first.rest (old.err.written ++ err_bytes part.done) new.err.written refl first.next (part.err told);
       answered = part.answered;
+      started = part.started;
       writes = hand_writes part.done part.hand first.rest old.store.writes new.store.writes first.next part.writes;
     })
     (first_part rooms true true steps (outside_of old) (outside_of old) part.done part.hand acts part.now to refusal looks (looks_same true true (outside_of old)) part.begun ends)

@@ -105,6 +105,7 @@ steps_on name next steps tells refusal old store input new reads leads has = rec
     out = has.done.out;
     err = has.done.err;
     answered = has.done.answered;
+    started = has.done.started;
     writes = subst (λ (w : ℕ). WritesFor has.acts w new.store.writes) reads.writes has.done.writes;
   };
 }

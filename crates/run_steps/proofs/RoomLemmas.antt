@@ -7,7 +7,7 @@ use Rattle.run_steps.specs.Act.{Act}
 use Rattle.run_steps.specs.Done.{Outside}
 use Rattle.run_steps.specs.Meaning.{EndsBy, HasBegun, IsAt}
 use Rattle.run_steps.specs.OneCommand.{AreSameSteps, EndsFull, IsFull, UnlessFull, UnlessOneFull}
-use Rattle.run_steps.specs.Steps.{Steps, Ending, Doing, Looking, Opening, Reading, Receiving, Before, InLine}
+use Rattle.run_steps.specs.Steps.{Steps, Ending, Doing, Looking, Opening, Reading, Starting, Receiving, Before, InLine}
 
 -- steps that may not rest on room are the same
 pub strictly : (one other : Steps) → AreSameSteps false one other → one ≡ other
@@ -21,6 +21,7 @@ full_ended (Doing act next) old acts new refusal full ends = absurd full
 full_ended (Looking next) old acts new refusal full ends = absurd full
 full_ended (Opening kind asked name next) old acts new refusal full ends = absurd full
 full_ended (Reading whole next) old acts new refusal full ends = absurd full
+full_ended (Starting port next) old acts new refusal full ends = absurd full
 full_ended (Receiving next) old acts new refusal full ends = absurd full
 full_ended (Before one others) old acts new refusal full ends = absurd full
 full_ended (InLine line steps) old acts new refusal full ends = absurd full
@@ -32,6 +33,7 @@ full_ends (Doing act next) old full = absurd full
 full_ends (Looking next) old full = absurd full
 full_ends (Opening kind asked name next) old full = absurd full
 full_ends (Reading whole next) old full = absurd full
+full_ends (Starting port next) old full = absurd full
 full_ends (Receiving next) old full = absurd full
 full_ends (Before one others) old full = absurd full
 full_ends (InLine line steps) old full = absurd full
@@ -43,6 +45,7 @@ full_begun (Doing act next) old done hand now full begun = absurd full
 full_begun (Looking next) old done hand now full begun = absurd full
 full_begun (Opening kind asked name next) old done hand now full begun = absurd full
 full_begun (Reading whole next) old done hand now full begun = absurd full
+full_begun (Starting port next) old done hand now full begun = absurd full
 full_begun (Receiving next) old done hand now full begun = absurd full
 full_begun (Before one others) old done hand now full begun = absurd full
 full_begun (InLine line steps) old done hand now full begun = absurd full

@@ -1,14 +1,15 @@
 -- Commands one after another, and commands in a line of a script: what was carried out.
 use Rattle.std.proofs.Common.{◌≡◌, ℕ, List, ◌++◌, Option, None, Some, inl, inr, refl, sym, ap, subst, ◌∙◌, append_assoc}
+use Rattle.quota_blocks.specs.Seen.{Started}
 use Rattle.quota_blocks.specs.Text.{AppendsPrefix}
 use Rattle.refusals.specs.declared.reason.Refusal.{Refusal}
 use Rattle.refusals.specs.Refusals.{in_line}
-use Rattle.run_steps.specs.Act.{Act, answers, err_bytes, out_bytes}
+use Rattle.run_steps.specs.Act.{Act, answers, err_bytes, out_bytes, started_by}
 use Rattle.run_steps.specs.Done.{AreDone, Outside, RunSeen, RunTells, outside_of}
 use Rattle.run_steps.specs.Meaning.{EndsBy, HasBegun}
 use Rattle.run_steps.specs.Run.{HasSteps, IsDoneInPart}
 use Rattle.run_steps.specs.Steps.{Before, InLine, Steps}
-use Rattle.run_steps.proofs.ActLemmas.{answers-append, err_bytes-append, follows-append, out_bytes-append}
+use Rattle.run_steps.proofs.ActLemmas.{answers-append, err_bytes-append, follows-append, out_bytes-append, started_by-append}
 use Rattle.run_steps.specs.Writes.{WritesFor}
 use Rattle.run_steps.proofs.WritesLemmas.{writes_for-then}
 use Rattle.run_steps.proofs.PartLemmas.{part_from}
@@ -23,6 +24,7 @@ done_both tells acts more old middle new one two = record {
       ∙ ap (λ (b : List ℕ). old.err.written ++ b) (sym (err_bytes-append acts more));
   answered = two.answered ∙ ap (λ (b : List (List ℕ)). b ++ answers more) one.answered ∙ append_assoc old.link.answers (answers acts) (answers more)
       ∙ ap (λ (b : List (List ℕ)). old.link.answers ++ b) (sym (answers-append acts more));
+  started = two.started ∙ ap (λ (s : Started). started_by more s) one.started ∙ sym (started_by-append acts more old.link.started);
   writes = writes_for-then acts more old.store.writes middle.store.writes new.store.writes one.writes two.writes;
 }
 
@@ -69,6 +71,7 @@ part_led acts next steps tells old middle new leads first part = record {
       (prefix_behind old.err.written (err_bytes acts) middle.err.written new.err.written (err_bytes part.done) (err_bytes part.hand) (first.err told) (part.err told));
   answered = part.answered ∙ ap (λ (b : List (List ℕ)). b ++ answers part.done) first.answered ∙ append_assoc old.link.answers (answers acts) (answers part.done)
       ∙ ap (λ (b : List (List ℕ)). old.link.answers ++ b) (sym (answers-append acts part.done));
+  started = part.started ∙ ap (λ (s : Started). started_by part.done s) first.started ∙ sym (started_by-append acts part.done old.link.started);
   datagrams = part.datagrams;
   writes = subst (λ (a : List Act). WritesFor a old.store.writes new.store.writes) (sym (append_assoc acts part.done part.hand))
       (writes_for-then acts (part.done ++ part.hand) old.store.writes middle.store.writes new.store.writes first.writes part.writes);

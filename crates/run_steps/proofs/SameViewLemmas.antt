@@ -12,13 +12,13 @@ use Rattle.outside.proofs.WorldLemmas.{bytes_eq-ne, bytes_eq-same}
 use Rattle.quota_map.specs.View.{IsView}
 use Rattle.refusals.specs.declared.reason.Refusal.{Refusal}
 use Rattle.refusals.specs.Refusals.{in_line, refusal_of}
-use Rattle.run_steps.specs.Act.{Act, Change, Replace, FollowsAct, IsSeenAs}
+use Rattle.run_steps.specs.Act.{Act, Change, Replace, Start, FollowsAct, IsSeenAs}
 use Rattle.run_steps.specs.Done.{Outside}
 use Rattle.run_steps.specs.Meaning.{EndsBy}
 use Rattle.run_steps.specs.OneCommand.{AreSameSteps, IsFull, LooksFirstBy, RestsOnNone, UnlessOneFull, leaves_files}
 use Rattle.run_steps.specs.Opening.{opening_cause}
 use Rattle.run_steps.specs.SameViews.{EndsAlso, FileAsked, IsFileAlike, IsSeenAlike, LooksAlikeBy, MeetsSame, Opens}
-use Rattle.run_steps.specs.Steps.{Steps, Ending, Doing, Looking, Opening, Reading, Receiving, Before, InLine}
+use Rattle.run_steps.specs.Steps.{Steps, Ending, Doing, Looking, Opening, Reading, Starting, Receiving, Before, InLine}
 use Rattle.run_steps.proofs.OneViewLemmas.{one_view}
 use Rattle.run_steps.proofs.RoomLemmas.{full_ended, full_ends, full_in_line, unless_one_full}
 
@@ -65,6 +65,7 @@ SeesSame rooms one other (Opening kind asked name next) =
     IsSeenAlike kind asked (one.files name) (other name)
     × ((value : QuotaValue) → IsView (one.files name) kind asked (Ok value) → SeesSame rooms one other (next value))
 SeesSame rooms one other (Reading whole next) = SeesSame rooms one other (next one.input)
+SeesSame rooms one other (Starting port next) = SeesSame rooms one other next
 SeesSame rooms one other (Receiving next) =
     (datagram : Datagram) (left : List Datagram) → one.datagrams ≡ datagram ∷ left → SeesSame rooms (record one { datagrams = left }) other (next datagram)
 SeesSame rooms one other (Before first others) = ⊥
@@ -81,6 +82,7 @@ sees_same rooms (Opening kind asked name next) one other looks opened = (
   λ value seen. sees_same rooms (next value) one other (looks value) (λ file opens. opened file (inr (value, seen, opens))),
 )
 sees_same rooms (Reading whole next) one other looks opened = sees_same rooms (next one.input) one other (looks one.input) opened
+sees_same rooms (Starting port next) one other looks opened = sees_same rooms next one other looks opened
 sees_same rooms (Receiving next) one other looks opened =
     λ datagram left is. sees_same rooms (next datagram) (record one { datagrams = left }) other (looks datagram) (λ file opens. opened file (datagram, left, is, opens))
 sees_same rooms (Before first others) one other looks opened = looks
@@ -205,6 +207,14 @@ same_acts rooms looks takes one other (Reading whole next) here there acts new r
     (taken_on looks takes one other here there ends.0 also.0 on)
     (subst (λ (b : List ℕ). EndsBy (next b) (record here { input = ends.0 }) acts new refusal) (on.input_here first.0) ends.2)
     (subst (λ (b : List ℕ). EndsBy (next b) (record there { input = also.0 }) more to stop) (on.input_there first.0) also.2)
+same_acts rooms looks takes one other (Starting port next) here there acts new refusal more to stop first sees on ends also =
+    unless_one_full rooms refusal stop refusal stop (λ full. full) (λ full. full)
+    (λ (rest : (ends.0 ≡ also.0) × (refusal ≡ stop)). (
+      ends.1 ∙ ap (λ (a : List Act). Start port here.datagrams ∷ a) rest.0
+          ∙ ap (λ (d : List Datagram). Start port d ∷ also.0) (on.datagrams_here ∙ sym on.datagrams_there) ∙ sym also.1,
+      rest.1,
+    ))
+    (same_acts rooms looks takes one other next here there ends.0 new refusal also.0 to stop first sees on ends.2 also.2)
 same_acts rooms looks takes one other (Receiving next) here there acts new refusal more to stop first sees on ends also =
     let both = sym also.2 ∙ on.datagrams_there ∙ sym on.datagrams_here ∙ ends.2 in
     let same = same_first also.0 ends.0 also.1 ends.1 both in
@@ -313,6 +323,10 @@ ends_too rooms looks takes one other (Reading whole next) here there acts new re
     (ends_too rooms looks false one other (next one.input) (record here { input = ends.0 }) (record there { input = ends.0 }) acts new refusal (first.1 one.input) sees
     (taken_on looks takes one other here there ends.0 ends.0 on)
     (subst (λ (b : List ℕ). EndsBy (next b) (record here { input = ends.0 }) acts new refusal) (on.input_here first.0) ends.2))
+ends_too rooms looks takes one other (Starting port next) here there acts new refusal first sees on ends =
+    ends_more rooms next (Starting port next) there there ends.0 acts refusal refusal (λ (a : List Act). Start port there.datagrams ∷ a) (λ (r : Option Refusal). r)
+    (ends.1 ∙ ap (λ (d : List Datagram). Start port d ∷ ends.0) (on.datagrams_here ∙ sym on.datagrams_there)) refl (λ stop full. full)
+    (λ more to stop by. (more, refl, by)) (ends_too rooms looks takes one other next here there ends.0 new refusal first sees on ends.2)
 ends_too rooms looks takes one other (Receiving next) here there acts new refusal first sees on ends =
     let is = sym on.datagrams_here ∙ ends.2 in
     ends_only rooms (next ends.0) (Receiving next) (record there { datagrams = ends.1 }) there acts refusal (λ more to stop by. (ends.0, ends.1, on.datagrams_there ∙ is, by))

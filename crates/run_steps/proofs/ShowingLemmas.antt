@@ -50,6 +50,7 @@ told_begun text tells old store out same prefix = record {
       (subst (λ (b : List ℕ). AppendsPrefix old.out.written out.written b) (sym (append-nil text)) (prefix told));
   err = λ told. appends_nothing (old.err.written ++ []) old.err.written [] (sym (append-nil old.err.written));
   answered = sym (append-nil old.link.answers);
+  started = refl;
   datagrams = refl;
   writes = writes_for-same (ToOut text ∷ []) old.store.writes store.writes same.writes;
 }
@@ -66,6 +67,7 @@ told_steps text tells old store out same whole = record {
     out = λ told. whole told ∙ ap (λ (b : List ℕ). old.out.written ++ b) (sym (append-nil text));
     err = λ told. sym (append-nil old.err.written);
     answered = sym (append-nil old.link.answers);
+    started = refl;
     writes = writes_for-same (ToOut text ∷ []) old.store.writes store.writes same.writes;
   };
 }

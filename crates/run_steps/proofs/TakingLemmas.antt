@@ -98,7 +98,7 @@ input_refused name what from is_whole read next uses more tells old store input 
     let new = with_input (with_store old store) input in
     refused_so steps uses more tells old new refusal (unwritten name old.store store reads) refl
     (record { store = reads.later; input = le; out = omega arith; err = omega arith; link = omega arith })
-    (λ told. nothing_begun steps tells old new reads.files (λ out. refl) (λ err. refl) refl refl reads.writes)
+    (λ told. nothing_begun steps tells old new reads.files (λ out. refl) (λ err. refl) refl refl refl reads.writes)
     (input_reason uses what from tells old store input (input_said from read old.store.files old.input.left) refusal _ refusal.cause
     refusal.name fault may
     (λ told is. refused_taking name from is_whole read next tells old store input refusal reads is (taken told))) allowed placed

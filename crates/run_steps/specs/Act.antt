@@ -1,16 +1,19 @@
 -- What a command does to what is outside, act by act, and how the files follow.
 use Rattle.std.specs.Prelude.{◌≡◌, ◌⊎◌, ℕ, List, [], ◌∷◌, ◌++◌, Option, Some, Ok, ⊤}
 use Rattle.quota_blocks.specs.Replacement.{ReplacesOnly}
+use Rattle.quota_blocks.specs.Seen.{Datagram, Started, started_at}
 use Rattle.quota_blocks.specs.World.{KeepsOthers, World}
 use Rattle.quota_blocks.specs.QuotaValue.{QuotaValue}
 use Rattle.quota_map.specs.AnyFile.{AnyLeaves}
 use Rattle.quota_map.specs.View.{IsView}
 
--- One act: bytes to the output, bytes to the error output, an answer to a datagram, or a file that from then on stands
--- for another value: an opened one that is edited, or one that is replaced as a whole.
+-- One act: bytes to the output, bytes to the error output, a link that is started at a port when these datagrams are left, an
+-- answer to a datagram, or a file that from then on stands for another value: an opened one that is edited, or one that is
+-- replaced as a whole.
 pub data Act : Type 0 where
   ToOut : List ℕ → Act
   ToErr : List ℕ → Act
+  Start : ℕ → List Datagram → Act
   Answer : List ℕ → Act
   Change : List ℕ → QuotaValue → Act
   Replace : List ℕ → QuotaValue → Act
@@ -32,6 +35,12 @@ abbrev pub answers : List Act → List (List ℕ)
 answers [] = []
 answers (Answer bytes ∷ acts) = bytes ∷ answers acts
 answers (_ ∷ acts) = answers acts
+
+-- how a link was started after acts: once more for each start
+abbrev pub started_by : List Act → Started → Started
+started_by [] before = before
+started_by (Start port left ∷ acts) before = started_by acts (started_at before port left)
+started_by (_ ∷ acts) before = started_by acts before
 
 -- no file is changed
 abbrev pub ChangesNone : List Act → Type 0

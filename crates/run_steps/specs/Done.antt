@@ -4,7 +4,7 @@ use Rattle.quota_blocks.specs.Count.{Rose}
 use Rattle.quota_blocks.specs.Seen.{Datagram, LinkSeen, SinkSeen, SourceSeen, StoreSeen}
 use Rattle.quota_blocks.specs.Text.{AppendsPrefix}
 use Rattle.quota_blocks.specs.World.{World}
-use Rattle.run_steps.specs.Act.{Act, Follows, FollowsInPart, answers, err_bytes, out_bytes}
+use Rattle.run_steps.specs.Act.{Act, Follows, FollowsInPart, answers, err_bytes, out_bytes, started_by}
 use Rattle.run_steps.specs.Writes.{WritesFor}
 
 -- whether the store, the input, the output, the error output and the link tell
@@ -69,17 +69,18 @@ pub record Outside : Type 0 where
 abbrev pub outside_of : RunSeen → Outside
 outside_of seen = record { files = seen.store.files; input = seen.input.left; datagrams = seen.link.left }
 
--- Acts were done: the files follow, the sinks got exactly their bytes and the link exactly their answers, and
--- there were no more calls of `write` to the store than they come to.
+-- Acts were done: the files follow, the sinks got exactly their bytes and the link exactly their answers, the link was started
+-- exactly as they say, and there were no more calls of `write` to the store than they come to.
 pub record AreDone (tells : RunTells) (acts : List Act) (old new : RunSeen) : Type 0 where
   pub files : Follows acts old.store.files new.store.files
   pub out : IsTrue tells.out → new.out.written ≡ old.out.written ++ out_bytes acts
   pub err : IsTrue tells.err → new.err.written ≡ old.err.written ++ err_bytes acts
   pub answered : new.link.answers ≡ old.link.answers ++ answers acts
+  pub started : new.link.started ≡ started_by acts old.link.started
   pub writes : WritesFor acts old.store.writes new.store.writes
 
 -- Acts were done up to one that may have been done in part: bytes by a prefix of them, an edit as one that failed may leave
--- the file, and a replacement and an answer not at all.
+-- the file, and a replacement, a start of the link and an answer not at all.
 pub record AreDoneInPart (tells : RunTells) (acts : List Act) (old new : RunSeen) : Type 0 where
   pub done : List Act
   pub rest : List Act
@@ -88,6 +89,7 @@ pub record AreDoneInPart (tells : RunTells) (acts : List Act) (old new : RunSeen
   pub out : IsTrue tells.out → AppendsPrefix (old.out.written ++ out_bytes done) new.out.written (out_bytes (take 1 rest))
   pub err : IsTrue tells.err → AppendsPrefix (old.err.written ++ err_bytes done) new.err.written (err_bytes (take 1 rest))
   pub answered : new.link.answers ≡ old.link.answers ++ answers done
+  pub started : new.link.started ≡ started_by done old.link.started
   pub writes : WritesFor (done ++ take 1 rest) old.store.writes new.store.writes
 
 -- the bytes are appended, or, where the sink failed, a prefix of them

@@ -10,10 +10,10 @@ use Rattle.refusals.specs.declared.reason.Refusal.{Refusal}
 use Rattle.refusals.specs.Line.{error_line}
 use Rattle.refusals.specs.Refusals.{in_line, refusal_of}
 use Rattle.refusals.specs.Status.{end_status}
-use Rattle.run_steps.specs.Act.{Act, FollowsAct, ToErr}
+use Rattle.run_steps.specs.Act.{Act, FollowsAct, Start, ToErr}
 use Rattle.run_steps.specs.Done.{Outside}
 use Rattle.run_steps.specs.Opening.{opening_cause}
-use Rattle.run_steps.specs.Steps.{Steps, Ending, Doing, Looking, Opening, Reading, Receiving, Before, InLine}
+use Rattle.run_steps.specs.Steps.{Steps, Ending, Doing, Looking, Opening, Reading, Starting, Receiving, Before, InLine}
 
 -- How steps end.
 
@@ -43,6 +43,8 @@ EndsBy (Opening kind asked name next) old acts new refusal =
 EndsBy (Reading whole next) old acts new refusal =
     (left : List ℕ) × IsTaken (whole old.input) old.input left
     × EndsBy (next old.input) (record old { input = left }) acts new refusal
+EndsBy (Starting port next) old acts new refusal =
+    (rest : List Act) × (acts ≡ Start port old.datagrams ∷ rest) × EndsBy next old rest new refusal
 EndsBy (Receiving next) old acts new refusal =
     (datagram : Datagram) × (left : List Datagram) × (old.datagrams ≡ datagram ∷ left)
     × EndsBy (next datagram) (record old { datagrams = left }) acts new refusal
@@ -77,6 +79,9 @@ HasBegun (Reading whole next) old done hand now =
     IsAt [] old done hand now
     ⊎ ((left : List ℕ) × IsTaken (whole old.input) old.input left
     × HasBegun (next old.input) (record old { input = left }) done hand now)
+HasBegun (Starting port next) old done hand now =
+    IsAt [] old done hand now
+    ⊎ ((rest : List Act) × (done ≡ Start port old.datagrams ∷ rest) × HasBegun next old rest hand now)
 HasBegun (Receiving next) old done hand now =
     IsAt [] old done hand now
     ⊎ ((datagram : Datagram) × (left : List Datagram) × (old.datagrams ≡ datagram ∷ left)
@@ -99,6 +104,7 @@ IsSure (Opening kind asked name next) old =
     × ((value : QuotaValue) → IsView (old.files name) kind asked (Ok value) → IsSure (next value) old)
 IsSure (Reading whole next) old =
     (left : List ℕ) → IsTaken (whole old.input) old.input left → IsSure (next old.input) (record old { input = left })
+IsSure (Starting port next) old = IsSure next old
 IsSure (Receiving next) old =
     (datagram : Datagram) (left : List Datagram) → old.datagrams ≡ datagram ∷ left
     → IsSure (next datagram) (record old { datagrams = left })

@@ -8,7 +8,7 @@ use Rattle.refusals.specs.declared.cause.Cause.{Cause}
 use Rattle.refusals.specs.declared.cause.Cause.TheVariants.{Full}
 use Rattle.refusals.specs.declared.reason.Refusal.{Refusal}
 use Rattle.run_steps.specs.Act.{Act, Change, Replace}
-use Rattle.run_steps.specs.Steps.{Steps, Ending, Doing, Looking, Opening, Reading, Receiving, Before, InLine}
+use Rattle.run_steps.specs.Steps.{Steps, Ending, Doing, Looking, Opening, Reading, Starting, Receiving, Before, InLine}
 
 -- an act leaves the files
 abbrev pub leaves_files : Act → Bool
@@ -63,6 +63,7 @@ LooksFirstBy rooms looks takes (Looking next) =
 LooksFirstBy rooms looks takes (Opening kind asked name next) =
     IsTrue looks × ((value : QuotaValue) → LooksFirstBy rooms looks takes (next value))
 LooksFirstBy rooms looks takes (Reading whole next) = IsTrue takes × ((bytes : List ℕ) → LooksFirstBy rooms looks false (next bytes))
+LooksFirstBy rooms looks takes (Starting port next) = LooksFirstBy rooms looks takes next
 LooksFirstBy rooms looks takes (Receiving next) = (datagram : Datagram) → LooksFirstBy rooms looks takes (next datagram)
 LooksFirstBy rooms looks takes (Before one others) = ⊥
 LooksFirstBy rooms looks takes (InLine line steps) = LooksFirstBy rooms looks takes steps
@@ -81,6 +82,7 @@ ReadsToEnd (Doing act next) = ReadsToEnd next
 ReadsToEnd (Looking next) = (files : World) → ReadsToEnd (next files)
 ReadsToEnd (Opening kind asked name next) = (value : QuotaValue) → ReadsToEnd (next value)
 ReadsToEnd (Reading whole next) = (bytes : List ℕ) → IsTrue (whole bytes) ⊎ ReadsToEnd (next bytes)
+ReadsToEnd (Starting port next) = ReadsToEnd next
 ReadsToEnd (Receiving next) = (datagram : Datagram) → ReadsToEnd (next datagram)
 ReadsToEnd (Before one others) = ReadsToEnd one ⊎ ReadsToEnd others
 ReadsToEnd (InLine line steps) = ReadsToEnd steps
@@ -93,6 +95,7 @@ Receives count (Doing act next) = Receives count next
 Receives count (Looking next) = (files : World) → Receives count (next files)
 Receives count (Opening kind asked name next) = (value : QuotaValue) → Receives count (next value)
 Receives count (Reading whole next) = (bytes : List ℕ) → Receives count (next bytes)
+Receives count (Starting port next) = Receives count next
 Receives count (Receiving next) = (more : ℕ) × (count ≡ suc more) × ((datagram : Datagram) → Receives more (next datagram))
 Receives count (Before one others) = (first : ℕ) × (more : ℕ) × (count ≡ first + more) × Receives first one × Receives more others
 Receives count (InLine line steps) = Receives count steps

@@ -7,7 +7,7 @@ use Rattle.refusals.specs.declared.cause.Cause.TheVariants.{StoreFault, SourceFa
 use Rattle.refusals.specs.declared.reason.Refusal.{Refusal}
 use Rattle.refusals.specs.Refusals.{stands_in_line}
 use Rattle.refusals.specs.Status.{ByGroup, group_of, status_of}
-use Rattle.run_steps.specs.Act.{Act, FollowsInPart, answers, err_bytes, out_bytes}
+use Rattle.run_steps.specs.Act.{Act, FollowsInPart, answers, err_bytes, out_bytes, started_by}
 use Rattle.run_steps.specs.Done.{AreDone, IsLater, IsUnwritten, IsWorldTold, Outside, RunSeen, RunTells, outside_of}
 use Rattle.run_steps.specs.Meaning.{EndsBy, HasBegun}
 use Rattle.run_steps.specs.Steps.{Steps}
@@ -57,8 +57,8 @@ pub record HasSteps (steps : Steps) (tells : RunTells) (refusal : Option Refusal
   pub done : AreDone tells acts old new
 
 -- Steps were done in part: they have begun, and the act that is at hand, if there is one, may have been done in part: bytes by
--- a prefix of them, an edit as one that failed may leave the file, and a replacement and an answer not at all. Nothing else was
--- done, and there were no more calls of `write` to the store than these acts come to, the one at hand with them. What is left of
+-- a prefix of them, an edit as one that failed may leave the file, and a replacement and an answer not at all; a link is never
+-- started in part. Nothing else was done, and there were no more calls of `write` to the store than these acts come to, the one at hand with them. What is left of
 -- the input is not said.
 pub record IsDoneInPart (steps : Steps) (tells : RunTells) (old new : RunSeen) : Type 0 where
   pub done : List Act
@@ -69,6 +69,7 @@ pub record IsDoneInPart (steps : Steps) (tells : RunTells) (old new : RunSeen) :
   pub out : IsTrue tells.out → AppendsPrefix (old.out.written ++ out_bytes done) new.out.written (out_bytes hand)
   pub err : IsTrue tells.err → AppendsPrefix (old.err.written ++ err_bytes done) new.err.written (err_bytes hand)
   pub answered : new.link.answers ≡ old.link.answers ++ answers done
+  pub started : new.link.started ≡ started_by done old.link.started
   pub datagrams : new.link.left ≡ now.datagrams
   pub writes : WritesFor (done ++ hand) old.store.writes new.store.writes
 

@@ -14,7 +14,7 @@ use Rattle.run_steps.specs.Act.{Act}
 use Rattle.run_steps.specs.Done.{Outside}
 use Rattle.run_steps.specs.Meaning.{EndsBy}
 use Rattle.run_steps.specs.OneCommand.{AreSameSteps, IsFull, UnlessOneFull}
-use Rattle.run_steps.specs.Steps.{Steps, Ending, Doing, Looking, Opening, Reading, Receiving, Before, InLine}
+use Rattle.run_steps.specs.Steps.{Steps, Ending, Doing, Looking, Opening, Reading, Starting, Receiving, Before, InLine}
 
 -- what is seen of a file is no damage: it is a value, or another refusal
 abbrev pub IsNoDamage : Result QuotaValue OpenFault → Type 0
@@ -58,6 +58,7 @@ Opens (Opening kind asked name next) old file =
     (file ≡ record { kind = kind; asked = asked; name = name })
     ⊎ ((value : QuotaValue) × IsView (old.files name) kind asked (Ok value) × Opens (next value) old file)
 Opens (Reading whole next) old file = Opens (next old.input) old file
+Opens (Starting port next) old file = Opens next old file
 Opens (Receiving next) old file =
     (datagram : Datagram) × (left : List Datagram) × (old.datagrams ≡ datagram ∷ left) × Opens (next datagram) (record old { datagrams = left }) file
 Opens (Before first others) old file = ⊥
@@ -71,6 +72,7 @@ LooksAlikeBy rooms one other (Doing act next) = LooksAlikeBy rooms one other nex
 LooksAlikeBy rooms one other (Looking next) = AreSameSteps rooms (next one) (next other) × LooksAlikeBy rooms one other (next one)
 LooksAlikeBy rooms one other (Opening kind asked name next) = (value : QuotaValue) → LooksAlikeBy rooms one other (next value)
 LooksAlikeBy rooms one other (Reading whole next) = (bytes : List ℕ) → LooksAlikeBy rooms one other (next bytes)
+LooksAlikeBy rooms one other (Starting port next) = LooksAlikeBy rooms one other next
 LooksAlikeBy rooms one other (Receiving next) = (datagram : Datagram) → LooksAlikeBy rooms one other (next datagram)
 LooksAlikeBy rooms one other (Before first others) = ⊥
 LooksAlikeBy rooms one other (InLine line steps) = LooksAlikeBy rooms one other steps

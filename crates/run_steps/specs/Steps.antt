@@ -15,14 +15,16 @@ use Rattle.run_steps.specs.Naming.{names_seen}
 
 -- Steps are one of these: the end, with a refusal or none; an act, and the steps behind it; a look at the files as they are; a
 -- quota file of a kind that is opened, in the format that is asked for, by its name, and what comes of its value; the standard
--- input, the whole of it where its bytes ask for that, and what comes of its bytes; the first datagram that is left, and what
--- comes of it; steps, and the ones behind them where they pass; and steps that stand in a line of a script.
+-- input, the whole of it where its bytes ask for that, and what comes of its bytes; a link that is started at a port, and the
+-- steps behind it; the first datagram that is left, and what comes of it; steps, and the ones behind them where they pass; and
+-- steps that stand in a line of a script.
 pub data Steps : Type 0 where
   Ending : Option Refusal → Steps
   Doing : Act → Steps → Steps
   Looking : (World → Steps) → Steps
   Opening : Kind → Option Format → List ℕ → (QuotaValue → Steps) → Steps
   Reading : (List ℕ → Bool) → (List ℕ → Steps) → Steps
+  Starting : ℕ → Steps → Steps
   Receiving : (Datagram → Steps) → Steps
   Before : Steps → Steps → Steps
   InLine : ℕ → Steps → Steps

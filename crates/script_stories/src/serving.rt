@@ -29,11 +29,12 @@ use call
 datagram 1700000001
 use call
 datagram 1700000002
-text rquotad --calls 2 --port 0 --export /home user q
+text rquotad --calls 2 --port 875 --export /home user q
 text setquota 1000 2000 3000 10 20 q
-text rquotad --calls 1 --port 0 --export /home user q
+text rquotad --calls 1 --port 876 --export /home user q
 input
 run script
+started 2 port 876
 use told
 sent
 use told

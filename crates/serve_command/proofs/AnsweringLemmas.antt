@@ -1,5 +1,5 @@
 -- Datagrams that were answered, all that were asked for or not, as steps.
-use Rattle.std.proofs.Common.{◌≡◌, ℕ, zero, suc, ◌<◌, ◌≤◌, IsTrue, true, List, [], ◌∷◌, ◌++◌, length, map, Result, Ok, Err, OnErr, Option, None, Some, IfSome, refl, sym, ap, subst, ◌∙◌, inl, inr, append-nil, arith}
+use Rattle.std.proofs.Common.{◌≡◌, ℕ, zero, suc, ◌<◌, ◌≤◌, IsTrue, true, false, List, [], ◌∷◌, ◌++◌, length, map, Result, Ok, Err, OnOk, OnErr, Option, None, Some, IfSome, refl, sym, ap, subst, ◌∙◌, inl, inr, append-nil, arith}
 use Rattle.std.specs.List.{All, cons_option, filter_map, slice_get}
 use Rattle.std.specs.Option.{option_to_list}
 use Rattle.std.specs.Result.{is_err}
@@ -7,7 +7,7 @@ use Rattle.std.proofs.lemmas.List.Elements.{All-get_or}
 use Rattle.std.proofs.lemmas.Option.{get_or_from_slice_get, slice_get_within}
 use Rattle.quota_types.specs.declared.file_kind.Format.{Format}
 use Rattle.quota_blocks.specs.Count.{Rose}
-use Rattle.quota_blocks.specs.Seen.{Datagram, LinkSeen, StoreSeen}
+use Rattle.quota_blocks.specs.Seen.{Datagram, LinkSeen, Started, StoreSeen}
 use Rattle.quota_blocks.specs.World.{World}
 use Rattle.quota_blocks.specs.declared.quota_file.FileFault.TheVariants.{Store as CallFailed, Damage as FileDamaged, Full as NoBlocks, Memory as NoMemory}
 use Rattle.rquota_xdr.specs.Call.{call_of}
@@ -25,11 +25,11 @@ use Rattle.rquota_serve.specs.declared.fault.ServeFault.TheVariants.{Link as Lin
 use Rattle.refusals.specs.Refusals.{refusal_of}
 use Rattle.refusals.specs.declared.cause.Cause.{Cause}
 use Rattle.refusals.specs.declared.cause.Cause.TheVariants.{LinkFault}
-use Rattle.run_steps.specs.Act.{Act, Answer, Follows, answers, err_bytes, out_bytes}
+use Rattle.run_steps.specs.Act.{Act, Answer, Follows, answers, err_bytes, out_bytes, started_by}
 use Rattle.run_steps.specs.Done.{IsWorldTold, Outside, RunSeen, RunTells, outside_of}
 use Rattle.run_steps.specs.Meaning.{EndsBy, HasBegun}
 use Rattle.run_steps.specs.Run.{CarriesOut, HasReason, HasSteps, IsDoneInPart}
-use Rattle.run_steps.specs.Steps.{Steps}
+use Rattle.run_steps.specs.Steps.{Starting, Steps}
 use Rattle.run_steps.proofs.ActLemmas.{appends_nothing, none_in_part}
 use Rattle.run_steps.proofs.PartLemmas.{nothing_begun, whole_begun}
 use Rattle.run_steps.proofs.ShowingLemmas.{damage_may}
@@ -63,6 +63,11 @@ answering-answers : (sent : List (List ℕ)) → answers (answering sent) ≡ se
 unfolding answering
 answering-answers [] = refl
 answering-answers (bytes ∷ sent) = ap (λ (l : List (List ℕ)). bytes ∷ l) (answering-answers sent)
+
+answering-started : (sent : List (List ℕ)) (before : Started) → started_by (answering sent) before ≡ before
+unfolding answering
+answering-started [] before = refl
+answering-started (bytes ∷ sent) before = answering-started sent before
 
 answering-follows : (sent : List (List ℕ)) (old new : World) → new ≡ old → Follows (answering sent) old new
 unfolding answering
@@ -111,10 +116,10 @@ answered_ends exported (datagram ∷ taken) files input left = (
 )
 
 pub served_steps : (exported : Exported) (calls : ℕ) (serves : Exported → Type 0) (tells : RunTells) (old : RunSeen) (store : StoreSeen) (link : LinkSeen)
-    → serves exported → store.files ≡ old.store.files → store.writes ≡ old.store.writes → Served serves calls old.link link
+    → serves exported → store.files ≡ old.store.files → store.writes ≡ old.store.writes → link.started ≡ old.link.started → Served serves calls old.link link
     → HasSteps (AnsweringSteps exported calls) tells None old (with_link old store link)
 unfolding acts_of
-served_steps exported calls serves tells old store link is files writes served =
+served_steps exported calls serves tells old store link is files writes started served =
     let sent = answers_of exported served.taken in
     record {
       acts = acts_of exported served.taken;
@@ -128,6 +133,7 @@ served_steps exported calls serves tells old store link is files writes served =
         out = λ told. sym (append-nil old.out.written) ∙ ap (λ (b : List ℕ). old.out.written ++ b) (sym (answering-out sent));
         err = λ told. sym (append-nil old.err.written) ∙ ap (λ (b : List ℕ). old.err.written ++ b) (sym (answering-err sent));
         answered = served.answers exported is ∙ ap (λ (l : List (List ℕ)). old.link.answers ++ l) (sym (answering-answers sent));
+        started = started ∙ sym (answering-started sent old.link.started);
         writes = writes_for-same (acts_of exported served.taken) old.store.writes store.writes writes;
       };
     }
@@ -188,10 +194,10 @@ answered_begun exported (datagram ∷ done) at_hand (suc calls) files input left
     )
 
 stopped_part : (exported : Exported) (calls : ℕ) (serves : Exported → Type 0) (tells : RunTells) (old : RunSeen) (store : StoreSeen) (link : LinkSeen)
-    → serves exported → store.files ≡ old.store.files → store.writes ≡ old.store.writes → Stopped serves calls old.link link
+    → serves exported → store.files ≡ old.store.files → store.writes ≡ old.store.writes → link.started ≡ old.link.started → Stopped serves calls old.link link
     → IsDoneInPart (AnsweringSteps exported calls) tells old (with_link old store link)
 unfolding acts_of
-stopped_part exported calls serves tells old store link is files writes stopped =
+stopped_part exported calls serves tells old store link is files writes started stopped =
     let sent = answers_of exported stopped.done in
     let begun = answered_begun exported stopped.done stopped.at_hand calls old.store.files old.input.left link.left stopped.few stopped.unsent in
     record {
@@ -203,16 +209,18 @@ stopped_part exported calls serves tells old store link is files writes stopped 
       out = λ told. appends_nothing _ old.out.written (out_bytes begun.0) (sym (append-nil old.out.written) ∙ ap (λ (b : List ℕ). old.out.written ++ b) (sym (answering-out sent)));
       err = λ told. appends_nothing _ old.err.written (err_bytes begun.0) (sym (append-nil old.err.written) ∙ ap (λ (b : List ℕ). old.err.written ++ b) (sym (answering-err sent)));
       answered = stopped.answers exported is ∙ ap (λ (l : List (List ℕ)). old.link.answers ++ l) (sym (answering-answers sent));
+      started = started ∙ sym (answering-started sent old.link.started);
       datagrams = refl;
       writes = writes_for-same (acts_of exported stopped.done ++ begun.0) old.store.writes store.writes writes;
     }
 
 -- What was carried out.
 
--- the store was only read, and both counts of faults did not fall
+-- the store was only read, the link was not started, and both counts of faults did not fall
 pub record IsServing (old : RunSeen) (store : StoreSeen) (link : LinkSeen) : Type 0 where
   pub files : store.files ≡ old.store.files
   pub writes : store.writes ≡ old.store.writes
+  pub started : link.started ≡ old.link.started
   pub store_later : old.store.faults ≤ store.faults
   pub link_later : old.link.faults ≤ link.faults
 
@@ -221,7 +229,7 @@ pub served_carried : (exported : Exported) (calls : ℕ) (may : Cause → List �
     → IsServing old store link → (IsTrue tells.store → serves exported) → (IsTrue tells.link → Served serves calls old.link link)
     → CarriesOut (AnsweringSteps exported calls) serve_uses may tells old (with_link old store link) (Ok tt)
 served_carried exported calls may serves tells old store link serving is served =
-    let steps = λ (told : IsWorldTold tells). served_steps exported calls serves tells old store link (is told.store) serving.files serving.writes (served told.link) in
+    let steps = λ (told : IsWorldTold tells). served_steps exported calls serves tells old store link (is told.store) serving.files serving.writes serving.started (served told.link) in
     record {
       done = steps;
       refused = tt;
@@ -235,14 +243,14 @@ served_carried exported calls may serves tells old store link serving is served 
     }
 
 -- why not all were
-serve_reason : (fault : ServeFault) (store_before link_before : ℕ) (exported : Exported) (serves : Exported → Type 0) (stated : Type 0) (tells : RunTells) (old new : RunSeen)
-    → old.store.faults ≤ store_before → old.link.faults ≤ link_before → (IsTrue tells.store → serves exported) → IsServeFault store_before new.store.faults link_before new.link.faults serves fault
+serve_reason : (fault : ServeFault) (exported : Exported) (serves : Exported → Type 0) (stated : Type 0) (tells : RunTells) (old new : RunSeen)
+    → (IsTrue tells.store → serves exported) → IsServeFault old.store.faults new.store.faults old.link.faults new.link.faults serves fault
     → HasReason serve_uses old new (IsWorldTold tells → stated) (serve_cause fault)
-serve_reason LinkFailed store_before link_before exported serves stated tells old new store_le link_le is cause = (refl, omega (arith, link_le, cause))
-serve_reason (FileFailed CallFailed) store_before link_before exported serves stated tells old new store_le link_le is cause = omega (arith, store_le, cause)
-serve_reason (FileFailed (FileDamaged damage)) store_before link_before exported serves stated tells old new store_le link_le is cause = λ told. absurd (cause exported (is told.store))
-serve_reason (FileFailed (NoBlocks blocks limit)) store_before link_before exported serves stated tells old new store_le link_le is cause = absurd cause
-serve_reason (FileFailed NoMemory) store_before link_before exported serves stated tells old new store_le link_le is cause = absurd cause
+serve_reason LinkFailed exported serves stated tells old new is cause = (refl, cause)
+serve_reason (FileFailed CallFailed) exported serves stated tells old new is cause = cause
+serve_reason (FileFailed (FileDamaged damage)) exported serves stated tells old new is cause = λ told. absurd (cause exported (is told.store))
+serve_reason (FileFailed (NoBlocks blocks limit)) exported serves stated tells old new is cause = absurd cause
+serve_reason (FileFailed NoMemory) exported serves stated tells old new is cause = absurd cause
 
 all_at : {T : Type 0} (P : T → Type 0) (list : List T) (place : ℕ) (one : T) → All P list → slice_get list place ≡ Some one → P one
 all_at P list place one all at = subst P (get_or_from_slice_get list place one one at) (All-get_or P list place one (slice_get_within list place one at) all)
@@ -257,15 +265,15 @@ serve_may format file seen (FileFailed (FileDamaged damage)) asked may sb sn lb 
 serve_may format file seen (FileFailed (NoBlocks blocks limit)) asked may sb sn lb ln serves cause = absurd cause
 serve_may format file seen (FileFailed NoMemory) asked may sb sn lb ln serves cause = absurd cause
 
-pub stopped_carried : (exported : Exported) (calls : ℕ) (format : Option Format) (file : List ℕ) (seen : List ExportSeen) (fault : ServeFault) (link_before : ℕ) (serves : Exported → Type 0) (tells : RunTells)
+pub stopped_carried : (exported : Exported) (calls : ℕ) (format : Option Format) (file : List ℕ) (seen : List ExportSeen) (fault : ServeFault) (serves : Exported → Type 0) (tells : RunTells)
     (old : RunSeen) (store : StoreSeen) (link : LinkSeen)
-    → IsServing old store link → old.link.faults ≤ link_before → (IsTrue tells.store → serves exported) → (IsTrue tells.link → Stopped serves calls old.link link)
-    → IsServeFault old.store.faults store.faults link_before link.faults serves fault → All (IsAsAsked format) seen → OnFile fault (MayRefuseOne seen)
+    → IsServing old store link → (IsTrue tells.store → serves exported) → (IsTrue tells.link → Stopped serves calls old.link link)
+    → IsServeFault old.store.faults store.faults old.link.faults link.faults serves fault → All (IsAsAsked format) seen → OnFile fault (MayRefuseOne seen)
     → CarriesOut (AnsweringSteps exported calls) serve_uses (AnsweringMayRefuse format file) tells old (with_link old store link) (Err (refusal_of (serve_cause fault) file))
-stopped_carried exported calls format file seen fault link_before serves tells old store link serving le is stopped cause asked may = record {
+stopped_carried exported calls format file seen fault serves tells old store link serving is stopped cause asked may = record {
   done = tt;
-  refused = serve_reason fault old.store.faults link_before exported serves _ tells old (with_link old store link) (omega arith) le is cause;
-  part = λ told. stopped_part exported calls serves tells old store link (is told.store) serving.files serving.writes (stopped told.link);
+  refused = serve_reason fault exported serves _ tells old (with_link old store link) is cause;
+  part = λ told. stopped_part exported calls serves tells old store link (is told.store) serving.files serving.writes serving.started (stopped told.link);
   may_refuse = serve_may format file seen fault asked may _ _ _ _ serves cause;
   placed = record { line = λ no. refl; input_line = λ no. refl };
   only_reads = λ only. record { files = serving.files; writes = serving.writes };
@@ -275,13 +283,13 @@ stopped_carried exported calls format file seen fault link_before serves tells o
 }
 
 -- the link did not start
-pub unstarted_carried : (exported : Exported) (calls : ℕ) (format : Option Format) (file : List ℕ) (tells : RunTells) (old : RunSeen) (link : LinkSeen) → link.left ≡ old.link.left → link.answers ≡ old.link.answers
-    → Rose old.link.faults link.faults → old.link.faults ≤ link.faults
-    → CarriesOut (AnsweringSteps exported calls) serve_uses (AnsweringMayRefuse format file) tells old (with_link old old.store link) (Err (refusal_of LinkFault file))
-unstarted_carried exported calls format file tells old link left sent rose later = record {
+pub unstarted_carried : (exported : Exported) (calls port : ℕ) (format : Option Format) (file : List ℕ) (tells : RunTells) (old : RunSeen) (link : LinkSeen) → link.left ≡ old.link.left → link.answers ≡ old.link.answers
+    → (IsTrue tells.link → link.started ≡ old.link.started) → Rose old.link.faults link.faults → old.link.faults ≤ link.faults
+    → CarriesOut (Starting port (AnsweringSteps exported calls)) serve_uses (AnsweringMayRefuse format file) tells old (with_link old old.store link) (Err (refusal_of LinkFault file))
+unstarted_carried exported calls port format file tells old link left sent started rose later = record {
   done = tt;
   refused = (refl, rose);
-  part = λ told. nothing_begun (AnsweringSteps exported calls) tells old (with_link old old.store link) refl (λ t. refl) (λ t. refl) sent left refl;
+  part = λ told. nothing_begun (Starting port (AnsweringSteps exported calls)) tells old (with_link old old.store link) refl (λ t. refl) (λ t. refl) sent (started told.link) left refl;
   may_refuse = tt;
   placed = record { line = λ no. refl; input_line = λ no. refl };
   only_reads = λ only. record { files = refl; writes = refl };
@@ -305,26 +313,12 @@ nothing_stopped serves calls old new some left sent = record {
   unsent = tt;
 }
 
--- what was served since a later moment, at which nothing had been taken or sent, was served since an earlier one
-pub served_since : (serves : Exported → Type 0) (calls : ℕ) (old started new : LinkSeen) → started.left ≡ old.left → started.answers ≡ old.answers → Served serves calls started new → Served serves calls old new
-served_since serves calls old started new left sent served = record {
-  taken = served.taken;
-  left = sym left ∙ served.left;
-  number = served.number;
-  answers = λ exported is. served.answers exported is ∙ ap (λ (l : List (List ℕ)). l ++ answers_of exported served.taken) sent;
-}
-
-pub stopped_since : (serves : Exported → Type 0) (calls : ℕ) (old started new : LinkSeen) → started.left ≡ old.left → started.answers ≡ old.answers → Stopped serves calls started new → Stopped serves calls old new
-stopped_since serves calls old started new left sent stopped = record {
-  done = stopped.done;
-  at_hand = stopped.at_hand;
-  left = sym left ∙ stopped.left;
-  few = stopped.few;
-  answers = λ exported is. stopped.answers exported is ∙ ap (λ (l : List (List ℕ)). l ++ answers_of exported stopped.done) sent;
-  unsent = stopped.unsent;
-}
-
 -- what holds of a refused call, where it was refused
 pub of_refused : {T E : Type 0} (P : Type 0) (result : Result T E) → is_err result ≡ true → OnErr result P → P
 of_refused P (Ok value) is on = absurd (cc)
 of_refused P (Err fault) is on = on
+
+-- what holds of a call that was not refused, where it was not
+pub of_passed : {T E : Type 0} (P : Type 0) (result : Result T E) → is_err result ≡ false → OnOk result P → P
+of_passed P (Ok value) is on = on
+of_passed P (Err fault) is on = absurd (cc)

@@ -11,7 +11,7 @@ use Rattle.rquota_serve.specs.Exported.{Exported, nothing_exported, with_export}
 use Rattle.rquota_serve.specs.Serving.{datagram_reply}
 use Rattle.run_steps.specs.Done.{Outside}
 use Rattle.run_steps.specs.SameViews.{FileAsked, LooksAlike, Opens}
-use Rattle.run_steps.specs.Steps.{Steps}
+use Rattle.run_steps.specs.Steps.{Starting, Steps}
 use Rattle.run_steps.specs.declared.invocation.Invocation.{Invocation}
 use Rattle.run_steps.proofs.LookLemmas.{opens_opening}
 use Rattle.serve_command.specs.Serve.{AnsweringSteps, OpeningAll, Replying, ServeSteps}
@@ -33,9 +33,9 @@ opening_all_alike one other format [] before next each = each before
 opening_all_alike one other format (export ∷ exports) before next each =
     λ value. opening_all_alike one other format exports (with_export before export.path export.kind value) next each
 
-pub serve_alike : (one other : World) (format : Option Format) (calls : ℕ) (exports : List Export) (invocation : Invocation) → LooksAlike one other (ServeSteps format calls exports invocation)
-serve_alike one other format calls exports invocation =
-    opening_all_alike one other format exports nothing_exported (λ (exported : Exported). AnsweringSteps exported calls) (λ exported. answering_alike one other exported calls)
+pub serve_alike : (one other : World) (format : Option Format) (calls port : ℕ) (exports : List Export) (invocation : Invocation) → LooksAlike one other (ServeSteps format calls port exports invocation)
+serve_alike one other format calls port exports invocation =
+    opening_all_alike one other format exports nothing_exported (λ (exported : Exported). Starting port (AnsweringSteps exported calls)) (λ exported. answering_alike one other exported calls)
 
 -- The files that it opens.
 
@@ -62,7 +62,7 @@ opening_all_opens format (export ∷ exports) before next old opened each opens 
     (λ is. subst (λ (f : FileAsked). Contains (file_of format export ∷ rest) f) (sym is) (Contains-append_left (file_of format export ∷ []) rest (file_of format export) (Contains-push [] (file_of format export))))
     (λ value opens. Contains-append_right (file_of format export ∷ []) rest opened (opening_all_opens format exports (with_export before export.path export.kind value) next old opened each opens)) opens
 
-pub serve_opens : (format : Option Format) (calls : ℕ) (exports : List Export) (invocation : Invocation) (old : Outside) (opened : FileAsked) → Opens (ServeSteps format calls exports invocation) old opened
+pub serve_opens : (format : Option Format) (calls port : ℕ) (exports : List Export) (invocation : Invocation) (old : Outside) (opened : FileAsked) → Opens (ServeSteps format calls port exports invocation) old opened
     → Contains (map (file_of format) exports) opened
-serve_opens format calls exports invocation old opened opens =
-    opening_all_opens format exports nothing_exported (λ (exported : Exported). AnsweringSteps exported calls) old opened (λ exported. answering_opens _ exported calls old opened) opens
+serve_opens format calls port exports invocation old opened opens =
+    opening_all_opens format exports nothing_exported (λ (exported : Exported). Starting port (AnsweringSteps exported calls)) old opened (λ exported. answering_opens _ exported calls old opened) opens

@@ -20,7 +20,7 @@ use Rattle.refusals.specs.declared.cause.Cause.TheVariants.{StoreFault, LinkFaul
 use Rattle.run_steps.specs.Act.{Answer}
 use Rattle.run_steps.specs.Opening.{IsDamageAs, MayRefuseOpening, file_cause}
 use Rattle.run_steps.specs.Run.{Uses}
-use Rattle.run_steps.specs.Steps.{Doing, Finish, Opening, Receiving, Steps}
+use Rattle.run_steps.specs.Steps.{Doing, Finish, Opening, Receiving, Starting, Steps}
 use Rattle.run_steps.specs.declared.invocation.Invocation.{Invocation}
 
 -- The steps.
@@ -45,12 +45,12 @@ AnsweringSteps exported (suc calls) =
     Receiving (λ (datagram : Datagram).
     Replying (datagram_reply exported datagram) (AnsweringSteps exported calls))
 
--- the files are exported, and then so many datagrams are answered
-abbrev pub ServeSteps : Option Format → (calls : ℕ) → List Export → Invocation → Steps
-ServeSteps format calls exports invocation =
-    OpeningAll format exports nothing_exported (λ (exported : Exported). AnsweringSteps exported calls)
+-- the files are exported, then the link is started at the port, once, and then so many datagrams are answered
+abbrev pub ServeSteps : Option Format → (calls port : ℕ) → List Export → Invocation → Steps
+ServeSteps format calls port exports invocation =
+    OpeningAll format exports nothing_exported (λ (exported : Exported). Starting port (AnsweringSteps exported calls))
 
--- datagrams are taken from the link and answered, and the store is only read
+-- the link is started, datagrams are taken from it and answered, and the store is only read
 abbrev pub serve_uses : Uses
 serve_uses = record { input = false; out = false; link = true; changes = false; all_or_nothing = true; warns = false; reads_commands = false; reads_edits = false }
 

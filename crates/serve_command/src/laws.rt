@@ -18,22 +18,22 @@ ghost use Rattle.serve_command.specs.Serve.{AreExported, ServeSteps};
 
 /// The steps look at files first, and take nothing of the standard input.
 pub fn serving_looks_first()
-    ensures { (format : Option Format) (calls : ℕ) (exports : List Export) (invocation : Invocation)
-        → LooksFirst true false (ServeSteps format calls exports invocation) }
+    ensures { (format : Option Format) (calls port : ℕ) (exports : List Export) (invocation : Invocation)
+        → LooksFirst true false (ServeSteps format calls port exports invocation) }
 {}
 
 /// Where the steps pass, they received as many datagrams as they were to answer, the first ones.
 pub fn serving_receives_its_calls()
-    ensures receives { (format : Option Format) (calls : ℕ) (exports : List Export) (invocation : Invocation)
-        → Receives calls (ServeSteps format calls exports invocation) }
-    ensures received { (format : Option Format) (calls : ℕ) (exports : List Export) (invocation : Invocation) (old new : Outside) (acts : List Act)
-        → EndsBy (ServeSteps format calls exports invocation) old acts new None → AreReceived calls old.datagrams new.datagrams }
+    ensures receives { (format : Option Format) (calls port : ℕ) (exports : List Export) (invocation : Invocation)
+        → Receives calls (ServeSteps format calls port exports invocation) }
+    ensures received { (format : Option Format) (calls port : ℕ) (exports : List Export) (invocation : Invocation) (old new : Outside) (acts : List Act)
+        → EndsBy (ServeSteps format calls port exports invocation) old acts new None → AreReceived calls old.datagrams new.datagrams }
 {}
 
 /// The steps are sure where each file is seen as a value: no datagram is refused.
 pub fn serving_is_sure_where_the_files_are_accepted()
-    ensures { (format : Option Format) (calls : ℕ) (exports : List Export) (invocation : Invocation) (old : Outside) (exported : Exported)
-        → AreExported format old.files exports nothing_exported exported → IsSure (ServeSteps format calls exports invocation) old }
+    ensures { (format : Option Format) (calls port : ℕ) (exports : List Export) (invocation : Invocation) (old : Outside) (exported : Exported)
+        → AreExported format old.files exports nothing_exported exported → IsSure (ServeSteps format calls port exports invocation) old }
 {}
 
 /// Words that ask for calls to be answered ask for one at least, and for files that may be exported one after another.

@@ -8,6 +8,7 @@ ghost use Rattle.refusals.specs.declared.cause.Cause.TheVariants.{LinkFault, Mem
 ghost use Rattle.run_steps.specs.Done.{seen_of, tells_of};
 ghost use Rattle.run_steps.specs.OneCommand.{AreReceived};
 ghost use Rattle.run_steps.specs.Run.{CarriesOut};
+ghost use Rattle.run_steps.specs.Steps.{Starting};
 ghost use Rattle.run_steps.specs.declared.invocation.Invocation.{Invocation};
 ghost use Rattle.rquota_serve.specs.Exported.{Exported, nothing_exported};
 ghost use Rattle.rquota_serve.specs.Exports.{Serves, exports_seen};
@@ -23,8 +24,8 @@ use rquota_serve::{Exports, ServeFault, serve};
 use run_steps::file_cause;
 use std::alloc::Global;
 
-/// Exports quota files under paths, takes exactly `calls` datagrams that are sent to a port, those without a reply counted too,
-/// and sends the reply to each. Port 0 stands for one that the system chooses.
+/// Exports quota files under paths, starts the link at a port, once, takes exactly `calls` datagrams that are sent to it, those
+/// without a reply counted too, and sends the reply to each. Port 0 stands for one that the system chooses.
 ///
 /// # Errors
 ///
@@ -41,7 +42,7 @@ pub fn serve_files<S: Store, L: Link>(
     requires some { 0 < calls }
     requires apart { MayExport [] exports }
     ensures carries { (input : SourceSeen) (out err : SinkSeen) (input_tells out_tells err_tells : Bool) (invocation : Invocation)
-        → CarriesOut (ServeSteps format calls exports invocation) serve_uses (ServeMayRefuse format exports)
+        → CarriesOut (ServeSteps format calls port exports invocation) serve_uses (ServeMayRefuse format exports)
         (tells_of S.tells input_tells out_tells err_tells L.tells)
         (seen_of (S.seen store.old) input out err (L.seen link.old))
         (seen_of (S.seen store.new) input out err (L.seen link.new)) result }
@@ -82,8 +83,8 @@ fn first_file(alloc: Global, exports: &[Export]) -> Result<Word, Refusal>
     }
 }
 
-/// Takes so many datagrams that are sent to a port, and answers them. It takes no memory. Where a file is found damaged, the
-/// refusal speaks of the one of this name.
+/// Starts the link at a port, takes so many datagrams that are sent to it, and answers them. It takes no memory. Where a file is
+/// found damaged, the refusal speaks of the one of this name.
 fn answer_calls<S: Store, L: Link>(
     opened: &mut Exports,
     format: Option<Format>,
@@ -97,7 +98,7 @@ fn answer_calls<S: Store, L: Link>(
     requires asked { All (IsAsAsked format) (exports_seen opened.old) }
     ensures carries { (exported : Exported) (input : SourceSeen) (out err : SinkSeen) (input_tells out_tells err_tells : Bool)
         → (IsTrue S.tells → Serves S.tells (S.seen store.old).files opened.old exported)
-        → CarriesOut (AnsweringSteps exported calls) serve_uses (AnsweringMayRefuse format file)
+        → CarriesOut (Starting port (AnsweringSteps exported calls)) serve_uses (AnsweringMayRefuse format file)
         (tells_of S.tells input_tells out_tells err_tells L.tells)
         (seen_of (S.seen store.old) input out err (L.seen link.old))
         (seen_of (S.seen store.new) input out err (L.seen link.new)) result }

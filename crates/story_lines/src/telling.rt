@@ -31,6 +31,7 @@ fn tell_of(alloc: Global, last: &mut Last, what: Tell, rest: &str) -> Told {
         Tell::Err => tell_err(alloc, last, rest),
         Tell::ErrStart => tell_err_start(alloc, last, rest),
         Tell::Files(says) => tell_files(alloc, last, rest, says),
+        Tell::Started => tell_started(alloc, last, rest),
         Tell::Length => tell_length(alloc, last, rest),
         Tell::Numbers => tell_numbers(alloc, last, rest),
         Tell::Reads => tell_number(alloc, last.ran.reads, rest),
@@ -274,6 +275,17 @@ fn tell_answer(stage: &mut Stage) -> Told {
     match &mut stage.last {
         Some(last) => is_answer(stage.alloc, last, &gathered),
         None => unmet(stage.alloc, NO_LINE),
+    }
+}
+
+/// That the link was started so often, the last time at a port.
+fn tell_started(alloc: Global, last: &Last, rest: &str) -> Told {
+    let link = &last.ran.streams.link;
+    let (times, port) = rest.split_once(" port ").unwrap_or((rest, ""));
+    tell_number(alloc, link.starts(), times)?;
+    match link.port() {
+        Some(is) => tell_number(alloc, u64::from(is), port),
+        None => holds_if(alloc, port.is_empty(), "it was not started"),
     }
 }
 

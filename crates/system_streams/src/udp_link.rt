@@ -16,7 +16,7 @@ struct Bound {
     sender: Option<SocketAddr>,
 }
 
-/// A UDP socket on 127.0.0.1 as a link. It tells nothing of the datagrams and the answers.
+/// A UDP socket on 127.0.0.1 as a link. It tells nothing of the datagrams, the answers and how it was started.
 #[derive(Drop)]
 pub struct UdpLink<'a, R> {
     system: &'a R,
@@ -107,11 +107,11 @@ impl<'a, R: Net + Clock> UdpLink<'a, R> {
 }
 
 impl<'a, R: Net + Clock> Link for UdpLink<'a, R> {
-    ghost use Rattle.std.specs.Prelude.{false, []};
+    ghost use Rattle.std.specs.Prelude.{None, false, []};
 
     ghost tells = { false };
 
-    ghost seen = { λ link. record { left = []; answers = []; faults = link.faults } };
+    ghost seen = { λ link. record { left = []; answers = []; started = record { times = 0; last = None }; faults = link.faults } };
 
     fn start(&mut self, port: u16) -> Result<(), LinkFault> {
         let bound = self.bind(port);

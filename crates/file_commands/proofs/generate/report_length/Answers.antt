@@ -1,4 +1,4 @@
-use Rattle.std.proofs.Common.{◌≡◌, ◌++◌, true, List, ℕ, [], length, refl, ap, ◌∙◌}
+use Rattle.std.proofs.Common.{◌≡◌, ◌++◌, true, List, ℕ, [], None, length, refl, ap, ◌∙◌}
 use Rattle.id_names.specs.NamesFile.{NameLine}
 use Rattle.file_commands.specs.Gathered.{gathered_seen}
 use Rattle.quota_blocks.specs.Seen.{LinkSeen, SinkSeen, SourceSeen}
@@ -16,7 +16,7 @@ no_err : SinkSeen
 no_err = record { written = []; faults = 0 }
 
 no_link : LinkSeen
-no_link = record { left = []; answers = []; faults = 0 }
+no_link = record { left = []; answers = []; started = record { times = 0; last = None }; faults = 0 }
 
 pub returns-in-Ok-clause-bytes : goal.returns-in-Ok-clause-bytes
 returns-in-Ok-clause-bytes g c = λ told value view.

@@ -1,4 +1,4 @@
-use Rattle.std.proofs.Common.{Err, arith}
+use Rattle.std.proofs.Common.{Err, refl, ◌∙◌, arith}
 use Rattle.std.proofs.lemmas.Result.{err_from_is_err_and}
 use Rattle.quota_map.specs.AnyFile.{any_get_reads}
 use Rattle.rquota_serve.specs.Exported.{Exported}
@@ -15,6 +15,7 @@ loop-call-init g c = record {
   served = λ told. served-none _ _;
   up = looks_in-none file_in _ _ (tt {0});
   reads = λ told. reads-none _ _ _;
+  started = refl;
   later = omega arith;
 }
 
@@ -32,6 +33,7 @@ loop-call-preserved g c =
           (served-before before after 1 (L.seen c.loop-call.link) (L.seen c.serve_one.new.link) so_far.up.stays (one.served told));
       up = looks_in-more file_in file_in _ _ _ any_get_reads c.loop-call._call _ (tt {0}) _ (omega arith) so_far.up one.looks;
       reads = λ told. reads-then any_get_reads _ _ _ _ _ _ (so_far.reads told) (one.reads told);
+      started = one.started ∙ so_far.started;
       later = omega (arith, so_far.later, one.later);
     }
 

@@ -2,9 +2,11 @@ use Rattle.std.proofs.Common.{◌+◌, ◌*◌, ◌≤◌, ℕ, sym, subst, ◌�
 use Rattle.quota_map.proofs.AnyLemmas.{any_few_gets}
 use Rattle.quota_blocks.specs.Count.{Rose}
 use Rattle.run_steps.specs.Done.{seen_of, tells_of}
+use Rattle.run_steps.proofs.StartingLemmas.{carries_starting, with_start}
 use Rattle.rquota_serve.specs.Exports.{Serves, exports_seen}
 use Rattle.rquota_serve.proofs.LookingLemmas.{on_file, serve_fault}
-use Rattle.serve_command.proofs.AnsweringLemmas.{nothing_stopped, of_refused, served_carried, served_since, stopped_carried, stopped_since, unstarted_carried}
+use Rattle.serve_command.specs.Serve.{AnsweringSteps, serve_uses}
+use Rattle.serve_command.proofs.AnsweringLemmas.{nothing_stopped, of_passed, of_refused, served_carried, stopped_carried, unstarted_carried, with_link}
 use Rattle.serve_command.proofs.serve.answer_calls.Goals as goal
 
 pub returns-then-is_err-clause-carries : goal.returns-then-is_err-clause-carries
@@ -13,8 +15,9 @@ returns-then-is_err-clause-carries g c = λ exported input out err input_tells o
     let L = g.L.Link in
     let rose : Rose (L.seen c.args.link.now).faults (L.seen c.start.new.self).faults = of_refused _ c.start.result (sym c.is_err.ensures.value ∙ c.if-is_err.true) c.start.ensures.cause in
     rw c.of.ensures
-    (unstarted_carried exported c.args.calls c.args.format c.args.file (tells_of S.tells input_tells out_tells err_tells L.tells)
-    (seen_of (S.seen c.args.store.now) input out err (L.seen c.args.link.now)) (L.seen c.start.new.self) c.start.ensures.left c.start.ensures.answers rose c.start.ensures.later)
+    (unstarted_carried exported c.args.calls c.args.port c.args.format c.args.file (tells_of S.tells input_tells out_tells err_tells L.tells)
+    (seen_of (S.seen c.args.store.now) input out err (L.seen c.args.link.now)) (L.seen c.start.new.self) c.start.ensures.left c.start.ensures.answers
+    (of_refused _ c.start.result (sym c.is_err.ensures.value ∙ c.if-is_err.true) c.start.ensures.fault) rose c.start.ensures.later)
 
 pub returns-then-is_err-clause-stopped : goal.returns-then-is_err-clause-stopped
 returns-then-is_err-clause-stopped g c = λ told.
@@ -25,25 +28,41 @@ returns-in-Ok-clause-carries g c = λ exported input out err input_tells out_tel
     let S = g.S.Store in
     let L = g.L.Link in
     let served = c.in-Ok.ensures in
-    served_carried exported c.args.calls _ (Serves S.tells (S.seen c.args.store.now).files c.args.opened.now) (tells_of S.tells input_tells out_tells err_tells L.tells)
-    (seen_of (S.seen c.args.store.now) input out err (L.seen c.args.link.now)) (S.seen c.serve.new.store) (L.seen c.serve.new.link)
-    (record { files = served.looks.leaves.files; writes = served.looks.leaves.writes; store_later = served.looks.leaves.later; link_later = omega (arith, c.start.ensures.later, served.later) })
-    serves
-    (λ told. served_since _ c.args.calls (L.seen c.args.link.now) (L.seen c.start.new.self) (L.seen c.serve.new.link) c.start.ensures.left c.start.ensures.answers (served.served told))
+    let tells = tells_of S.tells input_tells out_tells err_tells L.tells in
+    let old = seen_of (S.seen c.args.store.now) input out err (L.seen c.args.link.now) in
+    let started = L.seen c.start.new.self in
+    carries_starting c.args.port (AnsweringSteps exported c.args.calls) serve_uses _ tells old started (with_link old (S.seen c.serve.new.store) (L.seen c.serve.new.link)) _
+    (record {
+      left = c.start.ensures.left;
+      answers = c.start.ensures.answers;
+      started = of_passed _ c.start.result (sym c.is_err.ensures.value ∙ c.if-is_err.false) c.start.ensures.started;
+      later = c.start.ensures.later;
+    })
+    (served_carried exported c.args.calls _ (Serves S.tells (S.seen c.args.store.now).files c.args.opened.now) tells (with_start old started) (S.seen c.serve.new.store) (L.seen c.serve.new.link)
+    (record { files = served.looks.leaves.files; writes = served.looks.leaves.writes; started = served.started; store_later = served.looks.leaves.later; link_later = served.later })
+    serves served.served)
 
 pub returns-in-Err-clause-carries : goal.returns-in-Err-clause-carries
 returns-in-Err-clause-carries g c = λ exported input out err input_tells out_tells err_tells serves.
     let S = g.S.Store in
     let L = g.L.Link in
     let stopped = c.in-Err.ensures in
+    let tells = tells_of S.tells input_tells out_tells err_tells L.tells in
+    let old = seen_of (S.seen c.args.store.now) input out err (L.seen c.args.link.now) in
+    let started = L.seen c.start.new.self in
     rw (c.of-in-Err.ensures, c.serve_cause.ensures)
-    (stopped_carried exported c.args.calls c.args.format c.args.file (exports_seen c.args.opened.now) c.in-Err.fault (L.seen c.start.new.self).faults (Serves S.tells (S.seen c.args.store.now).files c.args.opened.now)
-    (tells_of S.tells input_tells out_tells err_tells L.tells)
-    (seen_of (S.seen c.args.store.now) input out err (L.seen c.args.link.now)) (S.seen c.serve.new.store) (L.seen c.serve.new.link)
-    (record { files = stopped.looks.leaves.files; writes = stopped.looks.leaves.writes; store_later = stopped.looks.leaves.later; link_later = omega (arith, c.start.ensures.later, stopped.later) })
-    c.start.ensures.later serves
-    (λ told. stopped_since _ c.args.calls (L.seen c.args.link.now) (L.seen c.start.new.self) (L.seen c.serve.new.link) c.start.ensures.left c.start.ensures.answers (stopped.stopped told))
-    (serve_fault _ _ _ _ _ c.in-Err.fault stopped.unlinked stopped.looks.refused) c.requires.asked (on_file _ c.in-Err.fault stopped.looks.may))
+    (carries_starting c.args.port (AnsweringSteps exported c.args.calls) serve_uses _ tells old started (with_link old (S.seen c.serve.new.store) (L.seen c.serve.new.link)) _
+    (record {
+      left = c.start.ensures.left;
+      answers = c.start.ensures.answers;
+      started = of_passed _ c.start.result (sym c.is_err.ensures.value ∙ c.if-is_err.false) c.start.ensures.started;
+      later = c.start.ensures.later;
+    })
+    (stopped_carried exported c.args.calls c.args.format c.args.file (exports_seen c.args.opened.now) c.in-Err.fault (Serves S.tells (S.seen c.args.store.now).files c.args.opened.now) tells
+    (with_start old started) (S.seen c.serve.new.store) (L.seen c.serve.new.link)
+    (record { files = stopped.looks.leaves.files; writes = stopped.looks.leaves.writes; started = stopped.started; store_later = stopped.looks.leaves.later; link_later = stopped.later })
+    serves stopped.stopped
+    (serve_fault _ _ _ _ _ c.in-Err.fault stopped.unlinked stopped.looks.refused) c.requires.asked (on_file _ c.in-Err.fault stopped.looks.may)))
 
 pub returns-in-Ok-clause-reads : goal.returns-in-Ok-clause-reads
 returns-in-Ok-clause-reads g c =

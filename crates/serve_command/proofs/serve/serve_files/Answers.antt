@@ -3,6 +3,7 @@ use Rattle.std.proofs.lemmas.Result.{on_ok_weaker}
 use Rattle.refusals.specs.Refusals.{refusal_of}
 use Rattle.refusals.specs.declared.cause.Cause.TheVariants.{Memory}
 use Rattle.run_steps.specs.Done.{seen_of, tells_of}
+use Rattle.run_steps.specs.Steps.{Starting}
 use Rattle.run_steps.proofs.PhaseLemmas.{carries_more, nothing_carried}
 use Rattle.rquota_serve.specs.Exported.{Exported, nothing_exported}
 use Rattle.rquota_serve.specs.Exports.{Serves}
@@ -22,9 +23,9 @@ returns-in-Ok-first_file-clause-carries g c = λ input out err input_tells out_t
     let opened = (rw c.as_slice.ensures at c.in-Ok.ensures.opened) nothing_exported (λ told. serves_nothing S.tells (S.seen c.args.store.now).files c.new-opened.result c.new-opened.ensures.empty) in
     let file = c.in-Ok-first_file.file in
     let named : file ≡ first_file c.args.exports = rw c.as_slice-in-Ok.ensures at c.in-Ok-first_file.ensures.copied in
-    carries_more (ServeSteps c.args.format c.args.calls c.args.exports invocation) serve_uses (AnsweringMayRefuse c.args.format file) (ServeMayRefuse c.args.format c.args.exports) tells old new c.answer_calls.result
+    carries_more (ServeSteps c.args.format c.args.calls c.args.port c.args.exports invocation) serve_uses (AnsweringMayRefuse c.args.format file) (ServeMayRefuse c.args.format c.args.exports) tells old new c.answer_calls.result
     (λ cause said may. inr (rw named at may))
-    (opened.3 (λ (exported : Exported). AnsweringSteps exported c.args.calls) file input out err (L.seen c.args.link.now) input_tells out_tells err_tells L.tells new c.answer_calls.result
+    (opened.3 (λ (exported : Exported). Starting c.args.port (AnsweringSteps exported c.args.calls)) file input out err (L.seen c.args.link.now) input_tells out_tells err_tells L.tells new c.answer_calls.result
     (c.answer_calls.ensures.carries opened.0 input out err input_tells out_tells err_tells opened.2))
 
 pub returns-in-Ok-first_file-clause-stopped : goal.returns-in-Ok-first_file-clause-stopped
@@ -51,10 +52,10 @@ returns-in-Ok-clause-carries g c = λ input out err input_tells out_tells err_te
     let opened = (rw c.as_slice.ensures at c.in-Ok.ensures.opened) nothing_exported (λ told. serves_nothing S.tells (S.seen c.args.store.now).files c.new-opened.result c.new-opened.ensures.empty) in
     let first = first_file c.args.exports in
     rw c.in-Err-first_file.ensures.wanting
-    (carries_more (ServeSteps c.args.format c.args.calls c.args.exports invocation) serve_uses (AnsweringMayRefuse c.args.format first) (ServeMayRefuse c.args.format c.args.exports) tells old new _
+    (carries_more (ServeSteps c.args.format c.args.calls c.args.port c.args.exports invocation) serve_uses (AnsweringMayRefuse c.args.format first) (ServeMayRefuse c.args.format c.args.exports) tells old new _
     (λ cause said may. inr may)
-    (opened.3 (λ (exported : Exported). AnsweringSteps exported c.args.calls) first input out err (L.seen c.args.link.now) input_tells out_tells err_tells L.tells new _
-    (nothing_carried (AnsweringSteps opened.0 c.args.calls) serve_uses (AnsweringMayRefuse c.args.format first) tells new (refusal_of Memory []) tt tt (record { line = λ no. refl; input_line = λ no. refl }))))
+    (opened.3 (λ (exported : Exported). Starting c.args.port (AnsweringSteps exported c.args.calls)) first input out err (L.seen c.args.link.now) input_tells out_tells err_tells L.tells new _
+    (nothing_carried (Starting c.args.port (AnsweringSteps opened.0 c.args.calls)) serve_uses (AnsweringMayRefuse c.args.format first) tells new (refusal_of Memory []) tt tt (record { line = λ no. refl; input_line = λ no. refl }))))
 
 pub returns-clause-carries : goal.returns-clause-carries
 returns-clause-carries g c = λ input out err input_tells out_tells err_tells invocation.
@@ -63,9 +64,9 @@ returns-clause-carries g c = λ input out err input_tells out_tells err_tells in
     let tells = tells_of S.tells input_tells out_tells err_tells L.tells in
     let old = seen_of (S.seen c.args.store.now) input out err (L.seen c.args.link.now) in
     let new = seen_of (S.seen c.add_all.new.store) input out err (L.seen c.args.link.now) in
-    carries_more (ServeSteps c.args.format c.args.calls c.args.exports invocation) serve_uses (ExportingMayRefuse c.args.format c.args.exports) (ServeMayRefuse c.args.format c.args.exports) tells old new _
+    carries_more (ServeSteps c.args.format c.args.calls c.args.port c.args.exports invocation) serve_uses (ExportingMayRefuse c.args.format c.args.exports) (ServeMayRefuse c.args.format c.args.exports) tells old new _
     (λ cause said may. inl may)
-    ((rw c.as_slice.ensures at c.in-Err.ensures.unopened) nothing_exported (λ (exported : Exported). AnsweringSteps exported c.args.calls) input out err (L.seen c.args.link.now) input_tells out_tells err_tells L.tells
+    ((rw c.as_slice.ensures at c.in-Err.ensures.unopened) nothing_exported (λ (exported : Exported). Starting c.args.port (AnsweringSteps exported c.args.calls)) input out err (L.seen c.args.link.now) input_tells out_tells err_tells L.tells
     (λ told. serves_nothing S.tells (S.seen c.args.store.now).files c.new-opened.result c.new-opened.ensures.empty))
 
 pub returns-clause-stopped : goal.returns-clause-stopped
