@@ -1,7 +1,7 @@
-ghost use Rattle.std.specs.Prelude.{ℕ, ◌+◌, ◌*◌, ◌≤◌, Option, None, ◌≡◌, Bool, false, IsSome, IsTrue, OnOk, length};
+ghost use Rattle.std.specs.Prelude.{ℕ, ◌+◌, ◌*◌, ◌≤◌, Option, None, ◌≡◌, Bool, false, IsSome, IsTrue, OnOk, length, is_ok};
 ghost use Rattle.quota_types.specs.declared.file_kind.Format.{Format as FormatOf};
 ghost use Rattle.quota_blocks.specs.Block.{file_of};
-ghost use Rattle.quota_blocks.specs.Frame.{AreSynced};
+ghost use Rattle.quota_blocks.specs.Frame.{Syncs};
 ghost use Rattle.quota_blocks.specs.QuotaValue.{QuotaValue};
 ghost use Rattle.quota_blocks.specs.Seen.{LinkSeen, SinkSeen, SourceSeen};
 ghost use Rattle.quota_blocks.specs.World.{KeepsOthers};
@@ -46,8 +46,8 @@ pub fn apply_lines<S: Store, I: Source>(
         (seen_of (S.seen store.new) (I.seen input.new) out err link) result }
     // No file but this one has changed, however it ended.
     ensures alone { KeepsOthers file (S.seen store.old).files (S.seen store.new).files }
-    // Where it was done, what was written has been synced.
-    ensures synced { OnOk result (IsTrue S.tells → AreSynced (S.seen store.old) (S.seen store.new)) }
+    // What was written has been synced where it was done, and where it was not too, unless a call on the store failed.
+    ensures synced { IsTrue S.tells → Syncs (is_ok result) (S.seen store.old) (S.seen store.new) }
     // Where it was done without a file of names, and out of the standard input, no more was read than the opening of the file takes, and
     // seventeen blocks for each line that asks for an edit.
     ensures reads { OnOk result (IsTrue S.tells → IsTrue I.tells
@@ -85,7 +85,7 @@ fn apply_named<S: Store, I: Source>(
         (seen_of (S.seen store.old) (I.seen input.old) out err link)
         (seen_of (S.seen store.new) (I.seen input.new) out err link) result }
     ensures alone { KeepsOthers file (S.seen store.old).files (S.seen store.new).files }
-    ensures synced { OnOk result (IsTrue S.tells → AreSynced (S.seen store.old) (S.seen store.new)) }
+    ensures synced { IsTrue S.tells → Syncs (is_ok result) (S.seen store.old) (S.seen store.new) }
     ensures reads { from ≡ None → OnOk result (IsTrue S.tells → IsTrue I.tells → (S.seen store.new).reads ≤ (S.seen store.old).reads
         + (opening_reads format (file_of (S.seen store.old).files file) + line_reads names.now (I.seen input.old).left)) }
     ensures untouched { IsSome from → input.new ≡ input.old }
@@ -117,7 +117,7 @@ fn apply_opened<S: Store, I: Source>(
         (seen_of (S.seen store.old) (I.seen input.old) out err link)
         (seen_of (S.seen store.new) (I.seen input.new) out err link) result }
     ensures alone { KeepsOthers file (S.seen store.old).files (S.seen store.new).files }
-    ensures synced { OnOk result (IsTrue S.tells → AreSynced (S.seen store.old) (S.seen store.new)) }
+    ensures synced { IsTrue S.tells → Syncs (is_ok result) (S.seen store.old) (S.seen store.new) }
     ensures reads { from ≡ None → OnOk result (IsTrue S.tells → IsTrue I.tells
         → (S.seen store.new).reads ≤ (S.seen store.old).reads + line_reads names.now (I.seen input.old).left) }
     ensures untouched { IsSome from → input.new ≡ input.old }
@@ -155,7 +155,7 @@ fn edit_all<S: Store>(
         (seen_of (S.seen store.old) input out err link)
         (seen_of (S.seen store.new) input out err link) result }
     ensures alone { KeepsOthers file (S.seen store.old).files (S.seen store.new).files }
-    ensures synced { OnOk result (IsTrue S.tells → AreSynced (S.seen store.old) (S.seen store.new)) }
+    ensures synced { IsTrue S.tells → Syncs (is_ok result) (S.seen store.old) (S.seen store.new) }
     ensures reads { OnOk result ((S.seen store.new).reads ≤ (S.seen store.old).reads + 17 * length lines.now) }
 {
     for line in lines {

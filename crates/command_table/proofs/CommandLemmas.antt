@@ -1,15 +1,13 @@
 -- Commands whose words are refused, and what all commands share.
-use Rattle.std.proofs.Common.{◌≡◌, ◌≢◌, ◌∙◌, ℕ, ◌≤◌, ◌+◌, Bool, true, false, IsTrue, List, [], ◌∷◌, Option, None, Some, Ok, Err, Result, inl, inr, refl, sym, ap, subst, arith}
+use Rattle.std.proofs.Common.{◌≡◌, ◌≢◌, ◌∙◌, ℕ, ◌≤◌, ◌+◌, Bool, true, false, IsTrue, List, [], ◌∷◌, Option, None, Some, Ok, Err, Result, is_ok, inl, inr, refl, sym, subst, arith}
 use Rattle.std.specs.Prelude.{IfErr, IfSome, IsErr, IsErrAnd, OnErr, OnOk, ◌↔◌}
 use Rattle.std.proofs.lemmas.Bool.{false≢true}
-use Rattle.std.proofs.lemmas.Result.{on_ok_weaker}
-use Rattle.quota_blocks.specs.Frame.{AreSynced}
-use Rattle.quota_blocks.specs.Unsynced.{AddsNone}
-use Rattle.run_steps.specs.Run.{CarriesOut, Uses}
+use Rattle.quota_blocks.specs.Frame.{Syncs}
+use Rattle.outside.proofs.FrameLemmas.{syncs-none}
+use Rattle.run_steps.specs.Run.{CarriesOut}
 use Rattle.quota_types.specs.declared.file_kind.Format.{Format}
 use Rattle.quota_types.specs.declared.file_kind.Kind.{Kind}
 use Rattle.quota_blocks.specs.QuotaValue.{QuotaValue}
-use Rattle.quota_blocks.specs.World.{World}
 use Rattle.refusals.specs.declared.cause.Cause.{Cause}
 use Rattle.refusals.specs.declared.cause.Cause.TheVariants.{Usage}
 use Rattle.refusals.specs.declared.cause.UsageKind.{UsageKind}
@@ -29,7 +27,6 @@ use Rattle.command_words.proofs.NameLemmas.{never_new}
 use Rattle.run_steps.specs.Done.{IsWorldTold, RunSeen, RunTells, outside_of}
 use Rattle.run_steps.specs.Naming.{NamesMayRefuse}
 use Rattle.run_steps.specs.Showing.{ShowingMayRefuse}
-use Rattle.run_steps.specs.Steps.{Steps}
 use Rattle.run_steps.specs.Writes.{ReadsWithin}
 use Rattle.run_steps.specs.declared.invocation.Invocation.{Invocation}
 use Rattle.run_steps.proofs.PhaseLemmas.{carries_more, nothing_carried, stop_carried}
@@ -197,7 +194,7 @@ not_read table (Ok command) invocation tells old NoMemory is = record {
   within = record { alone = holds_of_one (table command).alone _ (λ file other differ. refl); few = most_same (table command).most_writes old.store.writes };
   reads = tt;
   made = tt;
-  synced = tt;
+  synced = λ told. syncs-none old.store;
   unfinished = λ link. absurd (cc);
   untaken = λ one five. refl;
   unlinked = λ told no. refl;
@@ -212,7 +209,7 @@ not_read table (Err refusal) invocation tells old (UsageOf kind word) is =
       within = record { alone = tt; few = tt };
       reads = tt;
       made = tt;
-      synced = tt;
+      synced = λ told. syncs-none old.store;
       unfinished = λ link. tt;
       untaken = λ one five. refl;
       unlinked = λ told no. refl;
@@ -229,7 +226,7 @@ not_here_carried invocation tells old = record {
   within = record { alone = tt; few = tt };
   reads = tt;
   made = tt;
-  synced = tt;
+  synced = λ told. syncs-none old.store;
   unfinished = λ link. tt;
   untaken = λ one five. refl;
   unlinked = λ told no. refl;
@@ -269,12 +266,6 @@ pub of_refusal : (result : Result (Unit {0}) Refusal) (holds : Refusal → Type 
 of_refusal (Ok value) holds all = tt
 of_refusal (Err refusal) holds all = all refusal
 
--- a command that changes no file has only read, and what it read is as synced as it was
-pub read_synced : (steps : Steps) (uses : Uses) (may : Cause → List ℕ → Type 0) (tells : RunTells) (old new : RunSeen) (result : Result (Unit {0}) Refusal) → uses.changes ≡ false
-    → CarriesOut steps uses may tells old new result → OnOk result (AddsNone old.store.unsynced new.store.unsynced) → OnOk result (IsTrue tells.store → AreSynced old.store new.store)
-read_synced steps uses may tells old new result reads carries none =
-    on_ok_weaker result (λ added told. record { none = added; changed = λ name. inr (ap (λ (files : World). files name) (carries.only_reads reads).files) }) none
-
 -- what holds always holds where it was done
 pub of_done : (result : Result (Unit {0}) Refusal) (holds : Type 0) → holds → OnOk result holds
 of_done (Ok value) holds is = is
@@ -289,7 +280,7 @@ pub carried_alone : (d : Description) (invocation : Invocation) (tells : RunTell
     → IsLeftByEdit (status_of refusal.cause) old.store.files new.store.files file))
     → ChangesWithin d old.store new.store → OnOk result (IsWorldTold tells → ReadsWithin (d.most_reads (outside_of old)) old.store new.store)
     → OnOk result (IsTrue tells.store → d.made invocation (outside_of old) new.store.files)
-    → OnOk result (IsTrue tells.store → AreSynced old.store new.store) → IsCarriedOut d invocation tells old new result
+    → (IsTrue tells.store → Syncs (is_ok result) old.store new.store) → IsCarriedOut d invocation tells old new result
 carried_alone d invocation tells old new result finished one same carries named edited within reads made synced = record {
   carries = carries;
   named = named;

@@ -1,7 +1,7 @@
 -- What is said of a command, and what all that carry one out keep to.
-use Rattle.std.specs.Prelude.{◌≡◌, ◌≢◌, ◌≤◌, ◌⊎◌, ◌+◌, ℕ, Bool, false, None, IsTrue, IfErr, IfSome, OnErr, OnOk, List, Option, Result}
+use Rattle.std.specs.Prelude.{◌≡◌, ◌≢◌, ◌≤◌, ◌⊎◌, ◌+◌, ℕ, Bool, false, None, IsTrue, IfErr, IfSome, OnErr, OnOk, List, Option, Result, is_ok}
 use Rattle.std.specs.Result.{result_err}
-use Rattle.quota_blocks.specs.Frame.{AreSynced}
+use Rattle.quota_blocks.specs.Frame.{Syncs}
 use Rattle.quota_blocks.specs.Seen.{StoreSeen}
 use Rattle.quota_blocks.specs.World.{KeepsOthers, World}
 use Rattle.refusals.specs.declared.cause.Cause.{Cause}
@@ -79,10 +79,10 @@ pub record ChangesWithin (command : Description) (old new : StoreSeen) : Type 0 
   pub few : IfSome command.most_writes (λ (most : ℕ). new.writes ≤ old.writes + most)
 
 -- A command was carried out but for its error line. Where it was refused, for whichever cause, a file that it replaces as a whole
--- is as it was, and one that it edits is as an edit leaves it by the status of that cause; and where it was done, what was written has
--- been synced. The link is said to have failed only where not all was done with it; where memory was wanting for a command that reads
--- no commands nothing was; and what came to no use of it left it as it was. Where commands were to be read, and what stopped that names
--- no line, nothing was done but that the input was read.
+-- is as it was, and one that it edits is as an edit leaves it by the status of that cause. What was written has been synced where it was
+-- done, and where it was refused too, unless a call on the store failed. The link is said to have failed only where not all was done with
+-- it; where memory was wanting for a command that reads no commands nothing was; and what came to no use of it left it as it was. Where
+-- commands were to be read, and what stopped that names no line, nothing was done but that the input was read.
 pub record IsCarriedOut (command : Description) (invocation : Invocation) (tells : RunTells) (old new : RunSeen) (result : Result (Unit {0}) Refusal) : Type 0 where
   pub carries : CarriesOut (command.steps invocation) command.uses command.may tells old new result
   pub named : IfSome command.replaces (λ (file : List ℕ). OnErr result (IsTrue tells.store → new.store.files file ≡ old.store.files file))
@@ -91,7 +91,7 @@ pub record IsCarriedOut (command : Description) (invocation : Invocation) (tells
   pub within : ChangesWithin command old.store new.store
   pub reads : OnOk result (IsWorldTold tells → ReadsWithin (command.most_reads (outside_of old)) old.store new.store)
   pub made : OnOk result (IsTrue tells.store → command.made invocation (outside_of old) new.store.files)
-  pub synced : OnOk result (IsTrue tells.store → AreSynced old.store new.store)
+  pub synced : IsTrue tells.store → Syncs (is_ok result) old.store new.store
   pub unfinished : IfErr result (λ (refusal : Refusal). refusal.cause ≡ LinkFault → command.unfinished invocation tells old new)
   pub untaken : command.uses.reads_commands ≡ false → IfErr result (λ (refusal : Refusal). status_of refusal.cause ≡ 5 → new.link ≡ old.link)
   pub unbegun : IsTrue command.uses.reads_commands → IfErr result (λ (refusal : Refusal). StopsIt refusal.cause → refusal.place.line ≡ None → IsOnlyRead old new)

@@ -1,4 +1,5 @@
-ghost use Rattle.std.specs.Prelude.{◌≡◌, ◌≢◌, IfErr, IsTrue, OnErr, OnOk};
+ghost use Rattle.std.specs.Prelude.{◌≡◌, ◌≢◌, IfErr, IsTrue, OnErr, OnOk, false};
+ghost use Rattle.quota_blocks.specs.Frame.{Syncs};
 ghost use Rattle.quota_blocks.specs.Replacement.{replacement_name};
 ghost use Rattle.quota_blocks.specs.World.{KeepsOthers};
 ghost use Rattle.convert.specs.Convert.{IsConvertFault, IsMade, UnlessMaking, asked_for};
@@ -44,6 +45,8 @@ pub fn convert<S: Store>(
     ensures source { (S.seen store.new).files from.now ≡ (S.seen store.old).files from.now }
     ensures leaves { LeavesOthers from.now to.now (S.seen store.old) (S.seen store.new) }
     ensures synced { OnOk result (IsTrue S.tells → IsKeptSafe to.now (S.seen store.old) (S.seen store.new)) }
+    // Where it was refused what was written has been synced too, unless a call on the store failed.
+    ensures left_synced { OnErr result (Syncs false (S.seen store.old) (S.seen store.new)) }
 {
     if from == to {
         return Err(ConvertFault::SameName);

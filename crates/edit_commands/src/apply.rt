@@ -1,5 +1,5 @@
-ghost use Rattle.std.specs.Prelude.{ℕ, Option, ◌≡◌, Bool, false, Err, IfErr, IsSome, IsTrue, OnOk, Some};
-ghost use Rattle.quota_blocks.specs.Frame.{AreSynced};
+ghost use Rattle.std.specs.Prelude.{ℕ, Option, ◌≡◌, Bool, false, Err, IfErr, IsSome, IsTrue, Some, is_ok};
+ghost use Rattle.quota_blocks.specs.Frame.{Syncs};
 ghost use Rattle.quota_blocks.specs.Seen.{LinkSeen, SinkSeen};
 ghost use Rattle.refusals.specs.declared.reason.Refusal.{Refusal};
 ghost use Rattle.run_steps.specs.Done.{seen_of, tells_of};
@@ -53,8 +53,8 @@ pub fn apply_by_word<S: Store, I: Source, E: Sink>(
         → IsLeftFor refusal.cause ((S.seen store.old).files file) ((S.seen store.new).files file)) }
     // No file but this one has changed, with twelve calls of `write` at most, however it ended.
     ensures alone { EditsAlone file (S.seen store.old) (S.seen store.new) }
-    // Where it was done, what was written has been synced.
-    ensures synced { OnOk result (IsTrue S.tells → AreSynced (S.seen store.old) (S.seen store.new)) }
+    // What was written has been synced where it was done, and where it was not too, unless a call on the store failed.
+    ensures synced { IsTrue S.tells → Syncs (is_ok result) (S.seen store.old) (S.seen store.new) }
     ensures untouched { IsSome from → input.new ≡ input.old }
     ensures keeps { I.keeps false input.old input.new }
     ensures quiet { err.new ≡ err.old }
@@ -97,7 +97,7 @@ fn apply_named<S: Store, I: Source, E: Sink>(
     ensures named { IfErr result (λ refusal. IsTrue S.tells
         → IsLeftFor refusal.cause ((S.seen store.old).files file) ((S.seen store.new).files file)) }
     ensures alone { EditsAlone file (S.seen store.old) (S.seen store.new) }
-    ensures synced { OnOk result (IsTrue S.tells → AreSynced (S.seen store.old) (S.seen store.new)) }
+    ensures synced { IsTrue S.tells → Syncs (is_ok result) (S.seen store.old) (S.seen store.new) }
     ensures untouched { IsSome from → input.new ≡ input.old }
     ensures keeps { I.keeps false input.old input.new }
     ensures quiet { err.new ≡ err.old }
@@ -132,7 +132,7 @@ fn apply_form<S: Store, I: Source, E: Sink>(
     ensures named { IfErr result (λ refusal. IsTrue S.tells
         → IsLeftFor refusal.cause ((S.seen store.old).files file) ((S.seen store.new).files file)) }
     ensures alone { EditsAlone file (S.seen store.old) (S.seen store.new) }
-    ensures synced { OnOk result (IsTrue S.tells → AreSynced (S.seen store.old) (S.seen store.new)) }
+    ensures synced { IsTrue S.tells → Syncs (is_ok result) (S.seen store.old) (S.seen store.new) }
     ensures untouched { IsSome from → input.new ≡ input.old }
     ensures keeps { I.keeps false input.old input.new }
     ensures quiet { err.new ≡ err.old }

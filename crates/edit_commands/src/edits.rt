@@ -1,5 +1,5 @@
-ghost use Rattle.std.specs.Prelude.{Option, ◌≡◌, Bool, Err, IfErr, IfOk, IsTrue, OnOk, Some, false};
-ghost use Rattle.quota_blocks.specs.Frame.{AreSynced};
+ghost use Rattle.std.specs.Prelude.{Option, ◌≡◌, Bool, Err, IfErr, IfOk, IsTrue, OnOk, Some, false, is_ok};
+ghost use Rattle.quota_blocks.specs.Frame.{Syncs};
 ghost use Rattle.quota_blocks.specs.QuotaValue.{QuotaValue};
 ghost use Rattle.quota_blocks.specs.Seen.{LinkSeen, SinkSeen, SourceSeen};
 ghost use Rattle.quota_map.specs.AnyFile.{any_at, any_laws};
@@ -63,8 +63,8 @@ pub fn edit_by_words<S: Store, E: Sink>(
     // Where it was done, the files are what a change of such a file makes of them.
     ensures made { OnOk result (IsTrue S.tells
         → MakesWords common words file invocation.now (S.seen store.old).files (S.seen store.new).files) }
-    // Where it was done, what was written has been synced.
-    ensures synced { OnOk result (IsTrue S.tells → AreSynced (S.seen store.old) (S.seen store.new)) }
+    // What was written has been synced where it was done, and where it was not too, unless a call on the store failed.
+    ensures synced { IsTrue S.tells → Syncs (is_ok result) (S.seen store.old) (S.seen store.new) }
     ensures quiet { words_warn words ≡ false → err.new ≡ err.old }
 {
     let Common {
@@ -107,7 +107,7 @@ fn edit_named<S: Store, E: Sink>(
     ensures alone { EditsAlone file (S.seen store.old) (S.seen store.new) }
     ensures made { OnOk result (IsTrue S.tells
         → MakesNamed names.now kind format words file invocation.now (S.seen store.old).files (S.seen store.new).files) }
-    ensures synced { OnOk result (IsTrue S.tells → AreSynced (S.seen store.old) (S.seen store.new)) }
+    ensures synced { IsTrue S.tells → Syncs (is_ok result) (S.seen store.old) (S.seen store.new) }
     ensures quiet { words_warn words ≡ false → err.new ≡ err.old }
 {
     match read_edit(alloc, names, words) {
@@ -141,7 +141,7 @@ pub fn edit_file<S: Store, E: Sink>(
     ensures alone { EditsAlone file (S.seen store.old) (S.seen store.new) }
     ensures made { OnOk result (IsTrue S.tells
         → MakesEdit kind format (edit_meant edit.now invocation.now) file (S.seen store.old).files (S.seen store.new).files) }
-    ensures synced { OnOk result (IsTrue S.tells → AreSynced (S.seen store.old) (S.seen store.new)) }
+    ensures synced { IsTrue S.tells → Syncs (is_ok result) (S.seen store.old) (S.seen store.new) }
     ensures quiet { edit_warns edit.now ≡ false → err.new ≡ err.old }
 {
     match open_file(alloc, store, file.as_str(), kind, format) {

@@ -1,4 +1,4 @@
-ghost use Rattle.std.specs.Prelude.{ℕ, Option, ◌≡◌, ◌≤◌, ◌++◌, Bool, Err, IsTrue, OnErr, OnOk, Some};
+ghost use Rattle.std.specs.Prelude.{ℕ, Option, ◌≡◌, ◌≤◌, ◌++◌, Bool, Err, IsTrue, OnErr, OnOk, Some, is_ok};
 ghost use Rattle.id_names.specs.FirstMatch.{first_name};
 ghost use Rattle.quota_blocks.specs.Count.{Rose};
 ghost use Rattle.quota_blocks.specs.Text.{AppendsPrefix};
@@ -6,7 +6,7 @@ ghost use Rattle.report_text.specs.Report.{numbered, shown_name};
 ghost use Rattle.set_edit.specs.Form.{form_of};
 ghost use Rattle.set_edit.specs.Times.{found_or_zeros};
 ghost use Rattle.quota_blocks.specs.Seen.{LinkSeen, SinkSeen, SourceSeen};
-ghost use Rattle.quota_blocks.specs.Unsynced.{AddsNone};
+ghost use Rattle.quota_blocks.specs.Frame.{Syncs};
 ghost use Rattle.refusals.specs.declared.reason.Refusal.{Refusal};
 ghost use Rattle.run_steps.specs.Done.{seen_of, tells_of};
 ghost use Rattle.refusals.specs.Outcome.{refusal_in};
@@ -50,7 +50,7 @@ pub fn print_by_word<S: Store, O: Sink>(
     // A faulty word is refused before anything is read, where its refusal rests on nothing but the words.
     ensures word { (refusal : Refusal) → faulty_print common word ≡ Some refusal → result ≡ Err refusal }
     ensures store { (refusal : Refusal) → faulty_print common word ≡ Some refusal → store.new ≡ store.old }
-    ensures synced { OnOk result (AddsNone (S.seen store.old).unsynced (S.seen store.new).unsynced) }
+    ensures synced { Syncs (is_ok result) (S.seen store.old) (S.seen store.new) }
 {
     let Common {
         kind,
@@ -82,7 +82,7 @@ fn print_named<S: Store, O: Sink>(
         (seen_of (S.seen store.new) input (O.seen out.new) err link) result }
     ensures word { (refusal : Refusal) → refusal_in (identifier_of names.now word) ≡ Some refusal → result ≡ Err refusal }
     ensures store { (refusal : Refusal) → refusal_in (identifier_of names.now word) ≡ Some refusal → store.new ≡ store.old }
-    ensures synced { OnOk result (AddsNone (S.seen store.old).unsynced (S.seen store.new).unsynced) }
+    ensures synced { Syncs (is_ok result) (S.seen store.old) (S.seen store.new) }
 {
     match read_identifier(names, word) {
         Ok(id) => print_opened(alloc, names, kind, format, id, file, store, out),
@@ -106,7 +106,7 @@ fn print_opened<S: Store, O: Sink>(
         (tells_of S.tells input_tells O.tells err_tells link_tells)
         (seen_of (S.seen store.old) input (O.seen out.old) err link)
         (seen_of (S.seen store.new) input (O.seen out.new) err link) result }
-    ensures synced { OnOk result (AddsNone (S.seen store.old).unsynced (S.seen store.new).unsynced) }
+    ensures synced { Syncs (is_ok result) (S.seen store.old) (S.seen store.new) }
 {
     match open_file(alloc, store, file.as_str(), kind, format) {
         Ok(mut opened) => match opened.get(store, id) {

@@ -1,5 +1,5 @@
-ghost use Rattle.std.specs.Prelude.{◌≡◌, ◌≢◌, Bool, IsTrue, OnErr, OnOk, false};
-ghost use Rattle.quota_blocks.specs.Frame.{AreSynced};
+ghost use Rattle.std.specs.Prelude.{◌≡◌, ◌≢◌, Bool, IsTrue, OnErr, OnOk, false, is_ok};
+ghost use Rattle.quota_blocks.specs.Frame.{Syncs};
 ghost use Rattle.quota_blocks.specs.Replacement.{replacement_name};
 ghost use Rattle.quota_blocks.specs.Seen.{LinkSeen, SinkSeen, SourceSeen};
 ghost use Rattle.run_steps.specs.Changing.{edit_uses};
@@ -46,8 +46,8 @@ pub fn convert_file<S: Store>(
     ensures named { OnErr result ((S.seen store.new).files target ≡ (S.seen store.old).files target) }
     // The file that is converted is as it was in every case.
     ensures source { (S.seen store.new).files source ≡ (S.seen store.old).files source }
-    // Where it was done, what was written has been synced.
-    ensures synced { OnOk result (IsTrue S.tells → AreSynced (S.seen store.old) (S.seen store.new)) }
+    // What was written has been synced where it was done, and where it was not too, unless a call on the store failed.
+    ensures synced { IsTrue S.tells → Syncs (is_ok result) (S.seen store.old) (S.seen store.new) }
 {
     match convert(
         alloc,

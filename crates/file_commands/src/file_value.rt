@@ -1,5 +1,5 @@
 ghost use Rattle.std.specs.Prelude.{◌≡◌, Bool, IfErr, IfOk, IfSome, IsTrue, Ok, OnErr, OnOk, false, is_ok};
-ghost use Rattle.quota_blocks.specs.Frame.{AreSynced, OnlyReads};
+ghost use Rattle.quota_blocks.specs.Frame.{OnlyReads, Syncs};
 ghost use Rattle.quota_blocks.specs.QuotaValue.{QuotaValue};
 ghost use Rattle.quota_blocks.specs.Seen.{LinkSeen, SinkSeen, SourceSeen};
 ghost use Rattle.quota_blocks.specs.QuotaFile.{IsLookupFault};
@@ -113,7 +113,7 @@ pub fn write_value<S: Store>(
     ensures anew { OnOk result (IsTrue S.tells → IsMadeAnew value.now.kind (λ format. format ≡ value.now.format) file
         (S.seen store.old).files (S.seen store.new).files) }
     ensures named { OnErr result ((S.seen store.new).files file ≡ (S.seen store.old).files file) }
-    ensures synced { OnOk result (IsTrue S.tells → AreSynced (S.seen store.old) (S.seen store.new)) }
+    ensures synced { IsTrue S.tells → Syncs (is_ok result) (S.seen store.old) (S.seen store.new) }
 {
     match replace_file(
         alloc,

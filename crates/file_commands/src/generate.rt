@@ -1,14 +1,13 @@
-ghost use Rattle.std.specs.Prelude.{◌≡◌, ◌+◌, ◌≤◌, ◌++◌, ℕ, List, None, Ok, Bool, IfErr, IfOk, IsTrue, OnOk, decimal, length, sum_by};
+ghost use Rattle.std.specs.Prelude.{◌≡◌, ◌+◌, ◌≤◌, ◌++◌, ℕ, List, None, Ok, Bool, IfErr, IfOk, IsTrue, decimal, length, sum_by, is_ok};
 ghost use Rattle.std.specs.List.Sorted.{IsStrictlyIncreasing};
 ghost use Rattle.quota_types.specs.Rec.{kib_of};
 ghost use Rattle.quota_types.specs.declared.file_kind.Format.TheVariants.{V2R1};
 ghost use Rattle.quota_types.specs.declared.file_kind.Kind.TheVariants.{User};
 ghost use Rattle.quota_blocks.specs.Count.{Rose};
-ghost use Rattle.quota_blocks.specs.Frame.{AreSynced};
+ghost use Rattle.quota_blocks.specs.Frame.{Syncs};
 ghost use Rattle.quota_blocks.specs.Listed.{ids_of, records_of};
 ghost use Rattle.quota_blocks.specs.QuotaValue.{QuotaValue};
 ghost use Rattle.quota_blocks.specs.Seen.{LinkSeen, SinkSeen, SourceSeen};
-ghost use Rattle.quota_blocks.specs.Unsynced.{AddsNone};
 ghost use Rattle.quota_map.specs.View.{IsView, most_blocks};
 ghost use Rattle.refusals.specs.Refusals.{nowhere};
 ghost use Rattle.run_steps.specs.Act.{ToOut};
@@ -61,8 +60,8 @@ pub fn generate_file<S: Store, O: Sink>(
         (tells_of S.tells input_tells O.tells err_tells link_tells)
         (seen_of (S.seen store.old) input (O.seen out.old) err link)
         (seen_of (S.seen store.new) input (O.seen out.new) err link) result }
-    // Where it was done, what was written has been synced.
-    ensures synced { OnOk result (IsTrue S.tells → AreSynced (S.seen store.old) (S.seen store.new)) }
+    // What was written has been synced where it was done, and where it was not too, unless a call on the store failed.
+    ensures synced { IsTrue S.tells → Syncs (is_ok result) (S.seen store.old) (S.seen store.new) }
 {
     match generated_value(alloc, seed, count, now) {
         Ok(value) => write_made(alloc, &value, count, file, store, out, now),
@@ -119,7 +118,7 @@ fn write_made<S: Store, O: Sink>(
         (tells_of S.tells input_tells O.tells err_tells link_tells)
         (seen_of (S.seen store.old) input (O.seen out.old) err link)
         (seen_of (S.seen store.new) input (O.seen out.new) err link) result }
-    ensures synced { OnOk result (IsTrue S.tells → AreSynced (S.seen store.old) (S.seen store.new)) }
+    ensures synced { IsTrue S.tells → Syncs (is_ok result) (S.seen store.old) (S.seen store.new) }
 {
     match replace_file(
         alloc,
@@ -155,7 +154,7 @@ fn tell_made<S: Store, O: Sink>(
         (tells_of S.tells input_tells O.tells err_tells link_tells)
         (seen_of (S.seen store.old) input (O.seen out.old) err link)
         (seen_of (S.seen store.new) input (O.seen out.new) err link) result }
-    ensures synced { OnOk result (AreSynced (S.seen store.old) (S.seen store.new)) }
+    ensures synced { Syncs (is_ok result) (S.seen store.old) (S.seen store.new) }
 {
     let Ok(name) = Word::copy_of(alloc, file.as_str()) else {
         return Err(Refusal::of(Cause::Memory, file));
@@ -188,7 +187,7 @@ fn report_length<S: Store>(
     ensures placed { IfErr result (λ refusal. refusal.place ≡ nowhere) }
     ensures unwritten { IsUnwritten (S.seen store.old) (S.seen store.new) }
     ensures later { (S.seen store.old).faults ≤ (S.seen store.new).faults }
-    ensures synced { OnOk result (AddsNone (S.seen store.old).unsynced (S.seen store.new).unsynced) }
+    ensures synced { Syncs (is_ok result) (S.seen store.old) (S.seen store.new) }
 {
     let mut gathered = Gathered::new(alloc);
     let names = Names::none(alloc);

@@ -1,7 +1,7 @@
-ghost use Rattle.std.specs.Prelude.{ℕ, Option, ◌≡◌, Bool, OnOk};
+ghost use Rattle.std.specs.Prelude.{ℕ, Option, ◌≡◌, Bool, is_ok};
 ghost use Rattle.id_names.specs.NamesFile.{NameLine};
 ghost use Rattle.quota_blocks.specs.Seen.{LinkSeen, SinkSeen, SourceSeen};
-ghost use Rattle.quota_blocks.specs.Unsynced.{AddsNone};
+ghost use Rattle.quota_blocks.specs.Frame.{Syncs};
 ghost use Rattle.run_steps.specs.Done.{seen_of, tells_of};
 ghost use Rattle.run_steps.specs.Run.{CarriesOut};
 ghost use Rattle.file_commands.specs.Report.{ReportMayRefuse, ReportSteps, report_cause, report_on};
@@ -36,7 +36,7 @@ pub fn report_file<S: Store, O: Sink>(
         (tells_of S.tells input_tells O.tells err_tells link_tells)
         (seen_of (S.seen store.old) input (O.seen out.old) err link)
         (seen_of (S.seen store.new) input (O.seen out.new) err link) result }
-    ensures synced { OnOk result (AddsNone (S.seen store.old).unsynced (S.seen store.new).unsynced) }
+    ensures synced { Syncs (is_ok result) (S.seen store.old) (S.seen store.new) }
 {
     let Common {
         kind,
@@ -66,7 +66,7 @@ pub(crate) fn report_opened<S: Store, O: Sink>(
         (tells_of S.tells input_tells O.tells err_tells link_tells)
         (seen_of (S.seen store.old) input (O.seen out.old) err link)
         (seen_of (S.seen store.new) input (O.seen out.new) err link) result }
-    ensures synced { OnOk result (AddsNone (S.seen store.old).unsynced (S.seen store.new).unsynced) }
+    ensures synced { Syncs (is_ok result) (S.seen store.old) (S.seen store.new) }
 {
     match open_file(alloc, store, file.as_str(), kind, format) {
         Ok(mut opened) => {

@@ -3,11 +3,11 @@
 use Rattle.std.specs.Prelude.{◌≤◌, ◌⊎◌, ◌&&◌, Bool, true, false, List, ℕ, refl}
 use Rattle.std.proofs.Common.{◌∙◌, inl, inr, arith, subst}
 use Rattle.std.proofs.Math.Nat.{le_refl, le_trans}
-use Rattle.std.proofs.lemmas.Bool.{and_parts, false≢true}
+use Rattle.std.proofs.lemmas.Bool.{and_parts}
 use Rattle.std.specs.String.{string_bytes}
 use Rattle.outside.specs.Behind.{behind_nothing, behind_on}
 use Rattle.outside.specs.Count.{Rose}
-use Rattle.outside.specs.Frame.{OnlyReads}
+use Rattle.outside.specs.Frame.{IsUnfailed, OnlyReads}
 use Rattle.outside.specs.Seen.{StoreSeen}
 use Rattle.input_text.specs.StoreInput.{KeepsInput}
 use Rattle.outside.specs.Unsynced.{AddsNone, Names}
@@ -25,6 +25,13 @@ unsynced_on faults faults_between faults_last names names_between names_last lat
         | inr none_last ↦ inr (λ name is. none name (none_last name is))
       ]
     ]
+
+-- two calls in a row were done, or nothing failed in them: so it is of each
+unfailed_on : (ok ok_last : Bool) (first between last : StoreSeen) → first.faults ≤ between.faults → between.faults ≤ last.faults
+    → IsUnfailed (ok && ok_last) first last → IsUnfailed ok first between × IsUnfailed ok_last between last
+unfailed_on ok ok_last first between last later later_last (inl both) = (inl (and_parts ok ok_last both).0, inl (and_parts ok ok_last both).1)
+unfailed_on ok ok_last first between last later later_last (inr none) =
+    (inr (λ rose. none (le_trans rose later_last)), inr (λ rose. none (omega (arith, later, rose))))
 
 module _ {S : Type 0} (tells : Bool) (seen : S → StoreSeen) where
   pub keeps_input_itself : (input : StoreInput S) → KeepsInput tells seen true input input
@@ -51,7 +58,9 @@ module _ {S : Type 0} (tells : Bool) (seen : S → StoreSeen) where
           unsynced = λ other differs. read.unsynced other differs ∙ one.leaves.unsynced other differs;
           later = le_trans one.leaves.later read.later;
           writes = read.writes ∙ one.leaves.writes;
-          synced = λ both name is. one.leaves.synced (and_parts ok ok_last both).0 name (read.synced (and_parts ok ok_last both).1 name is);
+          synced = λ so name is.
+              let each = unfailed_on ok ok_last (seen first.store.now) (seen between.store.now) (seen last.store.now) one.leaves.later read.later so in
+              one.leaves.synced each.0 name (read.synced each.1 name is);
         };
         unsynced = unsynced_on _ _ _ _ _ _ one.leaves.later read.later one.unsynced two.unsynced;
         behind = λ told. behind_on _ _ _ (one.behind told) (two.behind told);
@@ -67,7 +76,7 @@ module _ {S : Type 0} (tells : Bool) (seen : S → StoreSeen) where
       unsynced = kept.leaves.unsynced;
       later = kept.leaves.later;
       writes = kept.leaves.writes;
-      synced = λ not. absurd (false≢true not);
+      synced = λ so. kept.leaves.synced (inl refl);
     };
     unsynced = kept.unsynced;
     behind = kept.behind;

@@ -1,19 +1,27 @@
 -- What is seen of a store, by what its journal tells.
-use Rattle.std.proofs.Common.{◌≡◌, ◌≤◌, ◌⊎◌, inl, inr, ℕ, Bool, true, false, IsTrue, refl, List, Result, Ok, Err, OnOk, OnErr, ap, ◌∙◌}
+use Rattle.std.proofs.Common.{◌≡◌, ◌≤◌, ◌⊎◌, inl, inr, ℕ, Bool, true, false, IsTrue, refl, List, Result, Ok, Err, OnOk, OnErr, is_ok, ap, ◌∙◌, arith}
+use Rattle.outside.specs.Count.{Rose, counted}
 use Rattle.outside.specs.Frame.{ChangesOne, ChangesTwo, OnlyReads}
 use Rattle.outside.specs.World.{KeepsOtherTwo, KeepsOthers, World}
+use Rattle.outside.proofs.FrameLemmas.{unfailed-done}
 use Rattle.journal_store.specs.JournalStore.{seen_as}
 use Rattle.journal_store.specs.Told.{LooksAt, Told}
 
-pub only_reads-seen : (tells done : Bool) (name : List ℕ) (a b : Told) (fa ra wa fb rb wb : ℕ) → (IsTrue tells → LooksAt done name a b) → fa ≤ fb → wb ≡ wa → OnlyReads done name (seen_as tells a fa ra wa) (seen_as tells b fb rb wb)
-only_reads-seen true done name a b fa ra wa fb rb wb looks later writes = record {
+-- a count that rose by one where a call was refused rose there
+pub counted-rose : {T E : Type 0} (result : Result T E) (before now : ℕ) → OnErr result (now ≡ counted before) → OnErr result (Rose before now)
+counted-rose (Ok value) before now is = tt
+counted-rose (Err fault) before now is = omega (arith, is)
+
+pub only_reads-seen : {T E : Type 0} (tells : Bool) (result : Result T E) (name : List ℕ) (a b : Told) (fa ra wa fb rb wb : ℕ) → (IsTrue tells → LooksAt (is_ok result) name a b) → fa ≤ fb → wb ≡ wa → OnErr result (Rose fa fb)
+    → OnlyReads (is_ok result) name (seen_as tells a fa ra wa) (seen_as tells b fb rb wb)
+only_reads-seen true result name a b fa ra wa fb rb wb looks later writes cause = record {
   files = (looks refl).files;
   unsynced = (looks refl).unsynced;
   later = later;
   writes = writes;
-  synced = (looks refl).synced;
+  synced = λ so. (looks refl).synced (unfailed-done result (seen_as true a fa ra wa) (seen_as true b fb rb wb) cause so);
 }
-only_reads-seen false done name a b fa ra wa fb rb wb looks later writes = record {
+only_reads-seen false result name a b fa ra wa fb rb wb looks later writes cause = record {
   files = refl;
   unsynced = λ other differ. refl;
   later = later;

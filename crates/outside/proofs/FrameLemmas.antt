@@ -1,7 +1,9 @@
 -- What calls on a store leave, for no call and for two in a row.
-use Rattle.std.proofs.Common.{◌≡◌, inl, inr, ℕ, Bool, true, false, List, refl, sym, ◌∙◌, arith, ◌⊎◌, ap}
+use Rattle.std.proofs.Common.{◌≡◌, ◌≤◌, inl, inr, ℕ, Bool, true, false, IsTrue, List, Result, Ok, Err, OnErr, refl, sym, ◌∙◌, arith, ◌⊎◌, ap}
+use Rattle.std.specs.Result.{is_ok}
 use Rattle.std.proofs.lemmas.Bool.{cases_Bool, false≢true}
-use Rattle.outside.specs.Frame.{AreSynced, ChangesOne, IsSynced, OnlyReads, ReplacesOne}
+use Rattle.outside.specs.Count.{Rose}
+use Rattle.outside.specs.Frame.{AreSynced, ChangesOne, IsSynced, IsUnfailed, OnlyReads, ReplacesOne, Syncs}
 use Rattle.outside.specs.Replacement.{replacement_name}
 use Rattle.outside.specs.Seen.{StoreSeen}
 use Rattle.outside.specs.Unsynced.{AddsNone, Names}
@@ -17,6 +19,25 @@ keeps_others-then name old between new first second other differ = second other 
 pub keeps_other_two-then : {T : Type 0} (one two : List ℕ) (old between new : List ℕ → T) → KeepsOtherTwo one two old between → KeepsOtherTwo one two between new → KeepsOtherTwo one two old new
 keeps_other_two-then one two old between new first second other differ differs = second other differ differs ∙ first other differ differs
 
+-- where no call failed, none of the first ones did
+pub unfailed-first : (old between new : StoreSeen) → between.faults ≤ new.faults → (¬ (Rose old.faults new.faults)) → ¬ (Rose old.faults between.faults)
+unfailed-first old between new later none rose = none (omega (arith, later, rose))
+
+-- nor did one of the last ones
+pub unfailed-last : (old between new : StoreSeen) → old.faults ≤ between.faults → (¬ (Rose old.faults new.faults)) → ¬ (Rose between.faults new.faults)
+unfailed-last old between new later none rose = none (omega (arith, later, rose))
+
+-- the last ones were done too, or none of them failed
+pub unfailed-later : {done : Bool} (old between new : StoreSeen) → old.faults ≤ between.faults → IsUnfailed done old new → IsUnfailed done between new
+unfailed-later old between new later (inl done) = inl done
+unfailed-later old between new later (inr none) = inr (unfailed-last old between new later none)
+
+-- where a call fails only as its count rises, it was done or it failed
+pub unfailed-done : {T E : Type 0} (result : Result T E) (old new : StoreSeen) → OnErr result (Rose old.faults new.faults) → IsUnfailed (is_ok result) old new → IsTrue (is_ok result)
+unfailed-done (Ok told) old new cause so = refl
+unfailed-done (Err fault) old new cause (inl done) = done
+unfailed-done (Err fault) old new cause (inr none) = absurd (none cause)
+
 -- a call that was not made reads only
 pub only_reads-none : {done : Bool} (name : List ℕ) (seen : StoreSeen) → OnlyReads done name seen seen
 only_reads-none name seen = record { files = refl; unsynced = λ other differ. refl; later = omega arith; writes = refl; synced = λ done other is. is }
@@ -27,8 +48,20 @@ only_reads-then name old between new first second = record {
   unsynced = keeps_others-then name _ _ _ first.unsynced second.unsynced;
   later = omega (arith, first.later, second.later);
   writes = second.writes ∙ first.writes;
-  synced = λ done other is. first.synced refl other (second.synced done other is);
+  synced = λ so other is. first.synced (inl refl) other (second.synced (unfailed-later old between new first.later so) other is);
 }
+
+-- calls of which none failed, whether or not they were done
+unfailed-less : {done : Bool} (old new : StoreSeen) → IsUnfailed false old new → IsUnfailed done old new
+unfailed-less old new (inl done) = absurd (false≢true done)
+unfailed-less old new (inr none) = inr none
+
+unfailed-before : {done : Bool} (old between new : StoreSeen) → between.faults ≤ new.faults → IsUnfailed false old new → IsUnfailed done old between
+unfailed-before old between new later (inl done) = absurd (false≢true done)
+unfailed-before old between new later (inr none) = inr (unfailed-first old between new later none)
+
+pub adds_none-then : (old between new : Names) → AddsNone old between → AddsNone between new → AddsNone old new
+adds_none-then old between new first second name is = first name (second name is)
 
 -- what was done is also what was not said to be done
 pub only_reads-less : {done : Bool} (name : List ℕ) (old new : StoreSeen) → OnlyReads done name old new → OnlyReads false name old new
@@ -37,17 +70,18 @@ only_reads-less name old new read = record {
   unsynced = read.unsynced;
   later = read.later;
   writes = read.writes;
-  synced = λ done. absurd (false≢true done);
+  synced = λ so. read.synced (unfailed-less old new so);
 }
 
--- two calls in a row, of which nothing is said of names that were synced
+-- two calls in a row, neither of which is said to be done
 pub only_reads-any : {one two : Bool} (name : List ℕ) (old between new : StoreSeen) → OnlyReads one name old between → OnlyReads two name between new → OnlyReads false name old new
 only_reads-any name old between new first second = record {
   files = second.files ∙ first.files;
   unsynced = keeps_others-then name _ _ _ first.unsynced second.unsynced;
   later = omega (arith, first.later, second.later);
   writes = second.writes ∙ first.writes;
-  synced = λ done. absurd (false≢true done);
+  synced = λ so. adds_none-then old.unsynced between.unsynced new.unsynced
+      (first.synced (unfailed-before old between new second.later so)) (second.synced (unfailed-less between new (unfailed-later old between new first.later so)));
 }
 
 pub changes_one-none : (name : List ℕ) (seen : StoreSeen) → ChangesOne name seen seen
@@ -84,9 +118,6 @@ pub replaces_one-after_read : {done : Bool} (name : List ℕ) (old between new :
 replaces_one-after_read name old between new first second =
     replaces_one-then name old between new (replaces_one-read name old between first) second
 
-pub adds_none-then : (old between new : Names) → AddsNone old between → AddsNone between new → AddsNone old new
-adds_none-then old between new first second name is = first name (second name is)
-
 -- a name that was synced is synced after a call that made no name unsynced
 still_synced : (name : List ℕ) (old new : Names) → AddsNone old new → old name ≡ false → new name ≡ false
 still_synced name old new adds was =
@@ -98,7 +129,7 @@ still_synced name old new adds was =
 -- a call that only read has nothing to sync
 pub is_synced-read : (name : List ℕ) (old new : StoreSeen) → OnlyReads true name old new → IsSynced name old new
 is_synced-read name old new read = record {
-  none = read.synced refl;
+  none = read.synced (inl refl);
   changed = λ other. inr (ap (λ (files : World). files other) read.files);
   named = inr (read.writes, read.files);
 }
@@ -133,10 +164,59 @@ are_synced-none seen = record { none = λ other is. is; changed = λ other. inr 
 
 -- calls that only read have nothing to sync
 pub are_synced-read : (name : List ℕ) (old new : StoreSeen) → OnlyReads true name old new → AreSynced old new
-are_synced-read name old new read = record { none = read.synced refl; changed = λ other. inr (ap (λ (files : World). files other) read.files) }
+are_synced-read name old new read = record { none = read.synced (inl refl); changed = λ other. inr (ap (λ (files : World). files other) read.files) }
 
 pub are_synced-then : (old between new : StoreSeen) → AreSynced old between → AreSynced between new → AreSynced old new
 are_synced-then old between new first second = record {
   none = adds_none-then old.unsynced between.unsynced new.unsynced first.none second.none;
   changed = λ other. synced_then other old between new second.none (first.changed other) (second.changed other);
+}
+
+-- nothing was written
+pub syncs-none : {done : Bool} (seen : StoreSeen) → Syncs done seen seen
+syncs-none seen = record { later = omega arith; synced = λ so. are_synced-none seen }
+
+-- the store was only read
+pub syncs-read : {done : Bool} (name : List ℕ) (old new : StoreSeen) → OnlyReads done name old new → Syncs done old new
+syncs-read name old new read = record {
+  later = read.later;
+  synced = λ so. record { none = read.synced so; changed = λ other. inr (ap (λ (files : World). files other) read.files) };
+}
+
+-- all has been synced, whether or not it is said that this was done
+pub syncs-all : {done : Bool} (old new : StoreSeen) → old.faults ≤ new.faults → AreSynced old new → Syncs done old new
+syncs-all old new later synced = record { later = later; synced = λ so. synced }
+
+-- a call on the store failed
+pub syncs-failed : (old new : StoreSeen) → old.faults ≤ new.faults → Rose old.faults new.faults → Syncs false old new
+syncs-failed old new later rose = record {
+  later = later;
+  synced = λ so.
+      elim so [
+        | inl done ↦ absurd (false≢true done)
+        | inr none ↦ absurd (none rose)
+      ];
+}
+
+pub syncs-then : {done : Bool} (old between new : StoreSeen) → Syncs true old between → Syncs done between new → Syncs done old new
+syncs-then old between new first second = record {
+  later = omega (arith, first.later, second.later);
+  synced = λ so. are_synced-then old between new (first.synced (inl refl)) (second.synced (unfailed-later old between new first.later so));
+}
+
+-- the store was only read before
+pub syncs-after_read : {done : Bool} (name : List ℕ) (old between new : StoreSeen) → OnlyReads true name old between → Syncs done between new → Syncs done old new
+syncs-after_read name old between new read second = syncs-then old between new (syncs-read name old between read) second
+
+-- what was done is also what was not said to be done
+pub syncs-less : {done : Bool} (old new : StoreSeen) → Syncs done old new → Syncs false old new
+syncs-less old new syncs = record { later = syncs.later; synced = λ so. syncs.synced (unfailed-less old new so) }
+
+-- two in a row, neither of which is said to be done
+pub syncs-any : {one two : Bool} (old between new : StoreSeen) → Syncs one old between → Syncs two between new → Syncs false old new
+syncs-any old between new first second = record {
+  later = omega (arith, first.later, second.later);
+  synced = λ so.
+      are_synced-then old between new (first.synced (unfailed-before old between new second.later so))
+      (second.synced (unfailed-less between new (unfailed-later old between new first.later so)));
 }

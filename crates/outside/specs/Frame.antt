@@ -1,18 +1,23 @@
 -- What a call on a store leaves as it was.
 use Rattle.std.specs.Prelude.{◌≡◌, ◌≤◌, ◌⊎◌, ℕ, Bool, false, IsTrue, List}
+use Rattle.outside.specs.Count.{Rose}
 use Rattle.outside.specs.Replacement.{ReplacesOnly, replacement_name}
 use Rattle.outside.specs.Seen.{StoreSeen}
 use Rattle.outside.specs.Unsynced.{AddsNone, Names, with_name}
 use Rattle.outside.specs.World.{KeepsOthers, KeepsOtherTwo}
 
+-- Calls on a store were done, or they were not, and none of them failed: what stopped them was something else.
+abbrev pub IsUnfailed : Bool → (old new : StoreSeen) → Type 0
+IsUnfailed done old new = IsTrue done ⊎ (¬ (Rose old.faults new.faults))
+
 -- A call that only reads or syncs one name leaves all files and makes no call of `write`; of the other names all are as
--- unsynced as they were, and where it was done no name is unsynced that was not.
+-- unsynced as they were, and where it was done, or no call on the store failed, no name is unsynced that was not.
 pub record OnlyReads (done : Bool) (name : List ℕ) (old new : StoreSeen) : Type 0 where
   pub files : new.files ≡ old.files
   pub unsynced : KeepsOthers name old.unsynced new.unsynced
   pub later : old.faults ≤ new.faults
   pub writes : new.writes ≡ old.writes
-  pub synced : IsTrue done → AddsNone old.unsynced new.unsynced
+  pub synced : IsUnfailed done old new → AddsNone old.unsynced new.unsynced
 
 -- A change of one name leaves all other files, and all other names as unsynced as they were. It reads nothing.
 pub record ChangesOne (name : List ℕ) (old new : StoreSeen) : Type 0 where
@@ -39,6 +44,11 @@ pub record ReplacesOne (name : List ℕ) (old new : StoreSeen) : Type 0 where
 pub record AreSynced (old new : StoreSeen) : Type 0 where
   pub none : AddsNone old.unsynced new.unsynced
   pub changed : (name : List ℕ) → (new.unsynced name ≡ false) ⊎ (new.files name ≡ old.files name)
+
+-- Where this was done what was written has been synced, and where it was not too, unless a call on the store failed.
+pub record Syncs (done : Bool) (old new : StoreSeen) : Type 0 where
+  pub later : old.faults ≤ new.faults
+  pub synced : IsUnfailed done old new → AreSynced old new
 
 -- A change that was done has been synced: all that it changed is, and the named file is, unless nothing was written.
 pub record IsSynced (name : List ℕ) (old new : StoreSeen) : Type 0 where

@@ -7,3 +7,4 @@ pub mod LookupLemmas
 pub mod LooksUpLemmas
 pub mod PassingLemmas
 pub mod ReplaceLemmas
+pub mod SyncedLemmas

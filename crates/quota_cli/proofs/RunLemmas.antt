@@ -1,11 +1,11 @@
 -- From what a command did to the effect of the words, and to what a run keeps.
 use Rattle.std.proofs.Common.{◌≡◌, ◌≢◌, ℕ, ◌≤◌, Bool, false, IsTrue, List, [], ◌++◌, Option, None, Some, Ok, Err, Result, ◌⊎◌, inl, inr, refl, sym, ap, subst, ◌∙◌, arith, append-nil, append_assoc}
-use Rattle.std.specs.Prelude.{⊤, ◌↔◌, IfErr, IfSome, IsErr, IsErrAnd, OnErr, OnOk}
+use Rattle.std.specs.Prelude.{⊤, ◌↔◌, IfErr, IfSome, IsErr, IsErrAnd, OnErr, OnOk, is_ok}
 use Rattle.std.specs.Result.{result_err}
 use Rattle.std.proofs.lemmas.Option.{none-some}
 use Rattle.quota_blocks.specs.Count.{Rose}
-use Rattle.quota_blocks.specs.Frame.{AreSynced}
-use Rattle.quota_blocks.specs.Seen.{SinkSeen}
+use Rattle.quota_blocks.specs.Frame.{AreSynced, Syncs}
+use Rattle.quota_blocks.specs.Seen.{SinkSeen, StoreSeen}
 use Rattle.outside.proofs.CountLemmas.{Rose-since}
 use Rattle.refusals.specs.declared.cause.Cause.{Cause}
 use Rattle.refusals.specs.declared.cause.Cause.TheVariants.{StoreFault, SourceFault, SinkFault, LinkFault, Memory}
@@ -291,10 +291,17 @@ run_edited None left result status is done kept = tt
 run_edited (Some file) left (Ok value) status is done kept = subst (λ (s : ℕ). left s file) (sym is) (done file)
 run_edited (Some file) left (Err refusal) status is done kept = subst (λ (s : ℕ). left s file) (sym is) kept
 
--- what was written has been synced with status 0
-run_synced : (synced : Type 0) (result : Result (Unit {0}) Refusal) (status : ℕ) → status ≡ end_status (result_err result) → OnOk result synced → status ≡ 0 → synced
-run_synced synced (Ok value) status is done = λ zero. done
-run_synced synced (Err refusal) status is done = λ zero. absurd (no_status_0 refusal.cause (sym is ∙ zero))
+-- what holds where it was done holds with status 0
+run_done : (holds : Type 0) (result : Result (Unit {0}) Refusal) (status : ℕ) → status ≡ end_status (result_err result) → OnOk result holds → status ≡ 0 → holds
+run_done holds (Ok value) status is done = λ zero. done
+run_done holds (Err refusal) status is done = λ zero. absurd (no_status_0 refusal.cause (sym is ∙ zero))
+
+-- what was written has been synced with status 0, and with any other one where no call on the store failed
+run_synced : (result : Result (Unit {0}) Refusal) (status : ℕ) (old new : StoreSeen) → status ≡ end_status (result_err result) → Syncs (is_ok result) old new
+    → (status ≡ 0) ⊎ (¬ (Rose old.faults new.faults)) → AreSynced old new
+run_synced (Ok value) status old new is syncs so = syncs.synced (inl refl)
+run_synced (Err refusal) status old new is syncs (inl zero) = absurd (no_status_0 refusal.cause (sym is ∙ zero))
+run_synced (Err refusal) status old new is syncs (inr none) = syncs.synced (inr none)
 
 -- what holds where memory was wanting holds with status 5
 run_untaken : (same : Type 0) (result : Result (Unit {0}) Refusal) (status : ℕ) → status ≡ end_status (result_err result)
@@ -326,9 +333,9 @@ run_keeps setting tells old new said result status carried stands finished usage
   edited = run_edited (asked setting).edits (λ (s : ℕ) (file : List ℕ). IsTrue tells.store → IsLeftByEdit s old.store.files new.store.files file) result status finished.status_is
       (λ file told other. absurd (other refl)) carried.edited;
   within = record { alone = carried.within.alone; few = carried.within.few };
-  reads = run_synced (IsWorldTold tells → ReadsWithin ((asked setting).most_reads (outside_of old)) old.store new.store) result status finished.status_is carried.reads;
-  made = run_synced (IsTrue tells.store → (asked setting).made setting.invocation (outside_of old) new.store.files) result status finished.status_is carried.made;
-  synced = run_synced (IsTrue tells.store → AreSynced old.store new.store) result status finished.status_is carried.synced;
+  reads = run_done (IsWorldTold tells → ReadsWithin ((asked setting).most_reads (outside_of old)) old.store new.store) result status finished.status_is carried.reads;
+  made = run_done (IsTrue tells.store → (asked setting).made setting.invocation (outside_of old) new.store.files) result status finished.status_is carried.made;
+  synced = λ so told. run_synced result status old.store new.store finished.status_is (carried.synced told) so;
   untaken = λ one. run_untaken (new.link ≡ old.link) result status finished.status_is (carried.untaken one);
   unlinked = record {
     refusal = result_err result;

@@ -1,17 +1,18 @@
 -- Lines of a script that were carried out, one after another, and the script that they stand in.
 use Rattle.std.proofs.Common.{◌≡◌, ◌≤◌, ◌<◌, ◌+◌, ℕ, Bool, true, false, cond, IsTrue, List, [], ◌∷◌, Option, None, Some, Ok, Err, Result, inl, inr, refl, sym, ap, subst, ◌∙◌, arith}
-use Rattle.std.specs.Prelude.{⊤, ◌&&◌, IfErr, IfSome, IsSome, OnOk, is_none}
+use Rattle.std.specs.Prelude.{⊤, ◌&&◌, IfErr, IfSome, IsSome, is_none, is_ok}
 use Rattle.std.specs.Result.{result_err}
 use Rattle.std.specs.Str.{is_utf8}
 use Rattle.std.proofs.lemmas.Bool.{false≢true, le-leb, or_parts}
 use Rattle.std.proofs.lemmas.Option.{none-some}
-use Rattle.std.proofs.lemmas.Result.{IfErr-weaker, on_ok_weaker}
+use Rattle.std.proofs.lemmas.Result.{IfErr-weaker}
 use Rattle.quota_blocks.specs.Behind.{IsBehind}
 use Rattle.quota_blocks.specs.Count.{Rose}
+use Rattle.quota_blocks.specs.Frame.{Syncs}
 use Rattle.quota_blocks.specs.InputLines.{InputLines, NoLine, LineThen, LongNext, PastNext, input_lines}
 use Rattle.quota_blocks.specs.Seen.{SourceSeen}
 use Rattle.quota_blocks.specs.Words.{words_of}
-use Rattle.outside.proofs.FrameLemmas.{are_synced-none, are_synced-then, only_reads-none}
+use Rattle.outside.proofs.FrameLemmas.{only_reads-none, syncs-none, syncs-then}
 use Rattle.refusals.specs.declared.cause.Cause.{Cause}
 use Rattle.refusals.specs.declared.cause.Cause.TheVariants.{LinkFault, SourceFault, TooLarge, LongLine, BadLine, Memory}
 use Rattle.refusals.specs.declared.reason.Place.{Place}
@@ -34,6 +35,7 @@ use Rattle.script_lines.specs.declared.script.ScriptFault.{ScriptFault}
 use Rattle.script_lines.specs.declared.script.ScriptFault.TheVariants.{Source, Memory as NoMemory}
 use Rattle.command_table.specs.Description.{IsCarriedOut, StopsIt}
 use Rattle.command_table.specs.Table.{asked_by, described}
+use Rattle.command_table.proofs.CommandLemmas.{of_done}
 use Rattle.command_table.proofs.InputLemmas.{spares_input}
 use Rattle.command_table.proofs.SureLemmas.{asked_sure, command_sure}
 use Rattle.quota_cli.specs.Carrying.{AreCarried, Ascends, IsLineCarried, unread_cause}
@@ -99,7 +101,7 @@ pub lines_stopped : (now : ℕ) (line : LineSaid) (lines : List LineSaid) (ended
     → IsLineCarried now line tells old new (Err refusal) → AreCarried now (line ∷ lines) ended tells old new (Err refusal)
 lines_stopped now line lines ended tells old new refusal carried = record {
   carries = carried_stopped (LineSteps now line) (LinesSteps now lines ended) script_uses RunningMayRefuse tells old new refusal carried.carries;
-  synced = tt;
+  synced = carried.synced;
   own = λ none. absurd (none-some line.number (sym none ∙ carried.of_line.named));
   within = λ some. inl carried.of_line;
   unlinked = λ least ascends none.
@@ -111,7 +113,7 @@ pub lines_passed : (now : ℕ) (line : LineSaid) (lines : List LineSaid) (ended 
     → IsLineCarried now line tells old middle (Ok passed) → AreCarried now lines ended tells middle new result → AreCarried now (line ∷ lines) ended tells old new result
 lines_passed now line lines ended tells old middle new passed result first then = record {
   carries = carried_before (LineSteps now line) (LinesSteps now lines ended) script_uses RunningMayRefuse tells old middle new passed result refl first.carries then.carries;
-  synced = on_ok_weaker result (λ synced told. are_synced-then old.store middle.store new.store (first.synced told) (synced told)) then.synced;
+  synced = λ told. syncs-then old.store middle.store new.store (first.synced told) (then.synced told);
   own = then.own;
   within = IfErr-weaker result _ _ (λ refusal one some. inr (middle, record { done = first.carries.done; unlinked = first.unlinked; later = first.carries.later }, one some)) then.within;
   unlinked = λ least ascends none.
@@ -124,7 +126,7 @@ lines_passed now line lines ended tells old middle new passed result first then 
 pub lines_done : (now : ℕ) (tells : RunTells) (old : RunSeen) (passed : Unit {0}) → AreCarried now [] None tells old old (Ok passed)
 lines_done now tells old passed = record {
   carries = finish_carried script_uses RunningMayRefuse tells old passed;
-  synced = λ told. are_synced-none old.store;
+  synced = λ told. syncs-none old.store;
   own = tt;
   within = tt;
   unlinked = λ least ascends none. refl;
@@ -151,7 +153,7 @@ own_no_stop _ name may stopped = absurd may
 pub lines_refused : (now : ℕ) (tells : RunTells) (old : RunSeen) (refusal : Refusal) → IsOfScript refusal → AreCarried now [] (Some refusal) tells old old (Err refusal)
 lines_refused now tells old refusal own = record {
   carries = stop_carried script_uses RunningMayRefuse tells old refusal (own_reason refusal.cause refusal.name tells old own.may) (inr (inr (inl own.may))) (placed_nowhere script_uses refusal own.place);
-  synced = tt;
+  synced = λ told. syncs-none old.store;
   own = λ none. own.may;
   within = λ some. let none : IsSome nowhere.line = subst (λ (p : Place). IsSome p.line) own.place some in absurd (false≢true none);
   unlinked = λ least ascends none. refl;
@@ -163,11 +165,12 @@ lines_refused now tells old refusal own = record {
 widest : MayUseAll script_uses
 widest = record { link = refl; changes = refl; whole = refl; warns = refl; commands = refl; edits = refl }
 
--- what holds where it was done holds in a line
-ok_in_line : (line : ℕ) (holds : Type 0) (done result : Result (Unit {0}) Refusal) → result_err result ≡ in_line line (result_err done) → OnOk done holds → OnOk result holds
-ok_in_line line holds (Ok passed) (Ok value) is holding = holding
-ok_in_line line holds (Err refusal) (Ok value) is holding = absurd (none-some _ is)
-ok_in_line line holds done (Err refusal) is holding = tt
+-- a line ended well where what it asks for did
+same_in_line : (line : ℕ) (done result : Result (Unit {0}) Refusal) → result_err result ≡ in_line line (result_err done) → is_ok result ≡ is_ok done
+same_in_line line (Ok passed) (Ok value) is = refl
+same_in_line line (Err refused) (Ok value) is = absurd (none-some _ is)
+same_in_line line (Ok passed) (Err refusal) is = absurd (none-some _ (sym is))
+same_in_line line (Err refused) (Err refusal) is = refl
 
 -- what three facts say of a refusal holds of it in a line
 err_in_line : (line : ℕ) (first second third holds : Refusal → Type 0) (done result : Result (Unit {0}) Refusal) → result_err result ≡ in_line line (result_err done)
@@ -192,7 +195,7 @@ line_carried now line tells old new done result is unlinked carried =
     (carries_more (asked.steps (line_invocation now line)) asked.uses asked.may RunningMayRefuse tells old new done (λ cause name may. inr (inr (inr (line.text, may)))) carried.carries) in
     record {
       carries = carries;
-      synced = ok_in_line line.number _ done result is carried.synced;
+      synced = λ told. subst (λ (d : Bool). Syncs d old.store new.store) (sym (same_in_line line.number done result is)) (carried.synced told);
       unlinked = unlinked;
       of_line = err_in_line line.number _ _ _ _ done result is
           (λ refusal reason may left. record {
@@ -242,7 +245,7 @@ text_wanting text invocation tells old =
       within = record { alone = every_file asked.alone _ (λ file other differ. refl); few = as_many asked.most_writes old.store.writes };
       reads = tt;
       made = tt;
-      synced = tt;
+      synced = λ told. syncs-none old.store;
       unfinished = λ failed. absurd (cc);
       untaken = λ one five. refl;
       unlinked = λ told none. refl;
@@ -303,8 +306,8 @@ script_carried invocation tells old input new result said later is behind ended 
   named = tt;
   edited = tt;
   within = record { alone = tt; few = tt };
-  reads = on_ok_weaker result (λ synced told. tt) carried.synced;
-  made = on_ok_weaker result (λ synced told. tt) carried.synced;
+  reads = of_done result _ (λ told. tt);
+  made = of_done result _ (λ told. tt);
   synced = carried.synced;
   unfinished = IfErr-weaker result _ _ (λ refusal left failed told. (
     input,
@@ -382,7 +385,7 @@ script_unread invocation tells old input fault later rose = record {
   within = record { alone = tt; few = tt };
   reads = tt;
   made = tt;
-  synced = tt;
+  synced = λ told. syncs-none old.store;
   unfinished = λ failed. absurd (unread_unlinked fault failed);
   untaken = λ one five. refl;
   unlinked = λ told none. refl;

@@ -172,9 +172,9 @@ pub record Keeps (setting : Setting) (tells : RunTells) (old new : RunSeen) (sta
   -- for new limits, new times or new grace periods: of a tree file into which a record was put, that it has no more blocks than before
   -- unless none is free then, and that a block became a data block only where none had room.
   pub made : status ≡ 0 → IsTrue tells.store → (asked setting).made setting.invocation (outside_of old) new.store.files
-  -- With status 0 what was written has been synced: no name is unsynced that was not, and that of each file that has
-  -- changed is not.
-  pub synced : status ≡ 0 → IsTrue tells.store → AreSynced old.store new.store
+  -- With status 0 what was written has been synced, and with any other one too where no call on the store failed: no name is unsynced
+  -- that was not, and that of each file that has changed is not.
+  pub synced : (status ≡ 0) ⊎ (¬ Rose old.store.faults new.store.faults) → IsTrue tells.store → AreSynced old.store new.store
   -- With status 5 nothing was done with the link: no datagram was taken. This is said of words that ask for no commands to be read.
   pub untaken : (uses_asked setting).reads_commands ≡ false → status ≡ 5 → new.link ≡ old.link
   -- The link is as it was where nothing that was come to uses it, up to the refusal that was said.

@@ -9,12 +9,12 @@ use Rattle.std.proofs.lemmas.List.Elements.{All-push}
 use Rattle.quota_types.specs.declared.file_kind.Format.{Format}
 use Rattle.quota_types.specs.declared.file_kind.Format.TheVariants.{V1}
 use Rattle.quota_blocks.specs.Block.{bytes_of}
-use Rattle.quota_blocks.specs.Frame.{OnlyReads}
+use Rattle.quota_blocks.specs.Frame.{OnlyReads, Syncs}
 use Rattle.quota_blocks.specs.QuotaValue.{QuotaValue}
 use Rattle.quota_blocks.specs.Seen.{StoreSeen}
-use Rattle.quota_blocks.specs.Unsynced.{AddsNone}
 use Rattle.quota_blocks.specs.World.{World}
 use Rattle.quota_blocks.specs.declared.quota_file.OpenFault.{OpenFault}
+use Rattle.outside.proofs.FrameLemmas.{syncs-after_read, syncs-none, syncs-read}
 use Rattle.quota_map.specs.View.{IsOpenFault, IsOpenedAs, IsView, opening_reads, fresh_seen}
 use Rattle.rquota_serve.specs.Adding.{AreAdded, AreToldOf, IsRefusedAt, MayAddAll, NewSeen, ReadsEach, added_of, new_seen, news_seen, one_later, reads_of, tried_of}
 use Rattle.rquota_serve.specs.Exported.{Exported, with_export}
@@ -43,10 +43,16 @@ stays_refused tells asked (suc place) (one ∷ news) fault old new refused =
     let rest = stays_refused tells asked place news fault refused.0 new refused.2 in
     record { files = rest.files ∙ refused.1.files; writes = rest.writes ∙ refused.1.writes; later = omega (arith, rest.later, refused.1.later) }
 
--- no name is unsynced that was not
-pub synced_each : (news : List NewSeen) (old new : StoreSeen) → ReadsEach news old new → AddsNone old.unsynced new.unsynced
-synced_each [] old new is = λ name there. subst (λ (s : StoreSeen). IsTrue (s.unsynced name)) is there
-synced_each (one ∷ news) old new reads = λ name there. reads.1.synced refl name (synced_each news reads.0 new reads.2 name there)
+-- nothing was written, whether or not each was read
+pub synced_each : {done : Bool} (news : List NewSeen) (old new : StoreSeen) → ReadsEach news old new → Syncs done old new
+synced_each {done} [] old new is = subst (λ (s : StoreSeen). Syncs done old s) (sym is) (syncs-none old)
+synced_each (one ∷ news) old new reads = syncs-after_read one.file old reads.0 new reads.1 (synced_each news reads.0 new reads.2)
+
+pub synced_refused : (tells : Bool) (asked : Option Format) (place : ℕ) (news : List NewSeen) (fault : OpenFault) (old new : StoreSeen) → IsRefusedAt tells asked place news fault old new → Syncs false old new
+synced_refused tells asked place [] fault old new refused = absurd refused
+synced_refused tells asked zero (one ∷ news) fault old new refused = syncs-read one.file old new refused.0
+synced_refused tells asked (suc place) (one ∷ news) fault old new refused =
+    syncs-after_read one.file old refused.0 new refused.1 (synced_refused tells asked place news fault refused.0 new refused.2)
 
 -- the opened files are those of the formats that were asked for
 pub asked_all : (asked : Option Format) (news : List NewSeen) (old new : List ExportSeen) → AreAdded asked news old new

@@ -6,7 +6,7 @@ use Rattle.quota_blocks.specs.Count.{Rose}
 use Rattle.quota_blocks.specs.Seen.{StoreSeen}
 use Rattle.quota_blocks.specs.declared.quota_file.FileFault.{FileFault}
 use Rattle.quota_blocks.specs.declared.quota_file.FileFault.TheVariants.{Store as CallFailed, Damage as Damaged, Full, Memory as NoMemory}
-use Rattle.outside.proofs.FrameLemmas.{adds_none-then}
+use Rattle.outside.proofs.FrameLemmas.{syncs-none, syncs-then}
 use Rattle.rquota_serve.specs.Exported.{Exported}
 use Rattle.rquota_serve.specs.Exports.{ExportSeen}
 use Rattle.rquota_serve.specs.Looking.{ExportsAt, LooksUpIn}
@@ -22,7 +22,7 @@ looks_in-none fault_of at most told = record {
   may = tt;
   stays = λ exported serves. serves;
   leaves = looks-none at.seen at.store;
-  synced = λ name is. is;
+  synced = syncs-none at.store;
   same = refl;
   counted = tt;
   reads = omega arith;
@@ -43,7 +43,7 @@ looks_in-mid fault_in fault_of old new one two told held store (Ok done) first s
   may = tt;
   stays = λ exported serves. second.stays exported (first.stays exported serves);
   leaves = looks-then old.seen old.store store new.store first.leaves second.leaves;
-  synced = adds_none-then old.store.unsynced store.unsynced new.store.unsynced first.synced second.synced;
+  synced = syncs-then old.store store new.store first.synced second.synced;
   same = second.same;
   counted = tt;
   reads = omega (arith, first.reads, second.reads);
@@ -54,7 +54,7 @@ looks_in-mid fault_in fault_of old new one two told held store (Err out) first s
   may = second.may;
   stays = λ exported serves. second.stays exported (first.stays exported serves);
   leaves = looks-then old.seen old.store store new.store first.leaves second.leaves;
-  synced = tt;
+  synced = syncs-then old.store store new.store first.synced second.synced;
   same = tt;
   counted = second.counted;
   reads = omega (arith, first.reads, second.reads);

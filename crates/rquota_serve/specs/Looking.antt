@@ -1,8 +1,8 @@
 -- What is said of every call that only looks something up in the files of exports, whatever it answers. Source: this project's
 -- own.
-use Rattle.std.specs.Prelude.{◌≡◌, ℕ, ◌+◌, ◌≤◌, Bool, IfErr, IfSome, OnOk, List, Option, None, Some, Result}
+use Rattle.std.specs.Prelude.{◌≡◌, ℕ, ◌+◌, ◌≤◌, Bool, IfErr, IfSome, OnOk, List, Option, None, Some, Result, is_ok}
+use Rattle.quota_blocks.specs.Frame.{Syncs}
 use Rattle.quota_blocks.specs.Seen.{StoreSeen}
-use Rattle.quota_blocks.specs.Unsynced.{AddsNone}
 use Rattle.quota_blocks.specs.declared.quota_file.FileFault.{FileFault}
 use Rattle.rquota_serve.specs.Exported.{Exported}
 use Rattle.rquota_serve.specs.Exports.{CountsOne, ExportSeen, OnlyLooksUp, Serves, exports_seen}
@@ -26,14 +26,14 @@ CountsRefused old new (Some fault) = CountsOne old new
 
 -- Look-ups in the files of exports, whose result may have a fault of one of them. A fault has its cause, and may come in a file of
 -- such a format. However it ended the exports stand for what they stood for, nothing was written, and there were at most so many calls
--- of `read`. Where it is Ok no name is unsynced that was not, and all that is seen is as before; a refusal by a file counts once,
--- and all else is as before.
+-- of `read`. Where it is Ok, or no call on the store failed, no name is unsynced that was not. Where it is Ok all that is seen is as
+-- before; a refusal by a file counts once, and all else is as before.
 pub record LooksUpIn {T E : Type 0} (fault_of : E → Option FileFault) (old new : ExportsAt) (most : ℕ) (result : Result T E) : Type 0 where
   pub refused : IfErr result (λ fault. IfSome (fault_of fault) (IsAnswerFault old.store.faults new.store.faults old.serves))
   pub may : IfErr result (λ fault. IfSome (fault_of fault) (MayRefuseOne old.seen))
   pub stays : (exported : Exported) → old.serves exported → new.serves exported
   pub leaves : OnlyLooksUp old.seen old.store new.store
-  pub synced : OnOk result (AddsNone old.store.unsynced new.store.unsynced)
+  pub synced : Syncs (is_ok result) old.store new.store
   pub same : OnOk result (new.seen ≡ old.seen)
   pub counted : IfErr result (λ fault. CountsRefused old.seen new.seen (fault_of fault))
   pub reads : new.store.reads ≤ old.store.reads + most

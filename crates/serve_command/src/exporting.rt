@@ -1,7 +1,7 @@
-ghost use Rattle.std.specs.Prelude.{ℕ, Option, [], ◌≡◌, ◌≤◌, ◌+◌, ◌⊎◌, Bool, List, Result, IsTrue, IfOk, OnOk, OnErr, length};
+ghost use Rattle.std.specs.Prelude.{ℕ, Option, [], ◌≡◌, ◌≤◌, ◌+◌, ◌⊎◌, Bool, List, Result, IsTrue, IfOk, OnOk, OnErr, length, is_ok};
 ghost use Rattle.std.specs.List.{All};
 ghost use Rattle.quota_blocks.specs.Seen.{LinkSeen, SinkSeen, SourceSeen};
-ghost use Rattle.quota_blocks.specs.Unsynced.{AddsNone};
+ghost use Rattle.quota_blocks.specs.Frame.{Syncs};
 ghost use Rattle.refusals.specs.Refusals.{refusal_of};
 ghost use Rattle.refusals.specs.declared.cause.Cause.TheVariants.{Memory};
 ghost use Rattle.refusals.specs.declared.reason.Refusal.{Refusal};
@@ -58,7 +58,7 @@ pub(crate) fn add_all<S: Store>(
         ≤ (S.seen store.old).reads + reads_of format (S.seen store.old).files (news_of list.now)) }
     ensures unwritten { IsUnwritten (S.seen store.old) (S.seen store.new) }
     ensures later { (S.seen store.old).faults ≤ (S.seen store.new).faults }
-    ensures synced { OnOk result (AddsNone (S.seen store.old).unsynced (S.seen store.new).unsynced) }
+    ensures synced { Syncs (is_ok result) (S.seen store.old) (S.seen store.new) }
 {
     let news = news_of(list);
     match exports.add_all(alloc, store, news.as_slice(), format) {

@@ -1,7 +1,7 @@
-ghost use Rattle.std.specs.Prelude.{ℕ, Option, ◌≡◌, ◌<◌, ◌≤◌, ◌+◌, ◌*◌, [], Bool, List, IsTrue, IfOk, IfErr, OnOk, OnErr};
+ghost use Rattle.std.specs.Prelude.{ℕ, Option, ◌≡◌, ◌<◌, ◌≤◌, ◌+◌, ◌*◌, [], Bool, List, IsTrue, IfOk, IfErr, OnOk, OnErr, is_ok};
 ghost use Rattle.std.specs.List.{All};
 ghost use Rattle.quota_blocks.specs.Seen.{LinkSeen, SinkSeen, SourceSeen};
-ghost use Rattle.quota_blocks.specs.Unsynced.{AddsNone};
+ghost use Rattle.quota_blocks.specs.Frame.{Syncs};
 ghost use Rattle.refusals.specs.Refusals.{refusal_of};
 ghost use Rattle.refusals.specs.Status.{status_of};
 ghost use Rattle.refusals.specs.declared.cause.Cause.TheVariants.{LinkFault, Memory};
@@ -57,7 +57,7 @@ pub fn serve_files<S: Store, L: Link>(
     // Where it was done, no more was read than the opening of each file takes, and five blocks for each datagram.
     ensures reads { OnOk result (IsTrue S.tells → (S.seen store.new).reads
         ≤ (S.seen store.old).reads + serving_reads format calls exports (S.seen store.old).files) }
-    ensures synced { OnOk result (AddsNone (S.seen store.old).unsynced (S.seen store.new).unsynced) }
+    ensures synced { Syncs (is_ok result) (S.seen store.old) (S.seen store.new) }
 {
     let mut opened = Exports::new(alloc);
     match add_all(alloc, format, exports.as_slice(), &mut opened, store) {
@@ -107,7 +107,7 @@ fn answer_calls<S: Store, L: Link>(
     ensures stopped { OnErr result (IsTrue L.tells → Stopped (Serves S.tells (S.seen store.old).files opened.old) calls
         (L.seen link.old) (L.seen link.new)) }
     ensures reads { OnOk result ((S.seen store.new).reads ≤ (S.seen store.old).reads + 5 * calls) }
-    ensures synced { OnOk result (AddsNone (S.seen store.old).unsynced (S.seen store.new).unsynced) }
+    ensures synced { Syncs (is_ok result) (S.seen store.old) (S.seen store.new) }
 {
     if link.start(port).is_err() {
         return Err(Refusal::of(Cause::LinkFault, file));

@@ -1,20 +1,21 @@
 -- An edit of an opened file: after a lookup, and from one change of the file.
-use Rattle.std.proofs.Common.{◌≡◌, ◌≤◌, ◌+◌, ℕ, Bool, true, false, IfOk, Some, Result, Ok, Err, inl, refl, sym, ap, subst, ◌∙◌, arith}
+use Rattle.std.proofs.Common.{◌≡◌, ◌≤◌, ◌+◌, ℕ, Bool, true, false, IsTrue, IfOk, Some, Result, Ok, Err, is_ok, inl, refl, sym, ap, subst, ◌∙◌, arith}
 use Rattle.std.proofs.lemmas.Bool.{false≢true}
 use Rattle.std.proofs.lemmas.Result.{IfErr-weaker}
 use Rattle.quota_types.specs.declared.field.Field.{Field}
 use Rattle.quota_types.specs.declared.field.NoRoom.{NoRoom}
 use Rattle.quota_blocks.specs.Changes.{Changes, FileAt, FileLaws, IsDone, LacksRoomFor}
 use Rattle.quota_blocks.specs.FileChange.{FileChange, Remove, edit_by}
-use Rattle.quota_blocks.specs.Frame.{OnlyReads}
+use Rattle.quota_blocks.specs.Frame.{OnlyReads, Syncs}
 use Rattle.quota_blocks.specs.LooksUp.{LooksUp}
 use Rattle.quota_blocks.specs.QuotaFile.{CountsRefusal, FileSeen, IfFull, IsChangeFault, IsLookupFault, UnlessStoreFailed}
 use Rattle.quota_blocks.specs.QuotaValue.{QuotaValue}
 use Rattle.quota_blocks.specs.World.{World}
 use Rattle.quota_blocks.specs.declared.quota_file.FileFault.{FileFault}
 use Rattle.quota_blocks.specs.declared.quota_file.FileFault.TheVariants.{Store, Damage, Full, Memory}
-use Rattle.outside.proofs.FrameLemmas.{only_reads-then}
+use Rattle.outside.proofs.FrameLemmas.{are_synced, only_reads-then, syncs-all, syncs-read}
 use Rattle.quota_blocks.proofs.EditsOneLemmas.{edits_one-read}
+use Rattle.quota_blocks.proofs.SyncedLemmas.{syncs-refused}
 use Rattle.quota_blocks.proofs.LookupLemmas.{IsLookedUp, IsSameAt, edits_value-after, is_answer-itself}
 use Rattle.set_edit.specs.declared.fault.EditFault.{EditFault}
 use Rattle.set_edit.specs.declared.fault.EditFault.TheVariants.{File, NoRoom as Unfit}
@@ -159,3 +160,10 @@ reads_once look most change old mid before middle now same first second =
 -- a look-up, and no change
 pub reads_looked : (look : ℕ) (most : FileChange → ℕ) (before now : ℕ) → now ≤ before + look → ReadsOnce look most before now
 reads_looked look most before now few = record { change = Remove 0; few = omega (arith, few) }
+
+-- what an edit wrote has been synced: it was done, the store failed, or nothing was written
+pub edits-syncs : {T : Type 0} (edit : Edit) (laws : FileLaws) (old new : FileAt) (result : Result T EditFault) → Edits edit laws old new result → IsTrue laws.tells → Syncs (is_ok result) old.store new.store
+edits-syncs edit laws old new (Ok done) edits told =
+    syncs-all old.store new.store edits.value.leaves.later (are_synced old.seen.name old.store new.store (edits.value.done.synced told))
+edits-syncs edit laws old new (Err (File fault)) edits told = syncs-refused (value_edit edit) laws old new fault edits.value.leaves edits.value.refused
+edits-syncs edit laws old new (Err (Unfit out)) edits told = syncs-read old.seen.name old.store new.store edits.no_room.unwritten

@@ -1,6 +1,5 @@
 use Rattle.std.proofs.Common.{inl, inr, ap}
-use Rattle.std.proofs.lemmas.Result.{on_ok_weaker}
-use Rattle.outside.proofs.FrameLemmas.{are_synced-read, are_synced-then, keeps_others-then}
+use Rattle.outside.proofs.FrameLemmas.{keeps_others-then, syncs-after_read, syncs-read}
 use Rattle.run_steps.proofs.PhaseLemmas.{carries_naming, naming_refused}
 use Rattle.edit_steps.proofs.AloneLemmas.{others-read}
 use Rattle.batch_commands.proofs.ReadsLemmas.{named_within}
@@ -14,8 +13,7 @@ returns-in-Ok-clause-carries g c = λ out err link out_tells err_tells link_tell
     (c.apply_named.ensures.carries out err link out_tells err_tells link_tells)
 
 pub returns-in-Ok-clause-synced : goal.returns-in-Ok-clause-synced
-returns-in-Ok-clause-synced g c =
-    on_ok_weaker c.apply_named.result (λ synced told. are_synced-then _ _ _ (are_synced-read _ _ _ c.in-Ok.ensures.leaves) (synced told)) c.apply_named.ensures.synced
+returns-in-Ok-clause-synced g c = λ told. syncs-after_read _ _ _ _ c.in-Ok.ensures.leaves (c.apply_named.ensures.synced told)
 
 pub returns-in-Err-clause-carries : goal.returns-in-Err-clause-carries
 returns-in-Err-clause-carries g c = λ out err link out_tells err_tells link_tells line.
@@ -33,3 +31,6 @@ returns-in-Ok-clause-reads g c =
     let S = g.S.Store in
     named_within c.args.common c.args.from c.args.file (g.I.Source.seen c.args.input.now).left c.apply_named.result _ _ c.in-Ok.names (S.seen c.args.store.now) (S.seen c.read_names.new.store) (S.seen c.apply_named.new.store)
     c.in-Ok.ensures.given (λ none. ap S.seen (c.in-Ok.ensures.untouched none)) c.apply_named.ensures.reads
+
+pub returns-in-Err-clause-synced : goal.returns-in-Err-clause-synced
+returns-in-Err-clause-synced g c = λ told. syncs-read _ _ _ c.in-Err.ensures.leaves

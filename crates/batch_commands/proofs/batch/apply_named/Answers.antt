@@ -1,6 +1,6 @@
 use Rattle.std.proofs.Common.{inl, inr, sym, arith}
 use Rattle.std.proofs.lemmas.Result.{on_ok_weaker}
-use Rattle.outside.proofs.FrameLemmas.{are_synced-read, are_synced-then, keeps_others-then}
+use Rattle.outside.proofs.FrameLemmas.{keeps_others-then, syncs-after_read, syncs-read}
 use Rattle.run_steps.proofs.OpeningLemmas.{not_opened}
 use Rattle.run_steps.proofs.PhaseLemmas.{carries_opening}
 use Rattle.edit_steps.proofs.AloneLemmas.{others-read}
@@ -16,8 +16,7 @@ returns-in-Ok-clause-carries g c = λ out err link out_tells err_tells link_tell
     out err link out_tells err_tells link_tells)
 
 pub returns-in-Ok-clause-synced : goal.returns-in-Ok-clause-synced
-returns-in-Ok-clause-synced g c =
-    on_ok_weaker c.apply_opened.result (λ synced told. are_synced-then _ _ _ (are_synced-read _ _ _ c.in-Ok.ensures.leaves) (synced told)) c.apply_opened.ensures.synced
+returns-in-Ok-clause-synced g c = λ told. syncs-after_read _ _ _ _ c.in-Ok.ensures.leaves (c.apply_opened.ensures.synced told)
 
 pub returns-in-Err-clause-carries : goal.returns-in-Err-clause-carries
 returns-in-Err-clause-carries g c = λ out err link out_tells err_tells link_tells.
@@ -38,3 +37,6 @@ returns-in-Ok-clause-reads g c = λ none.
     let opening = (rw c.as_str.ensures at c.in-Ok.ensures.reads) told in
     let lines = few told input_told in
     omega (arith, opening, lines)) (c.apply_opened.ensures.reads none)
+
+pub returns-in-Err-clause-synced : goal.returns-in-Err-clause-synced
+returns-in-Err-clause-synced g c = λ told. syncs-read _ _ _ c.in-Err.ensures.leaves

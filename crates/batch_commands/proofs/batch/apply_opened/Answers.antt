@@ -2,7 +2,7 @@ use Rattle.std.proofs.Common.{false, Option, inl, inr, sym, ap, subst}
 use Rattle.std.specs.Prelude.{IfSome}
 use Rattle.std.proofs.lemmas.Bool.{false≢true}
 use Rattle.quota_blocks.specs.World.{World}
-use Rattle.outside.proofs.FrameLemmas.{are_synced-then, keeps_others-then}
+use Rattle.outside.proofs.FrameLemmas.{keeps_others-then, syncs-all, syncs-any, syncs-less, syncs-read, syncs-then}
 use Rattle.quota_map.specs.AnyFile.{HoldsAny}
 use Rattle.refusals.specs.declared.reason.Refusal.{Refusal}
 use Rattle.run_steps.specs.Taking.{Lines, input_name}
@@ -44,12 +44,21 @@ returns-in-Ok-edit_all-clause-carries g c = λ format as_asked value held out er
     (λ told. subst (λ (files : World). HoldsAny g.S.Store.tells files c.args.opened value) (sym took.leaves.files) (held told))
     (g.I.Source.seen c.take_batch.new.input) out err link g.I.Source.tells out_tells err_tells link_tells)))
 
+pub returns-in-Some-clause-synced : goal.returns-in-Some-clause-synced
+returns-in-Some-clause-synced g c = λ told. syncs-any _ _ _ (syncs-read _ _ _ c.in-Ok.ensures.leaves) (c.in-Ok-edit_all.ensures.synced told)
+
 pub returns-in-Ok-edit_all-clause-synced : goal.returns-in-Ok-edit_all-clause-synced
 returns-in-Ok-edit_all-clause-synced g c = λ told.
     let took = c.in-Ok.ensures in
-    are_synced-then _ _ _
-    (record { none = took.synced c.in-None.is; changed = λ name. inr (ap (λ (files : World). files name) took.leaves.files) })
+    syncs-then _ _ _
+    (syncs-all _ _ took.leaves.later (record { none = took.synced c.in-None.is; changed = λ name. inr (ap (λ (files : World). files name) took.leaves.files) }))
     (c.in-Ok-edit_all.ensures.synced told)
+
+pub returns-in-Ok-clause-synced : goal.returns-in-Ok-clause-synced
+returns-in-Ok-clause-synced g c = λ told. syncs-any _ _ _ (syncs-read _ _ _ c.in-Ok.ensures.leaves) (c.in-Err-edit_all.ensures.synced told)
+
+pub returns-clause-synced : goal.returns-clause-synced
+returns-clause-synced g c = λ told. syncs-less _ _ (syncs-read _ _ _ c.in-Err.ensures.leaves)
 
 pub returns-in-Ok-clause-carries : goal.returns-in-Ok-clause-carries
 returns-in-Ok-clause-carries g c = λ format as_asked value held out err link out_tells err_tells link_tells.

@@ -2,8 +2,9 @@ use Rattle.std.proofs.Common.{◌≡◌, ◌+◌, IsTrue, List, [], drop, refl, 
 use Rattle.std.proofs.lemmas.List.{drop_all, drop_more}
 use Rattle.quota_blocks.specs.EditsOne.{EditsOne}
 use Rattle.quota_blocks.specs.QuotaFile.{FileSeen}
-use Rattle.outside.proofs.FrameLemmas.{are_synced, are_synced-none, are_synced-then, keeps_others-then, only_reads-none}
+use Rattle.outside.proofs.FrameLemmas.{keeps_others-then, only_reads-none, syncs-none, syncs-then}
 use Rattle.quota_blocks.proofs.EditsOneLemmas.{edits_one-none, edits_one-then}
+use Rattle.set_edit.proofs.EditingLemmas.{edits-syncs}
 use Rattle.quota_map.specs.AnyFile.{HoldsAny, any_seen}
 use Rattle.quota_map.specs.View.{fresh_seen}
 use Rattle.batch_commands.specs.declared.batch_line.LineEdit.{LineEdit}
@@ -20,7 +21,7 @@ loop-line-init g c = record {
   leaves = edits_one-none _ _;
   reads = omega arith;
   within = omega arith;
-  synced = λ told. are_synced-none _;
+  synced = λ told. syncs-none _;
 }
 
 pub loop-line-preserved : goal.loop-line-preserved
@@ -47,7 +48,7 @@ loop-line-preserved g c =
       leaves = edits_one-then _ _ _ _ kept.leaves leaves;
       reads = let few = line_few (any_seen c.loop-line.opened) before.reads after.reads c.in-Ok.ensures.reads in omega (arith, kept.reads, few);
       within = omega (arith, c.loop-line-test.true);
-      synced = λ told. are_synced-then _ _ _ (kept.synced told) (are_synced _ _ _ (done.synced told));
+      synced = λ told. syncs-then _ _ _ (kept.synced told) (edits-syncs _ _ _ _ _ c.in-Ok.ensures.edits told);
     }
 
 pub returns-clause-carries : goal.returns-clause-carries
@@ -101,3 +102,6 @@ pub returns-clause-reads : goal.returns-clause-reads
 returns-clause-reads g c =
     let kept = c.loop-line.invariant in
     omega (arith, kept.reads, kept.within)
+
+pub returns-in-Err-clause-synced : goal.returns-in-Err-clause-synced
+returns-in-Err-clause-synced g c = λ told. syncs-then _ _ _ (c.loop-line.invariant.synced told) (edits-syncs _ _ _ _ _ c.in-Err.ensures.edits told)

@@ -1,6 +1,6 @@
-use Rattle.std.proofs.Common.{◌≡◌, ◌≤◌, ◌+◌, ◌*◌, IsTrue, drop, length}
+use Rattle.std.proofs.Common.{◌≡◌, ◌≤◌, ◌+◌, ◌*◌, true, IsTrue, drop, length}
 use Rattle.quota_blocks.specs.EditsOne.{EditsOne}
-use Rattle.quota_blocks.specs.Frame.{AreSynced}
+use Rattle.quota_blocks.specs.Frame.{Syncs}
 use Rattle.quota_blocks.specs.QuotaValue.{QuotaValue}
 use Rattle.quota_map.specs.AnyFile.{HoldsAny, any_seen}
 use Rattle.batch_commands.proofs.BatchLemmas.{AreMade}
@@ -16,5 +16,5 @@ invariant-loop-line g l =
       leaves : EditsOne l.file (S.seen l.fn.store) (S.seen l.store);
       reads : (S.seen l.store).reads ≤ (S.seen l.fn.store).reads + 17 * l.line-index;
       within : l.line-index ≤ length l.lines;
-      synced : IsTrue S.tells → AreSynced (S.seen l.fn.store) (S.seen l.store);
+      synced : IsTrue S.tells → Syncs true (S.seen l.fn.store) (S.seen l.store);
     }

@@ -1,13 +1,13 @@
 use Rattle.std.proofs.Common.{ap, refl}
 use Rattle.std.proofs.lemmas.Result.{on_err_weaker, on_ok_weaker}
-use Rattle.command_table.proofs.CommandLemmas.{carried_alone, not_here_carried, of_done, of_refusal_weaker, read_synced}
+use Rattle.command_table.proofs.CommandLemmas.{carried_alone, not_here_carried, of_done, of_refusal_weaker}
 use Rattle.command_table.proofs.commands.carry_out.Goals as goal
 
 pub returns-in-Report-clause-carries : goal.returns-in-Report-clause-carries
 returns-in-Report-clause-carries g c =
     let carries = c.report_file.ensures.carries _ _ _ _ _ _ c.args.invocation.line in
     rw c.in-Report.is (carried_alone _ _ _ _ _ _ tt refl refl carries tt tt (record { alone = tt; few = tt }) (of_done c.report_file.result _ (λ told. tt)) (of_done c.report_file.result _ (λ told. tt))
-    (read_synced _ _ _ _ _ _ c.report_file.result refl carries c.report_file.ensures.synced))
+    (λ told. c.report_file.ensures.synced))
 
 pub returns-in-SetLimits-clause-carries : goal.returns-in-SetLimits-clause-carries
 returns-in-SetLimits-clause-carries g c =
@@ -33,7 +33,7 @@ pub returns-in-PrintForm-clause-carries : goal.returns-in-PrintForm-clause-carri
 returns-in-PrintForm-clause-carries g c =
     let carries = c.print_by_word.ensures.carries _ _ _ _ _ _ c.args.invocation.now c.args.invocation.line in
     rw c.in-PrintForm.is (carried_alone _ _ _ _ _ _ tt refl refl carries tt tt (record { alone = tt; few = tt }) (of_done c.print_by_word.result _ (λ told. tt)) (of_done c.print_by_word.result _ (λ told. tt))
-    (read_synced _ _ _ _ _ _ c.print_by_word.result refl carries c.print_by_word.ensures.synced))
+    (λ told. c.print_by_word.ensures.synced))
 
 pub returns-in-Batch-clause-carries : goal.returns-in-Batch-clause-carries
 returns-in-Batch-clause-carries g c =
@@ -74,7 +74,7 @@ returns-in-Serve-clause-carries g c =
       within = record { alone = tt; few = tt };
       reads = on_ok_weaker c.serve_files.result (λ few told. few told.store) c.serve_files.ensures.reads;
       made = of_done c.serve_files.result _ (λ told. tt);
-      synced = read_synced _ _ _ _ _ _ c.serve_files.result refl carries c.serve_files.ensures.synced;
+      synced = λ told. c.serve_files.ensures.synced;
       unfinished = c.serve_files.ensures.stopped;
       untaken = λ one. of_refusal_weaker c.serve_files.result _ _ (λ refusal same five. ap g.L.Link.seen (same five)) c.serve_files.ensures.untaken;
       unlinked = λ told no. absurd (cc);

@@ -2,9 +2,9 @@ use Rattle.std.proofs.Common.{◌≡◌, ◌≢◌, List, None, rules, sym, subs
 use Rattle.std.specs.List.Sorted.{IsStrictlyIncreasing}
 use Rattle.quota_types.specs.declared.record.Entry.{Entry}
 use Rattle.quota_blocks.specs.Listed.{ids_of}
-use Rattle.outside.proofs.FrameLemmas.{are_synced-read, are_synced-then}
+use Rattle.outside.proofs.FrameLemmas.{are_synced-read, are_synced-then, syncs-after_read, syncs-less, syncs-read}
 use Rattle.outside.proofs.UnsyncedLemmas.{replaced-named}
-use Rattle.quota_map.proofs.ReplacedLemmas.{replaced-synced}
+use Rattle.quota_map.proofs.ReplacedLemmas.{replaced-refused, replaced-synced}
 use Rattle.convert.specs.Convert.{Asked, HasNoTarget, asked_for}
 use Rattle.convert.specs.Listing.{kept_list}
 use Rattle.convert.proofs.ConvertLemmas.{absent_of, converted_of, made_of, not_made_of, source_refused, unfit_of}
@@ -85,3 +85,16 @@ returns-clause-refused g c =
     (converted_of S.tells asked old (S.seen c.size.new.self) c.in-Ok.carried.grace read.read.0 list looked.leaves.files read.read.1 read.ascends entries kept.fits is)
     (subst (λ (l : List Entry). IsStrictlyIncreasing (ids_of l)) (sym is) (kept_ascends c.args.new list read.ascends))
     c.in-Err-replace_file.fault (omega (arith, looked.leaves.later, read.leaves.later)) c.in-Err-replace_file.ensures.refused
+
+pub returns-in-Err-read_source-clause-left_synced : goal.returns-in-Err-read_source-clause-left_synced
+returns-in-Err-read_source-clause-left_synced g c = syncs-after_read _ _ _ _ c.in-Ok-None.ensures.leaves (syncs-read _ _ _ c.in-Err-read_source.ensures.leaves)
+
+pub returns-in-Err-keep_entries-clause-left_synced : goal.returns-in-Err-keep_entries-clause-left_synced
+returns-in-Err-keep_entries-clause-left_synced g c =
+    syncs-less _ _ (syncs-after_read _ _ _ _ c.in-Ok-None.ensures.leaves (syncs-read _ _ _ c.in-Ok.ensures.leaves))
+
+pub returns-clause-left_synced : goal.returns-clause-left_synced
+returns-clause-left_synced g c =
+    let left = c.in-Err-replace_file.ensures in
+    syncs-after_read _ _ _ _ c.in-Ok-None.ensures.leaves
+    (syncs-after_read _ _ _ _ c.in-Ok.ensures.leaves (replaced-refused _ _ _ _ c.in-Err-replace_file.fault left.leaves.later left.refused left.unwritten))

@@ -1,7 +1,7 @@
 use Rattle.std.proofs.Common.{inl, inr, ap, ◌∙◌}
-use Rattle.std.proofs.lemmas.Result.{IfErr-weaker, on_ok_weaker}
+use Rattle.std.proofs.lemmas.Result.{IfErr-weaker}
 use Rattle.quota_blocks.specs.World.{World}
-use Rattle.outside.proofs.FrameLemmas.{are_synced-read, are_synced-then}
+use Rattle.outside.proofs.FrameLemmas.{syncs-after_read, syncs-read}
 use Rattle.run_steps.proofs.PhaseLemmas.{carries_naming, naming_refused}
 use Rattle.edit_commands.proofs.RefusedEditLemmas.{left_for-read}
 use Rattle.edit_commands.proofs.WordLemmas.{faulty_word_given, faulty_word_none}
@@ -25,8 +25,7 @@ returns-in-Ok-clause-store g c = λ refusal faulty.
     ∙ c.in-Ok.ensures.untouched (faulty_word_none c.args.word c.args.common.names refusal faulty)
 
 pub returns-in-Ok-clause-synced : goal.returns-in-Ok-clause-synced
-returns-in-Ok-clause-synced g c =
-    on_ok_weaker c.apply_named.result (λ synced told. are_synced-then _ _ _ (are_synced-read _ _ _ c.in-Ok.ensures.leaves) (synced told)) c.apply_named.ensures.synced
+returns-in-Ok-clause-synced g c = λ told. syncs-after_read _ _ _ _ c.in-Ok.ensures.leaves (c.apply_named.ensures.synced told)
 
 pub returns-in-Err-clause-carries : goal.returns-in-Err-clause-carries
 returns-in-Err-clause-carries g c = λ out link out_tells link_tells.
@@ -53,3 +52,6 @@ returns-in-Ok-clause-alone g c = edits_alone-after c.args.file _ _ _ _ c.in-Ok.e
 
 pub returns-in-Err-clause-alone : goal.returns-in-Err-clause-alone
 returns-in-Err-clause-alone g c = edits_alone-read c.args.file _ _ _ c.in-Err.ensures.leaves
+
+pub returns-in-Err-clause-synced : goal.returns-in-Err-clause-synced
+returns-in-Err-clause-synced g c = λ told. syncs-read _ _ _ c.in-Err.ensures.leaves

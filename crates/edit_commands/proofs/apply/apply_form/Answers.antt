@@ -1,8 +1,8 @@
 use Rattle.std.proofs.Common.{false, true, inl, inr, refl, ap}
 use Rattle.std.proofs.lemmas.Bool.{false≢true}
-use Rattle.std.proofs.lemmas.Result.{IfErr-weaker, on_ok_weaker}
+use Rattle.std.proofs.lemmas.Result.{IfErr-weaker}
 use Rattle.quota_blocks.specs.World.{World}
-use Rattle.outside.proofs.FrameLemmas.{are_synced-read, are_synced-then}
+use Rattle.outside.proofs.FrameLemmas.{syncs-after_read, syncs-read}
 use Rattle.run_steps.specs.Changing.{edit_uses}
 use Rattle.run_steps.specs.Taking.{AForm}
 use Rattle.run_steps.proofs.PhaseLemmas.{placed_nowhere}
@@ -22,8 +22,7 @@ returns-in-Ok-clause-carries g c = λ out link out_tells link_tells.
     link_tells)
 
 pub returns-in-Ok-clause-synced : goal.returns-in-Ok-clause-synced
-returns-in-Ok-clause-synced g c =
-    on_ok_weaker c.edit_file.result (λ synced told. are_synced-then _ _ _ (are_synced-read _ _ _ c.in-Ok.ensures.leaves) (synced told)) c.edit_file.ensures.synced
+returns-in-Ok-clause-synced g c = λ told. syncs-after_read _ _ _ _ c.in-Ok.ensures.leaves (c.edit_file.ensures.synced told)
 
 pub returns-in-Err-clause-carries : goal.returns-in-Err-clause-carries
 returns-in-Err-clause-carries g c = λ out link out_tells link_tells.
@@ -47,3 +46,6 @@ returns-in-Ok-clause-alone g c = edits_alone-after c.args.file _ _ _ _ c.in-Ok.e
 
 pub returns-in-Err-clause-alone : goal.returns-in-Err-clause-alone
 returns-in-Err-clause-alone g c = edits_alone-read c.args.file _ _ _ c.in-Err.ensures.leaves
+
+pub returns-in-Err-clause-synced : goal.returns-in-Err-clause-synced
+returns-in-Err-clause-synced g c = λ told. syncs-read _ _ _ c.in-Err.ensures.leaves

@@ -1,4 +1,5 @@
 use Rattle.std.proofs.Common.{Err, inl, inr, refl, ap}
+use Rattle.outside.proofs.FrameLemmas.{syncs-none}
 use Rattle.refusals.specs.declared.reason.Refusal.{Refusal}
 use Rattle.run_steps.specs.Numbers.{identifier_of}
 use Rattle.run_steps.proofs.PhaseLemmas.{carries_then}
@@ -31,3 +32,6 @@ returns-in-Err-clause-named g c = λ told. inl refl
 
 pub returns-in-Err-clause-alone : goal.returns-in-Err-clause-alone
 returns-in-Err-clause-alone g c = edits_alone-none c.args.file _
+
+pub returns-in-Err-clause-synced : goal.returns-in-Err-clause-synced
+returns-in-Err-clause-synced g c = λ told. syncs-none _

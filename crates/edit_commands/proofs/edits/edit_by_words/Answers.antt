@@ -1,7 +1,7 @@
 use Rattle.std.proofs.Common.{inl, inr, ap, ◌∙◌}
 use Rattle.std.proofs.lemmas.Result.{IfErr-weaker, on_ok_weaker}
 use Rattle.quota_blocks.specs.World.{World}
-use Rattle.outside.proofs.FrameLemmas.{are_synced-read, are_synced-then}
+use Rattle.outside.proofs.FrameLemmas.{syncs-after_read, syncs-read}
 use Rattle.edit_commands.specs.EditWords.{names_wanted}
 use Rattle.run_steps.proofs.PhaseLemmas.{carries_naming, naming_refused}
 use Rattle.edit_commands.proofs.RefusedEditLemmas.{left_for-read}
@@ -38,8 +38,7 @@ returns-in-Ok-clause-named g c = λ no.
     IfErr-weaker c.edit_named.result _ _ (λ refusal left told. left_for-read refusal.cause _ _ _ (ap (λ (w : World). w c.args.file) c.in-Ok.ensures.leaves.files) (left told)) (c.edit_named.ensures.named no)
 
 pub returns-in-Ok-clause-synced : goal.returns-in-Ok-clause-synced
-returns-in-Ok-clause-synced g c =
-    on_ok_weaker c.edit_named.result (λ synced told. are_synced-then _ _ _ (are_synced-read _ _ _ c.in-Ok.ensures.leaves) (synced told)) c.edit_named.ensures.synced
+returns-in-Ok-clause-synced g c = λ told. syncs-after_read _ _ _ _ c.in-Ok.ensures.leaves (c.edit_named.ensures.synced told)
 
 pub returns-in-Err-clause-carries : goal.returns-in-Err-clause-carries
 returns-in-Err-clause-carries g c = λ input out link input_tells out_tells link_tells.
@@ -70,3 +69,6 @@ returns-in-Ok-clause-made g c =
     let read = rw c.names_wanted-names.ensures at c.in-Ok.ensures in
     on_ok_weaker c.edit_named.result (λ made told.
     words_made c.args.common c.args.words c.args.file c.args.invocation.now _ _ _ c.in-Ok.names (read.read told) read.leaves.files (made told)) c.edit_named.ensures.made
+
+pub returns-in-Err-clause-synced : goal.returns-in-Err-clause-synced
+returns-in-Err-clause-synced g c = λ told. syncs-read _ _ _ c.in-Err.ensures.leaves

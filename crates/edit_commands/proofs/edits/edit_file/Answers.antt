@@ -1,10 +1,11 @@
 use Rattle.std.proofs.Common.{ℕ, IsTrue, List, inl, inr, refl, sym, ap, ◌∙◌}
 use Rattle.std.proofs.lemmas.Bool.{false≢true}
 use Rattle.quota_blocks.specs.World.{World}
-use Rattle.outside.proofs.FrameLemmas.{are_synced, are_synced-read, are_synced-then}
+use Rattle.outside.proofs.FrameLemmas.{syncs-after_read, syncs-less, syncs-read}
 use Rattle.quota_map.specs.AnyFile.{any_seen}
 use Rattle.quota_map.specs.View.{fresh_seen}
 use Rattle.edit_steps.specs.EditStep.{edit_cause}
+use Rattle.set_edit.proofs.EditingLemmas.{edits-syncs}
 use Rattle.edit_commands.specs.Edits.{warnings}
 use Rattle.edit_commands.specs.EditWords.{edit_meant, skipped_by}
 use Rattle.edit_steps.proofs.EditFileLemmas.{any_cause, any_made, any_refused, edit_may}
@@ -94,7 +95,18 @@ returns-in-Err-clause-named g c = λ no told. inl (ap (λ (w : World). w c.args.
 
 pub returns-in-Ok-write_warnings-clause-synced : goal.returns-in-Ok-write_warnings-clause-synced
 returns-in-Ok-write_warnings-clause-synced g c = λ told.
-    are_synced-then _ _ _ (are_synced-read _ _ _ c.in-Ok.ensures.leaves) (are_synced _ _ _ (c.in-Ok-make_edit.ensures.edits.value.done.synced told))
+    syncs-after_read _ _ _ _ c.in-Ok.ensures.leaves (edits-syncs _ _ _ _ _ c.in-Ok-make_edit.ensures.edits told)
+
+pub returns-in-Err-write_warnings-clause-synced : goal.returns-in-Err-write_warnings-clause-synced
+returns-in-Err-write_warnings-clause-synced g c = λ told.
+    syncs-less _ _ (syncs-after_read _ _ _ _ c.in-Ok.ensures.leaves (edits-syncs _ _ _ _ _ c.in-Ok-make_edit.ensures.edits told))
+
+pub returns-in-Err-make_edit-clause-synced : goal.returns-in-Err-make_edit-clause-synced
+returns-in-Err-make_edit-clause-synced g c = λ told.
+    syncs-after_read _ _ _ _ c.in-Ok.ensures.leaves (edits-syncs _ _ _ _ _ c.in-Err-make_edit.ensures.edits told)
+
+pub returns-in-Err-clause-synced : goal.returns-in-Err-clause-synced
+returns-in-Err-clause-synced g c = λ told. syncs-read _ _ _ c.in-Err.ensures.leaves
 
 pub returns-in-Ok-write_warnings-clause-quiet : goal.returns-in-Ok-write_warnings-clause-quiet
 returns-in-Ok-write_warnings-clause-quiet g c = λ no.

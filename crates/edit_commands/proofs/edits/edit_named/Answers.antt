@@ -1,5 +1,6 @@
 use Rattle.std.proofs.Common.{Err, inl, inr, refl, ap, ◌∙◌}
 use Rattle.std.proofs.lemmas.Result.{on_ok_weaker}
+use Rattle.outside.proofs.FrameLemmas.{syncs-none}
 use Rattle.refusals.specs.declared.reason.Refusal.{Refusal}
 use Rattle.edit_commands.specs.EditWords.{edit_read}
 use Rattle.run_steps.proofs.PhaseLemmas.{carries_then}
@@ -45,3 +46,6 @@ returns-in-Err-clause-alone g c = edits_alone-none c.args.file _
 
 pub returns-in-Ok-clause-made : goal.returns-in-Ok-clause-made
 returns-in-Ok-clause-made g c = on_ok_weaker c.edit_file.result (λ made told. (c.in-Ok.edit, c.in-Ok.ensures, made told)) c.edit_file.ensures.made
+
+pub returns-in-Err-clause-synced : goal.returns-in-Err-clause-synced
+returns-in-Err-clause-synced g c = λ told. syncs-none _

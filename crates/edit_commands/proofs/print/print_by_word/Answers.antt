@@ -1,4 +1,5 @@
 use Rattle.std.proofs.Common.{inl, inr, ◌∙◌}
+use Rattle.outside.proofs.FrameLemmas.{syncs-after_read, syncs-read}
 use Rattle.run_steps.proofs.PhaseLemmas.{carries_naming, naming_refused}
 use Rattle.edit_commands.proofs.WordLemmas.{faulty_word_given, faulty_word_none}
 use Rattle.edit_commands.proofs.print.print_by_word.Goals as goal
@@ -31,3 +32,9 @@ returns-in-Err-clause-word g c = λ refusal faulty.
 pub returns-in-Err-clause-store : goal.returns-in-Err-clause-store
 returns-in-Err-clause-store g c = λ refusal faulty.
     c.in-Err.ensures.untouched (faulty_word_none c.args.word c.args.common.names refusal faulty)
+
+pub returns-in-Ok-clause-synced : goal.returns-in-Ok-clause-synced
+returns-in-Ok-clause-synced g c = syncs-after_read _ _ _ _ c.in-Ok.ensures.leaves c.print_named.ensures.synced
+
+pub returns-in-Err-clause-synced : goal.returns-in-Err-clause-synced
+returns-in-Err-clause-synced g c = syncs-read _ _ _ c.in-Err.ensures.leaves

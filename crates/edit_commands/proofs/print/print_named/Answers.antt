@@ -1,4 +1,5 @@
 use Rattle.std.proofs.Common.{Err, inl, inr, ap}
+use Rattle.outside.proofs.FrameLemmas.{syncs-none}
 use Rattle.refusals.specs.declared.reason.Refusal.{Refusal}
 use Rattle.run_steps.specs.Numbers.{identifier_of}
 use Rattle.run_steps.proofs.PhaseLemmas.{carries_then}
@@ -24,3 +25,6 @@ returns-in-Err-clause-carries g c = λ input err link input_tells err_tells link
 
 pub returns-in-Err-clause-word : goal.returns-in-Err-clause-word
 returns-in-Err-clause-word g c = λ refusal is. ap (λ (r : Refusal). Err r) (refused_as (identifier_of c.args.names.now c.args.word) refusal c.in-Err.refusal is c.in-Err.ensures)
+
+pub returns-in-Err-clause-synced : goal.returns-in-Err-clause-synced
+returns-in-Err-clause-synced g c = syncs-none _

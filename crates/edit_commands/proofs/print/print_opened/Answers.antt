@@ -1,7 +1,7 @@
 use Rattle.std.proofs.Common.{Ok, inl, inr, refl, sym, ap, ◌∙◌, arith, IsTrue}
 use Rattle.quota_blocks.specs.QuotaFile.{FileSeen}
 use Rattle.quota_blocks.specs.QuotaValue.{QuotaValue}
-use Rattle.outside.proofs.FrameLemmas.{only_reads-any}
+use Rattle.outside.proofs.FrameLemmas.{only_reads-any, syncs-after_read, syncs-less, syncs-read}
 use Rattle.quota_map.specs.AnyFile.{any_seen}
 use Rattle.quota_map.specs.View.{IsView}
 use Rattle.refusals.specs.declared.cause.Cause.TheVariants.{SinkFault}
@@ -83,3 +83,16 @@ returns-in-Err-clause-carries g c = λ input err link input_tells err_tells link
     rw (c.of-in-Err.ensures, c.opening_cause.ensures)
     (not_opened c.args.kind c.args.format c.args.file _ _ _ _ _ _ c.in-Err.fault
     (rw c.as_str.ensures at c.in-Err.ensures.refused) (rw c.as_str.ensures at c.in-Err.ensures.leaves) (λ cause may. inr may))
+
+pub returns-in-Ok-write_form-clause-synced : goal.returns-in-Ok-write_form-clause-synced
+returns-in-Ok-write_form-clause-synced g c = syncs-after_read _ _ _ _ c.in-Ok.ensures.leaves (syncs-read _ _ _ c.in-Ok-get.ensures.looks.leaves)
+
+pub returns-in-Err-write_form-clause-synced : goal.returns-in-Err-write_form-clause-synced
+returns-in-Err-write_form-clause-synced g c =
+    syncs-less _ _ (syncs-after_read _ _ _ _ c.in-Ok.ensures.leaves (syncs-read _ _ _ c.in-Ok-get.ensures.looks.leaves))
+
+pub returns-in-Err-get-clause-synced : goal.returns-in-Err-get-clause-synced
+returns-in-Err-get-clause-synced g c = syncs-after_read _ _ _ _ c.in-Ok.ensures.leaves (syncs-read _ _ _ c.in-Err-get.ensures.looks.leaves)
+
+pub returns-in-Err-clause-synced : goal.returns-in-Err-clause-synced
+returns-in-Err-clause-synced g c = syncs-read _ _ _ c.in-Err.ensures.leaves

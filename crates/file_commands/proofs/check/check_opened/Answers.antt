@@ -3,7 +3,7 @@ use Rattle.std.proofs.lemmas.Result.{on_ok_weaker}
 use Rattle.quota_types.specs.declared.file_kind.Format.{Format}
 use Rattle.quota_types.specs.declared.file_kind.Kind.{Kind}
 use Rattle.quota_blocks.specs.QuotaFile.{FileSeen}
-use Rattle.outside.proofs.FrameLemmas.{are_synced-read, are_synced-then, only_reads-then}
+use Rattle.outside.proofs.FrameLemmas.{only_reads-then, syncs-after_read, syncs-read}
 use Rattle.quota_map.specs.AnyFile.{any_seen}
 use Rattle.quota_map.specs.View.{IsOpenedAs}
 use Rattle.quota_map.proofs.SeenLemmas.{view_kind}
@@ -35,10 +35,15 @@ returns-in-Ok-read_value-clause-carries g c = λ out err link out_tells err_tell
     (c.check_value.ensures.carries out err link out_tells err_tells link_tells)))
 
 pub returns-in-Ok-read_value-clause-synced : goal.returns-in-Ok-read_value-clause-synced
-returns-in-Ok-read_value-clause-synced g c =
-    on_ok_weaker c.check_value.result
-    (λ synced told. are_synced-then _ _ _ (are_synced-read _ _ _ c.in-Ok.ensures.leaves) (are_synced-then _ _ _ (are_synced-read _ _ _ c.in-Ok-read_value.ensures.leaves) (synced told)))
-    c.check_value.ensures.synced
+returns-in-Ok-read_value-clause-synced g c = λ told.
+    syncs-after_read _ _ _ _ c.in-Ok.ensures.leaves (syncs-after_read _ _ _ _ c.in-Ok-read_value.ensures.leaves (c.check_value.ensures.synced told))
+
+pub returns-in-Err-read_value-clause-synced : goal.returns-in-Err-read_value-clause-synced
+returns-in-Err-read_value-clause-synced g c = λ told.
+    syncs-after_read _ _ _ _ c.in-Ok.ensures.leaves (syncs-read _ _ _ c.in-Err-read_value.ensures.leaves)
+
+pub returns-in-Err-clause-synced : goal.returns-in-Err-clause-synced
+returns-in-Err-clause-synced g c = λ told. syncs-read _ _ _ c.in-Err.ensures.leaves
 
 pub returns-in-Err-read_value-clause-carries : goal.returns-in-Err-read_value-clause-carries
 returns-in-Err-read_value-clause-carries g c = λ out err link out_tells err_tells link_tells.

@@ -1,7 +1,7 @@
 use Rattle.std.proofs.Common.{◌≡◌, true, false, inl, inr, refl, ap}
 use Rattle.std.proofs.lemmas.Bool.{false≢true}
 use Rattle.std.proofs.lemmas.Result.{on_ok_weaker}
-use Rattle.outside.proofs.FrameLemmas.{are_synced-read, are_synced-then}
+use Rattle.outside.proofs.FrameLemmas.{syncs-after_read, syncs-read}
 use Rattle.inode_scan.specs.Usage.{UsageMap}
 use Rattle.run_steps.specs.Taking.{AListing}
 use Rattle.file_commands.specs.Check.{ReplaceSteps, check_uses, checked}
@@ -33,8 +33,10 @@ returns-in-Err-clause-carries g c = λ out err link out_tells err_tells link_tel
     took.may (inl took.may) (placed_nowhere (check_uses c.args.from) c.in-Err.refusal took.placed)
 
 pub returns-in-Ok-clause-synced : goal.returns-in-Ok-clause-synced
-returns-in-Ok-clause-synced g c =
-    on_ok_weaker c.replace_usage.result (λ synced told. are_synced-then _ _ _ (are_synced-read _ _ _ c.in-Ok.ensures.leaves) (synced told)) c.replace_usage.ensures.synced
+returns-in-Ok-clause-synced g c = λ told. syncs-after_read _ _ _ _ c.in-Ok.ensures.leaves (c.replace_usage.ensures.synced told)
+
+pub returns-in-Err-clause-synced : goal.returns-in-Err-clause-synced
+returns-in-Err-clause-synced g c = λ told. syncs-read _ _ _ c.in-Err.ensures.leaves
 
 pub returns-in-Ok-clause-anew : goal.returns-in-Ok-clause-anew
 returns-in-Ok-clause-anew g c =

@@ -1,5 +1,6 @@
 use Rattle.std.proofs.Common.{ap, inr, sym}
 use Rattle.std.specs.Prelude.{Result}
+use Rattle.outside.proofs.FrameLemmas.{syncs-none}
 use Rattle.quota_types.specs.declared.field.NoRoom.{NoRoom}
 use Rattle.quota_blocks.specs.QuotaValue.{QuotaValue}
 use Rattle.file_commands.specs.Check.{ReplaceSteps, with_applied}
@@ -21,3 +22,6 @@ returns-clause-carries g c = λ input out err link input_tells out_tells err_tel
     rw (c.of.ensures, c.apply_cause.ensures)
     (apply_refused c.args.file (value_in c.args.value) c.args.usage c.args.now c.in-Err.fault _ _
     (rw c.as_slice.ensures.value at c.in-Err.ensures.refused))
+
+pub returns-clause-synced : goal.returns-clause-synced
+returns-clause-synced g c = λ told. syncs-none _

@@ -1,4 +1,5 @@
 use Rattle.std.proofs.Common.{sym}
+use Rattle.outside.proofs.FrameLemmas.{syncs-all}
 use Rattle.quota_blocks.proofs.ReplaceLemmas.{replacement_name-ne}
 use Rattle.file_commands.proofs.ConversionLemmas.{converted_anew, converted_done, not_converted}
 use Rattle.file_commands.proofs.conversion.convert_file.Goals as goal
@@ -16,7 +17,10 @@ returns-in-Ok-clause-anew g c =
 pub returns-in-Ok-clause-synced : goal.returns-in-Ok-clause-synced
 returns-in-Ok-clause-synced g c = λ told.
     let kept = c.in-Ok.ensures.synced told in
-    record { none = kept.none; changed = kept.changed }
+    syncs-all _ _ c.in-Ok.ensures.leaves.later (record { none = kept.none; changed = kept.changed })
+
+pub returns-in-Err-clause-synced : goal.returns-in-Err-clause-synced
+returns-in-Err-clause-synced g c = λ told. c.in-Err.ensures.left_synced
 
 pub returns-in-Err-clause-carries : goal.returns-in-Err-clause-carries
 returns-in-Err-clause-carries g c = λ input out err link input_tells out_tells err_tells link_tells invocation.

@@ -1,10 +1,11 @@
 use Rattle.std.proofs.Common.{ℕ, List, Ok, Some, sym, subst, arith}
+use Rattle.outside.proofs.FrameLemmas.{syncs-all}
 use Rattle.quota_types.specs.declared.record.Entry.{Entry}
 use Rattle.quota_blocks.specs.Listed.{value_of}
 use Rattle.quota_blocks.proofs.ReplaceLemmas.{replacement_name-ne}
 use Rattle.quota_map.specs.Replacing.{flags_in}
 use Rattle.quota_map.specs.View.{IsView}
-use Rattle.quota_map.proofs.ReplacedLemmas.{replaced-synced}
+use Rattle.quota_map.proofs.ReplacedLemmas.{replaced-refused, replaced-synced}
 use Rattle.file_commands.specs.FileValue.{value_in}
 use Rattle.file_commands.proofs.ReplacingLemmas.{made_anew, needed_of, replace_made, replace_refused}
 use Rattle.file_commands.proofs.file_value.write_value.Goals as goal
@@ -42,4 +43,9 @@ returns-in-Ok-clause-anew g c = λ told.
     made_anew c.args.file c.args.value.now _ _ c.requires.in_order (rw c.as_slice.ensures.value at rw c.as_str.ensures at c.in-Ok.ensures.replaced told)
 
 pub returns-in-Ok-clause-synced : goal.returns-in-Ok-clause-synced
-returns-in-Ok-clause-synced g c = λ told. replaced-synced c.as_str.result.now _ _ (c.in-Ok.ensures.synced told) c.in-Ok.ensures.leaves
+returns-in-Ok-clause-synced g c = λ told.
+    syncs-all _ _ c.in-Ok.ensures.leaves.later (replaced-synced c.as_str.result.now _ _ (c.in-Ok.ensures.synced told) c.in-Ok.ensures.leaves)
+
+pub returns-in-Err-clause-synced : goal.returns-in-Err-clause-synced
+returns-in-Err-clause-synced g c = λ told.
+    replaced-refused _ _ _ _ c.in-Err.fault c.in-Err.ensures.leaves.later c.in-Err.ensures.refused c.in-Err.ensures.unwritten

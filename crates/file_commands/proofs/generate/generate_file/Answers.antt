@@ -1,4 +1,5 @@
 use Rattle.std.proofs.Common.{inr, refl, sym}
+use Rattle.outside.proofs.FrameLemmas.{syncs-none}
 use Rattle.refusals.specs.declared.cause.Cause.TheVariants.{Memory}
 use Rattle.refusals.specs.Refusals.{refusal_of}
 use Rattle.run_steps.proofs.PhaseLemmas.{carries_as, nothing_carried}
@@ -15,3 +16,6 @@ returns-in-Err-clause-carries g c = λ input err link input_tells err_tells link
     rw (c.of.ensures, c.in-Err.ensures.refused)
     (nothing_carried _ generate_uses _ _ _ (refusal_of Memory c.args.file) tt (inr tt)
     (record { line = λ no. refl; input_line = λ no. refl }))
+
+pub returns-in-Err-clause-synced : goal.returns-in-Err-clause-synced
+returns-in-Err-clause-synced g c = λ told. syncs-none _

@@ -1,7 +1,7 @@
 use Rattle.std.proofs.Common.{◌≡◌, List, inr, refl, ap, ◌∙◌, arith}
+use Rattle.outside.proofs.FrameLemmas.{syncs-less, syncs-none}
 use Rattle.quota_types.specs.declared.record.Entry.{Entry}
 use Rattle.quota_blocks.specs.Listed.{records_of}
-use Rattle.quota_blocks.specs.World.{World}
 use Rattle.refusals.specs.declared.cause.Cause.TheVariants.{Memory}
 use Rattle.refusals.specs.Refusals.{refusal_of}
 use Rattle.run_steps.specs.Done.{seen_of}
@@ -28,9 +28,16 @@ returns-in-Ok-write-clause-carries g c = λ input err link input_tells err_tells
     ((rw named at reported.bytes) told _ (seen told))) c.in-Ok-write.ensures.ok
 
 pub returns-in-Ok-write-clause-synced : goal.returns-in-Ok-write-clause-synced
-returns-in-Ok-write-clause-synced g c =
-    let reported = c.in-Ok-report_length.ensures in
-    record { none = reported.synced; changed = λ name. inr (ap (λ (files : World). files name) reported.unwritten.files) }
+returns-in-Ok-write-clause-synced g c = c.in-Ok-report_length.ensures.synced
+
+pub returns-in-Err-write-clause-synced : goal.returns-in-Err-write-clause-synced
+returns-in-Err-write-clause-synced g c = syncs-less _ _ c.in-Ok-report_length.ensures.synced
+
+pub returns-in-Err-clause-synced : goal.returns-in-Err-clause-synced
+returns-in-Err-clause-synced g c = c.in-Err.ensures.synced
+
+pub returns-in_default-clause-synced : goal.returns-in_default-clause-synced
+returns-in_default-clause-synced g c = syncs-none _
 
 pub returns-in-Err-write-clause-carries : goal.returns-in-Err-write-clause-carries
 returns-in-Err-write-clause-carries g c = λ input err link input_tells err_tells link_tells seen.

@@ -1,12 +1,11 @@
 use Rattle.std.proofs.Common.{ℕ, List, Some, Ok, IsTrue, sym, subst, arith}
-use Rattle.std.proofs.lemmas.Result.{on_ok_weaker}
 use Rattle.quota_types.specs.declared.record.Entry.{Entry}
 use Rattle.quota_blocks.specs.Listed.{ids_of, value_of}
-use Rattle.outside.proofs.FrameLemmas.{are_synced-then}
+use Rattle.outside.proofs.FrameLemmas.{syncs-all, syncs-then}
 use Rattle.quota_blocks.proofs.ReplaceLemmas.{replacement_name-ne}
 use Rattle.quota_map.specs.Replacing.{flags_in}
 use Rattle.quota_map.specs.View.{IsView}
-use Rattle.quota_map.proofs.ReplacedLemmas.{replaced-synced}
+use Rattle.quota_map.proofs.ReplacedLemmas.{replaced-refused, replaced-synced}
 use Rattle.tree_build.specs.Size.{blocks_needed}
 use Rattle.run_steps.specs.Showing.{showing_uses}
 use Rattle.file_commands.specs.FileValue.{value_in}
@@ -31,10 +30,13 @@ returns-in-Ok-clause-carries g c = λ input err link input_tells err_tells link_
     (λ told. view_any (store.files c.args.file) value.kind value.format (value_in value) c.requires.kind c.requires.format (view told)))
 
 pub returns-in-Ok-clause-synced : goal.returns-in-Ok-clause-synced
-returns-in-Ok-clause-synced g c =
-    on_ok_weaker c.tell_made.result
-    (λ synced told. are_synced-then _ _ _ (replaced-synced c.as_str.result.now _ _ (c.in-Ok.ensures.synced told) c.in-Ok.ensures.leaves) synced)
-    c.tell_made.ensures.synced
+returns-in-Ok-clause-synced g c = λ told.
+    let made = c.in-Ok.ensures in
+    syncs-then _ _ _ (syncs-all _ _ made.leaves.later (replaced-synced c.as_str.result.now _ _ (made.synced told) made.leaves)) c.tell_made.ensures.synced
+
+pub returns-in-Err-clause-synced : goal.returns-in-Err-clause-synced
+returns-in-Err-clause-synced g c = λ told.
+    replaced-refused _ _ _ _ c.in-Err.fault c.in-Err.ensures.leaves.later c.in-Err.ensures.refused c.in-Err.ensures.unwritten
 
 pub returns-in-Err-clause-carries : goal.returns-in-Err-clause-carries
 returns-in-Err-clause-carries g c = λ input err link input_tells err_tells link_tells.

@@ -2,7 +2,7 @@ use Rattle.std.proofs.Common.{◌≡◌, ◌+◌, ◌≤◌, List, length, take,
 use Rattle.std.proofs.lemmas.List.{length-map}
 use Rattle.rquota_serve.specs.Adding.{AreToldOf, IsRefusedAt, MayAddAll, NewSeen, ReadsEach, new_seen, news_seen, reads_of}
 use Rattle.rquota_serve.specs.Exports.{Serves, exports_seen}
-use Rattle.rquota_serve.proofs.AddingLemmas.{all_seen, asked_all, few_news, stays_each, stays_refused, synced_each}
+use Rattle.rquota_serve.proofs.AddingLemmas.{all_seen, asked_all, few_news, stays_each, stays_refused, synced_each, synced_refused}
 use Rattle.serve_command.specs.Serve.{new_of, news_of}
 use Rattle.serve_command.proofs.ExportingLemmas.{opened_now, unopened_all}
 use Rattle.serve_command.proofs.exporting.add_all.Goals as goal
@@ -88,3 +88,8 @@ returns-in-Ok-clause-reads g c = λ told.
     let old = S.seen c.args.store.now in
     let same : news_seen c.as_slice.result.now ≡ news_of c.args.list.now = ap news_seen c.as_slice.ensures.value ∙ c.news_of-news.ensures in
     subst (λ (l : List NewSeen). (S.seen c.add_all.new.store).reads ≤ old.reads + reads_of c.args.format old.files l) same (c.in-Ok.ensures.reads told)
+
+pub returns-in-Err-clause-synced : goal.returns-in-Err-clause-synced
+returns-in-Err-clause-synced g c =
+    let S = g.S.Store in
+    synced_refused S.tells c.args.format c.in-Err.met.place (news_seen c.as_slice.result.now) c.in-Err.met.fault (S.seen c.args.store.now) (S.seen c.add_all.new.store) c.in-Err.ensures.refused

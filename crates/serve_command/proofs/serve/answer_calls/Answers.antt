@@ -1,4 +1,5 @@
 use Rattle.std.proofs.Common.{◌+◌, ◌*◌, ◌≤◌, ℕ, sym, subst, ◌∙◌, arith}
+use Rattle.outside.proofs.FrameLemmas.{syncs-none}
 use Rattle.quota_map.proofs.AnyLemmas.{any_few_gets}
 use Rattle.quota_blocks.specs.Count.{Rose}
 use Rattle.run_steps.specs.Done.{seen_of, tells_of}
@@ -68,3 +69,12 @@ pub returns-in-Ok-clause-reads : goal.returns-in-Ok-clause-reads
 returns-in-Ok-clause-reads g c =
     let S = g.S.Store in
     subst (λ (each : ℕ). (S.seen c.serve.new.store).reads ≤ (S.seen c.args.store.now).reads + each * c.args.calls) any_few_gets c.in-Ok.ensures.looks.reads
+
+pub returns-then-is_err-clause-synced : goal.returns-then-is_err-clause-synced
+returns-then-is_err-clause-synced g c = syncs-none _
+
+pub returns-in-Ok-clause-synced : goal.returns-in-Ok-clause-synced
+returns-in-Ok-clause-synced g c = c.in-Ok.ensures.looks.synced
+
+pub returns-in-Err-clause-synced : goal.returns-in-Err-clause-synced
+returns-in-Err-clause-synced g c = c.in-Err.ensures.looks.synced

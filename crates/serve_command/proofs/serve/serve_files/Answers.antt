@@ -1,5 +1,6 @@
 use Rattle.std.proofs.Common.{◌≡◌, [], inl, inr, refl, subst, IsTrue, arith}
 use Rattle.std.proofs.lemmas.Result.{on_ok_weaker}
+use Rattle.outside.proofs.FrameLemmas.{syncs-less, syncs-then}
 use Rattle.refusals.specs.Refusals.{refusal_of}
 use Rattle.refusals.specs.declared.cause.Cause.TheVariants.{Memory}
 use Rattle.run_steps.specs.Done.{seen_of, tells_of}
@@ -78,3 +79,12 @@ returns-in-Ok-first_file-clause-reads g c =
     on_ok_weaker c.answer_calls.result (λ few told.
     let opening = (rw c.as_slice.ensures at c.in-Ok.ensures.reads) told in
     omega (arith, few, opening)) c.answer_calls.ensures.reads
+
+pub returns-in-Ok-first_file-clause-synced : goal.returns-in-Ok-first_file-clause-synced
+returns-in-Ok-first_file-clause-synced g c = syncs-then _ _ _ c.in-Ok.ensures.synced c.answer_calls.ensures.synced
+
+pub returns-in-Ok-clause-synced : goal.returns-in-Ok-clause-synced
+returns-in-Ok-clause-synced g c = syncs-less _ _ c.in-Ok.ensures.synced
+
+pub returns-clause-synced : goal.returns-clause-synced
+returns-clause-synced g c = c.in-Err.ensures.synced

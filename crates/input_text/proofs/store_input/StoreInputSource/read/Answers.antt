@@ -1,4 +1,4 @@
-use Rattle.std.proofs.Common.{ap, arith, inr, refl}
+use Rattle.std.proofs.Common.{ap, arith, inl, inr, refl}
 use Rattle.std.specs.String.{string_bytes}
 use Rattle.input_text.proofs.InputLemmas.{left_moved_of}
 use Rattle.input_text.proofs.store_input.StoreInputSource.read.Goals as goal
@@ -16,6 +16,6 @@ returns-in-Ok-clause-keeps g c =
       store = refl;
       name = ap string_bytes read.name;
       leaves = read.leaves;
-      unsynced = inr (read.leaves.synced refl);
+      unsynced = inr (read.leaves.synced (inl refl));
       behind = λ told. (_, returns-in-Ok-clause-taken g c told);
     }

@@ -2,6 +2,7 @@ use Rattle.std.proofs.Common.{◌≡◌, Some, refl}
 use Rattle.std.specs.List.{slice_get}
 use Rattle.std.specs.Vec.{with_item}
 use Rattle.std.proofs.lemmas.Result.{err_from_is_err_and}
+use Rattle.outside.proofs.FrameLemmas.{syncs-read}
 use Rattle.rquota_serve.specs.Exports.{kept_in}
 use Rattle.rquota_serve.specs.declared.exports.Exports.{Exports}
 use Rattle.rquota_serve.proofs.ExportLemmas.{counts-set, found-at, item-at, looks-at, may-at, refused-at, same-set, serves-set}
@@ -27,7 +28,7 @@ returns-in_err-rec-clause-looks g c =
           serves-set S.tells (S.seen c.args.store.now).files (S.seen c.record_of.new.store).files c.args.self.now now exported c.in-Some.place c.index_mut.result.now c.record_of.new.self
           (at_err g c) refl one.looks.leaves.files one.path one.kind one.looks.stays serves;
       leaves = looks-at c.args.self.now c.in-Some.place c.index_mut.result.now (S.seen c.args.store.now) (S.seen c.record_of.new.store) (at_err g c) one.looks.leaves;
-      synced = tt;
+      synced = syncs-read _ _ _ one.looks.leaves;
       same = tt;
       counted = counts-set c.args.self.now now c.in-Some.place c.index_mut.result.now c.record_of.new.self (at_err g c) refl one.looks.counted one.path one.kind;
       reads = one.looks.reads;
@@ -51,7 +52,7 @@ returns-clause-looks g c =
           serves-set S.tells (S.seen c.args.store.now).files (S.seen c.record_of.new.store).files c.args.self.now now exported c.in-Some.place c.index_mut.result.now c.record_of.new.self
           (at_ok g c) refl one.looks.leaves.files one.path one.kind one.looks.stays serves;
       leaves = looks-at c.args.self.now c.in-Some.place c.index_mut.result.now (S.seen c.args.store.now) (S.seen c.record_of.new.store) (at_ok g c) one.looks.leaves;
-      synced = one.looks.leaves.synced refl;
+      synced = syncs-read _ _ _ one.looks.leaves;
       same = same-set c.args.self.now now c.in-Some.place c.index_mut.result.now c.record_of.new.self (at_ok g c) refl one.looks.same one.path one.kind;
       counted = tt;
       reads = one.looks.reads;
