@@ -1,5 +1,5 @@
 -- Why a call on the lists of a file was refused.
-use Rattle.std.specs.Prelude.{◌≡◌, ℕ, ◌≤◌}
+use Rattle.std.specs.Prelude.{◌≡◌, ℕ, ◌≤◌, ⊤}
 use Rattle.quota_types.specs.declared.damage.Damage.{Damage}
 use Rattle.quota_types.specs.declared.damage.DamageKind.TheVariants.{ChainOut}
 use Rattle.outside.specs.Count.{Rose}
@@ -17,3 +17,8 @@ pub record LeadsOut (blocks : ℕ) (damage : Damage) : Type 0 where
 abbrev pub IsChainFault : (blocks before now : ℕ) → (ℕ → Type 0) → ChainFault → Type 0
 IsChainFault blocks before now which Store = Rose before now
 IsChainFault blocks before now which (Damaged damage) = LeadsOut blocks damage × which damage.block
+
+-- A fact holds of the number for which a call on the lists was refused, where that was no fault of the store.
+abbrev pub IfOut : (ℕ → Type 0) → ChainFault → Type 0
+IfOut which Store = ⊤
+IfOut which (Damaged damage) = which damage.block

@@ -5,9 +5,9 @@ ghost use Rattle.quota_types.specs.Bytes.{number_at};
 ghost use Rattle.file_blocks.specs.Block.{block_of};
 ghost use Rattle.outside.specs.Count.{Rose};
 ghost use Rattle.quota_pages.specs.Page.{HasRoomFor, is_buffered};
-ghost use Rattle.quota_pages.specs.Pages.{pages_of};
+ghost use Rattle.quota_pages.specs.Pages.{HoldsAsBuffered, pages_of};
 ghost use Rattle.quota_pages.specs.Used.{HasWord, IsKnown, LendsSome, LooksAtSome, missing, shown_over};
-ghost use Rattle.free_chains.specs.ChainFault.{IsChainFault};
+ghost use Rattle.free_chains.specs.ChainFault.{IfOut, IsChainFault};
 ghost use Rattle.free_chains.specs.Links.{HasLinks, led_to, missing_at};
 
 use crate::chain_fault::ChainFault;
@@ -34,6 +34,9 @@ pub(crate) fn link_at<S: Store>(
     ensures refused { IfErr result (IsChainFault blocks (S.seen store.old).faults (S.seen store.new).faults
         (λ number. IsKnown S.tells (S.seen store.old) pages.old
         → number ≡ number_at 4 (block_of (shown_over (S.seen store.old) pages.old) block) at)) }
+    ensures held { IfOk result (λ link. HoldsAsBuffered pages.new (λ shown. link ≡ number_at 4 (block_of shown block) at)) }
+    ensures named { IfErr result (IfOut (λ number. (is_buffered (pages_of pages.new) block ≡ true)
+        × HoldsAsBuffered pages.new (λ shown. number ≡ number_at 4 (block_of shown block) at))) }
 {
     let link = pages.word(store, block, at)?;
     if link >= blocks {

@@ -1,9 +1,9 @@
 //! How many blocks are free.
 
 ghost use Rattle.std.specs.Prelude.{◌≡◌, ◌+◌, ◌<◌, ◌≤◌, length, IfOk, IfErr, is_ok};
-ghost use Rattle.quota_pages.specs.Pages.{pages_of};
+ghost use Rattle.quota_pages.specs.Pages.{HoldsAsBuffered, pages_of};
 ghost use Rattle.quota_pages.specs.Used.{IsKnown, LooksAtSome, shown_over};
-ghost use Rattle.free_chains.specs.ChainFault.{IsChainFault};
+ghost use Rattle.free_chains.specs.ChainFault.{IfOut, IsChainFault};
 ghost use Rattle.free_chains.specs.FreeList.{CountsFree, EndsBefore};
 
 use crate::chain_fault::ChainFault;
@@ -19,7 +19,7 @@ use quota_types::{DamageKind, damage_at};
 /// # Errors
 ///
 /// `Store` where the store failed, and `Damage` where the list leads past the last block and has fewer than `most`
-/// blocks before that. The buffer shows what it showed.
+/// blocks before that, as these are buffered then. The buffer shows what it showed.
 pub fn count_free<S: Store>(
     pages: &mut Pages,
     store: &mut S,
@@ -35,6 +35,8 @@ pub fn count_free<S: Store>(
     ensures refused { IfErr result (IsChainFault heads.now.blocks (S.seen store.old).faults (S.seen store.new).faults
         (λ number. IsKnown S.tells (S.seen store.old) pages.old
         → EndsBefore (shown_over (S.seen store.old) pages.old) heads.now most number)) }
+    ensures named { IfErr result (IfOut (λ number. HoldsAsBuffered pages.new
+        (λ shown. EndsBefore shown heads.now most number))) }
 {
     let mut met: ArrayVec<u32, 4> = ArrayVec::new();
     let mut at = heads.free;

@@ -3,10 +3,10 @@
 ghost use Rattle.std.specs.Prelude.{◌≡◌, ℕ, ◌+◌, ◌<◌, ◌≤◌, ◌∷◌, ◌++◌, [], List, length, true, false, IfErr, OnOk, OnErr};
 ghost use Rattle.outside.specs.Count.{Rose};
 ghost use Rattle.quota_pages.specs.Page.{is_buffered};
-ghost use Rattle.quota_pages.specs.Pages.{pages_of};
+ghost use Rattle.quota_pages.specs.Pages.{HoldsAsBuffered, pages_of};
 ghost use Rattle.quota_pages.specs.Used.{IsKnown, LendsSome, LooksAtSome, shown_over};
 ghost use Rattle.free_chains.specs.Chain.{IsChain};
-ghost use Rattle.free_chains.specs.ChainFault.{IsChainFault};
+ghost use Rattle.free_chains.specs.ChainFault.{IfOut, IsChainFault};
 ghost use Rattle.free_chains.specs.Links.{ChangesLinksAlone, led_to};
 ghost use Rattle.free_chains.specs.EntryList.{AreApart, EntersList, LeavesList, NamesPrevious, StopsLeaving, TakesOut, Unlinks};
 
@@ -60,8 +60,8 @@ pub fn enter_entry_list<S: Store>(
 ///
 /// # Errors
 ///
-/// `Store` where the store failed, and `Damage` where a link of the block leads past the last block. The heads are as
-/// before, and the buffer shows what it showed.
+/// `Store` where the store failed, and `Damage` where a link of the block, as it is buffered then, leads past the last
+/// block. The heads are as before, and the buffer shows what it showed.
 pub fn leave_entry_list<S: Store>(
     pages: &mut Pages,
     store: &mut S,
@@ -83,6 +83,8 @@ pub fn leave_entry_list<S: Store>(
     ensures refused { IfErr result (IsChainFault heads.old.blocks (S.seen store.old).faults (S.seen store.new).faults
         (λ number. IsKnown S.tells (S.seen store.old) pages.old
         → StopsLeaving (shown_over (S.seen store.old) pages.old) heads.old.blocks n number)) }
+    ensures named { IfErr result (IfOut (λ number. (is_buffered (pages_of pages.new) n ≡ true)
+        × HoldsAsBuffered pages.new (λ shown. StopsLeaving shown heads.old.blocks n number))) }
 {
     let next = link_at(pages, store, heads.blocks, n, 0)?;
     let previous = link_at(pages, store, heads.blocks, n, 4)?;

@@ -3,10 +3,10 @@
 ghost use Rattle.std.specs.Prelude.{◌≡◌, ◌≢◌, ◌+◌, ◌-◌, ◌^◌, ◌<◌, ◌≤◌, ◌∷◌, [], length, replicate, true, false, IfOk, IfErr, OnOk, OnErr};
 ghost use Rattle.file_blocks.specs.Block.{block_of};
 ghost use Rattle.outside.specs.Count.{Rose};
-ghost use Rattle.quota_pages.specs.Page.{HasRoomFor, is_lent};
-ghost use Rattle.quota_pages.specs.Pages.{pages_of};
+ghost use Rattle.quota_pages.specs.Page.{HasRoomFor, is_buffered, is_lent};
+ghost use Rattle.quota_pages.specs.Pages.{HoldsAsBuffered, pages_of};
 ghost use Rattle.quota_pages.specs.Used.{IsKnown, LendsSome, LooksAtSome, missing, shown_over};
-ghost use Rattle.free_chains.specs.ChainFault.{IsChainFault};
+ghost use Rattle.free_chains.specs.ChainFault.{IfOut, IsChainFault};
 ghost use Rattle.free_chains.specs.FreeList.{GivesBlock, StopsTaking, TakesBlock, TakesHead, TakesListed};
 
 use crate::block_links::link_at;
@@ -21,8 +21,8 @@ use quota_types::{DamageKind, damage_at};
 ///
 /// # Errors
 ///
-/// `Store` where the store failed, and `Damage` where the head of the list, or the link of its first block, leads past
-/// the last block. The heads are as before, and the buffer shows what it showed.
+/// `Store` where the store failed, and `Damage` where the head of the list, or the link of its first block, as that is
+/// buffered then, leads past the last block. The heads are as before, and the buffer shows what it showed.
 pub fn take_block<S: Store>(
     pages: &mut Pages,
     store: &mut S,
@@ -43,6 +43,9 @@ pub fn take_block<S: Store>(
     ensures refused { IfErr result (IsChainFault heads.old.blocks (S.seen store.old).faults (S.seen store.new).faults
         (λ number. (heads.old.free ≢ 0) × (IsKnown S.tells (S.seen store.old) pages.old
         → StopsTaking (shown_over (S.seen store.old) pages.old) heads.old number))) }
+    ensures named { IfErr result (IfOut (λ number.
+        (heads.old.free < heads.old.blocks → is_buffered (pages_of pages.new) heads.old.free ≡ true)
+        × HoldsAsBuffered pages.new (λ shown. StopsTaking shown heads.old number))) }
 {
     if heads.free == 0 {
         return Ok(take_new(pages, store, heads)?);
@@ -126,6 +129,9 @@ fn take_listed<S: Store>(
     ensures refused { IfErr result (IsChainFault heads.old.blocks (S.seen store.old).faults (S.seen store.new).faults
         (λ number. IsKnown S.tells (S.seen store.old) pages.old
         → StopsTaking (shown_over (S.seen store.old) pages.old) heads.old number)) }
+    ensures named { IfErr result (IfOut (λ number.
+        (heads.old.free < heads.old.blocks → is_buffered (pages_of pages.new) heads.old.free ≡ true)
+        × HoldsAsBuffered pages.new (λ shown. StopsTaking shown heads.old number))) }
 {
     let first = heads.free;
     if first >= heads.blocks {

@@ -11,14 +11,14 @@ use Rattle.quota_pages.specs.Overlay.{whole_block, with_block}
 use Rattle.quota_pages.specs.Flushed.{IsPartlyFlushed}
 use Rattle.quota_pages.specs.Held.{lent_head, pages_in, with_lent}
 use Rattle.quota_pages.specs.Page.{IsClean, Page, are_distinct, is_buffered, is_lent, lent_count, shown}
-use Rattle.quota_pages.specs.Pages.{HasAt, Lent, LooksAt, name_of, pages_of}
+use Rattle.quota_pages.specs.Pages.{HasAt, HoldsAsBuffered, Lent, LooksAt, name_of, pages_of}
 use Rattle.quota_pages.specs.declared.held_blocks.Head.{Head}
 use Rattle.quota_pages.specs.declared.held_blocks.Held.{Held}
 use Rattle.quota_pages.specs.declared.page_buffer.Pages.{Pages}
 use Rattle.quota_pages.proofs.BlockLemmas.{block_of-with_block_other, whole_block-same}
 use Rattle.quota_pages.proofs.FlushLemmas.{bytes_flushed}
 use Rattle.quota_pages.proofs.HeldLemmas.{length-pages_in, no_page, page_of, pushed_pages, pages_in-get_or, pages_in-set}
-use Rattle.quota_pages.proofs.PageLemmas.{IsClean-push, IsClean-set, are_distinct-push, are_distinct-set, block_of-shown_take, is_buffered-at, is_buffered-push, is_buffered-set, is_lent-at, is_lent-push, is_lent-set, lent_count-push, lent_count-set, lent_page, shown_lent, shown-at, shown-push, shown-set}
+use Rattle.quota_pages.proofs.PageLemmas.{IsClean-front, IsClean-push, IsClean-set, are_distinct-push, are_distinct-set, block_of-shown_take, is_buffered-at, is_buffered-push, is_buffered-set, is_lent-at, is_lent-push, is_lent-set, lent_count-push, lent_count-set, lent_page, shown_lent, shown-at, shown-push, shown-set}
 
 -- a block that was buffered already
 there_already : (there : Bool) (pages : List Page) (number other : ℕ) → (number == other) ≡ there → is_buffered pages number ≡ true → is_buffered pages other ≡ (is_buffered pages other || there)
@@ -36,6 +36,7 @@ looks_at-none tells file number buffer there = record {
   };
   shows = λ other. refl;
   clean = λ told clean. clean;
+  was_clean = λ other clean. clean;
   lent = λ other. refl;
   lent_count = refl;
 }
@@ -53,6 +54,7 @@ looks_at-read tells file number block old new name none pages is =
       };
       shows = λ other. ap (λ (ps : List Page). shown ps other) pages ∙ shown-push other (pages_of old) page;
       clean = λ told clean. subst (λ (ps : List Page). IsClean ps file) (sym pages) (IsClean-push (pages_of old) page file (is told) clean);
+      was_clean = λ other clean. IsClean-front (pages_of old) page other (subst (λ (ps : List Page). IsClean ps other) pages clean);
       lent = λ other. ap (λ (ps : List Page). is_lent ps other) pages ∙ is_lent-push (pages_of old) page other refl;
       lent_count = ap (λ (ps : List Page). lent_count ps) pages ∙ lent_count-push (pages_of old) page refl;
     }
@@ -163,6 +165,12 @@ looked_at tells file number place block old new looks has is long told clean =
     sym same
     ∙ shown-at file (pages_of new) place number no_page at.0 at.1 new.distinct (looks.clean told clean) (ap length same ∙ long)
     ∙ ap (λ (f : List ℕ). block_of f number) (looks.shows file)
+
+-- and over each file over which the buffer is clean then
+pub looked_at-held : (tells : Bool) (number place : ℕ) (block : List ℕ) (new : Pages) → HasAt place number new → block ≡ get_or new.held.blocks.items place block → length block ≡ 1024
+    → HoldsAsBuffered new (λ shown. block ≡ block_of shown number)
+looked_at-held tells number place block new has is long file clean =
+    looked_at true file number place block new new (looks_at-none true file number new (has_buffered new place number has)) has is long refl clean
 
 -- the block at a place, which was lent for writing, is the one that is shown over any file
 pub looked_at-was_lent : (tells : Bool) (file : List ℕ) (number place : ℕ) (block : List ℕ) (old new : Pages) → LooksAt tells file number old new → HasAt place number new

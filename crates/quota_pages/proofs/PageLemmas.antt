@@ -1,9 +1,9 @@
 -- What pages show over a file, one page after another.
-use Rattle.std.proofs.Common.{◌≡◌, ◌≢◌, ℕ, zero, suc, ◌+◌, ◌-◌, ◌*◌, ◌<◌, ◌≤◌, ◌⊎◌, inl, inr, Bool, true, false, cond, not, ◌&&◌, ◌||◌, IsTrue, List, [], ◌∷◌, ◌++◌, length, set, get_or, take, drop, refl, sym, ap, subst, ◌∙◌, arith, eq-eqb}
-use Rattle.std.specs.Prelude.{◌==◌, fold}
+use Rattle.std.proofs.Common.{◌≡◌, ◌≢◌, ℕ, zero, suc, ◌+◌, ◌-◌, ◌*◌, ◌<◌, ◌≤◌, ◌⊎◌, inl, inr, Bool, true, false, cond, not, ◌&&◌, ◌||◌, IsTrue, List, [], ◌∷◌, ◌++◌, length, set, get_or, take, drop, refl, sym, ap, subst, ◌∙◌, arith, eq-eqb, length-append}
+use Rattle.std.specs.Prelude.{◌==◌, All, fold}
 use Rattle.std.proofs.Math.Bool.{and-false, and-true, or-false, or-true}
 use Rattle.std.proofs.lemmas.Bool.{cases_Bool, cases_lt, cond-true, cond-false, true≢false, false≢true, eqb-true, false_from_ne_true, or_parts, and_parts, not-true}
-use Rattle.std.proofs.lemmas.List.{set-get_or, take-append-drop}
+use Rattle.std.proofs.lemmas.List.{get_or_append_left, set-get_or, take-append-drop}
 use Rattle.std.proofs.lemmas.List.Elements.{All-push, All-set}
 use Rattle.std.proofs.lemmas.List.Folds.{list_any-append, list_any_at}
 use Rattle.std.proofs.lemmas.List.Sums.{fold-append, sum_by-append, sum_by-set}
@@ -195,6 +195,40 @@ unfolding IsClean
 IsClean-push pages page file is clean =
     let P : Page → Type 0 = λ p. p.lent ≡ false → p.bytes ≡ block_of file p.number in
     All-push P pages page clean (λ kept. is)
+
+pub IsClean-front : (pages : List Page) (page : Page) (file : List ℕ) → IsClean (pages ++ page ∷ []) file → IsClean pages file
+unfolding IsClean
+IsClean-front pages page file clean place d within kept =
+    let same = get_or_append_left pages (page ∷ []) d place within in
+    ap (λ (p : Page). p.bytes) (sym same)
+    ∙ clean place d (omega (arith, within, length-append pages (page ∷ []))) (ap (λ (p : Page). p.lent) same ∙ kept)
+    ∙ ap (λ (p : Page). block_of file p.number) same
+
+-- a file with a block laid over it has that of each page, if it had those of the others
+laid_page : (page : Page) (pages : List Page) (file : List ℕ) → is_buffered pages page.number ≡ false → length page.bytes ≡ 1024
+    → ((place : ℕ) (d : Page) → place < length pages → (get_or pages place d).bytes ≡ block_of file (get_or pages place d).number)
+    → (place : ℕ) (d : Page) → place < length (page ∷ pages)
+    → (get_or (page ∷ pages) place d).bytes ≡ block_of (with_block file page.number page.bytes) (get_or (page ∷ pages) place d).number
+laid_page page pages file none long rest zero d within = sym (block_of-with_block_same file page.number page.bytes ∙ whole_block-same page.bytes long)
+laid_page page pages file none long rest (suc place) d within =
+    let other : Page = get_or pages place d in
+    let apart : other.number ≢ page.number = λ same. true≢false (sym (is_buffered-at pages place page.number d (omega arith) same) ∙ none) in
+    rest place d (omega arith) ∙ sym (block_of-with_block_other file page.number other.number page.bytes apart)
+
+laid_pages : (pages : List Page) → IsTrue (are_distinct pages) → ((place : ℕ) (d : Page) → place < length pages → length (get_or pages place d).bytes ≡ 1024)
+    → (file : List ℕ) × ((place : ℕ) (d : Page) → place < length pages → (get_or pages place d).bytes ≡ block_of file (get_or pages place d).number)
+laid_pages [] distinct long = ([], λ place d within. absurd (omega arith))
+laid_pages (page ∷ pages) distinct long =
+    let parts = and_parts (not (is_buffered pages page.number)) (are_distinct pages) distinct in
+    let rest = laid_pages pages parts.1 (λ place d within. long (suc place) d (omega arith)) in
+    (with_block rest.0 page.number page.bytes, laid_page page pages rest.0 (not-true _ parts.0) (long 0 page (omega arith)) rest.1)
+
+-- pages that differ, of whole blocks, are clean over some file
+pub IsClean-some : (pages : List Page) → IsTrue (are_distinct pages) → All (λ page. length page.bytes ≡ 1024) pages → (file : List ℕ) × IsClean pages file
+unfolding IsClean
+IsClean-some pages distinct long =
+    let laid = laid_pages pages distinct long in
+    (laid.0, λ place d within kept. laid.1 place d within)
 
 pub IsClean-set : (pages : List Page) (place number : ℕ) (bytes file : List ℕ) → IsClean pages file → IsClean (set pages place (lent_page number bytes)) file
 unfolding IsClean

@@ -17,7 +17,7 @@ use Rattle.outside.proofs.FrameLemmas.{only_reads-none, only_reads-any, only_rea
 use Rattle.file_blocks.proofs.WordLemmas.{number_same, length-block_of}
 use Rattle.quota_pages.specs.Overlay.{whole_block, with_block}
 use Rattle.quota_pages.specs.Page.{HasRoomFor, IsClean, Page, is_buffered, is_lent, lent_count, shown}
-use Rattle.quota_pages.specs.Pages.{Brings, Lent, LooksAt, StaysAsItWas, name_of, pages_of}
+use Rattle.quota_pages.specs.Pages.{Brings, HoldsAsBuffered, Lent, LooksAt, StaysAsItWas, name_of, pages_of}
 use Rattle.quota_pages.specs.Used.{HasWord, IsKnown, KeepsBlocksBut, LendsSome, LooksAtSome, file_under, missing, shown_over}
 use Rattle.quota_pages.specs.declared.page_buffer.Pages.{Pages}
 use Rattle.quota_pages.proofs.BlockLemmas.{block_of-with_block_other, block_of-with_block_same, byte_at-whole_block, length-whole_block, length-with_block}
@@ -82,6 +82,7 @@ looks_none tells seen buffer = record {
   few = omega arith;
   stay = λ number there. there;
   shows = λ file. refl;
+  was_clean = λ file clean. clean;
   lent = λ number. refl;
   lent_count = refl;
   known = λ known. known;
@@ -101,6 +102,7 @@ looks_both {done = done} {ok = ok} {before} {between} {now} {old} first second =
   few = omega (arith, first.few, second.few);
   stay = λ number there. second.stay number (first.stay number there);
   shows = λ file. second.shows file ∙ first.shows file;
+  was_clean = λ file clean. first.was_clean file (second.was_clean file clean);
   lent = λ number. second.lent number ∙ first.lent number;
   lent_count = second.lent_count ∙ first.lent_count;
   known = λ known. second.known (first.known known);
@@ -118,6 +120,7 @@ looks_more more fewer looks = record {
   few = omega (arith, looks.few, fewer);
   stay = looks.stay;
   shows = looks.shows;
+  was_clean = looks.was_clean;
   lent = looks.lent;
   lent_count = looks.lent_count;
   known = looks.known;
@@ -133,6 +136,7 @@ looks_of_block {tells} {number} before now {old} {new} looks leaves reads = reco
   few = one_more (is_buffered (pages_of old) number) (length (pages_of old)) (length (pages_of new)) looks.brings.count;
   stay = still_there looks.brings;
   shows = looks.shows;
+  was_clean = looks.was_clean;
   lent = looks.lent;
   lent_count = looks.lent_count;
   known = known_along tells before now old new looks.brings.name leaves.files looks.clean;
@@ -148,6 +152,7 @@ looks_of_fault tells number before now {old} {new} stays leaves reads = record {
   few = omega (arith, ap length stays.pages);
   stay = λ other there. ap (λ (pages : List Page). is_buffered pages other) stays.pages ∙ there;
   shows = λ file. ap (λ (pages : List Page). shown pages file) stays.pages;
+  was_clean = λ file clean. subst (λ (pages : List Page). IsClean pages file) stays.pages clean;
   lent = λ other. ap (λ (pages : List Page). is_lent pages other) stays.pages;
   lent_count = ap (λ (pages : List Page). lent_count pages) stays.pages;
   known = known_along tells before now old new stays.name leaves.files
@@ -157,11 +162,15 @@ looks_of_fault tells number before now {old} {new} stays leaves reads = record {
 }
 
 -- a call that looks at a block, whatever it answers
-pub looks_of_peek : {A E : Type 0} {done : Bool} (tells : Bool) (number : ℕ) (before now : StoreSeen) {old new : Pages} (result : Result A E)
-    → MatchResult result (λ _. LooksAt tells (file_under before old) number old new) (λ _. StaysAsItWas old new) → OnlyReads done (name_of old) before now
+pub looks_of_peek : {A E : Type 0} {done : Bool} (P : A → Type 0) (tells : Bool) (number : ℕ) (before now : StoreSeen) {old new : Pages} (result : Result A E)
+    → MatchResult result (λ block. LooksAt tells (file_under before old) number old new × P block) (λ _. StaysAsItWas old new) → OnlyReads done (name_of old) before now
     → now.reads ≡ cond (is_buffered (pages_of old) number) before.reads (counted before.reads) → LooksAtSome tells done (missing (pages_of old) number) before now old new
-looks_of_peek tells number before now (Ok _) looks leaves reads = looks_of_block before now looks leaves reads
-looks_of_peek tells number before now (Err _) stays leaves reads = looks_of_fault tells number before now stays leaves reads
+looks_of_peek P tells number before now (Ok _) looks leaves reads = looks_of_block before now looks.0 leaves reads
+looks_of_peek P tells number before now (Err _) stays leaves reads = looks_of_fault tells number before now stays leaves reads
+
+-- what holds by what is buffered still does where blocks were looked at
+pub held_since : {tells ok : Bool} {count : ℕ} {before now : StoreSeen} {old new : Pages} → LooksAtSome tells ok count before now old new → (fact : List ℕ → Type 0) → HoldsAsBuffered old fact → HoldsAsBuffered new fact
+held_since looks fact holds = λ file clean. subst fact (sym (looks.shows file)) (holds file (looks.was_clean file clean))
 
 -- what a buffer shows over its file stays where blocks were looked at
 pub shown_over-looks : {tells ok : Bool} {count : ℕ} {before now : StoreSeen} {old new : Pages} → LooksAtSome tells ok count before now old new → shown_over now new ≡ shown_over before old

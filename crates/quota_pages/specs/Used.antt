@@ -43,13 +43,15 @@ pub record Uses (tells ok : Bool) (count : ℕ) (before now : StoreSeen) (old ne
   pub leaves : OnlyReads ok (name_of old) before now
   pub reads : now.reads ≤ before.reads + count
 
--- So many pages were looked at, at most: the name and what was buffered stay, and so does what the buffer shows, over any file;
--- no further page was lent for writing, no file changed, and where it was done no name is unsynced that was not.
+-- So many pages were looked at, at most: the name and what was buffered stay, and so does what the buffer shows, over any file,
+-- and each file over which it is clean now is one over which it was clean; no further page was lent for writing, no file
+-- changed, and where it was done no name is unsynced that was not.
 pub record LooksAtSome (tells ok : Bool) (count : ℕ) (before now : StoreSeen) (old new : Pages) : Type 0 where
   pub name : name_of new ≡ name_of old
   pub few : length (pages_of new) ≤ length (pages_of old) + count
   pub stay : (number : ℕ) → is_buffered (pages_of old) number ≡ true → is_buffered (pages_of new) number ≡ true
   pub shows : (file : List ℕ) → shown (pages_of new) file ≡ shown (pages_of old) file
+  pub was_clean : (file : List ℕ) → IsClean (pages_of new) file → IsClean (pages_of old) file
   pub lent : (number : ℕ) → is_lent (pages_of new) number ≡ is_lent (pages_of old) number
   pub lent_count : lent_count (pages_of new) ≡ lent_count (pages_of old)
   pub known : IsKnown tells before old → IsKnown tells now new

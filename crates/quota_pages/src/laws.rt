@@ -1,6 +1,6 @@
 //! Laws of what a buffer of pages shows.
 
-ghost use Rattle.std.specs.Prelude.{◌≡◌, ◌≢◌, ◌⊎◌, ◌+◌, ◌*◌, ◌<◌, ◌≤◌, ◌&&◌, ℕ, Bool, IsTrue, true, false, IfOk, OnErr, List, [], ◌++◌, length, max};
+ghost use Rattle.std.specs.Prelude.{◌≡◌, ◌≢◌, ◌⊎◌, ◌+◌, ◌*◌, ◌<◌, ◌≤◌, ◌&&◌, ℕ, All, Bool, IsTrue, true, false, IfOk, OnErr, List, [], ◌++◌, length, max};
 ghost use Rattle.quota_types.specs.Bytes.{byte_at, number_at};
 ghost use Rattle.outside.specs.Count.{Rose};
 ghost use Rattle.outside.specs.World.{World};
@@ -50,6 +50,12 @@ pub fn all_but_lent_blocks_stay()
     ensures ends { (pages : List Page) (file : List ℕ) → (length (shown pages file) ≡ length file)
         ⊎ ((number : ℕ) × (is_lent pages number ≡ true) × (length (shown pages file) ≡ 1024 * number + 1024)) }
     ensures all { (pages : List Page) (file : List ℕ) → KeepsBlocksBut (lent_numbers pages) file (shown pages file) }
+{}
+
+/// A buffer of whole blocks is clean over some file: one that has each of them under its number.
+pub fn a_buffer_is_clean_over_some_file()
+    ensures { (buffer : Buffer) → All (λ page. length page.bytes ≡ 1024) (pages_of buffer)
+        → (file : List ℕ) × IsClean (pages_of buffer) file }
 {}
 
 /// A block that was lent for writing is buffered. The numbers of the pages that were lent are those of the blocks that

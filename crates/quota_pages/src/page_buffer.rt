@@ -32,7 +32,7 @@ impl Pages {
     ghost use Rattle.quota_pages.specs.Page.{HasRoomFor, IsClean, is_buffered, is_lent, is_some_lent, lent_count, shown};
     ghost use Rattle.quota_types.specs.Bytes.{number_at};
     ghost use Rattle.quota_pages.specs.Used.{HasWord, IsKnown, LendsSome, LooksAtSome, file_under, missing, shown_over};
-    ghost use Rattle.quota_pages.specs.Pages.{EndsLent, EndsLookedAt, HasAt, LooksAt, StaysAsItWas, name_of, pages_of};
+    ghost use Rattle.quota_pages.specs.Pages.{EndsLent, EndsLookedAt, HasAt, HoldsAsBuffered, LooksAt, StaysAsItWas, name_of, pages_of};
 
     /// An empty buffer over the file of this name.
     pub fn new(name: String) -> Self
@@ -126,6 +126,8 @@ impl Pages {
         requires room { HasRoomFor (pages_of self.old) n }
         ensures value { IfOk result (λ value. IsKnown S.tells (S.seen store.old) self.old
             → value ≡ number_at 4 (block_of (shown_over (S.seen store.old) self.old) n) at) }
+        ensures held { IfOk result (λ value. HoldsAsBuffered self.new
+            (λ shown. value ≡ number_at 4 (block_of shown n) at)) }
         ensures looked { LooksAtSome S.tells (is_ok result) (missing (pages_of self.old) n)
             (S.seen store.old) (S.seen store.new) self.old self.new }
         ensures brought { OnOk result (is_buffered (pages_of self.new) n ≡ true) }

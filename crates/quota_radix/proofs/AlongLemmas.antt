@@ -209,6 +209,13 @@ along_out file blocks id gone block digit found damage few digit_is along is out
       out = subst (λ (d : ℕ). blocks ≤ word_at file block d) (digit_is ∙ digit_there id gone few) out;
     })
 
+-- the same of the block itself
+pub along_out_at : (file : List ℕ) (blocks id gone block named digit : ℕ) (found : List ℕ) → gone < 4 → digit ≡ get_or (digits_of id) gone 0 → IsAlong file blocks id gone block found
+    → named ≡ block → blocks ≤ word_at file block digit → IsOutOnWay file blocks id named
+along_out_at file blocks id gone block named digit found few digit_is along is out =
+    let damage : Damage = record { kind = RefOut; block = block; id = 0 } in
+    subst (λ (n : ℕ). IsOutOnWay file blocks id n) (sym is) (along_out file blocks id gone block digit found damage few digit_is along refl out)
+
 fifth : (two three four five : Option ℕ) → (two ≡ None → three ≡ None) → (three ≡ None → four ≡ None) → (four ≡ None → five ≡ None)
     → slice_get (1 ∷ cons_option two (cons_option three (cons_option four (cons_option five [])))) 4 ≡ five
 fifth (Some a) (Some b) (Some c) (Some d) three four five = refl

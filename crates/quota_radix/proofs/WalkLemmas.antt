@@ -9,7 +9,7 @@ use Rattle.quota_pages.specs.declared.page_buffer.Pages.{Pages}
 use Rattle.quota_pages.proofs.UsedLemmas.{looks_both, looks_more, shown_over-looks}
 use Rattle.quota_radix.specs.declared.walk_fault.WalkFault.{WalkFault}
 use Rattle.quota_radix.specs.declared.walk_fault.WalkFault.TheVariants.{Store, Damage as Damaged}
-use Rattle.quota_radix.specs.WalkFault.{IsWalkFault}
+use Rattle.quota_radix.specs.WalkFault.{IfDamaged, IsWalkFault}
 
 -- looks leave what is known and shown
 pub pages_stay : {tells ok : Bool} {count : ℕ} {before now : StoreSeen} {old new : Pages} → LooksAtSome tells ok count before now old new → IsKnown tells before old
@@ -35,6 +35,11 @@ pub walk_refused_at : {T : Type 0} (before between now : ℕ) (P Q : Damage → 
     → IfErr result (IsWalkFault between now P) → IfErr result (IsWalkFault before now Q)
 walk_refused_at before between now P Q later more result refused =
     IfErr-weaker result (IsWalkFault between now P) (IsWalkFault before now Q) (λ fault. walk_refused before between now P Q later more fault) refused
+
+-- what holds of the damage of a refusal, by what else does
+pub damaged_weaker : (P Q : Damage → Type 0) → ((damage : Damage) → P damage → Q damage) → (fault : WalkFault) → IfDamaged P fault → IfDamaged Q fault
+damaged_weaker P Q more Store holds = tt
+damaged_weaker P Q more (Damaged damage) holds = more damage holds
 
 -- what is known of an answer, where there is one
 pub some_weaker : {X E : Type 0} (P Q : X → Type 0) (result : Result (Option X) E) → ((x : X) → P x → Q x) → IfOk result (λ found. IfSome found P) → IfOk result (λ found. IfSome found Q)

@@ -2,11 +2,11 @@ ghost use Rattle.std.specs.Prelude.{◌≡◌, ◌+◌, ◌<◌, ◌≤◌, leng
 ghost use Rattle.file_blocks.specs.Block.{word_at};
 ghost use Rattle.quota_types.specs.declared.damage.DamageKind.TheVariants.{RefOut};
 ghost use Rattle.quota_pages.specs.Page.{is_buffered};
-ghost use Rattle.quota_pages.specs.Pages.{pages_of};
+ghost use Rattle.quota_pages.specs.Pages.{HoldsAsBuffered, pages_of};
 ghost use Rattle.quota_pages.specs.Used.{IsKnown, LooksAtSome, missing, shown_over};
 ghost use Rattle.quota_radix.specs.Descent.{leaf_block};
 ghost use Rattle.quota_radix.specs.Link.{AreBuffered};
-ghost use Rattle.quota_radix.specs.WalkFault.{IsWalkFault};
+ghost use Rattle.quota_radix.specs.WalkFault.{IfDamaged, IsWalkFault};
 ghost use Rattle.quota_radix.specs.Way.{IsFromRoot, IsInsideOnWay, IsOutOnWay, blocks_on_way};
 
 use crate::levels::ROOT;
@@ -37,6 +37,9 @@ pub(crate) fn reference_in<S: Store>(
         × (missing (pages_of pages.new) block ≡ 0)
         × (IsKnown S.tells (S.seen store.old) pages.old
         → blocks ≤ word_at (shown_over (S.seen store.old) pages.old) block digit))) }
+    ensures held { IfOk result (λ reference. HoldsAsBuffered pages.new (λ shown. reference ≡ word_at shown block digit)) }
+    ensures named { IfErr result (IfDamaged (λ damage. (damage.block ≡ block)
+        × HoldsAsBuffered pages.new (λ shown. blocks ≤ word_at shown block digit))) }
     ensures looked { LooksAtSome S.tells (is_ok result) (missing (pages_of pages.old) block) (S.seen store.old) (S.seen store.new) pages.old pages.new }
     ensures brought { OnOk result (missing (pages_of pages.new) block ≡ 0) }
 {
@@ -56,7 +59,7 @@ pub(crate) fn reference_in<S: Store>(
 /// # Errors
 ///
 /// `Store` where the store failed, and `Damage` where a reference on the way leads past the last block: `RefOut` with
-/// the block that has it, which was read.
+/// the block that has it, which was read. By what is buffered then, the way leads to that block, and its reference out.
 pub fn find_path<S: Store>(
     pages: &mut Pages,
     store: &mut S,
@@ -75,6 +78,8 @@ pub fn find_path<S: Store>(
         (λ damage. (damage.kind ≡ RefOut) × (is_buffered (pages_of pages.new) damage.block ≡ true)
         × (IsKnown S.tells (S.seen store.old) pages.old
         → IsOutOnWay (shown_over (S.seen store.old) pages.old) blocks id damage.block))) }
+    ensures named { IfErr result (IfDamaged (λ damage. HoldsAsBuffered pages.new
+        (λ shown. IsOutOnWay shown blocks id damage.block))) }
     ensures looked { IfOk result (λ path. LooksAtSome S.tells true (min 4 (length path.found.items))
         (S.seen store.old) (S.seen store.new) pages.old pages.new) }
     ensures kept { OnErr result (LooksAtSome S.tells false 4 (S.seen store.old) (S.seen store.new) pages.old pages.new) }
@@ -100,7 +105,7 @@ pub fn find_path<S: Store>(
 /// # Errors
 ///
 /// `Store` where the store failed, and `Damage` where a reference on the way leads past the last block: `RefOut` with
-/// the block that has it, which was read.
+/// the block that has it, which was read. By what is buffered then, the way leads to that block, and its reference out.
 pub fn leaf<S: Store>(
     pages: &mut Pages,
     store: &mut S,
@@ -112,10 +117,13 @@ pub fn leaf<S: Store>(
         → found ≡ leaf_block (shown_over (S.seen store.old) pages.old) blocks id) }
     ensures inside { OnOk result (IsKnown S.tells (S.seen store.old) pages.old
         → IsInsideOnWay (shown_over (S.seen store.old) pages.old) blocks id) }
+    ensures held { IfOk result (λ found. HoldsAsBuffered pages.new (λ shown. found ≡ leaf_block shown blocks id)) }
     ensures refused { IfErr result (IsWalkFault (S.seen store.old).faults (S.seen store.new).faults
         (λ damage. (damage.kind ≡ RefOut) × (is_buffered (pages_of pages.new) damage.block ≡ true)
         × (IsKnown S.tells (S.seen store.old) pages.old
         → IsOutOnWay (shown_over (S.seen store.old) pages.old) blocks id damage.block))) }
+    ensures named { IfErr result (IfDamaged (λ damage. HoldsAsBuffered pages.new
+        (λ shown. IsOutOnWay shown blocks id damage.block))) }
     ensures looked { LooksAtSome S.tells (is_ok result) 4 (S.seen store.old) (S.seen store.new) pages.old pages.new }
 {
     let mut block = ROOT;

@@ -10,20 +10,21 @@ use Rattle.outside.specs.Seen.{StoreSeen}
 use Rattle.entry_codec.specs.Header.{AreOf, header_of}
 use Rattle.entry_codec.specs.declared.header.Header.{Header}
 use Rattle.file_blocks.specs.Block.{block_of}
-use Rattle.quota_pages.specs.Page.{is_buffered}
-use Rattle.quota_pages.specs.Pages.{pages_of}
+use Rattle.quota_pages.specs.Page.{is_buffered, shown}
+use Rattle.quota_pages.specs.Pages.{HoldsAsBuffered, pages_of}
 use Rattle.quota_pages.specs.Used.{IsKnown, LooksAtSome, shown_over}
 use Rattle.quota_pages.specs.declared.page_buffer.Pages.{Pages}
 use Rattle.quota_pages.proofs.UsedLemmas.{shown_over-looks}
 use Rattle.quota_radix.specs.Lookup.{IsWayFault, IsWayFaultOf}
 use Rattle.quota_radix.specs.TreeDefect.{IsRefOut}
-use Rattle.quota_radix.specs.WalkFault.{IsWalkFault}
+use Rattle.quota_radix.specs.WalkFault.{IfDamaged, IsWalkFault}
 use Rattle.quota_radix.specs.Way.{IsOutOnWay}
 use Rattle.quota_radix.specs.declared.tree_path.TreePath.{TreePath}
 use Rattle.quota_radix.specs.declared.walk_fault.WalkFault.{WalkFault}
 use Rattle.quota_radix.specs.declared.walk_fault.WalkFault.TheVariants.{Store, Damage as Damaged}
 use Rattle.quota_radix.proofs.InsideLemmas.{out_on_way}
 use Rattle.quota_radix.proofs.LeafLemmas.{IsLeaf}
+use Rattle.quota_radix.proofs.WalkLemmas.{damaged_weaker}
 use Rattle.tree_build.specs.Defect.{IsDefectOf, IsTreeDefect}
 use Rattle.tree_build.specs.TreeFile.{record_in}
 use Rattle.tree_file.specs.Leaf.{IsLeafFault}
@@ -49,6 +50,33 @@ ref_damage header file damage of kind named fault = (
       (subst (λ (blocks : ℕ). IsRefOut file blocks damage.block) (sym of.blocks) (subst (λ (k : DamageKind). IsWayFaultOf file header.blocks k damage.block) kind fault.fault)),
   named,
 )
+
+-- what holds of the damage of a refusal by what is buffered, beside what else is said of it
+named_with : (before now : ℕ) (P Q R : Damage → Type 0) → ((damage : Damage) → NamesItsId damage.kind damage.id → P damage → Q damage → R damage) → (fault : WalkFault)
+    → IsWalkFault before now P fault → IfDamaged Q fault → IfDamaged R fault
+named_with before now P Q R both Store refused holds = tt
+named_with before now P Q R both (Damaged damage) refused holds = both damage refused.0 refused.1 holds
+
+-- What is buffered shows a damage of the file, where that has this header.
+abbrev pub ShowsDamage : Pages → Header → Damage → Type 0
+ShowsDamage buffer header damage =
+    HoldsAsBuffered buffer (λ shown. AreOf header (header_of shown) → IsTreeDefect header.format shown (header_of shown) damage)
+
+-- a reference on the way leads past the last block
+pub way_named : (tells : Bool) (before now : StoreSeen) (old new : Pages) (header : Header) (id : ℕ) (fault : WalkFault)
+    → IsWalkFault before.faults now.faults (λ damage. (damage.kind ≡ RefOut) × (is_buffered (pages_of new) damage.block ≡ true)
+    × (IsKnown tells before old → IsOutOnWay (shown_over before old) header.blocks id damage.block)) fault
+    → IfDamaged (λ damage. HoldsAsBuffered new (λ shown. IsOutOnWay shown header.blocks id damage.block)) fault
+    → IfDamaged (ShowsDamage new header) fault
+way_named tells before now old new header id fault refused holds = named_with before.faults now.faults _ _ (ShowsDamage new header) (λ damage named is out file clean of.
+    let seen : List ℕ = shown (pages_of new) file in
+    ref_damage header seen damage of is.0 named (out_on_way seen header.blocks id damage is.0 named (out file clean))) fault refused holds
+
+-- the block of a leaf has no entry of its identifier
+pub leaf_named : (new : Pages) (header : Header) (leaf : TreePath) (fault : WalkFault) → HoldsAsBuffered new (λ shown. IsLeaf shown header.blocks leaf)
+    → IfDamaged (λ damage. HoldsAsBuffered new (λ shown. IsLeafFault header.format shown leaf damage)) fault → IfDamaged (ShowsDamage new header) fault
+leaf_named new header leaf fault is holds = damaged_weaker _ (ShowsDamage new header) (λ damage none file clean of.
+    leaf_damage header (shown (pages_of new) file) leaf damage of (is file clean) (none file clean)) fault holds
 
 module _ (tells : Bool) (before now : StoreSeen) (old new : Pages) (header : Header) where
   -- a reference on the way leads past the last block

@@ -4,9 +4,9 @@ ghost use Rattle.entry_codec.specs.Header.{AreOf, header_of};
 ghost use Rattle.file_blocks.specs.Block.{block_of};
 ghost use Rattle.quota_blocks.specs.QuotaValue.{IsAfter, IsNextAfter, QuotaValue};
 ghost use Rattle.quota_pages.specs.Page.{is_buffered};
-ghost use Rattle.quota_pages.specs.Pages.{pages_of};
+ghost use Rattle.quota_pages.specs.Pages.{HoldsAsBuffered, pages_of};
 ghost use Rattle.quota_pages.specs.Used.{IsKnown, LooksAtSome, shown_over};
-ghost use Rattle.quota_radix.specs.WalkFault.{IsWalkFault};
+ghost use Rattle.quota_radix.specs.WalkFault.{IfDamaged, IsWalkFault};
 ghost use Rattle.quota_types.specs.Format.{IsTreeFormat};
 ghost use Rattle.quota_types.specs.Kept.{IsKept};
 ghost use Rattle.tree_build.specs.Defect.{IsTreeDefect};
@@ -42,6 +42,8 @@ fn record_at<S: Store>(
         (λ damage. (is_buffered (pages_of pages.new) damage.block ≡ true)
         × (IsKnown S.tells (S.seen store.old) pages.old
         → IsLeafFault format (shown_over (S.seen store.old) pages.old) leaf damage))) }
+    ensures named { IfErr result (IfDamaged (λ damage. HoldsAsBuffered pages.new
+        (λ shown. IsLeafFault format shown leaf damage))) }
     ensures looked { LooksAtSome S.tells (is_ok result) 1 (S.seen store.old) (S.seen store.new) pages.old pages.new }
 {
     let block = pages.peek(store, leaf.block)?;
@@ -62,7 +64,7 @@ fn record_at<S: Store>(
 /// # Errors
 ///
 /// The store failed, or the file is damaged: a reference on the way leads past the last block, or the data block has no
-/// entry of the identifier. The block that is told was read.
+/// entry of the identifier. The block that is told was read, and what is buffered then shows the damage.
 pub(crate) fn record_of<S: Store>(
     pages: &mut Pages,
     store: &mut S,
@@ -84,6 +86,9 @@ pub(crate) fn record_of<S: Store>(
         → AreOf header.now (header_of (shown_over (S.seen store.old) pages.old))
         → IsTreeDefect header.now.format (shown_over (S.seen store.old) pages.old)
         (header_of (shown_over (S.seen store.old) pages.old)) damage))) }
+    ensures named { IfErr result (IfDamaged (λ damage. HoldsAsBuffered pages.new
+        (λ shown. AreOf header.now (header_of shown)
+        → IsTreeDefect header.now.format shown (header_of shown) damage))) }
     ensures looked { LooksAtSome S.tells (is_ok result) 5 (S.seen store.old) (S.seen store.new) pages.old pages.new }
 {
     let Some(block) = leaf(pages, store, header.blocks, id)? else {

@@ -2,9 +2,9 @@ use Rattle.std.proofs.Common.{ℕ, ◌+◌, List, ap, arith, inl, inr, refl, sym
 use Rattle.std.specs.Prelude.{◌==◌}
 use Rattle.std.specs.List.{list_any}
 use Rattle.quota_types.proofs.TimesLemmas.{StandsIn-list_any}
-use Rattle.quota_pages.proofs.UsedLemmas.{looks_more, looks_then, missing-few, shown_over-looks}
+use Rattle.quota_pages.proofs.UsedLemmas.{held_since, looks_more, looks_then, missing-few, shown_over-looks}
 use Rattle.quota_pages.specs.Pages.{pages_of}
-use Rattle.free_chains.proofs.CountLemmas.{begun_step, counts_ended, counts_most, ends_before}
+use Rattle.free_chains.proofs.CountLemmas.{IsBegun, begun_step, counts_ended, counts_most, ends_before}
 use Rattle.free_chains.proofs.counting.count_free.Goals as goal
 use Rattle.free_chains.proofs.counting.count_free.Goals.{then-at-eq0-via-then-at-eq0, then-at-eq0-via-else-at-eq0+then-contains}
 
@@ -13,6 +13,10 @@ returns-then-at-heads-clause-refused g c = rw c.damage_at.ensures (
   record { kind = refl; no_id = refl; out = c.if-at-heads.true },
   λ known. ends_before _ c.args.heads.now c.args.most c.loop-count.met.items c.loop-count.at (c.loop-count.invariant.begun known) c.if-at-heads.true (omega arith),
 )
+
+pub returns-then-at-heads-clause-named : goal.returns-then-at-heads-clause-named
+returns-then-at-heads-clause-named g c = rw c.damage_at.ensures
+    (λ file clean. ends_before _ c.args.heads.now c.args.most c.loop-count.met.items c.loop-count.at (c.loop-count.invariant.held file clean) c.if-at-heads.true (omega arith))
 
 pub returns-then-at-eq0-clause-count : goal.returns-then-at-eq0-clause-count
 returns-then-at-eq0-clause-count g c = λ known.
@@ -33,6 +37,11 @@ loop-count-preserved g c =
       begun = λ known. begun_step _ _ _ _ c.loop-count.met.items _ c.loop-count.at c.in_ok-at.at (kept.begun known) c.if-at-eq0.false c.if-at-heads.false
           (ap (λ (xs : List ℕ). list_any (λ (other : ℕ). other == c.loop-count.at) xs) (sym c.as_slice.ensures.value) ∙ sym c.contains.ensures.value ∙ c.if-contains.false) c.push.ensures.items (shown_over-looks kept.looked)
           (c.in_ok-at.ensures.value (kept.looked.known known));
+      held = λ file clean. begun_step _ _ _ _ c.loop-count.met.items _ c.loop-count.at c.in_ok-at.at
+          (held_since c.in_ok-at.ensures.looked (λ (f : List ℕ). IsBegun f c.args.heads.now.blocks c.args.heads.now.free c.loop-count.met.items c.loop-count.at) kept.held file clean)
+          c.if-at-eq0.false c.if-at-heads.false
+          (ap (λ (xs : List ℕ). list_any (λ (other : ℕ). other == c.loop-count.at) xs) (sym c.as_slice.ensures.value) ∙ sym c.contains.ensures.value ∙ c.if-contains.false) c.push.ensures.items refl
+          (c.in_ok-at.ensures.held file clean);
     }
 
 pub returns-clause-count : goal.returns-clause-count

@@ -6,15 +6,16 @@ use Rattle.quota_types.specs.declared.damage.Damage.{Damage}
 use Rattle.file_blocks.specs.Block.{word_at}
 use Rattle.outside.specs.Seen.{StoreSeen}
 use Rattle.quota_pages.specs.Page.{is_buffered}
-use Rattle.quota_pages.specs.Pages.{pages_of}
+use Rattle.quota_pages.specs.Pages.{HoldsAsBuffered, pages_of}
 use Rattle.quota_pages.specs.Used.{LooksAtSome, missing}
 use Rattle.quota_pages.specs.declared.page_buffer.Pages.{Pages}
-use Rattle.quota_pages.proofs.UsedLemmas.{looks_more, looks_none, looks_then, missing-few}
+use Rattle.quota_pages.proofs.UsedLemmas.{held_since, looks_more, looks_none, looks_then, missing-few}
 use Rattle.quota_pages.proofs.UsesLemmas.{there-missing}
 use Rattle.quota_radix.specs.Link.{AreBuffered}
+use Rattle.quota_radix.specs.Way.{IsOutOnWay}
 use Rattle.quota_radix.proofs.LinkWayLemmas.{buffered_more}
-use Rattle.quota_radix.proofs.AlongLemmas.{along_all, along_all_inside, along_end, along_end_inside, along_more, along_out, along_start, fifth_is_leaf, nth, root_first}
-use Rattle.quota_radix.proofs.WalkLemmas.{pages_stay, since, walk_refused}
+use Rattle.quota_radix.proofs.AlongLemmas.{IsAlong, along_all, along_all_inside, along_end, along_end_inside, along_more, along_out, along_out_at, along_start, fifth_is_leaf, nth, root_first}
+use Rattle.quota_radix.proofs.WalkLemmas.{damaged_weaker, pages_stay, since, walk_refused}
 use Rattle.quota_radix.proofs.finding.find_path.Goals as goal
 
 -- the block that was read last is buffered, and so are those that were read before
@@ -46,6 +47,7 @@ loop-digit-init g c =
       within = omega arith;
       count = ap (λ (xs : List ℕ). length xs) first;
       along = λ known. along_start _ c.args.blocks c.args.id _ first;
+      held = λ file clean. along_start _ c.args.blocks c.args.id _ first;
       looked = looks_none g.S.Store.tells _ _;
     }
 
@@ -67,6 +69,19 @@ returns-in_err-block-clause-refused g c =
           (since (pages_stay kept.looked) (λ (file : List ℕ). c.args.blocks ≤ word_at file c.loop-digit.block digit) out.2 known),
     )) _ c.in_err-block.ensures.refused)
 
+pub returns-in_err-block-clause-named : goal.returns-in_err-block-clause-named
+returns-in_err-block-clause-named g c =
+    let p = err_from_is_err_and c.from_residual.result c.from_residual.ensures.1 in
+    let kept = c.loop-digit.invariant in
+    let index : ℕ = c.loop-digit.digit-index in
+    let digit : ℕ = get_or c.digits-digit-items.result index 0 in
+    let digit_is = nth c.digits-digit-items.result c.args.id index c.digits-digit-items.ensures.digits in
+    let says : Damage → Type 0 = λ damage. HoldsAsBuffered c.reference_in.new.pages (λ shown. IsOutOnWay shown c.args.blocks c.args.id damage.block) in
+    rw (p.1, p.2) (damaged_weaker _ says (λ damage out file clean.
+    along_out_at _ c.args.blocks c.args.id index c.loop-digit.block damage.block digit _ c.loop-digit-test.true digit_is
+    (held_since c.in_err-block.ensures.looked (λ (f : List ℕ). IsAlong f c.args.blocks c.args.id index c.loop-digit.block c.loop-digit.found.items) kept.held file clean)
+    out.0 (out.1 file clean)) _ c.in_err-block.ensures.named)
+
 pub loop-digit-preserved : goal.loop-digit-preserved
 loop-digit-preserved g c =
     let kept = c.loop-digit.invariant in
@@ -86,6 +101,9 @@ loop-digit-preserved g c =
       along = λ known. along_more _ c.args.blocks c.args.id index c.loop-digit.block c.in_ok-block.block digit _ _ c.loop-digit-test.true digit_is (kept.along known)
           (since (pages_stay kept.looked) (λ (file : List ℕ). c.in_ok-block.block ≡ word_at file c.loop-digit.block digit) read.is known)
           read.inside c.if-block-eq0.false c.push-in-loop-digit.ensures.items;
+      held = λ file clean. along_more _ c.args.blocks c.args.id index c.loop-digit.block c.in_ok-block.block digit _ _ c.loop-digit-test.true digit_is
+          (held_since read.looked (λ (f : List ℕ). IsAlong f c.args.blocks c.args.id index c.loop-digit.block c.loop-digit.found.items) kept.held file clean)
+          (read.held file clean) read.inside c.if-block-eq0.false c.push-in-loop-digit.ensures.items;
       looked = looks_more (index + 1) (omega (arith, missing-few (pages_of c.loop-digit.pages) c.loop-digit.block)) (looks_then kept.looked read.looked);
     }
 

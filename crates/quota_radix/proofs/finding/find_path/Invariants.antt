@@ -1,5 +1,5 @@
 use Rattle.std.proofs.Common.{true, ◌≡◌, ◌+◌, ◌≤◌, length, get_or, take}
-use Rattle.quota_pages.specs.Pages.{pages_of}
+use Rattle.quota_pages.specs.Pages.{HoldsAsBuffered, pages_of}
 use Rattle.quota_pages.specs.Used.{IsKnown, LooksAtSome, shown_over}
 use Rattle.quota_radix.specs.Link.{AreBuffered}
 use Rattle.quota_radix.proofs.AlongLemmas.{IsAlong}
@@ -16,5 +16,6 @@ invariant-loop-digit g l =
       count : length l.found.items ≡ l.digit-index + 1;
       along : IsKnown S.tells (S.seen l.fn.store) l.fn.pages
           → IsAlong (shown_over (S.seen l.fn.store) l.fn.pages) l.blocks l.id l.digit-index l.block l.found.items;
+      held : HoldsAsBuffered l.pages (λ shown. IsAlong shown l.blocks l.id l.digit-index l.block l.found.items);
       looked : LooksAtSome S.tells true l.digit-index (S.seen l.fn.store) (S.seen l.store) l.fn.pages l.pages;
     }

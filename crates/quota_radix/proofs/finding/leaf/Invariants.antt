@@ -1,4 +1,5 @@
 use Rattle.std.proofs.Common.{true, ◌≤◌, List, ℕ}
+use Rattle.quota_pages.specs.Pages.{HoldsAsBuffered}
 use Rattle.quota_pages.specs.Used.{IsKnown, LooksAtSome, shown_over}
 use Rattle.quota_radix.proofs.AlongLemmas.{IsAlong}
 use Rattle.quota_radix.proofs.finding.leaf.Given as goal
@@ -9,5 +10,6 @@ invariant-loop-digit g l =
     record {
       within : l.digit-index ≤ 4;
       along : IsKnown S.tells (S.seen l.fn.store) l.fn.pages → (found : List ℕ) × IsAlong (shown_over (S.seen l.fn.store) l.fn.pages) l.blocks l.id l.digit-index l.block found;
+      held : HoldsAsBuffered l.pages (λ shown. (found : List ℕ) × IsAlong shown l.blocks l.id l.digit-index l.block found);
       looked : LooksAtSome S.tells true l.digit-index (S.seen l.fn.store) (S.seen l.store) l.fn.pages l.pages;
     }
