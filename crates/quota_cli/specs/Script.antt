@@ -1,6 +1,7 @@
 -- A script: the commands that the lines of the standard input ask for, one after another. Source: this project's own.
 use Rattle.std.specs.Prelude.{◌≡◌, ◌⊎◌, ℕ, ⊤, Bool, true, false, ◌&&◌, nat_le, IsSome, IsTrue, List, [], ◌∷◌, Option, Some, None, is_none}
 use Rattle.std.specs.List.{list_any}
+use Rattle.quota_blocks.specs.Frame.{AreSynced}
 use Rattle.quota_blocks.specs.Seen.{SourceSeen}
 use Rattle.quota_blocks.specs.Words.{words_of}
 use Rattle.quota_blocks.specs.World.{World}
@@ -61,9 +62,10 @@ abbrev pub RunningMayRefuse : Cause → List ℕ → Type 0
 RunningMayRefuse cause name =
     (cause ≡ SourceFault) ⊎ ((cause ≡ Memory) ⊎ (ScriptMayRefuse cause name ⊎ ((text : List ℕ) × (asked_in_script text).may cause name)))
 
--- A line was carried out: its steps ended well, and the link is as it was where the line does not use it.
+-- A line was carried out: its steps ended well, what it wrote has been synced, and the link is as it was where the line does not use it.
 pub record IsLineDone (now : ℕ) (line : LineSaid) (tells : RunTells) (old new : RunSeen) : Type 0 where
   pub done : IsWorldTold tells → HasSteps (LineSteps now line) tells None old new
+  pub synced : IsTrue tells.store → AreSynced old.store new.store
   pub unlinked : (asked_in_script line.text).uses.link ≡ false → new.link ≡ old.link
   pub later : IsLater old new
 
