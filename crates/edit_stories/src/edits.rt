@@ -193,30 +193,6 @@ run setquota -T 1000 18446744073709551615 18446744073709551615 q
 ! quota: block time not set, soft limit not exceeded
 ! quota: inode time not set, soft limit not exceeded
 writes 0
-
-= a warning that is not written is an output fault, and the time is set
-use timed
-file q
-run setquota -T 1000 5 5 q
-! quota: inode time not set, soft limit not exceeded
-changes q
-get q
-keep set
-use timed
-file q
-fails error 1
-run setquota -T 1000 5 5 q
-status 4
-! quota: output fault
-use set
-holds q
-
-= whichever call of the error output fails in a warning is told
-use timed
-file q
-sweep error setquota -T 1000 5 5 q
-! quota: inode time not set, soft limit not exceeded
-changes q
 ";
 
 /// What refuses an edit. No run meets a file that is named `r`.

@@ -160,20 +160,6 @@ hex 00000001 00000001 00000001 00000001 00000005
 sent
 same q
 
-= arguments that are cut off are garbage, and a call of 23 bytes is none
-use limited
-file q
-use call
-size 76
-datagram 1700000000
-use call
-size 23
-datagram 1700000000
-run rquotad --calls 2 --port 0 --export /home user q
-hex 00000001 00000001 00000000 00000000 00000000 00000004
-sent
-same q
-
 = the superuser is told of an identifier without a record
 use limited
 file q
@@ -326,16 +312,6 @@ datagram 1700000000
 sweep link rquotad --calls 2 --port 0 --export /home user q
 use told
 sent
-use told
-sent
-same q
-
-= each failing call of the store ends the command
-use limited
-file q
-use call
-datagram 1700000000
-sweep store rquotad --calls 1 --port 0 --export /home user q
 use told
 sent
 same q

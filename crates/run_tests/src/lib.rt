@@ -9,6 +9,8 @@ mod disk;
 #[cfg(test)]
 mod edit_tests;
 #[cfg(test)]
+mod fault_tests;
+#[cfg(test)]
 mod file_tests;
 #[cfg(test)]
 mod files;

@@ -6,7 +6,7 @@ use std::process::Abort;
 use story_player::{Program, Streams, failure_of};
 
 /// This program, as stories run it. They look at what is left, and rest on no promise of it.
-struct QuotaCli;
+pub(crate) struct QuotaCli;
 
 impl Program for QuotaCli {
     fn run<S: Store>(
@@ -102,6 +102,10 @@ const WRONG: &[WrongStory] = &[
     (
         "= a\nfile q\nsweep link repquota -F vfsold q\n",
         "a: line 3, 'sweep link repquota -F vfsold q': it makes no such call",
+    ),
+    (
+        "= a\nfile q\nstays q\nsweep each setquota -F vfsold -t 1 1 q\n",
+        "a: line 4, 'sweep each setquota -F vfsold -t 1 1 q': store: where 5 is set: a file is neither old nor new",
     ),
 ];
 

@@ -10,7 +10,7 @@ pub fn set_up(stage: &mut Stage, what: Set, rest: &str) -> Told {
         Set::File => set_file(stage, rest),
         Set::NoFile => drop_file(stage, rest),
         Set::Input => set_input(stage),
-        Set::Datagram => add_datagram(stage, rest),
+        Set::Datagram => add_datagrams(stage, rest),
         Set::Moment => set_moment(stage, rest),
         Set::Failing => set_failing(stage, rest),
         Set::Turn => set_turn(stage, rest),
@@ -38,9 +38,32 @@ fn set_input(stage: &mut Stage) -> Told {
     Ok(())
 }
 
-fn add_datagram(stage: &mut Stage, rest: &str) -> Told {
+/// Adds the gathered bytes as a datagram, or as one for each length to which they can be cut.
+fn add_datagrams(stage: &mut Stage, rest: &str) -> Told {
+    match rest.strip_suffix(" cut") {
+        Some(moment) => add_cuts(stage, moment),
+        None => add_whole(stage, rest),
+    }
+}
+
+fn add_whole(stage: &mut Stage, rest: &str) -> Told {
     let moment = number(stage.alloc, rest)?;
     let bytes = stage.take();
+    add_datagram(stage, bytes, moment)
+}
+
+/// Adds the first bytes of those that were gathered, none at first and then one more each time.
+fn add_cuts(stage: &mut Stage, rest: &str) -> Told {
+    let moment = number(stage.alloc, rest)?;
+    let bytes = stage.take();
+    for len in 0..=bytes.len() {
+        let cut = Vec::from_slice(stage.alloc, bytes.get(..len).unwrap_or(b""))?;
+        add_datagram(stage, cut, moment)?;
+    }
+    Ok(())
+}
+
+fn add_datagram(stage: &mut Stage, bytes: Vec<u8>, moment: u64) -> Told {
     stage
         .setting
         .datagrams

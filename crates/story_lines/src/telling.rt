@@ -14,7 +14,7 @@ pub fn tell(stage: &mut Stage, what: Tell, rest: &str) -> Told {
     match what {
         Tell::Read => tell_read(stage, rest),
         Tell::Bytes(says) => tell_bytes(stage, rest, says),
-        Tell::Answer => tell_answer(stage),
+        Tell::Answer => tell_answers(stage, rest),
         _ => match &mut stage.last {
             Some(last) => tell_of(stage.alloc, last, what, rest),
             None => unmet(stage.alloc, NO_LINE),
@@ -270,10 +270,23 @@ fn is_answer(alloc: Global, last: &mut Last, gathered: &[u8]) -> Told {
     Err(Wrong::Said(format!(in alloc; "it is {answer:?}")?))
 }
 
-fn tell_answer(stage: &mut Stage) -> Told {
+/// That each of so many next answers of the link has bytes.
+fn are_answers(alloc: Global, last: &mut Last, gathered: &[u8], times: u64) -> Told {
+    for _ in 0..times {
+        is_answer(alloc, last, gathered)?;
+    }
+    Ok(())
+}
+
+fn tell_answers(stage: &mut Stage, rest: &str) -> Told {
+    let times = if rest.is_empty() {
+        1
+    } else {
+        number(stage.alloc, rest)?
+    };
     let gathered = stage.take();
     match &mut stage.last {
-        Some(last) => is_answer(stage.alloc, last, &gathered),
+        Some(last) => are_answers(stage.alloc, last, &gathered, times),
         None => unmet(stage.alloc, NO_LINE),
     }
 }

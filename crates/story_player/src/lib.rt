@@ -28,7 +28,7 @@
 //! | `file NAME` | a file of the gathered bytes |
 //! | `drop NAME` | the file is not there any more |
 //! | `input` | the gathered bytes are the standard input of the next run; with no such line a run must not read it |
-//! | `datagram MOMENT` | they come as a datagram to the link of the next run; with no such line it must not be called |
+//! | `datagram MOMENT`, `datagram MOMENT cut` | they come as a datagram to the link of the next run, or as one for each length from 0 to their own; with no such line it must not be called |
 //! | `now MOMENT` | the moment of the runs from here on; 1,700,000,000 at first |
 //! | `fails OBJECT N ..` | the calls of `store`, `input`, `output`, `error` or `link` that fail in the next run |
 //! | `turns N` | the store of the next run gives bytes of 255 after so many reads |
@@ -39,7 +39,8 @@
 //! |---|---|
 //! | `run WORDS` | the words, parted by single spaces; with no fault of the store set once more over the same files on a disk, through a journal, which must say and leave the same, but for files whose names end in `.undo` or `.und` |
 //! | `both WORDS` | once with the standard input, and once over the same files with a file `l` of the same bytes and `--input l` behind the words, each as by `run`; both must leave the same |
-//! | `sweep OBJECT WORDS` | once with no fault, and then once for each call of the object that this run made, which fails: each must end with status 4 and the line of the object's fault, in a script with the number of a line, with an output that is a first part of the whole one, and with each file as it was or as the whole run left it, or, of a tree file, with each block so |
+//! | `sweep OBJECT WORDS` | once with no fault, and then once for each call of the object that this run made, which fails: each must end with status 4 and the line of the object's fault, in a script with the number of a line, with an output and answers of the link that are a first part of the whole ones, and with each file as it was or as the whole run left it, or, of a tree file, with each block so. Where the error output fails under the line of a refusal, it has a first part of that line, and all else is as the whole run left it |
+//! | `sweep each WORDS` | the same with each object of which the run makes calls, one behind the other |
 //! | `turn WORDS` | once whole, and then once for each number of reads below that of the whole run, after which the store turns: each must say what the whole run said, or end with status 3, no output and a line on the file `q`, with each file as it was or as a line allows |
 //! | `stop WORDS \| WORDS` | the first words as by `run`, and then once for each call of the disk that the run over it made, from which on the disk is stopped: each must end with status 4 and the line of the store's fault, with outputs that are a first part of the whole ones. What the stop left, where an earlier one did not leave the same, is read by the second words over a disk that goes on: they must end with status 0, and each file must then be as it was, as the whole run left it, or as a line allows, but for files whose names end so. Where the gate of an undo file was open, the second words are stopped too, at each of their calls in turn, and run again, which must leave the same. A stop behind the last call must leave what the whole run left |
 //! | `read WORDS`, `line WORDS` | the words are read as a command, outside of a script and in one; the verb alone is no words, and with a space behind it one of no bytes |
@@ -58,7 +59,7 @@
 //! | `reads N`, `writes N` | how many such calls of the store there were |
 //! | `calls TEXT` | all calls of the store |
 //! | `left N` | how many bytes of the input were not taken |
-//! | `sent` | the gathered bytes were the next answer of the link |
+//! | `sent`, `sent N` | the gathered bytes were the next answer of the link; each of so many next ones |
 //! | `is TEXT` | what the words were read as |
 #![tactic(auto)]
 

@@ -4,9 +4,9 @@ use crate::torn::is_torn;
 use crate::turning::run_turn;
 use std::alloc::Global;
 use story_stage::{
-    Last, NamedBytes, Program, Ran, Runs, Setting, Stage, Told, Wrong, copied, find, has_name,
-    holds_if, instead, is_fault_line, is_number, last_line, run_journaled, run_line, run_over, set,
-    unmet,
+    Failing, Last, NamedBytes, Program, Ran, Runs, Setting, Stage, Told, Wrong, copied, find,
+    has_name, holds_if, instead, is_fault_line, is_number, last_line, run_journaled, run_line,
+    run_over, set, unmet,
 };
 
 /// Carries out a line that runs words.
@@ -234,21 +234,49 @@ fn fault_line(object: &str) -> &'static [u8] {
     }
 }
 
+/// Whether a run ended with the line of a fault of an object, which stands alone unless it is one of the error output.
+fn is_fault_told(ran: &Ran, object: &str) -> bool {
+    let said = if object == "error" {
+        last_line(ran.err())
+    } else {
+        ran.err()
+    };
+    is_fault_line(said, fault_line(object))
+}
+
+/// Whether what a run wrote and sent is a first part of what the whole one did.
+fn is_first_part(whole: &Ran, ran: &Ran) -> bool {
+    let (sent, all) = (ran.streams.link.answers(), whole.streams.link.answers());
+    whole.out().starts_with(ran.out()) && all.get(..sent.len()) == Some(sent)
+}
+
+/// Whether a run is the whole one, which is refused, but for what it says of that.
+fn is_refused_so(whole: &Ran, ran: &Ran) -> bool {
+    let is_said_in_part = whole.err().starts_with(ran.err());
+    let are_outputs_same = ran.out() == whole.out()
+        && ran.streams.link.answers() == whole.streams.link.answers();
+    let are_files_same = are_same(&ran.files, &whole.files, "")
+        && are_same(&whole.files, &ran.files, "");
+    whole.status != 0
+        && ran.status == whole.status
+        && is_said_in_part
+        && are_outputs_same
+        && are_files_same
+}
+
 /// A run of which a call of an object failed.
 fn is_failed(stage: &Stage, whole: &Ran, ran: &Ran, object: &str) -> Told {
     let alloc = stage.alloc;
+    if object == "error" && is_refused_so(whole, ran) {
+        return Ok(());
+    }
     is_number(alloc, u64::from(ran.status), 4)?;
-    let is_said = if object == "error" {
-        is_fault_line(last_line(ran.err()), fault_line(object))
-    } else {
-        is_fault_line(ran.err(), fault_line(object))
-    };
-    if !is_said {
+    if !is_fault_told(ran, object) {
         return instead(alloc, ran.err());
     }
     holds_if(
         alloc,
-        whole.out().starts_with(ran.out()),
+        is_first_part(whole, ran),
         "the output is no first part",
     )?;
     holds_if(
@@ -345,15 +373,14 @@ fn sweep_call<P: Program>(
     Ok(())
 }
 
-/// Lets so many calls fail, one after another.
+/// Lets so many calls fail, one after another. It answers whether a run left what a line allows, where one does.
 fn sweep_calls<P: Program>(
     program: &P,
     stage: &Stage,
     setting: &mut Setting,
     sweep: &Sweep<'_>,
     made: u64,
-) -> Told {
-    holds_if(stage.alloc, made > 0, "it makes no such call")?;
+) -> Result<bool, Wrong> {
     let mut course = Course {
         earlier: copied(stage.alloc, &stage.files)?,
         is_met: stage.may.is_empty(),
@@ -361,11 +388,7 @@ fn sweep_calls<P: Program>(
     for call in 1..=made {
         sweep_call(program, stage, setting, sweep, call, &mut course)?;
     }
-    holds_if(
-        stage.alloc,
-        course.is_met,
-        "no call leaves what a line allows",
-    )
+    Ok(course.is_met)
 }
 
 /// Runs words that end with status 0.
@@ -380,6 +403,93 @@ pub(crate) fn run_whole<P: Program>(
     Ok(whole)
 }
 
+/// What a sweep over the calls of an object came to.
+#[derive(Drop)]
+struct Swept {
+    /// What the run left with no fault.
+    whole: Ran,
+    /// How many calls of the object it made.
+    made: u64,
+    /// Whether a run left what a line allows, where one does.
+    is_met: bool,
+}
+
+/// Lets each call of an object fail in turn.
+fn sweep_object<P: Program>(
+    program: &P,
+    stage: &Stage,
+    setting: &mut Setting,
+    object: &str,
+    line: &str,
+) -> Result<Swept, Wrong> {
+    plan(stage.alloc, setting, object, NEVER)?;
+    let mut whole = run_line(program, stage, setting, line)?;
+    let made = made_calls(&mut whole, object);
+    let sweep = Sweep {
+        object,
+        line,
+        whole: &whole,
+    };
+    let is_met = sweep_calls(program, stage, setting, &sweep, made)?;
+    Ok(Swept {
+        whole,
+        made,
+        is_met,
+    })
+}
+
+/// That a sweep let calls fail, and left what a line allows.
+fn is_of_use(alloc: Global, made: u64, is_met: bool) -> Told {
+    holds_if(alloc, made > 0, "it makes no such call")?;
+    holds_if(alloc, is_met, "no call leaves what a line allows")
+}
+
+fn sweep_one<P: Program>(
+    program: &P,
+    stage: &Stage,
+    setting: &mut Setting,
+    object: &str,
+    line: &str,
+) -> Result<Ran, Wrong> {
+    let swept = sweep_object(program, stage, setting, object, line)?;
+    is_of_use(stage.alloc, swept.made, swept.is_met)?;
+    Ok(swept.whole)
+}
+
+/// The objects of which a run may make calls.
+const OBJECTS: &[&str] = &["store", "input", "output", "error", "link"];
+
+/// What came of the sweep over an object, with its name where it is wrong.
+fn at_object(alloc: Global, object: &str, told: Result<Swept, Wrong>) -> Result<Swept, Wrong> {
+    match told {
+        Err(Wrong::Said(why)) => {
+            Err(Wrong::Said(format!(in alloc; "{object}: {}", why.as_str())?))
+        }
+        told => told,
+    }
+}
+
+/// Lets each call of each object fail in turn.
+fn sweep_each<P: Program>(
+    program: &P,
+    stage: &Stage,
+    setting: &mut Setting,
+    line: &str,
+) -> Result<Ran, Wrong> {
+    let whole = run_line(program, stage, setting, line)?;
+    let mut made = 0u64;
+    let mut is_met = false;
+    for object in OBJECTS {
+        let told = sweep_object(program, stage, setting, object, line);
+        let swept = at_object(stage.alloc, object, told)?;
+        setting.failing = Failing::none(stage.alloc);
+        made = made.saturating_add(swept.made);
+        is_met = is_met || swept.is_met;
+    }
+    is_of_use(stage.alloc, made, is_met)?;
+    Ok(whole)
+}
+
 fn run_sweep<P: Program>(
     program: &P,
     stage: &Stage,
@@ -387,14 +497,8 @@ fn run_sweep<P: Program>(
     rest: &str,
 ) -> Result<Ran, Wrong> {
     let (object, line) = rest.split_once(' ').unwrap_or((rest, ""));
-    plan(stage.alloc, setting, object, NEVER)?;
-    let mut whole = run_whole(program, stage, setting, line)?;
-    let made = made_calls(&mut whole, object);
-    let sweep = Sweep {
-        object,
-        line,
-        whole: &whole,
-    };
-    sweep_calls(program, stage, setting, &sweep, made)?;
-    Ok(whole)
+    if object == "each" {
+        return sweep_each(program, stage, setting, line);
+    }
+    sweep_one(program, stage, setting, object, line)
 }

@@ -1,8 +1,11 @@
 use crate::tree_files::*;
+use quota_blocks::{FileFault, MemStore, OpenFault};
 use quota_types::DamageKind::{self, *};
+use quota_types::{Damage, Kind};
+use row_files::{get, next_after, store_of};
 use std::alloc::Global;
 use std::process::Abort;
-use tree_file::{CheckFault, Checked};
+use tree_file::{CheckFault, Checked, TreeFile, open_tree};
 
 /// A file that is checked.
 struct CheckRow {
@@ -153,107 +156,124 @@ fn a_file_with_nothing_wrong_is_accepted(rt: HostRuntime) {
 }
 
 /// Damaged files, each with the damages of which a check may name any.
+#[rattlefmt::skip]
 const DAMAGED: &[CheckRow] = &[
-    CheckRow {
-        title: "a file without its last byte",
-        file: (6143, &[]),
-        answers: &[Named(Short, 5, 0)],
-    },
-    CheckRow {
-        title: "more blocks than the file has",
-        file: (6144, &[&[(BLOCKS, u32::MAX)]]),
-        answers: &[Named(Short, 6, 0)],
-    },
-    CheckRow {
-        title: "a block that nothing leads to",
-        file: (7168, &[&[(BLOCKS, 7)]]),
-        answers: &[Named(NoRole, 6, 0)],
-    },
-    CheckRow {
-        title: "a reference past the last block",
-        file: (6144, &[&[(2044, 6)]]),
-        answers: &[Named(RefOut, 1, 0)],
-    },
-    CheckRow {
-        title: "the root at the head of the free list",
-        file: (6144, &[&[(FREE, 1)]]),
-        answers: &[
-            Named(TwoRoles, 1, 0),
-            Named(TwoRoles, 2, 0),
-            Named(TwoRoles, 3, 0),
-        ],
-    },
-    CheckRow {
-        title: "no leaf",
-        file: (6144, &[&[(5024, 0)]]),
-        answers: &[
-            Named(EmptyTree, 4, 0),
-            Named(NoRole, 5, 0),
-            Named(ForeignInChain, 5, 0),
-        ],
-    },
-    CheckRow {
-        title: "the head of the entry list past the last block",
-        file: (6144, &[&[(FIRST, 6)]]),
-        answers: &[Named(ChainOut, 6, 0), Named(MissingInChain, 5, 0)],
-    },
-    CheckRow {
-        title: "a listed block that is behind itself",
-        file: (6144, &[&[(NEXT, 5)]]),
-        answers: &[Named(ChainLoop, 5, 0)],
-    },
-    CheckRow {
-        title: "the root behind a listed block",
-        file: (6144, &[&[(NEXT, 1)]]),
-        answers: &[
-            Named(ForeignInChain, 1, 0),
-            Named(ForeignInChain, 2, 0),
-            Named(ForeignInChain, 3, 0),
-            Named(BadPrev, 1, 0),
-            Named(BadPrev, 2, 0),
-            Named(BadPrev, 3, 0),
-        ],
-    },
-    CheckRow {
-        title: "a block with room that is not listed",
-        file: (6144, &[&[(FIRST, 0)]]),
-        answers: &[Named(MissingInChain, 5, 0)],
-    },
-    CheckRow {
-        title: "a full block that is listed",
-        file: (6144, &[FULL, &[(FIRST, 5)]]),
-        answers: &[Named(ForeignInChain, 5, 0)],
-    },
-    CheckRow {
-        title: "a block before the first one",
-        file: (6144, &[&[(PREVIOUS, 1)]]),
-        answers: &[Named(BadPrev, 5, 0)],
-    },
-    CheckRow {
-        title: "a count that is too great",
-        file: (6144, &[&[(STATED, 2)]]),
-        answers: &[Named(BadCount, 5, 0)],
-    },
-    CheckRow {
-        title: "the entry of another identifier",
-        file: (6144, &[&[(ENTRY, 1001)]]),
-        answers: &[Named(MissingEntry, 5, 1000), Named(StrayEntry, 5, 1001)],
-    },
-    CheckRow {
-        title: "a second entry, to which nothing leads",
-        file: (6144, &[&[(ENTRY + 72, 5), (ENTRY + 96, 1), (STATED, 2)]]),
-        answers: &[Named(StrayEntry, 5, 5)],
-    },
-    CheckRow {
-        title: "two entries of one identifier",
-        file: (6144, &[&[(ENTRY + 72, 1000), (ENTRY + 96, 1), (STATED, 2)]]),
-        answers: &[Named(DoubleEntry, 5, 1000)],
-    },
+    CheckRow { title: "a file without its last byte", file: (6143, &[]), answers: &[Named(Short, 5, 0)] },
+    CheckRow { title: "more blocks than the file has", file: (6144, &[&[(BLOCKS, u32::MAX)]]), answers: &[Named(Short, 6, 0)] },
+    CheckRow { title: "a block that nothing leads to", file: (7168, &[&[(BLOCKS, 7)]]), answers: &[Named(NoRole, 6, 0)] },
+    CheckRow { title: "a reference past the last block", file: (6144, &[&[(2044, 6)]]), answers: &[Named(RefOut, 1, 0)] },
+    CheckRow { title: "the root at the head of the free list", file: (6144, &[&[(FREE, 1)]]),
+        answers: &[Named(TwoRoles, 1, 0), Named(TwoRoles, 2, 0), Named(TwoRoles, 3, 0)] },
+    CheckRow { title: "no leaf", file: (6144, &[&[(5024, 0)]]),
+        answers: &[Named(EmptyTree, 4, 0), Named(NoRole, 5, 0), Named(ForeignInChain, 5, 0)] },
+    CheckRow { title: "the head of the entry list past the last block", file: (6144, &[&[(FIRST, 6)]]),
+        answers: &[Named(ChainOut, 6, 0), Named(MissingInChain, 5, 0)] },
+    CheckRow { title: "a listed block that is behind itself", file: (6144, &[&[(NEXT, 5)]]), answers: &[Named(ChainLoop, 5, 0)] },
+    CheckRow { title: "the root behind a listed block", file: (6144, &[&[(NEXT, 1)]]),
+        answers: &[Named(ForeignInChain, 1, 0), Named(ForeignInChain, 2, 0), Named(ForeignInChain, 3, 0),
+            Named(BadPrev, 1, 0), Named(BadPrev, 2, 0), Named(BadPrev, 3, 0)] },
+    CheckRow { title: "a block with room that is not listed", file: (6144, &[&[(FIRST, 0)]]), answers: &[Named(MissingInChain, 5, 0)] },
+    CheckRow { title: "a full block that is listed", file: (6144, &[FULL, &[(FIRST, 5)]]), answers: &[Named(ForeignInChain, 5, 0)] },
+    CheckRow { title: "a block before the first one", file: (6144, &[&[(PREVIOUS, 1)]]), answers: &[Named(BadPrev, 5, 0)] },
+    CheckRow { title: "a count that is too great", file: (6144, &[&[(STATED, 2)]]), answers: &[Named(BadCount, 5, 0)] },
+    CheckRow { title: "the entry of another identifier", file: (6144, &[&[(ENTRY, 1001)]]),
+        answers: &[Named(MissingEntry, 5, 1000), Named(StrayEntry, 5, 1001)] },
+    CheckRow { title: "a second entry, to which nothing leads", file: (6144, &[&[(ENTRY + 72, 5), (ENTRY + 96, 1), (STATED, 2)]]),
+        answers: &[Named(StrayEntry, 5, 5)] },
+    CheckRow { title: "two entries of one identifier", file: (6144, &[&[(ENTRY + 72, 1000), (ENTRY + 96, 1), (STATED, 2)]]),
+        answers: &[Named(DoubleEntry, 5, 1000)] },
 ];
 
 #[test]
 fn each_damage_is_named(rt: HostRuntime) {
     expect_checks(&rt, rt.alloc(), DAMAGED);
+}
+
+/// Whether a damage is one of the answers of a row.
+fn is_permitted(row: &CheckRow, damage: Damage) -> bool {
+    let answer = Err(CheckFault::Damage(damage));
+    row.answers
+        .iter()
+        .any(|permitted| as_result(permitted) == answer)
+}
+
+/// What opening a row's file is refused with; None where it is not refused, or memory is wanting.
+fn refusal_of(alloc: Global, row: &CheckRow) -> Option<OpenFault> {
+    let (len, changes) = row.file;
+    let file = made(alloc, len, changes).ok()?;
+    let mut store = store_of(alloc, file.as_slice(), &[]).ok()?;
+    open_tree(alloc, &mut store, "q", Kind::User, None, u32::MAX).err()
+}
+
+/// Expects each file to be refused when it is opened, by a damage of its row.
+fn expect_refusals(rt: &impl Abort, alloc: Global, rows: &[CheckRow]) {
+    for row in rows {
+        let got = refusal_of(alloc, row);
+        let is_one = matches!(got, Some(OpenFault::Damage(damage)) if is_permitted(row, damage));
+        assert!(rt; is_one, "{}: {got:?}", row.title);
+    }
+}
+
+#[test]
+fn each_damage_is_named_where_the_file_is_opened(rt: HostRuntime) {
+    expect_refusals(&rt, rt.alloc(), DAMAGED);
+}
+
+/// Identifiers that are looked up: those of the rows, and the first and the last one.
+const IDS: &[u32] = &[0, 5, 1000, 1001, u32::MAX];
+
+/// The six-block file, opened with nothing wrong, and the store that it is read from behind that, in which it has a row's
+/// changes; None where memory is wanting.
+fn opened_before(alloc: Global, row: &CheckRow) -> Option<(TreeFile, MemStore)> {
+    let sound = made(alloc, 6144, &[]).ok()?;
+    let mut store = store_of(alloc, sound.as_slice(), &[]).ok()?;
+    let opened = open_tree(alloc, &mut store, "q", Kind::User, None, 6).ok()?;
+    let (len, changes) = row.file;
+    let file = made(alloc, len, changes).ok()?;
+    Some((opened, store_of(alloc, file.as_slice(), &[]).ok()?))
+}
+
+/// Whether a look-up answers, or names a damage of a row.
+fn is_told<T: Drop>(row: &CheckRow, answer: Option<Result<T, FileFault>>) -> bool {
+    match answer {
+        Some(Ok(_)) => true,
+        Some(Err(FileFault::Damage(damage))) => is_permitted(row, damage),
+        _ => false,
+    }
+}
+
+/// The first identifier whose look-ups do neither.
+fn first_wrong(row: &CheckRow, file: &mut TreeFile, store: &mut MemStore) -> Option<u32> {
+    for id in IDS {
+        let record = get(file, store, *id);
+        let next = next_after(file, store, Some(*id));
+        if !is_told(row, record) || !is_told(row, next) {
+            return Some(*id);
+        }
+    }
+    None
+}
+
+/// Expects look-ups in a file that was changed once it was opened to answer, or to name a damage of its row.
+fn expect_look_ups(rt: &impl Abort, alloc: Global, rows: &[CheckRow]) {
+    for row in rows {
+        match opened_before(alloc, row) {
+            Some((mut file, mut store)) => {
+                assert_eq!(rt;
+                    first_wrong(row, &mut file, &mut store),
+                    None,
+                    "{}",
+                    row.title
+                );
+            }
+            None => assert!(rt; false, "{}: it is not opened", row.title),
+        }
+    }
+}
+
+#[test]
+fn a_damage_behind_the_opening_is_named_or_not_met(rt: HostRuntime) {
+    expect_look_ups(&rt, rt.alloc(), DAMAGED);
 }
 
 /// Files with nothing wrong, each with a number that the reads of a check don't pass: two for each block of the tree, the

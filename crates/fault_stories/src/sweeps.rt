@@ -1,0 +1,181 @@
+//! Commands of which each call of each object fails in turn.
+
+/// Changes in place, reports, and files that are replaced or made by another one. Of a run with no fault nothing is told but
+/// what it left; of the others the sweep tells all. A file that is replaced is the old one wherever a call fails.
+pub const SWEPT: &str = "\
+= limits behind the end of an empty flat file
+file q
+sweep each setquota -F vfsold -u 1000 100 200 10 20 q
+long q 40040
+
+= a new file of a listing, and its report
+text 1000 100 2049 12 8
+file l
+stays q
+sweep each quotacheck -c -u -F vfsv1 --input l q
+long q 6144
+sweep each repquota -u q
+head user q 7days 7days
+> #1000        --          4          0          0      -        1        0        0      -
+get q
+size 6244
+file q
+sweep each repquota -u q
+head user q 7days 7days
+> #1000        --          4          0          0      -        1        0        0      -
+
+= a listing with a line that stands there twice
+text 1000 100 2049 12 8
+again 2
+file l
+stays q
+sweep each quotacheck -c -u -F vfsv1 --input l q
+long q 6144
+
+= a listing with a line that is at odds with an earlier one
+text 1000 100 2049 12 8
+text 1000 100 2049 13 8
+text 1001 100 2049 12 8
+file l
+stays q q.new
+sweep each quotacheck -c -u -F vfsv1 --input l q
+status 1
+! quota: l: line 3 conflicts with line 1
+absent q q.new
+
+= a listing with a line that lacks a word
+text 1000 100 2049 12 8
+text 1000 100 2049 13
+file l
+stays q q.new
+sweep each quotacheck -c -u -F vfsv1 --input l q
+status 1
+! quota: l: bad line 2
+absent q q.new
+
+= limits of the first identifier of a tree file, which go again
+use empty
+size 2048
+file q
+sweep each setquota -u 1000 100 200 0 0 q
+long q 6144
+sweep each setquota -u 1000 0 0 0 0 q
+long q 6144
+sweep each setquota -u 1000 0 0 0 0 q
+same q
+
+= limits that start a timer, and its report as it runs down
+use six
+file q
+sweep each setquota -u 1000 2 8 0 0 q
+changes q
+sweep each repquota -u q
+head user q 7days 7days
+> #1000        +-          4          2          8  7days        1        0        0      -
+now 1700432001
+sweep each repquota -u q
+head user q 7days 7days
+> #1000        +-          4          2          8  2days        1        0        0      -
+now 1700432031
+sweep each repquota -u q
+head user q 7days 7days
+> #1000        +-          4          2          8  47:59        1        0        0      -
+now 1700604800
+sweep each repquota -u q
+head user q 7days 7days
+> #1000        +-          4          2          8   none        1        0        0      -
+
+= limits over which a timer runs on, and limits that stop it
+use timed
+file q
+now 1700000010
+sweep each setquota -u 1000 3 8 0 0 q
+changes q
+sweep each setquota -u 1000 4 8 0 0 q
+changes q
+
+= times, of which one is passed over with a warning
+use timed
+file q
+sweep each setquota -T -u 1000 3600 unset q
+! quota: inode time not set, soft limit not exceeded
+changes q
+
+= conversions that are refused, and one that is made
+use empty
+file q
+run setquota -u 1000 0 4294967296 0 0 q
+changes q
+stays q r r.new
+sweep each convertquota -u -f vfsv1,vfsv0 q r
+status 1
+! quota: q: no room for bhard 4294967296 of 1000
+absent r r.new
+run setquota -u 1000 0 4294967295 0 0 q
+changes q
+stays q r
+sweep each convertquota -u -f vfsv1,vfsv0 q r
+same q
+long r 6144
+stays q r r.new
+sweep each convertquota -u -f vfsv1,vfsv0 q r
+status 1
+! quota: r: exists already
+stays q q.new
+sweep each convertquota -u -f vfsv1,vfsv0 q q
+status 1
+! quota: q: same name
+
+= a datagram that is answered
+use six
+file q
+run setquota -u 1000 100 200 10 20 q
+changes q
+hex 00000001 00000000 00000002 000186ab 00000001 00000001
+hex 00000001 00000018 00000000 00000001 68000000 000003e8 000003e8 00000000
+hex 00000000 00000000 00000005 2f686f6d 65000000 000003e8
+datagram 1700000000
+stays q
+sweep each rquotad --calls 1 --port 0 --export /home user q
+hex 00000001 00000001 00000000 00000000 00000000 00000000 00000001
+hex 00000400 00000001 000000c8 00000064 00000004 00000014 0000000a 00000001 00000000 00000000
+sent
+
+= a script that ends at its third line
+use empty
+size 2048
+file q
+text setquota -u 1000 100 200 0 0 q
+text repquota -u -v q
+text setquota -u 1000 10x 0 0 0 q
+text repquota -u -v q
+input
+sweep each script
+status 1
+head user q 7days 7days
+> #1000        --          0        100        200      -        0        0        0      -
+! quota: line 3: bad number 10x
+long q 6144
+
+= lines that set limits, of which the third lacks a word, or has a faulty one
+use empty
+file q
+text 7 1 2 0 0
+text # note
+text 8 1 2 0
+input
+sweep each setquota -u -b q
+status 1
+! quota: input: bad line 3
+changes q
+use empty
+file q
+text 7 1 2 0 0
+text # note
+text 8 x 2 0 0
+input
+sweep each setquota -u -b q
+status 1
+! quota: input line 3: bad number x
+changes q
+";
