@@ -1,11 +1,9 @@
-//! Whole runs over objects in memory, as stories; the words of commands; a link over UDP; and real files.
+//! Whole runs over objects in memory, as stories; and the words of commands.
 //!
 //! The crate has tests and nothing else, so that quota_cli is proved once, and nothing that the program stands on stands on
 //! the player of stories or on their texts.
 #![tactic(auto)]
 
-#[cfg(test)]
-mod disk;
 #[cfg(test)]
 mod edit_tests;
 #[cfg(test)]
@@ -13,10 +11,6 @@ mod fault_tests;
 #[cfg(test)]
 mod file_tests;
 #[cfg(test)]
-mod files;
-#[cfg(test)]
 mod playing;
 #[cfg(test)]
 mod script_tests;
-#[cfg(test)]
-mod udp;

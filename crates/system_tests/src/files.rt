@@ -7,7 +7,7 @@ use std::{fs, io};
 use system_objects::FileDisk;
 
 /// The file, in the current folder.
-const NAME: &str = "file_of_run_tests";
+const NAME: &str = "file_of_system_tests";
 
 /// The bytes that it has first, of which the last block is not whole.
 const LENGTH: usize = 1_024_500;

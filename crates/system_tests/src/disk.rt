@@ -6,22 +6,22 @@ use std::{fs, io};
 use system_objects::FileDisk;
 
 /// A folder, in the current one.
-const FOLDER: &str = "disk_of_run_tests";
+const FOLDER: &str = "disk_of_system_tests";
 
 /// The names of files in it.
-const ONE: &str = "disk_of_run_tests/one";
+const ONE: &str = "disk_of_system_tests/one";
 
-const TWO: &str = "disk_of_run_tests/two";
+const TWO: &str = "disk_of_system_tests/two";
 
-const THREE: &str = "disk_of_run_tests/three";
+const THREE: &str = "disk_of_system_tests/three";
 
 /// The undo file of one of them, and what it is called while it is new.
-const UNDO: &str = "disk_of_run_tests/two.undo";
+const UNDO: &str = "disk_of_system_tests/two.undo";
 
-const UND: &str = "disk_of_run_tests/two.und";
+const UND: &str = "disk_of_system_tests/two.und";
 
 /// A name in a folder that is not there.
-const NOWHERE: &str = "disk_of_run_tests/none/one";
+const NOWHERE: &str = "disk_of_system_tests/none/one";
 
 /// What a file has, where it is there.
 type Found = Option<&'static [u8]>;
