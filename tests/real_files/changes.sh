@@ -1,5 +1,5 @@
 # A listing, conversions, owners and permissions, refusals, and links.
-# A part of real_files.sh, which has what it calls, and runs it in the folder that the parts before it left.
+# A part of real_files.sh, which has what it calls, and runs it in a folder of its own.
 
 # A folder is counted as find(1) lists it, with a second name of one file. The wanted sums are those of awk over `sort -u`.
 mkdir -p walked/below

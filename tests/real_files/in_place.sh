@@ -1,5 +1,5 @@
 # Tree files, which are changed where they stand.
-# A part of real_files.sh, which has what it calls, and runs it in the folder that the parts before it left.
+# A part of real_files.sh, which has what it calls, and runs it in a folder of its own.
 
 # few OLD NEW: `few` where the second is not shorter and at most twelve blocks differ, at least one, of which each behind
 # the end of the first counts; else what is so in place of that.

@@ -1,5 +1,5 @@
 # Changes in place that are stopped, and the undo files that they leave.
-# A part of real_files.sh, which has what it calls, and runs it in the folder that the parts before it left.
+# A part of real_files.sh, which has what it calls, and runs it in a folder of its own.
 
 # In memory a sync takes no time, and that is no matter here: a program that is killed leaves what it wrote.
 stopped=$folder/stopped

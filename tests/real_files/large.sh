@@ -1,5 +1,5 @@
 # Large files, and inputs of the greatest size.
-# A part of real_files.sh, which has what it calls, and runs it in the folder that the parts before it left.
+# A part of real_files.sh, which has what it calls, and runs it in a folder of its own.
 
 # Large files: a report goes to the last record, and a file of names has a greatest size.
 head -c 4000000 /dev/zero >q
@@ -15,23 +15,9 @@ expect 'a file of names that is too long' 1 '' 'quota: most: too large' repquota
 rm q most
 
 # Lines and forms have a greatest size of 16,777,216 bytes. Each line here has 1,023 bytes and a newline.
-padded() { printf '%-1023s\n' "$1"; }
-
-# times LINE N: the padded line so many times.
-times() {
-    padded "$1" >line.txt
-    for ((half = 1; half < $2; half *= 2)); do
-        cat line.txt line.txt >twice.txt
-        mv twice.txt line.txt
-    done
-    head -c "$(($2 * 1024))" line.txt
-}
-
 { padded '7 1 2 0 0'; times '#' 16383; } >most
 same 'the size of the most lines' "$(stat -c %s most)" 16777216
 { cat most; printf '#'; } >more
-seven='#7           --          0          1          2      -        0        0        0      -'
-printf '\x11\x1f\xc0\xd9\x01\0\0\0\x80\x3a\x09\0\x80\x3a\x09\0\0\0\0\0\x02\0\0\0\0\0\0\0\0\0\0\0' >empty
 cp empty q
 expect 'the most lines' 0 '' '' setquota -b q <most
 expect 'what they set' 0 "$head

@@ -1,5 +1,5 @@
 # New limits, grace periods and times, names, forms, and lines of limits.
-# A part of real_files.sh, which has what it calls, and runs it in the folder that the parts before it left.
+# A part of real_files.sh, which has what it calls, and runs it in a folder of its own.
 
 # New limits, and the report of the file after them.
 : >q

@@ -1,5 +1,5 @@
 # What the system denies, and in which order a change uses the disk.
-# A part of real_files.sh, which has what it calls, and runs it in the folder that the parts before it left.
+# A part of real_files.sh, which has what it calls, and runs it in a folder of its own.
 
 # Another user than root: a file that was left behind and may not be written is not in the way. A permission that is
 # denied, to write in the folder where a file is replaced, or to write or to read the file, is a fault.

@@ -1,5 +1,5 @@
 # Scripts.
-# A part of real_files.sh, which has what it calls, and runs it in the folder that the parts before it left.
+# A part of real_files.sh, which has what it calls, and runs it in a folder of its own.
 
 # Scripts: each line is read as a command, over the files as the lines before left them.
 cp empty q

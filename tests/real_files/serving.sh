@@ -1,5 +1,5 @@
 # Calls over UDP.
-# A part of real_files.sh, which has what it calls, and runs it in the folder that the parts before it left.
+# A part of real_files.sh, which has what it calls, and runs it in a folder of its own.
 
 # Calls over UDP: in each format, one for each kind of answer. One datagram without a reply is among them, and counts.
 expect 'an export that is not there' 1 '' 'quota: none: no such file' rquotad --calls 1 --port 0 --export /home user none

@@ -1,5 +1,5 @@
 # Programs that use one file at the same time, and files behind links.
-# A part of real_files.sh, which has what it calls, and runs it in the folder that the parts before it left.
+# A part of real_files.sh, which has what it calls, and runs it in a folder of its own.
 
 # In memory a sync takes no time, and that is no matter here.
 shared=$folder/shared

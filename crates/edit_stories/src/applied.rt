@@ -14,22 +14,19 @@ keep three
 /// Forms that were printed and edited, and that set limits.
 pub const APPLIED: &str = "\
 = the form that was printed and changed sets its limits
-use six
-file q
+file q six
 run edquota --print -u 1000 q
 > Disk quotas for user #1000 (uid 1000):
 >   Filesystem blocks soft hard inodes soft hard
 >   q 4 0 0 1 0 0
-use three
-input
+input three
 both edquota --apply -u 1000 q
 left 0
 changes q
 run repquota q
 head user q 7days 7days
 > #1000        --          4        100        200      -        1       10       20      -
-use six
-file q
+file q six
 use two
 text   q 999 100 200 77 10 20
 input
@@ -39,8 +36,7 @@ changes q
 run repquota q
 head user q 7days 7days
 > #1000        --          4        100        200      -        1       10       20      -
-use six
-file q
+file q six
 use two
 text q\t18446744073709551615  100 200 0 10 20\x20
 text  \t
@@ -52,8 +48,7 @@ changes q
 run repquota q
 head user q 7days 7days
 > #1000        --          4        100        200      -        1       10       20      -
-use six
-file q
+file q six
 use two
 raw q 4 100 200 1 10 20
 input
@@ -63,8 +58,7 @@ changes q
 run repquota q
 head user q 7days 7days
 > #1000        --          4        100        200      -        1       10       20      -
-use six
-file q
+file q six
 use two
 text   q 4 1M 2G 1 3k 4m
 input
@@ -74,8 +68,7 @@ changes q
 run repquota q
 head user q 7days 7days
 > #1000        --          4       1024    2097152      -        1     3000  4000000      -
-use six
-file q
+file q six
 use two
 text   q 4 2 8 1 0 0
 input
@@ -93,16 +86,15 @@ text Filesystem blocks soft hard inodes soft hard
 text q 0 100 200 0 10 20
 input
 both edquota --apply -F vfsold -g 1 q
-zeros 40
-record 200 100 0 20 10 0 0 0
+fill 0 40
+record bhard 200 bsoft 100 ihard 20 isoft 10
 holds q
 
 = a form has the name that is printed
 text alice:x:1000:1000:Alice:/home/alice:/bin/sh
 text bob:x:1001:100::/home/bob:/bin/sh
 file other
-use six
-file q
+file q six
 text Disk quotas for user alice (uid 1000):
 text   Filesystem blocks soft hard inodes soft hard
 text   q 4 100 200 1 10 20
@@ -112,8 +104,7 @@ changes q
 run repquota -v q
 head user q 7days 7days
 > #1000        --          4        100        200      -        1       10       20      -
-use six
-file q
+file q six
 text Disk quotas for user alice (uid 1000):
 text   Filesystem blocks soft hard inodes soft hard
 text   q 4 100 200 1 10 20
@@ -123,8 +114,7 @@ changes q
 run repquota -v q
 head user q 7days 7days
 > #1000        --          4        100        200      -        1       10       20      -
-use six
-file q
+file q six
 text Disk quotas for user bob (uid 1001):
 text   Filesystem blocks soft hard inodes soft hard
 text   q 4 100 200 1 10 20
@@ -135,8 +125,7 @@ run repquota -v q
 head user q 7days 7days
 > #1000        --          4          0          0      -        1        0        0      -
 > #1001        --          0        100        200      -        0       10       20      -
-use six
-file q
+file q six
 text Disk quotas for user #1000 (uid 1000):
 text   Filesystem blocks soft hard inodes soft hard
 text   q 4 100 200 1 10 20
@@ -145,8 +134,7 @@ run edquota --apply --names other alice q
 status 1
 ! quota: bad form at line 1
 writes 0
-use six
-file q
+file q six
 text Disk quotas for user bob (uid 1001):
 text   Filesystem blocks soft hard inodes soft hard
 text   q 4 100 200 1 10 20
@@ -155,8 +143,7 @@ run edquota --apply --names other alice q
 status 1
 ! quota: bad form at line 1
 writes 0
-use six
-file q
+file q six
 text Disk quotas for user alice (uid 1000):
 text   Filesystem blocks soft hard inodes soft hard
 text   q 4 100 200 1 10 20

@@ -1,16 +1,14 @@
 /// Lines that set limits.
 pub const BATCHES: &str = "\
 = each line sets limits or is passed over
-use empty
-file q
+file q empty
 input
 both setquota -u -b q
 left 0
 writes 0
 run repquota -v q
 head user q 7days 7days
-use empty
-file q
+file q empty
 text
 text  \t\x20
 text # only
@@ -21,8 +19,7 @@ left 0
 writes 0
 run repquota -v q
 head user q 7days 7days
-use empty
-file q
+file q empty
 text 8 0 0 0 0
 input
 both setquota -u -b q
@@ -30,8 +27,7 @@ left 0
 writes 0
 run repquota -v q
 head user q 7days 7days
-use empty
-file q
+file q empty
 raw 7 1 2 0 0
 input
 both setquota -u -b q
@@ -40,8 +36,7 @@ changes q
 run repquota -v q
 head user q 7days 7days
 > #7           --          0          1          2      -        0        0        0      -
-use empty
-file q
+file q empty
 text # a
 text
 text  \t
@@ -54,8 +49,7 @@ changes q
 run repquota -v q
 head user q 7days 7days
 > #7           --          0          1          2      -        0        0        0      -
-use empty
-file q
+file q empty
 raw #
 hex ff fe 0a
 text 7 1 2 0 0
@@ -68,8 +62,7 @@ changes q
 run repquota -v q
 head user q 7days 7days
 > #7           --          0          1          2      -        0        0        0      -
-use empty
-file q
+file q empty
 raw #
 hex 00 0d 0a
 text 7 1 2 0 0
@@ -80,8 +73,7 @@ changes q
 run repquota -v q
 head user q 7days 7days
 > #7           --          0          1          2      -        0        0        0      -
-use empty
-file q
+file q empty
 text 7 9 9 9 9
 text 8 1 1 1 1
 text 7 1 2 0 0
@@ -93,8 +85,7 @@ changes q
 run repquota -v q
 head user q 7days 7days
 > #7           --          0          1          2      -        0        0        0      -
-use empty
-file q
+file q empty
 text 7 1 2 0 0
 text 7 1 2 0 0
 text 9 0 0 0 0
@@ -105,8 +96,7 @@ changes q
 run repquota -v q
 head user q 7days 7days
 > #7           --          0          1          2      -        0        0        0      -
-use empty
-file q
+file q empty
 text 7 1M 2G 3k 4m
 input
 both setquota -u -b q
@@ -115,8 +105,7 @@ changes q
 run repquota -v q
 head user q 7days 7days
 > #7           --          0       1024    2097152      -        0     3000  4000000      -
-use empty
-file q
+file q empty
 text 4294967295 0 0 0 18446744073709551615
 input
 both setquota -u -b q
@@ -137,40 +126,32 @@ text 7 9 10 11 12
 text 8 1 1 1 1
 text 8 0 0 0 0
 keep lines
-use empty
-file q
-use lines
-input
+file q empty
+input lines
 both setquota -b -u q
 changes q
 run repquota -v -u q
 head user q 7days 7days
 > #7           --          0          9         10      -        0       11       12      -
 > #1000        --          0          5          6      -        0        7        8      -
-use empty
-file q
-use lines
-input
+file q empty
+input lines
 both setquota -b -F vfsv1 q
 changes q
 run repquota -v -F vfsv1 q
 head user q 7days 7days
 > #7           --          0          9         10      -        0       11       12      -
 > #1000        --          0          5          6      -        0        7        8      -
-use old
-file q
-use lines
-input
+file q old
+input lines
 both setquota -b -u q
 changes q
 run repquota -v -u q
 head user q 7days 7days
 > #7           --          0          9         10      -        0       11       12      -
 > #1000        --          0          5          6      -        0        7        8      -
-use old
-file q
-use lines
-input
+file q old
+input lines
 both setquota -b -F vfsv0 q
 changes q
 run repquota -v -F vfsv0 q
@@ -178,18 +159,15 @@ head user q 7days 7days
 > #7           --          0          9         10      -        0       11       12      -
 > #1000        --          0          5          6      -        0        7        8      -
 file q
-use lines
-input
+input lines
 both setquota -b -F vfsold q
 changes q
 run repquota -v -F vfsold q
 head user q 7days 7days
 > #7           --          0          9         10      -        0       11       12      -
 > #1000        --          0          5          6      -        0        7        8      -
-use group
-file q
-use lines
-input
+file q group
+input lines
 both setquota -gb q
 changes q
 run repquota -gv q
@@ -201,8 +179,7 @@ head group q 7days 7days
 text alice:x:1000:1000:Alice:/home/alice:/bin/sh
 text bob:x:1001:100::/home/bob:/bin/sh
 file other
-use six
-file q
+file q six
 text alice 2 8 0 0
 text bob 3 4 5 6
 input
@@ -212,8 +189,7 @@ run repquota -v --names other q
 head user q 7days 7days
 > alice        +-          4          2          8  7days        1        0        0      -
 > bob          --          0          3          4      -        0        5        6      -
-use six
-file q
+file q six
 text carol 1 1 1 1
 input
 run setquota -b --names other q
@@ -222,8 +198,7 @@ status 1
 writes 0
 
 = a line stops a timer
-use timed
-file q
+file q timed
 text 1000 4 8 0 0
 input
 both setquota -b q

@@ -3,8 +3,7 @@
 /// Limits that are copied from one identifier to another.
 pub const COPIED: &str = "\
 = limits are copied without what is used
-use timed
-file q
+file q timed
 run setquota -u -p 1000 7 q
 changes q
 run repquota -u -v q
@@ -13,8 +12,7 @@ head user q 7days 7days
 > #1000        +-          4          2          8  7days        1        0        0      -
 
 = one without a record has no limits to copy
-use timed
-file q
+file q timed
 run setquota -p 7 1000 q
 changes q
 run repquota -v q
@@ -22,8 +20,7 @@ head user q 7days 7days
 > #1000        --          4          0          0      -        1        0        0      -
 
 = no limits are copied to one that uses nothing, whose record is gone then
-use empty
-file q
+file q empty
 run setquota 1000 1 2 3 4 q
 changes q
 run setquota -p 7 1000 q
@@ -32,13 +29,11 @@ run repquota -v q
 head user q 7days 7days
 
 = of two without a record none gets one
-use timed
-file q
+file q timed
 run setquota -p 7 8 q
 same q
 writes 0
-use empty
-file q
+file q empty
 run setquota -p 7 7 q
 same q
 writes 0
@@ -51,8 +46,7 @@ writes 0
 /// Periods that are set.
 pub const PERIODS: &str = "\
 = periods are set in the header of a tree file
-use empty
-file q
+file q empty
 run setquota -u -t 86400 3600 q
 hex 111fc0d9 01000000 80510100 100e0000
 begins q
@@ -62,23 +56,21 @@ head user q 24:00 01:00
 = periods make the first record of an empty flat file
 file q
 run setquota -F vfsold -t 86400 18446744073709551615 q
-record 0 0 0 0 0 0 86400 18446744073709551615
+record btime 86400 itime 18446744073709551615
 holds q
 ";
 
 /// Times that are set.
 pub const TIMES: &str = "\
 = a time is set where the soft limit is exceeded
-use timed
-file q
+file q timed
 run setquota -T -u 1000 3600 unset q
 ! quota: inode time not set, soft limit not exceeded
 changes q
 run repquota -p q
 head user q 7days 7days
 > #1000        +-          4          2          8 1700003600        1        0        0      0
-use timed
-file q
+file q timed
 run setquota -T 1000 unset 5 q
 ! quota: inode time not set, soft limit not exceeded
 changes q
@@ -87,67 +79,65 @@ head user q 7days 7days
 > #1000        +-          4          2          8      0        1        0        0      0
 
 = the times of blocks and of inodes are set apart
-record 0 0 0 0 0 0 7 9
-record 8 2 4 9 8 9 5 6
+record btime 7 itime 9
+record bhard 8 bsoft 2 blocks 4 ihard 9 isoft 8 inodes 9 btime 5 itime 6
 file q
 run setquota -F vfsold -T 1 unset 3600 q
-record 0 0 0 0 0 0 7 9
-record 8 2 4 9 8 9 0 1700003600
+record btime 7 itime 9
+record bhard 8 bsoft 2 blocks 4 ihard 9 isoft 8 inodes 9 itime 1700003600
 holds q
-record 0 0 0 0 0 0 7 9
-record 8 2 4 9 8 9 5 6
+record btime 7 itime 9
+record bhard 8 bsoft 2 blocks 4 ihard 9 isoft 8 inodes 9 btime 5 itime 6
 file q
 run setquota -F vfsold -T 1 7 unset q
-record 0 0 0 0 0 0 7 9
-record 8 2 4 9 8 9 1700000007 0
+record btime 7 itime 9
+record bhard 8 bsoft 2 blocks 4 ihard 9 isoft 8 inodes 9 btime 1700000007
 holds q
-record 0 0 0 0 0 0 7 9
-record 8 2 4 9 8 9 0 0
+record btime 7 itime 9
+record bhard 8 bsoft 2 blocks 4 ihard 9 isoft 8 inodes 9
 file q
 run setquota -F vfsold -T 1 0 0 q
-record 0 0 0 0 0 0 7 9
-record 8 2 4 9 8 9 1700000000 1700000000
+record btime 7 itime 9
+record bhard 8 bsoft 2 blocks 4 ihard 9 isoft 8 inodes 9 btime 1700000000 itime 1700000000
 holds q
 
 = a time of blocks is not set at the soft limit or without one
-record 0 0 0 0 0 0 7 9
-record 8 4 4 9 8 9 5 6
+record btime 7 itime 9
+record bhard 8 bsoft 4 blocks 4 ihard 9 isoft 8 inodes 9 btime 5 itime 6
 file q
 run setquota -F vfsold -T 1 7 unset q
 ! quota: block time not set, soft limit not exceeded
-record 0 0 0 0 0 0 7 9
-record 8 4 4 9 8 9 5 0
+record btime 7 itime 9
+record bhard 8 bsoft 4 blocks 4 ihard 9 isoft 8 inodes 9 btime 5
 holds q
-record 0 0 0 0 0 0 7 9
-record 8 0 4 9 8 9 5 6
+record btime 7 itime 9
+record bhard 8 blocks 4 ihard 9 isoft 8 inodes 9 btime 5 itime 6
 file q
 run setquota -F vfsold -T 1 7 8 q
 ! quota: block time not set, soft limit not exceeded
-record 0 0 0 0 0 0 7 9
-record 8 0 4 9 8 9 5 1700000008
+record btime 7 itime 9
+record bhard 8 blocks 4 ihard 9 isoft 8 inodes 9 btime 5 itime 1700000008
 holds q
 
 = a time of inodes is not set at the soft limit
-record 0 0 0 0 0 0 7 9
-record 8 2 4 9 9 9 5 6
+record btime 7 itime 9
+record bhard 8 bsoft 2 blocks 4 ihard 9 isoft 9 inodes 9 btime 5 itime 6
 file q
 run setquota -F vfsold -T 1 7 8 q
 ! quota: inode time not set, soft limit not exceeded
-record 0 0 0 0 0 0 7 9
-record 8 2 4 9 9 9 1700000007 6
+record btime 7 itime 9
+record bhard 8 bsoft 2 blocks 4 ihard 9 isoft 9 inodes 9 btime 1700000007 itime 6
 holds q
 
 = the end of a period is a number of 64 bits
-use timed
-file q
+file q timed
 run setquota -T 1000 18446744072009551615 5 q
 ! quota: inode time not set, soft limit not exceeded
 changes q
 run repquota -p q
 head user q 7days 7days
 > #1000        +-          4          2          8 18446744073709551615        1        0        0      0
-use timed
-file q
+file q timed
 run setquota -T 1000 5 18446744073709551615 q
 ! quota: inode time not set, soft limit not exceeded
 changes q
@@ -156,8 +146,7 @@ head user q 7days 7days
 > #1000        +-          4          2          8 1700000005        1        0        0      0
 
 = an end of a period that has more bits is refused
-use timed
-file q
+file q timed
 run setquota -T -u 1000 18446744073709551615 unset q
 status 1
 ! quota: q: no room for btime 18446744075409551615 of 1000
@@ -166,8 +155,8 @@ run setquota -T 1000 18446744072009551616 5 q
 status 1
 ! quota: q: no room for btime 18446744073709551616 of 1000
 writes 0
-record 0 0 0 0 0 0 7 9
-record 8 2 4 9 8 9 5 6
+record btime 7 itime 9
+record bhard 8 bsoft 2 blocks 4 ihard 9 isoft 8 inodes 9 btime 5 itime 6
 file q
 run setquota -F vfsold -T 1 18446744073709551615 18446744073709551615 q
 status 1
@@ -179,8 +168,7 @@ status 1
 writes 0
 
 = times that are skipped are warned of
-use six
-file q
+file q six
 run setquota -T 1000 5 unset q
 ! quota: block time not set, soft limit not exceeded
 ! quota: inode time not set, soft limit not exceeded
@@ -198,8 +186,7 @@ writes 0
 /// What refuses an edit. No run meets a file that is named `r`.
 pub const REFUSED: &str = "\
 = periods for which a file has no room
-use empty
-file q
+file q empty
 run setquota -u -t 4294967296 1 q
 status 1
 ! quota: q: no room for bgrace 4294967296
@@ -215,8 +202,7 @@ status 1
 writes 0
 
 = words that are no periods
-use empty
-file q
+file q empty
 run setquota -t 1x y r
 status 1
 ! quota: bad number 1x
@@ -247,8 +233,7 @@ status 1
 writes 0
 
 = words that are no identifiers to copy between
-use six
-file q
+file q six
 run setquota -p 4294967296 carol r
 status 1
 ! quota: bad number 4294967296
@@ -271,8 +256,7 @@ status 1
 writes 0
 
 = words that are no times and no limits
-use six
-file q
+file q six
 run setquota -T 1000 18446744073709551616 1 r
 status 1
 ! quota: bad number 18446744073709551616
@@ -310,8 +294,7 @@ status 1
 writes 0
 
 = a file of the other kind
-use six
-file q
+file q six
 run setquota -g -T 1000 1 1 q
 status 3
 ! quota: q: wrong kind

@@ -1,8 +1,7 @@
 /// Lines at the edges of what a batch takes, and calls that fail under one.
 pub const EDGES: &str = "\
 = a line has a greatest length
-use empty
-file q
+file q empty
 text 7 1 2 0 0
 raw 7 1 2 0 0
 fill 32 1015
@@ -13,8 +12,7 @@ changes q
 run repquota -v q
 head user q 7days 7days
 > #7           --          0          1          2      -        0        0        0      -
-use empty
-file q
+file q empty
 text 7 1 2 0 0
 raw #
 hex ff
@@ -26,8 +24,7 @@ changes q
 run repquota -v q
 head user q 7days 7days
 > #7           --          0          1          2      -        0        0        0      -
-use empty
-file q
+file q empty
 text 7 1 2 0 0
 fill 32 1024
 text
@@ -37,8 +34,7 @@ changes q
 run repquota -v q
 head user q 7days 7days
 > #7           --          0          1          2      -        0        0        0      -
-use empty
-file q
+file q empty
 text 7 1 2 0 0
 raw 8 1 2 0 0
 fill 32 1016
@@ -52,8 +48,7 @@ changes q
 run repquota -v q
 head user q 7days 7days
 > #7           --          0          1          2      -        0        0        0      -
-use empty
-file q
+file q empty
 text 7 1 2 0 0
 raw #
 hex ff
@@ -68,8 +63,7 @@ changes q
 run repquota -v q
 head user q 7days 7days
 > #7           --          0          1          2      -        0        0        0      -
-use empty
-file q
+file q empty
 text 7 1 2 0 0
 fill 32 1025
 text
@@ -84,8 +78,7 @@ head user q 7days 7days
 > #7           --          0          1          2      -        0        0        0      -
 
 = no byte is lost where a line ends at the edge of a piece
-use empty
-file q
+file q empty
 raw # note
 fill 32 1017
 text
@@ -101,8 +94,7 @@ run repquota -v q
 head user q 7days 7days
 > #7           --          0          1          2      -        0        0        0      -
 > #89          --          0          3          4      -        0        0        0      -
-use empty
-file q
+file q empty
 raw # note
 fill 32 1017
 text
@@ -118,8 +110,7 @@ run repquota -v q
 head user q 7days 7days
 > #7           --          0          1          2      -        0        0        0      -
 > #89          --          0          3          4      -        0        0        0      -
-use empty
-file q
+file q empty
 raw # note
 fill 32 1017
 text
@@ -137,8 +128,7 @@ head user q 7days 7days
 > #89          --          0          3          4      -        0        0        0      -
 
 = an input that fails leaves the file
-use empty
-file q
+file q empty
 raw #
 fill 32 999
 text
@@ -147,22 +137,19 @@ keep notes
 text 7 1 2 0 0
 use notes
 keep lines
-use lines
-input
+input lines
 fails input 1
 run setquota -b q
 status 4
 ! quota: input fault
 writes 0
-use lines
-input
+input lines
 fails input 2
 run setquota -b q
 status 4
 ! quota: input fault
 writes 0
-use lines
-input
+input lines
 stays q q.new
 sweep input setquota -b q
 changes q
@@ -171,8 +158,7 @@ head user q 7days 7days
 > #7           --          0          1          2      -        0        0        0      -
 
 = a store that fails leaves what some of the lines made
-use empty
-file q
+file q empty
 run setquota 1000 100 200 0 0 q
 changes q
 get q
@@ -187,19 +173,16 @@ file other
 text alice 100 200 0 0
 text bob 1 2 3 4
 file l
-use empty
-file q
+file q empty
 fails store 1
 run setquota -b --names other --input l q
 status 4
 ! quota: store fault
 same q
-use empty
-file q
+file q empty
 may q first
 sweep store setquota -b --names other --input l q
-use both
-holds q
+holds q both
 ";
 
 /// Lines for whose limits the format has no room, and files that are refused before a line is read.
@@ -209,8 +192,7 @@ hex 111fc0d9 00000000 803a0900 803a0900 00000000 02000000 00000000 00000000
 keep old
 
 = the lines before one without room stay
-use old
-file q
+file q old
 text 7 1 2 0 0
 text 8 0 4294967296 0 0
 text 9 x
@@ -222,8 +204,7 @@ changes q
 run repquota -v -F vfsv0 q
 head user q 7days 7days
 > #7           --          0          1          2      -        0        0        0      -
-use old
-file q
+file q old
 text 7 1 2 0 0
 text
 text 7 5 6 0 5g
@@ -260,8 +241,7 @@ head user q 7days 7days
 > #7           --          0          1          2      -        0        0        0      -
 
 = the first line that is refused ends the batch
-use old
-file q
+file q old
 text 7 0 4294967296 0 0
 text 8 x
 input
@@ -285,8 +265,7 @@ status 1
 writes 0
 
 = the file is opened before the lines are read
-use empty
-file q
+file q empty
 text none
 file other
 text 7 1 2 0 0

@@ -5,8 +5,7 @@ pub const PRINTED: &str = "\
 = the form of an identifier is printed
 text alice:x:1000:1000:Alice:/home/alice:/bin/sh
 file other
-use six
-file q
+file q six
 run edquota --print -u 1000 q
 > Disk quotas for user #1000 (uid 1000):
 >   Filesystem blocks soft hard inodes soft hard
@@ -16,8 +15,7 @@ writes 0
 = the form of a name has it
 text alice:x:1000:1000:Alice:/home/alice:/bin/sh
 file other
-use six
-file q
+file q six
 run edquota --print --names other alice q
 > Disk quotas for user alice (uid 1000):
 >   Filesystem blocks soft hard inodes soft hard
@@ -27,8 +25,7 @@ writes 0
 = the form of one without a record and without a name
 text alice:x:1000:1000:Alice:/home/alice:/bin/sh
 file other
-use six
-file q
+file q six
 run edquota --names other --print 7 q
 > Disk quotas for user #7 (uid 7):
 >   Filesystem blocks soft hard inodes soft hard
@@ -48,8 +45,7 @@ writes 0
 = a form is refused by its first fault
 raw other
 file other
-use six
-file q
+file q six
 run edquota --print carol r
 status 1
 ! quota: unknown name carol
@@ -67,8 +63,7 @@ status 3
 ! quota: q: wrong kind
 
 = an output that fails is a fault
-use six
-file q
+file q six
 fails output 1
 run edquota --print 1000 q
 status 4

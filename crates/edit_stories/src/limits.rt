@@ -6,8 +6,8 @@ pub const SET: &str = "\
 file q
 run setquota -F vfsold -u 1000 100 200 10 20 q
 writes 1
-zeros 40000
-record 200 100 0 20 10 0 0 0
+fill 0 40000
+record bhard 200 bsoft 100 ihard 20 isoft 10
 holds q
 absent q.new
 run repquota -F vfsold -u -v q
@@ -17,38 +17,38 @@ run repquota -F vfsold q
 head user q 7days 7days
 
 = all bytes but those of the record stay
-record 0 0 9 0 0 9 7 9
-record 8 2 4 0 0 1 5 6
-record 1 0 0 0 0 0 8 9
-record 0 0 0 0 0 0 0 0
+record blocks 9 inodes 9 btime 7 itime 9
+record bhard 8 bsoft 2 blocks 4 inodes 1 btime 5 itime 6
+record bhard 1 btime 8 itime 9
+record
 file q
 run setquota -F vfsold -u 1 100 200 10 20 q
-record 0 0 9 0 0 9 7 9
-record 200 100 4 20 10 1 0 0
-record 1 0 0 0 0 0 8 9
-record 0 0 0 0 0 0 0 0
+record blocks 9 inodes 9 btime 7 itime 9
+record bhard 200 bsoft 100 blocks 4 ihard 20 isoft 10 inodes 1
+record bhard 1 btime 8 itime 9
+record
 holds q
 
 = times of a record without use and limits are taken away, and all other bytes stay
-record 0 0 9 0 0 9 7 9
-record 0 0 0 0 0 0 5 6
-record 1 0 0 0 0 0 8 9
-record 0 0 0 0 0 0 0 0
+record blocks 9 inodes 9 btime 7 itime 9
+record btime 5 itime 6
+record bhard 1 btime 8 itime 9
+record
 file q
 run setquota -F vfsold -u 1 0 0 0 0 q
-record 0 0 9 0 0 9 7 9
-record 0 0 0 0 0 0 0 0
-record 1 0 0 0 0 0 8 9
-record 0 0 0 0 0 0 0 0
+record blocks 9 inodes 9 btime 7 itime 9
+record
+record bhard 1 btime 8 itime 9
+record
 holds q
 
 = limits of identifier 0 leave the periods
-record 0 0 0 0 0 0 7 9
-record 8 2 4 0 0 1 5 6
+record btime 7 itime 9
+record bhard 8 bsoft 2 blocks 4 inodes 1 btime 5 itime 6
 file q
 run setquota -F vfsold -u 0 1 2 3 4 q
-record 2 1 0 4 3 0 7 9
-record 8 2 4 0 0 1 5 6
+record bhard 2 bsoft 1 ihard 4 isoft 3 btime 7 itime 9
+record bhard 8 bsoft 2 blocks 4 inodes 1 btime 5 itime 6
 holds q
 
 = the record of an identifier stands at its place
@@ -58,17 +58,17 @@ writes 1
 long q 2621440
 
 = a timer starts where the use exceeds the soft limit
-zeros 40000
-record 0 0 4 0 0 1 0 0
+fill 0 40000
+record blocks 4 inodes 1
 file q
 run setquota -F vfsold -u 1000 2 8 0 0 q
-zeros 40000
-record 8 2 4 0 0 1 1700604800 0
+fill 0 40000
+record bhard 8 bsoft 2 blocks 4 inodes 1 btime 1700604800
 holds q
 
 = a timer that would end after the last moment is refused
-zeros 40000
-record 0 0 4 0 0 1 0 0
+fill 0 40000
+record blocks 4 inodes 1
 file q
 now 18446744073709551615
 run setquota -F vfsold -u 1000 2 8 0 0 q
@@ -77,70 +77,70 @@ status 1
 writes 0
 
 = a running timer stays while the soft limit is exceeded
-zeros 80
-record 8 2 4 0 0 1 1700000001 0
+fill 0 80
+record bhard 8 bsoft 2 blocks 4 inodes 1 btime 1700000001
 file q
 run setquota -F vfsold -u 2 3 9 0 0 q
-zeros 80
-record 9 3 4 0 0 1 1700000001 0
+fill 0 80
+record bhard 9 bsoft 3 blocks 4 inodes 1 btime 1700000001
 holds q
 
 = a running timer stops at the soft limit
-zeros 80
-record 8 2 4 0 0 1 1700000001 0
+fill 0 80
+record bhard 8 bsoft 2 blocks 4 inodes 1 btime 1700000001
 file q
 run setquota -F vfsold -u 2 4 9 0 0 q
-zeros 80
-record 9 4 4 0 0 1 0 0
+fill 0 80
+record bhard 9 bsoft 4 blocks 4 inodes 1
 holds q
 
 = a running timer stops without a soft limit
-zeros 80
-record 8 2 4 0 0 1 1700000001 0
+fill 0 80
+record bhard 8 bsoft 2 blocks 4 inodes 1 btime 1700000001
 file q
 run setquota -F vfsold -u 2 0 9 0 0 q
-zeros 80
-record 9 0 4 0 0 1 0 0
+fill 0 80
+record bhard 9 blocks 4 inodes 1
 holds q
 
 = words of limits have their values
 file q
 run setquota -F vfsold -u 2 3K 2M 5k 6m q
-zeros 80
-record 2048 3 0 6000000 5000 0 0 0
+fill 0 80
+record bhard 2048 bsoft 3 ihard 6000000 isoft 5000
 holds q
 file q
 run setquota -F vfsold -u 2 3G 2T 4g 0 q
-zeros 80
-record 2147483648 3145728 0 0 4000000000 0 0 0
+fill 0 80
+record bhard 2147483648 bsoft 3145728 isoft 4000000000
 holds q
 file q
 run setquota -F vfsold -u 00000000000000000000000002 00000000000000000007 0 0 1 q
-zeros 80
-record 0 7 0 1 0 0 0 0
+fill 0 80
+record bsoft 7 ihard 1
 holds q
 
 = limits of 0 drop a record that uses nothing
-zeros 80
-record 8 2 0 3 1 0 5 5
+fill 0 80
+record bhard 8 bsoft 2 ihard 3 isoft 1 btime 5 itime 5
 file q
 run setquota -F vfsold -u 2 0 0 0 0 q
-zeros 120
+fill 0 120
 holds q
 writes 1
 
 = one that uses something keeps its use and loses its timers
-zeros 80
-record 8 2 4 3 1 5 6 7
+fill 0 80
+record bhard 8 bsoft 2 blocks 4 ihard 3 isoft 1 inodes 5 btime 6 itime 7
 file q
 run setquota -F vfsold -u 2 0 0 0 0 q
-zeros 80
-record 0 0 4 0 0 5 0 0
+fill 0 80
+record blocks 4 inodes 5
 holds q
 writes 1
 
 = one that is absent stays so
-zeros 120
+fill 0 120
 file q
 run setquota -F vfsold -u 2 0 0 0 0 q
 same q
@@ -257,7 +257,7 @@ status 2
 writes 0
 
 = a cut file is not changed
-zeros 79
+fill 0 79
 file q
 run setquota -F vfsold -u 1000 100 200 10 20 q
 status 3
@@ -268,20 +268,18 @@ status 3
 /// record is not read, since it stands behind the end of the file.
 pub const FAILING: &str = "\
 = each failing call leaves the old file or the changed one
-zeros 40
-record 1 1 1 1 1 1 0 0
+fill 0 40
+record bhard 1 bsoft 1 blocks 1 ihard 1 isoft 1 inodes 1
 keep old
 raw other
 file other
-use old
-file q
+file q old
 run setquota -F vfsold -u 60 2 8 0 0 q
 changes q
 writes 1
 get q
 keep new
-use old
-file q
+file q old
 fails store 1
 run setquota -F vfsold -u 60 2 8 0 0 q
 status 4
@@ -301,13 +299,11 @@ fails store 4
 run setquota -F vfsold -u 60 2 8 0 0 q
 status 4
 ! quota: store fault
-use new
-holds q
+holds q new
 same other
 
 = an error output that fails takes the line of the fault
-use old
-file q
+file q old
 fails store 3
 fails error 1
 run setquota -F vfsold -u 60 2 8 0 0 q
@@ -317,119 +313,102 @@ same q
 = calls that a run does not make change nothing of it
 raw other
 file other
-use old
-file q
+file q old
 fails store 5
 run setquota -F vfsold -u 60 2 8 0 0 q
-use new
-holds q
+holds q new
 same other
-use old
-file q
+file q old
 fails output 1
 run setquota -F vfsold -u 60 2 8 0 0 q
-use new
-holds q
+holds q new
 same other
-use old
-file q
+file q old
 fails error 1
 run setquota -F vfsold -u 60 2 8 0 0 q
-use new
-holds q
+holds q new
 same other
 
 = whichever call fails leaves the old file or the changed one
-use old
-file q
+file q old
 sweep store setquota -F vfsold -u 60 2 8 0 0 q
-use new
-holds q
+holds q new
 file q
 sweep store setquota -F vfsold -u 10 100 200 10 20 q
 changes q
 
 = so it is of every way to change a record, or the periods
-record 0 0 9 0 0 9 0 9
-record 8 2 4 9 8 9 5 6
-record 0 3 0 0 0 0 0 0
+record blocks 9 inodes 9 itime 9
+record bhard 8 bsoft 2 blocks 4 ihard 9 isoft 8 inodes 9 btime 5 itime 6
+record bsoft 3
 keep three
-use three
-file q
+file q three
 sweep store setquota -F vfsold -u 0 1 2 3 4 q
-record 2 1 9 4 3 9 0 9
-record 8 2 4 9 8 9 5 6
-record 0 3 0 0 0 0 0 0
+record bhard 2 bsoft 1 blocks 9 ihard 4 isoft 3 inodes 9 itime 9
+record bhard 8 bsoft 2 blocks 4 ihard 9 isoft 8 inodes 9 btime 5 itime 6
+record bsoft 3
 holds q
-use three
-file q
+file q three
 sweep store setquota -F vfsold -u 2 0 0 0 0 q
-record 0 0 9 0 0 9 0 9
-record 8 2 4 9 8 9 5 6
-record 0 0 0 0 0 0 0 0
+record blocks 9 inodes 9 itime 9
+record bhard 8 bsoft 2 blocks 4 ihard 9 isoft 8 inodes 9 btime 5 itime 6
+record
 holds q
-use three
-file q
+file q three
 sweep store setquota -F vfsold -p 1 0 q
-record 8 2 9 9 8 9 0 9
-record 8 2 4 9 8 9 5 6
-record 0 3 0 0 0 0 0 0
+record bhard 8 bsoft 2 blocks 9 ihard 9 isoft 8 inodes 9 itime 9
+record bhard 8 bsoft 2 blocks 4 ihard 9 isoft 8 inodes 9 btime 5 itime 6
+record bsoft 3
 holds q
-use three
-file q
+file q three
 sweep store setquota -F vfsold -t 86400 3600 q
-record 0 0 9 0 0 9 86400 3600
-record 8 2 4 9 8 9 5 6
-record 0 3 0 0 0 0 0 0
+record blocks 9 inodes 9 btime 86400 itime 3600
+record bhard 8 bsoft 2 blocks 4 ihard 9 isoft 8 inodes 9 btime 5 itime 6
+record bsoft 3
 holds q
-use three
-file q
+file q three
 sweep store setquota -F vfsold -T 1 7 unset q
-record 0 0 9 0 0 9 0 9
-record 8 2 4 9 8 9 1700000007 0
-record 0 3 0 0 0 0 0 0
+record blocks 9 inodes 9 itime 9
+record bhard 8 bsoft 2 blocks 4 ihard 9 isoft 8 inodes 9 btime 1700000007
+record bsoft 3
 holds q
-use three
-file q
+file q three
 text Disk quotas for user #1 (uid 1):
 text Filesystem blocks soft hard inodes soft hard
 text q 4 0 0 9 0 0
 input
 sweep store edquota --apply -F vfsold -u 1 q
-record 0 0 9 0 0 9 0 9
-record 0 0 4 0 0 9 0 0
-record 0 3 0 0 0 0 0 0
+record blocks 9 inodes 9 itime 9
+record blocks 4 inodes 9
+record bsoft 3
 holds q
 
 = whichever call fails under lines, those before it stay
-use three
-file q
+file q three
 run setquota -F vfsold 3 1 2 0 0 q
 changes q
 get q
 keep first
-use three
-file q
+file q three
 text 3 1 2 0 0
 text 2 0 0 0 0
 input
 may q first
 sweep store setquota -F vfsold -b q
-record 0 0 9 0 0 9 0 9
-record 8 2 4 9 8 9 5 6
-record 0 0 0 0 0 0 0 0
-record 2 1 0 0 0 0 0 0
+record blocks 9 inodes 9 itime 9
+record bhard 8 bsoft 2 blocks 4 ihard 9 isoft 8 inodes 9 btime 5 itime 6
+record
+record bhard 2 bsoft 1
 holds q
-use three
-file q
+file q three
 text setquota -F vfsold 3 1 2 0 0 q
 text setquota -F vfsold 2 0 0 0 0 q
 input
 may q first
 sweep store script
-record 0 0 9 0 0 9 0 9
-record 8 2 4 9 8 9 5 6
-record 0 0 0 0 0 0 0 0
-record 2 1 0 0 0 0 0 0
+record blocks 9 inodes 9 itime 9
+record bhard 8 bsoft 2 blocks 4 ihard 9 isoft 8 inodes 9 btime 5 itime 6
+record
+record bhard 2 bsoft 1
 holds q
 ";

@@ -1,8 +1,7 @@
 /// Forms that are refused, and those of which a call fails.
 pub const REFUSED_FORMS: &str = "\
 = the first line that is none of the form is named
-use six
-file q
+file q six
 input
 both edquota --apply -u 1000 q
 status 1
@@ -33,8 +32,7 @@ both edquota --apply -u 1000 q
 status 1
 ! quota: bad form at line 1
 writes 0
-use one
-input
+input one
 both edquota --apply -u 1000 q
 status 1
 ! quota: bad form at line 2
@@ -46,8 +44,7 @@ both edquota --apply -u 1000 q
 status 1
 ! quota: bad form at line 2
 writes 0
-use two
-input
+input two
 both edquota --apply -u 1000 q
 status 1
 ! quota: bad form at line 3
@@ -125,8 +122,7 @@ status 1
 writes 0
 
 = a line of a form has a greatest length
-use six
-file q
+file q six
 use one
 raw Filesystem blocks soft hard inodes soft hard
 fill 32 980
@@ -138,8 +134,7 @@ changes q
 run repquota q
 head user q 7days 7days
 > #1000        --          4        100        200      -        1       10       20      -
-use six
-file q
+file q six
 use one
 raw Filesystem blocks soft hard inodes soft hard
 fill 32 981
@@ -150,8 +145,7 @@ both edquota --apply -u 1000 q
 status 1
 ! quota: input: long line 2
 writes 0
-use six
-file q
+file q six
 use three
 fill 32 1024
 text
@@ -162,8 +156,7 @@ changes q
 run repquota q
 head user q 7days 7days
 > #1000        --          4        100        200      -        1       10       20      -
-use six
-file q
+file q six
 use three
 fill 32 1025
 text
@@ -174,8 +167,7 @@ status 1
 writes 0
 
 = a form is read behind the name
-use six
-file q
+file q six
 text none
 file other
 run edquota --apply carol r
@@ -204,10 +196,8 @@ status 1
 writes 0
 
 = a form is read before the file is opened
-use six
-file q
-use one
-input
+file q six
+input one
 both edquota --apply 1000 r
 status 1
 ! quota: bad form at line 2
@@ -247,33 +237,26 @@ status 1
 writes 0
 
 = a form that cannot be read ends the command
-use six
-file q
-use three
-input
+file q six
+input three
 fails input 1
 run edquota --apply -u 1000 q
 status 4
 ! quota: input fault
-reads 0
-writes 0
-use three
-input
+calls
+input three
 fails input 2
 run edquota --apply -u 1000 q
 status 4
 ! quota: input fault
-reads 0
-writes 0
-use three
-input
+calls
+input three
 stays q q.new
 sweep input edquota --apply -u 1000 q
 changes q
 
 = a store that fails under a form leaves the file
-use six
-file q
+file q six
 text alice:x:1000:1000:Alice:/home/alice:/bin/sh
 text bob:x:1001:100::/home/bob:/bin/sh
 file other

@@ -2,8 +2,7 @@
 /// story ends before a carriage return, so that where one is wanted at an end there are two.
 pub const REFUSED_LINES: &str = "\
 = the lines before a bad one stay
-use empty
-file q
+file q empty
 text 7 1 2 0 0
 text # note
 text 8 1 2 0
@@ -15,8 +14,7 @@ changes q
 run repquota -v q
 head user q 7days 7days
 > #7           --          0          1          2      -        0        0        0      -
-use empty
-file q
+file q empty
 text 7 1 2 0 0
 text 8 1 2 0 0 0
 text 9 1 1 1 1
@@ -28,8 +26,7 @@ changes q
 run repquota -v q
 head user q 7days 7days
 > #7           --          0          1          2      -        0        0        0      -
-use empty
-file q
+file q empty
 text 7 1 2 0 0
 text zoe x 2 0
 raw 9 1 1 1 1
@@ -41,8 +38,7 @@ changes q
 run repquota -v q
 head user q 7days 7days
 > #7           --          0          1          2      -        0        0        0      -
-use empty
-file q
+file q empty
 text 7 1 2 0 0
 raw 8 1 2 0\x20
 hex ff 0a
@@ -54,8 +50,7 @@ changes q
 run repquota -v q
 head user q 7days 7days
 > #7           --          0          1          2      -        0        0        0      -
-use empty
-file q
+file q empty
 text 7 1 2 0 0
 hex ff
 raw  1 2 0 0
@@ -68,8 +63,7 @@ changes q
 run repquota -v q
 head user q 7days 7days
 > #7           --          0          1          2      -        0        0        0      -
-use empty
-file q
+file q empty
 text 7 1 2 0 0
 text  # note
 input
@@ -80,8 +74,7 @@ changes q
 run repquota -v q
 head user q 7days 7days
 > #7           --          0          1          2      -        0        0        0      -
-use empty
-file q
+file q empty
 text 7 1 2 0 0
 hex 0d 0a
 input
@@ -92,8 +85,7 @@ changes q
 run repquota -v q
 head user q 7days 7days
 > #7           --          0          1          2      -        0        0        0      -
-use empty
-file q
+file q empty
 text 7 1 2 0 0
 hex 00 0a
 input
@@ -104,8 +96,7 @@ changes q
 run repquota -v q
 head user q 7days 7days
 > #7           --          0          1          2      -        0        0        0      -
-use empty
-file q
+file q empty
 text 7 1 2 0 0
 text
 text  \t
@@ -120,8 +111,7 @@ head user q 7days 7days
 > #7           --          0          1          2      -        0        0        0      -
 
 = the lines before a faulty word stay
-use empty
-file q
+file q empty
 text 7 1 2 0 0
 text # note
 text 8 x 2 0 0
@@ -133,8 +123,7 @@ changes q
 run repquota -v q
 head user q 7days 7days
 > #7           --          0          1          2      -        0        0        0      -
-use empty
-file q
+file q empty
 text 7 1 2 0 0
 text
 text 8 1 2 0 -1
@@ -147,8 +136,7 @@ changes q
 run repquota -v q
 head user q 7days 7days
 > #7           --          0          1          2      -        0        0        0      -
-use empty
-file q
+file q empty
 text 7 1 2 0 0
 text zoe 1 1 1 1
 input
@@ -159,8 +147,7 @@ changes q
 run repquota -v q
 head user q 7days 7days
 > #7           --          0          1          2      -        0        0        0      -
-use empty
-file q
+file q empty
 text 7 1 2 0 0
 text zoe x 1 1 1
 input
@@ -171,8 +158,7 @@ changes q
 run repquota -v q
 head user q 7days 7days
 > #7           --          0          1          2      -        0        0        0      -
-use empty
-file q
+file q empty
 text 7 1 2 0 0
 text é 1 1 1 1
 input
@@ -183,8 +169,7 @@ changes q
 run repquota -v q
 head user q 7days 7days
 > #7           --          0          1          2      -        0        0        0      -
-use empty
-file q
+file q empty
 text 7 1 2 0 0
 raw 4294967296 1 1 1 1
 input
@@ -195,8 +180,7 @@ changes q
 run repquota -v q
 head user q 7days 7days
 > #7           --          0          1          2      -        0        0        0      -
-use empty
-file q
+file q empty
 text 7 1 2 0 0
 raw 8 1k 1 1 1
 input
@@ -207,8 +191,7 @@ changes q
 run repquota -v q
 head user q 7days 7days
 > #7           --          0          1          2      -        0        0        0      -
-use empty
-file q
+file q empty
 text 7 1 2 0 0
 raw 8 1 1 1 1K
 input
@@ -219,8 +202,7 @@ changes q
 run repquota -v q
 head user q 7days 7days
 > #7           --          0          1          2      -        0        0        0      -
-use empty
-file q
+file q empty
 text 7 1 2 0 0
 text 8 1 1 1 18446744073709551616
 input
@@ -231,8 +213,7 @@ changes q
 run repquota -v q
 head user q 7days 7days
 > #7           --          0          1          2      -        0        0        0      -
-use empty
-file q
+file q empty
 text 7 1 2 0 0
 raw 8 1 2 0 0
 hex 0d 0a
@@ -244,8 +225,7 @@ changes q
 run repquota -v q
 head user q 7days 7days
 > #7           --          0          1          2      -        0        0        0      -
-use empty
-file q
+file q empty
 text 7 1 2 0 0
 raw 8
 hex 00
@@ -259,8 +239,7 @@ changes q
 run repquota -v q
 head user q 7days 7days
 > #7           --          0          1          2      -        0        0        0      -
-use empty
-file q
+file q empty
 text 7 1 2 0 0
 raw 8 1
 hex 00

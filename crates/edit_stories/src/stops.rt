@@ -4,37 +4,33 @@
 /// and a flat file, of which identifier 1 exceeds both and identifier 2 uses nothing (`flat`).
 pub const STOPPED_FILES: &str = "\
 = files of other rows
-use timed
-file q
+file q timed
 run convertquota -f vfsv1,vfsv0 q r
 changes r
 get r
 keep timed0
 hex 111fc0d9 00000000 803a0900 803a0900 00000000 02000000 00000000 00000000
 keep empty0
-record 0 0 0 0 0 0 604800 604800
-record 8 2 4 9 8 9 5 6
-record 8 2 0 0 0 0 0 0
+record btime 604800 itime 604800
+record bhard 8 bsoft 2 blocks 4 ihard 9 isoft 8 inodes 9 btime 5 itime 6
+record bhard 8 bsoft 2
 keep flat
 ";
 
 /// Files of vfsv1.
 pub const STOPPED_TREES: &str = "\
 = limits of a known identifier
-use timed
-file q
+file q timed
 stop setquota -u 1000 3 9 1 2 q | repquota q
 changes q
 
 = limits of an identifier that has no record
-use timed
-file q
+file q timed
 stop setquota -u 7 1 2 3 4 q | edquota --print 7 q
 changes q
 
 = limits in a file that has no records, and behind them none
-use empty
-file q
+file q empty
 stop setquota -u 1000 100 200 0 0 q | repquota -v q
 long q 6144
 stop setquota -u 1000 0 0 0 0 q | repquota -v q
@@ -43,44 +39,37 @@ run repquota -v q
 head user q 7days 7days
 
 = an undo file that is there from before
-use timed
-file q
-zeros 1024
+file q timed
+fill 0 1024
 file q.undo
 stop setquota -u 1000 0 0 0 0 q | repquota q
 changes q
 
 = another file is left alone
-use timed
-file q
-use empty
-file r
+file q timed
+file r empty
 stop setquota -u 1000 0 0 0 0 q | repquota q
 changes q
 same r
 
 = copied limits
-use timed
-file q
+file q timed
 stop setquota -u -p 1000 7 q | edquota --print 7 q
 changes q
 
 = periods
-use timed
-file q
+file q timed
 stop setquota -u -t 86400 3600 q | repquota q
 changes q
 
 = times, of which one is passed over
-use timed
-file q
+file q timed
 stop setquota -T -u 1000 3600 unset q | repquota -p q
 ! quota: inode time not set, soft limit not exceeded
 changes q
 
 = three lines
-use timed
-file q
+file q timed
 run setquota 7 1 2 0 0 q
 changes q
 get q
@@ -89,8 +78,7 @@ run setquota 1000 3 4 0 0 q
 changes q
 get q
 keep second
-use timed
-file q
+file q timed
 text 7 1 2 0 0
 text 1000 3 4 0 0
 text 7 0 0 0 0
@@ -101,8 +89,7 @@ stop setquota -b q | repquota -v q
 changes q
 
 = a form
-use timed
-file q
+file q timed
 text Disk quotas for user #1000 (uid 1000):
 text   Filesystem blocks soft hard inodes soft hard
 text   q 4 100 200 1 10 20
@@ -111,8 +98,7 @@ stop edquota --apply -u 1000 q | edquota --print 1000 q
 changes q
 
 = a script whose third line is refused
-use empty
-file q
+file q empty
 text setquota -u 1000 100 200 0 0 q
 text repquota -u -v q
 text setquota -u 1000 10x 0 0 0 q
@@ -129,20 +115,17 @@ long q 6144
 /// Files of vfsv0.
 pub const STOPPED_TREES_0: &str = "\
 = limits of a known identifier
-use timed0
-file q
+file q timed0
 stop setquota -F vfsv0 -u 1000 3 9 1 2 q | repquota -F vfsv0 q
 changes q
 
 = limits of an identifier that has no record
-use timed0
-file q
+file q timed0
 stop setquota -F vfsv0 -u 7 1 2 3 4 q | edquota --print -F vfsv0 7 q
 changes q
 
 = limits in a file that has no records, and behind them none
-use empty0
-file q
+file q empty0
 stop setquota -F vfsv0 -u 1000 100 200 0 0 q | repquota -F vfsv0 -v q
 long q 6144
 stop setquota -F vfsv0 -u 1000 0 0 0 0 q | repquota -F vfsv0 -v q
@@ -151,27 +134,23 @@ run repquota -F vfsv0 -v q
 head user q 7days 7days
 
 = copied limits
-use timed0
-file q
+file q timed0
 stop setquota -F vfsv0 -u -p 1000 7 q | edquota --print -F vfsv0 7 q
 changes q
 
 = periods
-use timed0
-file q
+file q timed0
 stop setquota -F vfsv0 -u -t 86400 3600 q | repquota -F vfsv0 q
 changes q
 
 = times, of which one is passed over
-use timed0
-file q
+file q timed0
 stop setquota -F vfsv0 -T -u 1000 3600 unset q | repquota -F vfsv0 -p q
 ! quota: inode time not set, soft limit not exceeded
 changes q
 
 = three lines
-use timed0
-file q
+file q timed0
 run setquota -F vfsv0 7 1 2 0 0 q
 changes q
 get q
@@ -180,8 +159,7 @@ run setquota -F vfsv0 1000 3 4 0 0 q
 changes q
 get q
 keep second
-use timed0
-file q
+file q timed0
 text 7 1 2 0 0
 text 1000 3 4 0 0
 text 7 0 0 0 0
@@ -192,8 +170,7 @@ stop setquota -b -F vfsv0 q | repquota -F vfsv0 -v q
 changes q
 
 = a form
-use timed0
-file q
+file q timed0
 text Disk quotas for user #1000 (uid 1000):
 text   Filesystem blocks soft hard inodes soft hard
 text   q 4 100 200 1 10 20
@@ -202,8 +179,7 @@ stop edquota --apply -F vfsv0 -u 1000 q | edquota --print -F vfsv0 1000 q
 changes q
 
 = a script whose third line is refused
-use empty0
-file q
+file q empty0
 text setquota -F vfsv0 -u 1000 100 200 0 0 q
 text repquota -F vfsv0 -u -v q
 text setquota -F vfsv0 -u 1000 10x 0 0 0 q
@@ -220,14 +196,12 @@ long q 6144
 /// Flat files.
 pub const STOPPED_FLAT_FILES: &str = "\
 = limits of a known identifier
-use flat
-file q
+file q flat
 stop setquota -F vfsold -u 1 3 9 1 2 q | repquota -F vfsold q
 changes q
 
 = limits of an identifier behind the end of the file
-use flat
-file q
+file q flat
 stop setquota -F vfsold -u 60 1 2 3 4 q | edquota --print -F vfsold 60 q
 long q 2440
 
@@ -237,32 +211,27 @@ stop setquota -F vfsold -u 1000 100 200 10 20 q | repquota -F vfsold q
 long q 40040
 
 = limits that go
-use flat
-file q
+file q flat
 stop setquota -F vfsold -u 2 0 0 0 0 q | repquota -F vfsold -v q
 changes q
 
 = copied limits
-use flat
-file q
+file q flat
 stop setquota -F vfsold -u -p 1 7 q | edquota --print -F vfsold 7 q
 changes q
 
 = periods
-use flat
-file q
+file q flat
 stop setquota -F vfsold -u -t 86400 3600 q | repquota -F vfsold q
 changes q
 
 = times
-use flat
-file q
+file q flat
 stop setquota -F vfsold -T -u 1 3600 unset q | repquota -F vfsold -p q
 changes q
 
 = three lines
-use flat
-file q
+file q flat
 run setquota -F vfsold 7 1 2 0 0 q
 changes q
 get q
@@ -271,8 +240,7 @@ run setquota -F vfsold 1 3 4 0 0 q
 changes q
 get q
 keep second
-use flat
-file q
+file q flat
 text 7 1 2 0 0
 text 1 3 4 0 0
 text 7 0 0 0 0
@@ -283,8 +251,7 @@ stop setquota -b -F vfsold q | repquota -F vfsold -v q
 changes q
 
 = a form
-use flat
-file q
+file q flat
 text Disk quotas for user #1 (uid 1):
 text   Filesystem blocks soft hard inodes soft hard
 text   q 4 100 200 1 10 20
@@ -293,8 +260,7 @@ stop edquota --apply -F vfsold -u 1 q | edquota --print -F vfsold 1 q
 changes q
 
 = a script whose third line is refused
-use flat
-file q
+file q flat
 text setquota -F vfsold -u 1 100 200 0 0 q
 text repquota -F vfsold -u q
 text setquota -F vfsold -u 1 10x 0 0 0 q

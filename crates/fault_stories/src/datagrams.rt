@@ -18,16 +18,14 @@ hex 00000001 00000001 00000001 00000001 00000001
 keep bad_credential
 hex 00000001 00000001 00000000 00000000 00000000 00000004
 keep garbage
-use six
-file q
+file q six
 run setquota -u 1000 100 200 10 20 q
 changes q
 get q
 keep limited
 
 = a call that is cut to each length: up to 23 bytes it gets no reply, and with all 80 the whole one
-use limited
-file q
+file q limited
 use call
 datagram 1700000000 cut
 run rquotad --calls 81 --port 0 --export /home user q
@@ -41,8 +39,7 @@ use told
 sent
 
 = a name of the machine of 256 bytes, 17 further groups, a credential of 401 bytes
-use limited
-file q
+file q limited
 use head
 hex 00000001 00000114 00000000 00000100
 fill 104 256
@@ -51,12 +48,12 @@ use question
 datagram 1700000000
 use head
 hex 00000001 0000005c 00000000 00000001 68000000 000003e8 000003e8 00000011
-zeros 68
+fill 0 68
 use question
 datagram 1700000000
 use head
 hex 00000001 00000191 00000000 00000001 68000000 000003e8 000003e8 00000000
-zeros 380
+fill 0 380
 use question
 datagram 1700000000
 run rquotad --calls 3 --port 0 --export /home user q
@@ -64,8 +61,7 @@ use bad_credential
 sent 3
 
 = a credential of a flavor that is not served, and a path of 1,025 bytes
-use limited
-file q
+file q limited
 use head
 hex 00000006 00000018 00000000 00000001 68000000 000003e8 000003e8 00000000
 use question

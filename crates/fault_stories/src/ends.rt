@@ -21,8 +21,7 @@ head user q 7days 7days
 > #1000        --          0        100        200      -        0        0        0      -
 
 = a conversion that is not written makes no new file
-use empty
-file q
+file q empty
 run setquota -u 1000 0 4294967295 0 0 q
 changes q
 fails store 21
@@ -35,28 +34,24 @@ absent r
 changes r.new
 
 = a warning that is not written is an output fault, and the time is set
-use timed
-file q
+file q timed
 run setquota -T -u 1000 3600 unset q
 ! quota: inode time not set, soft limit not exceeded
 changes q
 get q
 keep set
-use timed
-file q
+file q timed
 fails error 1
 run setquota -T -u 1000 3600 unset q
 status 4
 ! quota: output fault
-use set
-holds q
+holds q set
 run repquota -p q
 head user q 7days 7days
 > #1000        +-          4          2          8 1700003600        1        0        0      0
 
 = the line of a refusal that is not written leaves the status
-use six
-file q
+file q six
 fails error 1
 run setquota -u 1000 10x 0 0 0 q
 status 1

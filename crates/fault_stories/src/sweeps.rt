@@ -65,8 +65,7 @@ sweep each setquota -u 1000 0 0 0 0 q
 same q
 
 = limits that start a timer, and its report as it runs down
-use six
-file q
+file q six
 sweep each setquota -u 1000 2 8 0 0 q
 changes q
 sweep each repquota -u q
@@ -86,8 +85,7 @@ head user q 7days 7days
 > #1000        +-          4          2          8   none        1        0        0      -
 
 = limits over which a timer runs on, and limits that stop it
-use timed
-file q
+file q timed
 now 1700000010
 sweep each setquota -u 1000 3 8 0 0 q
 changes q
@@ -95,15 +93,13 @@ sweep each setquota -u 1000 4 8 0 0 q
 changes q
 
 = times, of which one is passed over with a warning
-use timed
-file q
+file q timed
 sweep each setquota -T -u 1000 3600 unset q
 ! quota: inode time not set, soft limit not exceeded
 changes q
 
 = conversions that are refused, and one that is made
-use empty
-file q
+file q empty
 run setquota -u 1000 0 4294967296 0 0 q
 changes q
 stays q r r.new
@@ -127,8 +123,7 @@ status 1
 ! quota: q: same name
 
 = a datagram that is answered
-use six
-file q
+file q six
 run setquota -u 1000 100 200 10 20 q
 changes q
 hex 00000001 00000000 00000002 000186ab 00000001 00000001
@@ -158,8 +153,7 @@ head user q 7days 7days
 long q 6144
 
 = lines that set limits, of which the third lacks a word, or has a faulty one
-use empty
-file q
+file q empty
 text 7 1 2 0 0
 text # note
 text 8 1 2 0
@@ -168,8 +162,7 @@ sweep each setquota -u -b q
 status 1
 ! quota: input: bad line 3
 changes q
-use empty
-file q
+file q empty
 text 7 1 2 0 0
 text # note
 text 8 x 2 0 0

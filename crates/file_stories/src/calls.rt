@@ -5,7 +5,7 @@
 /// change writes one record and syncs the file.
 pub const ORDER: &str = "\
 = a report reads its file 25 records at a time
-record 1 1 1 1 1 1 0 0
+record bhard 1 bsoft 1 blocks 1 ihard 1 isoft 1 inodes 1
 again 30
 file q
 run repquota -F vfsold -u -v q
@@ -43,7 +43,7 @@ head user q 7days 7days
 > #29          --          1          1          1      -        1        1        1      -
 
 = a record behind the end is written where it stands
-record 1 1 1 1 1 1 0 0
+record bhard 1 bsoft 1 blocks 1 ihard 1 isoft 1 inodes 1
 again 30
 file q
 run setquota -F vfsold -u 60 2 8 0 0 q
@@ -52,7 +52,7 @@ changes q
 long q 2440
 
 = a record that is there is read and written over
-record 1 1 1 1 1 1 0 0
+record bhard 1 bsoft 1 blocks 1 ihard 1 isoft 1 inodes 1
 again 30
 file q
 run setquota -F vfsold -u 7 2 8 0 0 q
@@ -61,7 +61,7 @@ changes q
 long q 1200
 
 = grace periods are written with the rest of record 0
-record 1 1 1 1 1 1 0 0
+record bhard 1 bsoft 1 blocks 1 ihard 1 isoft 1 inodes 1
 again 30
 file q
 run setquota -F vfsold -t 86400 3600 q
@@ -70,14 +70,14 @@ changes q
 long q 1200
 
 = nothing to write
-record 1 1 1 1 1 1 0 0
+record bhard 1 bsoft 1 blocks 1 ihard 1 isoft 1 inodes 1
 again 30
 file q
 run setquota -F vfsold -u 60 0 0 0 0 q
 calls size q; read q;
 
 = a file that is not there is not read
-record 1 1 1 1 1 1 0 0
+record bhard 1 bsoft 1 blocks 1 ihard 1 isoft 1 inodes 1
 again 30
 file q
 run setquota -F vfsold -u 60 0 0 0 0 r
@@ -86,7 +86,7 @@ status 1
 calls size r;
 
 = words that are refused call no store
-record 1 1 1 1 1 1 0 0
+record bhard 1 bsoft 1 blocks 1 ihard 1 isoft 1 inodes 1
 again 30
 file q
 run setquota -F vfsold -u 60 x 0 0 0 q
@@ -99,7 +99,7 @@ status 2
 calls
 
 = of a file that is no tree file the first block is read
-record 1 1 1 1 1 1 0 0
+record bhard 1 bsoft 1 blocks 1 ihard 1 isoft 1 inodes 1
 again 30
 file q
 run repquota q

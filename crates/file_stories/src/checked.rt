@@ -19,8 +19,7 @@ text 13 100 2049 13 8
 text 14 100 2049 14 8
 keep fifteen
 file q
-use fifteen
-input
+input fifteen
 run quotacheck -c -u -F vfsv1 q
 long q 7168
 at q 20 7 0
@@ -45,11 +44,11 @@ long q 7168
 at q 20 7
 
 = limits stay and usage and timers are those of the listing
-record 0 0 0 0 0 0 604800 604800
-record 8 2 0 9 1 0 0 0
-record 8 2 400 9 1 400 1700000500 1700000600
-record 0 0 44 0 0 3 0 0
-record 8 6 800 0 0 1 1700000700 0
+record btime 604800 itime 604800
+record bhard 8 bsoft 2 ihard 9 isoft 1
+record bhard 8 bsoft 2 blocks 400 ihard 9 isoft 1 inodes 400 btime 1700000500 itime 1700000600
+record blocks 44 inodes 3
+record bhard 8 bsoft 6 blocks 800 inodes 1 btime 1700000700
 file q
 text 1 0 9 1 8
 text 1 0 9 2 0
@@ -59,17 +58,16 @@ text 4 0 9 5 12
 text 5 0 9 6 1
 input
 both quotacheck -F vfsold q
-record 0 0 0 0 0 0 604800 604800
-record 8 2 4 9 1 2 1700604800 1700604800
-record 8 2 3 9 1 2 1700000500 1700000600
-record 0 0 0 0 0 0 0 0
-record 8 6 6 0 0 1 0 0
-record 0 0 1 0 0 1 0 0
+record btime 604800 itime 604800
+record bhard 8 bsoft 2 blocks 4 ihard 9 isoft 1 inodes 2 btime 1700604800 itime 1700604800
+record bhard 8 bsoft 2 blocks 3 ihard 9 isoft 1 inodes 2 btime 1700000500 itime 1700000600
+record
+record bhard 8 bsoft 6 blocks 6 inodes 1
+record blocks 1 inodes 1
 holds q
 
 = nothing is left of an identifier without limits that the listing does not have
-use six
-file q
+file q six
 input
 both quotacheck -u q
 long q 2048
@@ -77,16 +75,14 @@ run repquota -u -v q
 head user q 7days 7days
 
 = one with limits stays without usage
-use timed
-file q
+file q timed
 input
 run quotacheck q
 changes q
 run repquota -u -v q
 head user q 7days 7days
 > #1000        --          0          2          8      -        0        0        0      -
-use timed
-file q
+file q timed
 text 1000 0 1 1 6
 input
 run quotacheck q
@@ -94,8 +90,7 @@ changes q
 run repquota -u -v q
 head user q 7days 7days
 > #1000        +-          3          2          8  7days        1        0        0      -
-use timed
-file q
+file q timed
 text 7 0 1 1 6
 input
 run quotacheck q
@@ -113,8 +108,7 @@ put 1024 0
 put 0 3653245223
 size 2048
 keep was
-use was
-file q
+file q was
 text 1000 1000 2049 12 8
 input
 both quotacheck -g q
@@ -129,8 +123,7 @@ put 1024 0
 put 4 0
 size 2048
 keep was
-use was
-file q
+file q was
 text 1000 1000 2049 12 8
 input
 both quotacheck q
@@ -145,8 +138,7 @@ put 1024 0
 put 4 0
 size 2048
 keep was
-use was
-file q
+file q was
 text 1000 1000 2049 12 8
 input
 both quotacheck -F vfsv0 q
@@ -161,8 +153,7 @@ put 1024 0
 put 8 86400 3600
 size 2048
 keep was
-use was
-file q
+file q was
 text 1000 1000 2049 12 8
 input
 both quotacheck q
@@ -177,8 +168,7 @@ put 1024 0
 put 16 5
 size 2048
 keep was
-use was
-file q
+file q was
 text 1000 1000 2049 12 8
 input
 both quotacheck q
@@ -188,21 +178,20 @@ size 20
 begins q
 
 = the times of user 0 of a flat file are the periods, whatever it uses
-record 8 2 0 9 1 0 604800 86400
+record bhard 8 bsoft 2 ihard 9 isoft 1 btime 604800 itime 86400
 file q
 text 0 0 1 1 8
 text 0 0 1 2 0
 input
 run quotacheck -F vfsold q
-record 8 2 4 9 1 2 604800 86400
+record bhard 8 bsoft 2 blocks 4 ihard 9 isoft 1 inodes 2 btime 604800 itime 86400
 holds q
 
 = a file is replaced also where nothing changes
 text 1000 100 2049 12 8
 keep listing
 file q
-use listing
-input
+input listing
 run quotacheck -c -u -F vfsv1 q
 changes q
 get q
@@ -210,25 +199,19 @@ keep made
 use made
 fill 1 100
 file q
-use listing
-input
+input listing
 run quotacheck q
-use made
-holds q
-use listing
-input
+holds q made
+input listing
 run quotacheck q
 same q
 writes 6
 
 = a new file takes the place of its own listing
-use listing
-file q
+file q listing
 run quotacheck -c --input q q
-use made
-holds q
-use listing
-file q
+holds q made
+file q listing
 run quotacheck --input q q
 status 3
 ! quota: q: not a quota file

@@ -5,7 +5,7 @@
 /// has whole KiB, and no timer of identifier 0.
 pub const PAIRS: &str = "\
 = one map in each format
-zeros 7168
+fill 0 7168
 put 0 3653246737 0 1 4294967295 7 7 0 5
 put 1024 2
 put 2048 3
@@ -17,7 +17,7 @@ put 5136 0 0 0 1 0 0 1 0 7 0 0 0
 put 5184 5 0 0 0 0 0 0 0 9 0 0 1
 put 5232 1000 4 3 5 2 1 2049 0 0 1 1 1
 keep middle
-zeros 7168
+fill 0 7168
 put 0 3653246737 1 1 4294967295 7 7 0 5
 put 1024 2
 put 2048 3
@@ -29,25 +29,23 @@ put 5136 0 0 0 0 0 0 1 0 0 0 0 0 1 0 7 0 0 0
 put 5208 5 0 0 0 0 0 0 0 0 0 0 0 0 0 9 0 0 1
 put 5280 1000 0 4 0 3 0 5 0 2 0 1 0 2049 0 0 1 1 1
 keep new
-record 0 0 1 0 0 1 1 4294967295
-zeros 160
-record 0 0 0 0 0 0 9 4294967296
-zeros 39760
-record 2 1 3 4 3 5 4294967296 4294967297
+record blocks 1 inodes 1 btime 1 itime 4294967295
+fill 0 160
+record btime 9 itime 4294967296
+fill 0 39760
+record bhard 2 bsoft 1 blocks 3 ihard 4 isoft 3 inodes 5 btime 4294967296 itime 4294967297
 keep old
-record 0 0 1 0 0 1 1 4294967295
-zeros 39960
-record 2 1 3 4 3 5 4294967296 4294967297
+record blocks 1 inodes 1 btime 1 itime 4294967295
+fill 0 39960
+record bhard 2 bsoft 1 blocks 3 ihard 4 isoft 3 inodes 5 btime 4294967296 itime 4294967297
 keep made
 
 = from vfsold to vfsold
-use old
-file q
+file q old
 run convertquota -f vfsold,vfsold q r
 same q
 absent r.new
-use made
-holds r
+holds r made
 run repquota -F vfsold -v -p r
 head user r 00:00 49710days
 > #0           --          1          0          0      0        1        0        0      0
@@ -55,15 +53,14 @@ head user r 00:00 49710days
 drop r
 
 = from vfsold to vfsv0
-use old
-file q
+file q old
 run convertquota -f vfsold,vfsv0 q r
 same q
 absent r.new
 long r 7168
-numbers 3653246737 0 1 4294967295 0 7 0
+put end 3653246737 0 1 4294967295 0 7 0
 begins r
-numbers 0 0 0 1 0 0 1024 0 0 0 0 0 1000 4 3 5 2 1 3072 0 0 1 1 1
+put end 0 0 0 1 0 0 1024 0 0 0 0 0 1000 4 3 5 2 1 3072 0 0 1 1 1
 has r
 run repquota -F vfsv0 -v -p r
 head user r 00:00 49710days
@@ -72,15 +69,14 @@ head user r 00:00 49710days
 drop r
 
 = from vfsold to vfsv1
-use old
-file q
+file q old
 run convertquota -f vfsold,vfsv1 q r
 same q
 absent r.new
 long r 7168
-numbers 3653246737 1 1 4294967295 0 7 0
+put end 3653246737 1 1 4294967295 0 7 0
 begins r
-numbers 0 0 0 0 0 0 1 0 0 0 0 0 1024 0 0 0 0 0 1000 0 4 0 3 0 5 0 2 0 1 0 3072 0 0 1 1 1
+put end 0 0 0 0 0 0 1 0 0 0 0 0 1024 0 0 0 0 0 1000 0 4 0 3 0 5 0 2 0 1 0 3072 0 0 1 1 1
 has r
 run repquota -F vfsv1 -v -p r
 head user r 00:00 49710days
@@ -89,13 +85,11 @@ head user r 00:00 49710days
 drop r
 
 = from vfsv0 to vfsold
-use middle
-file q
+file q middle
 run convertquota -f vfsv0,vfsold q r
 same q
 absent r.new
-use made
-holds r
+holds r made
 run repquota -F vfsold -v -p r
 head user r 00:00 49710days
 > #0           --          1          0          0      0        1        0        0      0
@@ -103,15 +97,14 @@ head user r 00:00 49710days
 drop r
 
 = from vfsv0 to vfsv0
-use middle
-file q
+file q middle
 run convertquota -f vfsv0,vfsv0 q r
 same q
 absent r.new
 long r 7168
-numbers 3653246737 0 1 4294967295 0 7 0
+put end 3653246737 0 1 4294967295 0 7 0
 begins r
-numbers 0 0 0 1 0 0 1 0 7 0 0 0 1000 4 3 5 2 1 2049 0 0 1 1 1
+put end 0 0 0 1 0 0 1 0 7 0 0 0 1000 4 3 5 2 1 2049 0 0 1 1 1
 has r
 run repquota -F vfsv0 -v -p r
 head user r 00:00 49710days
@@ -120,15 +113,14 @@ head user r 00:00 49710days
 drop r
 
 = from vfsv0 to vfsv1
-use middle
-file q
+file q middle
 run convertquota -f vfsv0,vfsv1 q r
 same q
 absent r.new
 long r 7168
-numbers 3653246737 1 1 4294967295 0 7 0
+put end 3653246737 1 1 4294967295 0 7 0
 begins r
-numbers 0 0 0 0 0 0 1 0 0 0 0 0 1 0 7 0 0 0 1000 0 4 0 3 0 5 0 2 0 1 0 2049 0 0 1 1 1
+put end 0 0 0 0 0 0 1 0 0 0 0 0 1 0 7 0 0 0 1000 0 4 0 3 0 5 0 2 0 1 0 2049 0 0 1 1 1
 has r
 run repquota -F vfsv1 -v -p r
 head user r 00:00 49710days
@@ -137,13 +129,11 @@ head user r 00:00 49710days
 drop r
 
 = from vfsv1 to vfsold
-use new
-file q
+file q new
 run convertquota -f vfsv1,vfsold q r
 same q
 absent r.new
-use made
-holds r
+holds r made
 run repquota -F vfsold -v -p r
 head user r 00:00 49710days
 > #0           --          1          0          0      0        1        0        0      0
@@ -151,15 +141,14 @@ head user r 00:00 49710days
 drop r
 
 = from vfsv1 to vfsv0
-use new
-file q
+file q new
 run convertquota -f vfsv1,vfsv0 q r
 same q
 absent r.new
 long r 7168
-numbers 3653246737 0 1 4294967295 0 7 0
+put end 3653246737 0 1 4294967295 0 7 0
 begins r
-numbers 0 0 0 1 0 0 1 0 7 0 0 0 1000 4 3 5 2 1 2049 0 0 1 1 1
+put end 0 0 0 1 0 0 1 0 7 0 0 0 1000 4 3 5 2 1 2049 0 0 1 1 1
 has r
 run repquota -F vfsv0 -v -p r
 head user r 00:00 49710days
@@ -168,15 +157,14 @@ head user r 00:00 49710days
 drop r
 
 = from vfsv1 to vfsv1
-use new
-file q
+file q new
 run convertquota -f vfsv1,vfsv1 q r
 same q
 absent r.new
 long r 7168
-numbers 3653246737 1 1 4294967295 0 7 0
+put end 3653246737 1 1 4294967295 0 7 0
 begins r
-numbers 0 0 0 0 0 0 1 0 0 0 0 0 1 0 7 0 0 0 1000 0 4 0 3 0 5 0 2 0 1 0 2049 0 0 1 1 1
+put end 0 0 0 0 0 0 1 0 0 0 0 0 1 0 7 0 0 0 1000 0 4 0 3 0 5 0 2 0 1 0 2049 0 0 1 1 1
 has r
 run repquota -F vfsv1 -v -p r
 head user r 00:00 49710days
@@ -188,8 +176,7 @@ drop r
 /// Values at the ends of what a format has room for.
 pub const ENDS: &str = "\
 = a limit of 32 bits fits, and none of 33
-use empty
-file q
+file q empty
 run setquota -u 1000 0 4294967296 0 0 q
 changes q
 run convertquota -u -f vfsv1,vfsv0 q r
@@ -221,7 +208,7 @@ absent q.new
 writes 0
 
 = a space of 513 bytes is 1 KiB of a flat file
-zeros 6144
+fill 0 6144
 put 0 3653246737 0 604800 604800 0 6 0 5
 put 1024 2
 put 2048 3
@@ -240,7 +227,7 @@ head user r 7days 7days
 > #1000        --          1          0          0      -        1        0        0      -
 
 = records without limits and use, and flags, are left out
-zeros 7168
+fill 0 7168
 put 0 3653246737 1 604800 604800 7 7 0 5
 put 1024 2
 put 2048 3
@@ -255,15 +242,14 @@ file q
 run convertquota -f vfsv1,vfsv1 q r
 same q
 long r 6144
-numbers 3653246737 1 604800 604800 0 6 0
+put end 3653246737 1 604800 604800 0 6 0
 begins r
 run repquota -u -v r
 head user r 7days 7days
 > #1000        --          0          1          0      -        0        0        0      -
 
 = an identifier behind the last one of a flat file
-use empty
-file q
+file q empty
 run setquota -u 1048576 1 0 0 0 q
 changes q
 run convertquota -u -f vfsv1,vfsold q r
@@ -274,7 +260,7 @@ absent r r.new
 writes 0
 
 = an identifier behind them that limits and uses nothing is in no one's way
-zeros 6144
+fill 0 6144
 put 0 3653246737 1 604800 604800 0 6 0 5
 put 1024 2
 put 2112 3
@@ -289,11 +275,11 @@ head user q 7days 7days
 > #1048576     --          0          0          0      -        0        0        0      -
 run convertquota -f vfsv1,vfsold q r
 same q
-record 0 0 0 0 0 0 604800 604800
+record btime 604800 itime 604800
 holds r
 
 = a space of 2^32 KiB has no room in a flat file, and is told in bytes
-zeros 6144
+fill 0 6144
 put 0 3653246737 0 604800 604800 0 6 0 5
 put 1024 2
 put 2048 3
@@ -302,8 +288,7 @@ put 5024 5
 put 5128 1
 put 5136 1000 0 0 1 0 0 4294966272 1023
 keep full
-use full
-file q
+file q full
 run convertquota -f vfsv0,vfsold q r
 same q
 changes r

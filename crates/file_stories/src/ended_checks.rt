@@ -1,8 +1,7 @@
 /// Listings at the edges of what is taken, and those for which a format has no room.
 pub const BOUNDS: &str = "\
 = a line of a listing has 256 bytes at most
-use empty
-file q
+file q empty
 raw 1000 100 2049 12 8
 fill 32 238
 input
@@ -11,8 +10,7 @@ changes q
 run repquota q
 head user q 7days 7days
 > #1000        --          4          0          0      -        1        0        0      -
-use empty
-file q
+file q empty
 raw 1000 100 2049 12 8
 fill 32 238
 text
@@ -22,8 +20,7 @@ changes q
 run repquota q
 head user q 7days 7days
 > #1000        --          4          0          0      -        1        0        0      -
-use empty
-file q
+file q empty
 raw 1000 100 2049 12 8
 fill 32 239
 input
@@ -31,8 +28,7 @@ both quotacheck -c -u -F vfsv1 q
 status 1
 ! quota: input: long line 1
 writes 0
-use empty
-file q
+file q empty
 raw 1000 100 2049 12 8
 fill 32 239
 text
@@ -43,8 +39,7 @@ status 1
 writes 0
 
 = of two faults the first one is named
-use empty
-file q
+file q empty
 text x
 fill 32 257
 input
@@ -86,8 +81,7 @@ status 1
 writes 0
 
 = no file is written where its format has no room
-use empty
-file q
+file q empty
 text 1048577 0 1 1 8
 text 1048576 0 1 2 8
 input
@@ -124,35 +118,30 @@ status 1
 writes 0
 
 = a file that is there has no room either
-use six
-file q
+file q six
 run setquota -u 7 2 8 0 0 q
 changes q
 get q
 keep fresh
 now 18446744073709551615
-use timed
-file q
+file q timed
 text 1000 0 1 1 6
 file other
 run quotacheck -u --input other q
 changes q
-use timed
-file q
+file q timed
 text 1000 0 1 1 36028797018963968
 file other
 run quotacheck -u --input other q
 status 1
 ! quota: q: no room for space 18446744073709551616 of 1000
 writes 0
-use timed
-file q
+file q timed
 text 1000 0 1 1 36028797018963967
 file other
 run quotacheck -u --input other q
 changes q
-use fresh
-file q
+file q fresh
 text 7 0 1 1 6
 file other
 run quotacheck -u --input other q
@@ -167,20 +156,17 @@ pub const CALLS: &str = "\
 use six
 size 6143
 keep cut
-use six
-file q
+file q six
 run quotacheck absent
 status 1
 ! quota: absent: no such file
 writes 0
-use six
-file q
+file q six
 run quotacheck -g q
 status 3
 ! quota: q: wrong kind
 writes 0
-use six
-file q
+file q six
 run quotacheck -F vfsv0 q
 status 3
 ! quota: q: other format
@@ -191,36 +177,31 @@ run quotacheck q
 status 3
 ! quota: q: not a quota file
 writes 0
-use cut
-file q
+file q cut
 run quotacheck q
 status 3
 ! quota: q: damaged: Short at block 5
 writes 0
-use cut
-file q
+file q cut
 run quotacheck -F vfsold q
 status 3
 ! quota: q: damaged: PartialRecord at record 153
 writes 0
 
 = a new file is made whatever stood there, or where nothing did
-use cut
-file q
+file q cut
 text 1000 100 2049 12 8
 input
 run quotacheck -c -u -F vfsv1 q
 long q 6144
-use cut
-file q
+file q cut
 text 1000 100 2049 12 8
 input
 run quotacheck -c -u absent
 long absent 6144
 
 = no new file is made of a wrong listing
-use cut
-file q
+file q cut
 text x
 input
 run quotacheck -c -u absent
@@ -246,23 +227,18 @@ writes 0
 text 1000 100 2049 12 8
 text 1001 100 2049 13 8
 keep two
-use two
-file l
-use six
-file q
-use two
-input
+file l two
+file q six
+input two
 fails store 6
 run quotacheck q
 status 4
 ! quota: store fault
-use two
-input
+input two
 stays q
 sweep store quotacheck q
 changes q
-use six
-file q
+file q six
 fails store 8
 run quotacheck --input l q
 status 4
@@ -270,23 +246,19 @@ status 4
 stays q
 sweep store quotacheck --input l q
 changes q
-use six
-file q
-use two
-input
+file q six
+input two
 fails store 3
 run quotacheck -c q
 status 4
 ! quota: store fault
 changes q.new
 drop q.new
-use two
-input
+input two
 stays q
 sweep store quotacheck -c q
 changes q
-use six
-file q
+file q six
 fails store 5
 run quotacheck -c --input l q
 status 4
@@ -296,24 +268,20 @@ drop q.new
 stays q
 sweep store quotacheck -c --input l q
 changes q
-use six
-file q
-use two
-input
+file q six
+input two
 fails input 1
 run quotacheck q
 status 4
 ! quota: input fault
 writes 0
-use two
-input
+input two
 fails input 2
 run quotacheck q
 status 4
 ! quota: input fault
 writes 0
-use two
-input
+input two
 stays q q.new
 sweep input quotacheck q
 changes q

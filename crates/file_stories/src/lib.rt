@@ -1,4 +1,4 @@
-//! Stories of `repquota`, `quotacheck`, `convertquota`, `generate`, `rquotad`, names, the words of all commands and the calls of the store: rows as text, which the
+//! Stories of `repquota`, `quotacheck`, `convertquota`, `generate`, `rquotad`, names and the calls of the store: rows as text, which the
 //! tests of the program carry out.
 #![tactic(auto)]
 
@@ -16,4 +16,3 @@ pub mod served;
 pub mod summed;
 pub mod trees;
 pub mod turned;
-pub mod words;

@@ -10,19 +10,17 @@ keep users
 text staff:x:0:alice
 text users:x:1000:
 keep groups
-record 0 0 24 0 0 3 0 0
-zeros 240
-record 8 2 0 0 0 0 0 0
-zeros 39680
-record 0 0 1128 0 0 13 0 0
-record 0 0 580 0 0 10 0 0
+record blocks 24 inodes 3
+fill 0 240
+record bhard 8 bsoft 2
+fill 0 39680
+record blocks 1128 inodes 13
+record blocks 580 inodes 10
 keep flat
 
 = a report shows the names of its file
-use flat
-file q
-use users
-file other
+file q flat
+file other users
 run repquota -F vfsold -u --names other q
 head user q 7days 7days
 > root         --         24          0          0      -        3        0        0      -
@@ -30,10 +28,8 @@ head user q 7days 7days
 > bob          --        580          0          0      -       10        0        0      -
 
 = a report on groups shows the names of groups, and the number of one that has no name
-use flat
-file q
-use groups
-file other
+file q flat
+file other groups
 run repquota -F vfsold --names=other -g q
 head group q 7days 7days
 > staff        --         24          0          0      -        3        0        0      -
@@ -41,10 +37,8 @@ head group q 7days 7days
 > #1001        --        580          0          0      -       10        0        0      -
 
 = a report without names shows numbers
-use flat
-file q
-use users
-file other
+file q flat
+file other users
 run repquota -F vfsold -n --names other q
 head user q 7days 7days
 > #0           --         24          0          0      -        3        0        0      -
@@ -57,10 +51,8 @@ head user q 7days 7days
 > #1001        --        580          0          0      -       10        0        0      -
 
 = one that has no name is shown by the number, in a tree file too
-use seven
-file q
-use users
-file other
+file q seven
+file other users
 run repquota --names other q
 head user q 7days 7days
 > alice        --          4          0          0      -        1        0        0      -
@@ -75,10 +67,8 @@ head user q 7days 7days
 > #65534       --          8          0          0      -        2        0        0      -
 
 = a store that fails under the names ends the command
-use six
-file q
-use users
-file other
+file q six
+file other users
 run repquota q
 head user q 7days 7days
 > #1000        --          4          0          0      -        1        0        0      -
@@ -104,92 +94,70 @@ text bob:x:1001:100:Bob:/home/bob:/bin/sh
 keep users
 
 = a name stands for its identifier where limits are set
-use users
-file other
-use timed
-file q
+file other users
+file q timed
 run setquota 1000 100 200 0 0 q
 changes q
 get q
 keep numbers
-use timed
-file q
+file q timed
 run setquota --names other alice 100 200 0 0 q
 changes q
-use numbers
-holds q
+holds q numbers
 
 = names stand for identifiers where limits are copied
-use users
-file other
-use timed
-file q
+file other users
+file q timed
 run setquota -p 1000 1001 q
 changes q
 get q
 keep numbers
-use timed
-file q
+file q timed
 run setquota --names other -p alice bob q
 changes q
-use numbers
-holds q
-use timed
-file q
+holds q numbers
+file q timed
 run setquota --names other -p 000000000000000000001000 bob q
 changes q
-use numbers
-holds q
+holds q numbers
 
 = a name stands for its identifier where times are set
-use users
-file other
-use timed
-file q
+file other users
+file q timed
 run setquota -T 1000 5 5 q
 ! quota: inode time not set, soft limit not exceeded
 changes q
 get q
 keep numbers
-use timed
-file q
+file q timed
 run setquota --names other -T alice 5 5 q
 ! quota: inode time not set, soft limit not exceeded
 changes q
-use numbers
-holds q
+holds q numbers
 
 = periods have no names, and no file of names is asked for
-use users
-file other
-use timed
-file q
+file other users
+file q timed
 run setquota -t 5 5 q
 changes q
 get q
 keep numbers
-use timed
-file q
+file q timed
 run setquota --names none -t 5 5 q
 changes q
-use numbers
-holds q
+holds q numbers
 
 = a number stands for itself under names, also with zeros before it
-use users
-file other
-use timed
-file q
+file other users
+file q timed
 run setquota 1000 1 1 1 1 q
 changes q
 get q
 keep numbers
-use timed
-file q
+file q timed
 run setquota --names other 01000 1 1 1 1 q
 changes q
-use numbers
-holds q
+holds q numbers
 ";
 
 /// What refuses names. No run meets a file that is named `n` or `r`.
@@ -208,10 +176,8 @@ text b:x:2
 keep cut
 
 = a file of names that is not there is refused before the other words
-use six
-file q
-use users
-file other
+file q six
+file other users
 run repquota --names n r
 status 1
 ! quota: n: no such file
@@ -223,27 +189,22 @@ status 1
 ! quota: n: no such file
 
 = a file of names with a bad line is refused before the other words
-use six
-file q
-use groups
-file other
+file q six
+file other groups
 run repquota -n --names other q
 status 1
 ! quota: other: bad line 1
 run repquota --names other r
 status 1
 ! quota: other: bad line 1
-use cut
-file other
+file other cut
 run repquota -g --names other r
 status 1
 ! quota: other: bad line 3
 
 = the other words are refused behind the names
-use six
-file q
-use users
-file other
+file q six
+file other users
 run repquota --names other r
 status 1
 ! quota: r: no such file

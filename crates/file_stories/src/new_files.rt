@@ -6,7 +6,7 @@ raw no quota file
 file q
 input
 both quotacheck -c -u -F vfsv1 q
-numbers 3653246737 1 604800 604800 0 2 0 0 0 0
+put end 3653246737 1 604800 604800 0 2 0 0 0 0
 size 2048
 holds q
 absent q.new
@@ -14,7 +14,7 @@ raw no quota file
 file q
 input
 both quotacheck -c q
-numbers 3653246737 1 604800 604800 0 2 0 0 0 0
+put end 3653246737 1 604800 604800 0 2 0 0 0 0
 size 2048
 holds q
 absent q.new
@@ -22,7 +22,7 @@ raw no quota file
 file q
 input
 both quotacheck -cF vfsv0 q
-numbers 3653246737 0 604800 604800 0 2 0 0 0 0
+put end 3653246737 0 604800 604800 0 2 0 0 0 0
 size 2048
 holds q
 absent q.new
@@ -30,7 +30,7 @@ raw no quota file
 file q
 input
 both quotacheck -c -g q
-numbers 3653245223 1 604800 604800 0 2 0 0 0 0
+put end 3653245223 1 604800 604800 0 2 0 0 0 0
 size 2048
 holds q
 absent q.new
@@ -38,7 +38,7 @@ raw no quota file
 file q
 input
 both quotacheck -c -F vfsold q
-numbers 0 0 0 0 0 0 604800 0 604800 0
+put end 0 0 0 0 0 0 604800 0 604800 0
 holds q
 absent q.new
 

@@ -3,8 +3,7 @@
 /// Which value without room is told, and grace periods at the ends of their ranges.
 pub const FIRST: &str = "\
 = the least identifier is told, and of it the first field
-use empty
-file q
+file q empty
 run setquota -u 6 4294967296 4294967297 0 0 q
 changes q
 run setquota -u 5 4294967298 0 4294967299 4294967300 q
@@ -73,18 +72,16 @@ put 8 0 4294967295
 file q
 run convertquota -f vfsv1,vfsv0 q r
 same q
-numbers 3653246737 0 0 4294967295 0 2
+put end 3653246737 0 0 4294967295 0 2
 size 2048
 holds r
 drop r
-record 0 0 0 0 0 0 18446744073709551615 18446744073709551615
+record btime 18446744073709551615 itime 18446744073709551615
 keep longest
-use longest
-file q
+file q longest
 run convertquota -f vfsold,vfsold q r
 same q
-use longest
-holds r
+holds r longest
 drop r
 run convertquota -f vfsold,vfsv1 q r
 status 1
@@ -92,7 +89,7 @@ status 1
 same q
 absent r r.new
 writes 0
-record 0 0 0 0 0 0 4294967295 4294967296
+record btime 4294967295 itime 4294967296
 file q
 run convertquota -f vfsold,vfsv0 q r
 status 1
@@ -100,11 +97,11 @@ status 1
 same q
 absent r r.new
 writes 0
-record 0 0 0 0 0 0 0 4294967295
+record itime 4294967295
 file q
 run convertquota -f vfsold,vfsv0 q r
 same q
-numbers 3653246737 0 604800 4294967295 0 2
+put end 3653246737 0 604800 4294967295 0 2
 size 2048
 holds r
 ";
@@ -132,8 +129,7 @@ absent q r r.new
 writes 0
 
 = a file is opened as one of the first format and of its kind
-use empty
-file q
+file q empty
 run convertquota -f vfsv0,vfsv1 q r
 status 3
 ! quota: q: other format
@@ -165,7 +161,7 @@ put 24 2
 file q
 run convertquota -f vfsv1,vfsold q r
 status 3
-!^ quota: q: damaged: 
+! quota: q: damaged: TwoRoles at block 2
 same q
 absent r r.new
 writes 0
@@ -191,16 +187,14 @@ size 2048
 holds r
 
 = no file has the name under which the new one is written first
-use empty
-file r.new
+file r.new empty
 run convertquota -f vfsv1,vfsv0 r.new r
 status 2
 ! quota: usage: BadFileName at word 3
 same r.new
 absent r
 writes 0
-use empty
-file q
+file q empty
 run convertquota -f vfsv1,vfsv0 q r.new
 status 2
 ! quota: usage: BadFileName at word 4
@@ -208,8 +202,7 @@ same q r.new
 writes 0
 
 = what was left behind is not in the way
-use six
-file q
+file q six
 raw junk
 file r.new
 run convertquota -f vfsv1,vfsold q r
@@ -218,17 +211,15 @@ long r 40040
 absent r.new
 
 = the new file is made whole and synced before it gets its name
-use empty
-file q
+file q empty
 run convertquota -f vfsv1,vfsold q r
 calls size r; size q; read q; size q; read q; read q; create r.new; write r.new; sync r.new; rename r.new r;
 same q
-record 0 0 0 0 0 0 604800 604800
+record btime 604800 itime 604800
 holds r
 
 = each call that fails ends a conversion, which leaves no new file
-use six
-file q
+file q six
 stays q r
 sweep store convertquota -f vfsv1,vfsold q r
 same q
@@ -239,15 +230,14 @@ sweep store convertquota -f vfsv1,vfsv0 q r
 same q
 long r 6144
 drop r
-use six
-file q
+file q six
 stays q r
 sweep store convertquota -f vfsv1,vfsv1 q r
 same q
 long r 6144
 drop r
-record 0 0 0 0 0 0 604800 604800
-record 1 1 1 1 1 1 0 0
+record btime 604800 itime 604800
+record bhard 1 bsoft 1 blocks 1 ihard 1 isoft 1 inodes 1
 file q
 stays q r
 sweep store convertquota -f vfsold,vfsv1 q r
@@ -255,8 +245,7 @@ same q
 long r 6144
 
 = a damage that is met after opening ends a conversion
-use six
-file q
+file q six
 turn convertquota -f vfsv1,vfsv0 q r
 same q
 long r 6144

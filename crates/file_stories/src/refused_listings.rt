@@ -1,33 +1,28 @@
 /// Listings with wrong lines.
 pub const LISTINGS: &str = "\
 = the first wrong line of a listing is named
-use six
-file q
+file q six
 text 1000 100 2049 12 8
 text 1000 100 2049 13
 keep listing
-use listing
-input
+input listing
 both quotacheck -u q
 status 1
 ! quota: input: bad line 2
 writes 0
-use listing
-input
+input listing
 both quotacheck -c -u -F vfsv1 q
 status 1
 ! quota: input: bad line 2
 writes 0
 text 1000 100 2049 12 8 9
 keep listing
-use listing
-input
+input listing
 both quotacheck -u q
 status 1
 ! quota: input: bad line 1
 writes 0
-use listing
-input
+input listing
 both quotacheck -c -u -F vfsv1 q
 status 1
 ! quota: input: bad line 1
@@ -35,98 +30,84 @@ writes 0
 text
 text 1000 100 2049 12 8x
 keep listing
-use listing
-input
+input listing
 both quotacheck -u q
 status 1
 ! quota: input: bad line 2
 writes 0
-use listing
-input
+input listing
 both quotacheck -c -u -F vfsv1 q
 status 1
 ! quota: input: bad line 2
 writes 0
 text 4294967296 100 2049 12 8
 keep listing
-use listing
-input
+input listing
 both quotacheck -u q
 status 1
 ! quota: input: bad line 1
 writes 0
-use listing
-input
+input listing
 both quotacheck -c -u -F vfsv1 q
 status 1
 ! quota: input: bad line 1
 writes 0
 text 1000 4294967296 2049 12 8
 keep listing
-use listing
-input
+input listing
 both quotacheck -u q
 status 1
 ! quota: input: bad line 1
 writes 0
-use listing
-input
+input listing
 both quotacheck -c -u -F vfsv1 q
 status 1
 ! quota: input: bad line 1
 writes 0
 text 1000 100 18446744073709551616 12 8
 keep listing
-use listing
-input
+input listing
 both quotacheck -u q
 status 1
 ! quota: input: bad line 1
 writes 0
-use listing
-input
+input listing
 both quotacheck -c -u -F vfsv1 q
 status 1
 ! quota: input: bad line 1
 writes 0
 text 1000 100 2049 18446744073709551616 8
 keep listing
-use listing
-input
+input listing
 both quotacheck -u q
 status 1
 ! quota: input: bad line 1
 writes 0
-use listing
-input
+input listing
 both quotacheck -c -u -F vfsv1 q
 status 1
 ! quota: input: bad line 1
 writes 0
 text 1000 100 2049 12 18446744073709551616
 keep listing
-use listing
-input
+input listing
 both quotacheck -u q
 status 1
 ! quota: input: bad line 1
 writes 0
-use listing
-input
+input listing
 both quotacheck -c -u -F vfsv1 q
 status 1
 ! quota: input: bad line 1
 writes 0
 text 1000 100 2049 12 000000000000000000008
 keep listing
-use listing
-input
+input listing
 both quotacheck -u q
 status 1
 ! quota: input: bad line 1
 writes 0
-use listing
-input
+input listing
 both quotacheck -c -u -F vfsv1 q
 status 1
 ! quota: input: bad line 1
@@ -134,28 +115,24 @@ writes 0
 raw 1000 100 2049 12 8
 hex 0d 0a
 keep listing
-use listing
-input
+input listing
 both quotacheck -u q
 status 1
 ! quota: input: bad line 1
 writes 0
-use listing
-input
+input listing
 both quotacheck -c -u -F vfsv1 q
 status 1
 ! quota: input: bad line 1
 writes 0
 text -1 100 2049 12 8
 keep listing
-use listing
-input
+input listing
 both quotacheck -u q
 status 1
 ! quota: input: bad line 1
 writes 0
-use listing
-input
+input listing
 both quotacheck -c -u -F vfsv1 q
 status 1
 ! quota: input: bad line 1
@@ -163,14 +140,12 @@ writes 0
 text 1000 100 2049 12 8
 text 1000 100 2049 13
 keep listing
-use listing
-input
+input listing
 both quotacheck -u --device 7 q
 status 1
 ! quota: input: bad line 2
 writes 0
-use listing
-input
+input listing
 both quotacheck -c -u -F vfsv1 --device 7 q
 status 1
 ! quota: input: bad line 2
@@ -179,14 +154,12 @@ text 1000 100 2049 12 8
 text 1000 100 2049 13 8
 text 1001 100 2049 12 8
 keep listing
-use listing
-input
+input listing
 both quotacheck -u q
 status 1
 ! quota: input: line 3 conflicts with line 1
 writes 0
-use listing
-input
+input listing
 both quotacheck -c -u -F vfsv1 q
 status 1
 ! quota: input: line 3 conflicts with line 1
@@ -195,14 +168,12 @@ text 1000 100 2049 12 8
 text 1000 101 2049 12 8
 text x
 keep listing
-use listing
-input
+input listing
 both quotacheck -u q
 status 1
 ! quota: input: line 2 conflicts with line 1
 writes 0
-use listing
-input
+input listing
 both quotacheck -c -u -F vfsv1 q
 status 1
 ! quota: input: line 2 conflicts with line 1
@@ -212,22 +183,19 @@ text 1000 100 2049 12 8
 text 1000 100 2049 12 8
 text 1000 100 2049 12 9
 keep listing
-use listing
-input
+input listing
 both quotacheck -u q
 status 1
 ! quota: input: line 4 conflicts with line 2
 writes 0
-use listing
-input
+input listing
 both quotacheck -c -u -F vfsv1 q
 status 1
 ! quota: input: line 4 conflicts with line 2
 writes 0
 
 = the owners of an inode have to agree also where groups are counted
-use six
-file q
+file q six
 text 1000 100 2049 12 8
 text 1001 100 2049 12 8
 input

@@ -8,16 +8,16 @@ run repquota -F vfsold -u -v q
 head user q 7days 7days
 
 = limits of one that uses nothing
-zeros 40000
-record 200 100 0 20 10 0 0 0
+fill 0 40000
+record bhard 200 bsoft 100 ihard 20 isoft 10
 file q
 run repquota -F vfsold -u -v q
 head user q 7days 7days
 > #1000        --          0        100        200      -        0       10       20      -
 
 = over the soft limit of blocks, the timer runs down, and is over when it is reached
-zeros 40000
-record 8 2 4 0 0 1 1700604800 0
+fill 0 40000
+record bhard 8 bsoft 2 blocks 4 inodes 1 btime 1700604800
 file q
 run repquota -F vfsold -u -v q
 head user q 7days 7days
@@ -36,54 +36,54 @@ head user q 7days 7days
 > #1000        +-          4          2          8   none        1        0        0      -
 
 = over the soft limit of blocks, with a timer that does not run
-zeros 40000
-record 8 2 4 0 0 1 0 0
+fill 0 40000
+record bhard 8 bsoft 2 blocks 4 inodes 1
 file q
 run repquota -F vfsold -u -v q
 head user q 7days 7days
 > #1000        +-          4          2          8   none        1        0        0      -
 
 = over the hard limit alone, of blocks and of inodes
-zeros 40000
-record 3 0 4 5 0 6 0 0
+fill 0 40000
+record bhard 3 blocks 4 ihard 5 inodes 6
 file q
 run repquota -F vfsold -u -v q
 head user q 7days 7days
 > #1000        ++          4          0          3      -        6        0        5      -
 
 = at the soft limit
-zeros 40000
-record 0 4 4 0 6 6 1700604800 1700604800
+fill 0 40000
+record bsoft 4 blocks 4 isoft 6 inodes 6 btime 1700604800 itime 1700604800
 file q
 run repquota -F vfsold -u -v q
 head user q 7days 7days
 > #1000        --          4          4          0      -        6        6        0      -
 
 = inodes over the soft limit, an hour and a half ahead
-zeros 40000
-record 0 0 0 0 6 7 0 1700005400
+fill 0 40000
+record isoft 6 inodes 7 itime 1700005400
 file q
 run repquota -F vfsold -u -v q
 head user q 7days 7days
 > #1000        -+          0          0          0      -        7        6        0  01:30
 
 = columns widen
-zeros 40000
-record 4294967295 4294967295 4294967295 4294967295 1 4294967295 0 18446744073709551615
+fill 0 40000
+record bhard 4294967295 bsoft 4294967295 blocks 4294967295 ihard 4294967295 isoft 1 inodes 4294967295 itime 18446744073709551615
 file q
 run repquota -F vfsold -u -v q
 head user q 7days 7days
 > #1000        -+ 4294967295 4294967295 4294967295      - 4294967295        1 4294967295 213503982314925days
 
 = the times of identifier 0 are the periods, and no timers
-record 8 2 4 0 0 1 3600 172799
+record bhard 8 bsoft 2 blocks 4 inodes 1 btime 3600 itime 172799
 file q
 run repquota -F vfsold -u -v q
 head user q 01:00 2days
 > #0           +-          4          2          8   none        1        0        0      -
 
 = times alone make no record, and a period of 0 is 7 days
-record 0 0 0 0 0 0 0 18446744073709551615
+record itime 18446744073709551615
 file q
 run repquota -F vfsold -u -v q
 head user q 7days 213503982334601days
@@ -92,7 +92,7 @@ head user q 7days 213503982334601days
 /// What refuses a report, and the line of each refusal.
 pub const REFUSED: &str = "\
 = a cut record is a damage
-zeros 79
+fill 0 79
 file q
 run repquota -F vfsold -u -v q
 status 3
@@ -132,7 +132,7 @@ status 2
 /// Reports in which calls fail.
 pub const FAILING: &str = "\
 = each of the three calls of the store fails, and a report has no more
-record 2 1 1 2 1 1 0 0
+record bhard 2 bsoft 1 blocks 1 ihard 2 isoft 1 inodes 1
 again 3
 file q
 fails store 1
@@ -160,7 +160,7 @@ head user q 7days 7days
 > #2           --          1          1          2      -        1        1        2      -
 
 = the first call of the output fails, and a report has one
-record 2 1 1 2 1 1 0 0
+record bhard 2 bsoft 1 blocks 1 ihard 2 isoft 1 inodes 1
 again 3
 file q
 fails output 1
@@ -175,7 +175,7 @@ head user q 7days 7days
 > #2           --          1          1          2      -        1        1        2      -
 
 = whichever call of the output fails is told
-record 2 1 1 2 1 1 0 0
+record bhard 2 bsoft 1 blocks 1 ihard 2 isoft 1 inodes 1
 again 3
 file q
 sweep output repquota -F vfsold -u -v q
@@ -185,7 +185,7 @@ head user q 7days 7days
 > #2           --          1          1          2      -        1        1        2      -
 
 = an error output that fails changes no report, and takes the line of a fault
-record 2 1 1 2 1 1 0 0
+record bhard 2 bsoft 1 blocks 1 ihard 2 isoft 1 inodes 1
 again 3
 file q
 fails error 1

@@ -18,8 +18,7 @@ hex 00000001 00000001 00000000 00000000 00000000 00000000 00000003
 keep denied
 hex 00000001 00000001 00000000 00000000 00000000 00000000 00000002
 keep absent
-use six
-file q
+file q six
 run setquota -u 1000 100 200 10 20 q
 changes q
 get q
@@ -31,14 +30,13 @@ run convertquota -u -f vfsv1,vfsv0 q r
 changes r
 get r
 keep older
-record 0 0 0 0 0 0 604800 604800
-zeros 39960
-record 200 100 4 20 10 1 0 0
+record btime 604800 itime 604800
+fill 0 39960
+record bhard 200 bsoft 100 blocks 4 ihard 20 isoft 10 inodes 1
 keep flat
 
 = a datagram without a reply counts
-use limited
-file q
+file q limited
 raw abc
 datagram 1700000000
 use call
@@ -49,8 +47,7 @@ sent
 same q
 
 = a file of vfsv1 is told of, found as one that needs no asking
-use limited
-file q
+file q limited
 use call
 datagram 1700000000
 run rquotad --calls 1 --port 65535 --export /home user q
@@ -59,8 +56,7 @@ sent
 same q
 
 = a file of vfsv0 is told of
-use older
-file q
+file q older
 use call
 datagram 1700000000
 run rquotad --format vfsv0 --calls 1 --port 0 --export /home user q
@@ -69,8 +65,7 @@ sent
 same q
 
 = a flat file is told of where it is asked for
-use flat
-file q
+file q flat
 use call
 datagram 1700000000
 run rquotad --format vfsold --calls 1 --port 0 --export /home user q
@@ -79,10 +74,8 @@ sent
 same q
 
 = a member is told of the group, and the file of users under the same path is another one
-use six
-file q
-use group
-file g
+file q six
+file g group
 use grouped
 datagram 1700000000
 run rquotad --calls 1 --port 0 --export /home user q --export /home group g
@@ -91,10 +84,8 @@ sent
 same q g
 
 = the files stand in any order
-use six
-file q
-use group
-file g
+file q six
+file g group
 use grouped
 datagram 1700000000
 run rquotad --calls 1 --port 0 --export /home group g --export /home user q
@@ -103,8 +94,7 @@ sent
 same q g
 
 = a caller who is not the user is denied
-use limited
-file q
+file q limited
 hex 00000001 00000000 00000002 000186ab 00000001 00000001
 hex 00000001 00000018 00000000 00000001 68000000 000003e9 000003e8 00000000
 hex 00000000 00000000 00000005 2f686f6d 65000000 000003e8
@@ -115,8 +105,7 @@ sent
 same q
 
 = a caller who may not ask does not learn whether a path is exported
-use limited
-file q
+file q limited
 hex 00000001 00000000 00000002 000186ab 00000001 00000001
 hex 00000001 00000018 00000000 00000001 68000000 000003e9 000003e8 00000000
 hex 00000000 00000000 00000005 2f686f6d 65000000 000003e8
@@ -127,8 +116,7 @@ sent
 same q
 
 = nothing is told of a path that is not exported
-use limited
-file q
+file q limited
 use call
 datagram 1700000000
 run rquotad --calls 1 --port 0 --export /srv user q
@@ -137,8 +125,7 @@ sent
 same q
 
 = version 3 is none, and the versions 1 and 2 are told
-use limited
-file q
+file q limited
 hex 00000001 00000000 00000002 000186ab 00000003 00000001
 hex 00000001 00000018 00000000 00000001 68000000 000003e8 000003e8 00000000
 hex 00000000 00000000 00000005 2f686f6d 65000000 000003e8
@@ -149,8 +136,7 @@ sent
 same q
 
 = a caller without a credential is refused
-use limited
-file q
+file q limited
 hex 00000001 00000000 00000002 000186ab 00000001 00000001
 hex 00000000 00000000
 hex 00000000 00000000 00000005 2f686f6d 65000000 000003e8
@@ -161,8 +147,7 @@ sent
 same q
 
 = the superuser is told of an identifier without a record
-use limited
-file q
+file q limited
 hex 00000001 00000000 00000002 000186ab 00000001 00000001
 hex 00000001 00000018 00000000 00000001 68000000 00000000 00000000 00000000
 hex 00000000 00000000 00000005 2f686f6d 65000000 00000005
@@ -174,8 +159,7 @@ sent
 same q
 
 = the time left is that at the moment of the datagram
-use timed
-file q
+file q timed
 use call
 datagram 1700000001
 use call
@@ -191,8 +175,7 @@ sent
 same q
 
 = no more datagrams are taken than are asked for
-use limited
-file q
+file q limited
 use call
 datagram 1700000000
 use call
@@ -213,18 +196,15 @@ keep call
 hex 00000001 00000001 00000000 00000000 00000000 00000000 00000001
 hex 00000400 00000001 000000c8 00000064 00000004 00000014 0000000a 00000001 00000000 00000000
 keep told
-use six
-file q
+file q six
 run setquota -u 1000 100 200 10 20 q
 changes q
 get q
 keep limited
 
 = the first file that is refused is named, and the link is not called
-use limited
-file q
-use limited
-file r
+file q limited
+file r limited
 run rquotad --calls 1 --port 0 --export /home user q --export /home group r --export /srv user none
 status 3
 ! quota: r: wrong kind
@@ -232,8 +212,7 @@ same q r
 absent none
 
 = a file that is not there is named
-use limited
-file q
+file q limited
 run rquotad --calls 1 --port 0 --export /home user q --export /srv user none
 status 1
 ! quota: none: no such file
@@ -241,16 +220,14 @@ same q
 absent none
 
 = a file of another format than is asked for is refused
-use limited
-file q
+file q limited
 run rquotad --format vfsv0 --calls 1 --port 0 --export /home user q
 status 3
 ! quota: q: other format
 same q
 
 = a datagram that does not come is a fault of the link, behind the answers before
-use limited
-file q
+file q limited
 use call
 datagram 1700000000
 run rquotad --calls 2 --port 0 --export /home user q
@@ -261,8 +238,7 @@ sent
 same q
 
 = the link is started once, at the port that is asked for
-use limited
-file q
+file q limited
 use call
 datagram 1700000000
 use call
@@ -276,8 +252,7 @@ sent
 same q
 
 = a link that does not start ends the command
-use limited
-file q
+file q limited
 use call
 datagram 1700000000
 fails link 1
@@ -288,8 +263,7 @@ started 0
 same q
 
 = an answer that is not sent ends the command
-use limited
-file q
+file q limited
 use call
 datagram 1700000000
 use call
@@ -303,8 +277,7 @@ sent
 same q
 
 = each failing call of the link ends the command
-use limited
-file q
+file q limited
 use call
 datagram 1700000000
 use call

@@ -37,8 +37,7 @@ text 1001 1001 2050 131075 8
 text 0 0 2050 2 8
 keep thirty
 file q
-use thirty
-input
+input thirty
 both quotacheck -c -u -F vfsv1 q
 long q 8192
 run repquota -u --names other q
@@ -48,8 +47,7 @@ head user q 7days 7days
 > bob          --        580          0          0      -       10        0        0      -
 > #65534       --          8          0          0      -        2        0        0      -
 file q
-use thirty
-input
+input thirty
 both quotacheck -c -u -F vfsv1 --device 2049 q
 long q 8192
 run repquota -u --names other q
@@ -59,8 +57,7 @@ head user q 7days 7days
 > bob          --        576          0          0      -        9        0        0      -
 > #65534       --          8          0          0      -        2        0        0      -
 file q
-use thirty
-input
+input thirty
 both quotacheck --device=2049 -cu q
 long q 8192
 run repquota -u --names other q
@@ -70,8 +67,7 @@ head user q 7days 7days
 > bob          --        576          0          0      -        9        0        0      -
 > #65534       --          8          0          0      -        2        0        0      -
 file q
-use thirty
-input
+input thirty
 run quotacheck -c -g --device 2049 q
 changes q
 run repquota -g q

@@ -3,8 +3,7 @@
 /// Reports of tree files.
 pub const REPORTED: &str = "\
 = a report shows times or periods
-use six
-file q
+file q six
 run repquota -n -p q
 head user q 7days 7days
 > #1000        --          4          0          0      0        1        0        0      0
@@ -64,8 +63,7 @@ file q
 run repquota -u q
 status 3
 ! quota: q: wrong kind
-use six
-file q
+file q six
 run repquota -g q
 status 3
 ! quota: q: wrong kind
@@ -82,8 +80,7 @@ status 3
 ! quota: q: wrong kind
 
 = a file of another format or version
-use six
-file q
+file q six
 run repquota -F vfsv0 q
 status 3
 ! quota: q: other format
@@ -122,15 +119,13 @@ status 3
 ! quota: q: not a quota file
 
 = a file that is not there
-use six
-file q
+file q six
 run repquota r
 status 1
 ! quota: r: no such file
 
 = words of limits
-use six
-file q
+file q six
 run setquota -u carol 1 1 0 0 q
 status 1
 ! quota: unknown name carol
@@ -170,8 +165,7 @@ status 3
 /// Limits that are set in tree files.
 pub const SET: &str = "\
 = a timer starts, and runs out
-use six
-file q
+file q six
 run setquota -u 1000 2 8 0 0 q
 long q 6144
 hex e8030000 00000000 00000000 00000000 00000000 00000000
@@ -195,8 +189,7 @@ head user q 7days 7days
 > #1000        +-          4          2          8   none        1        0        0      -
 
 = a timer runs on over another soft limit, and stops at one that is not exceeded
-use timed
-file q
+file q timed
 now 1700000010
 run setquota -u 1000 3 8 0 0 q
 changes q
@@ -204,8 +197,7 @@ now 1700000000
 run repquota -p q
 head user q 7days 7days
 > #1000        +-          4          3          8 1700604800        1        0        0      0
-use timed
-file q
+file q timed
 now 1700000010
 run setquota -u 1000 4 8 0 0 q
 changes q
@@ -254,8 +246,7 @@ head group q 7days 7days
 > #1000        --          0        100        200      -        0        0        0      -
 
 = one more identifier takes one more block
-use six
-file q
+file q six
 run setquota 0 100 200 0 0 q
 long q 7168
 run repquota -v q

@@ -1,7 +1,7 @@
 use crate::playing::play;
 use file_stories::{
     calls, checked, conversions, ended_checks, generated, names, new_files, refused_conversions,
-    refused_listings, reports, served, summed, trees, turned, words,
+    refused_listings, reports, served, summed, trees, turned,
 };
 use story_player::FILES;
 
@@ -113,16 +113,6 @@ fn the_first_value_without_room_is_told(rt: HostRuntime) {
 #[test]
 fn conversions_are_refused_and_calls_fail(rt: HostRuntime) {
     play(&rt, rt.alloc(), &[FILES, refused_conversions::REFUSED]);
-}
-
-#[test]
-fn each_command_is_read(rt: HostRuntime) {
-    play(&rt, rt.alloc(), &[words::COMMANDS]);
-}
-
-#[test]
-fn the_word_at_fault_is_named(rt: HostRuntime) {
-    play(&rt, rt.alloc(), &[words::FAULTS]);
 }
 
 #[test]

@@ -1,7 +1,6 @@
-use command_text::shown;
 use quota_blocks::Store;
-use quota_cli::run::{UsageFault, read_words, run};
-use std::alloc::{AllocError, Global};
+use quota_cli::run::run;
+use std::alloc::Global;
 use std::process::Abort;
 use story_player::{Program, Streams, failure_of};
 
@@ -28,14 +27,6 @@ impl Program for QuotaCli {
             now,
         )
     }
-
-    fn read(&self, alloc: Global, words: &[String], in_script: bool) -> Result<String, AllocError> {
-        match read_words(alloc, words, in_script) {
-            Ok(command) => shown(alloc, &command),
-            Err(UsageFault::Usage { kind, word }) => format!(in alloc; "{} at {word}", kind.name()),
-            Err(UsageFault::Memory) => String::from_str(alloc, "want of memory"),
-        }
-    }
 }
 
 /// Carries out stories, one behind the other, and fails with what does not hold in them.
@@ -56,11 +47,11 @@ const WRONG: &[WrongStory] = &[
         "a: line 2, 'fiel q': this is no line of a story",
     ),
     (
-        "= a\nzeros 4o\n",
-        "a: line 2, 'zeros 4o': a number is misspelt",
+        "= a\nfill 0 4o\n",
+        "a: line 2, 'fill 0 4o': a number is misspelt",
     ),
     (
-        "= a\nzeros 4\n= b\n",
+        "= a\nfill 0 4\n= b\n",
         "a: line 3, '= b': bytes were gathered, and nothing uses them",
     ),
     (
@@ -92,7 +83,7 @@ const WRONG: &[WrongStory] = &[
         "a: line 4, 'changes r': no run looked at a file of this name",
     ),
     (
-        "= a\nfile q\nrun setquota -F vfsold -t 1 1 q\nzeros 40\nholds q\n",
+        "= a\nfile q\nrun setquota -F vfsold -t 1 1 q\nfill 0 40\nholds q\n",
         "a: line 5, 'holds q': it has 40 bytes, and 1 at place 24",
     ),
     (

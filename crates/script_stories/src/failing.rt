@@ -3,8 +3,7 @@
 /// Each call of each object, which fails in its line.
 pub const FAILING: &str = "\
 = files of other rows
-use empty
-file q
+file q empty
 run setquota 1000 100 200 0 0 q
 changes q
 get q
@@ -16,33 +15,29 @@ fill 32 999
 text
 again 9
 keep notes
-use empty
-file q
+file q empty
 text setquota 1000 100 200 0 0 q
-use notes
-input
+input notes
 fails input 1
 run script
 status 4
 ! quota: input fault
 writes 0
 text setquota 1000 100 200 0 0 q
-use notes
-input
+input notes
 fails input 2
 run script
 status 4
 ! quota: input fault
 writes 0
 text setquota 1000 100 200 0 0 q
-use notes
-input
+input notes
 stays q q.new
 sweep input script
 changes q
 
 = a store that fails is told in its line
-record 2 1 1 2 1 1 0 0
+record bhard 2 bsoft 1 blocks 1 ihard 2 isoft 1 inodes 1
 file q
 text repquota -F vfsold q
 text #
@@ -75,8 +70,7 @@ head user q 7days 7days
 > #0           --          1          1          2      -        1        1        2      -
 
 = a store that fails leaves what the lines before made
-use empty
-file q
+file q empty
 text setquota 1000 100 200 0 0 q
 text setquota 1001 1 2 3 4 q
 input
@@ -89,7 +83,7 @@ head user q 7days 7days
 > #1001        --          0          1          2      -        0        3        4      -
 
 = an output that fails is told in its line
-record 2 1 1 2 1 1 0 0
+record bhard 2 bsoft 1 blocks 1 ihard 2 isoft 1 inodes 1
 file q
 text repquota -F vfsold q
 text repquota -F vfsold q
@@ -110,8 +104,7 @@ head user q 7days 7days
 > #0           --          1          1          2      -        1        1        2      -
 
 = a warning that is not written ends the script
-use six
-file q
+file q six
 text setquota -T 1000 5 5 q
 text setquota 1000 100 200 0 0 q
 input
@@ -130,8 +123,7 @@ sweep error script
 ! quota: line 2: inode time not set, soft limit not exceeded
 
 = an error output that fails takes the line of a refusal, and not its status
-use six
-file q
+file q six
 text setquota 7 x 2 0 0 q
 input
 fails error 1

@@ -3,8 +3,7 @@
 /// Lines that say nothing, lines that are too long, and lines that are no text.
 pub const LINES: &str = "\
 = comments and lines without words are passed over, and a comment may be any bytes
-use six
-file q
+file q six
 raw #
 hex ff fe 0a
 text
@@ -27,8 +26,7 @@ input
 run script
 status 2
 ! quota: line 1: usage: UnknownCommand at word 0
-use six
-file q
+file q six
 text repquota q # all
 input
 run script
@@ -50,8 +48,7 @@ status 1
 ! quota: script: bad line 1
 
 = what stands before a line that is no text has run
-use six
-file q
+file q six
 text setquota 7 1 2 0 0 q
 raw repquota q
 hex c3 0a
@@ -67,8 +64,7 @@ head user q 7days 7days
 > #1000        --          4          0          0      -        1        0        0      -
 
 = the first line that is refused is told, and no line that is no text behind it
-use six
-file q
+file q six
 text setquota 7 x 2 0 0 q
 hex ff 0a
 input
@@ -78,8 +74,7 @@ status 1
 same q
 
 = a word that is text and no ASCII is said as it is
-use six
-file q
+file q six
 text setquota \u{e4}rger 1 1 0 0 q
 input
 run script
@@ -87,8 +82,7 @@ status 1
 ! quota: line 1: unknown name \u{e4}rger
 
 = a line has 4,096 bytes at most
-use six
-file q
+file q six
 raw repquota q
 fill 32 4086
 text
@@ -100,8 +94,7 @@ head user q 7days 7days
 > #1000        --          4          0          0      -        1        0        0      -
 head user q 7days 7days
 > #1000        --          4          0          0      -        1        0        0      -
-use six
-file q
+file q six
 text setquota 7 1 2 0 0 q
 raw repquota q
 fill 32 4087
@@ -158,8 +151,7 @@ status 2
 ! quota: line 302: usage: UnknownCommand at word 0
 
 = no byte is lost where a line ends at the edge of a piece
-use six
-file q
+file q six
 raw #
 fill 32 4078
 text
@@ -171,8 +163,7 @@ head user q 7days 7days
 > #1000        --          4          0          0      -        1        0        0      -
 head user q 7days 7days
 > #1000        --          4          0          0      -        1        0        0      -
-use six
-file q
+file q six
 raw #
 fill 32 4083
 text
@@ -184,8 +175,7 @@ head user q 7days 7days
 > #1000        --          4          0          0      -        1        0        0      -
 head user q 7days 7days
 > #1000        --          4          0          0      -        1        0        0      -
-use six
-file q
+file q six
 raw #
 fill 32 4084
 text

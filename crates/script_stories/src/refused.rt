@@ -27,8 +27,7 @@ status 2
 ! quota: line 1: usage: UnknownCommand at word 0
 
 = in a script no command reads the standard input
-use six
-file q
+file q six
 text quotacheck -u q
 input
 run script
@@ -51,8 +50,7 @@ status 2
 ! quota: line 1: usage: MissingOption at word 4
 
 = words that are no command are refused in their line, behind those that ran
-use six
-file q
+file q six
 text setquota 7 1 2 0 0 q
 text repquota -u -g q
 text setquota 8 1 2 0 0 q
@@ -86,8 +84,7 @@ head user q 7days 7days
 > #1000        --          4          0          0      -        1        0        0      -
 
 = reports
-use six
-file q
+file q six
 text repquota -g q
 input
 run script
@@ -117,8 +114,7 @@ status 1
 ! quota: line 1: n: bad line 1
 
 = edits
-use six
-file q
+file q six
 text # the words are those of the second line
 text setquota carol 1 1 0 0 q
 input
@@ -152,7 +148,7 @@ status 1
 ! quota: line 1: r: no such file
 
 = a value without room
-zeros 40
+fill 0 40
 file q
 text setquota -F vfsold 1048576 1 2 0 0 q
 input
@@ -173,8 +169,7 @@ long q 160
 text 7 1 2 3 4
 text 8 1 2 x 4
 file l
-use six
-file q
+file q six
 text #
 text setquota -b --input l q
 input
@@ -211,8 +206,7 @@ text Disk quotas for user #7 (uid 7):
 text   Filesystem blocks soft hard inodes soft hard
 text   q 0 5 x 0 7 8
 file l
-use six
-file q
+file q six
 text edquota --apply --input l 7 q
 input
 run script
@@ -227,8 +221,7 @@ file l
 text 1000 100 2049 12 8
 text 1001 100 2049 12 8
 file m
-use six
-file q
+file q six
 text quotacheck -u --input l q
 input
 run script
@@ -248,8 +241,7 @@ absent r
 same q
 
 = conversions
-use six
-file q
+file q six
 file r
 text convertquota -f vfsv1,vfsv0 q r
 input
@@ -269,8 +261,7 @@ status 3
 absent p
 
 = serving
-use six
-file q
+file q six
 text rquotad --calls 1 --port 0 --export /home user q --export /home group q
 input
 run script
@@ -283,9 +274,8 @@ status 2
 ! quota: line 1: usage: BadValue at word 1
 
 = a damaged file
-use six
-file q
-zeros 79
+file q six
+fill 0 79
 file r
 text repquota q
 text repquota -F vfsold r
@@ -298,8 +288,7 @@ head user q 7days 7days
 ! quota: line 2: r: damaged: PartialRecord at record 1
 
 = a warning has its line
-use six
-file q
+file q six
 text
 text setquota -T 1000 5 unset q
 text # nothing
@@ -312,8 +301,7 @@ writes 0
 ! quota: line 2: inode time not set, soft limit not exceeded
 ! quota: line 4: block time not set, soft limit not exceeded
 ! quota: line 4: inode time not set, soft limit not exceeded
-use timed
-file q
+file q timed
 text
 text setquota -T 1000 5 unset q
 text setquota -T 1000 18446744073709551615 unset q

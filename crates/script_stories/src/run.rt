@@ -26,8 +26,7 @@ head user q 7days 7days
 long q 6144
 
 = the last line needs no newline
-use six
-file q
+file q six
 text setquota 7 1 2 0 0 q
 raw setquota 8 3 4 0 0 q
 input
@@ -41,8 +40,7 @@ head user q 7days 7days
 > #1000        --          4          0          0      -        1        0        0      -
 
 = words are parted by any number of spaces and tabs
-use six
-file q
+file q six
 text \trepquota\t -u  -v \t-- q\x20
 input
 run script
@@ -56,8 +54,7 @@ text Disk quotas for user #9 (uid 9):
 text   Filesystem blocks soft hard inodes soft hard
 text   q 0 5 6 0 7 8
 file form
-use timed
-file q
+file q timed
 text setquota 6 0 3 0 0 q
 text setquota -b --input l q
 text setquota -p 7 8 q
@@ -84,8 +81,7 @@ same l form
 = files that a line makes are those that the next ones read
 text 1000 100 2049 12 8
 file l
-use empty
-file q
+file q empty
 text quotacheck -c -u -F vfsv1 --input l q
 text setquota 7 1 2 0 0 q
 text convertquota -f vfsv1,vfsv0 q r
@@ -120,8 +116,7 @@ changes q
 = usage that a listing tells is set by a line
 text 1001 100 2049 12 8
 file l
-use six
-file q
+file q six
 text quotacheck -u --input l q
 text repquota q
 input
@@ -134,8 +129,7 @@ changes q
 text alice:x:1000:1000:Alice:/home/alice:/bin/sh
 file p
 file none
-use six
-file q
+file q six
 text repquota --names p q
 text quotacheck -c -F vfsold --input none p
 text repquota --names p q
@@ -151,8 +145,7 @@ changes p
 file none
 text 7 1 2 0 0
 file l
-use six
-file q
+file q six
 text setquota -b --input l q
 text quotacheck -c -F vfsold --input none l
 text setquota -b --input l q
@@ -161,7 +154,7 @@ run script
 status 1
 ! quota: line 3: l: bad line 1
 changes q
-numbers 0 0 0 0 0 0 604800 0 604800 0
+put end 0 0 0 0 0 0 604800 0 604800 0
 holds l
 run repquota -v q
 head user q 7days 7days

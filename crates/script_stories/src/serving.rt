@@ -13,16 +13,14 @@ keep told
 hex 00000001 00000001 00000000 00000000 00000000 00000000 00000001
 hex 00000400 00000001 00000bb8 000007d0 00000004 00000014 0000000a 00000001 00000000 00000000
 keep told_later
-use six
-file q
+file q six
 run setquota -u 1000 100 200 10 20 q
 changes q
 get q
 keep limited
 
 = each datagram is answered once, out of the file as the lines before left it
-use limited
-file q
+file q limited
 use call
 datagram 1700000000
 use call
@@ -44,8 +42,7 @@ sent
 changes q
 
 = a datagram that no line takes is not answered
-use limited
-file q
+file q limited
 use call
 datagram 1700000000
 use call
@@ -61,8 +58,7 @@ use told
 sent
 
 = a script that comes to no such line calls no link
-use limited
-file q
+file q limited
 text repquota r
 text rquotad --calls 1 --port 0 --export /home user q
 input
@@ -71,8 +67,7 @@ status 1
 ! quota: line 1: r: no such file
 
 = a datagram without a reply counts in the line that takes it
-use limited
-file q
+file q limited
 raw abc
 datagram 1700000000
 use call
@@ -85,8 +80,7 @@ use told
 sent
 
 = a datagram that does not come is a fault of the link in its line
-use limited
-file q
+file q limited
 use call
 datagram 1700000000
 text rquotad --calls 1 --port 0 --export /home user q
@@ -101,8 +95,7 @@ use told
 sent
 
 = each failing call of the link ends the script
-use limited
-file q
+file q limited
 use call
 datagram 1700000000
 use call

@@ -11,10 +11,8 @@ pub fn gather(stage: &mut Stage, what: Gather, rest: &str) -> Told {
         Gather::Line => add_line(stage, rest),
         Gather::Raw => add(stage, rest.as_bytes()),
         Gather::Hex => add_hex(stage, rest),
-        Gather::Zeros => add_times(stage, 0, rest),
         Gather::Filled => add_filled(stage, rest),
         Gather::Record => add_record(stage, rest),
-        Gather::Numbers => add_numbers(stage, rest),
         Gather::Put => put_numbers(stage, rest),
         Gather::Size => set_size(stage, rest),
         Gather::Again => repeat(stage, rest),
@@ -100,13 +98,40 @@ fn add_number(stage: &mut Stage, word: &str, width: usize) -> Told {
     add(stage, bytes.get(..width).unwrap_or(b""))
 }
 
-fn add_record(stage: &mut Stage, rest: &str) -> Told {
-    let mut place = 0u32;
-    for word in rest.split(' ') {
-        add_number(stage, word, if place < 6 { 4 } else { 8 })?;
-        place = place.saturating_add(1);
+/// The fields of a record of a flat file in their order, and how many bytes each has.
+const FIELDS: &[(&str, usize)] = &[
+    ("bhard", 4),
+    ("bsoft", 4),
+    ("blocks", 4),
+    ("ihard", 4),
+    ("isoft", 4),
+    ("inodes", 4),
+    ("btime", 8),
+    ("itime", 8),
+];
+
+/// The word behind another one.
+fn word_behind<'a>(text: &'a str, wanted: &str) -> Option<&'a str> {
+    let mut is_next = false;
+    for word in text.split(' ') {
+        if is_next {
+            return Some(word);
+        }
+        is_next = word == wanted;
     }
-    holds_if(stage.alloc, place == 8, "a record has eight numbers")
+    None
+}
+
+/// Adds a record of a flat file of fields with their numbers; those that are not named are 0.
+fn add_record(stage: &mut Stage, rest: &str) -> Told {
+    let mut named = 0usize;
+    for (field, width) in FIELDS {
+        let word = word_behind(rest, field);
+        add_number(stage, word.unwrap_or("0"), *width)?;
+        named = named.saturating_add(if word.is_some() { 2 } else { 0 });
+    }
+    let words = rest.split(' ').filter(|word| !word.is_empty()).count();
+    holds_if(stage.alloc, words == named, "a field is misspelt")
 }
 
 fn add_numbers(stage: &mut Stage, rest: &str) -> Told {
@@ -133,6 +158,9 @@ fn put_numbers(stage: &mut Stage, rest: &str) -> Told {
     let Some((at, numbers)) = rest.split_once(' ') else {
         return unmet(stage.alloc, "a place and numbers are wanted");
     };
+    if at == "end" {
+        return add_numbers(stage, numbers);
+    }
     let mut at = count(stage.alloc, at)?;
     for word in numbers.split(' ') {
         let number = number(stage.alloc, word)?;
@@ -158,9 +186,20 @@ fn repeat(stage: &mut Stage, rest: &str) -> Told {
     Ok(())
 }
 
-fn add_kept(stage: &mut Stage, rest: &str) -> Told {
-    let bytes = found(stage.alloc, &stage.kept, rest)?;
+/// Adds the bytes that were kept under a name; an empty one adds none.
+pub(crate) fn add_kept(stage: &mut Stage, name: &str) -> Told {
+    if name.is_empty() {
+        return Ok(());
+    }
+    let bytes = found(stage.alloc, &stage.kept, name)?;
     Ok(stage.gathered.extend_from_slice(bytes)?)
+}
+
+/// The word at the front of the rest of a line. What was kept under the name behind it, if there is one, is added.
+pub(crate) fn name_in<'a>(stage: &mut Stage, rest: &'a str) -> Result<&'a str, Wrong> {
+    let (name, kept) = rest.split_once(' ').unwrap_or((rest, ""));
+    add_kept(stage, kept)?;
+    Ok(name)
 }
 
 fn add_file(stage: &mut Stage, rest: &str) -> Told {

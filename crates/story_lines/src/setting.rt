@@ -1,3 +1,4 @@
+use crate::gathering::{add_kept, name_in};
 use story_stage::{Set, Stage, Told, Wrong, find, number, set, unmet};
 
 /// Carries out a line that sets a file, or what the next run meets.
@@ -9,17 +10,17 @@ pub fn set_up(stage: &mut Stage, what: Set, rest: &str) -> Told {
     match what {
         Set::File => set_file(stage, rest),
         Set::NoFile => drop_file(stage, rest),
-        Set::Input => set_input(stage),
+        Set::Input => set_input(stage, rest),
         Set::Datagram => add_datagrams(stage, rest),
         Set::Moment => set_moment(stage, rest),
         Set::Failing => set_failing(stage, rest),
-        Set::Turn => set_turn(stage, rest),
         Set::May => allow(stage, rest),
         Set::Stays => forbid(stage, rest),
     }
 }
 
-fn set_file(stage: &mut Stage, name: &str) -> Told {
+fn set_file(stage: &mut Stage, rest: &str) -> Told {
+    let name = name_in(stage, rest)?;
     let bytes = stage.take();
     set(stage.alloc, &mut stage.files, name, bytes)
 }
@@ -32,7 +33,8 @@ fn drop_file(stage: &mut Stage, name: &str) -> Told {
     Ok(())
 }
 
-fn set_input(stage: &mut Stage) -> Told {
+fn set_input(stage: &mut Stage, kept: &str) -> Told {
+    add_kept(stage, kept)?;
     let bytes = stage.take();
     stage.setting.input = Some(bytes);
     Ok(())
@@ -76,13 +78,12 @@ fn set_moment(stage: &mut Stage, rest: &str) -> Told {
     Ok(())
 }
 
-fn set_turn(stage: &mut Stage, rest: &str) -> Told {
-    stage.setting.good_reads = number(stage.alloc, rest)?;
-    Ok(())
-}
-
 fn set_failing(stage: &mut Stage, rest: &str) -> Told {
     let (object, calls) = rest.split_once(' ').unwrap_or((rest, ""));
+    if object == "bytes" {
+        stage.setting.good_reads = number(stage.alloc, calls)?;
+        return Ok(());
+    }
     for word in calls.split(' ') {
         let call = number(stage.alloc, word)?;
         let Some(plan) = stage.setting.failing.calls_of(object) else {

@@ -1,3 +1,4 @@
+use crate::gathering::name_in;
 use crate::report_head::head_of;
 use std::alloc::Global;
 use story_stage::{
@@ -12,7 +13,6 @@ use story_stage::{
 /// The line does not hold, or there was not enough memory.
 pub fn tell(stage: &mut Stage, what: Tell, rest: &str) -> Told {
     match what {
-        Tell::Read => tell_read(stage, rest),
         Tell::Bytes(says) => tell_bytes(stage, rest, says),
         Tell::Answer => tell_answers(stage, rest),
         _ => match &mut stage.last {
@@ -29,23 +29,13 @@ fn tell_of(alloc: Global, last: &mut Last, what: Tell, rest: &str) -> Told {
         Tell::Out => tell_out(alloc, last, rest),
         Tell::Head => tell_head(alloc, last, rest),
         Tell::Err => tell_err(alloc, last, rest),
-        Tell::ErrStart => tell_err_start(alloc, last, rest),
         Tell::Files(says) => tell_files(alloc, last, rest, says),
         Tell::Started => tell_started(alloc, last, rest),
         Tell::Length => tell_length(alloc, last, rest),
         Tell::Numbers => tell_numbers(alloc, last, rest),
-        Tell::Reads => tell_number(alloc, last.ran.reads, rest),
         Tell::Writes => tell_number(alloc, last.ran.writes, rest),
         Tell::Left => tell_number(alloc, last.ran.left(), rest),
         _ => tell_calls(alloc, last, rest),
-    }
-}
-
-fn tell_read(stage: &mut Stage, want: &str) -> Told {
-    match stage.read.take() {
-        Some(text) if text.as_str() == want => Ok(()),
-        Some(text) => Err(Wrong::Said(text)),
-        None => unmet(stage.alloc, "no words were read"),
     }
 }
 
@@ -98,15 +88,6 @@ fn tell_head(alloc: Global, last: &mut Last, rest: &str) -> Told {
 
 fn tell_err(alloc: Global, last: &mut Last, want: &str) -> Told {
     last.err_told = end_of(alloc, last.ran.err(), last.err_told, want)?;
-    Ok(())
-}
-
-fn tell_err_start(alloc: Global, last: &mut Last, want: &str) -> Told {
-    let line = line_at(last.ran.err(), last.err_told);
-    if !line.starts_with(want.as_bytes()) {
-        return instead(alloc, line);
-    }
-    last.err_told = last.err_told.saturating_add(line.len()).saturating_add(1);
     Ok(())
 }
 
@@ -204,7 +185,8 @@ fn has_bytes(alloc: Global, last: &mut Last, file: &str, gathered: &[u8], says: 
     }
 }
 
-fn tell_bytes(stage: &mut Stage, file: &str, says: OfBytes) -> Told {
+fn tell_bytes(stage: &mut Stage, rest: &str, says: OfBytes) -> Told {
+    let file = name_in(stage, rest)?;
     let gathered = stage.take();
     match &mut stage.last {
         Some(last) => has_bytes(stage.alloc, last, file, &gathered, says),

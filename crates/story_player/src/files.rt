@@ -4,7 +4,7 @@
 /// with a soft limit of blocks that identifier 1000 exceeds (`timed`).
 pub const FILES: &str = "\
 = files of other rows
-zeros 6144
+fill 0 6144
 put 0 3653246737 1 604800 604800
 put 20 6
 put 28 5
@@ -29,8 +29,7 @@ put 5256 8192
 keep seven
 hex 111fc0d9 01000000 803a0900 803a0900 00000000 02000000 00000000 00000000
 keep empty
-use six
-file q
+file q six
 run setquota -u 1000 2 8 0 0 q
 changes q
 get q

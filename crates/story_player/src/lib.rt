@@ -14,10 +14,9 @@
 //! | `text WORDS` | the rest of the line and a newline |
 //! | `raw WORDS` | the rest of the line |
 //! | `hex 0a ff 0102` | these bytes |
-//! | `zeros N`, `fill BYTE N` | so many bytes 0, so many of this number |
-//! | `record A B C D E F G H` | a record of a flat file: hard limit, soft limit and use of blocks, the same of inodes, two times |
-//! | `numbers A B ..` | numbers of four bytes, the lowest byte first |
-//! | `put AT A B ..` | the same over the bytes gathered so far, from a place on |
+//! | `fill BYTE N` | N bytes of this number |
+//! | `record FIELD N ..` | a record of a flat file: of `bhard`, `bsoft`, `blocks`, `ihard`, `isoft`, `inodes`, `btime`, `itime` those that are named, and 0 in all others |
+//! | `put AT A B ..` | numbers of four bytes, the lowest byte first, over the bytes gathered so far from a place on, or behind them at `end` |
 //! | `size N` | as many bytes as N: what is more is cut off, what is less is filled up with 0 |
 //! | `again N` | what was gathered so far N times |
 //! | `use NAME`, `get FILE` | what was kept under a name; what a file has now |
@@ -25,13 +24,12 @@
 //!
 //! | Sets | |
 //! |---|---|
-//! | `file NAME` | a file of the gathered bytes |
+//! | `file NAME [KEPT]` | a file of the gathered bytes. Here and where else `[KEPT]` stands, what was kept under a name is gathered first |
 //! | `drop NAME` | the file is not there any more |
-//! | `input` | the gathered bytes are the standard input of the next run; with no such line a run must not read it |
+//! | `input [KEPT]` | the gathered bytes are the standard input of the next run; with no such line a run must not read it |
 //! | `datagram MOMENT`, `datagram MOMENT cut` | they come as a datagram to the link of the next run, or as one for each length from 0 to their own; with no such line it must not be called |
 //! | `now MOMENT` | the moment of the runs from here on; 1,700,000,000 at first |
-//! | `fails OBJECT N ..` | the calls of `store`, `input`, `output`, `error` or `link` that fail in the next run |
-//! | `turns N` | the store of the next run gives bytes of 255 after so many reads |
+//! | `fails OBJECT N ..` | the calls of `store`, `input`, `output`, `error` or `link` that fail in the next run; of `bytes`, after how many reads its store gives bytes of 255 |
 //! | `may FILE NAME` | a sweep leaves the file with the bytes that were kept under the name for some calls, behind which no call leaves it as it was; so do stops at some calls; damages may leave it so |
 //! | `stays FILE ..` | each run of a sweep, or of stops, but the whole one must leave these files as they were |
 //!
@@ -43,29 +41,26 @@
 //! | `sweep each WORDS` | the same with each object of which the run makes calls, one behind the other |
 //! | `turn WORDS` | once whole, and then once for each number of reads below that of the whole run, after which the store turns: each must say what the whole run said, or end with status 3, no output and a line on the file `q`, with each file as it was or as a line allows |
 //! | `stop WORDS \| WORDS` | the first words as by `run`, and then once for each call of the disk that the run over it made, from which on the disk is stopped: each must end with status 4 and the line of the store's fault, with outputs that are a first part of the whole ones. What the stop left, where an earlier one did not leave the same, is read by the second words over a disk that goes on: they must end with status 0, and each file must then be as it was, as the whole run left it, or as a line allows, but for files whose names end so. Where the gate of an undo file was open, the second words are stopped too, at each of their calls in turn, and run again, which must leave the same. A stop behind the last call must leave what the whole run left |
-//! | `read WORDS`, `line WORDS` | the words are read as a command, outside of a script and in one; the verb alone is no words, and with a space behind it one of no bytes |
 //!
 //! | Says what the last run left | |
 //! |---|---|
 //! | `status N` | its status |
 //! | `> TEXT` | the next line of its output |
 //! | `head KIND FILE BLOCK INODE` | the next four lines of its output: the head of a report with these periods |
-//! | `! TEXT`, `!^ TEXT` | the next line of its error output; how that line begins |
+//! | `! TEXT` | the next line of its error output |
 //! | `same FILE ..`, `changes FILE ..`, `absent FILE ..` | these files are as before the run; are others; are not there |
-//! | `holds FILE` | the file has the gathered bytes |
+//! | `holds FILE [KEPT]` | the file has the gathered bytes |
 //! | `long FILE N` | it has so many bytes |
-//! | `begins FILE`, `has FILE` | it begins with the gathered bytes; they stand in it |
+//! | `begins FILE [KEPT]`, `has FILE [KEPT]` | it begins with the gathered bytes; they stand in it |
 //! | `at FILE PLACE A B ..` | these numbers of four bytes stand in it |
-//! | `reads N`, `writes N` | how many such calls of the store there were |
+//! | `writes N` | how many calls of `write` of the store there were |
 //! | `calls TEXT` | all calls of the store |
 //! | `left N` | how many bytes of the input were not taken |
 //! | `sent`, `sent N` | the gathered bytes were the next answer of the link; each of so many next ones |
-//! | `is TEXT` | what the words were read as |
 #![tactic(auto)]
 
 mod files;
 mod play;
-mod reading;
 
 pub use files::FILES;
 pub use play::failure_of;

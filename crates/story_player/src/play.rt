@@ -1,4 +1,3 @@
-use crate::reading::read;
 use std::alloc::{AllocError, Global};
 use story_lines::{gather, is_all_told, is_all_used, set_up, tell};
 use story_runs::run;
@@ -61,9 +60,6 @@ fn describe(stage: &Stage, line: &str, why: Wrong) -> Result<String, AllocError>
 /// That everything was told of the last run, after which there is none.
 fn is_finished(stage: &mut Stage) -> Told {
     let alloc = stage.alloc;
-    if let Some(read) = stage.read.take() {
-        return Err(Wrong::Said(read));
-    }
     match stage.last.take() {
         Some(last) => is_all_told(alloc, &last),
         None => Ok(()),
@@ -92,12 +88,6 @@ fn run_next<P: Program>(program: &P, stage: &mut Stage, how: Runs, rest: &str) -
     run(program, stage, how, rest)
 }
 
-/// Reads words, where everything was told of the last run.
-fn read_next<P: Program>(program: &P, stage: &mut Stage, line: &str, in_script: bool) -> Told {
-    is_finished(stage)?;
-    read(program, stage, line, in_script)
-}
-
 /// Carries out a line.
 fn take_line<P: Program>(program: &P, stage: &mut Stage, line: &str) -> Told {
     if line.is_empty() {
@@ -109,7 +99,6 @@ fn take_line<P: Program>(program: &P, stage: &mut Stage, line: &str) -> Told {
         Some(Verb::Gather(what)) => gather(stage, what, rest),
         Some(Verb::Set(what)) => set_up(stage, what, rest),
         Some(Verb::Run(how)) => run_next(program, stage, how, rest),
-        Some(Verb::Read { in_script }) => read_next(program, stage, line, in_script),
         Some(Verb::Tell(what)) => tell(stage, what, rest),
         None => unmet(stage.alloc, NO_LINE),
     }

@@ -1,6 +1,6 @@
 use crate::objects::Streams;
 use quota_blocks::Store;
-use std::alloc::{AllocError, Global};
+use std::alloc::Global;
 
 /// The program that a story is about.
 pub trait Program {
@@ -13,7 +13,4 @@ pub trait Program {
         streams: &mut Streams,
         now: u64,
     ) -> u8;
-
-    /// What words are read as, in a script or outside of one: a command, or a fault with the number of its word.
-    fn read(&self, alloc: Global, words: &[String], in_script: bool) -> Result<String, AllocError>;
 }

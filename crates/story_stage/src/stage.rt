@@ -108,8 +108,6 @@ pub struct Stage {
     pub stays: Vec<String>,
     /// What the last run left, where it was not told whole.
     pub last: Option<Last>,
-    /// What words were read as, where no line has told it yet.
-    pub read: Option<String>,
     /// The title of the row.
     pub title: String,
     /// The number of the line in its story.
@@ -129,7 +127,6 @@ impl Stage {
             may: Vec::new(alloc),
             stays: Vec::new(alloc),
             last: None,
-            read: None,
             title: String::new(alloc),
             number: 0,
         }

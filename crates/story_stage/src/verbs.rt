@@ -9,11 +9,6 @@ pub enum Verb {
     Set(Set),
     /// It runs words.
     Run(Runs),
-    /// Its words are read as a command.
-    Read {
-        /// Whether as one of a script.
-        in_script: bool,
-    },
     /// It says what the last run left.
     Tell(Tell),
 }
@@ -24,10 +19,8 @@ pub enum Gather {
     Line,
     Raw,
     Hex,
-    Zeros,
     Filled,
     Record,
-    Numbers,
     Put,
     Size,
     Again,
@@ -45,7 +38,6 @@ pub enum Set {
     Datagram,
     Moment,
     Failing,
-    Turn,
     May,
     Stays,
 }
@@ -68,13 +60,10 @@ pub enum Runs {
 /// Of what a line tells; `VERBS` has the word of each.
 #[derive(Clone, Copy)]
 pub enum Tell {
-    /// What the words were read as.
-    Read,
     Status,
     Out,
     Head,
     Err,
-    ErrStart,
     Calls,
     Files(OfFile),
     Bytes(OfBytes),
@@ -82,7 +71,6 @@ pub enum Tell {
     Started,
     Length,
     Numbers,
-    Reads,
     Writes,
     Left,
 }
@@ -115,10 +103,8 @@ pub const VERBS: &[(&str, Verb)] = &[
     ("text", Verb::Gather(Gather::Line)),
     ("raw", Verb::Gather(Gather::Raw)),
     ("hex", Verb::Gather(Gather::Hex)),
-    ("zeros", Verb::Gather(Gather::Zeros)),
     ("fill", Verb::Gather(Gather::Filled)),
     ("record", Verb::Gather(Gather::Record)),
-    ("numbers", Verb::Gather(Gather::Numbers)),
     ("put", Verb::Gather(Gather::Put)),
     ("size", Verb::Gather(Gather::Size)),
     ("again", Verb::Gather(Gather::Again)),
@@ -131,7 +117,6 @@ pub const VERBS: &[(&str, Verb)] = &[
     ("datagram", Verb::Set(Set::Datagram)),
     ("now", Verb::Set(Set::Moment)),
     ("fails", Verb::Set(Set::Failing)),
-    ("turns", Verb::Set(Set::Turn)),
     ("may", Verb::Set(Set::May)),
     ("stays", Verb::Set(Set::Stays)),
     ("run", Verb::Run(Runs::Once)),
@@ -139,14 +124,10 @@ pub const VERBS: &[(&str, Verb)] = &[
     ("sweep", Verb::Run(Runs::Sweep)),
     ("turn", Verb::Run(Runs::Turn)),
     ("stop", Verb::Run(Runs::Stop)),
-    ("read", Verb::Read { in_script: false }),
-    ("line", Verb::Read { in_script: true }),
-    ("is", Verb::Tell(Tell::Read)),
     ("status", Verb::Tell(Tell::Status)),
     (">", Verb::Tell(Tell::Out)),
     ("head", Verb::Tell(Tell::Head)),
     ("!", Verb::Tell(Tell::Err)),
-    ("!^", Verb::Tell(Tell::ErrStart)),
     ("calls", Verb::Tell(Tell::Calls)),
     ("same", Verb::Tell(Tell::Files(OfFile::Same))),
     ("changes", Verb::Tell(Tell::Files(OfFile::Other))),
@@ -158,7 +139,6 @@ pub const VERBS: &[(&str, Verb)] = &[
     ("started", Verb::Tell(Tell::Started)),
     ("long", Verb::Tell(Tell::Length)),
     ("at", Verb::Tell(Tell::Numbers)),
-    ("reads", Verb::Tell(Tell::Reads)),
     ("writes", Verb::Tell(Tell::Writes)),
     ("left", Verb::Tell(Tell::Left)),
 ];
