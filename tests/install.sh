@@ -1,12 +1,11 @@
 #!/usr/bin/env bash
 # Looks at what bin/install and bin/package put in place: into a folder of this test's own, where the installed program then
 # sets limits and reports them, and what is left when it is removed; what is in the package; and whether the completions for
-# bash and zsh have the commands and options of the manual page. Ends with status 1 where something differs.
+# bash and zsh have the commands and options of the manual pages. Ends with status 1 where something differs.
 set -Eeuo pipefail
 shopt -s inherit_errexit
 trap 'echo "install: line $LINENO failed: $BASH_COMMAND" >&2' ERR
 top=$(cd "$(dirname "${BASH_SOURCE[0]}")/.." && pwd)
-page=$top/docs/quota_cli.8
 folder=$(mktemp -d)
 trap 'rm -rf "$folder"' EXIT
 cd "$folder"
@@ -38,17 +37,26 @@ line='#1000 -- 3145728 6291456 7340032 - 84213 160000 200000 -'
 unset DESTDIR
 "$top/bin/install" "$folder/a place" >said
 same 'what was installed' "$(tree 'a place' | grep -v '/$')" '644 ./share/bash-completion/completions/quota_cli
+644 ./share/man/man8/quota_cli-convertquota.8.gz
+644 ./share/man/man8/quota_cli-edquota.8.gz
+644 ./share/man/man8/quota_cli-quotacheck.8.gz
+644 ./share/man/man8/quota_cli-repquota.8.gz
+644 ./share/man/man8/quota_cli-rquotad.8.gz
+644 ./share/man/man8/quota_cli-setquota.8.gz
 644 ./share/man/man8/quota_cli.8.gz
 644 ./share/quota_cli/installed
 644 ./share/zsh/site-functions/_quota_cli
 755 ./sbin/quota_cli'
 same 'it says what it installed' "$(sed 's/^installed //' said | sort)" "$(find "$folder/a place" -type f | sort)"
 same 'the installed program' "$(works "$folder/a place/sbin/quota_cli")" "$line"
-same 'the installed page' "$(gzip -dc 'a place/share/man/man8/quota_cli.8.gz' | cmp - "$page" && echo same)" same
-same 'the page is compressed alike each time' "$(gzip -9n <"$page" | cmp - 'a place/share/man/man8/quota_cli.8.gz' && echo same)" same
-if command -v man >/dev/null; then
-    same 'the page is found' "$(man -M 'a place/share/man' -w 8 quota_cli 2>/dev/null)" "$folder/a place/share/man/man8/quota_cli.8.gz"
-fi
+for page in "$top"/docs/*.8; do
+    name=${page##*/}
+    same "the installed $name" "$(gzip -dc "a place/share/man/man8/$name.gz" | cmp - "$page" && echo same)" same
+    same "$name is compressed alike each time" "$(gzip -9n <"$page" | cmp - "a place/share/man/man8/$name.gz" && echo same)" same
+    if command -v man >/dev/null; then
+        same "$name is found" "$(man -M 'a place/share/man' -w 8 "${name%.8}" 2>/dev/null)" "$folder/a place/share/man/man8/$name.gz"
+    fi
+done
 "$top/bin/install" --remove "$folder/a place" >said
 same 'what is left' "$(ls -A 'a place')" ''
 got=0
@@ -109,6 +117,12 @@ if command -v dpkg-deb >/dev/null; then
 -rw-r--r-- root/root ./usr/share/doc/quota-cli/README.md.gz
 -rw-r--r-- root/root ./usr/share/doc/quota-cli/changelog.gz
 -rw-r--r-- root/root ./usr/share/doc/quota-cli/copyright
+-rw-r--r-- root/root ./usr/share/man/man8/quota_cli-convertquota.8.gz
+-rw-r--r-- root/root ./usr/share/man/man8/quota_cli-edquota.8.gz
+-rw-r--r-- root/root ./usr/share/man/man8/quota_cli-quotacheck.8.gz
+-rw-r--r-- root/root ./usr/share/man/man8/quota_cli-repquota.8.gz
+-rw-r--r-- root/root ./usr/share/man/man8/quota_cli-rquotad.8.gz
+-rw-r--r-- root/root ./usr/share/man/man8/quota_cli-setquota.8.gz
 -rw-r--r-- root/root ./usr/share/man/man8/quota_cli.8.gz
 -rw-r--r-- root/root ./usr/share/zsh/vendor-completions/_quota_cli'
     dpkg-deb -x "$package" unpacked
@@ -127,10 +141,19 @@ else
     echo 'install: dpkg-deb is not there: no package is made' >&2
 fi
 
-# Commands and options as the manual page has them.
-section() { awk -v name="$1" '/^\.S[sh] / { on = $0 == ".Ss " name } on' "$page"; }
-in_page() { section "$1" | sed -nE 's/\<Fl /-/gp' | tr -c '[:alnum:]-' '\n' | sed -nE '/^(-[[:alpha:]]|--[[:alpha:]]+)$/p' | sort -u; }
-commands=$(awk '/^\.Sh / { on = /^\.Sh COMMANDS/ } on && /^\.Ss / { print $2 }' "$page" | sort)
+# Commands and options as the manual pages have them.
+section() {
+    if [ -e "$top/docs/quota_cli-$1.8" ]; then
+        cat "$top/docs/quota_cli-$1.8"
+    else
+        awk -v name="$1" '/^\.S[sh] / { on = $0 == ".Ss " name } on' "$top/docs/quota_cli.8"
+    fi
+}
+in_page() {
+    section "$1" | sed -nE '/^\.It /{ s/\<Fl /-/gp }' | tr -c '[:alnum:]-' '\n' |
+        sed -nE '/^(-[[:alpha:]]|--[[:alpha:]]+)$/p' | sort -u
+}
+commands=$(awk '/^\.Sh / { on = /DESCRIPTION/ } on && /^\.It Cm / { print $3 }' "$top/docs/quota_cli.8" | sort)
 formats=$("$top/bin/quota_cli" --version | sed 's/.*(//; s/).*//; s/,//g')
 
 # completed WORD..: what bash completes the last of these words to.

@@ -1,5 +1,5 @@
 # Completion of quota_cli for bash: commands, their options, formats and kinds; names of files by bash itself. Its words are
-# those of the manual page, which tests/install.sh compares.
+# those of the manual pages, which tests/install.sh compares.
 # shellcheck shell=bash
 
 _quota_cli() {
