@@ -2,6 +2,7 @@
 """A client of `rquotad` over UDP on 127.0.0.1, with its own XDR (RFC 4506) and ONC RPC (RFC 5531).
 
 serve_client.py free              prints a port that is free
+serve_client.py hold PORT WORD..  runs the words while this port is in use, and ends with their status
 serve_client.py ask PORT CASE..   sends the call of each case, and prints its reply in a line
 serve_client.py many PORT COUNT EACH
                                   sends so many calls, each after the reply to the one before, and prints the seconds. The
@@ -12,6 +13,7 @@ serve_client.py echo PORT COUNT   answers so many datagrams by themselves, to be
 
 import socket
 import struct
+import subprocess
 import sys
 import time
 
@@ -149,9 +151,17 @@ def free():
     print(sock.getsockname()[1])
 
 
+def hold(port, words):
+    sock = socket.socket(socket.AF_INET, socket.SOCK_DGRAM)
+    sock.bind((HOST, port))
+    sys.exit(subprocess.call(words))
+
+
 def main(words):
     if words == ["free"]:
         free()
+    elif len(words) >= 3 and words[0] == "hold":
+        hold(int(words[1]), words[2:])
     elif len(words) >= 3 and words[0] == "ask":
         ask(int(words[1]), words[2:])
     elif len(words) == 4 and words[0] == "many":

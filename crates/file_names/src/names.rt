@@ -1,8 +1,8 @@
 use crate::new_names::folder_of;
 use crate::stamp::{Node, Stamp};
-use file_windows::Access;
+use file_windows::{Access, no_regular_file};
 use std::alloc::Global;
-use std::fs::{File, Files, Metadata, OpenOptions};
+use std::fs::{File, Files, Metadata, OpenOptions, TryLockError};
 use std::io::ErrorKind;
 use std::os::unix::fs::{MetadataExt, OpenOptionsExt, PermissionsExt, chown};
 use std::{fs, io};
@@ -29,7 +29,7 @@ fn metadata_at<R: Files>(files: &R, path: &str) -> io::Result<Option<Metadata>> 
 pub fn stamp_at<R: Files>(files: &R, path: &str) -> io::Result<Option<Stamp>> {
     match metadata_at(files, path)? {
         Some(metadata) if metadata.is_file() => Ok(Some(Stamp::of(&metadata))),
-        Some(_) => Err(io::Error::from(ErrorKind::InvalidInput)),
+        Some(metadata) => Err(no_regular_file(&metadata)),
         None => Ok(None),
     }
 }
@@ -96,10 +96,22 @@ pub fn make_anew<R: Files<File = File>>(files: &R, path: &str) -> io::Result<Fil
     options.open(files, path)
 }
 
+/// Locks a file alone, unless another program has locked it.
+pub fn lock_at_once(file: &File) -> io::Result<()> {
+    match file.try_lock() {
+        Ok(()) => Ok(()),
+        Err(TryLockError::Error(error)) => Err(error),
+        Err(TryLockError::WouldBlock) => Err(io::Error::new(
+            ErrorKind::WouldBlock,
+            "Locked by another program",
+        )),
+    }
+}
+
 /// Refuses a name that stands for a file which another program has locked. What may not be read is passed over.
 pub fn refuse_locked<R: Files<File = File>>(files: &R, path: &str) -> io::Result<()> {
     if let Ok(file) = open_file(files, path, Access::Reading) {
-        file.try_lock()?;
+        lock_at_once(&file)?;
     }
     Ok(())
 }

@@ -1,4 +1,4 @@
-use crate::names::{behind_link, open_file, stamp_at};
+use crate::names::{NEW, behind_link, open_file, stamp_at};
 use file_windows::Access;
 use std::alloc::Global;
 use std::fs::{File, Files};
@@ -6,7 +6,7 @@ use std::io;
 use std::os::unix::fs::FileExt;
 
 /// What stands behind the name of a file in that of its undo file.
-const UNDO: &str = ".undo";
+pub const UNDO: &str = ".undo";
 
 /// What stands there in the name that a new undo file has first.
 const UND: &str = ".und";
@@ -19,6 +19,14 @@ pub fn undone_file(name: &str) -> Option<(&str, &'static str)> {
     match name.strip_suffix(UNDO) {
         Some(file) => Some((file, UNDO)),
         None => Some((name.strip_suffix(UND)?, UND)),
+    }
+}
+
+/// The name of the file beside which one of this name stands for a while, or this name.
+pub fn plain_name(name: &str) -> &str {
+    match undone_file(name) {
+        Some((file, _)) => file,
+        None => name.strip_suffix(NEW).unwrap_or(name),
     }
 }
 

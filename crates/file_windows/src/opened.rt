@@ -42,6 +42,15 @@ pub struct Opened {
     gathered: Gathered,
 }
 
+/// Why what is no regular file, as a folder or a pipe, is refused.
+pub fn no_regular_file(metadata: &Metadata) -> io::Error {
+    if metadata.is_dir() {
+        io::Error::new(ErrorKind::IsADirectory, "Is a directory")
+    } else {
+        io::Error::new(ErrorKind::InvalidInput, "Not a regular file")
+    }
+}
+
 impl Opened {
     /// A file that was just opened.
     pub fn new(alloc: Global, name: String, file: File, access: Access) -> Opened {
@@ -74,7 +83,7 @@ impl Opened {
         self.flush()?;
         let metadata = self.file.metadata()?;
         if !metadata.is_file() {
-            return Err(io::Error::from(ErrorKind::InvalidInput));
+            return Err(no_regular_file(&metadata));
         }
         Ok(metadata.len())
     }

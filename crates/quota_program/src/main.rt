@@ -13,25 +13,32 @@ use help::{About, tell};
 use journal_store::JournalStore;
 use quota_blocks::Sink;
 use quota_cli::run::{UsageFault, read_words, refuse, run};
+use reasons::{Reasons, add_reason};
 use refusals::{Cause, Refusal, UsageKind, Word};
 use sharing::sharing_of;
 use std::alloc::Global;
 use std::fs::{File, Files};
-use std::io::{BufReader, ErrorKind};
+use std::io::{BufReader, ErrorKind, IsTerminal};
 use std::process::ExitCode;
 use std::{env, io};
 use system_objects::FileDisk;
 use system_streams::{StreamSink, StreamSource, UdpLink, moment};
 
 mod help;
+mod reasons;
 mod sharing;
 
 /// The most bytes that are taken from the standard input with one call of the system.
 const READ_AHEAD: usize = 65_536;
 
-/// The words of the command line without the program's own name.
-fn given_words<R: env::Env + AllocGlobal>(rt: &R) -> io::Result<Vec<String>> {
-    Ok(env::args(rt)?.skip(1).collect(rt.alloc())?)
+/// What the program was called as, and the other words of the command line.
+fn given_words<R: env::Env + AllocGlobal>(rt: &R) -> io::Result<(String, Vec<String>)> {
+    let mut words = env::args(rt)?;
+    let called = match words.next() {
+        Some(called) => called,
+        None => String::from_str(rt.alloc(), "quota_cli")?,
+    };
+    Ok((called, words.collect(rt.alloc())?))
 }
 
 /// Why the program stops where the system does not give it its words. Words that are not all UTF-8 are no command.
@@ -86,11 +93,22 @@ fn share_files<R: Files<File = File>>(
 
 fn main(rt: HostRuntime) -> ExitCode {
     let mut err = StreamSink::new(rt.stderr());
+    let is_terminal = rt.stderr().is_terminal();
     let status = match (given_words(&rt), moment(&rt)) {
-        (Ok(words), Ok(now)) => {
+        (Ok((called, words)), Ok(now)) => {
             let mut out = StreamSink::new(rt.stdout());
             if let Some(about) = About::asked(&words) {
-                return ExitCode::from(tell(&mut out, &mut err, about.text(), rt.alloc()));
+                let status = tell(&mut out, &mut err, about.text(), rt.alloc());
+                let reasons = Reasons::of_output(out.failure());
+                add_reason(
+                    &mut err,
+                    is_terminal,
+                    status,
+                    called.as_str(),
+                    &reasons,
+                    rt.alloc(),
+                );
+                return ExitCode::from(status);
             }
             let mut disk = FileDisk::new(rt.alloc(), &rt);
             if let Err(cause) = share_files(&mut disk, &words, rt.alloc()) {
@@ -102,7 +120,7 @@ fn main(rt: HostRuntime) -> ExitCode {
             };
             let mut input = StreamSource::new(stdin);
             let mut link = UdpLink::new(&rt);
-            run(
+            let status = run(
                 rt.alloc(),
                 &words,
                 &mut store,
@@ -111,7 +129,23 @@ fn main(rt: HostRuntime) -> ExitCode {
                 &mut err,
                 &mut link,
                 now,
-            )
+            );
+            let disk = store.into_disk();
+            let reasons = Reasons {
+                input: input.failure(),
+                output: out.failure(),
+                link: link.failure(),
+                disk: disk.failure(),
+            };
+            add_reason(
+                &mut err,
+                is_terminal,
+                status,
+                called.as_str(),
+                &reasons,
+                rt.alloc(),
+            );
+            status
         }
         (Err(error), _) => stop(&mut err, words_cause(error.kind()), rt.alloc()),
         (_, Err(error)) => stop(&mut err, starting_cause(error.kind()), rt.alloc()),

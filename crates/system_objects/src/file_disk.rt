@@ -1,12 +1,41 @@
 ghost use Rattle.std.specs.Prelude.{◌≡◌, ◌≤◌, length, Ok, IfOk, OnErr};
 ghost use Rattle.outside.specs.Count.{Rose};
 
-use crate::open_files::OpenFiles;
+use crate::open_files::{FailedAt, OpenFiles};
 use crate::sharing::Sharing;
 use crash_disk::{Disk, DiskFault};
+use file_names::undo::{UNDO, plain_name};
 use std::alloc::{AllocError, Global};
 use std::fs::{File, Files};
 use std::io;
+
+/// A call on a disk that the system refused.
+#[derive(Drop)]
+pub struct Failure {
+    /// The name of the file at which it failed: that by which it was made, of a rename the new one, or one of a file beside it.
+    pub name: String,
+    /// Why it was refused.
+    pub error: io::Error,
+}
+
+/// The name of the file at which a call by a name failed.
+fn failed_name(alloc: Global, name: &str, at: FailedAt) -> Result<String, AllocError> {
+    match at {
+        FailedAt::Name => String::from_str(alloc, name),
+        FailedAt::Plain => String::from_str(alloc, plain_name(name)),
+        FailedAt::Undo => {
+            let mut undo = String::from_str(alloc, plain_name(name))?;
+            undo.push_str(UNDO)?;
+            Ok(undo)
+        }
+    }
+}
+
+/// What is noted of a call that failed, where there is memory for the name.
+fn failure_of(alloc: Global, name: &str, at: FailedAt, error: io::Error) -> Option<Failure> {
+    let name = failed_name(alloc, name, at).ok()?;
+    Some(Failure { name, error })
+}
 
 /// The files of the system as a disk, by paths that count from the current folder. It tells nothing of them.
 ///
@@ -32,6 +61,7 @@ use std::io;
 pub struct FileDisk<'a, R> {
     open: OpenFiles<'a, R>,
     faults: u64,
+    failure: Option<Failure>,
 }
 
 impl<'a, R: Files<File = File>> FileDisk<'a, R> {
@@ -42,7 +72,13 @@ impl<'a, R: Files<File = File>> FileDisk<'a, R> {
         FileDisk {
             open: OpenFiles::new(alloc, files),
             faults: 0,
+            failure: None,
         }
+    }
+
+    /// The last call that failed; none where none did, or where there was not enough memory for its name.
+    pub fn failure(&self) -> Option<&Failure> {
+        self.failure.as_ref()
     }
 
     /// Says what is done from now on so that no other program comes between.
@@ -56,15 +92,17 @@ impl<'a, R: Files<File = File>> FileDisk<'a, R> {
         self.open.share(sharing)
     }
 
-    /// Turns an error of the system into a fault, which is counted.
-    fn counting<T>(&mut self, answer: io::Result<T>) -> Result<T, DiskFault>
+    /// Turns an error of the system, at a call on the file of a name, into a fault, which is counted and noted.
+    fn counting<T>(&mut self, name: &str, answer: io::Result<T>) -> Result<T, DiskFault>
         ensures ok { IfOk result (λ value. answer ≡ Ok value) }
         ensures cause { OnErr result (Rose self.old.faults self.new.faults) }
         ensures later { self.old.faults ≤ self.new.faults }
     {
         match answer {
             Ok(value) => Ok(value),
-            Err(_) => {
+            Err(error) => {
+                self.failure = failure_of(self.open.alloc, name, self.open.failed_at, error);
+                self.open.failed_at = FailedAt::Name;
                 self.faults = self.faults.saturating_add(1);
                 Err(DiskFault)
             }
@@ -86,36 +124,36 @@ impl<'a, R: Files<File = File>> Disk for FileDisk<'a, R> {
 
     fn size(&mut self, name: &str) -> Result<Option<u64>, DiskFault> {
         let found = self.open.length(name);
-        self.counting(found)
+        self.counting(name, found)
     }
 
     fn read(&mut self, name: &str, at: u64, buf: &mut [u8]) -> Result<usize, DiskFault> {
         let count = self.open.read(name, at, buf);
-        self.counting(count)
+        self.counting(name, count)
     }
 
     fn write(&mut self, name: &str, at: u64, bytes: &[u8]) -> Result<(), DiskFault> {
         let done = self.open.write(name, at, bytes);
-        self.counting(done)
+        self.counting(name, done)
     }
 
     fn create(&mut self, name: &str) -> Result<(), DiskFault> {
         let done = self.open.make(name);
-        self.counting(done)
+        self.counting(name, done)
     }
 
     fn cut(&mut self, name: &str, len: u64) -> Result<(), DiskFault> {
         let done = self.open.cut(name, len);
-        self.counting(done)
+        self.counting(name, done)
     }
 
     fn sync(&mut self, name: &str) -> Result<(), DiskFault> {
         let done = self.open.sync(name);
-        self.counting(done)
+        self.counting(name, done)
     }
 
     fn rename(&mut self, from: &str, to: &str) -> Result<(), DiskFault> {
         let done = self.open.rename(from, to);
-        self.counting(done)
+        self.counting(to, done)
     }
 }

@@ -3,7 +3,7 @@
 use crate::locks::{
     LockedFile, changed_meanwhile, lock_made, lock_to_read, lock_unchanged, lock_waiting,
 };
-use crate::open_files::{OpenFiles, Shared};
+use crate::open_files::{FailedAt, OpenFiles, Shared};
 use crate::sharing::Lock;
 use file_names::names::{
     NEW, behind_link, make_absent, open_file, replaced_at, stamp_at, stands_for,
@@ -53,6 +53,12 @@ impl<'a, R: Files<File = File>> OpenFiles<'a, R> {
     /// Sees to it that an undo file may be changed: its file, where it is there, is locked before that where that is due, and
     /// may be written to where it is locked. One that is not there is to have been absent at the first look, too.
     pub fn before_undo(&mut self, file: &str) -> io::Result<()> {
+        let done = self.hold_for_undo(file);
+        self.at(FailedAt::Plain, done)
+    }
+
+    /// Sees to the same, but does not note where it failed.
+    fn hold_for_undo(&mut self, file: &str) -> io::Result<()> {
         let Some(stamp) = stamp_at(self.files, file)? else {
             return self.stay_absent(file);
         };
@@ -79,9 +85,11 @@ impl<'a, R: Files<File = File>> OpenFiles<'a, R> {
         let Some(stamp) = found else {
             return Ok(None);
         };
-        if !self.is_first_look(path, stamp.node())
-            || !is_to_recover(self.alloc, self.files, path)?
-        {
+        if !self.is_first_look(path, stamp.node()) {
+            return Ok(found);
+        }
+        let is_due = is_to_recover(self.alloc, self.files, path);
+        if !self.at(FailedAt::Undo, is_due)? {
             return Ok(found);
         }
         let locked = if self.held.is_empty() {
@@ -171,13 +179,15 @@ impl<'a, R: Files<File = File>> OpenFiles<'a, R> {
 
     /// Waits until a file is locked. One that is to be read is locked alone while it has to be recovered.
     fn wait_for(
-        &self,
+        &mut self,
         path: &str,
         found: Option<Stamp>,
         lock: Lock,
     ) -> io::Result<Option<LockedFile>> {
         match lock {
-            Lock::Shared => lock_to_read(self.alloc, self.files, path, found),
+            Lock::Shared => {
+                lock_to_read(self.alloc, self.files, path, found, &mut self.failed_at)
+            }
             Lock::Exclusive => lock_waiting(self.files, path, found, lock),
         }
     }
@@ -191,7 +201,10 @@ impl<'a, R: Files<File = File>> OpenFiles<'a, R> {
     /// Locks a file before it is replaced, where it is there, is not held already, and may be opened.
     fn lock_before_change(&mut self, path: &str) -> io::Result<()> {
         match self.lock_replaced(path) {
-            Err(error) if error.kind() == ErrorKind::PermissionDenied => Ok(()),
+            Err(error) if error.kind() == ErrorKind::PermissionDenied => {
+                self.failed_at = FailedAt::Name;
+                Ok(())
+            }
             done => done,
         }
     }
@@ -248,7 +261,8 @@ impl<'a, R: Files<File = File>> OpenFiles<'a, R> {
         let Some(replaced) = name.strip_suffix(NEW) else {
             return Ok(String::from_str(self.alloc, name)?);
         };
-        self.lock_before_change(replaced)?;
+        let done = self.lock_before_change(replaced);
+        self.at(FailedAt::Plain, done)?;
         let mut path = behind_link(self.alloc, self.files, replaced)?;
         path.push_str(NEW)?;
         Ok(path)

@@ -41,7 +41,10 @@ impl HeldFiles {
     pub fn may_use(&self, node: Node, access: Access) -> io::Result<bool> {
         match self.named(node) {
             Some(held) if held.access.allows(access) => Ok(true),
-            Some(_) => Err(io::Error::from(ErrorKind::PermissionDenied)),
+            Some(held) => Err(
+                held.denied
+                    .unwrap_or(io::Error::from(ErrorKind::PermissionDenied)),
+            ),
             None => Ok(false),
         }
     }

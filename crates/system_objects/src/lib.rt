@@ -1,6 +1,6 @@
 //! The files of the system as a disk, with locks and links.
 //!
-//! They tell nothing of what they hold, and count their faults.
+//! They tell nothing of what they hold, count their faults, and note the last one.
 #![tactic(auto)]
 
 mod file_disk;
@@ -11,5 +11,5 @@ mod open_files;
 mod sharing;
 mod slots;
 
-pub use file_disk::FileDisk;
+pub use file_disk::{Failure, FileDisk};
 pub use sharing::{Lock, Sharing};

@@ -1,5 +1,6 @@
+use crate::open_files::FailedAt;
 use crate::sharing::Lock;
-use file_names::names::{open_file, stamp_at, stands_for};
+use file_names::names::{lock_at_once, open_file, stamp_at, stands_for};
 use file_names::stamp::{Node, Stamp};
 use file_names::undo::is_to_recover;
 use file_windows::Access;
@@ -17,26 +18,59 @@ pub(crate) struct LockedFile {
     pub file: File,
     /// What it may be used for.
     pub access: Access,
+    /// Why it was not opened to be written to, where that was tried.
+    pub denied: Option<io::Error>,
+}
+
+/// A file that was opened to be locked.
+#[derive(Drop)]
+struct Lockable {
+    file: File,
+    access: Access,
+    denied: Option<io::Error>,
+}
+
+impl Lockable {
+    /// The file, which was locked.
+    fn locked(self, node: Node) -> LockedFile {
+        LockedFile {
+            node,
+            file: self.file,
+            access: self.access,
+            denied: self.denied,
+        }
+    }
 }
 
 /// Opens a file that is to be locked alone so that it may be written to, where the system lets us, and any other one so that
 /// it may be read.
-fn open_to_lock<R: Files<File = File>>(
-    files: &R,
-    path: &str,
-    lock: Lock,
-) -> io::Result<(File, Access)> {
+fn open_to_lock<R: Files<File = File>>(files: &R, path: &str, lock: Lock) -> io::Result<Lockable> {
+    let mut denied = None;
     if lock == Lock::Exclusive {
-        if let Ok(file) = open_file(files, path, Access::Writing) {
-            return Ok((file, Access::Writing));
+        match open_file(files, path, Access::Writing) {
+            Ok(file) => {
+                return Ok(Lockable {
+                    file,
+                    access: Access::Writing,
+                    denied: None,
+                });
+            }
+            Err(error) => denied = Some(error),
         }
     }
-    Ok((open_file(files, path, Access::Reading)?, Access::Reading))
+    Ok(Lockable {
+        file: open_file(files, path, Access::Reading)?,
+        access: Access::Reading,
+        denied,
+    })
 }
 
 /// That another program made something else of a file meanwhile.
 pub(crate) fn changed_meanwhile() -> io::Error {
-    io::Error::from(ErrorKind::ResourceBusy)
+    io::Error::new(
+        ErrorKind::ResourceBusy,
+        "Changed by another program meanwhile",
+    )
 }
 
 /// Waits until a file is locked.
@@ -61,7 +95,7 @@ pub(crate) fn lock_waiting<R: Files<File = File>>(
         if found.is_none() {
             return Ok(None);
         }
-        let (file, access) = match open_to_lock(files, path, lock) {
+        let opened = match open_to_lock(files, path, lock) {
             Ok(opened) => opened,
             Err(error) if error.kind() == ErrorKind::NotFound => {
                 found = stamp_at(files, path)?;
@@ -69,11 +103,11 @@ pub(crate) fn lock_waiting<R: Files<File = File>>(
             }
             Err(error) => return Err(error),
         };
-        wait_for(&file, lock)?;
-        let node = Node::of(&file.metadata()?);
+        wait_for(&opened.file, lock)?;
+        let node = Node::of(&opened.file.metadata()?);
         found = stamp_at(files, path)?;
         if found.is_some_and(|stamp| stamp.node() == node) {
-            return Ok(Some(LockedFile { node, file, access }));
+            return Ok(Some(opened.locked(node)));
         }
     }
     Err(changed_meanwhile())
@@ -87,14 +121,15 @@ pub(crate) fn lock_to_read<R: Files<File = File>>(
     files: &R,
     path: &str,
     found: Option<Stamp>,
+    failed_at: &mut FailedAt,
 ) -> io::Result<Option<LockedFile>> {
     let mut found = found;
-    let mut lock = lock_due(alloc, files, path)?;
+    let mut lock = lock_due(alloc, files, path, failed_at)?;
     for _ in 0..u64::MAX {
         let Some(locked) = lock_waiting(files, path, found, lock)? else {
             return Ok(None);
         };
-        let due = lock_due(alloc, files, path)?;
+        let due = lock_due(alloc, files, path, failed_at)?;
         if due == lock {
             return Ok(Some(locked));
         }
@@ -104,20 +139,33 @@ pub(crate) fn lock_to_read<R: Files<File = File>>(
     Err(changed_meanwhile())
 }
 
-/// How a file is to be locked that is to be read.
-fn lock_due<R: Files<File = File>>(alloc: Global, files: &R, path: &str) -> io::Result<Lock> {
-    if is_to_recover(alloc, files, path)? {
-        Ok(Lock::Exclusive)
-    } else {
-        Ok(Lock::Shared)
+/// How a file is to be locked that is to be read. Its undo file is looked at for that.
+fn lock_due<R: Files<File = File>>(
+    alloc: Global,
+    files: &R,
+    path: &str,
+    failed_at: &mut FailedAt,
+) -> io::Result<Lock> {
+    match is_to_recover(alloc, files, path) {
+        Ok(true) => Ok(Lock::Exclusive),
+        Ok(false) => Ok(Lock::Shared),
+        Err(error) => {
+            *failed_at = FailedAt::Undo;
+            Err(error)
+        }
     }
 }
 
 /// Locks a file that was just made, unless another program was faster.
 pub(crate) fn lock_made(file: File, access: Access) -> io::Result<LockedFile> {
-    file.try_lock()?;
+    lock_at_once(&file)?;
     let node = Node::of(&file.metadata()?);
-    Ok(LockedFile { node, file, access })
+    Ok(LockedFile {
+        node,
+        file,
+        access,
+        denied: None,
+    })
 }
 
 /// Opens the file of a name and locks it alone, unless another program has locked it, or it is no longer what it was at the
@@ -127,16 +175,16 @@ pub(crate) fn lock_unchanged<R: Files<File = File>>(
     path: &str,
     first: Option<Option<Stamp>>,
 ) -> io::Result<LockedFile> {
-    let (file, access) = open_to_lock(files, path, Lock::Exclusive)?;
-    file.try_lock()?;
-    let now = Stamp::of(&file.metadata()?);
+    let opened = open_to_lock(files, path, Lock::Exclusive)?;
+    lock_at_once(&opened.file)?;
+    let now = Stamp::of(&opened.file.metadata()?);
     let is_same = match first {
         Some(first) => first == Some(now),
         None => true,
     };
     let node = now.node();
     if is_same && stands_for(files, path, node)? {
-        Ok(LockedFile { node, file, access })
+        Ok(opened.locked(node))
     } else {
         Err(changed_meanwhile())
     }

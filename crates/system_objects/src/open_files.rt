@@ -33,6 +33,17 @@ pub(crate) struct Wanted {
     pub lock: Lock,
 }
 
+/// At which file a call failed, seen from the name that it was made by.
+#[derive(Clone, Copy)]
+pub(crate) enum FailedAt {
+    /// At the file of that name.
+    Name,
+    /// At the file of a plain name, beside which the one of that name stands.
+    Plain,
+    /// At the undo file.
+    Undo,
+}
+
 /// How the files are shared.
 #[derive(Drop)]
 pub(crate) enum Shared {
@@ -60,6 +71,8 @@ pub(crate) struct OpenFiles<'a, R> {
     pub new_names: NewNames,
     pub synced: SyncedFiles,
     pub whole: WholeFiles,
+    /// At which file the call at hand failed, where it did.
+    pub failed_at: FailedAt,
 }
 
 impl<'a, R: Files<File = File>> OpenFiles<'a, R> {
@@ -77,6 +90,7 @@ impl<'a, R: Files<File = File>> OpenFiles<'a, R> {
             new_names: NewNames::new(alloc),
             synced: SyncedFiles::new(alloc),
             whole: WholeFiles::new(alloc),
+            failed_at: FailedAt::Name,
         }
     }
 
@@ -308,7 +322,8 @@ impl<'a, R: Files<File = File>> OpenFiles<'a, R> {
         if undone_file(name).is_some() || !self.open(name, Access::Reading)? {
             return Ok(false);
         }
-        if is_to_recover(self.alloc, self.files, name)? {
+        let is_due = is_to_recover(self.alloc, self.files, name);
+        if self.at(FailedAt::Undo, is_due)? {
             return Ok(false);
         }
         let Some(file) = self.slots.last() else {
@@ -353,6 +368,16 @@ impl<'a, R: Files<File = File>> OpenFiles<'a, R> {
             is_synced,
         };
         self.slots.put(name, slot)
+    }
+
+    /// Notes where something failed, unless that was noted when it did.
+    pub fn at<T>(&mut self, place: FailedAt, done: io::Result<T>) -> io::Result<T>
+        ensures same { result ≡ done }
+    {
+        if done.is_err() && matches!(self.failed_at, FailedAt::Name) {
+            self.failed_at = place;
+        }
+        done
     }
 
     /// Closes the file that was used last where what was done with it failed, so that it is opened anew.

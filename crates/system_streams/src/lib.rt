@@ -1,6 +1,6 @@
 //! What the system has besides files, as objects outside: streams, datagrams and the moment.
 //!
-//! They tell nothing of what they hold, and count their faults.
+//! They tell nothing of what they hold, count their faults, and note the last one.
 #![tactic(auto)]
 
 mod clock;
@@ -11,4 +11,4 @@ mod udp_link;
 pub use clock::moment;
 pub use stream_sink::StreamSink;
 pub use stream_source::StreamSource;
-pub use udp_link::UdpLink;
+pub use udp_link::{Failure, UdpLink};

@@ -1,6 +1,7 @@
 ghost use Rattle.std.specs.Prelude.{◌≡◌};
 
 use outside::{Sink, SinkFault};
+use std::io;
 use std::io::Write;
 
 /// A stream of the system as a sink, such as standard output. It tells nothing of what was written.
@@ -8,6 +9,7 @@ use std::io::Write;
 pub struct StreamSink<W> {
     stream: W,
     faults: u64,
+    failure: Option<io::Error>,
 }
 
 impl<W> StreamSink<W> {
@@ -15,7 +17,16 @@ impl<W> StreamSink<W> {
     pub fn new(stream: W) -> Self
         ensures { result.faults ≡ 0 }
     {
-        StreamSink { stream, faults: 0 }
+        StreamSink {
+            stream,
+            faults: 0,
+            failure: None,
+        }
+    }
+
+    /// Why the last call that failed did; none where none did.
+    pub fn failure(&self) -> Option<io::Error> {
+        self.failure
     }
 }
 
@@ -28,8 +39,9 @@ impl<W: Write> Sink for StreamSink<W> {
 
     /// Writes all the bytes, in as many calls of the system as it takes.
     fn write(&mut self, bytes: &[u8]) -> Result<(), SinkFault> {
-        if self.stream.write_all(bytes).is_err() {
+        if let Err(error) = self.stream.write_all(bytes) {
             self.faults = self.faults.saturating_add(1);
+            self.failure = Some(error);
             return Err(SinkFault);
         }
         Ok(())

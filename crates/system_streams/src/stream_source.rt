@@ -1,6 +1,7 @@
 ghost use Rattle.std.specs.Prelude.{◌≡◌};
 
 use outside::{Source, SourceFault};
+use std::io;
 use std::io::{ErrorKind, Read};
 
 /// A stream of the system as a source, such as standard input. It tells nothing of what is left in it.
@@ -8,6 +9,7 @@ use std::io::{ErrorKind, Read};
 pub struct StreamSource<R> {
     stream: R,
     faults: u64,
+    failure: Option<io::Error>,
 }
 
 impl<R> StreamSource<R> {
@@ -15,7 +17,16 @@ impl<R> StreamSource<R> {
     pub fn new(stream: R) -> Self
         ensures { result.faults ≡ 0 }
     {
-        StreamSource { stream, faults: 0 }
+        StreamSource {
+            stream,
+            faults: 0,
+            failure: None,
+        }
+    }
+
+    /// Why the last call that failed did; none where none did.
+    pub fn failure(&self) -> Option<io::Error> {
+        self.failure
     }
 }
 
@@ -44,7 +55,10 @@ impl<R: Read> Source for StreamSource<R> {
             match self.stream.read(buf) {
                 Ok(count) => return Ok(count),
                 Err(error) if error.kind() == ErrorKind::Interrupted => {}
-                Err(_) => break,
+                Err(error) => {
+                    self.failure = Some(error);
+                    break;
+                }
             }
         }
         self.faults = self.faults.saturating_add(1);

@@ -16,12 +16,22 @@ struct Bound {
     sender: Option<SocketAddr>,
 }
 
+/// A call on a link that the system refused.
+#[derive(Clone, Copy)]
+pub struct Failure {
+    /// The port that was asked for, or that the socket is bound to.
+    pub port: u16,
+    /// Why it was refused.
+    pub error: io::Error,
+}
+
 /// A UDP socket on 127.0.0.1 as a link. It tells nothing of the datagrams, the answers and how it was started.
 #[derive(Drop)]
 pub struct UdpLink<'a, R> {
     system: &'a R,
     bound: Option<Bound>,
     faults: u64,
+    failure: Option<Failure>,
 }
 
 impl<'a, R: Net + Clock> UdpLink<'a, R> {
@@ -33,7 +43,13 @@ impl<'a, R: Net + Clock> UdpLink<'a, R> {
             system,
             bound: None,
             faults: 0,
+            failure: None,
         }
+    }
+
+    /// The last call that failed; none where none did.
+    pub fn failure(&self) -> Option<Failure> {
+        self.failure
     }
 
     /// The port that the socket is bound to; 0 before the link was started.
@@ -90,15 +106,16 @@ impl<'a, R: Net + Clock> UdpLink<'a, R> {
         Ok(())
     }
 
-    /// Turns an error of the system into a fault, which is counted.
-    fn counting<T>(&mut self, answer: io::Result<T>) -> Result<T, LinkFault>
+    /// Turns an error of the system, at a call on a port, into a fault, which is counted and noted.
+    fn counting<T>(&mut self, port: u16, answer: io::Result<T>) -> Result<T, LinkFault>
         ensures ok { IfOk result (λ value. answer ≡ Ok value) }
         ensures cause { OnErr result (Rose self.old.faults self.new.faults) }
         ensures later { self.old.faults ≤ self.new.faults }
     {
         match answer {
             Ok(value) => Ok(value),
-            Err(_) => {
+            Err(error) => {
+                self.failure = Some(Failure { port, error });
                 self.faults = self.faults.saturating_add(1);
                 Err(LinkFault)
             }
@@ -115,16 +132,16 @@ impl<'a, R: Net + Clock> Link for UdpLink<'a, R> {
 
     fn start(&mut self, port: u16) -> Result<(), LinkFault> {
         let bound = self.bind(port);
-        self.counting(bound)
+        self.counting(port, bound)
     }
 
     fn next(&mut self, buf: &mut [u8; 4096]) -> Result<Got, LinkFault> {
         let got = self.receive(buf);
-        self.counting(got)
+        self.counting(self.port(), got)
     }
 
     fn answer(&mut self, bytes: &[u8]) -> Result<(), LinkFault> {
         let sent = self.send(bytes);
-        self.counting(sent)
+        self.counting(self.port(), sent)
     }
 }
