@@ -9,6 +9,7 @@ ghost use Rattle.refusals.specs.Refusals.{refusal_of};
 ghost use Rattle.refusals.specs.Status.{status_of};
 ghost use Rattle.run_steps.specs.Done.{AppendsUnless};
 
+use closed::hold_closed_streams;
 use help::{About, tell};
 use journal_store::JournalStore;
 use quota_blocks::Sink;
@@ -24,6 +25,7 @@ use std::{env, io};
 use system_objects::FileDisk;
 use system_streams::{StreamSink, StreamSource, UdpLink, moment};
 
+mod closed;
 mod help;
 mod reasons;
 mod sharing;
@@ -92,7 +94,11 @@ fn share_files<R: Files<File = File>>(
 }
 
 fn main(rt: HostRuntime) -> ExitCode {
+    let held = hold_closed_streams(&rt);
     let mut err = StreamSink::new(rt.stderr());
+    if let Err(error) = &held {
+        return ExitCode::from(stop(&mut err, starting_cause(error.kind()), rt.alloc()));
+    }
     let is_terminal = rt.stderr().is_terminal();
     let status = match (given_words(&rt), moment(&rt)) {
         (Ok((called, words)), Ok(now)) => {
