@@ -66,3 +66,23 @@ if command -v python3 >/dev/null; then
 else
     echo 'real_files: python3 is not there: what a terminal is told is not shown' >&2
 fi
+
+# A standard stream that was closed before the program began is no file of the command: a call on it is a fault.
+: >q
+"$folder/program" setquota -F vfsold 1 1 0 0 0 q
+cp q before
+got=0
+"$folder/program" setquota -F vfsold 1 9999999999999 0 0 0 q 2>&- || got=$?
+same 'the status stays where the error output is closed' "$got" 1
+same 'and so does the file' "$(cmp q before && echo same)" same
+got=0
+"$folder/program" repquota -F vfsold q >&- 2>err.txt || got=$?
+same 'a report to a closed output' "$got $(cat err.txt)" '4 quota: output fault'
+got=0
+"$folder/program" setquota -F vfsold -b q <&- 2>err.txt || got=$?
+same 'lines out of a closed input' "$got $(cat err.txt)" '4 quota: input fault'
+got=0
+"$folder/program" setquota -F vfsold 1 2 0 0 0 q <&- >&- 2>&- || got=$?
+same 'a change with all of them closed' "$got" 0
+expect 'what it left' 0 "$head
+#1           --          0          2          0      -        0        0        0      -" '' repquota -F vfsold q
