@@ -292,9 +292,9 @@ run_edited (Some file) left (Ok value) status is done kept = subst (λ (s : ℕ)
 run_edited (Some file) left (Err refusal) status is done kept = subst (λ (s : ℕ). left s file) (sym is) kept
 
 -- what holds where it was done holds with status 0
-run_done : (holds : Type 0) (result : Result (Unit {0}) Refusal) (status : ℕ) → status ≡ end_status (result_err result) → OnOk result holds → status ≡ 0 → holds
-run_done holds (Ok value) status is done = λ zero. done
-run_done holds (Err refusal) status is done = λ zero. absurd (no_status_0 refusal.cause (sym is ∙ zero))
+run_held : (holds : Type 0) (result : Result (Unit {0}) Refusal) (status : ℕ) → status ≡ end_status (result_err result) → OnOk result holds → status ≡ 0 → holds
+run_held holds (Ok value) status is done = λ zero. done
+run_held holds (Err refusal) status is done = λ zero. absurd (no_status_0 refusal.cause (sym is ∙ zero))
 
 -- what was written has been synced with status 0, and with any other one where no call on the store failed
 run_synced : (result : Result (Unit {0}) Refusal) (status : ℕ) (old new : StoreSeen) → status ≡ end_status (result_err result) → Syncs (is_ok result) old new
@@ -333,8 +333,8 @@ run_keeps setting tells old new said result status carried stands finished usage
   edited = run_edited (asked setting).edits (λ (s : ℕ) (file : List ℕ). IsTrue tells.store → IsLeftByEdit s old.store.files new.store.files file) result status finished.status_is
       (λ file told other. absurd (other refl)) carried.edited;
   within = record { alone = carried.within.alone; few = carried.within.few };
-  reads = run_done (IsWorldTold tells → ReadsWithin ((asked setting).most_reads (outside_of old)) old.store new.store) result status finished.status_is carried.reads;
-  made = run_done (IsTrue tells.store → (asked setting).made setting.invocation (outside_of old) new.store.files) result status finished.status_is carried.made;
+  reads = run_held (IsWorldTold tells → ReadsWithin ((asked setting).most_reads (outside_of old)) old.store new.store) result status finished.status_is carried.reads;
+  made = run_held (IsTrue tells.store → (asked setting).made setting.invocation (outside_of old) new.store.files) result status finished.status_is carried.made;
   synced = λ so told. run_synced result status old.store new.store finished.status_is (carried.synced told) so;
   untaken = λ one. run_untaken (new.link ≡ old.link) result status finished.status_is (carried.untaken one);
   unlinked = record {

@@ -115,7 +115,7 @@ lines_passed now line lines ended tells old middle new passed result first then 
   carries = carried_before (LineSteps now line) (LinesSteps now lines ended) script_uses RunningMayRefuse tells old middle new passed result refl first.carries then.carries;
   synced = λ told. syncs-then old.store middle.store new.store (first.synced told) (then.synced told);
   own = then.own;
-  within = IfErr-weaker result _ _ (λ refusal one some. inr (middle, record { done = first.carries.done; synced = λ told. (first.synced told).synced (inl tt); unlinked = first.unlinked; later = first.carries.later }, one some)) then.within;
+  within = IfErr-weaker result _ _ (λ refusal one some. inr (middle, record { done = first.carries.done; synced = λ told. (first.synced told).synced (inl refl); unlinked = first.unlinked; later = first.carries.later }, one some)) then.within;
   unlinked = λ least ascends none.
       let parts = or_parts (is_come_to (result_err result) line && (asked_in_script line.text).uses.link) (comes_to_link lines (result_err result)) none in
       then.unlinked line.number ascends.1 parts.1
