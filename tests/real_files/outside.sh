@@ -4,7 +4,7 @@
 # Another user than root: a file that was left behind and may not be written is not in the way. A permission that is
 # denied, to write in the folder where a file is replaced, or to write or to read the file, is a fault.
 mkdir own
-cp want own/q
+cp quota.user own/q
 : >own/q.new
 chmod 400 own/q.new
 if [ "$(id -u)" = 0 ]; then chown -R 65534:65534 own; fi

@@ -47,7 +47,7 @@ if command -v python3 >/dev/null; then
     refused 'a full output' 'output fault' 'program: standard output: No space left on device' repquota -F vfsold q
     refused 'help to a full output' 'output fault' 'program: standard output: No space left on device' --help
     called=(sh -c 'exec "$@" <&-' sh "${somebody[@]}")
-    refused 'a closed input' 'input fault' 'program: standard input: Bad file descriptor' script
+    refused 'a closed input' 'input fault' 'program: standard input: Is a directory' script
     called=(flock q sh -c 'exec "$@" <s' sh "${somebody[@]}")
     refused 'a file that is locked' 'line 1: store fault' 'program: q: Locked by another program' script
     port=$("$top/tests/serve_client.py" free)
@@ -85,4 +85,4 @@ got=0
 "$folder/program" setquota -F vfsold 1 2 0 0 0 q <&- >&- 2>&- || got=$?
 same 'a change with all of them closed' "$got" 0
 expect 'what it left' 0 "$head
-#1           --          0          2          0      -        0        0        0      -" '' repquota -F vfsold q
+#1           --          0          2          0      -        0        0        0      -" '' repquota -F vfsold -v q
