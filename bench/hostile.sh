@@ -1,0 +1,60 @@
+#!/usr/bin/env bash
+# Tries the built program on damaged files and on hostile datagrams, many of each, which one seed makes, so that each case can be
+# made again by its number. It is no part of the gate.
+# usage: [SEED=NUMBER] [JOBS=NUMBER] bench/hostile.sh [files|datagrams [COUNT [FIRST]]]
+#   With no words: 200,000 files, and then 1,000,000 datagrams. FIRST is the number of the first case, 0 without it.
+#   SEED: 1 without it. JOBS: how many processes there are at a time, as many as processors without it.
+# It prints what the cases came to, the worst memory and time, and how long it took, and ends with status 1 where a case failed.
+# What failed is kept in a folder that it names.
+#
+# A file is a sound one of vfsold, vfsv0 or vfsv1, with one to four changes: of a word, a reference, a link of a list, a count, an
+# identifier, a value or the header, two references or identifiers exchanged, or another length. Its sound ones are 96, of up to
+# some tens of identifiers, in several data blocks and tree blocks, some with free blocks. The file is reported
+# (`repquota -v -n -p`), edited (`setquota`: new limits of an identifier, known or new, or none) and reported again, as a script
+# of three lines, or, each eighth one, by three runs.
+# - No run is ended by a signal, takes ten seconds, or holds more than 128 KiB beyond the most that such runs hold on the sound
+#   file from which it was made.
+# - A reader of its own, which follows docs/FORMATS.md (bench/plain_reader.py), says which file is sound, and what it stands
+#   for. A sound one is accepted. Any other one is refused, with the status and the cause that the header asks for, or with a
+#   damage that holds of the file, by its kind, block and identifier. Then `setquota` alone refuses it by the same line; the file
+#   is as it was, byte for byte, and none is beside it.
+# - Of an accepted file the first report is, byte for byte, the text of what the reader finds. The second one is the text of that
+#   with the edit applied: the new limits, the timers that start or stop, a record that is gone where it limits and counts
+#   nothing, and all else as it was. The file is sound then, and stands for just that, the timers that no report shows
+#   among it. Where the edit has no room, the line says which value, and the file is as it was.
+#
+# A datagram is a call with one to four changes: of a word or a byte, with bytes cut off, added, put in or taken out, or it is any
+# bytes; each 25th is a call as it was. Each `rquotad` takes up to 20,000 of them, of files of one format, and ends with status 0
+# after just so many. The replies are, byte for byte and in their order, those that docs/COMMANDS.md and docs/FORMATS.md ask for
+# (the seconds that are left are those of the moments at which it was sent and received), and no further ones; a
+# server holds at most 128 KiB more than one that meets sound calls alone.
+set -euo pipefail
+shopt -s inherit_errexit
+top=$(cd "$(dirname "${BASH_SOURCE[0]}")/.." && pwd)
+what=${1-}
+case $what in
+'' | files | datagrams) ;;
+*)
+    sed -n '/^# usage/,/^# What/{s/^# //;p}' "${BASH_SOURCE[0]}" >&2
+    exit 2
+    ;;
+esac
+"$top/bin/quota_cli" --version
+program=$top/crates/quota_program/out/quota_program
+room=/dev/shm
+if ! { [ -d "$room" ] && [ -w "$room" ]; }; then room=${TMPDIR:-/tmp}; fi
+work=$(mktemp -d -p "$room")
+trap 'rm -rf "$work"' EXIT
+kept=$(mktemp -d)
+
+# try WHAT COUNT FIRST: tries so many cases from that one on.
+try() {
+    echo "$1:"
+    python3 -B "$top/bench/hostile_$1.py" "$program" "${SEED:-1}" "$3" "$2" "${JOBS:-$(nproc)}" "$work" "$kept"
+}
+
+status=0
+if [ "$what" != datagrams ]; then try files "${2:-200000}" "${3:-0}" || status=1; fi
+if [ "$what" != files ]; then try datagrams "${2:-1000000}" "${3:-0}" || status=1; fi
+if ! rmdir "$kept" 2>/dev/null; then echo "what failed is in $kept" >&2; fi
+exit "$status"
