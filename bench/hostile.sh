@@ -11,7 +11,9 @@
 # identifier, a value or the header, two references or identifiers exchanged, or another length. Its sound ones are 96, of up to
 # some tens of identifiers, in several data blocks and tree blocks, some with free blocks. The file is reported
 # (`repquota -v -n -p`), edited (`setquota`: new limits of an identifier, known or new, or none) and reported again, as a script
-# of three lines, or, each eighth one, by three runs.
+# of three lines, or, about each eighth one, by three runs. About each sixth one has an undo file beside it, with an open gate,
+# which saves what the sound file has in the blocks that are others now; most of these are changed too, in their gate, head, ranges
+# or length. Then the file is what a recovery by that makes of it, from the first run on (`edit_journal/specs/Undo.antt`).
 # - No run is ended by a signal, takes ten seconds, or holds more than 128 KiB beyond the most that such runs hold on the sound
 #   file from which it was made.
 # - A reader of its own, which follows docs/FORMATS.md (bench/plain_reader.py), says which file is sound, and what it stands

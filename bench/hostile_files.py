@@ -26,6 +26,8 @@ NOW = 1_700_000_000
 # The seconds that a run may take, and the KiB that it may hold beyond a run on the sound file.
 SECONDS = 10
 SLACK = 128
+# How many ranges an undo file saves at most.
+SPANS = 12
 CASES_AT_ONCE = 200
 PR_SET_CHILD_SUBREAPER = 36
 
@@ -232,8 +234,51 @@ def change(draws, sound, data):
         change_word(draws, data, draws.of(sound.places[kind]))
 
 
+def undo_of(sound, data):
+    """An undo file with an open gate, which saves the blocks of the sound file that are others now, as far as one can."""
+    length = min(len(sound), len(data))
+    others = [at for at in range(0, length, BLOCK) if sound[at : at + BLOCK] != data[at : at + BLOCK]][:SPANS]
+    undo = bytearray(struct.pack("<B7xQI", 1, length, len(others))).ljust(BLOCK, b"\0")
+    for at in others:
+        saved = sound[at : min(at + BLOCK, length)]
+        undo += struct.pack("<QH6x", at, len(saved)) + bytes(saved).ljust(BLOCK, b"\0")
+    return undo
+
+
+def changed_undo(draws, undo, length):
+    """An undo file with a change of its gate, of a number of its head or of a saved range, or of its length."""
+    kind = draws.below(4)
+    span = BLOCK + (BLOCK + 16) * draws.below(SPANS)
+    if kind == 0:
+        del undo[draws.below(len(undo) + 1) :]
+    elif kind == 1 and len(undo) >= 20:
+        undo[0] = draws.of((0, 1, 1, 2, 255))
+        struct.pack_into("<I", undo, 16, draws.of((0, 1, 3, SPANS, SPANS + 1, draws.below(2**32))))
+    elif kind == 2 and len(undo) >= 16:
+        struct.pack_into("<Q", undo, 8, draws.of((0, length, length + 1, draws.below(length + 1), draws.below(2**64))))
+    elif span + 10 <= len(undo):
+        at = draws.of((draws.below(length + 1), length, 2**42, draws.below(2**64)))
+        struct.pack_into("<QH", undo, span, at, draws.of((0, 1, BLOCK, BLOCK + 1, draws.below(2**16))))
+    return undo
+
+
+def recovered(data, undo):
+    """What a file is once a command has opened it beside an undo file; what is missing of that counts as 0."""
+    undo = bytes(undo).ljust(BLOCK + (BLOCK + 16) * SPANS, b"\0")
+    gate, length, count = struct.unpack_from("<B7xQI", undo)
+    if gate != 1 or length > len(data) or count > SPANS:
+        return data
+    new = bytearray(data)
+    for start in range(BLOCK, BLOCK + (BLOCK + 16) * count, BLOCK + 16):
+        at, saved = struct.unpack_from("<QH", undo, start)
+        if saved > BLOCK or at > 2**42 or (saved and at + saved > length):
+            return data
+        new[at : at + saved] = undo[start + 16 : start + 16 + saved]
+    return bytes(new[:length])
+
+
 class Case:
-    """A damaged file and its edit."""
+    """A damaged file, perhaps with an undo file, and its edit. `data` is what the file is once it is recovered."""
 
     def __init__(self, seed, number, all_sound):
         draws = Draws(seed, number)
@@ -242,7 +287,12 @@ class Case:
         self.kind, self.form, self.data = sound.kind, sound.form, bytearray(sound.data)
         for _ in range(1 + draws.below(4)):
             change(draws, sound, self.data)
-        self.data = bytes(self.data)
+        self.given, self.undo = bytes(self.data), None
+        if draws.once_in(6):
+            self.undo = undo_of(sound.data, self.given)
+            for _ in range(draws.below(4)):
+                self.undo = changed_undo(draws, self.undo, len(self.given))
+        self.data = self.given if self.undo is None else recovered(self.given, self.undo)
         # No format is asked for, or that of the sound file.
         self.asked = sound.form if sound.form == "vfsold" or draws.once_in(2) else None
         self.alone = draws.once_in(8)
@@ -500,7 +550,7 @@ class Judge:
         held, sound = 0, self.sound[at]
         for number in range(6):
             case = Case(self.seed, number, [sound])
-            case.data, case.alone = bytes(sound.data), number % 2 == 1
+            case.data, case.undo, case.alone = bytes(sound.data), None, number % 2 == 1
             self.runner.write("q", case.data)
             ran = Ran(self.runner, case.words(), case.alone)
             want(ran.done > 0, "the sound file", at, "was refused:", ran.said)
@@ -512,9 +562,12 @@ class Judge:
         """A case."""
         case = Case(self.seed, number, self.sound)
         self.runner.clear()
-        self.runner.write("q", case.data)
+        self.runner.write("q", case.given)
+        if case.undo is not None:
+            self.runner.write("q.undo", case.undo)
         try:
             self.counts[self.judge(case)] += 1
+            self.counts["(with an undo file)"] += case.undo is not None
         except Wrong as why:
             self.keep(case, str(why))
         except UnicodeDecodeError as why:
@@ -572,10 +625,11 @@ class Judge:
         return "accepted, no room for the edit"
 
     def look_at_files(self, case):
-        """The file is as it was, and no other one is there."""
+        """The file is as it was, and no other one is there, but for an undo file with a shut gate where there was one."""
         want(self.runner.read("q") == case.data, "the file was changed")
         others = set(os.listdir(self.runner.folder)) - set("qsoe")
-        want(not others, "there are files beside it:", others)
+        want(others == (set() if case.undo is None else {"q.undo"}), "there are files beside it:", others)
+        want(case.undo is None or self.runner.read("q.undo")[:1] != b"\1", "the gate is open still")
 
     def look_at_memory(self, case, ran):
         more = ran.held - self.held[case.base]
@@ -587,8 +641,9 @@ class Judge:
         self.failed.append(case.number)
         folder = os.path.join(self.kept, str(case.number))
         shutil.copytree(self.runner.folder, folder, dirs_exist_ok=True)
-        with open(os.path.join(folder, "q.given"), "wb") as file:
-            file.write(case.data)
+        for name, data in (("q.given", case.given), ("q.undo.given", case.undo or b"")):
+            with open(os.path.join(folder, name), "wb") as file:
+                file.write(data)
         with open(os.path.join(folder, "why"), "w") as file:
             lines = [" ".join(words) for words in case.words()]
             file.write("\n".join(["case %d, %s" % (case.number, "alone" if case.alone else "a script"), *lines, why, ""]))
