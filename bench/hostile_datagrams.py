@@ -2,7 +2,8 @@
 """Hostile datagrams to `rquotad` of the built program, over the loopback:
 hostile_datagrams.py PROGRAM SEED FIRST COUNT JOBS WORK KEPT
 
-bench/hostile.sh says what is tried. It works in the folder WORK. The folder KEPT gets what failed, in a file of the number of the first case that did.
+bench/hostile.sh says what is tried. It works in the folder WORK. The folder KEPT gets
+what failed, in a file of the number of the first case that did.
 """
 import collections
 import multiprocessing
