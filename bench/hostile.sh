@@ -14,7 +14,7 @@
 # of three lines, or, about each eighth one, by three runs. About each sixth one has an undo file beside it, with an open gate,
 # which saves what the sound file has in the blocks that are others now; most of these are changed too, in their gate, head, ranges
 # or length. Then the file is what a recovery by that makes of it, from the first run on (`edit_journal/specs/Undo.antt`).
-# - No run is ended by a signal, takes ten seconds, or holds more than 128 KiB beyond the most that such runs hold on the sound
+# - No run is ended by a signal, takes ten seconds, or holds more than 256 KiB beyond the most that such runs hold on the sound
 #   file from which it was made.
 # - A reader of its own, which follows docs/FORMATS.md (bench/plain_reader.py), says which file is sound, and what it stands
 #   for. A sound one is accepted. Any other one is refused, with the status and the cause that the header asks for, or with a
@@ -29,7 +29,7 @@
 # bytes; each 25th is a call as it was. Each `rquotad` takes up to 20,000 of them, of files of one format, and ends with status 0
 # after just so many. The replies are, byte for byte and in their order, those that docs/COMMANDS.md and docs/FORMATS.md ask for
 # (the seconds that are left are those of the moments at which it was sent and received), and no further ones; a
-# server holds at most 128 KiB more than one that meets sound calls alone.
+# server holds at most 256 KiB more than one that meets sound calls alone.
 set -euo pipefail
 shopt -s inherit_errexit
 top=$(cd "$(dirname "${BASH_SOURCE[0]}")/.." && pwd)

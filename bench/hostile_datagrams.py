@@ -31,7 +31,7 @@ WAITING = 60_000
 # What a datagram is read by.
 MOST = 4096
 # The KiB that a server may hold beyond one that meets sound calls alone.
-SLACK = 128
+SLACK = 256
 # How long a server may take to begin, to answer and to end.
 SECONDS = 20
 

@@ -25,7 +25,7 @@ SOUND_CASES = 2**63
 NOW = 1_700_000_000
 # The seconds that a run may take, and the KiB that it may hold beyond a run on the sound file.
 SECONDS = 10
-SLACK = 128
+SLACK = 256
 # How many ranges an undo file saves at most.
 SPANS = 12
 CASES_AT_ONCE = 200
