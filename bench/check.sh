@@ -1,5 +1,5 @@
 #!/usr/bin/env bash
-# Measures, in one run, what a listing of 1,000,000 inodes adds up to, of which each tenth is the one before it again: the
+# Measures, in one run, what a listing of 1,000,000 inodes adds up to, of which every tenth is the one before it again: the
 # program beside awk with a set of pairs and sums, and beside `sort -u` piped into awk. The ratios of their times (the best
 # of five each), the most memory that each holds, and the program's calls of the system.
 . "$(dirname "${BASH_SOURCE[0]}")/measure.sh"

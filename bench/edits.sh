@@ -5,16 +5,16 @@
 # program holds, and its calls of the system. Then, of the file of the users 0 to 999,999 and of the flat one, `setquota -b`
 # of 1,000 lines and of 10,000 (`lines=NUMBER` asks for another number than that), for known users and, of the tree file,
 # for new ones: a line beside writing one block of a copy of the file and syncing it, beside four, as many as a new user
-# wants, one of them behind the end, and beside what a rollback journal of one block costs at least: its old bytes and its
-# new ones, a gate that is opened and closed, and a sync behind each; each is done half as often as there are lines before
-# the batch, and half as often behind it. And what a line costs over a folder in memory, without a disk, and the calls of the system for a line.
+# needs, one of them past the end, and beside what a rollback journal of one block costs at least: its old bytes and its new ones,
+# a gate that is opened and closed, and a sync behind each; each is done half as often as there are lines before the batch, and
+# half as often behind it. And what a line costs over a folder in memory, without a disk, and the calls of the system for a line.
 maker=make_tree_file.py
 . "$(dirname "${BASH_SOURCE[0]}")/measure.sh"
 "$top/bin/quota_cli" edquota --print -u 7 q >said
 lines=${lines:-10000}
 
 # The next user whom a change of each kind meets, and how far it is from there to the one behind. The known ones and those
-# who leave are users of both files. A new one wants a tree block of each level below the root, and those who leave use
+# who leave are users of both files. A new one needs a tree block of each level below the root, and those who leave use
 # nothing, so that no record without limits stays.
 declare -A user=([known]=7007 [new]=33554432 [leaving]=42000)
 declare -A step=([known]=7007 [new]=16777216 [leaving]=42000)
@@ -42,8 +42,8 @@ one_change() {
     calls 'pread64|write|fsync|fdatasync' "${change[@]:1}"
 }
 
-# synced WHAT NUMBER: so many times writes blocks of the copy and syncs it: `one` block, or `four`, as many as a new user
-# wants: the first one, two others, and one behind the end; or `journaled`, one block by a rollback journal.
+# synced WHAT NUMBER: writes blocks of the copy and syncs it NUMBER times: `one` block, or `four`, as many as a new user
+# needs: the first one, two others, and one past the end; or `journaled`, one block by a rollback journal.
 synced() {
     python3 - "$1" "$2" <<'PY'
 import os, sys
@@ -72,12 +72,12 @@ for count in range(number):
 PY
 }
 
-# each SECONDS: the milliseconds of one of so many lines.
+# each SECONDS: the milliseconds of one of the lines.
 each() {
     echo "$1 $lines" | awk '{ printf "%.3f", $1 / $2 * 1000 }'
 }
 
-# batch KIND FIRST STEP NUMBER: a batch of so many lines, for the users of these numbers.
+# batch KIND FIRST STEP NUMBER: a batch of NUMBER lines, for the users of these numbers.
 batch() {
     local lines=$4 ours what
     local batch=("$program" setquota "${format[@]}" -u -b q)

@@ -37,7 +37,7 @@ counts() {
         END { printf "%d calls, %d syncs, %d writes, %d bytes\n", all, syncs, writes, bytes }' "$1"
 }
 
-# Changes of so many pages, one in each of the modes that follow, each with its milliseconds on a line.
+# Changes of given numbers of pages, one in each of the modes that follow, each with its milliseconds on a line.
 cat >sqlite.py <<'PY'
 import os, sqlite3, sys, time
 

@@ -47,7 +47,7 @@ same() {
     fi
 }
 
-# differing OLD NEW: the numbers of the blocks of 1,024 bytes in which two files differ, sorted as words. What is behind
+# differing OLD NEW: the numbers of the blocks of 1,024 bytes in which two files differ, sorted as words. What is past
 # the end of one counts as 0.
 differing() {
     local size
@@ -68,7 +68,7 @@ seven='#7           --          0          1          2      -        0        0
 # padded LINE: the line with spaces behind it, of 1,023 bytes, and a newline.
 padded() { printf '%-1023s\n' "$1"; }
 
-# times LINE N: the padded line so many times.
+# times LINE N: the padded line N times.
 times() {
     padded "$1" >line.txt
     for ((half = 1; half < $2; half *= 2)); do

@@ -1,8 +1,8 @@
 # Tree files, which are changed where they stand.
 # A part of real_files.sh, which has what it calls, and runs it in a folder of its own.
 
-# few OLD NEW: `few` where the second is not shorter and at most twelve blocks differ, at least one, of which each behind
-# the end of the first counts; else what is so in place of that.
+# few OLD NEW: `few` where the second is not shorter and at most twelve blocks differ, at least one, of which each past
+# the end of the first counts; otherwise what is the case instead.
 few() {
     local old new number
     old=$((($(stat -c %s "$1") + 1023) / 1024))
@@ -108,7 +108,7 @@ traced() {
 }
 
 # An edit syncs the file and its undo file before it begins, and four times in it, and renames nothing. The first one makes
-# the undo file, too: it is synced, and the folder with its name once before it takes its own name and once behind that. So is
+# the undo file, too: it is synced, and the folder with its name once before it takes its own name and once after that. So is
 # each new file; the listing of it is synced before it is read.
 if strace -o trace.txt true 2>err.txt; then
     for format in vfsv0 vfsv1; do
@@ -125,7 +125,7 @@ if strace -o trace.txt true 2>err.txt; then
         same "the calls of a new file of $format" "$(traced quotacheck -c -u -F "$format" --input owners new)" 'few 4 2'
 
         # A write that fails, or at which the program is killed, and a sync that fails: a command that reads the file
-        # behind that makes it the old or the new one.
+        # after that makes it the old or the new one.
         cp t old
         cp t new
         "$run" setquota -F "$format" 4294967295 1 2 3 4 new

@@ -235,7 +235,7 @@ format=vfsv1
 # wake JOB: sends datagrams to the line of a script that waits for one, until the script has ended.
 wake() { while kill -0 "$1" 2>/dev/null; do { echo x >/dev/udp/127.0.0.1/"$port"; } 2>/dev/null || true; sleep 0.02; done; }
 
-# until_lines FILE NUMBER: waits until a file has so many lines.
+# until_lines FILE NUMBER: waits until a file has NUMBER lines.
 until_lines() { until [ "$(wc -l <"$1")" -ge "$2" ]; do sleep 0.01; done; }
 
 if command -v python3 >/dev/null; then

@@ -1,7 +1,7 @@
 # Files that are read ahead and gathered, the greatest numbers, each format and kind, and kills.
 # A part of real_files.sh, which has what it calls, and runs it in a folder of its own.
 
-# Files of more than 65,536 bytes, of which so many are read ahead and gathered: the lines of a batch do what single
+# Files of more than 65,536 bytes, of which that many are read ahead and gathered: the lines of a batch do what single
 # commands do, one after another, a file that grew is read to its new end, and a file of names and a quota file are read
 # in turn.
 seq 5000 | awk '{ print $1, 100, 1, $1, 8 }' >owners

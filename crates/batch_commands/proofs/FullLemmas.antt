@@ -64,7 +64,7 @@ never_lines names place PastNext number = refl
 
 -- Edits of lines.
 
--- one of so many lines, and of one more before them
+-- one of these lines, and of one more before them
 one_more : (kind : Kind) (asked : Option Format) (now : ℕ) (line : LineEdit) (lines : List LineEdit) (file : Option (List ℕ)) (blocks limit : ℕ) → IsFullForOne kind asked now lines file blocks limit
     → IsFullForOne kind asked now (line ∷ lines) file blocks limit
 one_more kind asked now line lines file blocks limit one = record {

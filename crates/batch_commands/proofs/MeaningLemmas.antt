@@ -27,7 +27,7 @@ use Rattle.edit_steps.proofs.EditLemmas.{change_acts, step_fits}
 
 -- They look first.
 
--- what comes of the looks of lines rests on no file, but for want of room
+-- what comes of the looks of lines rests on no file, except for lack of room
 lines_look : (looks takes : Bool) (file : List ℕ) (now : ℕ) (lines : List LineEdit) (value : QuotaValue) (behind : Option Refusal) → LooksFirstBy true looks takes (EditsThen file now lines value behind)
 lines_look looks takes file now [] value behind = tt
 lines_look looks takes file now (line ∷ lines) value behind =

@@ -69,7 +69,7 @@ pub fn read_edit_line(
     }
 }
 
-/// The five words of a line, or `None` where it has not five words, or one that is not UTF-8.
+/// The five words of a line, or `None` where it does not have five words, or one that is not UTF-8.
 ///
 /// # Errors
 ///

@@ -9,7 +9,7 @@ use tree_file::{TreeFile, open_tree};
 /// A number that is written over four bytes: the block, the byte of it where it begins, and the number.
 pub(crate) type Number = (usize, usize, u32);
 
-/// A file of so many blocks: the six-block file with these numbers over its own, list after list.
+/// A file of this many blocks: the six-block file with these numbers over its own, list after list.
 pub(crate) type Described = (usize, &'static [&'static [Number]]);
 
 /// The six-block file: vfsv1, block 5 alone in the entry list, and the way of identifier 1000 over the blocks 1 to 4 to its
@@ -68,7 +68,7 @@ pub(crate) fn open_users(alloc: Global, store: &mut MemStore) -> Result<TreeFile
     open_within(alloc, store, LIMIT)
 }
 
-/// Opens the file `q`, which may have so many blocks.
+/// Opens the file `q`, which may have at most `limit` blocks.
 pub(crate) fn open_within(
     alloc: Global,
     store: &mut MemStore,

@@ -45,7 +45,7 @@ fn all_entries(alloc: Global) -> Result<Vec<Entry>, AllocError> {
     Ok(entries)
 }
 
-/// Expects the identifiers to be removed in so many orders, which one recurrence chooses from a number on.
+/// Expects the identifiers to be removed in this many orders, which one recurrence chooses from a number on.
 fn expect_orders(rt: &impl Abort, alloc: Global, orders: u32, seed: u32) {
     let mut number = seed;
     for order in 0..orders {
@@ -55,7 +55,7 @@ fn expect_orders(rt: &impl Abort, alloc: Global, orders: u32, seed: u32) {
 }
 
 /// What goes wrong where the identifiers are removed in the order that the numbers from this one on choose, or nothing. None
-/// where memory is wanting, or the file is not opened.
+/// where there is not enough memory, or the file is not opened.
 fn end_of(alloc: Global, number: &mut u32) -> Option<&'static str> {
     let file = full_file(alloc).ok()?;
     let mut store = store_of(alloc, file.as_slice(), &[]).ok()?;

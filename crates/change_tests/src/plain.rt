@@ -110,7 +110,7 @@ impl Plain {
     }
 }
 
-/// How many beginnings the identifiers of entries have, which are in order, without so many bits at their ends.
+/// How many beginnings the identifiers of entries have, which are in order, without this many bits at their ends.
 fn beginnings(entries: &[Entry], bits: u32) -> usize {
     let mut count = 0usize;
     let mut last = None;

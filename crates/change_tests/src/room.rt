@@ -5,7 +5,7 @@ use row_files::{Act, get, make, store_of};
 use std::alloc::{AllocError, Global};
 use std::process::Abort;
 
-/// A file of so many blocks, none of which is free, a new identifier, and how many blocks its record takes.
+/// A file of this many blocks, none of which is free, a new identifier, and how many blocks its record takes.
 struct RoomRow {
     title: &'static str,
     blocks: u32,
@@ -37,7 +37,7 @@ const ROOM: &[RoomRow] = &[
 ];
 
 /// Expects the record of each row to be written where the blocks that it takes and that are not free fit into the limit, and
-/// else to be refused.
+/// otherwise to be refused.
 fn expect_room(rt: &impl Abort, alloc: Global, rows: &[RoomRow]) {
     for row in rows {
         for free in 0..=FREE {
@@ -47,7 +47,7 @@ fn expect_room(rt: &impl Abort, alloc: Global, rows: &[RoomRow]) {
     }
 }
 
-/// What is wrong where so many blocks are free, or nothing; None where memory is wanting, or the file is not opened.
+/// What is wrong where this many blocks are free, or nothing; None where there is not enough memory, or the file is not opened.
 fn wrong_with(alloc: Global, row: &RoomRow, free: u32) -> Option<&'static str> {
     let file = with_free(alloc, row, free).ok()?;
     let least = row.blocks.saturating_add(row.takes.max(free));
@@ -60,7 +60,7 @@ fn wrong_with(alloc: Global, row: &RoomRow, free: u32) -> Option<&'static str> {
     wrong_at(alloc, row, file.as_slice(), least)
 }
 
-/// The file of a row with so many free blocks behind its own, of which the last one comes first in the list.
+/// The file of a row with this many free blocks behind its own, of which the last one comes first in the list.
 fn with_free(alloc: Global, row: &RoomRow, free: u32) -> Result<Vec<u8>, AllocError> {
     let blocks = row.blocks.saturating_add(free);
     let mut file = made(alloc, &(blocks as usize, row.numbers))?;

@@ -24,8 +24,8 @@ fn expect_stories(rt: &impl Abort, alloc: Global, starts: &[(Described, usize)])
     }
 }
 
-/// The step that goes wrong, with what is wrong; or the number of steps, with nothing. None where memory is wanting, or
-/// the file is not opened.
+/// The step that goes wrong, with what is wrong; or the number of steps, with nothing. None where there is not enough
+/// memory, or the file is not opened.
 fn end_of(alloc: Global, start: &Described, room: usize) -> Option<(u32, &'static str)> {
     let file = made(alloc, start).ok()?;
     let mut store = store_of(alloc, file.as_slice(), &[]).ok()?;
@@ -71,7 +71,7 @@ fn is_got(opened: &mut TreeFile, store: &mut MemStore, id: u32, rec: Option<Rec>
 }
 
 /// The change that a number gives: of 80 identifiers from 1000 on and 80 that are spread over all of them, one gets a record
-/// or loses it. In each second two hundred and fifty steps four of five changes are removals, and else one is.
+/// or loses it. In every second run of 250 steps four of five changes are removals, and otherwise one is.
 fn change_of(step: u32, number: u32) -> (u32, Option<Rec>) {
     let drawn = number / 65_536;
     let id = id_of(drawn % 160);

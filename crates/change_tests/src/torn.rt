@@ -66,14 +66,14 @@ fn end_of(alloc: Global, store: &mut MemStore, act: &Act) -> End {
     End::Refused
 }
 
-/// How a change ends of which this call fails; None where memory is wanting.
+/// How a change ends of which this call fails; None where there is not enough memory.
 fn end_at(alloc: Global, row: &ChangeRow, call: u64) -> Option<End> {
     let before = made(alloc, &row.before).ok()?;
     let mut store = store_with(alloc, before.as_slice(), call)?;
     Some(end_of(alloc, &mut store, &row.act))
 }
 
-/// What is wrong after this call of the store has failed, or nothing; None where memory is wanting.
+/// What is wrong after this call of the store has failed, or nothing; None where there is not enough memory.
 fn wrong_at(alloc: Global, row: &ChangeRow, call: u64) -> Option<&'static str> {
     let before = made(alloc, &row.before).ok()?;
     let after = made(alloc, &row.after).ok()?;
@@ -115,7 +115,7 @@ fn are_old_or_new(file: &[u8], before: &[u8], after: &[u8]) -> bool {
         && (0..10).all(|block| is_block_of(file, before, block) || is_block_of(file, after, block))
 }
 
-/// Whether two files have the same block. What is behind the end of a file is 0.
+/// Whether two files have the same block. What is past the end of a file is 0.
 fn is_block_of(file: &[u8], other: &[u8], block: usize) -> bool {
     let start = block.saturating_mul(1024);
     (0..1024).all(|at| {

@@ -89,7 +89,7 @@ effect_same steps one other new to acts more status code effect also same = (
   effect.ended ∙ ap end_status same.1 ∙ sym also.ended,
 )
 
--- so they are, unless room is wanting for the one or the other
+-- so they are, unless there is not enough room for the one or the other
 effects_unless : (command : Command) (invocation : Invocation) (one other new to : Outside) (acts more : List Act) (status code : ℕ)
     (effect : HasEffectOf ((described command).steps invocation) one acts new status) (also : HasEffectOf ((described command).steps invocation) other more to code)
     → SameUnlessFull command effect.refusal also.refusal ((effect.own ≡ also.own) × (effect.refusal ≡ also.refusal))

@@ -41,14 +41,14 @@ pub record Description : Type 1 where
   pub most_writes : Option ℕ
   -- how many calls of `read` to the store it makes at most where it was done, by what was outside, where that is said
   pub most_reads : Outside → Option ℕ
-  -- what stands of the files where it was done, beside what its acts say
+  -- what holds of the files where it was done, beside what its acts say
   pub made : Invocation → Outside → World → Type 0
   -- what is known of its words, wherever words ask for it
   pub known : Type 0
-  -- what stands where it is said that the link failed: not all that was to be done with the link was done
+  -- what holds where it is said that the link failed: not all that was to be done with the link was done
   pub unfinished : Invocation → RunTells → RunSeen → RunSeen → Type 0
-  -- what stands of the files at the end where an edit was refused, since the file of which the refusal speaks is full: its blocks would be so
-  -- many, and it may have no more than the limit
+  -- what holds of the files at the end where an edit was refused, since the file that the refusal names is full: it would have this many
+  -- blocks, and may have no more than the limit
   pub full : Invocation → Outside → World → Refusal → (blocks limit : ℕ) → Type 0
   -- whether it came to use the link, by the bytes of the input and the refusal with which it ended, if it did with one
   pub links : List ℕ → Option Refusal → Bool
@@ -62,11 +62,11 @@ pub record IsOnlyRead (old new : RunSeen) : Type 0 where
   pub err : new.err ≡ old.err
   pub link : new.link ≡ old.link
 
--- a cause is a fault of something outside, or want of memory
+-- a cause is a fault of something outside, or lack of memory
 abbrev pub StopsIt : Cause → Type 0
 StopsIt cause = (status_of cause ≡ 4) ⊎ (status_of cause ≡ 5)
 
--- What stands of a file that is edited, by the status at the end. With status 0 this says nothing. With any other one the file is as it
+-- What holds of a file that is edited, by the status at the end. With status 0 this says nothing. With any other one the file is as it
 -- was, or, where that is 4 and something outside failed, what an edit of it to some value that failed may leave.
 abbrev pub IsLeftByEdit : (status : ℕ) (old new : World) → List ℕ → Type 0
 IsLeftByEdit status old new file =
@@ -81,8 +81,8 @@ pub record ChangesWithin (command : Description) (old new : StoreSeen) : Type 0 
 -- A command was carried out but for its error line. Where it was refused, for whichever cause, a file that it replaces as a whole
 -- is as it was, and one that it edits is as an edit leaves it by the status of that cause. What was written has been synced where it was
 -- done, and where it was refused too, unless a call on the store failed. The link is said to have failed only where not all was done with
--- it; where memory was wanting for a command that reads no commands nothing was; and what came to no use of it left it as it was. Where
--- commands were to be read, and what stopped that names no line, nothing was done but that the input was read.
+-- it; where memory ran out, a command that reads no commands did nothing with it; and a command that did not come to use it left it as it
+-- was. Where commands were to be read, and what stopped that names no line, nothing was done but that the input was read.
 pub record IsCarriedOut (command : Description) (invocation : Invocation) (tells : RunTells) (old new : RunSeen) (result : Result (Unit {0}) Refusal) : Type 0 where
   pub carries : CarriesOut (command.steps invocation) command.uses command.may tells old new result
   pub named : IfSome command.replaces (λ (file : List ℕ). OnErr result (IsTrue tells.store → new.store.files file ≡ old.store.files file))

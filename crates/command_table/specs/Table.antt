@@ -288,7 +288,8 @@ described (Serve format calls port exports) = serving format calls port exports
 described Script = not_here
 described (Generate seed count file) = generating seed count file
 
--- What is asked for by words that were read, by a table of commands, or their refusal. Memory may be wanting for the words of a command.
+-- What is asked for by words that were read, by a table of commands, or their refusal. There may not be enough memory for the words of a
+-- command.
 abbrev pub asked_by : (Command → Description) → Result Command Refusal → Description
 asked_by table (Ok command) = record (table command) { may = λ (cause : Cause) (name : List ℕ). (cause ≡ Memory) ⊎ (table command).may cause name }
 asked_by table (Err refusal) = refused refusal

@@ -78,7 +78,7 @@ edits_records (Batch common input file) = true
 edits_records (ApplyForm common input name file) = true
 edits_records _ = false
 
--- Two effects of a command are the same, unless it edits records and one of the two is a refusal for want of room in blocks, which may
+-- Two effects of a command are the same, unless it edits records and one of the two is a refusal for lack of room in blocks, which may
 -- rest on more of a file than its value.
 abbrev pub SameUnlessFull : Command → (refusal stop : Option Refusal) → (same : Type 0) → Type 0
 SameUnlessFull command = UnlessOneFull (edits_records command)

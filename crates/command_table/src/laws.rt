@@ -35,7 +35,7 @@ pub fn words_in_a_script_use_no_input()
 /// The same views give the same effects of a command. Two worlds are alike for it where each quota file that it comes to open is seen
 /// as the same value, or refused for the same cause, but for a damage; where the files of names and of an input are the same; and
 /// where a target is there in both or in neither. However it ends in both, it has the same acts and the same status; and as it ends in
-/// the one, so it may end in the other. One that edits records may differ where it is refused for want of blocks in one of the worlds,
+/// the one, so it may end in the other. One that edits records may differ where it is refused for lack of blocks in one of the worlds,
 /// since two files of the same value may differ in room. It opens no quota files but those of its row.
 pub fn the_same_views_give_the_same_effects()
     ensures acts { (command : Command) (invocation : Invocation) (one other new to : Outside) (acts more : List Act) (status code : ℕ)

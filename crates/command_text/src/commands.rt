@@ -166,7 +166,7 @@ fn letter_if(is_set: bool, letter: &'static str) -> &'static str {
     if is_set { letter } else { "-" }
 }
 
-/// The exports, one behind the other.
+/// The exports, one after the other.
 fn shown_exports(alloc: Global, exports: &ExportList) -> Result<String, AllocError> {
     let mut text = String::new(alloc);
     for export in exports.as_slice() {

@@ -34,7 +34,7 @@ pub with_value_ok : {A B : Type 0} (given : Option A) (met : Fault) (next : A �
 with_value_ok (Some x) met next value is = (x, refl, is)
 with_value_ok None met next value is = absurd (cc)
 
--- a step behind another one had what that one gave
+-- a step after another one had what that one gave
 pub then_ok : {A B : Type 0} (step : Result A Fault) (next : A → Result B Fault) (value : B) → step >>= next ≡ Ok value → (x : A) × (step ≡ Ok x) × (next x ≡ Ok value)
 then_ok (Ok x) next value is = (x, refl, is)
 then_ok (Err met) next value is = absurd (cc)

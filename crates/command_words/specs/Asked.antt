@@ -15,15 +15,15 @@ use Rattle.option_words.specs.Items.{AnyWord, Item, items_of}
 use Rattle.option_words.specs.Tools.{tool_of}
 use Rattle.refusals.specs.Refusals.{refusal_of}
 
--- What is asked for by a command that was given this, with these operands, in so many words: first come options that
--- exclude each other, then those that are missing, then the operands.
+-- What is asked for by a command that was given this, with these operands, in this number of words: first come options
+-- that exclude each other, then those that are missing, then the operands.
 abbrev pub settled : (in_script : Bool) → Tool → Told → (words : ℕ) → List Item → Result Command Fault
 settled in_script tool told words items =
     unless (excludes tool told) (fault Excludes words)
     (unless (lacks in_script tool told) (fault MissingOption words)
     (formed (mode_of tool told) told words (operands_in items)))
 
--- what a command is asked for by so many words, which say these items
+-- what a command is asked for by this number of words, which say these items
 abbrev pub asked_of_items : (in_script : Bool) → Tool → (words : ℕ) → List Item → Result Command Fault
 asked_of_items in_script tool words items =
     with_items items nothing_told >>= λ told. settled in_script tool told words items

@@ -98,7 +98,7 @@ pub record IsNotMade (tells : Bool) (asked : Asked) (old new : StoreSeen) (fault
 
 -- The first cause that holds, in this order: the names are the same; there is a file of the second name; the first file is not
 -- opened, or not read; the new format has no room for a value; the new file would need more blocks than it may have. A fault of
--- the store comes only where its count of faults rose; want of memory is left open.
+-- the store comes only where its count of faults rose; whether memory runs out is left open.
 abbrev pub IsConvertFault : (tells : Bool) (asked : Asked) (old new : StoreSeen) → ConvertFault → Type 0
 IsConvertFault tells asked old new SameName = asked.from ≡ asked.to
 IsConvertFault tells asked old new TargetExists = (asked.from ≢ asked.to) × (IsTrue tells → IsSome (old.files asked.to))

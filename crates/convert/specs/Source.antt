@@ -24,8 +24,8 @@ pub record HasRead (tells : Bool) (named : Option (List ℕ)) (kind : Kind) (for
   pub grace : grace_unfit format value.grace ≡ None
   pub kept : (id : ℕ) → IfSome (get value.records id) (IsKept format id)
 
--- An opened file could not be read: the store's count of faults rose, or memory was wanting. It is damaged only where the store
--- tells nothing, so that it may have changed since it was opened, and that is one of the damages of its format.
+-- An opened file could not be read: the store's count of faults rose, or there was not enough memory. It is damaged only where
+-- the store tells nothing, so that it may have changed since it was opened, and that is one of the damages of its format.
 abbrev pub IsReadingFault : (before now : ℕ) → Bool → Format → FileFault → Type 0
 IsReadingFault before now tells format Store = Rose before now
 IsReadingFault before now tells format (Damage damage) = (¬ (IsTrue tells)) × MayRefuse format (Damage damage)

@@ -33,7 +33,7 @@ abbrev pub LeftAfter : World → List Call → World → Type 0
 LeftAfter first [] image = image ≡ first
 LeftAfter first (call ∷ earlier) image = (before : World) × LeftAfter first earlier before × MayMake call (read_after first earlier) before image
 
--- what a stop after so many calls, or after more of them, may have left
+-- what a stop after this many calls, or after more of them, may have left
 abbrev pub LeftSince : World → List Call → ℕ → World → Type 0
 LeftSince first [] moment image = image ≡ first
 LeftSince first (call ∷ earlier) moment image = LeftAfter first (call ∷ earlier) image ⊎ ((moment ≤ length earlier) × LeftSince first earlier moment image)

@@ -20,7 +20,7 @@ pub record CutShort (len : ℕ) (old new : Option (List ℕ)) : Type 0 where
 abbrev pub ChangesFile : (Option (List ℕ) → Option (List ℕ) → Type 0) → List ℕ → World → World → Type 0
 ChangesFile Changes name old new = Changes (old name) (new name) × KeepsOthers name old new
 
--- a place outside of a range of so many bytes
+-- a place outside of a range of this many bytes
 abbrev pub IsOutside : (at len : ℕ) → ℕ → Type 0
 IsOutside at len place = (place < at) ⊎ (at + len ≤ place)
 
@@ -40,7 +40,7 @@ IsRenamed from to old new = new ≡ with_new_name old from to
 abbrev pub MayBeRenamed : (from to : List ℕ) → World → World → Type 0
 MayBeRenamed from to old new = (new ≡ old) ⊎ IsRenamed from to old new
 
--- The files once one of them was cut to a length; one that is no longer than that stays, and one that is not there is
+-- The files once one of them was cut to a length; one that is not longer than that stays, and one that is not there is
 -- not made. Source: ftruncate(2).
 abbrev pub with_cut : World → List ℕ → ℕ → World
 with_cut files name len = with_file files name (option_map (take len) (files name))

@@ -37,10 +37,10 @@ told first calls present names failed = record {
   faults = failed;
 }
 
--- what is told of a record with these unsynced names, after so many faults
+-- what is told of a record with these unsynced names, after this many faults
 abbrev pub told_with : RecordedFiles → Names → ℕ → DiskSeen
 told_with recorded names failed = told (first_of recorded) (calls_of recorded) (present_of recorded) names failed
 
--- what is told of a record after so many faults
+-- what is told of a record after this many faults
 abbrev pub told_of : RecordedFiles → ℕ → DiskSeen
 told_of recorded failed = told_with recorded (names_of recorded) failed

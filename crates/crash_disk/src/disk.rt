@@ -89,7 +89,7 @@ pub trait Disk {
         ensures others { KeepsOthers name.now (seen self.old).unsynced (seen self.new).unsynced }
         ensures leaves { TakesStep (CutsShort name.now 0) (seen self.old) (seen self.new) };
 
-    /// Shortens a file to `len` bytes. One that is no longer stays, and one that is not there is not made. All other
+    /// Shortens a file to `len` bytes. One that is not longer stays, and one that is not there is not made. All other
     /// files stay. The name is unsynced then, and until it is synced a stop may leave any bytes from `len` on, or none.
     ///
     /// # Errors

@@ -16,7 +16,7 @@ fn block_of(fill: u8, parts: &[Part]) -> Option<[u8; 1024]> {
     Some(block)
 }
 
-/// Parts of a block of zeros, and the number of so many bytes at a place.
+/// Parts of a block of zeros, and the number of this many bytes at a place.
 type NumberRow = (&'static [Part], usize, usize, u64);
 
 const BLOCK: &[Part] = &[(3, &[1, 2, 3, 4]), (1022, &[5, 255])];
@@ -39,7 +39,7 @@ const NUMBERS: &[NumberRow] = &[
     (LAST, 8, 1016, 0x0000_ffff_ffff_ffff),
 ];
 
-/// The number of so many bytes at a place, where there is one.
+/// The number of this many bytes at a place, where there is one.
 fn number(block: &[u8; 1024], width: usize, at: usize) -> Option<u64> {
     match width {
         2 if at <= 1022 => Some(u64::from(le16(block, at))),
@@ -66,7 +66,7 @@ fn numbers_of_a_block_are_read_the_lowest_byte_first(rt: HostRuntime) {
     expect_numbers(&rt, NUMBERS);
 }
 
-/// Numbers of so many bytes at their places, which are written into a block of 9 in this order, and the parts that are
+/// Numbers of given widths at their places, which are written into a block of 9 in this order, and the parts that are
 /// there then.
 type SetRow = (&'static [(usize, usize, u64)], &'static [Part]);
 
@@ -105,7 +105,7 @@ fn set_eight(block: &mut [u8; 1024], at: usize, value: u64) -> bool {
     true
 }
 
-/// Writes a number of so many bytes at a place, and answers whether there is room for it.
+/// Writes a number of this many bytes at a place, and answers whether there is room for it.
 fn set(block: &mut [u8; 1024], width: usize, at: usize, value: u64) -> bool {
     match width {
         2 => set_two(block, at, value),

@@ -139,7 +139,7 @@ fn a_flat_file_that_is_cut_behind_its_opening_loses_nothing_more(rt: HostRuntime
     expect_stories(&rt, rt.alloc(), CUT);
 }
 
-/// A built file has to have so many bytes, and zeros but for these parts.
+/// A built file has to have this many bytes, and zeros but for these parts.
 fn expect_built(
     rt: &impl Abort,
     alloc: Global,

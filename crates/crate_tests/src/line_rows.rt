@@ -5,7 +5,7 @@ use quota_blocks::{
 use std::alloc::{AllocError, Global};
 use std::process::Abort;
 
-/// A source that gives at most so many bytes in a call.
+/// A source that gives at most this many bytes in a call.
 #[derive(Drop)]
 struct Pieces {
     source: MemSource,
@@ -61,7 +61,7 @@ fn lines_of<I: Source>(
     Ok((text, Ok(true)))
 }
 
-/// The lines of these bytes, of which a call gives at most so many.
+/// The lines of these bytes, of which a call gives at most this many.
 fn lines_by(
     alloc: Global,
     input: &[u8],
@@ -233,7 +233,7 @@ enum Step {
     Reads(u64),
 }
 
-/// Whether the source gives so many bytes, the last of which are these.
+/// Whether the source gives `count` bytes, the last of which are these.
 fn gives<I: Source>(source: &mut I, count: usize, last: &[u8]) -> bool {
     let mut buf = [b'-'; 2000];
     match source.read(&mut buf) {

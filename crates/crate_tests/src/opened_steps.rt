@@ -26,7 +26,7 @@ pub(crate) enum Step {
     PutFails(u32, Rec, FileFault),
     Remove(u32),
     SetGrace(Grace),
-    /// Another program cuts the file of the store to so many bytes, of which there are no more than 1,024.
+    /// Another program cuts the file of the store to this many bytes, no more than 1,024.
     Cut(usize),
     /// How many bytes the file of the store has, and the parts of it that aren't zeros.
     File(usize, &'static [Part]),
@@ -63,7 +63,7 @@ fn place(bytes: &mut [u8], at: usize, part: &[u8]) -> bool {
     true
 }
 
-/// Whether these are so many bytes of which these parts aren't zeros.
+/// Whether these are `len` bytes of which these parts aren't zeros.
 pub(crate) fn are_parts(alloc: Global, found: &[u8], len: usize, parts: &[Part]) -> bool {
     let Ok(mut want) = vec![in alloc; 0; len] else {
         return false;
@@ -106,7 +106,7 @@ fn changes(file: &mut AnyFile, store: &mut MemStore, step: &Step) -> bool {
     }
 }
 
-/// Cuts the file `q` to so many bytes. Whether that was done.
+/// Cuts the file `q` to `len` bytes. Whether that was done.
 fn cut(alloc: Global, store: &mut MemStore, len: usize) -> bool {
     let Ok(kept) = Vec::from_slice(alloc, store.file("q").unwrap_or(b"")) else {
         return false;

@@ -54,7 +54,7 @@ fn is_written(reply: &Reply, bytes: &[u8]) -> bool {
     len == bytes.len() && &out[..len] == bytes && out[len..].iter().all(|byte| *byte == 0xff)
 }
 
-/// Whether the reply is read of so many bytes of these, and of no more and no fewer.
+/// Whether the reply is read of this many of these bytes, and of no more and no fewer.
 fn is_read(reply: &Reply, bytes: &[u8; 2048], len: usize) -> bool {
     if len == 0 || len > 68 {
         return false;

@@ -13,9 +13,9 @@ enum Step {
     /// From a place on into four bytes of 9: how many are read, and the four bytes then.
     Read(&'static str, u64, usize, [u8; 4]),
     Size(&'static str, Option<u64>),
-    /// At most so many bytes: how many are loaded, and the last ones.
+    /// At most this many bytes: how many are loaded, and the last ones.
     Load(&'static str, u64, usize, &'static [u8]),
-    /// At most so many bytes, and why they aren't loaded.
+    /// At most this many bytes, and why they aren't loaded.
     LoadFails(&'static str, u64, LoadFault),
     File(&'static str, Option<&'static [u8]>),
     Unsynced(&'static str, bool),
@@ -82,7 +82,7 @@ fn replaces(
     }
 }
 
-/// Whether so many bytes are read from a place on into four bytes of 9, which are these then.
+/// Whether this many bytes are read from a place on into four bytes of 9, which are these then.
 fn reads(
     store: &mut MemStore,
     name: &str,

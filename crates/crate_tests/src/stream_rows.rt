@@ -2,7 +2,7 @@ use quota_blocks::{Got, Link, MemLink, MemSink, MemSource, Sink, SinkFault, Sour
 use std::alloc::{AllocError, Global};
 use std::process::Abort;
 
-/// A call of a source in memory, with room for so many bytes of three: how many it gives and the three bytes then, or
+/// A call of a source in memory, with room for this many bytes of three: how many it gives and the three bytes then, or
 /// `None` where it fails. Then the bytes that are left.
 type SourceStep = (usize, Option<(usize, [u8; 3])>, &'static [u8]);
 

@@ -73,7 +73,7 @@ all_said acts lines tells old store err are said = record {
   writes = writes_for-before acts (said_acts lines) old.store.writes store.writes are.writes;
 }
 
--- so many lines were said, and of the next one a prefix
+-- some lines were said, and of the next one a prefix
 said_up_to : (acts : List Act) (lines said unsaid : List (List ℕ)) (tells : RunTells) (old : RunSeen) (store : StoreSeen) (err : SinkSeen) → AreWritten acts old.store store → lines ≡ said ++ unsaid
     → (IsTrue tells.err → AppendsPrefix (old.err.written ++ concat said) err.written (err_bytes (take 1 (said_acts unsaid)))) → AreDoneInPart tells (acts ++ said_acts lines) old (with_said old store err)
 said_up_to acts lines said unsaid tells old store err are whole part =

@@ -45,7 +45,7 @@ file_edit_alike rooms one other kind asked edit file invocation same = λ value.
       (λ acts. alike_done rooms one other (acts ++ said_acts (warnings invocation.line (skipped_by edit value))) None),
 )
 
--- of an edit, but for want of room
+-- of an edit, except for lack of room
 room_edit_alike : (one other : World) (kind : Kind) (asked : Option Format) (edit : FileEdit) (file : List ℕ) (invocation : Invocation) → LooksAlikeBy true one other (FileEditSteps kind asked edit file invocation)
 room_edit_alike one other kind asked edit file invocation =
     file_edit_alike true one other kind asked edit file invocation (λ value. edit_steps_alike file (edit_meant edit invocation.now) (one file) (other file) value (Edited edit file invocation value))

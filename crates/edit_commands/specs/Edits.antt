@@ -79,7 +79,7 @@ EditSteps common words file invocation =
 abbrev pub faulty_edit : Common → EditWords → Option Refusal
 faulty_edit common words = if is_none (names_wanted words common.names) then refusal_in (edit_read [] words) else None
 
--- What stands of a file whose edit was refused for this cause: it is as it was, or, where something outside failed, what an edit of it
+-- What holds of a file whose edit was refused for this cause: it is as it was, or, where something outside failed, what an edit of it
 -- to some value that failed may leave.
 abbrev pub IsLeftFor : Cause → (old left : Option (List ℕ)) → Type 0
 IsLeftFor cause old left = (left ≡ old) ⊎ ((status_of cause ≡ 4) × ((value : QuotaValue) × MayBeLeft value old left))

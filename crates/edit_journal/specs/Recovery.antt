@@ -48,7 +48,7 @@ pub record BeginsSo (gate old_length count : ℕ) (undo : List ℕ) : Type 0 whe
   pub long : old_length ≡ number_at 8 undo 8
   pub many : count ≡ number_at 4 undo 16
 
--- an undo file says that the old file had this length, and saves so many ranges, each of which fits
+-- an undo file says that the old file had this length, and saves this many ranges, each of which fits
 pub record Heads (old_length count : ℕ) (undo : List ℕ) : Type 0 where
   pub long : number_at 8 undo 8 ≡ old_length
   pub many : number_at 4 undo 16 ≡ count

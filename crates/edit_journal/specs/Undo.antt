@@ -9,7 +9,7 @@ use Rattle.std.specs.Prelude.{◌≡◌, ◌≢◌, ℕ, zero, suc, ◌+◌, ◌
 use Rattle.quota_types.specs.Bytes.{byte_at, number_at}
 use Rattle.edit_journal.specs.Spans.{Span, laid, saved_bytes}
 
--- the bytes from a place on, so many of them
+-- this many bytes from a place on
 abbrev pub bytes_at : List ℕ → ℕ → ℕ → List ℕ
 bytes_at file at zero = []
 bytes_at file at (suc count) = byte_at file at ∷ bytes_at file (suc at) count
@@ -22,7 +22,7 @@ range_at k = 1024 + 1040 * k
 abbrev pub saved_span : List ℕ → ℕ → Span
 saved_span undo k = record { at = number_at 8 undo (range_at k); bytes = bytes_at undo (range_at k + 16) (number_at 2 undo (range_at k + 8)) }
 
--- so many saved ranges, from one on
+-- this many saved ranges, from one on
 abbrev pub saved_spans : List ℕ → ℕ → ℕ → List Span
 saved_spans undo k zero = []
 saved_spans undo k (suc count) = saved_span undo k ∷ saved_spans undo (suc k) count
@@ -53,8 +53,8 @@ is_usable file undo =
 abbrev pub undone : List ℕ → List ℕ → List ℕ
 undone file undo = take (number_at 8 undo 8) (laid (saved_spans undo 0 (number_at 4 undo 16)) file)
 
--- The file that a recovery makes of a file and its undo file: the old one where the undo file says how it was, and else
--- the file as it stands.
+-- The file that a recovery makes of a file and its undo file: the old one where the undo file says how it was, and
+-- otherwise the file as it stands.
 abbrev pub recovered : Option (List ℕ) → Option (List ℕ) → Option (List ℕ)
 recovered None undo = None
 recovered (Some file) None = Some file

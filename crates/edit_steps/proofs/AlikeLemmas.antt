@@ -10,7 +10,7 @@ use Rattle.run_steps.specs.OneCommand.{AreSameSteps, IsFullCause}
 use Rattle.run_steps.specs.Steps.{Steps, Then}
 use Rattle.edit_steps.specs.EditStep.{changed, is_too_large}
 
--- an outcome is a refusal for want of room in blocks
+-- an outcome is a refusal for lack of room in blocks
 abbrev WantsRoom : Outcome (List Act) → Type 0
 WantsRoom (Passed acts) = ⊥
 WantsRoom (Refused refusal) = IsFullCause refusal.cause

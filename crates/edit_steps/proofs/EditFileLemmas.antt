@@ -217,7 +217,7 @@ any_refused name edit tells opened file before after format value (Unfit out) ke
     let named : (any_seen opened).name ≡ name = ap (λ (s : FileSeen). s.name) was in
     refused_read name edit value (IsTrue tells) before after (edit_cause (Unfit out)) (rw named at edits.no_room.unwritten)
 
--- an edited value that is lacking
+-- an edited value for which there is no room
 set_lacking : (tells : Bool) (files : World) (opened : AnyFile) (bytes : Option (List ℕ)) (name : List ℕ) (format : Format) (value : QuotaValue) (edit : Edit) (edited : Result QuotaValue (Field × ℕ)) (blocks limit : ℕ)
     → edit.edited value ≡ edited → KeepsFormat edit → any_seen opened ≡ fresh_seen name format → HoldsAny tells files opened value
     → IsOkAnd edited (λ (new : QuotaValue). LacksRoom (any_seen opened) bytes new blocks limit) → IsOkAnd edited (λ (new : QuotaValue). IsLacking bytes new blocks limit)

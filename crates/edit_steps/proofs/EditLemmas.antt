@@ -25,8 +25,8 @@ abbrev pub EditedSeen : List ℕ → Option (List ℕ) → StoreSeen → Edit �
 EditedSeen name file store edit value edited =
     IsOkAnd edited (λ (new : QuotaValue). IsView (store.files name) new.kind (Some new.format) (Ok new) × (edit.is_idle value ≡ false → is_too_large edit file new ≡ false))
 
--- What an edit of a value leaves that was made: where so much is told nothing is written where nothing is to be done, and the file
--- is seen as the edited value; and all other files stay, with twelve calls of `write` at most.
+-- What an edit of a value leaves that was made: where this much is told nothing is written where nothing is to be done, and the
+-- file is seen as the edited value; and all other files stay, with twelve calls of `write` at most.
 pub record IsMade (name : List ℕ) (edit : Edit) (value : QuotaValue) (told : Type 0) (old new : StoreSeen) : Type 0 where
   pub idle : told → IsTrue (edit.is_idle value) → OnlyReads true name old new
   pub set : told → EditedSeen name (old.files name) new edit value (edit.edited value)

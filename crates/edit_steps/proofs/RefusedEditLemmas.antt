@@ -36,7 +36,7 @@ use Rattle.run_steps.proofs.OpeningLemmas.{with_store}
 use Rattle.run_steps.proofs.PartLemmas.{nothing_begun}
 use Rattle.run_steps.proofs.WritesLemmas.{writes_for-edit}
 
--- What an edit of a value left that was refused: nothing was written unless the store failed. Where so much is told, nothing was
+-- What an edit of a value left that was refused: nothing was written unless the store failed. Where this much is told, nothing was
 -- written either where nothing is to be done, the value does not fit or there is no room for it, and the named file is what an edit
 -- to the edited value that failed may leave. All other files stay, with twelve calls of `write` at most.
 pub record IsRefusedAt (name : List ℕ) (edit : Edit) (value : QuotaValue) (told : Type 0) (old new : StoreSeen) (cause : Cause) : Type 0 where
@@ -108,7 +108,7 @@ refused_part name edit value next tells old store cause begins refused is = chan
 
 -- Why an edit was refused.
 
--- this file would have so many blocks with an edited value, and may have only so many
+-- this file would have the first number of blocks with an edited value, and may have only the second
 abbrev pub IsLacking : Option (List ℕ) → QuotaValue → ℕ → ℕ → Type 0
 IsLacking file new blocks limit = (blocks ≡ blocks_after file new) × (limit ≡ most_blocks) × (most_blocks < blocks)
 

@@ -15,7 +15,7 @@ abbrev pub Fits : Edit → Option (List ℕ) → (value new : QuotaValue) → Ty
 Fits edit file value new = (edit.edited value ≡ Ok new) × (edit.is_idle value ≡ false → is_too_large edit file new ≡ false)
 
 -- A file has no room for an edit: whoever opens it as one of the kind and the format that was asked for sees a value, of which the
--- edit makes another one; something is to be done, and the file, as it is, would have so many blocks then, more than it may have.
+-- edit makes another one; something is to be done, and the file, as it is, would have `blocks` blocks then, more than it may have.
 pub record IsFullFor (kind : Kind) (asked : Option Format) (edit : Edit) (file : Option (List ℕ)) (blocks limit : ℕ) : Type 0 where
   pub value : QuotaValue
   pub new : QuotaValue

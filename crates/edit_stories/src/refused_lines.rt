@@ -1,5 +1,5 @@
-/// Lines that are none, and words of lines that are at fault: what the lines before them set stays. A line of a
-/// story ends before a carriage return, so that where one is wanted at an end there are two.
+/// Malformed lines, and words of lines that are at fault: what the lines before them set stays. A line of a story ends
+/// before a carriage return, so that where one is wanted at an end there are two.
 pub const REFUSED_LINES: &str = "\
 = the lines before a bad one stay
 file q empty

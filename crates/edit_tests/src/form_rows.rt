@@ -108,8 +108,8 @@ fn a_form_has_a_title_a_heading_and_the_limits(rt: HostRuntime) {
     expect_printed(&rt, rt.alloc(), PRINTED);
 }
 
-/// What is read of a form of user alice whose text is in two parts, with so many spaces behind it, where the calls of the
-/// source with these numbers fail.
+/// What is read of a form of user alice whose text is in two parts, with this many spaces behind it, where the calls of
+/// the source with these numbers fail.
 fn read_of(
     alloc: Global,
     failing: &[u64],

@@ -162,7 +162,7 @@ const USERS: &[u8] = b"root:x:0:0:root:/root:/bin/sh\n\
     toor:x:0:0:::\n\
     quota-operators:x:7:7:::\n";
 
-/// A user that uses so much space and so many inodes; the options of the report, and its line.
+/// A user that uses this much space and this many inodes; the options of the report, and its line.
 type NameRow = (u32, u64, u64, Options, &'static str);
 
 /// Expects each report to have the line of its row.

@@ -12,7 +12,7 @@ use std::process::Abort;
 #[derive(Drop)]
 pub(crate) struct Report {
     pub kind: Kind,
-    /// The file of names, behind so many `n`.
+    /// The file of names, behind `longer` bytes `n`.
     pub names: &'static [u8],
     pub longer: usize,
     pub entry: Entry,

@@ -40,8 +40,8 @@ const LISTING: &[u8] = b"0 0 2049 2 8
 /// What a listing tells of identifiers, ascending: of each the space in bytes, and the inodes.
 type Told = &'static [(u32, u128, u64)];
 
-/// Whether a scan of a listing, behind which are so many blanks and a newline where there are some, tells this after the
-/// whole listing was taken, or is refused so.
+/// Whether a scan of a listing, behind which are this many blanks and a newline where there are some, tells this after
+/// the whole listing was taken, or is refused so.
 fn is_answer(
     alloc: Global,
     (bytes, blanks): (&[u8], usize),

@@ -56,7 +56,7 @@ padding_of V2R0 bytes = 0
 padding_of V2R1 bytes = number_at 4 bytes 4
 
 -- An entry with this stored record is used, by this identifier and this record. The record is the stored one, but that
--- the marker of identifier 0, an itime of 1 and else zeros, is its record of zeros.
+-- the marker of identifier 0, an itime of 1 and otherwise zeros, is its record of zeros.
 pub record IsUsedBy (bytes : List ℕ) (stored : Rec) (id : ℕ) (rec : Rec) : Type 0 where
   pub used : is_unused bytes ≡ false
   pub id_is : id ≡ stored_id bytes

@@ -1,5 +1,5 @@
 -- The header of a tree file. Source: `struct v2_disk_dqheader` and `struct v2_disk_dqinfo` of the quota tools, which
--- stand one behind the other at the start of the file.
+-- stand one after the other at the start of the file.
 use Rattle.std.specs.Prelude.{◌≡◌, ℕ, Bool, ◌||◌, ◌==◌, nat_lt, if◌then◌else◌, List, Option, Some, None}
 use Rattle.quota_types.specs.Bytes.{number_at}
 use Rattle.quota_types.specs.declared.file_kind.Format.{Format}

@@ -15,14 +15,14 @@ zeros_behind (suc n) m (x ∷ xs) le =
     let same : n - length (take n xs) ≡ suc n - suc (length (take n xs)) = omega arith in
     ap (λ (ys : List ℕ). x ∷ ys) (zeros_behind n m xs (omega arith)) ∙ ap (λ (k : ℕ). x ∷ (take n xs ++ replicate k 0)) same
 
--- a buffer of a block has so many bytes behind those that were read, and none behind these
+-- a buffer of a block has this many bytes behind those that were read, and none behind these
 room_behind : (count : ℕ) (buffer : List ℕ) → length buffer ≡ 1024 → length (mid_of count (1024 - count) buffer) ≡ 1024 - count
 room_behind count buffer long = omega (arith, length-take (1024 - count) (drop count buffer), length-drop count buffer, long)
 
 none_behind : (count : ℕ) (buffer : List ℕ) → length buffer ≡ 1024 → post_of count (1024 - count) buffer ≡ []
 none_behind count buffer long = drop_all (1024 - count) (drop count buffer) (omega (arith, length-drop count buffer, long))
 
--- the bytes that a read of so many gives, and zeros in place of all others, are the block
+-- the bytes that a read of this many gives, and zeros in place of all others, are the block
 pub read_whole : (file : List ℕ) (number at room count : ℕ) (buffer filled : List ℕ) → at ≡ 1024 * number → room ≡ 1024 → length buffer ≡ 1024
     → count ≤ 1024 → count ≡ length (take room (drop at file)) → take count buffer ≡ take room (drop at file) → filled ≡ replicate (length (mid_of count (1024 - count) buffer)) 0
     → put_mid count (1024 - count) buffer filled ≡ block_of file number
@@ -69,7 +69,7 @@ copied_block file part front zeros number start count from behind few is none =
       | inr high ↦ let all : n ≡ 1024 = omega arith in ap (λ (k : ℕ). take k xs) all
     ]
 
--- the first 1,024 bytes behind a block's place are the block, where the file has so many
+-- the first 1,024 bytes behind a block's place are the block, where the file has that many
 pub chunk_is_block : (file rest block : List ℕ) (number start : ℕ) → start ≡ 1024 * number → rest ≡ take (length file - start) (drop start file) → 1024 ≤ length rest
     → block ≡ take 1024 rest → block ≡ block_of file number
 unfolding block_of

@@ -3,7 +3,7 @@ use Rattle.std.specs.Prelude.{◌≡◌, ℕ, ◌<◌, ◌≤◌, Bool, false, n
 use Rattle.std.specs.List.{slice_index_or}
 use Rattle.quota_types.specs.Times.{StandsIn, times}
 
--- Of so many blocks, the flags tell which stand in a list; the list has each number once at most, and only numbers of
+-- Of this many blocks, the flags tell which stand in a list; the list has each number once at most, and only numbers of
 -- blocks.
 pub record AreFlagsOf (blocks : ℕ) (flags : List Bool) (numbers : List ℕ) : Type 0 where
   pub len : length flags ≡ blocks

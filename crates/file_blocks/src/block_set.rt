@@ -12,7 +12,7 @@ pub struct BlockSet {
 }
 
 impl BlockSet {
-    /// The set without a block, of a file of so many.
+    /// The set without a block, of a file of `blocks` blocks.
     pub fn new(alloc: Global, blocks: u32) -> Result<BlockSet, AllocError>
         ensures { IfOk result (λ set. AreFlagsOf blocks set.flags.items []) }
     {

@@ -208,7 +208,7 @@ pub new_flags : (format : Format) → flags_in format 0 ≡ 0
 new_flags V1 = refl
 new_flags _ = refl
 
--- the records were not made, for want of memory or of room
+-- the records were not made, for lack of memory or of room
 pub apply_refused : (name : List ℕ) (value : QuotaValue) (usage : UsageMap) (now : ℕ) (fault : ApplyFault) (tells : RunTells) (old : RunSeen)
     → IsApplyFault (applied value.format value.grace now value.records usage) fault
     → CarriesOut (ReplaceSteps name (checked value usage now)) (edit_uses false) (ReplacingMayRefuse value name) tells old old (Err (refusal_of (apply_cause fault) name))
@@ -216,7 +216,7 @@ apply_refused name value usage now (Unfit out) tells old is = check_unfit name v
 apply_refused name value usage now ApplyWantsMemory tells old is =
     replace_wanting name (checked value usage now) (ReplacingMayRefuse value name) tells old old.store refl (inr tt)
 
--- a file is made anew, also after calls that only read
+-- a file is made anew, even after calls that only read
 pub anew_since : {done : Bool} (kind other : Kind) (IsFormat IsOther : Format → Type 0) (read name : List ℕ) (old store new : StoreSeen) → OnlyReads done read old store → kind ≡ other
     → ((format : Format) → IsFormat format → IsOther format) → IsMadeAnew kind IsFormat name store.files new.files → IsMadeAnew other IsOther name old.files new.files
 anew_since kind other IsFormat IsOther read name old store new reads same so anew = record {

@@ -81,7 +81,7 @@ module _ (source target : List ℕ) (may : Cause → List ℕ → Type 0) (tells
       looked_carried (Then outcome next) refusal (own _ (λ told. ended_steps (Then outcome next) refusal (λ new same.
       subst (λ (o : Outcome _). EndsBy (Then o next) (outside_of old) [] new (Some refusal)) (sym (is told.store)) (record { acts_none = refl; same = same; ends = refl })))) allowed placed
 
-  -- the store failed, or memory was wanting
+  -- the store failed, or there was not enough memory
   looked_failed : (steps : Steps) (name : List ℕ) → Rose old.store.faults store.faults → may StoreFault name
       → CarriesOut steps (edit_uses false) may tells old (with_store old store) (Err (refusal_of StoreFault name))
   looked_failed steps name rose allowed =

@@ -54,7 +54,7 @@ pub value_made : (seed count now : ℕ) (value : QuotaValue) (records : Records)
 value_made seed count now value records usage left few made read fresh is =
     value_is seed count now value (record value { records = records }) usage few fresh (usage_is seed count left usage few made read) (ap (with_applied value) is)
 
--- there is room for it, so only memory may be wanting
+-- there is room for it, so only memory may run out
 pub apply_memory : (seed count now : ℕ) (value : QuotaValue) (usage : UsageMap) (fault : ApplyFault) → count < 2 ^ 32 → value ≡ new_value User (Some V2R1) → usage ≡ generated_usage seed count
     → IsApplyFault (applied value.format value.grace now value.records usage) fault → apply_cause fault ≡ Memory
 apply_memory seed count now value usage ApplyWantsMemory few fresh used is = refl

@@ -53,7 +53,7 @@ no_records = empty
 none_there : (id : ℕ) → get no_records id ≡ None
 none_there id = get-empty nat_cmp id
 
--- so many users with so much usage
+-- each user has a small number, and uses little
 abbrev AreSmall : UsageMap → Type 0
 AreSmall usage = (id : ℕ) → IfSome (get usage id) (IsSmallUser id)
 

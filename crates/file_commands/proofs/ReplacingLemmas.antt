@@ -47,7 +47,7 @@ needed_of value order = ap (λ (ids : List ℕ). blocks_needed value.format ids)
 pub room_for : (name : List ℕ) (new : QuotaValue) → blocks_of new ≤ most_blocks → replaced name (Ok new) ≡ Passed (Replace name new ∷ [])
 room_for name new few = ap (λ (large : Bool). if_room name (blocks_of new) large (Replace name new)) (le-ltb most_blocks (blocks_of new) few)
 
--- and else the value is refused
+-- and otherwise the value is refused
 pub no_room_for : (name : List ℕ) (new : QuotaValue) (blocks limit : ℕ) → most_blocks < blocks_of new → blocks ≡ blocks_of new → limit ≡ most_blocks
     → replaced name (Ok new) ≡ Refused (refusal_of (Full blocks limit) name)
 no_room_for name new blocks limit passes needs is =
@@ -105,7 +105,7 @@ replace_full name new may tells old store blocks limit same passes needs is allo
     (by_outcome name new (Refused refusal) may tells old old (Err refusal) (no_room_for name new blocks limit passes needs is)
     (stop_carried (edit_uses false) may tells old refusal (λ stated fact. fact) allowed (record { line = λ no. refl; input_line = λ no. refl })))
 
--- memory was wanting
+-- there was not enough memory
 pub replace_wanting : (name : List ℕ) (new : Result QuotaValue NoRoom) (may : Cause → List ℕ → Type 0) (tells : RunTells) (old : RunSeen) (store : StoreSeen) → store ≡ old.store → may Memory name
     → CarriesOut (ReplaceSteps name new) (edit_uses false) may tells old (with_store old store) (Err (refusal_of Memory name))
 replace_wanting name new may tells old store same allowed =

@@ -112,7 +112,7 @@ check_uses from = reading from (edit_uses false)
 
 -- What is said.
 
--- what is said where a format has no room for the records, or memory was wanting
+-- what is said where a format has no room for the records, or there was not enough memory
 abbrev pub apply_cause : ApplyFault → Cause
 apply_cause (Unfit out) = NoRoom out
 apply_cause ApplyWantsMemory = Memory
@@ -128,7 +128,7 @@ UsageMayLack value out =
 abbrev pub HasKept : QuotaValue → Type 0
 HasKept value = (id : ℕ) → IfSome (get value.records id) (IsKept value.format id)
 
--- the causes for which a file of a value may not be replaced for want of room in the records, with the name that is said
+-- the causes for which a file of a value may not be replaced for lack of room in the records, with the name that is said
 abbrev pub UnfitMayRefuse : QuotaValue → List ℕ → Cause → List ℕ → Type 0
 UnfitMayRefuse value file (NoRoom out) name = (name ≡ file) × UsageMayLack value out
 UnfitMayRefuse value file _ name = ⊥

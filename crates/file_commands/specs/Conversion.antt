@@ -86,8 +86,8 @@ abbrev pub MayLack : Kind → (old new : Format) → NoRoomFor → Type 0
 MayLack kind old new out = (value : QuotaValue) × MayStand kind old value × (converted new value ≡ Err out)
 
 -- The causes for which a file may not be converted, whatever is told, with the name that is said: that of the new file where
--- there is one already, which is another than that of the file that is converted, or where it would need too many blocks, and else
--- that of the file that is converted.
+-- there is one already, which is another than that of the file that is converted, or where it would need too many blocks, and
+-- otherwise that of the file that is converted.
 abbrev pub ConvertMayRefuse : Kind → (old new : Format) → (source target : List ℕ) → Cause → List ℕ → Type 0
 ConvertMayRefuse kind old new source target StoreFault name = ⊤
 ConvertMayRefuse kind old new source target Memory name = ⊤

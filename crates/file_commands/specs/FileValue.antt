@@ -49,7 +49,7 @@ WritingMayRefuse format file Memory name = ⊤
 WritingMayRefuse format file (Full blocks limit) name = IsTreeFormat format × (limit ≡ most_blocks) × (limit < blocks) × (name ≡ file)
 WritingMayRefuse format file _ name = ⊥
 
--- the named file was built anew for some value of this kind and of such a format, also where it stood for that value before
+-- the named file was built anew for some value of this kind and of such a format, even where it stood for that value before
 pub record IsMadeAnew (kind : Kind) (IsFormat : Format → Type 0) (name : List ℕ) (old new : World) : Type 0 where
   pub value : QuotaValue
   pub kind_is : value.kind ≡ kind

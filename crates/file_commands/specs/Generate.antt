@@ -33,7 +33,7 @@ summary_text lines inodes identifiers kib bytes =
     codes "lines " ++ decimal lines ++ codes ", inodes " ++ decimal inodes ++ codes ", identifiers " ++ decimal identifiers
     ++ codes ", KiB " ++ decimal kib ++ codes ", report " ++ decimal bytes ++ codes " bytes\n"
 
--- the line on records that were made of so many lines, and on which a report has so many bytes
+-- the line on records that were made of this many lines, and on which a report has this many bytes
 abbrev pub summary_line : (lines : ℕ) → Records → (bytes : ℕ) → List ℕ
 summary_line lines records bytes =
     summary_text lines (sum_over (λ rec. rec.inodes) records) (length (entries records)) (sum_over (λ rec. kib_of rec.space) records) bytes
@@ -46,7 +46,7 @@ no_options = record { verbose = false; numeric = false; raw = false }
 abbrev pub plain_report : List ℕ → (now : ℕ) → QuotaValue → List ℕ
 plain_report file now value = report_on [] file now no_options value
 
--- the line on a file of this name and value, which was made of so many lines
+-- the line on a file of this name and value, which was made of this many lines
 abbrev pub summary : (lines : ℕ) → List ℕ → (now : ℕ) → QuotaValue → List ℕ
 summary lines file now value = summary_line lines value.records (length (plain_report file now value))
 
@@ -79,12 +79,12 @@ generate_uses = record { input = false; out = true; link = false; changes = true
 abbrev pub GenerateMayRefuse : List ℕ → Cause → List ℕ → Type 0
 GenerateMayRefuse file = ShowingMayRefuse None file
 
--- where a report in memory is not taken, memory was wanting
+-- where a report in memory is not taken, there was not enough memory
 abbrev pub gathered_cause : Cause → Cause
 gathered_cause SinkFault = Memory
 gathered_cause cause = cause
 
--- Why a report on a file was not gathered: the store failed, memory was wanting, or no value is seen of the file.
+-- Why a report on a file was not gathered: the store failed, there was not enough memory, or no value is seen of the file.
 abbrev pub IsUnreported : (rose unseen : Type 0) → Cause → Type 0
 IsUnreported rose unseen StoreFault = rose
 IsUnreported rose unseen Memory = ⊤

@@ -43,7 +43,7 @@ pub fn check_file<S: Store, I: Source>(
         (tells_of S.tells I.tells out_tells err_tells link_tells)
         (seen_of (S.seen store.old) (I.seen input.old) out err link)
         (seen_of (S.seen store.new) (I.seen input.new) out err link) result }
-    // The file is always made anew, also where nothing changes.
+    // The file is always made anew, even where nothing changes.
     ensures anew { OnOk result (IsTrue S.tells → IsMadeAnew common.kind (IsFormatOf fresh common.format) file
         (S.seen store.old).files (S.seen store.new).files) }
     // Where it was refused, for whichever cause, the file is as it was.
@@ -166,7 +166,7 @@ fn replace_usage<S: Store>(
     }
 }
 
-/// What is said where the records with the usage of a listing have no room, or memory was wanting.
+/// What is said where the records with the usage of a listing have no room, or there was not enough memory.
 pub(crate) fn apply_cause(fault: ApplyFault) -> Cause
     ensures { result ≡ apply_cause fault }
 {

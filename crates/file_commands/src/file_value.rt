@@ -109,7 +109,7 @@ pub fn write_value<S: Store>(
         (tells_of S.tells input_tells out_tells err_tells link_tells)
         (seen_of (S.seen store.old) input out err link)
         (seen_of (S.seen store.new) input out err link) result }
-    // It is built anew, also where the file stood for the value before.
+    // It is built anew, even where the file stood for the value before.
     ensures anew { OnOk result (IsTrue S.tells → IsMadeAnew value.now.kind (λ format. format ≡ value.now.format) file
         (S.seen store.old).files (S.seen store.new).files) }
     ensures named { OnErr result ((S.seen store.new).files file ≡ (S.seen store.old).files file) }

@@ -38,9 +38,9 @@ use std::alloc::Global;
 /// How many bytes the line has at most.
 const LINE: usize = 256;
 
-/// Makes a quota file for users, in vfsv1, with the usage of a listing that is made of a seed and has so many lines. Then it
-/// writes a line on both to the output: how many lines there were, the sums of the inodes and of the KiB of all records, how
-/// many records there are, and how many bytes a report on the file has. The moment is in seconds since 1970.
+/// Makes a quota file for users, in vfsv1, with the usage of a listing that is made of a seed and has this many lines. Then
+/// it writes a line on both to the output: how many lines there were, the sums of the inodes and of the KiB of all records,
+/// how many records there are, and how many bytes a report on the file has. The moment is in seconds since 1970.
 ///
 /// # Errors
 ///
@@ -228,7 +228,7 @@ fn gathered_cause(cause: Cause) -> Cause
     }
 }
 
-/// The line on a file with these records, which was made of so many lines, and on which a report has so many bytes.
+/// The line on a file with these records, which was made of this many lines, and on which a report has this many bytes.
 fn summary_line(lines: u32, entries: &[Entry], bytes: usize) -> ArrayVec<u8, LINE>
     requires { IsStrictlyIncreasing (ids_of entries.now) }
     ensures { result.items ≡ summary_line lines (records_of entries.now) bytes }

@@ -24,8 +24,8 @@ fn metadata_at<R: Files>(files: &R, path: &str) -> io::Result<Option<Metadata>> 
     }
 }
 
-/// What a name stands for; none where there is no file. What is no regular file, as a folder or a pipe, is an error: opening
-/// a pipe would wait for whoever writes to it.
+/// What a name stands for; none where there is no file. What is no regular file, such as a folder or a pipe, is an error:
+/// opening a pipe would wait for whoever writes to it.
 pub fn stamp_at<R: Files>(files: &R, path: &str) -> io::Result<Option<Stamp>> {
     match metadata_at(files, path)? {
         Some(metadata) if metadata.is_file() => Ok(Some(Stamp::of(&metadata))),
@@ -85,7 +85,7 @@ pub fn make_absent<R: Files<File = File>>(
 }
 
 /// Makes an empty file in place of one that was left behind under its name, which is taken away: what it stood for stays
-/// where it has another name, as behind a link. Only its owner may read and write the new file.
+/// where it has another name, for example behind a link. Only its owner may read and write the new file.
 pub fn make_anew<R: Files<File = File>>(files: &R, path: &str) -> io::Result<File> {
     match fs::remove_file(files, path) {
         Err(error) if error.kind() != ErrorKind::NotFound => return Err(error),

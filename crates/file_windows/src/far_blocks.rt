@@ -20,7 +20,7 @@ struct FarBlock {
 
 /// Blocks of a file that were read by themselves, each from a place that the reads before it did not lead to.
 ///
-/// At most eight are kept. Where there are so many, another one takes the place of the one that was used least recently.
+/// At most eight are kept. Where there are that many, another one takes the place of the one that was used least recently.
 #[derive(Drop)]
 pub(crate) struct FarBlocks {
     alloc: Global,

@@ -36,7 +36,7 @@ impl Gathered {
         Ok(())
     }
 
-    /// Whether so many bytes at a place stand behind those that were gathered, and are not too many with them.
+    /// Whether `len` bytes at a place stand behind those that were gathered, and are not too many with them.
     fn has_room_behind(&self, at: u64, len: usize) -> bool {
         let held = self.bytes.len();
         at == self.at.saturating_add(held as u64) && held.saturating_add(len) <= WINDOW

@@ -42,7 +42,7 @@ pub struct Opened {
     gathered: Gathered,
 }
 
-/// Why what is no regular file, as a folder or a pipe, is refused.
+/// Why what is no regular file, such as a folder or a pipe, is refused.
 pub fn no_regular_file(metadata: &Metadata) -> io::Error {
     if metadata.is_dir() {
         io::Error::new(ErrorKind::IsADirectory, "Is a directory")
@@ -78,7 +78,7 @@ impl Opened {
     ///
     /// # Errors
     ///
-    /// The system failed, or it is no file, as a folder.
+    /// The system failed, or it is no file, such as a folder.
     pub fn length(&mut self) -> io::Result<u64> {
         self.flush()?;
         let metadata = self.file.metadata()?;
@@ -110,7 +110,7 @@ impl Opened {
         self.gathered.take(&self.file, at, bytes)
     }
 
-    /// Writes what is to be written, and shortens the file to so many bytes where it is longer. Source: ftruncate(2).
+    /// Writes what is to be written, and shortens the file to this many bytes where it is longer. Source: ftruncate(2).
     ///
     /// # Errors
     ///

@@ -55,7 +55,7 @@ impl Span {
         self.held = 0;
     }
 
-    /// Whether there is memory for so many bytes, the same number at each call.
+    /// Whether there is memory for `most` bytes, the same number at each call.
     pub fn has_room(&mut self, most: usize) -> bool {
         self.bytes.len() == most || self.bytes.resize(most, 0).is_ok()
     }
@@ -84,7 +84,7 @@ impl Span {
         Ok(done + read_from(file, at.saturating_add(done as u64), &mut buf[done..])?)
     }
 
-    /// So many bytes from a place of the file on, where all of them are here.
+    /// This many bytes from a place of the file on, where all of them are here.
     #[inline(always)]
     fn piece(&self, at: u64, len: usize) -> Option<&[u8]>
         ensures { IfSome result (λ piece. length piece.now ≡ len) }

@@ -18,7 +18,7 @@ linked_blocks links = map (λ link. link.block) links
 abbrev pub previous_in : List Link → List ℕ
 previous_in links = map (λ link. link.previous) links
 
--- a walk in a file of so many blocks: those that it has met are marked, and differ from the header's
+-- a walk in a file of this many blocks: those that it has met are marked, and differ from the header's
 pub record IsWalk (blocks : ℕ) (walk : Walk) : Type 0 where
   pub marked : AreFlagsOf blocks walk.met.flags.items (linked_blocks walk.links.items)
   pub inside : (number : ℕ) → StandsIn (linked_blocks walk.links.items) number → IsTrue (leads blocks number)

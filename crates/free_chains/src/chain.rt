@@ -20,7 +20,7 @@ pub struct Walk {
 }
 
 impl Walk {
-    /// A walk that has met no block, in a file of so many.
+    /// A walk that has met no block, in a file of `blocks` blocks.
     fn new(alloc: Global, blocks: u32) -> Result<Walk, AllocError>
         ensures none { IfOk result (λ walk. walk.links.items ≡ []) }
         ensures walk { IfOk result (IsWalk blocks) }
@@ -75,7 +75,7 @@ impl Walk {
 
 /// Walks along the list of a head to its end.
 ///
-/// The file has so many blocks; bytes past its end are 0. There is at most one read for each block of the list.
+/// The file has `blocks` blocks; bytes past its end are 0. There is at most one read for each block of the list.
 ///
 /// # Errors
 ///

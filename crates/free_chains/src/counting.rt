@@ -13,8 +13,8 @@ use outside::Store;
 use quota_pages::Pages;
 use quota_types::{DamageKind, damage_at};
 
-/// Counts the blocks of the list of free blocks, as far as `most`, which is 4 at most. A list that comes to one of its
-/// blocks again ends there. It reads `most` blocks at most.
+/// Counts the blocks of the list of free blocks, as far as `most`, which is 4 at most. A list that returns to one of
+/// its blocks ends there. It reads `most` blocks at most.
 ///
 /// # Errors
 ///

@@ -16,12 +16,12 @@ pub record NameLine : Type 0 where
 abbrev pub parts_of : ℕ → List ℕ → List (List ℕ)
 parts_of separator bytes = slice_split (λ byte. byte == separator) bytes
 
--- The lines of a file, which newlines part. What stands behind the last newline is a line too; where it is empty, it says
--- nothing, as any empty line.
+-- The lines of a file, which newlines separate. What stands behind the last newline is a line too; where it is empty, it
+-- says nothing, like any empty line.
 abbrev pub lines_in : List ℕ → List (List ℕ)
 lines_in file = parts_of 10 file
 
--- the fields of a line, which colons part
+-- the fields of a line, which colons separate
 abbrev pub fields_of : List ℕ → List (List ℕ)
 fields_of line = parts_of 58 line
 
@@ -45,8 +45,8 @@ is_name_byte byte = nat_le 33 byte && not (byte == 127)
 abbrev pub is_name : List ℕ → Bool
 is_name name = nat_le 1 (length name) && nat_le (length name) 255 && list_all is_name_byte name
 
--- The identifier that a field spells: one or more decimal digits, whose value is below 2^32, as a `uid_t` is. Zeros in
--- front are digits as any others.
+-- The identifier that a field spells: one or more decimal digits, whose value is below 2^32, as a `uid_t` is. Leading
+-- zeros are digits like any others.
 abbrev pub id_of_field : List ℕ → Option ℕ
 id_of_field field =
     if nat_lt 0 (length field) && all_ascii_digits field && nat_lt (digits_value 10 field) (2 ^ 32)

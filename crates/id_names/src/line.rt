@@ -78,7 +78,7 @@ fn fields_in(kind: Kind) -> usize
     }
 }
 
-/// The first and the third field of a line, where it has as many as the kind wants.
+/// The first and the third field of a line, where it has as many as the kind needs.
 fn name_and_id(line: &[u8], kind: Kind) -> Option<(&[u8], &[u8])>
     ensures name { IfSome result (λ fields. fields.0.now ≡ slice_index_or (fields_of line.now) 0 []) }
     ensures id { IfSome result (λ fields. fields.1.now ≡ slice_index_or (fields_of line.now) 2 []) }

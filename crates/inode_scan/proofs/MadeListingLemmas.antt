@@ -23,7 +23,7 @@ use Rattle.inode_scan.proofs.GeneratedLemmas.{IsInRanges, IsShortLine, end_fault
 abbrev pub made_at : (seed line : ℕ) → Row
 made_at seed line = row_made (number_of_line seed line) line
 
--- a row is one of a line that repeats none, of the first so many
+-- a row is one of a line that repeats none, of the first `most`
 pub record IsMade (seed most : ℕ) (row : Row) : Type 0 where
   pub line : ℕ
   pub within : line ≤ most
@@ -53,7 +53,7 @@ line_made seed before most within = record {
   is = ap (λ (x : ℕ). row_made x (first_alike (suc before))) (same_number seed before);
 }
 
--- what a line of so many says at most
+-- what a line of a made listing says at most
 pub record IsSmall (row : Row) : Type 0 where
   pub low : 1000 ≤ row.owner
   pub high : row.owner < 6000
@@ -159,7 +159,7 @@ no_faults seed most number (line ∷ lines) counted few made all =
     ap (λ (o : Option ScanFault). cons_option o (filter_map (fault_of None counted) (enumerate_from (number + 1) lines))) none
     ∙ no_faults seed most (number + 1) lines counted few made all.1
 
--- the usage of users that a listing comes to that is made
+-- the usage of users that a made listing adds up to
 unfoldable pub generated_usage : (seed count : ℕ) → UsageMap
 generated_usage seed count = usage_of User (counted_lines None (generated_lines seed 0 count))
 

@@ -17,7 +17,7 @@ use Rattle.inode_scan.specs.Generated.{generated_lines}
 use Rattle.inode_scan.specs.Listing.{Counted, counted_line, counted_lines, first_lines, is_first, owned, owner_of, usage_of, used_in}
 use Rattle.inode_scan.proofs.MadeListingLemmas.{IsSmall, Made, all_counted, all_lines, generated_usage, length-lines, row_small}
 
--- a line that counts says no more than so much
+-- a line that counts says no more than this much
 abbrev Small : Counted → Type 0
 Small line = IsSmall line.row
 

@@ -157,7 +157,7 @@ takes_again old new row number kept is same agreed lines before keeps = (
   (takes_later old row number kept is agreed lines before keeps).1,
 )
 
--- a row of an inode that has a first line is taken where they agree, and else refused
+-- a row of an inode that has a first line is taken where they agree, and otherwise refused
 pub taken_by : (old new : Tally) (row : Row) (number : ℕ) (kept : FirstLine) (result : Result (Unit {0}) ScanFault) → kept_in old.firsts (inode_of row) ≡ Some kept → KeepsSame old new
     → result ≡ (if agrees kept row then right else Err (Conflict number kept.number)) → OnOk result (TakesRow old new row number)
 taken_by old new row number kept result is same answers =

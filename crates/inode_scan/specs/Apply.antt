@@ -64,7 +64,7 @@ unfoldable pub applied : Format → Grace → (now : ℕ) → Records → UsageM
 applied format grace now records usage =
     unless (first_no_room format (wanted grace now records usage)) (kept_records format (wanted grace now records usage))
 
--- there is no room for a value, or memory was wanting, which is left open
+-- there is no room for a value, or memory ran out, which is left open
 abbrev pub IsApplyFault : Result Records NoRoom → ApplyFault → Type 0
 IsApplyFault comes_to (Unfit out) = comes_to ≡ Err out
 IsApplyFault comes_to Memory = ⊤

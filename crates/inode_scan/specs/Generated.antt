@@ -10,7 +10,7 @@ use Rattle.inode_scan.specs.declared.row.Row.{Row}
 unfoldable pub next_number : ℕ → ℕ
 next_number x = (6364136223846793005 * x + 1442695040888963407) % 2 ^ 64
 
--- a line repeats the one before: each tenth does
+-- a line repeats the one before: every tenth does
 abbrev pub repeats : (line : ℕ) → Bool
 repeats line = line % 10 == 0
 
@@ -42,7 +42,7 @@ row_text row =
 abbrev pub generated_line : (seed line : ℕ) → List ℕ
 generated_line seed line = row_text (row_made (number_of_line seed line) (first_alike line))
 
--- so many lines behind the first ones
+-- this many lines behind the first ones
 abbrev pub generated_lines : (seed before count : ℕ) → List (List ℕ)
 generated_lines seed before zero = []
 generated_lines seed before (suc count) = generated_line seed (suc before) ∷ generated_lines seed (suc before) count
@@ -51,13 +51,13 @@ generated_lines seed before (suc count) = generated_line seed (suc before) ∷ g
 abbrev pub lines_text : List (List ℕ) → List ℕ
 lines_text lines = flat_map (λ line. line ++ codes "\n") lines
 
--- the listing of a seed with so many lines
+-- the listing of a seed with this many lines
 unfoldable pub generated : (seed count : ℕ) → List ℕ
 generated seed count = lines_text (generated_lines seed 0 count)
 
 -- What is left of a listing that is being made. It is the code's own, and no contract of a public call speaks of it.
 
--- so many lines behind one that was made of this number
+-- this many lines behind one that was made of this number
 abbrev pub lines_behind : (x line count : ℕ) → List (List ℕ)
 lines_behind x line zero = []
 lines_behind x line (suc count) =

@@ -1,5 +1,5 @@
--- What a listing comes to: lines of at most 256 bytes, and 1,099,511,627,776 bytes in all. Source: the bounds are this
--- project's own.
+-- What a listing adds up to: lines of at most 256 bytes, and 1,099,511,627,776 bytes in all. Source: the bounds are
+-- this project's own.
 use Rattle.std.specs.Prelude.{◌≡◌, ℕ, ◌+◌, Bool, IsTrue, List, [], ◌∷◌, ◌++◌, Option, Some, None, Result, Err, slice_get, ⊤}
 use Rattle.std.specs.Option.{option_to_list}
 use Rattle.quota_types.specs.declared.file_kind.Kind.{Kind}
@@ -40,8 +40,8 @@ scanned_lines kind device lines = unless (first_fault device lines) (usage_of ki
 unfoldable pub scanned : Kind → (device : Option ℕ) → List ℕ → Result UsageMap ScanFault
 scanned kind device bytes = scanned_lines kind device (input_lines 256 1099511627776 bytes)
 
--- The source's count of faults rose; or memory was wanting, which is left open; or, of a source that tells what is left in
--- it, the listing comes to this fault.
+-- The source's count of faults rose; or memory ran out, which is left open; or, of a source that tells what is left in it,
+-- the listing leads to this fault.
 abbrev pub IsScanFault : (before now : ℕ) → Bool → Result UsageMap ScanFault → ScanFault → Type 0
 IsScanFault before now tells comes_to Source = Rose before now
 IsScanFault before now tells comes_to TooLarge = IsTrue tells → comes_to ≡ Err TooLarge

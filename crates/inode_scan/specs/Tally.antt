@@ -21,7 +21,7 @@ row_at inode = record { owner = 0; group = 0; device = inode.device; inode = ino
 abbrev pub first_kept : Counted → FirstLine
 first_kept line = record { owner = line.row.owner; group = line.row.group; blocks = line.row.blocks; number = line.number }
 
--- no usage is more than so many inodes, or more than their greatest number of blocks
+-- no usage is more than this many inodes, or more than their greatest number of blocks
 abbrev pub IsBounded : ℕ → UsageMap → Type 0
 IsBounded count usage = (id : ℕ) → IfSome (map.get usage id) (λ used. (used.inodes ≤ count) × (used.space ≤ 2 ^ 73 * used.inodes))
 
@@ -52,7 +52,7 @@ abbrev pub ConflictsAs : Tally → Row → ℕ → ScanFault → Type 0
 ConflictsAs tally row number fault = (lines : List Counted) → Keeps tally lines
     → conflict_of (lines ++ counted_at number row ∷ []) (counted_at number row) ≡ Some fault
 
--- a row is refused for a conflict, or for want of memory
+-- a row is refused for a conflict, or for lack of memory
 abbrev pub IsRefusedRow : Tally → Row → ℕ → ScanFault → Type 0
 IsRefusedRow tally row number Source = ⊥
 IsRefusedRow tally row number TooLarge = ⊥
@@ -71,7 +71,7 @@ abbrev pub IsWrongAs : Tally → List ℕ → ℕ → ScanFault → Type 0
 IsWrongAs tally line number fault = (lines : List (List ℕ)) → length lines + 1 ≡ number → IsOf tally lines
     → fault_of tally.device (counted_lines tally.device (lines ++ line ∷ [])) (number, line) ≡ Some fault
 
--- a line is refused since it is bad or conflicts, or for want of memory
+-- a line is refused since it is bad or conflicts, or for lack of memory
 abbrev pub IsRefusedLine : Tally → List ℕ → ℕ → ScanFault → Type 0
 IsRefusedLine tally line number Source = ⊥
 IsRefusedLine tally line number TooLarge = ⊥

@@ -25,7 +25,7 @@ IsNextUser after usage (Some next) =
     × IsSome (get usage next)
     × ((id : ℕ) → IsAfter after id → id < next → get usage id ≡ None)
 
--- a usage, or none, with one more inode of so many blocks of 512 bytes
+-- a usage, or none, with one more inode of this many blocks of 512 bytes
 abbrev pub with_inode : Option Used → (blocks : ℕ) → Used
 with_inode None blocks = record { space = 512 * blocks; inodes = 1 }
 with_inode (Some used) blocks = record { space = used.space + 512 * blocks; inodes = used.inodes + 1 }

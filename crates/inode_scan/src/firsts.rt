@@ -9,7 +9,7 @@ use crate::narrow::{NarrowInode, NarrowLine};
 use std::alloc::Global;
 use std::collections::HashMap;
 
-/// The first line of each inode. Where all of its numbers have 32 bits, as they mostly do, it takes 24 bytes in place of 40.
+/// The first line of each inode. Where all of its numbers have 32 bits, as they usually do, it takes 24 bytes instead of 40.
 #[derive(Drop)]
 pub(crate) struct Firsts {
     /// The first lines with narrow numbers alone.
@@ -86,8 +86,8 @@ impl Firsts {
         Ok(None)
     }
 
-    /// The wide first line of an inode, where there is one. Where there is none of any inode, which is mostly so, the inode
-    /// is not hashed.
+    /// The wide first line of an inode, where there is one. Where there is none of any inode, which is usual, the inode is
+    /// not hashed.
     fn wide_first(&self, inode: Inode) -> Option<FirstLine>
         ensures { result ≡ get inode_eq self.now.wide inode }
     {

@@ -13,7 +13,7 @@ const LINE: usize = 5 * 21;
 /// A listing of inodes that is made while it is read, the same for the same seed, as a source. It keeps a line at a time,
 /// takes no memory of the heap, and never fails.
 ///
-/// A number begins as the seed. Each tenth line repeats the one before. Any other line takes the next number x of Knuth's
+/// A number begins as the seed. Every tenth line repeats the one before. Any other line takes the next number x of Knuth's
 /// generator of 64 bits, and tells the owner 1000 + floor(x / 2^33) mod 5000, the group 100, the device 2049, the inode 1000
 /// and the line's number, from 1 on, and 8 (floor(x / 2^20) mod 64) blocks.
 #[derive(Debug, Drop)]
@@ -31,7 +31,7 @@ pub struct Generated {
 }
 
 impl Generated {
-    /// The listing of a seed with so many lines.
+    /// The listing of a seed with this many lines.
     pub fn new(seed: u64, count: u32) -> Self
         ensures { ⟦<Generated as Source>⟧.seen result ≡ record { left = generated seed count; faults = 0 } }
     {

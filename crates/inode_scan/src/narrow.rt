@@ -36,7 +36,7 @@ impl Hash for NarrowInode {
 
     ghost respects_eq = { Prim.search (hashing, rules) };
 
-    /// Four inodes in a row are hashed alike, so that a map keeps them in one place: a listing mostly has inodes of a
+    /// Four inodes in a row are hashed alike, so that a map keeps them in one place: a listing usually has inodes of a
     /// folder, whose numbers stand close together, and memory is what looking them up waits for.
     fn hash<H: Hasher>(&self, state: &mut H) {
         self.device.hash(state);

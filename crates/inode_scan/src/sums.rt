@@ -36,7 +36,7 @@ impl Sums {
         }
     }
 
-    /// Adds an inode of so many blocks of 512 bytes to what an identifier uses.
+    /// Adds an inode of this many blocks of 512 bytes to what an identifier uses.
     pub(crate) fn add(&mut self, id: u32, blocks: u64) -> Result<(), AllocFailed<(u32, Used)>>
         requires { IfSome (map.get self.old id) (λ used. (used.space + 512 * blocks < 2 ^ 128)
             × (used.inodes + 1 < 2 ^ 64)) }
@@ -58,7 +58,7 @@ impl Sums {
     }
 }
 
-/// What is used with one more inode of so many blocks of 512 bytes.
+/// What is used with one more inode of this many blocks of 512 bytes.
 fn with_inode(used: Option<Used>, blocks: u64) -> Used
     requires { IfSome used (λ used. (used.space + 512 * blocks < 2 ^ 128) × (used.inodes + 1 < 2 ^ 64)) }
     ensures { result ≡ with_inode used blocks }

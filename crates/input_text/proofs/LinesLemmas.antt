@@ -43,7 +43,7 @@ module _ {X : Type 0} (q : X → Bool) where
         | false ↦ λ (less : 0 < suc (length xs)). refl
       ] less
 
-  -- where all pass, so many more do as pass behind them
+  -- where all pass, as many more do as pass behind them
   prefix_len-append : (xs ys : List X) → prefix_len q xs ≡ length xs → prefix_len q (xs ++ ys) ≡ length xs + prefix_len q ys
   prefix_len-append [] ys all = omega arith
   prefix_len-append (x ∷ xs) ys all =

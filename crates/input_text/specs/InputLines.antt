@@ -22,7 +22,7 @@ lines_from (Line line rest) behind = LineThen line (behind rest)
 lines_from LongLine behind = LongNext
 lines_from PastTotal behind = PastNext
 
--- the lines in so many steps, where a line may have `most` bytes, and `room` bytes of the rest of the input may be read
+-- the lines in this many steps, where a line may have `most` bytes, and `room` bytes of the rest of the input may be read
 abbrev pub lines_within : (steps most room : ℕ) → List ℕ → InputLines
 lines_within zero most room rest = NoLine
 lines_within (suc steps) most room rest =

@@ -34,10 +34,10 @@ pub data NextLine : Type 0 where
   LongLine : NextLine
   PastTotal : NextLine
 
--- What comes next where so many bytes may stand in a line, and so many of the rest of the input may be read. The line is
--- too long where more than `most` of its bytes stand among those that may be read. Else it does not end within them
--- where they have no newline, and the rest has more bytes than they are. Else the input is at its end where nothing is
--- left, and the line is what stands in front of the first newline, or all that is left.
+-- What comes next where `most` bytes may stand in a line, and `room` bytes of the rest of the input may be read. The
+-- line is too long where more than `most` of its bytes stand among those that may be read. Otherwise it does not end
+-- within them where they have no newline, and the rest has more bytes than they are. Otherwise the input is at its end
+-- where nothing is left, and the line is what stands in front of the first newline, or all that is left.
 unfoldable pub next_line_of : (most room : ℕ) → List ℕ → NextLine
 next_line_of most room rest =
     let readable : List ℕ = take room rest in
@@ -70,7 +70,7 @@ RefusesLine next Source = ⊥
 RefusesLine next (Long _) = next ≡ LongLine
 RefusesLine next TooLarge = next ≡ PastTotal
 
--- Why a line with so many bytes in front of its newline, or at least so many where no newline was met, is refused: more
+-- Why a line with `len` bytes in front of its newline, or at least that many where no newline was met, is refused: more
 -- than `most` of them stand within the room; or they do not, and the room is less than them and the newline.
 abbrev pub IsOver : (len : ℕ) → (ended : Bool) → (most room : ℕ) → LineFault → Type 0
 IsOver len ended most room Source = ⊥

@@ -213,7 +213,7 @@ impl LineReader {
         (len, len < held.len())
     }
 
-    /// Appends so many held bytes to the line.
+    /// Appends `len` held bytes to the line.
     fn append(&mut self, line: &mut ArrayVec<u8, 4096>, len: usize)
         requires there { len ≤ length self.old.held }
         requires room { length line.old.items + len ≤ 4096 }

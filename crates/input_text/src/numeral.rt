@@ -4,7 +4,7 @@ ghost use Rattle.input_text.specs.Numeral.{number_of};
 /// How many digits a number has at most.
 const MAX_DIGITS: usize = 20;
 
-/// Reads a number of 1 to 20 decimal digits with a value below 2^64. Zeros may stand in front.
+/// Reads a number of 1 to 20 decimal digits with a value below 2^64. Leading zeros are allowed.
 #[tactic(auto, unfolding(crate::specs::Numeral::number_of))]
 pub fn number_in(word: &[u8]) -> Option<u64>
     ensures { result ≡ number_of word.now }
@@ -23,7 +23,7 @@ pub fn number_in(word: &[u8]) -> Option<u64>
     Some(number)
 }
 
-/// Reads a word as a number of 1 to 20 decimal digits with a value below 2^64. Zeros may stand in front.
+/// Reads a word as a number of 1 to 20 decimal digits with a value below 2^64. Leading zeros are allowed.
 pub fn read_number(word: &str) -> Option<u64>
     ensures { result ≡ number_of word.now }
 {

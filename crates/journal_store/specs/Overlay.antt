@@ -4,7 +4,7 @@ use Rattle.std.specs.List.{list_any}
 use Rattle.edit_journal.specs.Spans.{Span, span_of}
 use Rattle.edit_journal.specs.declared.kept.KeptRange.{KeptRange}
 
--- whether a range has a byte in common with one of so many bytes at a place
+-- whether a range has a byte in common with one of this many bytes at a place
 abbrev pub meets : (at count : ℕ) → Span → Bool
 meets at count span = nat_lt span.at (at + count) && nat_lt at (span.at + length span.bytes)
 

@@ -71,7 +71,7 @@ pub(crate) fn lay_over(ranges: &[KeptRange], at: u64, buf: &mut [u8])
     }
 }
 
-/// How many bytes a file of this length has from a place on, up to so many.
+/// How many bytes a file of this length has from a place on, up to `most`.
 pub(crate) fn count_from(file_length: u64, at: u64, most: usize) -> usize
     ensures { result ≡ min most (file_length - at) }
 {

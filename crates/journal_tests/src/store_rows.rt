@@ -75,7 +75,7 @@ const ROWS: &[&[Step]] = &[
     &[Write("q", 0, b"a"), NoHold("torn"), NoSync("shut"), NoCreate("r"), NoCreate("q"), Create("q.new"),
         NoRename("q.new", "q"), NoRename("q.new", "r"), Pends("q", true), Pends("q.new", false),
         Hold("q", Some(b"a123456789")), Sync("q"), Rename("q.new", "q"), Hold("q", Some(b"")), Hold("q.new", None)],
-    // A file is made, written and renamed under a name in `.new`, and else nothing is written that is not there.
+    // A file is made, written and renamed under a name in `.new`, and otherwise nothing is written that is not there.
     &[NoWrite("r", 0, b"a"), Hold("r", None), Write("r.new", 0, b"ab"), Sync("r.new"), NoRename("q", "r"),
         NoRename("r.new", "s.new"), Rename("r.new", "r"), Hold("r", Some(b"ab")), Write("r", 1, b"c"),
         Hold("r", Some(b"ac")), Pends("r", true), Sync("r"), Hold("r", Some(b"ac"))],

@@ -1,6 +1,6 @@
 use std::alloc::{AllocError, Global};
 
-/// A script of 100,000 lines, of which each hundredth prints a form and each other one says nothing.
+/// A script of 100,000 lines, of which every hundredth prints a form and all others say nothing.
 pub(crate) fn many_lines(alloc: Global) -> Result<Vec<u8>, AllocError> {
     let mut script = Vec::new(alloc);
     for number in 1..=100_000u32 {

@@ -35,7 +35,7 @@ pub(crate) fn left_by(alloc: Global, command: &str, input: Vec<u8>) -> Result<Le
     })
 }
 
-/// The words of a command, parted by single spaces.
+/// The words of a command, separated by single spaces.
 fn words_of(alloc: Global, command: &str) -> Result<Vec<String>, AllocError> {
     let mut words = Vec::new(alloc);
     for word in command.split(' ') {

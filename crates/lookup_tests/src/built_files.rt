@@ -4,7 +4,7 @@ use row_files::{ordered, store_of};
 use std::alloc::{AllocError, Global};
 use tree_file::{TreeFile, build, open_tree};
 
-/// A file of users that is built: so many identifiers from 0 on, each so far above the one before it.
+/// A file of users that is built: this many identifiers from 0 on, each this far above the one before it.
 #[derive(Clone, Copy, Debug)]
 pub(crate) struct Built {
     pub format: Format,

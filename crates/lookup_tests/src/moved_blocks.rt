@@ -20,8 +20,8 @@ const FIRST_DATA: usize = 2;
 /// Where the places for entries begin in a data block.
 const ENTRIES_AT: usize = 16;
 
-/// The place of each of so many things: it is so many places behind that of the thing before it, around the end. Each has
-/// a place of its own where the stride has no divisor with the count.
+/// The place of each of `count` things: it is `stride` places behind that of the thing before it, around the end. Each
+/// has a place of its own where the stride has no divisor with the count.
 fn place_of(thing: usize, stride: usize, count: usize) -> usize {
     if count == 0 {
         0
@@ -103,7 +103,7 @@ fn reference_place(file: &[u8], id: u32) -> usize {
     number_place(block, usize::from(fourth))
 }
 
-/// The same file with its entries dealt among the places that they have: each stands so many places behind that of the
+/// The same file with its entries dealt among the places that they have: each stands `stride` places behind that of the
 /// identifier before it.
 pub(crate) fn with_dealt_entries(
     alloc: Global,
@@ -181,7 +181,7 @@ impl Order {
     }
 }
 
-/// The same file with its blocks behind the root in another order: each stands so many places behind the one before it.
+/// The same file with its blocks behind the root in another order: each stands `stride` places behind the one before it.
 pub(crate) fn with_moved_blocks(
     alloc: Global,
     built: &Built,

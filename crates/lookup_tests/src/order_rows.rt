@@ -24,7 +24,7 @@ fn expect_same_records(rt: &impl Abort, alloc: Global, rows: &[OrderRow]) {
     }
 }
 
-/// What is wrong, or nothing; None where memory is wanting.
+/// What is wrong, or nothing; None where there is not enough memory.
 fn wrong_in(alloc: Global, row: &OrderRow) -> Option<&'static str> {
     let built = &row.built;
     let file = file_of(alloc, built)?;

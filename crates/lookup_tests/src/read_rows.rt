@@ -14,7 +14,7 @@ struct Reads {
     walk: u64,
 }
 
-/// A file of at least so many blocks, and how many reads a walk over all its entries makes at most.
+/// A file of at least this many blocks, and how many reads a walk over all its entries makes at most.
 struct ReadRow {
     title: &'static str,
     built: Built,

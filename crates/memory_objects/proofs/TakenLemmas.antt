@@ -6,7 +6,7 @@ use Rattle.std.proofs.Math.Seq.{drop-cons}
 use Rattle.std.proofs.lemmas.List.{drop-drop, take_at, take-append-drop, take_min}
 use Rattle.std.proofs.lemmas.Option.{get_or_from_slice_get, slice_get-map, slice_get_within}
 
--- so many bytes were copied from the front of what is left
+-- this many bytes were copied from the front of what is left
 pub taken_front : (bytes copied rest : List ℕ) (at count : ℕ) → copied ≡ take count (drop at bytes) → length copied ≡ count → drop at bytes ≡ take count (copied ++ rest) ++ drop (at + count) bytes
 taken_front bytes copied rest at count is long =
     sym (take-append-drop count (drop at bytes))

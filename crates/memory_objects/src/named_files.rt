@@ -101,7 +101,7 @@ impl NamedFiles {
         Ok(())
     }
 
-    /// Cuts a file to a length. One that is no longer stays, and one that is not there is not made.
+    /// Cuts a file to a length. One that is not longer stays, and one that is not there is not made.
     pub fn cut(&mut self, name: &str, len: usize)
         ensures { file_named self.new.entries.items ≡ with_file (file_named self.old.entries.items) name.now
             (option_map (take len) (file_named self.old.entries.items name.now)) }

@@ -1,4 +1,4 @@
--- Words that a table has not, and tests over lists.
+-- Words that a table does not have, and tests over lists.
 use Rattle.std.proofs.Common.{◌≡◌, Bool, false, ◌||◌, List, [], ◌∷◌, map, ℕ, refl, sym, ap}
 use Rattle.std.specs.List.{list_any}
 use Rattle.std.specs.Str.{bytes_eq}

@@ -20,7 +20,7 @@ pub data Item : Type 0 where
   Set : SettingName → List ℕ → ℕ → Item
   -- an export with its path, kind and file
   Exported : List ℕ → List ℕ → List ℕ → ℕ → Item
-  -- an option that the command has not
+  -- an option that the command does not have
   Unknown : ℕ → Item
   -- an option behind which the words end before its value
   Unfinished : ℕ → Item

@@ -58,7 +58,7 @@ pub struct Given<'a> {
     pub names: Option<&'a str>,
     /// The identifier whose limits are copied.
     pub proto: Option<&'a str>,
-    /// The file that is read in place of the standard input.
+    /// The file that is read instead of the standard input.
     pub input: Option<&'a str>,
     /// The device whose lines count.
     pub device: Option<u64>,

@@ -24,7 +24,7 @@ pub enum Flag {
     Groups,
     /// A report shows the identifiers that use nothing, too.
     Verbose,
-    /// A report shows numbers in place of names.
+    /// A report shows numbers instead of names.
     Numeric,
     /// A report shows when a grace period ends.
     Raw,
@@ -51,7 +51,7 @@ pub enum Setting {
     Names,
     /// The identifier whose limits are copied.
     Proto,
-    /// The file that is read in place of the standard input.
+    /// The file that is read instead of the standard input.
     Input,
     /// The device whose lines count.
     Device,
@@ -72,7 +72,7 @@ pub struct Flags {
     pub groups: bool,
     /// A report shows the identifiers that use nothing, too.
     pub verbose: bool,
-    /// A report shows numbers in place of names.
+    /// A report shows numbers instead of names.
     pub numeric: bool,
     /// A report shows when a grace period ends.
     pub raw: bool,

@@ -7,7 +7,7 @@ use std::process::Abort;
 /// A call of a buffer of pages over the file "q", or a look at it.
 #[derive(Clone, Copy)]
 enum Step {
-    /// So many of these bytes are written from a place of the file on, past the buffer.
+    /// This many of these bytes are written from a place of the file on, past the buffer.
     Write(u64, usize, u8),
     /// The byte at a place of a block that is looked at.
     Peek(u32, usize, u8),
@@ -86,7 +86,7 @@ fn words(store: &mut MemStore, pages: &mut Pages, step: Step) -> Result<bool, St
     }
 }
 
-/// Whether so many bytes are written.
+/// Whether this many bytes are written.
 fn writes(store: &mut MemStore, at: u64, len: usize, byte: u8) -> Result<bool, StoreFault> {
     let bytes = [byte; 1024];
     if len == 0 || len > 1024 || at > 4096 {

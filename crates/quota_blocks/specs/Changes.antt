@@ -57,7 +57,7 @@ file_at holds seen store = record { holds = holds; seen = seen; store = store }
 abbrev pub file_in : FileAt → Option (List ℕ)
 file_in at = at.store.files at.seen.name
 
--- the file, as it is, lacks room for a change of it to a value: it would need so many blocks of so many that it may have
+-- the file, as it is, lacks room for a change of it to a value: it would need the first number of blocks, and may have only the second
 abbrev pub LacksRoom : FileLaws → FileAt → FileChange → QuotaValue → ℕ → ℕ → Type 0
 LacksRoom laws at = laws.lacks_room at.seen (file_in at)
 

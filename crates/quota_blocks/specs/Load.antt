@@ -5,14 +5,14 @@ use Rattle.quota_blocks.specs.declared.whole_file.LoadFault.{LoadFault}
 use Rattle.quota_blocks.specs.declared.whole_file.LoadFault.TheVariants.{Store, NoFile, TooLarge, Memory}
 
 -- The store's count of faults rose; or, of a store that tells its files, there is no such file, or it has more bytes
--- than were allowed; or memory was wanting.
+-- than were allowed; or there was not enough memory.
 abbrev pub IsLoadFault : ℕ → ℕ → Bool → Option (List ℕ) → ℕ → LoadFault → Type 0
 IsLoadFault before now tells file most Store = Rose before now
 IsLoadFault before now tells file most NoFile = IsTrue tells → file ≡ None
 IsLoadFault before now tells file most TooLarge = IsTrue tells → IsSomeAnd file (λ bytes. most < length bytes)
 IsLoadFault before now tells file most Memory = ⊤
 
--- the store's count of faults rose, or memory was wanting
+-- the store's count of faults rose, or there was not enough memory
 abbrev pub IsReadFault : ℕ → ℕ → LoadFault → Type 0
 IsReadFault before now Store = Rose before now
 IsReadFault before now NoFile = ⊥

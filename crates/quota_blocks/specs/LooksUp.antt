@@ -14,7 +14,7 @@ CountsLookup old new None = new ≡ old
 CountsLookup old new (Some fault) = CountsRefusal true old new
 
 -- Look-ups in an opened file, whose result may have a fault of the file. A fault has its cause, and may come in a file of this
--- format. However it ended the file holds what it held, nothing was written, and there were at most so many calls of `read`.
+-- format. However it ended the file holds what it held, nothing was written, and there were at most `most` calls of `read`.
 -- Where it is Ok all that is seen of the file is as before; a refusal by the file counts once, and the file may be used again.
 pub record LooksUp {T E : Type 0} (fault_of : E → Option FileFault) (laws : FileLaws) (old new : FileAt) (most : ℕ) (result : Result T E) : Type 0 where
   pub refused : IfErr result (λ fault. IfSome (fault_of fault) (IsLookupFault old.store.faults new.store.faults old.holds))

@@ -15,6 +15,6 @@ passed_up_to (Ok None) = 2 ^ 32
 passed_up_to (Err fault) = 2 ^ 32
 
 -- How many calls of `read` pass all identifiers, where it is known how many pass those from one up to another one: as many as one
--- call that passes them all, and for each of so many records what a call takes anyway.
+-- call that passes them all, and for each of the `records` records what a call takes anyway.
 abbrev pub reads_over : (passing : ℕ → ℕ → ℕ) → (records : ℕ) → ℕ
 reads_over passing records = passing 0 (2 ^ 32) + passing 0 0 * records

@@ -36,7 +36,7 @@ IsLookupFault before now holds (Full _ _) = ⊥
 IsLookupFault before now holds Memory = ⊥
 
 -- A change is refused where the store's count of faults rose, where the opened file with its store holds no value, where
--- it lacks room for so many blocks of so many that it may have, or where memory was wanting.
+-- it lacks room, needing more blocks than it may have, or where there was not enough memory.
 abbrev pub IsChangeFault : ℕ → ℕ → (QuotaValue → Type 0) → (ℕ → ℕ → Type 0) → FileFault → Type 0
 IsChangeFault before now holds lacks Store = Rose before now
 IsChangeFault before now holds lacks (Damage _) = (value : QuotaValue) → ¬ (holds value)
@@ -71,14 +71,14 @@ IfDamage (Damage damage) P = P damage
 IfDamage (Full _ _) P = ⊤
 IfDamage Memory P = ⊤
 
--- a call was refused, but not for want of memory
+-- a call was refused, but not for lack of memory
 abbrev pub WantsNoMemory : FileFault → Type 0
 WantsNoMemory Store = ⊤
 WantsNoMemory (Damage _) = ⊤
 WantsNoMemory (Full _ _) = ⊤
 WantsNoMemory Memory = ⊥
 
--- Of so many blocks at most, of 1,024 bytes each, the bytes of a file have changed: all others are as before, and the file has grown
+-- The bytes of a file have changed in at most this many blocks of 1,024 bytes each: all others are as before, and the file has grown
 -- no further than to the end of the last of those.
 pub record ChangesBlocks (most : ℕ) (before after : List ℕ) : Type 0 where
   pub numbers : List ℕ
@@ -88,7 +88,7 @@ pub record ChangesBlocks (most : ℕ) (before after : List ℕ) : Type 0 where
   pub within : (blocks : ℕ) → ((number : ℕ) → StandsIn numbers number → number < blocks) → length after ≤ max (length before) (1024 * blocks)
 
 -- A change that is made where the bytes lie, in place: however it ends, and whatever the file holds, at most twelve blocks of it have
--- changed where the store tells it, no other file has, and memory is not wanting.
+-- changed where the store tells it, no other file has, and memory does not run out.
 pub record StaysInPlace (tells : Bool) (name : List ℕ) (old new : World) (result : Result (Unit {0}) FileFault) : Type 0 where
   pub few : IsTrue tells → ChangesBlocks 12 (file_of old name) (file_of new name)
   pub others : KeepsOthers name old new

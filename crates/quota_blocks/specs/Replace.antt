@@ -4,18 +4,18 @@ use Rattle.outside.specs.Count.{Rose}
 use Rattle.quota_blocks.specs.declared.replacement.ReplaceFault.{ReplaceFault}
 use Rattle.quota_blocks.specs.declared.replacement.ReplaceFault.TheVariants.{Store, Full, Memory}
 
--- how many calls of `write`, or of `read`, so many bytes take, of 1,024 bytes each but the last
+-- how many calls of `write`, or of `read`, this many bytes take, of 1,024 bytes each but the last
 abbrev pub pieces_of : ℕ → ℕ
 pieces_of length = (length + 1023) / 1024
 
--- A replacement by given bytes is refused where the store's count of faults rose, or memory was wanting. It needs no
--- room in blocks.
+-- A replacement by given bytes is refused where the store's count of faults rose, or there was not enough memory. It
+-- needs no room in blocks.
 abbrev pub IsReplaceFault : ℕ → ℕ → ReplaceFault → Type 0
 IsReplaceFault before now Store = Rose before now
 IsReplaceFault before now (Full _ _) = ⊥
 IsReplaceFault before now Memory = ⊤
 
--- a fact where memory was wanting
+-- a fact where there was not enough memory
 abbrev pub OnNoMemory : ReplaceFault → Type 0 → Type 0
 OnNoMemory Store P = ⊤
 OnNoMemory (Full _ _) P = ⊤

@@ -44,7 +44,7 @@ impl FileUse {
         fault
     }
 
-    /// Counts a refused look-up, and answers its fault. The file may be used again, also where the store failed.
+    /// Counts a refused look-up, and answers its fault. The file may be used again, even where the store failed.
     pub fn refused_look_up(&mut self, fault: FileFault) -> FileFault
         requires { IsTrue self.old.usable }
         ensures same { result ≡ fault }

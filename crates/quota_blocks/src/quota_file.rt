@@ -109,8 +109,8 @@ pub trait QuotaFile<S: Store> {
     /// A file of these bytes, as one of this format, stands for the value.
     ghost stands_for: { Format → List ℕ → QuotaValue → Type 0 };
 
-    /// The named file, as it is, has no room for a change of it to the value: it would need so many blocks, and may have only
-    /// so many.
+    /// The named file, as it is, has no room for a change of it to the value: it would need the first number of blocks, and
+    /// may have only the second.
     ghost lacks_room: { FileSeen → Option (List ℕ) → FileChange → QuotaValue → ℕ → ℕ → Type 0 };
 
     /// What a change of a file that is seen so, and has this name, makes of the files, as far as its format says more than which

@@ -39,8 +39,8 @@ impl From<AllocError> for LoadFault {
     }
 }
 
-/// Reads a whole file, of at most `most` bytes. Each 1,024 of its bytes are read once at most, also
-/// where it is refused.
+/// Reads a whole file, of at most `most` bytes. Every 1,024 of its bytes are read once at most, even where it is
+/// refused.
 ///
 /// # Errors
 ///

@@ -14,7 +14,7 @@ use Rattle.run_steps.proofs.MeaningLemmas.{looks_same, passed_sure}
 use Rattle.run_steps.proofs.PartLemmas.{part_of_end}
 use Rattle.run_steps.proofs.RoomLemmas.{unless_full}
 
--- what was done in part is a first part of the acts of every effect, but for a refusal for want of room
+-- what was done in part is a first part of the acts of every effect, except for a refusal for lack of room
 pub part_of_effect : (rooms : Bool) (setting : Setting) (tells : RunTells) (old new : RunSeen) (acts : List Act) (to : Outside) (ended : ℕ) → LooksFirstBy rooms true true (steps_asked setting)
     → IsDoneInPart (steps_asked setting) tells old new → (effect : Effect setting (outside_of old) acts to ended) → UnlessFull rooms effect.refusal (AreDoneInPart tells acts old new)
 part_of_effect rooms setting tells old new acts to ended looks part effect =

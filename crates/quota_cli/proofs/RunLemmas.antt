@@ -110,7 +110,7 @@ nothing_left : (setting : Setting) (tells : RunTells) (refusal : Option Refusal)
 nothing_left setting tells None old new status has ended reads zero uses = to_end (steps_asked setting) (outside_of old) has.acts (outside_of new) (reads uses) has.by_steps
 nothing_left setting tells (Some refusal) old new status has ended reads zero uses = absurd (no_status_0 refusal.cause (sym ended ∙ zero))
 
--- so many datagrams were taken as steps that passed receive
+-- as many datagrams were taken as steps that passed receive
 taken_so : (setting : Setting) (tells : RunTells) (refusal : Option Refusal) (old new : RunSeen) (status : ℕ) → HasSteps (steps_asked setting) tells refusal old new → status ≡ end_status refusal
     → (count : ℕ) → Receives count (steps_asked setting) → status ≡ 0 → AreReceived count old.link.left new.link.left
 taken_so setting tells None old new status has ended count receives zero = received count (steps_asked setting) (outside_of old) has.acts (outside_of new) receives has.by_steps
@@ -166,12 +166,12 @@ line_since : (old new said : SinkSeen) (bytes : List ℕ) → new ≡ old → Ap
     → AppendsUnless (Rose old.faults said.faults) old.written said.written bytes
 line_since old new said bytes same written = subst (λ (s : SinkSeen). AppendsUnless (Rose s.faults said.faults) s.written said.written bytes) same written
 
--- a status that is neither that of a fault nor that of want of memory
+-- a status that is neither that of a fault nor that of lack of memory
 stopped_not : (status other : ℕ) → status ≡ other → other ≢ 4 → other ≢ 5 → (status ≡ 4) ⊎ (status ≡ 5) → ⊥
 stopped_not status other is not_4 not_5 (inl four) = not_4 (sym is ∙ four)
 stopped_not status other is not_4 not_5 (inr five) = not_5 (sym is ∙ five)
 
--- a status that is that of a fault or of want of memory is that of the cause
+-- a status that is that of a fault or of lack of memory is that of the cause
 stops_it : (status other : ℕ) → status ≡ other → (status ≡ 4) ⊎ (status ≡ 5) → (other ≡ 4) ⊎ (other ≡ 5)
 stops_it status other is (inl four) = inl (sym is ∙ four)
 stops_it status other is (inr five) = inr (sym is ∙ five)
@@ -257,7 +257,7 @@ run_later setting tells old new said result status carries finished = record {
   link = carries.later.link;
 }
 
--- the refusal of a faulty word, or want of memory
+-- the refusal of a faulty word, or lack of memory
 run_words : (setting : Setting) (tells : RunTells) (old new : RunSeen) (said : SinkSeen) (result : Result (Unit {0}) Refusal) (status : ℕ) (refusal : Refusal)
     → AskedCarried setting tells old new result → IsFinished tells new.err said result status
     → new.err ≡ old.err → IsErrAnd result (λ (answered : Refusal). (answered ≡ refusal) ⊎ (answered.cause ≡ Memory))
@@ -303,7 +303,7 @@ run_synced (Ok value) status old new is syncs so = syncs.synced (inl refl)
 run_synced (Err refusal) status old new is syncs (inl zero) = absurd (no_status_0 refusal.cause (sym is ∙ zero))
 run_synced (Err refusal) status old new is syncs (inr none) = syncs.synced (inr none)
 
--- what holds where memory was wanting holds with status 5
+-- what holds where there was not enough memory holds with status 5
 run_untaken : (same : Type 0) (result : Result (Unit {0}) Refusal) (status : ℕ) → status ≡ end_status (result_err result)
     → IfErr result (λ (refusal : Refusal). status_of refusal.cause ≡ 5 → same) → status ≡ 5 → same
 run_untaken same (Ok value) status is kept five = absurd (omega (arith, is, five))

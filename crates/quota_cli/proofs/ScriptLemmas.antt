@@ -72,7 +72,7 @@ lines_ascend PastNext least number is = tt
 pub script_ascends : (bytes : List ℕ) → Ascends 0 (script_said bytes).lines
 script_ascends bytes = lines_ascend (input_lines 4096 16777216 bytes) 0 1 (omega arith)
 
--- The lines that were come to.
+-- The lines that were reached.
 
 up_to : (place : Option ℕ) (now : ℕ) (line : LineSaid) (lines : List LineSaid) (tells : RunTells) (old new : RunSeen) (refusal : Refusal) → refusal.place.line ≡ place → Ascends line.number lines
     → (IsSome place → IsOfLines now lines tells old new refusal) → is_up_to place line.number ≡ true
@@ -80,7 +80,7 @@ up_to None now line lines tells old new refusal named ascends one = refl
 up_to (Some number) now line lines tells old new refusal named ascends one =
     let more = above now line.number number lines tells old new refusal named ascends (one refl) in le-leb line.number number (omega (arith, more))
 
--- a line is come to where the ones behind it were carried out
+-- a line is reached where the ones behind it were carried out
 come_to : (now : ℕ) (line : LineSaid) (lines : List LineSaid) (tells : RunTells) (old new : RunSeen) (result : Result (Unit {0}) Refusal) → Ascends line.number lines
     → IfErr result (λ (refusal : Refusal). IsSome refusal.place.line → IsOfLines now lines tells old new refusal) → is_come_to (result_err result) line ≡ true
 come_to now line lines tells old new (Ok value) ascends one = refl
@@ -139,7 +139,7 @@ own_reason (LongLine line) name tells old may stated fact = fact
 own_reason TooLarge name tells old may stated fact = fact
 own_reason _ name tells old may stated fact = absurd may
 
--- nor does it stop the script as a fault or want of memory does
+-- nor does it stop the script as a fault or lack of memory does
 own_no_stop : (cause : Cause) (name : List ℕ) → ScriptMayRefuse cause name → StopsIt cause → ⊥
 own_no_stop (BadLine line) name may (inl is) = omega (arith, is)
 own_no_stop (BadLine line) name may (inr is) = omega (arith, is)
@@ -234,7 +234,7 @@ as_many : (most : Option ℕ) (writes : ℕ) → IfSome most (λ (m : ℕ). writ
 as_many None writes = tt
 as_many (Some m) writes = omega arith
 
--- memory was wanting for the words of a line
+-- there was not enough memory for the words of a line
 pub text_wanting : (text : List ℕ) (invocation : Invocation) (tells : RunTells) (old : RunSeen) → IsCarriedOut (asked_in_script text) invocation tells old old (Err (refusal_of Memory []))
 text_wanting text invocation tells old =
     let asked = asked_in_script text in
@@ -268,7 +268,7 @@ script_taken : (refusal : Option Refusal) (old left : List ℕ) → IsBehind old
 script_taken None old left behind ended = record { taken = behind.0; behind = behind.1; all = λ all. ended refl }
 script_taken (Some refusal) old left behind ended = record { taken = behind.0; behind = behind.1; all = λ all. absurd (false≢true all) }
 
--- what follows for each line follows for the one that was come to
+-- what follows for each line follows for the one that was reached
 comes_to_weaker : (one other : LineSaid → RunSeen → Type 0) (now : ℕ) (lines : List LineSaid) (tells : RunTells) (old : RunSeen) → ((line : LineSaid) (before : RunSeen) → one line before → other line before)
     → ComesTo one now lines tells old → ComesTo other now lines tells old
 comes_to_weaker one other now [] tells old so at = absurd at

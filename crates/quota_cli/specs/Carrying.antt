@@ -27,7 +27,7 @@ Ascends least (line ∷ lines) = (least < line.number) × Ascends line.number li
 
 -- Lines were carried out one after another, with the refusal of the script behind the last one, if there is one. A refusal that stands
 -- in a line is that of the one of these lines that was at hand, and one that stands in none is the script's own. What the lines wrote has
--- been synced, unless a call on the store failed and a line was refused; and the link is as it was where no line that was come to uses it.
+-- been synced, unless a call on the store failed and a line was refused; and the link is as it was where no line that was reached uses it.
 pub record AreCarried (now : ℕ) (lines : List LineSaid) (refusal : Option Refusal) (tells : RunTells) (old new : RunSeen) (result : Result (Unit {0}) Refusal) : Type 0 where
   pub carries : CarriesOut (LinesSteps now lines refusal) script_uses RunningMayRefuse tells old new result
   pub synced : IsTrue tells.store → Syncs (is_ok result) old.store new.store

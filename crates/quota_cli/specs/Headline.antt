@@ -47,7 +47,7 @@ Effect setting = HasEffectOf (steps_asked setting)
 
 -- The headline: there are acts that with the status are the effect of the words, and they were done: the output and the
 -- error output got exactly their bytes, the link was started exactly as they say and sent their answers, and the files follow. With
--- status 0 nothing is left of an input that is used, and so many datagrams were taken as the steps receive, the first ones. Where an
+-- status 0 nothing is left of an input that is used, and as many datagrams were taken as the steps receive, the first ones. Where an
 -- edit was refused since its file is full, that file has no room for the edit as the store has it at the end.
 pub record HasEffect (setting : Setting) (tells : RunTells) (old new : RunSeen) (status : ℕ) : Type 0 where
   pub acts : List Act
@@ -74,10 +74,10 @@ pub record IsPlaced (setting : Setting) (tells : RunTells) (old new : RunSeen) (
   pub by_uses : IsPlacedBy (uses_asked setting) refusal
   pub in_script : IsTrue (uses_asked setting).reads_commands → StandsInScript setting.invocation.now tells old new refusal
 
--- With status 4 or 5 the run was stopped by a fault or for want of memory, and the error output got the line that says
--- which. Before that line the steps of the command had begun, and of the act that was at hand a part may have been done. Before
--- it nothing was said, unless the command warns. The link is said to have failed only where not all was done with it. Of a script, what
--- stopped it outside of its lines came before the first of them, when nothing had been done but that the input was read.
+-- With status 4 or 5 the run was stopped by a fault or for lack of memory, and the error output got the line that says which. Before
+-- that line the steps of the command had begun, and of the act that was at hand a part may have been done. Before it nothing was said,
+-- unless the command warns. The link is said to have failed only where not all was done with it. Of a script, what stopped it outside
+-- of its lines came before the first of them, when nothing had been done but that the input was read.
 pub record IsStopped (setting : Setting) (tells : RunTells) (old new : RunSeen) (status : ℕ) : Type 0 where
   pub refusal : Refusal
   pub before : RunSeen
@@ -107,7 +107,7 @@ pub record IsRefusedRun (setting : Setting) (tells : RunTells) (old new : RunSee
   pub line : IsTrue tells.err → AppendsUnless (Rose before.faults new.err.faults) before.written new.err.written
       (error_line refusal)
 
--- What the program says, whatever is told of all else: with status 0 nothing but warnings, and else one error line.
+-- What the program says, whatever is told of all else: with status 0 nothing but warnings, and otherwise one error line.
 abbrev pub HasSaid : Setting → RunTells → RunSeen → RunSeen → ℕ → Type 0
 HasSaid setting tells old new status =
     ((status ≡ 0) × ((uses_asked setting).warns ≡ false → IsTrue tells.err → new.err.written ≡ old.err.written))
@@ -119,7 +119,7 @@ pub record IsRefusedWord (setting : Setting) (tells : RunTells) (old new : RunSe
   pub line : IsTrue tells.err → AppendsUnless (Rose old.err.faults new.err.faults) old.err.written new.err.written
       (error_line refusal)
 
--- A run has said a refusal, or none, and the link is as it was where nothing that was come to up to that refusal uses it; this is known
+-- A run has said a refusal, or none, and the link is as it was where nothing that was reached up to that refusal uses it; this is known
 -- where the input tells.
 pub record LeavesLink (setting : Setting) (tells : RunTells) (old new : RunSeen) (status : ℕ) : Type 0 where
   pub refusal : Option Refusal
@@ -134,17 +134,17 @@ pub record Keeps (setting : Setting) (tells : RunTells) (old new : RunSeen) (sta
   -- A status other than 4 and 5 is that of the effect, of which everything was done, except that the error output may have
   -- failed while the error line was written.
   pub done : IsWorldTold tells → status ≢ 4 → status ≢ 5 → HasEffectUpToErr setting tells old new status
-  -- With status 4 or 5 the run was stopped by a fault or for want of memory, and says which. Before that its steps had begun; the
+  -- With status 4 or 5 the run was stopped by a fault or for lack of memory, and says which. Before that its steps had begun; the
   -- act that was at hand may have been done in part.
   pub stopped : (status ≡ 4) ⊎ (status ≡ 5) → IsStopped setting tells old new status
-  -- Whatever the status, the steps have begun: so many acts were done, of the one at hand at most a part, and nothing that no
+  -- Whatever the status, the steps have begun: some acts were done, of the one at hand at most a part, and nothing that no
   -- step does, the error output left aside.
   pub part : IsWorldTold tells → IsDoneInPart (steps_asked setting) (record tells { err = false }) old new
-  -- Where no step is refused, whatever is chosen, and nothing outside failed, the status is 0, unless memory is wanting.
+  -- Where no step is refused, whatever is chosen, and nothing outside failed, the status is 0, unless memory runs out.
   pub complete : IsWorldTold tells → IsSure (steps_asked setting) (outside_of old) → NoFault old new → (status ≡ 0) ⊎ (status ≡ 5)
   -- Status 2 comes exactly where the words ask for nothing, unless they ask for commands to be read.
   pub usage : (uses_asked setting).reads_commands ≡ false → (status ≡ 2) ↔ IsErr (command_of false setting.words)
-  -- Where a word is faulty, the first such word is refused, whatever is told, unless memory is wanting.
+  -- Where a word is faulty, the first such word is refused, whatever is told, unless memory runs out.
   pub words : (refusal : Refusal) → (asked setting).faulty ≡ Some refusal
       → IsRefusedWord setting tells old new status refusal ⊎ (status ≡ 5)
   -- Whatever is told, status 0 says nothing but warnings, and any other one is that of a cause whose error line went out.
@@ -161,8 +161,8 @@ pub record Keeps (setting : Setting) (tells : RunTells) (old new : RunSeen) (sta
   pub edited : IfSome (asked setting).edits (λ (file : List ℕ). IsTrue tells.store
       → IsLeftByEdit status old.store.files new.store.files file)
   -- Whatever is told, and with any status, no other file has changed than the only one that the command changes, and there were no more
-  -- calls of `write` to the store than it makes: twelve at most where it edits a file once. What many edits come to is said of the acts in
-  -- `part`: twelve for each one that was done, and twelve for the one at hand.
+  -- calls of `write` to the store than it makes: twelve at most where it edits a file once. What many edits add up to is said of the acts
+  -- in `part`: twelve for each one that was done, and twelve for the one at hand.
   pub within : ChangesWithin (asked setting) old.store new.store
   -- With status 0 there were no more calls of `read` to the store than the command makes, where that is said: of `rquotad` those of
   -- opening each file, and five for each datagram; of `setquota -b` without a file of names and out of the standard input those of
@@ -177,7 +177,7 @@ pub record Keeps (setting : Setting) (tells : RunTells) (old new : RunSeen) (sta
   pub synced : (status ≡ 0) ⊎ (¬ Rose old.store.faults new.store.faults) → IsTrue tells.store → AreSynced old.store new.store
   -- With status 5 nothing was done with the link: no datagram was taken. This is said of words that ask for no commands to be read.
   pub untaken : (uses_asked setting).reads_commands ≡ false → status ≡ 5 → new.link ≡ old.link
-  -- The link is as it was where nothing that was come to uses it, up to the refusal that was said.
+  -- The link is as it was where nothing that was reached uses it, up to the refusal that was said.
   pub unlinked : LeavesLink setting tells old new status
   -- No count of faults falls.
   pub later : IsLater old new

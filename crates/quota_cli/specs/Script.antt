@@ -24,8 +24,8 @@ use Rattle.command_table.specs.Table.{asked_by, described}
 
 -- Lines.
 
--- What the words of a line ask for: in a script there is no other script, and what reads an input has to name it. Memory may be
--- wanting for the words of a line, whatever they ask for.
+-- What the words of a line ask for: in a script there is no other script, and what reads an input has to name it. There may not
+-- be enough memory for the words of a line, whatever they ask for.
 abbrev pub asked_in_script : (text : List ℕ) → Description
 asked_in_script text =
     let command = asked_by described (command_of true (words_of text)) in
@@ -56,7 +56,7 @@ ScriptSteps invocation =
 abbrev pub script_uses : Uses
 script_uses = record { input = true; out = true; link = true; changes = true; all_or_nothing = false; warns = true; reads_commands = true; reads_edits = true }
 
--- The causes for which a script may be refused, whatever is told, with the name that is said: the input fails, memory is wanting, the
+-- The causes for which a script may be refused, whatever is told, with the name that is said: the input fails, memory runs out, the
 -- script itself is refused, or what words in a line ask for is.
 abbrev pub RunningMayRefuse : Cause → List ℕ → Type 0
 RunningMayRefuse cause name =
@@ -69,7 +69,7 @@ pub record IsLineDone (now : ℕ) (line : LineSaid) (tells : RunTells) (old new 
   pub unlinked : (asked_in_script line.text).uses.link ≡ false → new.link ≡ old.link
   pub later : IsLater old new
 
--- One of the lines was come to, once those before it were carried out, and this holds of it and of what they left.
+-- One of the lines was reached, once those before it were carried out, and this holds of it and of what they left.
 abbrev pub ComesTo : (holds : LineSaid → RunSeen → Type 0) → (now : ℕ) → List LineSaid → RunTells → RunSeen → Type 0
 ComesTo holds now [] tells old = ⊥
 ComesTo holds now (line ∷ lines) tells old = holds line old ⊎ ((middle : RunSeen) × IsLineDone now line tells old middle × ComesTo holds now lines tells middle)
@@ -96,12 +96,12 @@ abbrev pub is_up_to : Option ℕ → (number : ℕ) → Bool
 is_up_to None number = true
 is_up_to (Some last) number = nat_le number last
 
--- a line is come to by a script that ends with this refusal, or with none: it is not behind the line in which the refusal stands
+-- a line is reached by a script that ends with this refusal, or with none: it is not behind the line in which the refusal stands
 abbrev pub is_come_to : Option Refusal → LineSaid → Bool
 is_come_to None line = true
 is_come_to (Some refusal) line = is_up_to refusal.place.line line.number
 
--- one of these lines is come to and uses the link
+-- one of these lines is reached and uses the link
 abbrev pub comes_to_link : List LineSaid → Option Refusal → Bool
 comes_to_link lines refusal = list_any (λ (line : LineSaid). is_come_to refusal line && (asked_in_script line.text).uses.link) lines
 

@@ -19,7 +19,7 @@ ghost use Rattle.run_steps.specs.Run.{IsDoneInPart};
 
 /// What a run of one command has done in part is a first part of the acts of every effect of its words, whatever such an effect
 /// chooses, and of every way in which its steps end, the error line left out. Where the command reads edits, that is said of all but
-/// those that are refused for want of room.
+/// those that are refused for lack of room.
 pub fn a_run_does_a_first_part_of_every_effect()
     ensures steps { (setting : Setting) (tells : RunTells) (old new : RunSeen) (acts : List Act) (to : Outside) (refusal : Option Refusal)
         → (uses_asked setting).reads_commands ≡ false → IsDoneInPart (steps_asked setting) tells old new → EndsBy (steps_asked setting) (outside_of old) acts to refusal

@@ -23,8 +23,8 @@ use std::alloc::Global;
 
 /// Carries out the command that the words ask for, and answers the status with which the program ends: 0 done,
 /// 1 refused by the command, 2 the words are outside the grammar, 3 the file is no quota file of the kind and format, or
-/// damaged, 4 a fault of the store, the input, the output or the link, 5 want of memory. With a status other than 0 one
-/// error line goes to `err`.
+/// damaged, 4 a fault of the store, the input, the output or the link, 5 not enough memory. With a status other than 0
+/// one error line goes to `err`.
 ///
 /// `words` are the words of the command line without the program's own name, and `now` is in seconds since 1970.
 pub fn run<S: Store, I: Source, O: Sink, E: Sink, L: Link>(

@@ -34,7 +34,7 @@ same_format (Put id rec) value = refl
 same_format (Remove id) value = refl
 same_format (SetGrace grace) value = refl
 
--- a flat file wants no blocks
+-- a flat file needs no blocks
 never_lacks : (file : Option (List ℕ)) (value : QuotaValue) (format : Format) (blocks limit : ℕ) → format ≡ Flat → blocks ≡ blocks_wanted format file (ids_in value.records) → ¬ (limit < blocks)
 never_lacks file value format blocks limit is needs passes =
     let none : blocks ≡ 0 = needs ∙ ap (λ (f : Format). blocks_wanted f file (ids_in value.records)) is in

@@ -90,7 +90,7 @@ view_or_refused named kind (Some V1) value fault seen refused = seen_or_refused 
 view_or_refused named kind (Some V2R0) value fault seen refused = tree_seen_or_refused named kind (Some V2R0) most_blocks value fault seen refused
 view_or_refused named kind (Some V2R1) value fault seen refused = tree_seen_or_refused named kind (Some V2R1) most_blocks value fault seen refused
 
--- a fault of the store, or want of memory
+-- a fault of the store, or lack of memory
 abbrev pub IsOfCall : OpenFault → Type 0
 IsOfCall Store = ⊤
 IsOfCall Memory = ⊤
@@ -122,7 +122,7 @@ flat_fault_seen before now tells named kind BadBlockCount cause told own = absur
 flat_fault_seen before now tells named kind (FormatMismatch found) cause told own = absurd cause
 flat_fault_seen before now tells named kind (Damaged damage) cause told own = cause.1 told
 
--- a refusal is seen of a file that is told, but for a fault of the store and want of memory
+-- a refusal is seen of a file that is told, except for a fault of the store and lack of memory
 pub fault_seen : (before now : ℕ) (tells : Bool) (named : Option (List ℕ)) (kind : Kind) (asked : Option Format) (fault : OpenFault)
     → IsOpenFault before now tells named kind asked fault → IsTrue tells → (IsOfCall fault → ⊥) → IsView named kind asked (Err fault)
 fault_seen before now tells named kind None fault cause told own = tree_fault_seen before now tells named kind None most_blocks fault cause told own

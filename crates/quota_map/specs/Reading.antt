@@ -3,7 +3,7 @@ use Rattle.std.specs.Prelude.{Option, None, Some}
 use Rattle.quota_blocks.specs.declared.quota_file.FileFault.{FileFault}
 use Rattle.quota_blocks.specs.declared.quota_file.FileFault.TheVariants.{Store, Damage, Full, Memory}
 
--- the fault of the opened file, where there was one: want of memory for the list is none
+-- the fault of the opened file, where there was one: running out of memory for the list is none
 abbrev pub file_refusal : FileFault → Option FileFault
 file_refusal Store = Some Store
 file_refusal (Damage damage) = Some (Damage damage)

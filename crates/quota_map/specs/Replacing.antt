@@ -41,8 +41,8 @@ IsPlain V1 grace ids file = HasTimes grace file × IsZeroElsewhere ids file
 IsPlain V2R0 grace ids file = HasOneRoom V2R0 file (blocks_needed V2R0 ids) × HasNoPadding V2R0 file (blocks_needed V2R0 ids)
 IsPlain V2R1 grace ids file = HasOneRoom V2R1 file (blocks_needed V2R1 ids) × HasNoPadding V2R1 file (blocks_needed V2R1 ids)
 
--- The named file is a new one of so many bytes, which stands for the value of these entries and has nothing beside it. All
--- other files are as before, but that none is left under the name that the new file was written under.
+-- The named file is a new one of this many bytes, which stands for the value of these entries and has nothing beside it.
+-- All other files are as before, but that none is left under the name that the new file was written under.
 pub record IsReplacedBy (name : List ℕ) (value : QuotaValue) (ids : List ℕ) (size : ℕ) (old new : World) : Type 0 where
   pub bytes : List ℕ
   pub files : new ≡ replaced_files old name bytes
@@ -51,13 +51,13 @@ pub record IsReplacedBy (name : List ℕ) (value : QuotaValue) (ids : List ℕ) 
   pub long : length bytes ≡ size
 
 -- A file was not replaced since it would need more blocks than it may have, or, where it would not, since the store's count
--- of faults rose, or for want of memory.
+-- of faults rose, or for lack of memory.
 abbrev pub IsReplaceFileFault : (before now needed most : ℕ) → ReplaceFault → Type 0
 IsReplaceFileFault before now needed most Store = Rose before now × (needed ≤ most)
 IsReplaceFileFault before now needed most (Full blocks limit) = (most < needed) × (blocks ≡ needed) × (limit ≡ most)
 IsReplaceFileFault before now needed most Memory = ⊤
 
--- a fact where room or memory was wanting
+-- a fact where there was not enough room or memory
 abbrev pub UnlessStore : ReplaceFault → Type 0 → Type 0
 UnlessStore Store P = ⊤
 UnlessStore (Full _ _) P = P

@@ -1,5 +1,5 @@
--- What is seen of a quota file by whoever opens it: as a flat file exactly where that format is asked for, and else as a tree
--- file. Source: quotaon(8) and setquota(8) on formats, of which only vfsold has no magic number.
+-- What is seen of a quota file by whoever opens it: as a flat file exactly where that format is asked for, and otherwise as a
+-- tree file. Source: quotaon(8) and setquota(8) on formats, of which only vfsold has no magic number.
 use Rattle.std.specs.Prelude.{◌≡◌, ℕ, Bool, true, false, List, ◌+◌, ◌*◌, Option, Some, None, Result}
 use Rattle.quota_types.specs.Format.{IsTreeFormat, is_flat}
 use Rattle.quota_types.specs.declared.file_kind.Format.{Format}
@@ -50,7 +50,7 @@ abbrev pub IsOpenedAs : Option Format → Format → Type 0
 IsOpenedAs None format = IsTreeFormat format
 IsOpenedAs (Some wanted) format = format ≡ wanted
 
--- how many calls of `read` the opening of a file of these bytes makes at most, also where it is refused, by the format that was
+-- how many calls of `read` the opening of a file of these bytes makes at most, even where it is refused, by the format that was
 -- asked for: one of a flat file, and of a tree file one, and two for each block that its header states
 abbrev pub opening_reads : Option Format → List ℕ → ℕ
 opening_reads None bytes = 1 + 2 * (header_of bytes).blocks

@@ -15,8 +15,8 @@ use tree_file::open_tree;
 pub const MOST_BLOCKS: u32 = 1_048_576;
 
 /// Opens a quota file of the kind: as a flat file, which has no mark of its kind, exactly where that format is asked for, and
-/// else as a tree file of the format that is asked for, where one is. Of a flat file its length and the times of record 0 are
-/// kept; of a tree file its header, once each block was read and the whole found sound.
+/// otherwise as a tree file of the format that is asked for, where one is. Of a flat file its length and the times of record
+/// 0 are kept; of a tree file its header, once each block was read and the whole found sound.
 ///
 /// # Errors
 ///

@@ -13,7 +13,7 @@ use Rattle.quota_pages.specs.Used.{LendsSome, LooksAtSome, Uses, missing, missin
 use Rattle.quota_pages.specs.declared.page_buffer.Pages.{Pages}
 use Rattle.quota_pages.proofs.UsedLemmas.{missing-absent, missing-few, missing-stay, missing-there, only_reads-both}
 
--- what looked at pages used so many
+-- what looked at pages used that many
 pub uses_of_looks : {tells ok : Bool} {count : ℕ} {before now : StoreSeen} {old new : Pages} → LooksAtSome tells ok count before now old new → Uses tells ok count before now old new
 uses_of_looks looks = record { name = looks.name; few = looks.few; stay = looks.stay; known = looks.known; leaves = looks.leaves; reads = looks.reads }
 

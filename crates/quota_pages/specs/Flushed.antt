@@ -6,8 +6,8 @@ use Rattle.outside.specs.Unsynced.{Names, with_name}
 use Rattle.outside.specs.World.{World, with_file}
 use Rattle.quota_pages.specs.Page.{Page, is_some_lent, shown}
 
--- The files once the named one has what pages show over it. Where no page was lent for writing nothing changes; a file
--- that was not there is else made.
+-- The files once the named one has what pages show over it. Where no page was lent for writing nothing changes;
+-- otherwise a file that was not there is made.
 unfoldable pub flushed_files : World → List ℕ → List Page → World
 flushed_files files name pages =
     if is_some_lent pages then with_file files name (Some (shown pages (file_of files name))) else files
@@ -21,7 +21,7 @@ pub record IsPartlyFlushed (name : List ℕ) (pages : List Page) (old new : Worl
   pub count : ℕ
   pub files : new ≡ flushed_files old name (take count pages)
 
--- a count after so many more
+-- a count after this many more
 abbrev pub counted_by : ℕ → ℕ → ℕ
 counted_by count zero = count
 counted_by count (suc more) = counted (counted_by count more)

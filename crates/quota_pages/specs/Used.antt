@@ -33,7 +33,7 @@ unfoldable pub missing_among : List Page → List ℕ → ℕ
 missing_among pages [] = 0
 missing_among pages (number ∷ numbers) = missing pages number + missing_among pages numbers
 
--- So many pages were used, at most, whether they were looked at or lent: the name and what was buffered stay, what was known
+-- At most this many pages were used, whether they were looked at or lent: the name and what was buffered stay, what was known
 -- still is, no file changed, and where it was done no name is unsynced that was not. It is said beside what is shown then.
 pub record Uses (tells ok : Bool) (count : ℕ) (before now : StoreSeen) (old new : Pages) : Type 0 where
   pub name : name_of new ≡ name_of old
@@ -43,8 +43,8 @@ pub record Uses (tells ok : Bool) (count : ℕ) (before now : StoreSeen) (old ne
   pub leaves : OnlyReads ok (name_of old) before now
   pub reads : now.reads ≤ before.reads + count
 
--- So many pages were looked at, at most: the name and what was buffered stay, and so does what the buffer shows, over any file,
--- and each file over which it is clean now is one over which it was clean; no further page was lent for writing, no file
+-- At most this many pages were looked at: the name and what was buffered stay, and so does what the buffer shows, over any
+-- file, and each file over which it is clean now is one over which it was clean; no further page was lent for writing, no file
 -- changed, and where it was done no name is unsynced that was not.
 pub record LooksAtSome (tells ok : Bool) (count : ℕ) (before now : StoreSeen) (old new : Pages) : Type 0 where
   pub name : name_of new ≡ name_of old
@@ -65,9 +65,9 @@ pub record KeepsBlocksBut (numbers : List ℕ) (old new : List ℕ) : Type 0 whe
   pub longer : length old ≤ length new
   pub within : (blocks : ℕ) → ((number : ℕ) → StandsIn numbers number → number < blocks) → length new ≤ max (length old) (1024 * blocks)
 
--- Pages of no blocks but those of a list were lent for writing, and so many were read, at most: the name and what was buffered
--- stay, and so does what the buffer shows of other blocks, over any file; a page that was lent before still is, no file
--- changed, and where it was done no name is unsynced that was not.
+-- Pages of no blocks but those of a list were lent for writing, and at most this many were read: the name and what was
+-- buffered stay, and so does what the buffer shows of other blocks, over any file; a page that was lent before still is, no
+-- file changed, and where it was done no name is unsynced that was not.
 pub record LendsSome (tells ok : Bool) (count : ℕ) (numbers : List ℕ) (before now : StoreSeen) (old new : Pages) : Type 0 where
   pub name : name_of new ≡ name_of old
   pub few : length (pages_of new) ≤ length (pages_of old) + count

@@ -13,7 +13,7 @@ use Rattle.quota_radix.specs.Tree.{steps}
 use Rattle.quota_types.proofs.TimesLemmas.{times-cons-same}
 use Rattle.quota_radix.proofs.StepLemmas.{none_by, none_of_zeros, path_by, step_cases, steps_all, steps_from, steps_more, word_in}
 
--- the paths that go on come to blocks, and have one more digit
+-- the paths that go on lead to blocks, and have one more digit
 pub steps_within : (words : ℕ → ℕ) (blocks bound : ℕ) (path : TreePath) (first count : ℕ) → path.number < bound → first + count ≤ 256
     → AreWithin blocks (256 * bound) (steps_from words blocks path first count)
 steps_within words blocks bound path first zero low few = All-nil (λ (p : TreePath). (p.number < 256 * bound) × IsTrue (leads blocks p.block))
@@ -60,7 +60,7 @@ module _ (file block : List ℕ) (blocks : ℕ) (path : TreePath) (old new : Lis
     no_id = refl;
   }
 
--- all paths that are there then come to blocks, and have one more digit
+-- all paths that are there then lead to blocks, and have one more digit
 pub all_within : (words : ℕ → ℕ) (blocks bound : ℕ) (path : TreePath) (old new : List TreePath) (count : ℕ) → count ≤ 256
     → new ≡ old ++ steps_from words blocks path 0 count → path.number < bound → AreWithin blocks (256 * bound) old → AreWithin blocks (256 * bound) new
 all_within words blocks bound path old new count few added low before =

@@ -41,7 +41,7 @@ step_there file blocks path digit =
     let next : TreePath = record { number = 256 * path.number + digit; block = word_at file path.block digit } in
     elim (leads blocks (word_at file path.block digit)) as (λ (b : Bool). (cond b (Some next) None ≡ Some next) ⊎ (cond b (Some next) None ≡ None)) [ true ↦ inl refl | false ↦ inr refl ]
 
--- the step by one digit, among those by so many
+-- the step by one digit, among those by `count` digits
 find_step : (file : List ℕ) (blocks : ℕ) (path : TreePath) (digit first count : ℕ) → first ≤ digit → digit < first + count
     → find (is_number (256 * path.number + digit)) (filter_map (step file blocks path) (range_with_len first count)) ≡ step file blocks path digit
 find_step file blocks path digit first zero from to = absurd (omega arith)

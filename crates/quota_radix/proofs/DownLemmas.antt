@@ -41,7 +41,7 @@ abbrev pub blocks_above : List ℕ → ℕ → ℕ → List ℕ
 blocks_above file blocks zero = []
 blocks_above file blocks (suc digits) = blocks_above file blocks digits ++ level file blocks digits
 
--- these paths are those of so many digits, and the levels above are marked and whole
+-- these paths are those of this many digits, and the levels above are marked and whole
 pub record IsDown (file : List ℕ) (blocks digits : ℕ) (flags now : List Bool) (found : List TreePath) : Type 0 where
   pub is : found ≡ paths file blocks digits
   pub marked : (numbers : List ℕ) → AreFlagsOf blocks flags numbers → AreFlagsOf blocks now (numbers ++ blocks_above file blocks digits)

@@ -22,7 +22,7 @@ use Rattle.quota_radix.proofs.DownLemmas.{blocks_above, times_above, times_in_tr
 use Rattle.quota_radix.proofs.WayLemmas.{found_stands}
 use Rattle.quota_radix.proofs.LinkStepLemmas.{Gains, GainsRef, Rises_split, SplitsAt, found_splits, onward_gains, onward_more, onward_same, times_gained, with_path_gained}
 
--- the number that the first digits of an identifier make, so many of them
+-- the number that the first digits of an identifier make, this many of them
 abbrev pub front_of : ℕ → ℕ → ℕ
 front_of id digits = id / 256 ^ (4 - digits)
 
@@ -94,7 +94,7 @@ two_levels file blocks block one two ne few few' = elim (cases_lt one two) [
   | inr below ↦ omega (arith, level_above file blocks block two one (omega arith), times_above file blocks one block few)
 ]
 
--- the blocks to which the paths of less than four digits come are those of the tree
+-- the blocks to which the paths of fewer than four digits lead are those of the tree
 pub level_in_tree : (file : List ℕ) (blocks digits block : ℕ) → digits < 4 → StandsIn (level file blocks digits) block → StandsIn (tree_blocks file blocks) block
 level_in_tree file blocks digits block few stands = omega (arith, stands, times_above file blocks digits block few)
 

@@ -180,7 +180,7 @@ pub steps_same : (old new : List ℕ) (blocks : ℕ) (path : TreePath) → block
 unfolding steps
 steps_same old new blocks path same = ap (λ (bytes : List ℕ). steps_from (word_in bytes) blocks path 0 256) same
 
--- and so do paths that come to none but such blocks
+-- and so do paths that lead to none but such blocks
 pub onward_same : (old new : List ℕ) (blocks : ℕ) (ps : List TreePath) → ((block : ℕ) → StandsIn (blocks_of ps) block → block_of new block ≡ block_of old block)
     → flat_map (steps new blocks) ps ≡ flat_map (steps old blocks) ps
 onward_same old new blocks [] same = refl
@@ -189,7 +189,7 @@ onward_same old new blocks (p ∷ ps) same =
     ∙ ap (λ (qs : List TreePath). steps old blocks p ++ qs)
     (onward_same old new blocks ps (λ block stands. same block (stands_right (p.block ∷ []) (blocks_of ps) block stands)))
 
--- paths, one of which comes to a block with one reference more
+-- paths, one of which leads to a block with one reference more
 pub onward_gains : (old new : List ℕ) (blocks low high digit value : ℕ) (ps qs : List TreePath) (path : TreePath) → Rises low ps path.number → Rises (suc path.number) qs high
     → ((block : ℕ) → StandsIn (blocks_of ps) block → block_of new block ≡ block_of old block)
     → ((block : ℕ) → StandsIn (blocks_of qs) block → block_of new block ≡ block_of old block)
@@ -211,7 +211,7 @@ onward_gains old new blocks low high digit value ps qs path lower greater same_b
     (steps_gained old new blocks digit value path gain)
     (Rises-flat_map old blocks (suc path.number) high qs greater))
 
--- paths of which one more comes to a block that had no reference, and has one
+-- paths of which one more leads to a block that had no reference, and has one
 pub onward_more : (old new : List ℕ) (blocks low high digit value : ℕ) (path : TreePath) (ps qs : List TreePath) → Gains low high path ps qs
     → ((block : ℕ) → StandsIn (blocks_of ps) block → block_of new block ≡ block_of old block)
     → ((other : ℕ) → other < 256 → word_at old path.block other ≡ 0)

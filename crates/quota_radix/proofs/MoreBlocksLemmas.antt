@@ -70,7 +70,7 @@ go_on_among_more old new blocks more (path ∷ ps) fewer keeps =
     ∙ ap (λ (those : List TreePath). steps old blocks path ++ those)
     (go_on_among_more old new blocks more ps fewer (keeps_fewer (map (λ path. path.block) ps) (others_alone path.block (map (λ path. path.block) ps)) keeps))
 
--- the paths of so many digits
+-- the paths of this many digits
 pub paths-among_more : (old new : List ℕ) (blocks more digits : ℕ) → blocks ≤ more → KeepsReferences old new blocks (tree_blocks old blocks) → digits ≤ 4 → paths new more digits ≡ paths old blocks digits
 paths-among_more old new blocks more zero fewer keeps few = refl
 paths-among_more old new blocks more (suc digits) fewer keeps few =
@@ -99,7 +99,7 @@ tree_blocks-among_more old new blocks more fewer keeps =
     ap (λ (blocks' : List ℕ). blocks' ++ lower_blocks new more) (level-among_more old new blocks more 0 fewer keeps (omega arith))
     ∙ ap (λ (blocks' : List ℕ). level old blocks 0 ++ blocks') (lower_blocks-among_more old new blocks more fewer keeps)
 
--- the block to which a number of so many digits leads
+-- the block to which a number of this many digits leads
 led-among_more : (old new : List ℕ) (blocks more digits number : ℕ) → blocks ≤ more → KeepsReferences old new blocks (tree_blocks old blocks) → digits ≤ 4 → number < 256 ^ digits
     → block_led_to new more digits number ≡ block_led_to old blocks digits number
 led-among_more old new blocks more digits number fewer keeps few low =
@@ -107,7 +107,7 @@ led-among_more old new blocks more digits number fewer keeps few low =
     ∙ ap (λ (ps : List TreePath). option_map (λ (path : TreePath). path.block) (find (λ (path : TreePath). path.number == number) ps)) (paths-among_more old new blocks more digits fewer keeps few)
     ∙ sym (path_led_to old blocks digits number low)
 
--- the number that so many digits of an identifier make is one of so many digits
+-- the number that this many digits of an identifier make is one of that many digits
 front_low : (id digits : ℕ) → id < 2 ^ 32 → digits ≤ 4 → front_of id digits < 256 ^ digits
 front_low id digits small few = elim (cases_lt digits 4) [
   | inl fewer ↦ front_small id digits small fewer

@@ -1,4 +1,4 @@
--- The paths of a tree: their numbers ascend, and each comes to a block.
+-- The paths of a tree: their numbers ascend, and each leads to a block.
 use Rattle.std.proofs.Common.{◌≡◌, ℕ, zero, suc, ◌+◌, ◌*◌, ◌^◌, ◌<◌, ◌≤◌, Bool, true, false, cond, ◌==◌, if◌then◌else◌, IsTrue, List, [], ◌∷◌, ◌++◌, Some, None, map, filter, filter_map, flat_map, refl, sym, ap, subst, ◌∙◌, inl, inr, arith, zero-le, pow-suc, length}
 use Rattle.std.specs.List.{cons_option, range_with_len, AllByRecursion}
 use Rattle.std.proofs.lemmas.Bool.{cases_Bool, eq-eqb, le-leb, leb-true}
@@ -104,7 +104,7 @@ Rises-flat_map file blocks low high (p ∷ ps) r =
     (Rises_wider (256 * p.number) (256 * low) (steps file blocks p) _ _ (omega arith) (omega arith) (Rises-steps file blocks p))
     (Rises-flat_map file blocks (suc p.number) high ps r.1)
 
--- the numbers of paths of so many digits ascend, each of so many digits to the base 256
+-- the numbers of paths of this many digits ascend, each of that many digits to the base 256
 pub Rises-paths : (file : List ℕ) (blocks digits : ℕ) → Rises 0 (paths file blocks digits) (256 ^ digits)
 Rises-paths file blocks zero = (zero-le, omega arith)
 Rises-paths file blocks (suc digits) =
@@ -131,7 +131,7 @@ leads-flat_map : (file : List ℕ) (blocks : ℕ) (ps : List TreePath) → AllBy
 leads-flat_map file blocks [] = tt
 leads-flat_map file blocks (p ∷ ps) = each-append (λ (q : TreePath). IsTrue (leads blocks q.block)) (steps file blocks p) (flat_map (steps file blocks) ps) (leads-steps file blocks p) (leads-flat_map file blocks ps)
 
--- a path of some digits comes to a block
+-- a path of some digits leads to a block
 pub paths_lead : (file : List ℕ) (blocks digits : ℕ) → AllByRecursion (λ (path : TreePath). IsTrue (leads blocks path.block)) (paths file blocks (suc digits))
 paths_lead file blocks digits = leads-flat_map file blocks (paths file blocks digits)
 
@@ -160,7 +160,7 @@ data_blocks_within file blocks block stands = elim (cases_Bool (is_data file blo
   | inr other ↦ absurd (omega (arith, stands, times-data_blocks file blocks block, ap {B = ℕ} (λ (b : Bool). if b then 1 else 0) other))
 ]
 
--- an identifier that leads to a block makes it one to which paths come
+-- an identifier that leads to a block makes it one to which paths lead
 stands_of_id : (ps : List TreePath) (block id : ℕ) → StandsIn (ids_at ps block) id → StandsIn (map (λ path. path.block) ps) block
 stands_of_id [] block id stands = absurd (omega arith)
 stands_of_id (p ∷ ps) block id stands = elim (eqb_tells p.block block) [
@@ -201,7 +201,7 @@ leads_itself (p ∷ ps) = (
 pub leaves_lead : (file : List ℕ) (blocks : ℕ) → AllByRecursion (λ (leaf : TreePath). StandsIn (ids_at (leaves file blocks) leaf.block) leaf.number) (leaves file blocks)
 leaves_lead file blocks = leads_itself (leaves file blocks)
 
--- as many identifiers lead to a block as paths come to it
+-- as many identifiers lead to a block as paths do
 pub length_ids : (ps : List TreePath) (block : ℕ) → length (ids_at ps block) ≡ times (map (λ path. path.block) ps) block
 length_ids [] block = refl
 length_ids (p ∷ ps) block = elim (eqb_tells p.block block) [

@@ -22,7 +22,7 @@ path_by word path digit = record { number = 256 * path.number + digit; block = w
 abbrev pub step_by : (ℕ → ℕ) → ℕ → TreePath → ℕ → Option TreePath
 step_by words blocks path digit = if leads blocks (words digit) then Some (path_by (words digit) path digit) else None
 
--- the paths that go on by so many digits from a first one on
+-- the paths that go on by this many digits from a first one on
 abbrev pub steps_from : (ℕ → ℕ) → ℕ → TreePath → ℕ → ℕ → List TreePath
 steps_from words blocks path first count = filter_map (step_by words blocks path) (range_with_len first count)
 

@@ -247,7 +247,7 @@ module _ (old between new way emptied : List ℕ) (blocks id : ℕ) (five : leng
         (ap (λ (numbers : List ℕ). times (numbers ++ get_or way (3 - length emptied) 0 ∷ []) block) clears.answered ∙ not_lowest way (length emptied) block clears.all.few none))
   ]
 
--- nothing stands behind the end of a list
+-- nothing stands past the end of a list
 nothing_behind : (xs : List ℕ) (count k : ℕ) → count ≤ k → slice_get (take count xs) k ≡ None
 nothing_behind xs zero k past = refl
 nothing_behind [] (suc count) k past = refl

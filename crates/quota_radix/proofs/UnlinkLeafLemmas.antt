@@ -54,7 +54,7 @@ blank_of_empty file block empty =
           ]
         ]
 
--- where a whole way was found, so many digits of the identifier lead to each of its blocks
+-- where a whole way was found, the first digits of the identifier lead to each of its blocks
 pub whole_way_led : (file way : List ℕ) (blocks id : ℕ) → way ≡ blocks_on_way file blocks id → length way ≡ 5 → (digits : ℕ) → digits ≤ 4
     → block_led_to file blocks digits (front_of id digits) ≡ Some (get_or way digits 0)
 unfolding block_on_way blocks_on_way
@@ -65,7 +65,7 @@ whole_way_led file way blocks id is five digits few =
     ∙ some_at f 5 (ends_on_way file blocks id) 0 5 digits (omega arith) (omega (arith, few, five, ap (λ (xs : List ℕ). length xs) is))
     ∙ ap (λ (xs : List ℕ). Some (get_or xs digits 0)) (sym is)
 
--- so many first ones of options that are there
+-- the first of some options, this many of them, where those are there
 pub given_first : (f : ℕ → Option ℕ) (way : List ℕ) (count : ℕ) → count ≤ length way → ((k : ℕ) → k < count → f k ≡ Some (get_or way k 0)) → filter_map f (range_with_len 0 count) ≡ take count way
 given_first f way zero few there = refl
 given_first f way (suc count) few there =
@@ -77,7 +77,7 @@ given_first f way (suc count) few there =
     ∙ sym (take_more way count 0 (omega arith))
     ∙ ap (λ (k : ℕ). take k way) (sym next)
 
--- a way that ends behind so many digits has the blocks up to there
+-- a way that ends behind this many digits has the blocks up to there
 pub way_so_far : (file way : List ℕ) (blocks id gone : ℕ) → gone < 4 → length way ≡ 5
     → ((digits : ℕ) → digits ≤ gone → block_led_to file blocks digits (front_of id digits) ≡ Some (get_or way digits 0))
     → block_led_to file blocks (suc gone) (front_of id (suc gone)) ≡ None

@@ -27,7 +27,7 @@ weigh_less : (w v : TreePath → ℕ) (ps : List TreePath) → ((p : TreePath) �
 weigh_less w v [] less = omega arith
 weigh_less w v (p ∷ ps) less = omega (arith, less p, weigh_less w v ps less)
 
--- one of them weighs so much less
+-- one of them weighs that much less
 pub weigh_one : (w v : TreePath → ℕ) (before behind : List TreePath) (path : TreePath) (less : ℕ) → ((p : TreePath) → w p ≤ v p) → w path + less ≤ v path
     → weigh w (before ++ path ∷ behind) + less ≤ weigh v (before ++ path ∷ behind)
 weigh_one w v before behind path less all here =
@@ -40,7 +40,7 @@ weigh_one w v before behind path less all here =
       weigh_less w v behind all,
     )
 
--- how often a block stands among those of paths is what they weigh, where each weighs 1 that comes to it
+-- how often a block stands among those of paths is what they weigh, where each weighs 1 that leads to it
 pub times_weighed : (ps : List TreePath) (block : ℕ) → times (blocks_of ps) block ≡ weigh (λ (p : TreePath). times (p.block ∷ []) block) ps
 times_weighed [] block = refl
 times_weighed (p ∷ ps) block = omega (arith, times-append (p.block ∷ []) (blocks_of ps) block, times_weighed ps block)
@@ -117,7 +117,7 @@ module _ (old new : List ℕ) (blocks : ℕ) (cleared : IsClearedFile old new) w
   onward_lose w v less path digit low none leading =
       steps_lose (word_at old path.block) (word_at new path.block) blocks path w v (cleared path.block) less digit 0 256 (omega arith) (omega arith) none leading
 
-  -- no path of so many digits is one more
+  -- no path of this many digits is one more
   pub paths_less : (digits : ℕ) (w v : TreePath → ℕ) → ((p : TreePath) → w p ≤ v p) → weigh w (paths new blocks digits) ≤ weigh v (paths old blocks digits)
   paths_less zero w v less = omega (arith, less (record { number = 0; block = 1 }))
   paths_less (suc digits) w v less =

@@ -11,8 +11,8 @@ use Rattle.quota_radix.specs.Unlink.{ClearsAlong, lowest_blocks}
 use Rattle.quota_radix.specs.Way.{digit_on_way}
 use Rattle.quota_radix.proofs.UnlinkWordLemmas.{clears_more, empty_more, lowest_more}
 
--- The references of a way were cleared from one on, and pages of these blocks were lent for that; so many of its lowest blocks
--- are empty.
+-- The references of a way were cleared from one on, and pages of these blocks were lent for that; this many of its lowest
+-- blocks are empty.
 pub record IsClearedFrom (first count : ℕ) (numbers : List ℕ) (way : List ℕ) (id : ℕ) (tells : Bool) (before now : StoreSeen) (old new : Pages) : Type 0 where
   pub lends : LendsSome tells true 0 numbers before now old new
   pub words : IsKnown tells before old → AreDistinct (take 4 way) → ClearsAlong way first id (shown_over before old) (shown_over now new)

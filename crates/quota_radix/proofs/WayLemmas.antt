@@ -1,4 +1,4 @@
--- The way down a tree, by the digits of a number: the blocks that it comes to stand in the tree, and the first leaf from a
+-- The way down a tree, by the digits of a number: the blocks that it leads to stand in the tree, and the first leaf from a
 -- number on is the first one that the way finds.
 use Rattle.std.proofs.Common.{◌≡◌, ℕ, zero, suc, ◌+◌, ◌-◌, ◌*◌, ◌/◌, ◌%◌, ◌^◌, ◌<◌, ◌≤◌, Bool, true, cond, IsTrue, ◌==◌, List, [], ◌∷◌, ◌++◌, map, find, Option, Some, None, refl, sym, ap, subst, ◌∙◌, inl, inr, arith, pow-suc}
 use Rattle.std.proofs.lemmas.Bool.{cases_Bool, le-leb}

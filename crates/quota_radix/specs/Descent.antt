@@ -11,8 +11,8 @@ use Rattle.quota_radix.specs.Tree.{leaves, step, steps}
 abbrev pub led_by : List ℕ → ℕ → ℕ → ℕ → Option ℕ
 led_by file blocks digit block = if leads blocks (word_at file block digit) then Some (word_at file block digit) else None
 
--- The block to which a number of so many digits to the base 256 leads, or none: the root where there is no digit, and else
--- where the last digit leads from the block to which the digits before it lead.
+-- The block to which a number of this many digits to the base 256 leads, or none: the root where there is no digit, and
+-- otherwise where the last digit leads from the block to which the digits before it lead.
 abbrev pub block_led_to : List ℕ → ℕ → ℕ → ℕ → Option ℕ
 block_led_to file blocks zero number = Some 1
 block_led_to file blocks (suc digits) number = option_and_then (led_by file blocks (number % 256)) (block_led_to file blocks digits (number / 256))
@@ -21,7 +21,7 @@ block_led_to file blocks (suc digits) number = option_and_then (led_by file bloc
 abbrev pub leaf_block : List ℕ → ℕ → ℕ → Option ℕ
 leaf_block file blocks id = block_led_to file blocks 4 id
 
--- the paths that go on from one by so many digits, in order
+-- the paths that go on from one by this many digits, in order
 abbrev pub paths_below : List ℕ → ℕ → ℕ → TreePath → List TreePath
 paths_below file blocks zero path = path ∷ []
 paths_below file blocks (suc digits) path = flat_map (paths_below file blocks digits) (steps file blocks path)

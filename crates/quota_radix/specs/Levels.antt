@@ -9,7 +9,7 @@ use Rattle.quota_types.specs.Times.{StandsIn, StandsTwiceIn}
 use Rattle.quota_radix.specs.TreeDefect.{IsEmptyTree, IsRefOut, IsEmpty}
 use Rattle.quota_radix.specs.Tree.{lower_blocks, tree_blocks}
 
--- each of some paths has a number below a bound, and comes to a block other than that of the header
+-- each of some paths has a number below a bound, and leads to a block other than that of the header
 abbrev pub AreWithin : ℕ → ℕ → List TreePath → Type 0
 AreWithin blocks bound paths = All (λ (path : TreePath). (path.number < bound) × IsTrue (leads blocks path.block)) paths
 

@@ -17,7 +17,7 @@ with_path paths path = filter (λ other. nat_lt other.number path.number) paths 
 abbrev pub whole_way : List ℕ → List ℕ → ℕ → List ℕ
 whole_way found fresh leaf_block = found ++ fresh ++ leaf_block ∷ []
 
--- the path that the first digits of an identifier, so many, make along its way
+-- the path along an identifier's way by its first digits, this many of them
 abbrev pub path_along : List ℕ → ℕ → ℕ → TreePath
 path_along way id digits = record { number = id / 256 ^ (4 - digits); block = slice_index way digits }
 

@@ -1,4 +1,4 @@
--- What a look-up in a tree file comes to on its way down the tree, and what may be wrong with what it reads. Source: the
+-- What a look-up in a tree file meets on its way down the tree, and what may be wrong with what it reads. Source: the
 -- kernel's `fs/quota/quota_tree.c` (`find_tree_dqentry` and `find_next_id`).
 use Rattle.std.specs.Prelude.{◌≡◌, ℕ, ◌+◌, ◌^◌, ◌<◌, List}
 use Rattle.quota_types.specs.declared.damage.Damage.{Damage}
@@ -9,7 +9,7 @@ use Rattle.quota_types.specs.Times.{StandsIn}
 use Rattle.quota_radix.specs.TreeDefect.{IsEmptyTree, IsRefOut}
 use Rattle.quota_radix.specs.Tree.{level}
 
--- a path is one through the tree of a file, from which so many digits are to go to a leaf
+-- a path is one through the tree of a file, this many digits short of a leaf
 pub record IsOnWay (file : List ℕ) (blocks to_go : ℕ) (path : TreePath) : Type 0 where
   pub gone : ℕ
   pub four : gone + to_go ≡ 4

@@ -17,13 +17,13 @@ step file blocks path digit =
 unfoldable pub steps : List ℕ → ℕ → TreePath → List TreePath
 steps file blocks path = filter_map (step file blocks path) (range_with_len 0 256)
 
--- The paths of so many digits, in order, each with the number that its digits make and the block that it comes to. The
--- path of no digit comes to block 1, the root.
+-- The paths of this many digits, in order, each with the number that its digits make and the block that it leads to.
+-- The path of no digit leads to block 1, the root.
 abbrev pub paths : List ℕ → ℕ → ℕ → List TreePath
 paths file blocks zero = record { number = 0; block = 1 } ∷ []
 paths file blocks (suc digits) = flat_map (steps file blocks) (paths file blocks digits)
 
--- the blocks to which the paths of so many digits come, in order
+-- the blocks to which the paths of this many digits lead, in order
 abbrev pub level : List ℕ → ℕ → ℕ → List ℕ
 level file blocks digits = map (λ path. path.block) (paths file blocks digits)
 
@@ -51,7 +51,7 @@ is_data file blocks block = nat_le 1 (times (level file blocks 4) block)
 abbrev pub data_blocks : List ℕ → ℕ → List ℕ
 data_blocks file blocks = filter (is_data file blocks) (range_with_len 0 blocks)
 
--- the blocks to which some paths come, in order
+-- the blocks to which some paths lead, in order
 abbrev pub blocks_of : List TreePath → List ℕ
 blocks_of paths = map (λ path. path.block) paths
 

@@ -8,7 +8,7 @@ use Rattle.quota_radix.specs.Tree.{leaves, lower_blocks, tree_blocks}
 use Rattle.quota_radix.specs.TreeDefect.{IsEmpty}
 use Rattle.quota_radix.specs.Way.{blocks_on_way, digit_on_way}
 
--- the tree blocks of a whole way below the root, so many of them, the lowest first
+-- the tree blocks of a whole way below the root, this many of them, the lowest first
 abbrev pub lowest_blocks : List ℕ → (count : ℕ) → List ℕ
 lowest_blocks way count = take count (slice_index way 3 ∷ slice_index way 2 ∷ slice_index way 1 ∷ [])
 
@@ -22,8 +22,8 @@ ClearsAlong way first id old new =
 abbrev pub HasNoOther : List ℕ → (block digit : ℕ) → Type 0
 HasNoOther file block digit = (other : ℕ) → other < 256 → other ≢ digit → word_at file block other ≡ 0
 
--- So many of the lowest tree blocks of an identifier's way have no reference but that on the way, and the one above them, where
--- that is below the root, has another.
+-- This many of the lowest tree blocks of an identifier's way have no reference but that on the way, and the one above them,
+-- where that is below the root, has another.
 pub record AreAllWithoutOther (way : List ℕ) (count id : ℕ) (file : List ℕ) : Type 0 where
   pub few : count ≤ 3
   pub only : (digits : ℕ) → 3 - count < digits → digits < 4 → HasNoOther file (slice_index way digits) (digit_on_way id digits)

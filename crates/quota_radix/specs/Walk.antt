@@ -2,7 +2,7 @@
 use Rattle.std.specs.Prelude.{◌≡◌, ℕ, ◌+◌, ◌*◌, ◌^◌, ◌<◌, ◌≤◌}
 use Rattle.quota_radix.specs.declared.tree_path.TreePath.{TreePath}
 
--- a path has so many digits that so many are to go to a leaf
+-- a path is this many digits short of a leaf
 pub record HasLeft (to_go : ℕ) (path : TreePath) : Type 0 where
   pub gone : ℕ
   pub four : gone + to_go ≡ 4

@@ -7,11 +7,11 @@ use Rattle.quota_radix.specs.declared.tree_path.TreePath.{TreePath}
 use Rattle.file_blocks.specs.Block.{leads, word_at}
 use Rattle.quota_radix.specs.Descent.{block_led_to}
 
--- the block to which the first digits of an identifier lead, so many of them, or none
+-- the block to which the first digits of an identifier lead, this many of them, or none
 unfoldable pub block_on_way : List ℕ → (blocks id gone : ℕ) → Option ℕ
 block_on_way file blocks id gone = block_led_to file blocks gone (id / 256 ^ (4 - gone))
 
--- the digit of an identifier behind its first ones, so many of them
+-- the digit of an identifier behind its first ones, this many of them
 unfoldable pub digit_on_way : (id gone : ℕ) → ℕ
 digit_on_way id gone = id / 256 ^ (3 - gone) % 256
 
@@ -47,7 +47,7 @@ IsInsideUpTo file blocks first last =
     (gone number block : ℕ) → gone < 4 → number < 256 ^ (gone + 1) → block_led_to file blocks gone (number / 256) ≡ Some block
     → first < 256 ^ (3 - gone) * (number + 1) → IfSome last (λ id. 256 ^ (3 - gone) * number ≤ id) → word_at file block (number % 256) < blocks
 
--- the same of the references below a path, from which so many digits are to go
+-- the same of the references below a path, which is this many digits short of a leaf
 abbrev pub IsInsideFrom : List ℕ → (blocks to_go : ℕ) → TreePath → (first : ℕ) → (last : Option ℕ) → Type 0
 IsInsideFrom file blocks zero path first last = ⊤
 IsInsideFrom file blocks (suc to_go) path first last =

@@ -53,8 +53,8 @@ pub(crate) fn reference_in<S: Store>(
 
 /// The blocks on the way of an identifier that are there: the root first, and the data block fifth.
 ///
-/// The file has so many blocks. As many are read as there are of the tree on the way, 4 at most, and these are buffered
-/// then.
+/// The file has `blocks` blocks. As many are read as there are of the tree on the way, 4 at most, and these are
+/// buffered then.
 ///
 /// # Errors
 ///
@@ -100,7 +100,7 @@ pub fn find_path<S: Store>(
 
 /// The data block to which an identifier leads by its four digits, or None where one of them leads nowhere.
 ///
-/// The file has so many blocks. At most 4 of them are read.
+/// The file has `blocks` blocks. At most 4 of them are read.
 ///
 /// # Errors
 ///

@@ -133,7 +133,7 @@ fn first_step<S: Store>(
     Ok(first_in(block, blocks, path, first)?)
 }
 
-/// The least leaf below `path`, from which so many digits are to go.
+/// The least leaf below `path`, which is `to_go` digits short of a leaf.
 ///
 /// # Errors
 ///
@@ -168,7 +168,7 @@ fn least_below<S: Store>(
     least_below(pages, store, blocks, next, to_go - 1)
 }
 
-/// The least leaf below `path` by a digit after this one, with so many more digits to go behind it.
+/// The least leaf below `path` by a digit after this one, with `to_go` more digits to go behind it.
 ///
 /// # Errors
 ///
@@ -296,7 +296,7 @@ fn id_after(after: Option<u32>) -> Option<u32>
 /// where there is none. Whatever the store tells, an identifier that is answered comes after the one that was given.
 /// From the way of the identifier that is looked for up to that of the answer no reference leads past the last block.
 ///
-/// The file has so many blocks. At most 7 of them are read: one a level on the way down, and three more at most where
+/// The file has `blocks` blocks. At most 7 of them are read: one a level on the way down, and three more at most where
 /// the way backs up and goes down again by a later digit. After the last identifier nothing is read.
 ///
 /// # Errors

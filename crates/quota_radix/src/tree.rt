@@ -17,7 +17,7 @@ use std::alloc::Global;
 
 /// Finds the leaves of a file's tree, in order, and adds the blocks of the tree to those that were met.
 ///
-/// The file has so many blocks; bytes past its end are 0. There is at most one read for each block that is added.
+/// The file has `blocks` blocks; bytes past its end are 0. There is at most one read for each block that is added.
 ///
 /// # Errors
 ///

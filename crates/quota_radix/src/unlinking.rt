@@ -17,7 +17,7 @@ use quota_pages::Pages;
 
 /// Takes the leaf of an identifier away from the tree: of the whole way of it, which is `path`, the reference to the data
 /// block becomes 0. Each tree block of the way, the lowest first, that has no reference left is answered, and the
-/// reference to it becomes 0 likewise. The root stays, also where it is empty then.
+/// reference to it becomes 0 likewise. The root stays, even where it is empty then.
 ///
 /// Each tree block of the way is buffered before anything is changed: it is already, or there is room for it. No other
 /// byte of them changes, and no other block.

@@ -3,7 +3,7 @@ use Rattle.std.proofs.Common.{suc, ◌≤◌, List, [], ◌∷◌, length, Optio
 use Rattle.std.specs.List.{cons_option, filter_map, AllByRecursion}
 use Rattle.std.specs.Option.{option_or}
 
--- a list of what is there of so many is no longer
+-- a list of those that are there is no longer than the whole
 pub length-filter_map : {X Y : Type 0} (f : X → Option Y) (xs : List X) → length (filter_map f xs) ≤ length xs
 length-filter_map f [] = omega arith
 length-filter_map {X} {Y} f (x ∷ xs) =

@@ -25,7 +25,7 @@ take-room at room file size = take_all room (drop at file) (omega (arith, length
 pub little_number-drop : (width at : ℕ) (file : List ℕ) → little_number width (drop at file) ≡ number_at width file at
 little_number-drop width at file = little_from-number_at width 0 (drop at file) ∙ number_at-drop width at file 0 ∙ ap (number_at width file) (omega arith)
 
--- what is read of an array, behind whose place there is so much room, is the number there
+-- what is read of an array, behind whose place there is that much room, is the number there
 pub little_number-room : (width at room : ℕ) (file : List ℕ) → at + room ≡ length file → little_number width (take room (drop at file)) ≡ number_at width file at
 little_number-room width at room file size = ap (little_number width) (take-room at room file size) ∙ little_number-drop width at file
 
@@ -33,7 +33,7 @@ little_number-room width at room file size = ap (little_number width) (take-room
 abbrev pub with_number : ℕ → ℕ → ℕ → List ℕ → List ℕ
 with_number width at number file = take at file ++ (little_bytes width number ++ drop (at + width) file)
 
--- what is left of a write at a place of a slice or an array, behind which there is so much room
+-- what is left of a write at a place of a slice or an array, behind which there is that much room
 pub written_at : (width at room number : ℕ) (file part : List ℕ) → at + room ≡ length file → part ≡ little_bytes width number ++ drop width (take room (drop at file)) → put_mid at room file part ≡ with_number width at number file
 written_at width at room number file part size is =
     let rest : drop width (take room (drop at file)) ≡ drop (at + width) file =

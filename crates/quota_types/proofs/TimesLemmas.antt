@@ -47,7 +47,7 @@ StandsIn-list_any (x ∷ xs) n found = elim (times_cases x xs n) [
   | inr other ↦ omega (arith, other.1, StandsIn-list_any xs n (sym (ap (λ (b : Bool). b || list_any (λ other. other == n) xs) (ne_eqb x n other.0)) ∙ found))
 ]
 
--- and else it has not
+-- and otherwise does not have it
 pub times-list_any : (xs : List ℕ) (n : ℕ) → list_any (λ other. other == n) xs ≡ false → times xs n ≡ 0
 times-list_any [] n absent = refl
 times-list_any (x ∷ xs) n absent = elim (times_cases x xs n) [

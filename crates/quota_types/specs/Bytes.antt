@@ -5,7 +5,7 @@ use Rattle.std.specs.Prelude.{ℕ, zero, suc, ◌+◌, ◌*◌, List, slice_inde
 abbrev pub byte_at : List ℕ → ℕ → ℕ
 byte_at file at = slice_index file at
 
--- the number that so many bytes from a place on spell, the lowest first
+-- the number that this many bytes from a place on spell, the lowest first
 unfoldable pub number_at : ℕ → List ℕ → ℕ → ℕ
 number_at zero file at = 0
 number_at (suc width) file at = byte_at file at + 256 * number_at width file (suc at)

@@ -16,7 +16,7 @@ pub enum DamageKind {
     EmptyTree,
     /// A head or a link of a list leads past the last block.
     ChainOut,
-    /// A list comes to one of its blocks again.
+    /// A list returns to one of its blocks.
     ChainLoop,
     /// The entry list has a block that has no place there.
     ForeignInChain,

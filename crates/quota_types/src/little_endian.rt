@@ -56,7 +56,7 @@ pub fn set_le64_at(bytes: &mut [u8], at: usize, value: u64)
     LittleEndian::write_u64(&mut bytes[at..], value);
 }
 
-/// Writes numbers of four bytes one behind the other, from a place on. All other bytes stay.
+/// Writes numbers of four bytes one after the other, from a place on. All other bytes stay.
 pub fn set_le32s_at(bytes: &mut [u8], at: usize, values: &[u32])
     requires { at + 4 * length values.now ≤ length bytes.old }
     ensures written { (k : ℕ) → k < length values.now → number_at 4 bytes.new (at + 4 * k) ≡ slice_index values.now k }
@@ -65,7 +65,7 @@ pub fn set_le32s_at(bytes: &mut [u8], at: usize, values: &[u32])
     LittleEndian::write_u32_into(values, &mut bytes[at..at + 4 * values.len()]);
 }
 
-/// Writes numbers of eight bytes one behind the other, from a place on. All other bytes stay.
+/// Writes numbers of eight bytes one after the other, from a place on. All other bytes stay.
 pub fn set_le64s_at(bytes: &mut [u8], at: usize, values: &[u64])
     requires { at + 8 * length values.now ≤ length bytes.old }
     ensures written { (k : ℕ) → k < length values.now → number_at 8 bytes.new (at + 8 * k) ≡ slice_index values.now k }

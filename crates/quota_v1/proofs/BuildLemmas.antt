@@ -31,7 +31,7 @@ use Rattle.quota_v1.proofs.RecordLemmas.{flat_record-read, flat_record-written, 
 abbrev pub no_entry : Entry
 no_entry = record { id = 0; rec = record { ihard = 0; isoft = 0; inodes = 0; bhard = 0; bsoft = 0; space = 0; btime = 0; itime = 0 } }
 
--- the file has the grace periods and the records of some entries, and else zeros
+-- the file has the grace periods and the records of some entries, and otherwise zeros
 pub record IsBuiltOf (grace : Grace) (entries : List Entry) (count : ℕ) (file : List ℕ) : Type 0 where
   pub whole : count % 40 ≡ 0
   pub long : length file ≡ count

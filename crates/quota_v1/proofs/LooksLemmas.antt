@@ -106,7 +106,7 @@ module _ (tells : Bool) (old new : StoreSeen) (name : List ℕ) (len : ℕ) (tim
   record_damage (Full blocks limit) refused = tt
   record_damage Memory refused = tt
 
-  -- and no memory was wanting
+  -- and memory did not run out
   pub record_no_memory : (fault : FileFault) → IsRecordFault old.faults new.faults (λ damage. IsNamedDefect tells (old.files name) damage) fault → WantsNoMemory fault
   record_no_memory Store refused = tt
   record_no_memory (Damage damage) refused = tt

@@ -21,7 +21,7 @@ use Rattle.std.proofs.lemmas.Bool.Decides.{nat_tests}
 use Rattle.quota_v1.specs.Slot.{AreFrom, MakesOne}
 use Rattle.quota_v1.specs.Place.{block_time_start, inode_time_start, record_start}
 
--- a buffer has so many bytes behind those that were read, and none behind these
+-- a buffer has this many bytes behind those that were read, and none behind these
 room_behind : (count room : ℕ) (buffer : List ℕ) → length buffer ≡ room → length (mid_of count (room - count) buffer) ≡ room - count
 room_behind count room buffer long = omega (arith, length-take (room - count) (drop count buffer), length-drop count buffer, long)
 

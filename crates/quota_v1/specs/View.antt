@@ -31,9 +31,9 @@ IsFlatView named kind (Err (TooLarge number limit)) =
 IsFlatView named kind (Err (Damaged damage)) = IsSomeAnd named (λ file. (length file ≤ flat_limit) × IsFlatDefect file damage)
 IsFlatView named kind (Err _) = ⊥
 
--- Why opening is refused: the store's count of faults rose, memory is wanting, there is no file, it is too large, or its
--- last record is cut off. What is said of the file holds where the store tells it, whatever kind is asked for; that no
--- other refusal comes, and where the limit lies, holds always.
+-- Why opening is refused: the store's count of faults rose, there is not enough memory, there is no file, it is too
+-- large, or its last record is cut off. What is said of the file holds where the store tells it, whatever kind is asked
+-- for; that no other refusal comes, and where the limit lies, holds always.
 abbrev pub IsFlatFault : ℕ → ℕ → Bool → Option (List ℕ) → OpenFault → Type 0
 IsFlatFault before now tells named Store = Rose before now
 IsFlatFault before now tells named Memory = ⊤

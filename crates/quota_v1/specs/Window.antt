@@ -8,7 +8,7 @@ use Rattle.quota_v1.specs.declared.window.Window.{Window}
 abbrev pub HoldsWindow : (file : List ℕ) → Window → Type 0
 HoldsWindow file window = window.known ≡ true → AreFrom file (record_start window.first) window.bytes
 
--- how many calls of `read` find the first record from an identifier on at most, where there are so many: one for each 25 of them
+-- how many calls of `read` find the first record from an identifier on at most, among `records` of them: one for each 25
 abbrev pub window_reads : (from records : ℕ) → ℕ
 window_reads from records = (records - from + 24) / 25
 

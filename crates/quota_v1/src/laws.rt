@@ -12,7 +12,7 @@ pub fn a_file_has_one_meaning_of_a_kind()
         → value.kind ≡ other.kind → value ≡ other }
 {}
 
-/// Records of 40 bytes stand one behind another from the first byte on, with nothing between, and don't overlap. A file has room
+/// Records of 40 bytes stand one after another from the first byte on, with nothing between, and don't overlap. A file has room
 /// for those of the identifiers below 1,048,576.
 #[tactic(auto, unfolding(crate::specs::Place::record_start))]
 pub fn records_stand_one_behind_another()

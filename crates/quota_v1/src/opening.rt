@@ -23,7 +23,7 @@ const LIMIT: u64 = 41_943_040;
 /// # Errors
 ///
 /// It is refused where there is no such file, where it has more than 41,943,040 bytes, and where it does not consist
-/// of whole records, in this order; and where the store failed or memory was wanting.
+/// of whole records, in this order; and where the store failed or there was not enough memory.
 pub fn open_v1<S: Store>(alloc: Global, store: &mut S, name: &str) -> Result<V1File, OpenFault>
     ensures seen { IfOk result (λ file. IsTrue S.tells → (kind : Kind) → (value : QuotaValue)
         × IsFlatView ((S.seen store.old).files name.now) kind (Ok value)) }

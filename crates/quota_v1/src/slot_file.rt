@@ -17,7 +17,7 @@ use crate::slot::{record_at, record_bytes};
 use quota_blocks::{FileFault, Store, StoreFault};
 use quota_types::{Damage, DamageKind, Grace, Rec};
 
-/// Reads the bytes of a file from a place on, as many as `buf` holds, and answers how many there were. Behind the end of the file
+/// Reads the bytes of a file from a place on, as many as `buf` holds, and answers how many there were. Past the end of the file
 /// there are zeros. After a fault `buf` may hold anything.
 pub(crate) fn read_from<S: Store>(
     store: &mut S,
@@ -40,7 +40,7 @@ pub(crate) fn read_from<S: Store>(
     Ok(count)
 }
 
-/// The record of an identifier, read where it stands in a file that had so many bytes. None is read where it stands behind them.
+/// The record of an identifier, read where it stands in a file that had `len` bytes. None is read where it stands behind them.
 ///
 /// # Errors
 ///

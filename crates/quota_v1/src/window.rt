@@ -17,7 +17,7 @@ use quota_types::Entry;
 /// How many records are read at once: as many whole ones as one call of `read` gives.
 const MOST: u32 = 25;
 
-/// Records that follow each other in a flat file, as they were read. Behind the end of the file there are zeros.
+/// Records that follow each other in a flat file, as they were read. Past the end of the file there are zeros.
 #[derive(Drop)]
 pub(crate) struct Window {
     /// Whether any are known.
@@ -92,8 +92,8 @@ impl Window {
         first_record(&self.bytes, self.first, from, to)
     }
 
-    /// The first record from an identifier on, in a file that has so many. Each 25 of them are read once at most, and none that
-    /// is known.
+    /// The first record from an identifier on, in a file that has `records` of them. Every 25 of them are read once at most,
+    /// and none that is known.
     ///
     /// # Errors
     ///

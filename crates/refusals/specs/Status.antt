@@ -7,7 +7,7 @@ use Rattle.refusals.specs.declared.cause.CauseGroup.TheVariants.{Denied, BadWord
 use Rattle.refusals.specs.declared.reason.Refusal.{Refusal}
 
 -- what a cause is one of: the command is refused, the words are outside the grammar, the file is no quota file of the kind
--- and format or is damaged, something outside failed, or memory was wanting
+-- and format or is damaged, something outside failed, or there was not enough memory
 abbrev pub group_of : Cause → CauseGroup
 group_of StoreFault = Fault
 group_of NoFile = Denied
@@ -51,8 +51,8 @@ abbrev pub end_status : Option Refusal → ℕ
 end_status None = 0
 end_status (Some refusal) = status_of refusal.cause
 
--- What stands by the group of a cause: for a fault that something failed, for want of memory nothing, and for any other cause
--- what is stated of it.
+-- What holds by the group of a cause: for a fault that something failed, for a lack of memory nothing, and for any other
+-- cause what is stated of it.
 abbrev pub ByGroup : CauseGroup → (failed stated : Type 0) → Type 0
 ByGroup Fault failed stated = failed
 ByGroup NoMemory failed stated = ⊤

@@ -16,11 +16,11 @@ use Rattle.report_text.specs.Period.{period_of}
 
 -- Columns. A place is one byte, and a text that is longer than its places widens the column.
 
--- a text at the left of so many places
+-- a text at the left of this many places
 abbrev pub left_in : ℕ → List ℕ → List ℕ
 left_in width text = text ++ replicate (width - length text) 32
 
--- a text at the right of so many places
+-- a text at the right of this many places
 abbrev pub right_in : ℕ → List ℕ → List ℕ
 right_in width text = replicate (width - length text) 32 ++ text
 
@@ -38,11 +38,11 @@ pub record Row : Type 0 where
   pub blocks : Columns
   pub inodes : Columns
 
--- a space and a text at the right of so many places
+-- a space and a text at the right of this many places
 abbrev pub column : ℕ → List ℕ → List ℕ
 column width text = codes " " ++ right_in width text
 
--- four columns, of which the first three have so many places and the last has 6
+-- four columns, of which the first three have this many places and the last has 6
 abbrev pub columns_in : ℕ → Columns → List ℕ
 columns_in width texts = column width texts.used ++ column width texts.soft ++ column width texts.hard ++ column 6 texts.grace
 

@@ -86,7 +86,7 @@ fn push_grace_line(page: &mut Page, grace: Grace)
     page.push_text(b"\n");
 }
 
-/// Appends a text and that of a period of so many seconds.
+/// Appends a text and that of a period of `seconds` seconds.
 fn push_period(page: &mut Page, front: &[u8], seconds: u64)
     requires { length page.old + length front.now + 24 ≤ CAPACITY }
     ensures text { page.new ≡ page.old ++ (front.now ++ period_of seconds) }

@@ -3,8 +3,8 @@
 pub struct Options {
     /// Shows the identifiers that use nothing, too.
     pub verbose: bool,
-    /// Shows numbers in place of names.
+    /// Shows numbers instead of names.
     pub numeric: bool,
-    /// Shows when a grace period ends, in seconds since 1970, in place of what is left of it.
+    /// Shows when a grace period ends, in seconds since 1970, instead of what is left of it.
     pub raw: bool,
 }

@@ -43,7 +43,7 @@ impl Page {
         }
     }
 
-    /// Makes room for so many bytes: the sink gets what was gathered before where there is none.
+    /// Makes room for `count` bytes: the sink gets what was gathered before where there is none.
     ///
     /// # Errors
     ///
@@ -123,7 +123,7 @@ impl Page {
         self.len += text.len();
     }
 
-    /// Appends so many spaces.
+    /// Appends `count` spaces.
     pub fn push_spaces(&mut self, count: usize)
         requires { length self.old + count ≤ CAPACITY }
         ensures { self.new ≡ self.old ++ replicate count 32 }
@@ -131,7 +131,7 @@ impl Page {
         self.len += count;
     }
 
-    /// Appends a byte so many times.
+    /// Appends a byte `count` times.
     pub fn push_repeated(&mut self, count: usize, byte: u8)
         requires { length self.old + count ≤ CAPACITY }
         ensures { self.new ≡ self.old ++ replicate count byte }
@@ -141,7 +141,7 @@ impl Page {
         }
     }
 
-    /// Appends a text at the left of so many places.
+    /// Appends a text at the left of `width` places.
     pub fn push_left(&mut self, width: usize, text: &[u8])
         requires { length self.old + max width (length text.now) ≤ CAPACITY }
         ensures text { self.new ≡ self.old ++ left_in width text.now }
@@ -151,7 +151,7 @@ impl Page {
         self.push_spaces(width.saturating_sub(text.len()));
     }
 
-    /// Appends a space and a text at the right of so many places.
+    /// Appends a space and a text at the right of `width` places.
     pub fn push_column(&mut self, width: usize, text: &[u8])
         requires { length self.old + 1 + max width (length text.now) ≤ CAPACITY }
         ensures text { self.new ≡ self.old ++ column width text.now }
@@ -162,7 +162,7 @@ impl Page {
         self.push_text(text);
     }
 
-    /// Appends a number at the left of so many places.
+    /// Appends a number at the left of `width` places.
     pub fn push_left_number(&mut self, width: usize, number: u32)
         requires { length self.old + max width 10 ≤ CAPACITY }
         ensures text { self.new ≡ self.old ++ left_in width (decimal number) }
@@ -173,7 +173,7 @@ impl Page {
         self.len += count.max(width);
     }
 
-    /// Appends a space and a number at the right of so many places.
+    /// Appends a space and a number at the right of `width` places.
     pub fn push_number(&mut self, width: usize, number: u64)
         requires { length self.old + 1 + max width 20 ≤ CAPACITY }
         ensures text { self.new ≡ self.old ++ column width (decimal number) }

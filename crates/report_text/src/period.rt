@@ -4,7 +4,7 @@ ghost use Rattle.report_text.specs.Period.{period_of, text_of_minutes, two_digit
 use arrayvec::ArrayVec;
 use itoa::Buffer;
 
-/// Makes `text` the text of a period of so many seconds, whatever it held before: hours and minutes, to the nearest
+/// Makes `text` the text of a period of `seconds` seconds, whatever it held before: hours and minutes, to the nearest
 /// minute, or whole days from 48 hours on. It has at most 24 bytes.
 #[tactic(auto, unfolding(crate::specs::Period::period_of))]
 pub fn period_text(seconds: u64, text: &mut ArrayVec<u8, 32>)
@@ -15,7 +15,7 @@ pub fn period_text(seconds: u64, text: &mut ArrayVec<u8, 32>)
     push_minutes(text, ((u128::from(seconds) + 30) / 60) as u64);
 }
 
-/// Appends the text of so many minutes.
+/// Appends the text of `minutes` minutes.
 fn push_minutes(text: &mut ArrayVec<u8, 32>, minutes: u64)
     requires { text.old.items ≡ [] }
     ensures text { text.new.items ≡ text_of_minutes minutes }

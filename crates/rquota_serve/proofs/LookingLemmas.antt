@@ -83,7 +83,7 @@ looks_in-within fault_of old new few most result within looks = record {
   reads = omega (arith, looks.reads, within);
 }
 
--- one more look-up after so many, where each makes so many calls of `read` at most
+-- one more look-up after `count` others, where each makes at most `each` calls of `read`
 pub looks_in-more : {T U E G : Type 0} (fault_in : G → Option FileFault) (fault_of : E → Option FileFault) (old mid new : ExportsAt) (each count most : ℕ) (told : U) (result : Result T E)
     → count + 1 ≤ most → LooksUpIn fault_in old mid (each * count) (Ok told) → LooksUpIn fault_of mid new each result → LooksUpIn fault_of old new (each * most) result
 looks_in-more fault_in fault_of old mid new each count most told result more first second =

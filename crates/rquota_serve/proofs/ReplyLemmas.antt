@@ -97,14 +97,14 @@ told-found seen path kind id (Some rec) is =
     subst (λ (b : Bool). Some rec ≡ option_map (record_of id) (cond b (Some (value_with id rec)) None)) is
     (ap (λ (r : Rec). Some r) (sym (record-with id rec)))
 
--- who may ask is told what is found
+-- whoever may ask is told what is found
 pub reply-allowed : (exported : Exported) (xid now : ℕ) (caller : Caller) (path : List ℕ) (kind : Kind) (id : ℕ) (found : Option Rec) → may_ask kind caller id ≡ true
     → found ≡ record_under exported path kind id → reply_with xid now found ≡ reply_for exported xid now caller path (Some kind) id
 reply-allowed exported xid now caller path kind id found may is =
     ap (reply_with xid now) is
     ∙ ap (λ (b : Bool). if b then reply_with xid now (record_under exported path kind id) else reply.Denied xid) (sym may)
 
--- who may not is denied
+-- whoever may not is denied
 pub reply-denied : (exported : Exported) (xid now : ℕ) (caller : Caller) (path : List ℕ) (kind : Kind) (id : ℕ) → may_ask kind caller id ≡ false
     → reply.Denied xid ≡ reply_for exported xid now caller path (Some kind) id
 reply-denied exported xid now caller path kind id may =
@@ -114,7 +114,7 @@ quota-some : (xid now id : ℕ) (found : Option QuotaValue) → is_some found �
 quota-some xid now id None is = absurd (cc)
 quota-some xid now id (Some value) is = tt
 
--- who may ask is told limits where something is exported
+-- whoever may ask is told limits where something is exported
 pub quota-told : (seen : List ExportSeen) (exported : Exported) (xid now : ℕ) (caller : Caller) (path : List ℕ) (kind : Kind) (id : ℕ) → may_ask kind caller id ≡ true
     → is_exported seen path kind ≡ true → HasPaths seen exported → IsQuota (Some (reply_for exported xid now caller path (Some kind) id))
 quota-told seen exported xid now caller path kind id may is paths =

@@ -25,7 +25,7 @@ CountsRefused old new None = new ≡ old
 CountsRefused old new (Some fault) = CountsOne old new
 
 -- Look-ups in the files of exports, whose result may have a fault of one of them. A fault has its cause, and may come in a file of
--- such a format. However it ended the exports stand for what they stood for, nothing was written, and there were at most so many calls
+-- such a format. However it ended the exports stand for what they stood for, nothing was written, and there were at most `most` calls
 -- of `read`. Where it is Ok, or no call on the store failed, no name is unsynced that was not. Where it is Ok all that is seen is as
 -- before; a refusal by a file counts once, and all else is as before.
 pub record LooksUpIn {T E : Type 0} (fault_of : E → Option FileFault) (old new : ExportsAt) (most : ℕ) (result : Result T E) : Type 0 where

@@ -1,5 +1,5 @@
 -- The reply to a datagram. Source: `rquota.x` of the quota tools and rpc.rquotad(8), who may ask; RFC 5531 for the refusals of a
--- call. The order of the checks is this project's own: who may not ask does not learn whether a path is exported.
+-- call. The order of the checks is this project's own: whoever may not ask does not learn whether a path is exported.
 use Rattle.std.specs.Prelude.{ℕ, Bool, ◌||◌, ◌==◌, if◌then◌else◌, ◌+◌, List, slice_range, Option, None, Some, option_map, unwrap_or}
 use Rattle.std.specs.FinMap.{get}
 use Rattle.std.specs.List.{list_any}
@@ -35,7 +35,7 @@ may_ask kind caller id = caller.uid == 0 || is_owner kind caller id
 abbrev pub record_of : (id : ℕ) → QuotaValue → Rec
 record_of id value = unwrap_or (get value.records id) zero_record
 
--- what is told of a record to who may ask, where its path is exported for its kind
+-- what is told of a record to whoever may ask, where its path is exported for its kind
 abbrev pub reply_with : (xid now : ℕ) → Option Rec → Reply
 reply_with xid now None = reply.NoQuota xid
 reply_with xid now (Some rec) = reply.Quota xid (quota_of_record rec now)

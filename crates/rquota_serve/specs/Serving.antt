@@ -25,14 +25,14 @@ answers_of exported datagrams = map spelling_of (filter_map (datagram_reply expo
 abbrev pub HasReply : Datagram → Type 0
 HasReply datagram = ¬ (call_of (read_of datagram) ≡ Silent)
 
--- So many datagrams were taken, those without a reply counted too, and the answers to them were sent, and no others.
+-- This many datagrams were taken, those without a reply counted too, and the answers to them were sent, and no others.
 pub record Served (serves : Exported → Type 0) (calls : ℕ) (old new : LinkSeen) : Type 0 where
   pub taken : List Datagram
   pub left : old.left ≡ taken ++ new.left
   pub number : length taken ≡ calls
   pub answers : (exported : Exported) → serves exported → new.answers ≡ old.answers ++ answers_of exported taken
 
--- Serving ended before its time: fewer datagrams were done with than were asked for, and the answers to them were sent, and no
+-- Serving ended before its time: fewer datagrams were handled than were asked for, and the answers to them were sent, and no
 -- others. At most one more was taken; it is one that is replied to, and its reply was not sent.
 pub record Stopped (serves : Exported → Type 0) (calls : ℕ) (old new : LinkSeen) : Type 0 where
   pub done : List Datagram
@@ -42,7 +42,7 @@ pub record Stopped (serves : Exported → Type 0) (calls : ℕ) (old new : LinkS
   pub answers : (exported : Exported) → serves exported → new.answers ≡ old.answers ++ answers_of exported done
   pub unsent : IfSome at_hand HasReply
 
--- Datagrams were taken from a link, and for each of them a store had so many calls of `read` at most.
+-- Datagrams were taken from a link, and for each of them a store had at most `most` calls of `read`.
 pub record ReadsForTaken (most : ℕ) (old new : LinkSeen) (before now : ℕ) : Type 0 where
   pub taken : List Datagram
   pub left : old.left ≡ taken ++ new.left

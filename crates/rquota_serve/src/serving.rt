@@ -31,7 +31,7 @@ pub fn serve<S: Store, L: Link>(
         (L.seen link.old) (L.seen link.new)) }
     ensures looks { LooksUpIn file_in (exports_at S.tells (S.seen store.old) exports.old)
         (exports_at S.tells (S.seen store.new) exports.new) (any_get_reads * calls) result }
-    // Whatever it answers, only a datagram that was taken makes calls of `read`, and so many at most.
+    // Whatever it answers, only a datagram that was taken makes calls of `read`, and at most `any_get_reads` of them.
     ensures reads { IsTrue L.tells → ReadsForTaken any_get_reads (L.seen link.old) (L.seen link.new)
         (S.seen store.old).reads (S.seen store.new).reads }
     ensures started { (L.seen link.new).started ≡ (L.seen link.old).started }

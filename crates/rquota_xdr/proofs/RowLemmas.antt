@@ -1,4 +1,4 @@
--- The first failing row of two tables, one behind the other.
+-- The first failing row of two tables, one after the other.
 use Rattle.std.proofs.Common.{◌≡◌, ℕ, Bool, true, false, cond, List, [], ◌∷◌, ◌++◌, Option, Some, None, refl, subst}
 use Rattle.std.specs.List.{AllByRecursion}
 use Rattle.rquota_xdr.specs.Call.{HasPathWithin, head_rows}
@@ -19,7 +19,7 @@ first_failing_before [] others answer fails = absurd cc
 first_failing_before (row ∷ rows) others answer fails =
     fails_too row.holds row.answer answer (first_failing rows) (first_failing (rows ++ others)) (first_failing_before rows others answer) fails
 
--- and else that of the second
+-- and otherwise that of the second
 pub first_failing_behind : (rows others : List Row) → first_failing rows ≡ None → first_failing (rows ++ others) ≡ first_failing others
 first_failing_behind [] others all = refl
 first_failing_behind (row ∷ rows) others all =

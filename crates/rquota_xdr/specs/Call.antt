@@ -69,7 +69,7 @@ accepted datagram =
 abbrev pub call_of : List ℕ → Call
 call_of datagram = unwrap_or (first_failing (rows_of datagram)) (accepted datagram)
 
--- the path of a call for limits stands in a datagram of so many bytes, and has at most 1,024 of them
+-- the path of a call for limits stands in a datagram of this many bytes, and has at most 1,024 of them
 abbrev pub HasPathWithin : ℕ → Call → Type 0
 HasPathWithin len (Get xid caller path kind id) = (path.start + path.len ≤ len) × (path.len ≤ 1024)
 HasPathWithin len _ = Unit {0}

@@ -102,7 +102,7 @@ is_set datagram = nat_lt 2 (procedure_of datagram)
 abbrev pub has_type : List ℕ → Bool
 has_type datagram = version_of datagram == 2
 
--- the place of the path: behind the command of a call that sets limits, and else first
+-- the place of the path: behind the command of a call that sets limits, and otherwise first
 abbrev pub path_at : List ℕ → ℕ
 path_at datagram = if is_set datagram then arguments_at datagram + 4 else arguments_at datagram
 

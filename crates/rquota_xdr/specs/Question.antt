@@ -1,5 +1,5 @@
--- A call for limits as it is written, field behind field (RFC 5531, sections 8.2 and 9, and appendix A; `getquota_args`
--- and `ext_getquota_args` of `rquota.x`).
+-- A call for limits as it is written, field by field (RFC 5531, sections 8.2 and 9, and appendix A; `getquota_args` and
+-- `ext_getquota_args` of `rquota.x`).
 use Rattle.std.specs.Prelude.{◌≡◌, ℕ, ◌+◌, ◌≤◌, List, [], ◌∷◌, ◌++◌, length, slice_range, Option, Some, None}
 use Rattle.std.specs.Int.{w32, to_be_bytes}
 use Rattle.rquota_xdr.specs.Units.{padded}
@@ -13,7 +13,7 @@ pub record Padded : Type 0 where
   pub text : List ℕ
   pub padding : List ℕ
 
--- at most so many bytes are padded to whole units
+-- at most `most` bytes are padded to whole units
 pub record IsPadded (most : ℕ) (field : Padded) : Type 0 where
   pub few : length field.text ≤ most
   pub whole : length field.text + length field.padding ≡ padded (length field.text)

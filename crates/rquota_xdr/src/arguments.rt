@@ -17,7 +17,7 @@ pub(crate) struct Arguments {
     pub(crate) id: u32,
 }
 
-/// The place of the path: behind the command of a call that sets limits, and else first.
+/// The place of the path: behind the command of a call that sets limits, and otherwise first.
 fn path_at(head: Head, arguments: usize) -> usize
     requires { arguments + 4 < 2 ^ 64 }
     ensures { result ≡ (if head.is_set then arguments + 4 else arguments) }

@@ -22,7 +22,7 @@ pub fn a_spelling_has_one_meaning()
         → spelling_of reply ≡ spelling_of other → reply ≡ other }
 {}
 
-/// A call for limits that was written field behind field asks for what its fields say.
+/// A call for limits that was written field by field asks for what its fields say.
 pub fn a_written_call_is_what_is_asked()
     ensures { (q : Question) → IsQuestion q → Asks (question_bytes q) q }
 {}

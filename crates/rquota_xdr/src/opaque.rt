@@ -13,7 +13,7 @@ pub(crate) struct Opaque {
     pub(crate) end: usize,
 }
 
-/// The variable-length data at a place, where it has at most so many bytes and all of it stands before the end.
+/// The variable-length data at a place, where it has at most this many bytes and all of it stands before the end.
 #[tactic(auto, unfolding(crate::specs::Units::is_opaque, crate::specs::Units::opaque_end))]
 pub(crate) fn opaque_at(bytes: &[u8], at: usize, most: usize, end: usize) -> Option<Opaque>
     requires at { at ≤ length bytes.now + 8 }

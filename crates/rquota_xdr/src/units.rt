@@ -12,7 +12,7 @@ pub(crate) fn unit_at(bytes: &[u8], at: usize) -> u32
     u32::from_be_bytes([bytes[at], bytes[at + 1], bytes[at + 2], bytes[at + 3]])
 }
 
-/// The numbers of so many units from a place on.
+/// The numbers of this many units from a place on.
 #[tactic(auto, using(crate::proofs::UnitLemmas::one_unit_more), unfolding(crate::specs::Units::units_from))]
 pub(crate) fn units_from<const N: usize>(bytes: &[u8], at: usize, count: usize) -> ArrayVec<u32, N>
     requires few { count ≤ N }

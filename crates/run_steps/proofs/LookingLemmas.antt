@@ -43,7 +43,7 @@ pub alike_doing : (rooms : Bool) (one other : World) (acts : List Act) (next : S
 alike_doing rooms one other [] next alike = alike
 alike_doing rooms one other (act ∷ acts) next alike = alike_doing rooms one other acts next alike
 
--- they look first where the steps behind them do, also if no file may be looked at then
+-- they look first where the steps behind them do, even if no file may be looked at then
 pub looks_doing : (rooms looks takes : Bool) (acts : List Act) (next : Steps) → ((may : Bool) → LooksFirstBy rooms may takes next) → LooksFirstBy rooms looks takes (DoingAll acts next)
 looks_doing rooms looks takes [] next each = each looks
 looks_doing rooms looks takes (act ∷ acts) next each = looks_doing rooms (looks && leaves_files act) takes acts next each

@@ -162,7 +162,7 @@ seen_both : (kind : Kind) (asked : Option Format) (name : List ℕ) (one other :
 seen_both kind asked name one other value value' same view view' =
     seen_once (other name) kind asked value value' (subst (λ (w : World). IsView (w name) kind asked (Ok value)) same view) view'
 
--- the same steps come of a look at files that are the same, and of one that rests on none, but for want of room
+-- the same steps come of a look at files that are the same, and of one that rests on none, except for lack of room
 pub same_looked : (rooms looks : Bool) (next : World → Steps) (one other : World) → IsTrue looks ⊎ RestsOnNone rooms next → (IsTrue looks → one ≡ other) → AreSameSteps rooms (next one) (next other)
 same_looked rooms looks next one other (inl may) same = inl (ap next (same may))
 same_looked rooms looks next one other (inr rests) same = rests one other
@@ -177,7 +177,7 @@ looked_part rooms here there one other done hand acts now new refusal (inr (is, 
     inl (first_none done hand acts at.done_none at.at_hand)
 looked_part rooms here there one other done hand acts now new refusal (inr (is, inr full)) begun ends rest = inr (is, full_ended there other acts new refusal full ends)
 
--- what has begun is a first part of every end of the same steps, but for ends for want of room
+-- what has begun is a first part of every end of the same steps, except for ends for lack of room
 pub first_part : (rooms looks takes : Bool) (steps : Steps) (one other : Outside) (done hand acts : List Act) (now new : Outside) (refusal : Option Refusal)
     → LooksFirstBy rooms looks takes steps → LooksSame looks takes one other → HasBegun steps one done hand now → EndsBy steps other acts new refusal
     → UnlessFull rooms refusal (IsFirstPart done hand acts)

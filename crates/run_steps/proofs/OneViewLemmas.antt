@@ -25,7 +25,7 @@ use Rattle.run_steps.proofs.SeenOnceLemmas.{seen_once}
 abbrev by_blocks : (limit blocks : ℕ) → Option OpenFault
 by_blocks limit blocks = if nat_lt limit blocks then Some (TooLarge blocks limit) else None
 
--- that of a format, and else of the number of blocks
+-- that of a format, and otherwise of the number of blocks
 abbrev by_format : Option Format → Format → (limit blocks : ℕ) → Option OpenFault
 by_format None found limit blocks = by_blocks limit blocks
 by_format (Some V1) V1 limit blocks = by_blocks limit blocks
@@ -38,7 +38,7 @@ abbrev by_version : Option Format → Option Format → (limit blocks : ℕ) →
 by_version asked None limit blocks = None
 by_version asked (Some found) limit blocks = by_format asked found limit blocks
 
--- that of a fault of the header, and else the one that comes later
+-- that of a fault of the header, and otherwise the one that comes later
 abbrev by_fault : Option HeaderFault → Option OpenFault → Option OpenFault
 by_fault None later = later
 by_fault (Some NoMagic) later = Some NotQuota

@@ -1,4 +1,4 @@
--- Steps that may rest on the room in a file: those that are the same but for want of it, and what is said unless it is wanting.
+-- Steps that may rest on the room in a file: those that are the same except for lack of it, and what is said where there is enough.
 use Rattle.std.proofs.Common.{◌≡◌, inl, inr, Bool, false, ℕ, List, [], Option, Some, None, refl, sym, subst}
 use Rattle.std.proofs.lemmas.Bool.{false≢true}
 use Rattle.refusals.specs.declared.reason.Refusal.{Refusal}
@@ -14,7 +14,7 @@ pub strictly : (one other : Steps) → AreSameSteps false one other → one ≡ 
 strictly one other (inl same) = same
 strictly one other (inr full) = absurd (false≢true full.0)
 
--- steps that end for want of room do so without an act
+-- steps that end for lack of room do so without an act
 pub full_ended : (steps : Steps) (old : Outside) (acts : List Act) (new : Outside) (refusal : Option Refusal) → EndsFull steps → EndsBy steps old acts new refusal → IsFull refusal
 full_ended (Ending stated) old acts new refusal full ends = subst (λ (r : Option Refusal). IsFull r) (sym ends.ends) full
 full_ended (Doing act next) old acts new refusal full ends = absurd full
@@ -50,12 +50,12 @@ full_begun (Receiving next) old done hand now full begun = absurd full
 full_begun (Before one others) old done hand now full begun = absurd full
 full_begun (InLine line steps) old done hand now full begun = absurd full
 
--- want of room in a line is want of room
+-- lack of room in a line is lack of room
 pub full_in_line : (line : ℕ) (own refusal : Option Refusal) → refusal ≡ in_line line own → IsFull own → IsFull refusal
 full_in_line line None refusal is full = absurd full
 full_in_line line (Some own) refusal is full = subst (λ (r : Option Refusal). IsFull r) (sym is) full
 
--- another fact that follows, unless room is wanting
+-- another fact that follows, unless there is not enough room
 pub unless_full : {fact other : Type 0} (rooms : Bool) (own refusal : Option Refusal) → (IsFull own → IsFull refusal) → (fact → other) → UnlessFull rooms own fact → UnlessFull rooms refusal other
 unless_full rooms own refusal full so (inl is) = inl (so is)
 unless_full rooms own refusal full so (inr wanting) = inr (wanting.0, full wanting.1)

@@ -55,8 +55,8 @@ same_first datagram other left rest same = (cc, cc)
 
 -- What steps see.
 
--- Steps of one command see the same in the files of the one, from what is outside at their start, and in those of the other, but for
--- want of room where they may rest on that.
+-- Steps of one command see the same in the files of the one, from what is outside at their start, and in those of the other, except
+-- for lack of room where they may rest on that.
 abbrev SeesSame : (rooms : Bool) → Outside → World → Steps → Type 0
 SeesSame rooms one other (Ending stated) = ⊤
 SeesSame rooms one other (Doing act next) = SeesSame rooms one other next
@@ -162,11 +162,11 @@ sees_behind rooms looks takes one other next here there sees on may = subst (λ 
 
 -- However they end in both worlds, they do the same.
 
--- the acts and the refusals are the same, unless room is wanting
+-- the acts and the refusals are the same, unless there is not enough room
 abbrev pub AreSameEnds : (rooms : Bool) → (acts more : List Act) → (refusal stop : Option Refusal) → Type 0
 AreSameEnds rooms acts more refusal stop = UnlessOneFull rooms refusal stop ((acts ≡ more) × (refusal ≡ stop))
 
--- so are those of steps that are the same, unless room is wanting
+-- so are those of steps that are the same, unless there is not enough room
 same_looks : (rooms : Bool) (one_steps others : Steps) (here there : Outside) (acts : List Act) (new : Outside) (refusal : Option Refusal) (more : List Act) (to : Outside) (stop : Option Refusal)
     → AreSameSteps rooms one_steps others → EndsBy one_steps here acts new refusal → EndsBy others there more to stop
     → (EndsBy one_steps there more to stop → AreSameEnds rooms acts more refusal stop) → AreSameEnds rooms acts more refusal stop
@@ -248,7 +248,7 @@ follow_too (Replace name value) old new from follows =
     (to.0, (to.1.0, λ other differ differs. to.1.1 other differ))
 follow_too _ old new from follows = (from, refl)
 
--- steps end so from there too, unless room is wanting; and so do other steps, whose ends follow from theirs
+-- steps end so from there too, unless there is not enough room; and so do other steps, whose ends follow from theirs
 ends_more : (rooms : Bool) (inner outer : Steps) (there from : Outside) (acts all : List Act) (own refusal : Option Refusal) (behind : List Act → List Act) (in_it : Option Refusal → Option Refusal)
     → all ≡ behind acts → refusal ≡ in_it own → ((stop : Option Refusal) → IsFull stop → IsFull (in_it stop))
     → ((more : List Act) (to : Outside) (stop : Option Refusal) → EndsBy inner there more to stop → EndsBy outer from (behind more) to (in_it stop))
@@ -274,7 +274,7 @@ ends_only rooms inner outer there from acts refusal leads also =
 ends_so : (rooms : Bool) (steps : Steps) (there : Outside) (acts : List Act) (to : Outside) (refusal : Option Refusal) → EndsBy steps there acts to refusal → EndsAlso rooms steps there acts refusal
 ends_so rooms steps there acts to refusal ends = inr (acts, to, refusal, ends, inl (refl, refl))
 
--- steps that are the same end alike, unless room is wanting
+-- steps that are the same end alike, unless there is not enough room
 ends_looked : (rooms : Bool) (one_steps others : Steps) (here there : Outside) (acts : List Act) (new : Outside) (refusal : Option Refusal) → AreSameSteps rooms one_steps others
     → EndsBy one_steps here acts new refusal → EndsAlso rooms one_steps there acts refusal → EndsAlso rooms others there acts refusal
 ends_looked rooms one_steps others here there acts new refusal (inl same) ends also = subst (λ (s : Steps). EndsAlso rooms s there acts refusal) same also

@@ -21,7 +21,7 @@ use Rattle.run_steps.proofs.PhaseLemmas.{LeadsTo, carries_since, leads_looking, 
 
 -- What was taken.
 
--- where the input is a file nothing was taken from the standard input, and else so much of it, all where the whole is read
+-- where the input is a file nothing was taken from the standard input, and otherwise this much of it, all where the whole is read
 abbrev pub HasTaken : Option (List ℕ) → (whole : Bool) → (old left : List ℕ) → Type 0
 HasTaken None whole old left = IsTaken whole old left
 HasTaken (Some name) whole old left = left ≡ old

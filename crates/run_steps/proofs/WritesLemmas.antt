@@ -1,4 +1,4 @@
--- How many calls of `write` acts come to, one after another.
+-- How many calls of `write` acts take, one after another.
 use Rattle.std.proofs.Common.{◌≡◌, ℕ, ◌+◌, ◌≤◌, List, [], ◌∷◌, ◌++◌, refl, ◌∙◌, arith}
 use Rattle.quota_blocks.specs.QuotaValue.{QuotaValue}
 use Rattle.run_steps.specs.Act.{Act, Change, ChangesNone, Replace}

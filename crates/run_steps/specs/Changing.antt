@@ -18,14 +18,14 @@ blocks_of value = blocks_needed value.format (ids_in value.records)
 abbrev pub blocks_after : Option (List ℕ) → QuotaValue → ℕ
 blocks_after file value = blocks_wanted value.format file (ids_in value.records)
 
--- this act makes a file of this name stand for another value, where there is room for so many blocks
+-- this act makes a file of this name stand for another value, where there is room for this many blocks
 abbrev pub if_room : List ℕ → (blocks : ℕ) → (too_large : Bool) → Act → Outcome (List Act)
 if_room name blocks too_large act =
     if too_large then Refused (refusal_of (Full blocks most_blocks) name)
     else Passed (act ∷ [])
 
--- a file of this name is edited and stands for the value from then on, where it has room for so many blocks and something is to be
--- done
+-- a file of this name is edited and stands for the value from then on, where it has room for this many blocks and something is to
+-- be done
 abbrev pub written : List ℕ → (blocks : ℕ) → QuotaValue → (idle too_large : Bool) → Outcome (List Act)
 written name blocks new idle too_large = if idle then Passed [] else if_room name blocks too_large (Change name new)
 

@@ -55,8 +55,8 @@ abbrev pub NamesMayRefuse : Option (List ℕ) → Cause → List ℕ → Type 0
 NamesMayRefuse None cause name = ⊥
 NamesMayRefuse (Some file) cause name = FileOfNamesMayRefuse file cause name
 
--- Why the names were not read: the store's count of faults rose, or memory was wanting, or what is seen of the file of names
--- is this refusal.
+-- Why the names were not read: the store's count of faults rose, or there was not enough memory, or what is seen of the file
+-- of names is this refusal.
 abbrev pub IsNamesFault : (before now : ℕ) → (tells : Bool) → Outcome (List NameLine) → Refusal → Cause → Type 0
 IsNamesFault before now tells seen refusal StoreFault = Rose before now
 IsNamesFault before now tells seen refusal Memory = ⊤

@@ -18,7 +18,7 @@ leaves_files _ = true
 
 -- Steps that rest on room.
 
--- a cause is want of room in the blocks of a file
+-- a cause is lack of room in the blocks of a file
 abbrev pub IsFullCause : Cause → Type 0
 IsFullCause (Full blocks limit) = ⊤
 IsFullCause _ = ⊥
@@ -33,28 +33,28 @@ abbrev pub EndsFull : Steps → Type 0
 EndsFull (Ending stated) = IsFull stated
 EndsFull _ = ⊥
 
--- Steps are the same, or, where they may rest on room, the one or the other ends at once for want of it.
+-- Steps are the same, or, where they may rest on room, the one or the other ends at once for lack of it.
 abbrev pub AreSameSteps : (rooms : Bool) → (one other : Steps) → Type 0
 AreSameSteps rooms one other = (one ≡ other) ⊎ (IsTrue rooms × (EndsFull one ⊎ EndsFull other))
 
--- a fact, or, where steps may rest on room, an end for want of it
+-- a fact, or, where steps may rest on room, an end for lack of it
 abbrev pub UnlessFull : (rooms : Bool) → Option Refusal → Type 0 → Type 0
 UnlessFull rooms refusal fact = fact ⊎ (IsTrue rooms × IsFull refusal)
 
--- a fact of two ends, or, where steps may rest on room, the one or the other is an end for want of it
+-- a fact of two ends, or, where steps may rest on room, the one or the other is an end for lack of it
 abbrev pub UnlessOneFull : (rooms : Bool) → (one other : Option Refusal) → Type 0 → Type 0
 UnlessOneFull rooms one other fact = fact ⊎ (IsTrue rooms × (IsFull one ⊎ IsFull other))
 
 -- Steps that look first.
 
--- what comes of a look at the files is the same whatever files are seen, but for want of room where steps may rest on that
+-- what comes of a look at the files is the same whatever files are seen, except for lack of room where steps may rest on that
 abbrev pub RestsOnNone : (rooms : Bool) → (World → Steps) → Type 0
 RestsOnNone rooms next = (one other : World) → AreSameSteps rooms (next one) (next other)
 
 -- No file is looked at once one was changed, but by looks of which the same comes whatever they see, and the standard input is taken
--- once at most: whether such a look may find want of room, whether a file may still be looked at, and whether the input may still be
--- taken. Such steps have the same acts whatever bytes are chosen for a changed file, as far as room does not count, and commands after
--- one another are none.
+-- once at most: whether such a look may find too little room, whether a file may still be looked at, and whether the input may still
+-- be taken. Such steps have the same acts whatever bytes are chosen for a changed file, as far as room does not count, and commands
+-- after one another are none.
 abbrev pub LooksFirstBy : (rooms looks takes : Bool) → Steps → Type 0
 LooksFirstBy rooms looks takes (Ending stated) = ⊤
 LooksFirstBy rooms looks takes (Doing act next) = LooksFirstBy rooms (looks && leaves_files act) takes next
@@ -87,7 +87,7 @@ ReadsToEnd (Receiving next) = (datagram : Datagram) → ReadsToEnd (next datagra
 ReadsToEnd (Before one others) = ReadsToEnd one ⊎ ReadsToEnd others
 ReadsToEnd (InLine line steps) = ReadsToEnd steps
 
--- Where these steps pass, so many datagrams were received.
+-- Where these steps pass, this many datagrams were received.
 abbrev pub Receives : ℕ → Steps → Type 0
 Receives count (Ending None) = count ≡ 0
 Receives count (Ending (Some refusal)) = ⊤
@@ -100,7 +100,7 @@ Receives count (Receiving next) = (more : ℕ) × (count ≡ suc more) × ((data
 Receives count (Before one others) = (first : ℕ) × (more : ℕ) × (count ≡ first + more) × Receives first one × Receives more others
 Receives count (InLine line steps) = Receives count steps
 
--- so many datagrams were taken, and these are left
+-- this many datagrams were taken, and these are left
 pub record AreReceived (count : ℕ) (old new : List Datagram) : Type 0 where
   pub taken : List Datagram
   pub behind : old ≡ taken ++ new

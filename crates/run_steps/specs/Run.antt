@@ -35,7 +35,7 @@ HasFailed warns link old new SinkFault = Rose old.out.faults new.out.faults ⊎ 
 HasFailed warns link old new LinkFault = IsTrue link × Rose old.link.faults new.link.faults
 HasFailed warns link old new _ = ⊥
 
--- A cause that stops a command before its effect is whole is a fault of an object outside or want of memory. Every other
+-- A cause that stops a command before its effect is whole is a fault of an object outside or lack of memory. Every other
 -- cause belongs to the effect, and then `stated` holds.
 abbrev pub HasReason : Uses → RunSeen → RunSeen → Type 0 → Cause → Type 0
 HasReason uses old new stated cause = ByGroup (group_of cause) (HasFailed uses.warns uses.link old new cause) stated
@@ -58,8 +58,8 @@ pub record HasSteps (steps : Steps) (tells : RunTells) (refusal : Option Refusal
 
 -- Steps were done in part: they have begun, and the act that is at hand, if there is one, may have been done in part: bytes by
 -- a prefix of them, an edit as one that failed may leave the file, and a replacement and an answer not at all; a link is never
--- started in part. Nothing else was done, and there were no more calls of `write` to the store than these acts come to, the one at hand with them. What is left of
--- the input is not said.
+-- started in part. Nothing else was done, and there were no more calls of `write` to the store than these acts take, the one
+-- at hand with them. What is left of the input is not said.
 pub record IsDoneInPart (steps : Steps) (tells : RunTells) (old new : RunSeen) : Type 0 where
   pub done : List Act
   pub hand : List Act

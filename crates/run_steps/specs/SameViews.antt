@@ -64,8 +64,8 @@ Opens (Receiving next) old file =
 Opens (Before first others) old file = ⊥
 Opens (InLine line steps) old file = Opens steps old file
 
--- From each look of one command at the files as they are the same steps come in two worlds, but for want of room where they may rest
--- on that, whatever is seen of files that are opened, of the input and of the datagrams. Commands one after another are none.
+-- From each look of one command at the files as they are the same steps come in two worlds, except for lack of room where they may
+-- rest on that, whatever is seen of files that are opened, of the input and of the datagrams. Commands one after another are none.
 abbrev pub LooksAlikeBy : (rooms : Bool) → (one other : World) → Steps → Type 0
 LooksAlikeBy rooms one other (Ending stated) = ⊤
 LooksAlikeBy rooms one other (Doing act next) = LooksAlikeBy rooms one other next
@@ -81,8 +81,8 @@ LooksAlikeBy rooms one other (InLine line steps) = LooksAlikeBy rooms one other 
 abbrev pub LooksAlike : (one other : World) → Steps → Type 0
 LooksAlike = LooksAlikeBy false
 
--- Steps of one command meet the same outside, from the one and from the other: the same steps come from their looks at the files, but
--- for want of room where they may rest on that; each file that they come to open is seen alike; and the standard input and the
+-- Steps of one command meet the same outside, from the one and from the other: the same steps come from their looks at the files,
+-- except for lack of room where they may rest on that; each file that they come to open is seen alike; and the standard input and the
 -- datagrams are the same.
 pub record MeetsSame (rooms : Bool) (steps : Steps) (one other : Outside) : Type 0 where
   pub looks : LooksAlikeBy rooms one.files other.files steps
@@ -90,8 +90,8 @@ pub record MeetsSame (rooms : Bool) (steps : Steps) (one other : Outside) : Type
   pub input : other.input ≡ one.input
   pub datagrams : other.datagrams ≡ one.datagrams
 
--- Steps end so from here too, with these acts and this refusal; but where they may rest on room, they may end for want of it in the
--- other place, or this refusal is one for want of it.
+-- Steps end so from here too, with these acts and this refusal; but where they may rest on room, they may end for lack of it in the
+-- other place, or this refusal is one for lack of it.
 abbrev pub EndsAlso : (rooms : Bool) → Steps → Outside → List Act → Option Refusal → Type 0
 EndsAlso rooms steps here acts refusal =
     (IsTrue rooms × IsFull refusal)

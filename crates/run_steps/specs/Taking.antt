@@ -37,7 +37,7 @@ Taking None is_whole read next =
     Reading (λ (bytes : List ℕ). reads_whole is_whole (read bytes)) (λ (bytes : List ℕ). Then (read bytes) next)
 Taking (Some name) is_whole read next = Looking (λ (files : World). Then (file_said name read (files name)) next)
 
--- Why an input was not read: a count of faults rose, memory was wanting, or what it says, as it is seen, is this refusal.
+-- Why an input was not read: a count of faults rose, there was not enough memory, or what it says, as it is seen, is this refusal.
 abbrev pub IsInputFault : {V : Type 0} → (store_rose input_rose told : Type 0) → Outcome V → Refusal → Cause → Type 0
 IsInputFault store_rose input_rose told said refusal StoreFault = store_rose
 IsInputFault store_rose input_rose told said refusal SourceFault = input_rose

@@ -1,4 +1,4 @@
--- How many calls of `write` to the store acts come to, and what bounds those of a command.
+-- How many calls of `write` to the store acts take, and what bounds those of a command.
 use Rattle.std.specs.Prelude.{◌≡◌, ◌≤◌, ◌+◌, ◌*◌, ℕ, List, [], ◌∷◌, Option, IfSome, ⊤}
 use Rattle.quota_blocks.specs.Seen.{StoreSeen}
 use Rattle.quota_blocks.specs.World.{KeepsOthers}
@@ -16,8 +16,7 @@ edits_in [] = 0
 edits_in (Change name value ∷ acts) = 1 + edits_in acts
 edits_in (_ ∷ acts) = edits_in acts
 
--- Acts come to so many calls of `write`: to none where they change no file, and to twelve at most for each edit where they replace
--- none.
+-- Acts take this many calls of `write`: none where they change no file, and twelve at most for each edit where they replace none.
 pub record WritesFor (acts : List Act) (old new : ℕ) : Type 0 where
   pub none : ChangesNone acts → new ≡ old
   pub few : ReplacesNone acts → new ≤ old + 12 * edits_in acts
@@ -28,6 +27,6 @@ pub record EditsAlone (name : List ℕ) (old new : StoreSeen) : Type 0 where
   pub others : KeepsOthers name old.files new.files
   pub writes : new.writes ≤ old.writes + 12
 
--- there were no more calls of `read` than so many, where that is said
+-- there were no more calls of `read` than this number, where one is given
 abbrev pub ReadsWithin : Option ℕ → (old new : StoreSeen) → Type 0
 ReadsWithin most old new = IfSome most (λ (reads : ℕ). new.reads ≤ old.reads + reads)

@@ -27,7 +27,7 @@ pub fn files_follow_the_acts()
 {}
 
 /// What has begun of one command is a first part of every end of the same steps, so the output has a prefix of that end's. Where looks
-/// behind a change may find want of room, that is said of the ends that are not refused for it.
+/// behind a change may find too little room, that is said of the ends that are not refused for it.
 pub fn what_has_begun_is_a_first_part_of_every_end()
     ensures acts { (rooms : Bool) (steps : Steps) (old now new : Outside) (done hand acts : List Act) (refusal : Option Refusal)
         → LooksFirstBy rooms true true steps → HasBegun steps old done hand now → EndsBy steps old acts new refusal
@@ -98,8 +98,8 @@ pub fn so_many_datagrams_are_received()
 {}
 
 /// Steps of one command that see the same in two worlds do the same: however they end in each, the acts and the refusal are the
-/// same; and as they end in one, so they may end in the other. Where looks may find want of room, they do the same unless they are
-/// refused for it in one of the worlds.
+/// same; and as they end in one, so they may end in the other. Where looks may find too little room, they do the same unless they
+/// are refused for it in one of the worlds.
 pub fn steps_that_see_the_same_do_the_same()
     ensures acts { (rooms : Bool) (steps : Steps) (one other new to : Outside) (acts more : List Act) (refusal stop : Option Refusal)
         → LooksFirstBy rooms true true steps → MeetsSame rooms steps one other

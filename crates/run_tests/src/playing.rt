@@ -29,7 +29,7 @@ impl Program for QuotaCli {
     }
 }
 
-/// Carries out stories, one behind the other, and fails with what does not hold in them.
+/// Carries out stories, one after the other, and fails with what does not hold in them.
 pub(crate) fn play(rt: &impl Abort, alloc: Global, stories: &[&str]) {
     match failure_of(&QuotaCli, alloc, stories) {
         Ok(None) => (),

@@ -153,7 +153,7 @@ reply_there exported datagram now (Null xid) speaks = (_, refl)
 reply_there exported datagram now (Get xid caller path type id) speaks = (_, refl)
 reply_there exported datagram now (Set xid) speaks = (_, refl)
 
--- steps have begun with these acts, and left so much
+-- steps have begun with these acts, and left this much
 abbrev Begun : Steps → Outside → List Act → Outside → Type 0
 Begun steps from done now = (hand : List Act) × HasBegun steps from done hand now
 

@@ -41,7 +41,7 @@ use Rattle.serve_command.specs.Serve.{AnsweringMayRefuse, AreExported, Exporting
 abbrev pub behind_first : Option Format → Export → List Export → Exported → (Exported → Steps) → QuotaValue → Steps
 behind_first format export behind before next value = OpeningAll format behind (with_export before export.path export.kind value) next
 
--- one more file that words name, as it is seen by who exports it
+-- one more file that words name, as it is seen by whoever exports it
 pub named_more : (list : List Export) (at : ℕ) (export : Export) (news pushed : List NewExport) (new : NewExport) → at < length list → export ≡ get_or list at export
     → news_seen news ≡ news_of (take at list) → pushed ≡ news ++ new ∷ []
     → new.path.now ≡ export.path → new.kind ≡ export.kind → new.file.now ≡ export.file → news_seen pushed ≡ news_of (take (at + 1) list)
@@ -119,7 +119,7 @@ opened_now format list false old new serves before reads is = (
       opened_all format list false old new before before next file input out err link input_tells out_tells err_tells link_tells to ended reads (λ told. absurd (false≢true told)) carries,
 )
 
--- a refusal whose name could not be copied is one for want of memory
+-- a refusal whose name could not be copied is one for lack of memory
 unnamed : (steps : Steps) (may : Cause → List ℕ → Type 0) (tells : RunTells) (old new : RunSeen) (refusal : Refusal) → may Memory []
     → CarriesOut steps serve_uses may tells old new (Err refusal) → CarriesOut steps serve_uses may tells old new (Err (refusal_of Memory []))
 unnamed steps may tells old new refusal allowed carries = record {

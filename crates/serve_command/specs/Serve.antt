@@ -1,5 +1,5 @@
--- `rquotad`. Source: the manual page of rpc.rquotad; that so many calls are answered, and that quota files are named together with
--- the paths under which they are told of, is this project's own.
+-- `rquotad`. Source: the manual page of rpc.rquotad; that a given number of calls is answered, and that quota files are named
+-- together with the paths under which they are told of, is this project's own.
 use Rattle.std.specs.Prelude.{◌≡◌, ◌⊎◌, ◌+◌, ◌*◌, ℕ, zero, suc, true, false, List, [], ◌∷◌, map, Option, Some, None, ⊤}
 use Rattle.quota_types.specs.declared.file_kind.Format.{Format}
 use Rattle.quota_blocks.specs.QuotaValue.{QuotaValue}
@@ -38,14 +38,14 @@ abbrev pub Replying : Option Reply → Steps → Steps
 Replying None next = next
 Replying (Some reply) next = Doing (Answer (spelling_of reply)) next
 
--- so many datagrams are received, and the reply to each is sent, at the datagram's own moment
+-- this many datagrams are received, and the reply to each is sent, at the datagram's own moment
 abbrev pub AnsweringSteps : Exported → (calls : ℕ) → Steps
 AnsweringSteps exported zero = Finish
 AnsweringSteps exported (suc calls) =
     Receiving (λ (datagram : Datagram).
     Replying (datagram_reply exported datagram) (AnsweringSteps exported calls))
 
--- the files are exported, then the link is started at the port, once, and then so many datagrams are answered
+-- the files are exported, then the link is started at the port, once, and then this many datagrams are answered
 abbrev pub ServeSteps : Option Format → (calls port : ℕ) → List Export → Invocation → Steps
 ServeSteps format calls port exports invocation =
     OpeningAll format exports nothing_exported (λ (exported : Exported). Starting port (AnsweringSteps exported calls))
@@ -56,7 +56,7 @@ serve_uses = record { input = false; out = false; link = true; changes = false; 
 
 -- What is exported.
 
--- a file that words name, as it is seen by who exports it
+-- a file that words name, as it is seen by whoever exports it
 abbrev pub new_of : Export → NewSeen
 new_of export = record { path = export.path; kind = export.kind; file = export.file }
 
@@ -68,7 +68,7 @@ news_of exports = map new_of exports
 abbrev pub AreExported : Option Format → World → List Export → (before exported : Exported) → Type 0
 AreExported format files exports before exported = AreToldOf format files (news_of exports) before exported
 
--- How many calls of `read` it takes at most to answer so many datagrams out of these files: those of opening each, and five for each
+-- How many calls of `read` it takes at most to answer `calls` datagrams out of these files: those of opening each, and five for each
 -- datagram.
 abbrev pub serving_reads : Option Format → (calls : ℕ) → List Export → World → ℕ
 serving_reads format calls exports files = reads_of format files (news_of exports) + 5 * calls

@@ -86,7 +86,7 @@ fn news_of(list: &[Export]) -> ArrayVec<NewExport<'_>, MOST_EXPORTS>
     news
 }
 
-/// The refusal for a cause about the file of this name; or for want of memory, where the name can't be copied.
+/// The refusal for a cause about the file of this name; or for lack of memory, where the name can't be copied.
 fn refused(alloc: Global, cause: Cause, name: &Word) -> Refusal
     ensures { (result ≡ refusal_of cause name.now) ⊎ (result ≡ refusal_of Memory []) }
 {

@@ -46,9 +46,9 @@ pub fn serve_files<S: Store, L: Link>(
         (tells_of S.tells input_tells out_tells err_tells L.tells)
         (seen_of (S.seen store.old) input out err (L.seen link.old))
         (seen_of (S.seen store.new) input out err (L.seen link.new)) result }
-    // Whatever the store tells, so many datagrams were taken, the first ones.
+    // Whatever the store tells, `calls` datagrams were taken, the first ones.
     ensures taken { OnOk result (IsTrue L.tells → AreReceived calls (L.seen link.old).left (L.seen link.new).left) }
-    // Where memory was wanting, no call on the link was made.
+    // Where there was not enough memory, no call on the link was made.
     ensures untaken { IfErr result (λ refusal. status_of refusal.cause ≡ 5 → link.new ≡ link.old) }
     // The link is said to have failed only where not all was done: fewer datagrams were taken, or the last reply was not sent.
     ensures stopped { IfErr result (λ refusal. refusal.cause ≡ LinkFault → IsTrue L.tells
@@ -69,7 +69,7 @@ pub fn serve_files<S: Store, L: Link>(
     }
 }
 
-/// A copy of the name of the first file, of which is spoken where a file is found damaged while calls are answered.
+/// A copy of the name of the first file, which is named where a file is found damaged while calls are answered.
 fn first_file(alloc: Global, exports: &[Export]) -> Result<Word, Refusal>
     ensures copied { IfOk result (λ file. file ≡ first_file exports.now) }
     ensures wanting { IfErr result (λ refusal. refusal ≡ refusal_of Memory []) }
@@ -83,8 +83,8 @@ fn first_file(alloc: Global, exports: &[Export]) -> Result<Word, Refusal>
     }
 }
 
-/// Starts the link at a port, takes so many datagrams that are sent to it, and answers them. It takes no memory. Where a file is
-/// found damaged, the refusal speaks of the one of this name.
+/// Starts the link at a port, takes this many datagrams that are sent to it, and answers them. It takes no memory. Where a file
+/// is found damaged, the refusal gives this name.
 fn answer_calls<S: Store, L: Link>(
     opened: &mut Exports,
     format: Option<Format>,

@@ -11,7 +11,7 @@ const USED: [u8; 40] = [
     0, 0, 0, 0, 0, 0, 0, 0,
 ];
 
-/// A conversion of that file into a format, with at most so many blocks, over a store whose calls fail that `failing` names.
+/// A conversion of that file into a format, with at most this many blocks, over a store whose calls fail that `failing` names.
 struct Row {
     title: &'static str,
     new: Format,

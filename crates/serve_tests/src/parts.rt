@@ -14,7 +14,7 @@ fn put_text(bytes: &mut Vec<u8>, text: &[u8]) -> Result<(), AllocError> {
     put_zeros(bytes, 3 - text.len().wrapping_sub(1) % 4)
 }
 
-/// Puts so many zeros behind bytes.
+/// Puts `count` zeros behind bytes.
 fn put_zeros(bytes: &mut Vec<u8>, count: usize) -> Result<(), AllocError> {
     let all = bytes.len().saturating_add(count);
     bytes.resize(all, 0)?;
@@ -22,7 +22,7 @@ fn put_zeros(bytes: &mut Vec<u8>, count: usize) -> Result<(), AllocError> {
 }
 
 /// Puts what a word says behind bytes: a number is a unit, `'` begins a text, and `*` a number of zeros. A word that says
-/// none of this is a unit that no row wants.
+/// none of this is a unit that no row needs.
 fn put(bytes: &mut Vec<u8>, word: &str) -> Result<(), AllocError> {
     if let Some(text) = word.strip_prefix('\'') {
         return put_text(bytes, text.as_bytes());
@@ -35,7 +35,7 @@ fn put(bytes: &mut Vec<u8>, word: &str) -> Result<(), AllocError> {
     Ok(())
 }
 
-/// The bytes that words say, one behind another.
+/// The bytes that words say, one after another.
 pub(crate) fn bytes_of(alloc: Global, words: &str) -> Result<Vec<u8>, AllocError> {
     let mut bytes = Vec::new(alloc);
     for word in words.split(' ') {

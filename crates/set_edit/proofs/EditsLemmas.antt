@@ -66,7 +66,7 @@ room_by : (id : ℕ) (next : Rec) (null : Bool) → true ≡ may_lack_room (if n
 room_by id next true = refl
 room_by id next false = refl
 
--- What is put is what an edit wants of the values that the file holds: the format keeps it of a record for which it has room,
+-- What is put is what an edit makes of the values that the file holds: the format keeps it of a record for which it has room,
 -- and both idle at the same values.
 same_at : (edit : Edit) (id : ℕ) (next : Rec) (at : FileAt) → edit.needs_room ≡ true
     → ((value : QuotaValue) → at.holds value → edit.edited value ≡ Ok (with_or_without value id next))

@@ -164,7 +164,7 @@ pub step_on : {A B : Type 0} (read : Result B FormFault) (first : Result A FormF
     → read ≡ then_read first next → first ≡ Ok value → read ≡ next value
 step_on read first next value is e = is ∙ ap (λ r. then_read r next) e
 
--- a step came to a fault
+-- a step ended in a fault
 pub step_stops : {A B : Type 0} (read : Result B FormFault) (first : Result A FormFault) (next : A → Result B FormFault) (fault : FormFault)
     → read ≡ then_read first next → first ≡ Err fault → read ≡ Err fault
 step_stops read first next fault is e = is ∙ ap (λ r. then_read r next) e

@@ -36,7 +36,7 @@ with_or_without value id rec = changed_value (change_to id rec) value
 abbrev pub kept_change : Format → ℕ → Rec → FileChange
 kept_change format id rec = if is_null_of rec then Remove id else Put id (kept_of format id rec)
 
--- the value with no record of the identifier where this one is null, and else with what the format keeps of this one
+-- the value with no record of the identifier where this one is null, and otherwise with what the format keeps of this one
 abbrev pub with_kept : QuotaValue → ℕ → Rec → QuotaValue
 with_kept value id rec = changed_value (kept_change value.format id rec) value
 

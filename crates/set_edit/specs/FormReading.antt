@@ -85,7 +85,7 @@ form_in kind name id file lines =
 unfoldable pub form_read : Kind → (name : List ℕ) → (id : ℕ) → (file : List ℕ) → List ℕ → Result Limits FormFault
 form_read kind name id file bytes = form_in kind name id file (input_lines 1024 16777216 bytes)
 
--- The source's count of faults rose; or, of a source that tells what is left in it, reading comes to this fault.
+-- The source's count of faults rose; or, of a source that tells what is left in it, reading leads to this fault.
 abbrev pub IsFormFault : {A : Type 0} → (before now : ℕ) → Bool → Result A FormFault → FormFault → Type 0
 IsFormFault before now tells read (Lines Source) = Rose before now
 IsFormFault before now tells read (Lines (Long number)) = IsTrue tells → read ≡ Err (Lines (Long number))

@@ -1,5 +1,5 @@
 -- Ends of grace periods that are set by hand. Source: `setquota -T` of setquota(8), which sets the times of a user whose soft
--- limit is exceeded to so many seconds from now, or unsets them.
+-- limit is exceeded to a number of seconds from now, or unsets them.
 use Rattle.std.specs.Prelude.{ℕ, ◌+◌, Bool, ◌&&◌, not, if◌then◌else◌, Option, unwrap_or, Result}
 use Rattle.std.specs.FinMap.{get}
 use Rattle.quota_types.specs.Range.{unfit}
@@ -14,7 +14,7 @@ use Rattle.set_edit.specs.declared.skipped.Skipped.{Skipped}
 use Rattle.set_edit.specs.declared.time_word.TimeWord.{TimeWord}
 use Rattle.set_edit.specs.declared.time_word.TimeWord.TheVariants.{Seconds, Unset}
 
--- the timer that a word asks for: so many seconds from now, or none
+-- the timer that a word asks for: a number of seconds from now, or none
 abbrev pub time_of : TimeWord → ℕ → ℕ
 time_of (Seconds seconds) now = now + seconds
 time_of Unset now = 0
@@ -58,7 +58,7 @@ abbrev pub skips_both_of : QuotaValue → ℕ → Bool
 skips_both_of value id = skips_both (times_skipped (record_in value id))
 
 -- The value with these times of the identifier, all others as they are; the same value where both are skipped. It is
--- refused with the first field of the wanted record for which the format has no room, also where both are skipped: then
+-- refused with the first field of the wanted record for which the format has no room, even where both are skipped: then
 -- that is the identifier.
 abbrev pub times_set : QuotaValue → ℕ → TimeWord → TimeWord → ℕ → Result QuotaValue (Field × ℕ)
 times_set value id block inode now =

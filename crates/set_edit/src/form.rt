@@ -153,7 +153,7 @@ fn push(text: &mut ArrayVec<u8, CAPACITY>, bytes: &[u8])
     text.try_extend_from_slice(bytes).unwrap();
 }
 
-/// Writes pieces one behind the other.
+/// Writes pieces one after the other.
 fn write_pieces<O: Sink>(sink: &mut O, pieces: &[&[u8]]) -> Result<(), SinkFault>
     ensures ok { OnOk result (IsTrue O.tells → (O.seen sink.new).written
         ≡ (O.seen sink.old).written ++ flat_map (λ piece. piece.now) pieces.now) }

@@ -1,7 +1,7 @@
 /// A new end of a grace period, as a command names it.
 #[derive(Clone, Copy, Debug, PartialEq, Eq)]
 pub enum TimeWord {
-    /// So many seconds from now.
+    /// This many seconds from now.
     Seconds(u64),
     /// None: the grace period does not run.
     Unset,

@@ -22,7 +22,7 @@ use quota_types::{Field, Format, NoRoom, Rec, check_record, is_exceeded, kept};
 ///
 /// # Errors
 ///
-/// It is refused with `NoRoom` by the first field for which the format has no room, with its value: the identifier, also
+/// It is refused with `NoRoom` by the first field for which the format has no room, with its value: the identifier, even
 /// where both times are skipped, or a timer whose end does not fit 64 bits, that for blocks before that for inodes. Each
 /// fault of the opened file is answered as it is.
 pub fn set_times<S: Store, F: QuotaFile<S>>(
@@ -107,7 +107,7 @@ fn next_times(
     Ok(kept(format, id, timed))
 }
 
-/// A timer as it was where it is skipped, and else as the word asks for.
+/// A timer as it was where it is skipped, and otherwise as the word asks for.
 fn next_time(
     id: u32,
     field: Field,

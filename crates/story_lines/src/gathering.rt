@@ -75,7 +75,7 @@ fn count(alloc: Global, word: &str) -> Result<usize, Wrong> {
     Ok(number as usize)
 }
 
-/// Adds a byte so many times as a word says.
+/// Adds a byte as many times as a word says.
 fn add_times(stage: &mut Stage, byte: u8, times: &str) -> Told {
     let more = count(stage.alloc, times)?;
     let all = stage.gathered.len().saturating_add(more);
@@ -92,7 +92,7 @@ fn add_filled(stage: &mut Stage, rest: &str) -> Told {
     }
 }
 
-/// Adds so many of the lowest bytes of a number, the lowest one first.
+/// Adds the `width` lowest bytes of a number, the lowest one first.
 fn add_number(stage: &mut Stage, word: &str, width: usize) -> Told {
     let bytes = number(stage.alloc, word)?.to_le_bytes();
     add(stage, bytes.get(..width).unwrap_or(b""))

@@ -1,5 +1,5 @@
 //! The lines of a story but those that run or read words: they gather bytes, set what the next run meets, and say what the
-//! last one left. It is there for tests alone.
+//! last one left. It is only for tests.
 #![tactic(auto)]
 
 mod gathering;

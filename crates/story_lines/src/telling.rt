@@ -112,7 +112,7 @@ fn first_difference(bytes: &[u8], others: &[u8]) -> usize {
     place
 }
 
-/// What a file has in place of the bytes that are wanted.
+/// What a file has instead of the bytes that are wanted.
 fn has_instead(alloc: Global, bytes: &[u8], wanted: &[u8]) -> Told {
     let place = first_difference(bytes, wanted);
     let length = bytes.len();
@@ -123,7 +123,7 @@ fn has_instead(alloc: Global, bytes: &[u8], wanted: &[u8]) -> Told {
     Err(Wrong::Said(why))
 }
 
-/// What there is of a file, in place of what a line says of it.
+/// What there is of a file, instead of what a line says of it.
 fn is_instead(alloc: Global, before: Option<&[u8]>, after: Option<&[u8]>) -> Told {
     match (before, after) {
         (_, None) => unmet(alloc, "there is no such file"),
@@ -252,7 +252,7 @@ fn is_answer(alloc: Global, last: &mut Last, gathered: &[u8]) -> Told {
     Err(Wrong::Said(format!(in alloc; "it is {answer:?}")?))
 }
 
-/// That each of so many next answers of the link has bytes.
+/// That each of the next `times` answers of the link has bytes.
 fn are_answers(alloc: Global, last: &mut Last, gathered: &[u8], times: u64) -> Told {
     for _ in 0..times {
         is_answer(alloc, last, gathered)?;

@@ -1,5 +1,5 @@
-//! Stories: rows of commands as text, and the player that carries them out over objects in memory. It is there for
-//! tests alone: what a story says of a program is wanted, and not proved.
+//! Stories: rows of commands as text, and the player that carries them out over objects in memory. It is only for
+//! tests: what a story says of a program is expected, and not proved.
 //!
 //! A story is a text of lines. A row begins with a line `= TITLE`, and lasts up to the next one. In a row a line of the
 //! first table gathers bytes, one of the second makes them a file or an input, or says what the next run meets, one of
@@ -7,7 +7,7 @@
 //! a status but 0 that no line tells, and a file that it made, changed or took away and that no line names, fail the
 //! row. So does a word or a number that is misspelt, and what was gathered or set and is of no use. Of files it looks at
 //! those that were there before and at those that a word of the run names, or of the lines of a script, and at each with
-//! `.new` added; of another one no line may speak.
+//! `.new` added; no line may name another one.
 //!
 //! | Gathers | |
 //! |---|---|
@@ -35,10 +35,10 @@
 //!
 //! | Runs | |
 //! |---|---|
-//! | `run WORDS` | the words, parted by single spaces; with no fault of the store set once more over the same files on a disk, through a journal, which must say and leave the same, but for files whose names end in `.undo` or `.und` |
+//! | `run WORDS` | the words, separated by single spaces; with no fault of the store set once more over the same files on a disk, through a journal, which must say and leave the same, but for files whose names end in `.undo` or `.und` |
 //! | `both WORDS` | once with the standard input, and once over the same files with a file `l` of the same bytes and `--input l` behind the words, each as by `run`; both must leave the same |
 //! | `sweep OBJECT WORDS` | once with no fault, and then once for each call of the object that this run made, which fails: each must end with status 4 and the line of the object's fault, in a script with the number of a line, with an output and answers of the link that are a first part of the whole ones, and with each file as it was or as the whole run left it, or, of a tree file, with each block so. Where the error output fails under the line of a refusal, it has a first part of that line, and all else is as the whole run left it |
-//! | `sweep each WORDS` | the same with each object of which the run makes calls, one behind the other |
+//! | `sweep each WORDS` | the same with each object of which the run makes calls, one after the other |
 //! | `turn WORDS` | once whole, and then once for each number of reads below that of the whole run, after which the store turns: each must say what the whole run said, or end with status 3, no output and a line on the file `q`, with each file as it was or as a line allows |
 //! | `stop WORDS \| WORDS` | the first words as by `run`, and then once for each call of the disk that the run over it made, from which on the disk is stopped: each must end with status 4 and the line of the store's fault, with outputs that are a first part of the whole ones. What the stop left, where an earlier one did not leave the same, is read by the second words over a disk that goes on: they must end with status 0, and each file must then be as it was, as the whole run left it, or as a line allows, but for files whose names end so. Where the gate of an undo file was open, the second words are stopped too, at each of their calls in turn, and run again, which must leave the same. A stop behind the last call must leave what the whole run left |
 //!
@@ -50,13 +50,13 @@
 //! | `! TEXT` | the next line of its error output |
 //! | `same FILE ..`, `changes FILE ..`, `absent FILE ..` | these files are as before the run; are others; are not there |
 //! | `holds FILE [KEPT]` | the file has the gathered bytes |
-//! | `long FILE N` | it has so many bytes |
+//! | `long FILE N` | it has N bytes |
 //! | `begins FILE [KEPT]`, `has FILE [KEPT]` | it begins with the gathered bytes; they stand in it |
 //! | `at FILE PLACE A B ..` | these numbers of four bytes stand in it |
 //! | `writes N` | how many calls of `write` of the store there were |
 //! | `calls TEXT` | all calls of the store |
 //! | `left N` | how many bytes of the input were not taken |
-//! | `sent`, `sent N` | the gathered bytes were the next answer of the link; each of so many next ones |
+//! | `sent`, `sent N` | the gathered bytes were the next answer of the link; each of the next N ones |
 #![tactic(auto)]
 
 mod files;

@@ -3,7 +3,7 @@ use story_lines::{gather, is_all_told, is_all_used, set_up, tell};
 use story_runs::run;
 use story_stage::{NO_LINE, Program, Runs, Stage, Told, VERBS, Verb, Wrong, unmet, verb_in};
 
-/// What fails in stories that are carried out one behind the other, in words: the title of the row, the line that does not
+/// What fails in stories that are carried out one after the other, in words: the title of the row, the line that does not
 /// hold, and what was there instead. `None` where all of them hold. What a story keeps is there in those behind it.
 pub fn failure_of<P: Program>(
     program: &P,
@@ -18,7 +18,7 @@ pub fn failure_of<P: Program>(
     }
 }
 
-/// Carries out stories, one behind the other.
+/// Carries out stories, one after the other.
 fn play_all<P: Program>(program: &P, stage: &mut Stage, stories: &[&str]) -> Told {
     for story in stories {
         play(program, stage, story)?;

@@ -1,6 +1,6 @@
-//! The runs of a story: words that are run once, by a file in place of the standard input, with each call of an object
-//! failing in turn, over a store whose files turn bad, and over a disk that stops at each of its calls. It is there for
-//! tests alone.
+//! The runs of a story: words that are run once, with a file instead of the standard input, with each call of an object
+//! failing in turn, over a store whose files turn bad, and over a disk that stops at each of its calls. It is only for
+//! tests.
 #![tactic(auto)]
 
 mod made_calls;

@@ -117,7 +117,7 @@ fn may_all_be(stage: &Stage, whole: &Ran, names: &[NamedBytes], files: &[NamedBy
     may_be_so
 }
 
-/// That each file is the old or the new one, or as a line allows, and none else is there.
+/// That each file is the old or the new one, or as a line allows, and no other is there.
 fn are_old_or_new(stage: &Stage, whole: &Ran, files: &[NamedBytes]) -> Told {
     let are_so = may_all_be(stage, whole, &stage.files, files)
         && may_all_be(stage, whole, &whole.files, files)
@@ -272,7 +272,7 @@ fn stop_at<P: Program>(
     Ok(())
 }
 
-/// Stops at each of so many calls in turn.
+/// Stops at each of `calls` calls in turn.
 fn stop_each<P: Program>(program: &P, stage: &Stage, stops: &Stops<'_>, calls: u64) -> Told {
     let mut course = Course {
         earlier: Vec::new(stage.alloc),

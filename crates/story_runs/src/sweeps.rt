@@ -137,7 +137,7 @@ fn run_by_file<P: Program>(
     run_twice(program, stage, &files, setting, words.as_str())
 }
 
-/// That a run by a file in place of the standard input leaves the same.
+/// That a run with a file instead of the standard input leaves the same.
 fn is_same_by_file<P: Program>(
     program: &P,
     stage: &Stage,
@@ -373,7 +373,7 @@ fn sweep_call<P: Program>(
     Ok(())
 }
 
-/// Lets so many calls fail, one after another. It answers whether a run left what a line allows, where one does.
+/// Lets `made` calls fail, one after another. It answers whether a run left what a line allows, where one does.
 fn sweep_calls<P: Program>(
     program: &P,
     stage: &Stage,

@@ -8,7 +8,7 @@ use crate::watched::Watched;
 use crate::wrong::{Wrong, holds_if};
 use std::alloc::{AllocError, Global};
 
-/// The words of a line, parted by single spaces.
+/// The words of a line, separated by single spaces.
 ///
 /// # Errors
 ///

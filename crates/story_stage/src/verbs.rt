@@ -93,7 +93,7 @@ pub enum OfBytes {
     All,
     /// They are the first ones.
     Start,
-    /// They are some of them, one behind the other.
+    /// They are some of them, one after the other.
     Part,
 }
 

@@ -25,8 +25,8 @@ impl Diary {
     }
 }
 
-/// A store in memory that counts its calls and writes them down, and whose files turn into bytes of 255 after so many
-/// reads. It tells nothing.
+/// A store in memory that counts its calls and writes them down, and whose files turn into bytes of 255 after a given
+/// number of reads. It tells nothing.
 #[derive(Drop)]
 pub(crate) struct Watched {
     /// The store whose files it gives.

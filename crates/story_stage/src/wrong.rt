@@ -30,7 +30,7 @@ pub fn unmet<T: Drop>(alloc: Global, why: &str) -> Result<T, Wrong> {
     Err(Wrong::Said(String::from_str(alloc, why)?))
 }
 
-/// A line that holds where something is so, and else is wrong for a reason in words.
+/// A line that holds where something is so, and otherwise is wrong for a reason in words.
 ///
 /// # Errors
 ///
@@ -63,7 +63,7 @@ pub fn number(alloc: Global, word: &str) -> Result<u64, Wrong> {
     }
 }
 
-/// What was there in place of a line that is wanted.
+/// What was there instead of a line that is wanted.
 ///
 /// # Errors
 ///

@@ -2,7 +2,7 @@
 use Rattle.std.specs.Prelude.{ℕ, None, false, ⊤}
 use Rattle.crash_disk.specs.DiskSeen.{DiskSeen}
 
--- so many calls have failed; no file is read, and a stop may leave anything
+-- this many calls have failed; no file is read, and a stop may leave anything
 abbrev pub untold : ℕ → DiskSeen
 untold faults = record {
   files = λ _. None;

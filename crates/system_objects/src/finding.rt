@@ -268,7 +268,7 @@ impl<'a, R: Files<File = File>> OpenFiles<'a, R> {
         Ok(path)
     }
 
-    /// Where a file that is renamed comes to. Where it was made and another program took its name meanwhile, that is an error.
+    /// Where a file that is renamed goes. Where it was made and another program took its name meanwhile, that is an error.
     pub fn path_to_replace(&mut self, from: &str, to: &str, source: &str) -> io::Result<String> {
         if let Some(made) = &self.made {
             if made.name.as_str() == from {

@@ -108,7 +108,7 @@ impl<'a, R: Files<File = File>> OpenFiles<'a, R> {
         Ok(())
     }
 
-    /// The length of a file; what is no file, as a folder, is an error.
+    /// The length of a file; what is no file, such as a folder, is an error.
     pub fn length(&mut self, name: &str) -> io::Result<Option<u64>> {
         if self.is_keeping() && self.keep(name)? {
             return Ok(self.whole.length(name));
@@ -156,7 +156,7 @@ impl<'a, R: Files<File = File>> OpenFiles<'a, R> {
         self.closing(done)
     }
 
-    /// Shortens a file to so many bytes. One that is no longer stays, and one that is not there is not made.
+    /// Shortens a file to this many bytes. One that is not longer stays, and one that is not there is not made.
     pub fn cut(&mut self, name: &str, len: u64) -> io::Result<()> {
         if !self.open(name, Access::Reading)? {
             return Ok(());

@@ -12,7 +12,7 @@ const NAME: &str = "file_of_system_tests";
 /// The bytes that it has first, of which the last block is not whole.
 const LENGTH: usize = 1_024_500;
 
-/// What is done with so many bytes of it from a place on.
+/// What is done with this many bytes of it from a place on.
 #[derive(Clone, Copy, Debug)]
 enum Step {
     /// They are read.
@@ -76,7 +76,7 @@ fn first_bytes(alloc: Global) -> io::Result<Vec<u8>> {
     Ok(bytes)
 }
 
-/// Whether so many bytes from a place on are read as they should be, and no more than the file has.
+/// Whether `len` bytes from a place on are read as they should be, and no more than the file has.
 fn reads<D: Disk>(disk: &mut D, wanted: &[u8], at: usize, len: usize) -> bool {
     let mut buf = [0; 1024];
     let len = len.min(buf.len());
@@ -86,14 +86,14 @@ fn reads<D: Disk>(disk: &mut D, wanted: &[u8], at: usize, len: usize) -> bool {
     matches!(found, Ok(count) if buf.get(..count) == Some(wanted))
 }
 
-/// Whether so many bytes of a value are written to a place.
+/// Whether `len` bytes of a value are written to a place.
 fn writes<D: Disk>(disk: &mut D, at: usize, len: usize, value: u8) -> bool {
     let bytes = [value; 1024];
     let len = len.min(bytes.len());
     len > 0 && at < 2_000_000 && disk.write(NAME, at as u64, &bytes[..len]) == Ok(())
 }
 
-/// Writes so many bytes of a value to a place, as another program does.
+/// Writes `len` bytes of a value to a place, as another program does.
 fn grow<R: Files<File = File>>(files: &R, at: usize, len: usize, value: u8) -> io::Result<()> {
     let bytes = [value; 1024];
     let len = len.min(bytes.len());
@@ -101,7 +101,7 @@ fn grow<R: Files<File = File>>(files: &R, at: usize, len: usize, value: u8) -> i
     file.write_all_at(&bytes[..len], at as u64)
 }
 
-/// Gives so many bytes from a place on a value, behind the end too.
+/// Gives `len` bytes from a place on a value, past the end too.
 fn fill(bytes: &mut Vec<u8>, at: usize, len: usize, value: u8) -> io::Result<()> {
     let end = at.saturating_add(len);
     if bytes.len() < end {

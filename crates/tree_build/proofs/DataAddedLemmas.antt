@@ -17,7 +17,7 @@ use Rattle.tree_build.proofs.EntryLemmas.{range-suc}
 use Rattle.tree_build.proofs.NewFileLemmas.{appended, kept_again, kept_append, kept_first}
 use Rattle.quota_radix.proofs.PathLemmas.{each-append}
 
--- a file with so many of the data blocks of a list, and the leaves of these
+-- a file with this many of the data blocks of a list, and the leaves of these
 pub record HasParts (format : Format) (list : List Entry) (first : ℕ) (old file : List ℕ) (leaves : List TreePath) (rest : List Entry) (count : ℕ) : Type 0 where
   pub leaves_are : leaves ≡ flat_map leaves_in (parts_of format list first count)
   pub blocks_are : AreDataBlocks format file (parts_of format list first count)

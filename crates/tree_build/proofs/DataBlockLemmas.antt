@@ -40,7 +40,7 @@ zero_bytes at = elim (cases_lt at 1024) [
   | inr high ↦ get_or_past (replicate 1024 0) at 0 high
 ]
 
--- a block that has so many of these entries, and else zeros
+-- a block that has this many of these entries, and otherwise zeros
 pub record IsFilledTo (format : Format) (block : List ℕ) (entries : List Entry) (count : ℕ) : Type 0 where
   pub size : length block ≡ 1024
   pub entry : (place : ℕ) (absent : Entry) → place < count → IsEntry format (entry_bytes format block place) (get_or entries place absent).id (get_or entries place absent).rec

@@ -109,7 +109,7 @@ none_spelled : (format : Format) (bytes : List ℕ) → is_unused bytes ≡ true
 none_spelled format bytes unused =
     ap (λ (b : Bool). cond b None (Some (record { id = stored_id bytes; rec = without_marker (stored_id bytes) (stored_record format bytes) }))) unused
 
--- the entries of a block round one of them
+-- the entries of a block around one of them
 parted : (format : Format) (block : List ℕ) (place : ℕ) → place < entries_per_block format
     → used_entries format block
     ≡ filter_map (entry_of format) (map (entry_bytes format block) (range_with_len 0 place))

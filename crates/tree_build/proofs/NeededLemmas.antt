@@ -73,7 +73,7 @@ stands_map f (x ∷ xs) n stands = elim (times_cases x xs n) [
   ]
 ]
 
--- one more identifier has one more beginning where it begins otherwise than the last one, and else none
+-- one more identifier has one more beginning where it begins differently from the last one, and otherwise none
 beginnings_more : (left_out : ℕ) (ids : List ℕ) (last : Option ℕ) (id : ℕ) → 0 < 256 ^ left_out → IsLastOf last ids → IsAfter last id
     → beginnings left_out (ids ++ id ∷ []) ≡ beginnings left_out ids + new_beginnings (256 ^ left_out) last id
 beginnings_more left_out ids None id some last is =

@@ -117,7 +117,7 @@ found_or_later id (Some e) entries =
     let other : Bool → Option Rec = λ b. option_or (cond b (Some e.rec) None) (option_map (λ (entry : Entry). entry.rec) later) in
     elim (cases_Bool (e.id == id)) [ inl same ↦ ap one same ∙ sym (ap other same) | inr apart ↦ ap one apart ∙ sym (ap other apart) ]
 
--- the record of so many entries from a place on
+-- the record among this many entries from a place on
 abbrev record_among : Format → List ℕ → ℕ → ℕ → ℕ → Option Rec
 record_among format block id place count =
     option_map (λ (entry : Entry). entry.rec)

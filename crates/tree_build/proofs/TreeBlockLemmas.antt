@@ -31,7 +31,7 @@ digit_at paths place = (get_or paths place no_path).number % 256
 abbrev pub AreApart : List TreePath → Type 0
 AreApart paths = (j k : ℕ) → j < k → k < length paths → digit_at paths j ≢ digit_at paths k
 
--- a block that has the references of so many paths, and else zeros
+-- a block that has the references of this many paths, and otherwise zeros
 pub record HasReferences (block : List ℕ) (paths : List TreePath) (count : ℕ) : Type 0 where
   pub written : AreApart paths → (place : ℕ) → place < count → word_in block (digit_at paths place) ≡ (get_or paths place no_path).block
   pub zeros : (digit : ℕ) → ((place : ℕ) → place < count → digit_at paths place ≢ digit) → word_in block digit ≡ 0

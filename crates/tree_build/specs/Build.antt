@@ -26,7 +26,7 @@ pub record HasNoPadding (format : Format) (file : List ℕ) (blocks : ℕ) : Typ
   pub in_entries : (block : ℕ) → StandsIn (data_blocks file blocks) block → (place : ℕ) → place < entries_per_block format
       → padding_of format (entry_bytes format (block_of file block) place) ≡ 0
 
--- A file was not built since it needs more blocks than it may have, or for want of memory.
+-- A file was not built since it needs more blocks than it may have, or for lack of memory.
 abbrev pub IsBuildFault : ℕ → ℕ → BuildFault → Type 0
 IsBuildFault needed most (Full blocks limit) = (most < needed) × (blocks ≡ needed) × (limit ≡ most)
 IsBuildFault needed most Memory = ⊤

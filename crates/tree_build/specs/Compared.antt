@@ -36,7 +36,7 @@ leading_ids groups block = slice_index_or groups block []
 abbrev pub is_room : Format → List ℕ → List (List ℕ) → ℕ → Bool
 is_room format file groups block = nat_le 1 (length (leading_ids groups block)) && has_unused format (block_of file block)
 
--- the data blocks with room, of so many blocks
+-- the data blocks with room, among this many blocks
 abbrev pub rooms : Format → List ℕ → List (List ℕ) → ℕ → List ℕ
 rooms format file groups blocks = filter (is_room format file groups) (range_with_len 0 blocks)
 

@@ -18,8 +18,8 @@ use Rattle.tree_build.specs.Roles.{has_room, roles}
 use Rattle.quota_radix.specs.Tree.{data_blocks, ids_at, leaves}
 use Rattle.free_chains.specs.ChainDefect.{IsOut, IsLoop}
 
--- a file of so many bytes has more blocks than header and root and is shorter than they, and the block is the first that is
--- not whole
+-- a file of this many bytes has more blocks than header and root and is shorter than they, and the block is the first that
+-- is not whole
 pub record IsShort (len blocks block : ℕ) : Type 0 where
   pub more : 2 < blocks
   pub short : len < 1024 * blocks

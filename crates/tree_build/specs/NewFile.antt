@@ -12,7 +12,7 @@ use Rattle.quota_radix.specs.TreeDefect.{IsEmpty}
 use Rattle.tree_build.specs.Size.{each_once, filled_blocks}
 use Rattle.quota_radix.specs.Tree.{steps}
 
--- so many first blocks of a file are as they were
+-- the first blocks of a file, this many of them, are as they were
 abbrev pub KeepsBlocks : ℕ → List ℕ → List ℕ → Type 0
 KeepsBlocks count old new = (block : ℕ) → block < count → block_of new block ≡ block_of old block
 
@@ -20,7 +20,7 @@ KeepsBlocks count old new = (block : ℕ) → block < count → block_of new blo
 abbrev pub parents_of : List ℕ → List ℕ
 parents_of numbers = each_once (map (λ number. number / 256) numbers)
 
--- each of some paths comes to a block other than that of the header
+-- each of some paths leads to a block other than that of the header
 abbrev pub AllLead : ℕ → List TreePath → Type 0
 AllLead blocks paths = AllByRecursion (λ (path : TreePath). IsTrue (leads blocks path.block)) paths
 
@@ -37,7 +37,7 @@ pub record IsFullTreeBlock (file : List ℕ) (blocks block : ℕ) : Type 0 where
 abbrev pub AreBelow : ℕ → List TreePath → Type 0
 AreBelow bound paths = AllByRecursion (λ (path : TreePath). path.number < bound) paths
 
--- The paths that go on from some are others, and each block to which one of the first comes has references, none past the
+-- The paths that go on from some are others, and each block to which one of the first leads has references, none past the
 -- last block.
 pub record IsLevel (file : List ℕ) (blocks : ℕ) (parents children : List TreePath) : Type 0 where
   pub onward : flat_map (steps file blocks) parents ≡ children
@@ -59,7 +59,7 @@ part_of format entries first place = record {
   entries = take (entries_per_block format) (drop (entries_per_block format * place) entries);
 }
 
--- the first so many data blocks of some entries
+-- the first data blocks of some entries, this many of them
 abbrev pub parts_of : Format → List Entry → ℕ → ℕ → List Part
 parts_of format entries first count = map (part_of format entries first) (range_with_len 0 count)
 

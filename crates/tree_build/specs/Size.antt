@@ -12,11 +12,11 @@ abbrev pub each_once : List ℕ → List ℕ
 each_once [] = []
 each_once (number ∷ numbers) = number ∷ filter (λ other. not (other == number)) (each_once numbers)
 
--- how many different beginnings identifiers have, where so many of their four bytes are left out
+-- how many different beginnings identifiers have, where this many of their four bytes are left out
 abbrev pub beginnings : ℕ → List ℕ → ℕ
 beginnings left_out ids = length (each_once (map (λ id. id / 256 ^ left_out) ids))
 
--- how many blocks so many entries fill, of so many a block
+-- how many blocks a number of entries fills, with a given number to a block
 abbrev pub filled_blocks : ℕ → ℕ → ℕ
 filled_blocks per_block entries = (entries + (per_block - 1)) / per_block
 

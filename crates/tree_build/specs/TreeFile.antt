@@ -28,8 +28,8 @@ record_by_leaves format file leaves id =
 abbrev pub tree_record : Format → List ℕ → ℕ → ℕ → Option Rec
 tree_record format file blocks id = record_by_leaves format file (leaves file blocks) id
 
--- The blocks and entries of a file of so many bytes are sound: it has header and root; where it has more blocks it is as long
--- as they; and its roles, its entry list and its entries are in order.
+-- The blocks and entries of a file of this many bytes are sound: it has header and root; where it has more blocks it is as
+-- long as they; and its roles, its entry list and its entries are in order.
 pub record IsSound (format : Format) (file : List ℕ) (len : ℕ) (numbers : HeaderNumbers) : Type 0 where
   pub two : 2 ≤ numbers.blocks
   pub long : 2 < numbers.blocks → 1024 * numbers.blocks ≤ len

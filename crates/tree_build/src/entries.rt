@@ -136,8 +136,8 @@ pub fn find_place(format: Format, block: &[u8; 1024], id: u32) -> Option<usize>
     Some(place)
 }
 
-/// The record of an entry of a block that is used by an identifier: of that at the place `near`, where that is one, and else
-/// of the first one. Then the place behind it is near, so that entries that follow one another are found at once.
+/// The record of an entry of a block that is used by an identifier: of that at the place `near`, where that is one, and
+/// otherwise of the first one. Then the place behind it is near, so that entries that follow one another are found at once.
 #[inline(always)]
 pub fn find_near(format: Format, block: &[u8; 1024], id: u32, near: &mut usize) -> Option<Rec>
     requires tree { IsTreeFormat format }

@@ -40,7 +40,7 @@ pub fn used_count(format: Format, block: &[u8; 1024]) -> usize
     count
 }
 
-/// 1 where the entry at a place among the entries of a block is used, and else 0.
+/// 1 where the entry at a place among the entries of a block is used, and otherwise 0.
 fn uses_at(format: Format, block: &[u8; 1024], place: usize) -> usize
     requires tree { IsTreeFormat format }
     requires place { place < entries_per_block format }

@@ -70,8 +70,8 @@ impl Needed {
     }
 }
 
-/// How many more beginnings there are once an identifier comes after the last one: none where both begin alike, and else one.
-/// An identifier's beginning is its quotient by `divisor`.
+/// How many more beginnings there are once an identifier comes after the last one: none where both begin alike, and otherwise
+/// one. An identifier's beginning is its quotient by `divisor`.
 fn new_beginnings(last: Option<u32>, id: u32, divisor: u32) -> u64
     requires { 0 < divisor }
     ensures { result ≡ new_beginnings divisor last id }
@@ -95,8 +95,8 @@ pub(crate) fn blocks_needed(format: Format, list: &[Entry]) -> u64
     needed.blocks(format)
 }
 
-/// The first data block that has room, of a file whose data blocks begin with block 2 and have so many entries: the last
-/// one, where it is not full.
+/// The first data block that has room, of a file whose data blocks begin with block 2 and have `entries` entries: the
+/// last one, where it is not full.
 pub(crate) fn first_with_room(format: Format, entries: usize) -> u32
     requires tree { IsTreeFormat format }
     requires small { 2 + entries / entries_per_block format < 2 ^ 32 }

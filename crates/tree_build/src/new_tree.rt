@@ -12,7 +12,7 @@ use quota_blocks::set_le32;
 use quota_radix::TreePath;
 use std::alloc::{AllocError, Global};
 
-/// Appends the tree blocks from which some paths go on by their last digit, and answers the paths that come to them.
+/// Appends the tree blocks from which some paths go on by their last digit, and answers the paths that lead to them.
 pub(crate) fn add_level(
     alloc: Global,
     file: &mut NewFile,

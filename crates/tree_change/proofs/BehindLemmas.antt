@@ -37,7 +37,7 @@ behind_of numbers was now old new more inside keeps = record {
   within = keeps.within now inside;
 }
 
--- one change behind another
+-- one change after another
 pub behind_then : (was middle now : ℕ) (old between new : List ℕ) → KeepsBehind was middle old between → KeepsBehind middle now between new → KeepsBehind was now old new
 behind_then was middle now old between new first second = record {
   at_least = omega (arith, first.at_least, second.at_least);

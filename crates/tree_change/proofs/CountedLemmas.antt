@@ -37,7 +37,7 @@ counted_then first second old between new heads middle now takes more = record {
   behind = behind_then heads.blocks middle.blocks now.blocks old between new takes.behind more.behind;
 }
 
--- Where there was room for so many blocks more, there is once those were taken.
+-- Where there was room for `taken + more` blocks, there is room for `more` once `taken` were taken.
 pub room_after : (taken more limit : ℕ) (old new : List ℕ) (heads now : Heads) → TakesCounted taken old new heads now → FileHasRoom old heads limit (taken + more) → FileHasRoom new now limit more
 room_after taken more limit old new heads now takes room =
     let left = takes.rest room.free room.is_free in

@@ -208,7 +208,7 @@ pub no_tree_before : (fresh : List ℕ) (old new : List ℕ) (heads now : Heads)
 no_tree_before fresh old new heads now takes none format = λ held awaited records tree.
     none format (fresh ++ held) awaited records (takes.each held awaited format records tree).tree
 
--- And where there is no room for one more, there was none for so many.
+-- And where there is no room for one more, there was none for this many.
 pub no_room_before : (fresh : List ℕ) (limit count : ℕ) (old new : List ℕ) (heads now : Heads) → TakesFresh fresh old new heads now
     → length fresh + 1 ≤ count → ¬ FileHasRoom new now limit 1 → ¬ FileHasRoom old heads limit count
 no_room_before fresh limit count old new heads now takes fewer none room = none (room_after (length fresh) 1 limit old new heads now takes.counted (room_for_fewer old heads limit (length fresh + 1) count fewer room))

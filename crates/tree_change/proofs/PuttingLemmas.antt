@@ -62,7 +62,7 @@ step_enters before now known format file heads limit count fault h =
     (λ blocks most. (most ≡ limit) × (limit < blocks) × (known → ¬ FileHasRoom file heads limit count)) fault (omega arith)
     (λ wrong. wrong) (λ blocks most none. absurd none) h
 
--- A tree can go on: it is one, whatever is held of it and whether a leaf is awaited, and there is room for so many blocks.
+-- A tree can go on: it is one, whatever is held of it and whether a leaf is awaited, and there is room for this many blocks.
 pub record CanGoOn (format : Format) (file : List ℕ) (heads : Heads) (limit count : ℕ) : Type 0 where
   pub held : List ℕ
   pub awaited : Option TreePath
@@ -94,7 +94,7 @@ no_room_refused before now known still format file heads limit need fault stays 
     (λ wrong is held records tree. wrong (stays is) format held None records tree)
     (λ blocks most full. (full.0, full.1, λ is held records tree. full.2 (stays is))) h
 
--- where there is room for so many blocks, a tree has it
+-- where there is room for this many blocks, a tree has it
 pub tree_has_room : (format : Format) (file : List ℕ) (heads : Heads) (limit need few : ℕ) (held : List ℕ) (records : Records) → few ≤ need
     → ((free : List ℕ) → IsChain file heads.blocks heads.free free 0 → LeavesRoom heads limit need free)
     → IsWholeTree (loose_of held None None) format file heads records → FileHasRoom file heads limit few
@@ -139,7 +139,7 @@ short_way_found found none = few (slice_get_cases found 4).1
 pub whole_way_found : (found : List ℕ) → slice_get found 4 ≡ None → take 4 found ≡ found
 whole_way_found found none = take_all 4 found (short_way_found found none)
 
--- So many blocks are taken for an identifier whose way has four blocks at most, and none where it has five.
+-- An identifier whose way has four blocks at most takes those that the way lacks, and the data blocks that are needed.
 pub taken_absent : (file : List ℕ) (heads : Heads) (id : ℕ) → length (blocks_on_way file heads.blocks id) ≤ 4
     → blocks_taken file heads id ≡ (4 - length (blocks_on_way file heads.blocks id)) + data_wanted heads
 taken_absent file heads id few = ap (λ (b : Bool). if b then 0 else blocks_wanted file heads id) (le-ltb 4 (length (blocks_on_way file heads.blocks id)) few)
@@ -202,7 +202,7 @@ put_refused before now known format file heads limit id fault h =
           ∙ ap (λ (xs : List ℕ). heads.blocks + (blocks_taken file heads id - length xs)) (sym (free_are file heads free tree.roles.is_free)),
     )) h
 
--- A step behind others was not done, of the same file: why that was so, with a number of wanted blocks that is another one where the
+-- A step behind others was not done, of the same file: why that was so, with a number of needed blocks that is another one where the
 -- file is known.
 pub wanted_as : (before between now : ℕ) (known still : Type 0) (format : Format) (file : List ℕ) (heads : Heads) (limit need wanted : ℕ) (fault : ChangeFault) → before ≤ between → (still → known) → (still → need ≡ wanted)
     → IsPutFault between now known format file heads limit need fault → IsPutFault before now still format file heads limit wanted fault

@@ -51,7 +51,7 @@ led_beside file blocks (suc digits) number block led = led_from file blocks (num
 pub last_beside : (file : List ℕ) (blocks id : ℕ) (found : List ℕ) → found ≡ blocks_on_way file blocks id → 1 ≤ length found → get_or found (length found - 1) 0 ≢ 0
 last_beside file blocks id found is some = led_beside file blocks (length found - 1) (front_of id (length found - 1)) _ (way_last file found blocks id (length found - 1) is (omega (arith, some)))
 
--- one step behind another
+-- one step after another
 pub takes_then : (limit : ℕ) (one two : Type 0) (heads middle now : Heads) (old between new : Pages) → (one → two)
     → TakesWithin limit one heads middle old between → TakesWithin limit two middle now between new → TakesWithin limit one heads now old new
 takes_then limit one two heads middle now old between new so first second = record {

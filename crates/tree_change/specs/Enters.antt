@@ -13,8 +13,8 @@ use Rattle.tree_build.specs.Roles.{data_with}
 use Rattle.tree_change.specs.Putting.{TakesCounted}
 use Rattle.tree_change.specs.Shows.{IsWholeTree}
 
--- The record of an identifier was entered in a block: its leaf is awaited, and all else is as it was. So many blocks were taken for
--- it, and where none was the data blocks are those that were. The way of each identifier and the header's block are as before.
+-- The record of an identifier was entered in a block: its leaf is awaited, and all else is as it was. This many blocks were taken
+-- for it, and where none was the data blocks are those that were. The way of each identifier and the header's block are as before.
 pub record EntersRecord (block id : ℕ) (rec : Rec) (taken : ℕ) (held : List ℕ) (format : Format) (old new : List ℕ) (heads now : Heads) (records : Records) : Type 0 where
   pub tree : IsWholeTree (loose_of held (Some (record { number = id; block = block })) None) format new now (insert records id rec)
   pub ways : (other : ℕ) → other < 2 ^ 32 → blocks_on_way new now.blocks other ≡ blocks_on_way old heads.blocks other

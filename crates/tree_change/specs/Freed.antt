@@ -41,7 +41,7 @@ pub record FreesBeside (freed : List ℕ) (old new : List ℕ) (heads now : Head
 abbrev pub BecomesTree : Loose → (freed : List ℕ) → Format → (old new : List ℕ) → (heads now : Heads) → Records → Type 0
 BecomesTree loose freed format old new heads now records = IsWholeTree loose format new now records × FreesBeside freed old new heads now
 
--- those of some blocks to which no leaf of a file leads, of so many blocks
+-- those of some blocks to which no leaf of a file leads, among this many blocks
 abbrev pub unnamed_of : List ℕ → (blocks : ℕ) → List ℕ → List ℕ
 unnamed_of file blocks numbers = filter (λ number. times (data_blocks file blocks) number == 0) numbers
 

@@ -32,8 +32,8 @@ pub record TakesFresh (fresh : List ℕ) (old new : List ℕ) (heads now : Heads
       → HasFresh fresh held awaited format old new heads now records
   pub counted : TakesCounted (length fresh) old new heads now
 
--- A step that takes so many blocks was refused: where the file is known, a damage shows that it is no tree of any format, and it is
--- told to be full only where there is no room for so many within the limit.
+-- A step that takes this many blocks was refused: where the file is known, a damage shows that it is no tree of any format, and it
+-- is told to be full only where there is no room for that many within the limit.
 abbrev pub IsTakeFault : (before now : ℕ) → (known : Type 0) → List ℕ → Heads → (limit count : ℕ) → ChangeFault → Type 0
 IsTakeFault before now known file heads limit count fault =
     IsChangeFault before now (known → (format : Format) → IsNoTree format file heads)

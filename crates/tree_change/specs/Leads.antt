@@ -12,8 +12,8 @@ use Rattle.tree_build.specs.Roles.{data_with}
 use Rattle.tree_change.specs.Putting.{TakesCounted}
 use Rattle.tree_change.specs.Shows.{IsWholeTree}
 
--- The way to a leaf was made, for which so many blocks were taken: the leaf is awaited no longer. The records, the data blocks and
--- the header's block are as before.
+-- The way to a leaf was made, for which this many blocks were taken: the leaf is awaited no longer. The records, the data blocks
+-- and the header's block are as before.
 pub record LeadsLeaf (count : ℕ) (leaf : TreePath) (held : List ℕ) (format : Format) (old new : List ℕ) (heads now : Heads) (records : Records) : Type 0 where
   pub tree : IsWholeTree (loose_of held None None) format new now records
   pub counted : TakesCounted count old new heads now

@@ -41,14 +41,14 @@ pub record EndsEarly (file : List ℕ) (blocks id : ℕ) (found : List ℕ) : Ty
   pub none : leaf_block file blocks id ≡ None
 
 -- A record was not entered: where the file is known, a damage shows that it is no tree of this format, and it is told to be full
--- only where there is no room for so many blocks within the limit.
+-- only where there is no room for this many blocks within the limit.
 abbrev pub IsEnterFault : (before now : ℕ) → (known : Type 0) → Format → List ℕ → Heads → (limit count : ℕ) → ChangeFault → Type 0
 IsEnterFault before now known format file heads limit count fault =
     IsChangeFault before now (known → IsNoTree format file heads)
     (λ blocks most. (most ≡ limit) × (limit < blocks) × (known → ¬ FileHasRoom file heads limit count)) fault
 
 -- A record was not put: where the file is known, a damage shows that it is no tree of this format of which no leaf is awaited, and
--- where it is one it is told to be full only where its list of free blocks has fewer blocks than are wanted, and with new ones for
+-- where it is one it is told to be full only where its list of free blocks has fewer blocks than are needed, and with new ones for
 -- the others it would have this number of blocks, which is more than the limit.
 abbrev pub IsPutFault : (before now : ℕ) → (known : Type 0) → Format → List ℕ → Heads → (limit need : ℕ) → ChangeFault → Type 0
 IsPutFault before now known format file heads limit need fault =
@@ -56,7 +56,7 @@ IsPutFault before now known format file heads limit need fault =
     (λ blocks most. (most ≡ limit) × (limit < blocks)
     × (known → (held : List ℕ) (records : Records) → IsWholeTree (loose_of held None None) format file heads records → NeedsBlocks file heads need blocks)) fault
 
--- how many blocks are taken for a record of an identifier: none where a leaf of it is there, and else those that are wanted
+-- how many blocks are taken for a record of an identifier: none where a leaf of it is there, and otherwise those that are needed
 abbrev pub blocks_taken : List ℕ → Heads → (id : ℕ) → ℕ
 blocks_taken file heads id = if nat_lt 4 (length (blocks_on_way file heads.blocks id)) then 0 else blocks_wanted file heads id
 
@@ -71,15 +71,15 @@ IsPutInFault before now known format file heads limit id fault =
     (λ blocks most. (most ≡ limit) × (limit < blocks)
     × (known → (held : List ℕ) (records : Records) → IsWholeTree (loose_of held None None) format file heads records → blocks ≡ blocks_with file heads id)) fault
 
--- So many blocks were taken: those of the list of free blocks first, which is shorter by them, and new ones for the others. What lies
--- behind the last block is as before.
+-- This many blocks were taken: those of the list of free blocks first, which is shorter by them, and new ones for the others. What
+-- lies behind the last block is as before.
 pub record TakesCounted (count : ℕ) (old new : List ℕ) (heads now : Heads) : Type 0 where
   pub sum : (free : List ℕ) → IsChain old heads.blocks heads.free free 0 → now.blocks ≡ heads.blocks + (count - length free)
   pub rest : (free : List ℕ) → IsChain old heads.blocks heads.free free 0 → (rest : List ℕ) × IsChain new now.blocks now.free rest 0 × (length rest ≡ length free - count)
   pub behind : KeepsBehind heads.blocks now.blocks old new
 
--- The record of an identifier was put into a tree of which no leaf is awaited: it has it, and all other records. So many blocks were
--- taken; the data blocks are those that were where one of them had room; and the header's block is as before.
+-- The record of an identifier was put into a tree of which no leaf is awaited: it has it, and all other records. As many blocks were
+-- taken as it needs; the data blocks are those that were where one of them had room; and the header's block is as before.
 pub record PutsIn (id : ℕ) (rec : Rec) (held : List ℕ) (format : Format) (old new : List ℕ) (heads now : Heads) (records : Records) : Type 0 where
   pub tree : IsWholeTree (loose_of held None None) format new now (insert records id rec)
   pub counted : TakesCounted (blocks_taken old heads id) old new heads now

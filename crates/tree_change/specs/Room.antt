@@ -4,11 +4,11 @@ use Rattle.std.specs.Prelude.{◌≡◌, ℕ, ◌+◌, ◌-◌, ◌<◌, ◌≤�
 use Rattle.free_chains.specs.Chain.{IsChain}
 use Rattle.free_chains.specs.declared.heads.Heads.{Heads}
 
--- so many blocks can be taken from a list of free blocks and behind the last one, within the limit
+-- this many blocks can be taken from a list of free blocks and behind the last one, within the limit
 abbrev pub LeavesRoom : Heads → (limit need : ℕ) → (free : List ℕ) → Type 0
 LeavesRoom heads limit need free = need ≤ length free + (limit - heads.blocks)
 
--- The list of free blocks ends, and so many blocks can be taken within the limit.
+-- The list of free blocks ends, and this many blocks can be taken within the limit.
 pub record FileHasRoom (file : List ℕ) (heads : Heads) (limit need : ℕ) : Type 0 where
   pub free : List ℕ
   pub is_free : IsChain file heads.blocks heads.free free 0

@@ -21,7 +21,7 @@ use quota_pages::Pages;
 use quota_types::{DamageKind, Format, Rec, damage_at};
 use tree_build::unused_place;
 
-/// The first unused place among the entries of a block of the entry list, in a file of so many blocks.
+/// The first unused place among the entries of a block of the entry list, in a file of this many blocks.
 ///
 /// # Errors
 ///

@@ -53,13 +53,13 @@ pub(crate) fn take_one<S: Store>(
     Ok(take_block(pages, store, heads)?)
 }
 
-/// Takes so many blocks, 4 at most, one after another, and makes each of their bytes 0: the free ones first, and then
+/// Takes `count` blocks, 4 at most, one after another, and makes each of their bytes 0: the free ones first, and then
 /// blocks behind the last one, while there are fewer than `limit`. It reads as many at most.
 ///
 /// # Errors
 ///
 /// `Store` where the store failed, `Damage` where the list of free blocks leads past the last block, and `Full` where there
-/// is no room for so many. The heads are as before.
+/// is no room for them. The heads are as before.
 pub fn take_fresh<S: Store>(
     pages: &mut Pages,
     store: &mut S,

@@ -75,7 +75,7 @@ fn enter_data<S: Store>(
 /// # Errors
 ///
 /// `Store` where the store failed, `Damage` where the file is damaged, and `Full` where there is no room for the blocks
-/// that are wanted, which is known before any is lent for writing. The heads are as before.
+/// that are needed, which is known before any is lent for writing. The heads are as before.
 fn put_new<S: Store>(
     pages: &mut Pages,
     store: &mut S,
@@ -130,7 +130,7 @@ fn put_new<S: Store>(
 /// # Errors
 ///
 /// `Store` where the store failed, `Damage` where the file is damaged, and `Full` where the identifier has no record and
-/// there is no room for the blocks that are wanted, which is known before any is lent for writing. The heads are as before.
+/// there is no room for the blocks that are needed, which is known before any is lent for writing. The heads are as before.
 pub fn put_in<S: Store>(
     pages: &mut Pages,
     store: &mut S,

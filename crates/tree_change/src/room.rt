@@ -14,7 +14,7 @@ use free_chains::{Heads, count_free};
 use outside::Store;
 use quota_pages::Pages;
 
-/// Whether so many blocks can be taken, 4 at most, while the file has no more than `limit` blocks. It counts the list of free
+/// Whether `need` blocks can be taken, 4 at most, while the file has no more than `limit` blocks. It counts the list of free
 /// blocks as far as `need`, and reads as many at most.
 ///
 /// # Errors

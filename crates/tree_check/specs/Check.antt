@@ -7,7 +7,7 @@ use Rattle.tree_check.specs.declared.checked.Checked.{Checked}
 use Rattle.free_chains.specs.Chain.{IsChain}
 use Rattle.tree_build.specs.TreeFile.{TreeStandsFor}
 
--- The file stands for a value, which has so many records, and its free list has so many blocks.
+-- The file stands for a value, which has this many records, and its free list has this many blocks.
 pub record IsChecked (file : List ℕ) (checked : Checked) : Type 0 where
   pub value : QuotaValue
   pub stands : TreeStandsFor file value

@@ -6,11 +6,11 @@ use Rattle.quota_radix.specs.declared.tree_path.TreePath.{TreePath}
 use Rattle.quota_types.specs.Times.{times}
 use Rattle.quota_radix.specs.Tree.{blocks_of, ids_at}
 
--- for each of so many blocks, the identifiers of those leaves that name it
+-- for each of this many blocks, the identifiers of those leaves that name it
 abbrev pub groups_of : ℕ → List TreePath → List (List ℕ)
 groups_of blocks leaves = map (ids_at leaves) (range_with_len 0 blocks)
 
--- these are, for each of so many blocks, the identifiers of those leaves that name it
+-- these are, for each of this many blocks, the identifiers of those leaves that name it
 abbrev pub AreGroupsOf : ℕ → List TreePath → List (List ℕ) → Type 0
 AreGroupsOf blocks leaves groups = groups ≡ groups_of blocks leaves
 

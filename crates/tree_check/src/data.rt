@@ -132,7 +132,7 @@ fn first_bad_previous(links: &[Link]) -> Option<u32>
     None
 }
 
-/// The first block of so many that one set has, and another one has not.
+/// The first of `blocks` blocks that one set has, and another one does not have.
 fn first_missing(room: &BlockSet, met: &BlockSet, blocks: u32) -> Option<u32>
     ensures { (numbers others : List ℕ) → AreFlagsOf blocks room.now.flags.items numbers
         → AreFlagsOf blocks met.now.flags.items others

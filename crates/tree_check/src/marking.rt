@@ -28,7 +28,7 @@ pub(crate) fn mark_links(met: &mut BlockSet, links: &[Link]) -> Result<(), Damag
     Ok(())
 }
 
-/// The first block of so many that a set does not have.
+/// The first of `blocks` blocks that a set does not have.
 pub(crate) fn first_without(met: &BlockSet, blocks: u32) -> Option<u32>
     ensures { (numbers : List ℕ) → AreFlagsOf blocks met.now.flags.items numbers
         → MatchOption result ((number : ℕ) → number < blocks → StandsIn numbers number)

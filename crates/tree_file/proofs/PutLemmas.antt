@@ -1,4 +1,4 @@
--- Why a record is not put into an opened tree file, for want of room, and how many blocks are written where it is.
+-- Why a record is not put into an opened tree file, for lack of room, and how many blocks are written where it is.
 use Rattle.std.proofs.Common.{◌≡◌, ℕ, ◌+◌, ◌^◌, ◌<◌, ◌≤◌, Bool, IsTrue, List, Option, None, Some, refl, sym, ap, subst, ◌∙◌}
 use Rattle.std.specs.Prelude.{IsSome}
 use Rattle.std.specs.FinMap.{get}

@@ -1,4 +1,5 @@
--- How many blocks a tree file wants: those that it has, where each identifier has its leaf, and with one that has none those that it has with its leaf.
+-- How many blocks a tree file needs: those that it has, where each identifier has its leaf, and with one that has none those that it has
+-- with its leaf.
 use Rattle.std.proofs.Common.{◌≡◌, ◌≢◌, ℕ, ◌+◌, ◌-◌, ◌^◌, ◌<◌, Bool, true, false, cond, ◌==◌, nat_lt, if◌then◌else◌, is_none, List, [], ◌∷◌, length, map, find, Option, Some, None, option_and_then, option_map, refl, sym, ap, subst, ◌∙◌, inl, inr, arith, eq-eqb, ne_eqb}
 use Rattle.std.proofs.lemmas.Bool.{cases_eq, cases_lt, lt-ltb, true≢false}
 use Rattle.std.proofs.lemmas.Bool.Decides.{eqb_tells}
@@ -125,7 +126,7 @@ five_on_way file blocks id small there =
           (fifth_is_leaf file blocks id ∙ leaf_led_to file blocks id small ∙ ap (option_map (λ (leaf : TreePath). leaf.block)) found.1)
     ]
 
--- what a file wants, by the one identifier that has no leaf, where there is one
+-- what a file needs, by the one identifier that has no leaf, where there is one
 wanted_by_format : (format : Format) (file ids : List ℕ) (version : ℕ) → format_of version ≡ Some format
     → blocks_wanted format (Some file) ids ≡ blocks_with_new file (heads_of (header_of file)) (find (has_no_leaf file (header_of file).blocks) ids)
 unfolding tree_blocks_wanted
@@ -148,7 +149,7 @@ wanted_is : (file ids : List ℕ) (value : QuotaValue) (found : Option ℕ) → 
 wanted_is file ids value found stands is =
     wanted_by_format value.format file ids (header_of file).version stands.version ∙ ap (blocks_with_new file (heads_of (header_of file))) is
 
--- a file wants as many blocks as it has for identifiers that have a record each
+-- a file needs as many blocks as it has for identifiers that have a record each
 wanted_within : (file ids : List ℕ) (value : QuotaValue) → TreeStandsFor file value → ((n : ℕ) → StandsIn ids n → get value.records n ≢ None)
     → blocks_wanted value.format (Some file) ids ≡ (header_of file).blocks
 wanted_within file ids value stands each =
@@ -180,7 +181,7 @@ none_taken file value id small stands some =
     ap (λ (b : Bool). if b then 0 else (4 - length way) + (if (header_of file).first == 0 then 1 else 0)) long in
     omega (arith, none)
 
--- for the records with one put in it wants as many as it has with a leaf of that identifier
+-- for the records with one put in it needs as many as it has with a leaf of that identifier
 pub wanted_put : (file : List ℕ) (value : QuotaValue) (id : ℕ) (rec : Rec) → id < 2 ^ 32 → TreeStandsFor file value
     → blocks_wanted value.format (Some file) (ids_in (insert value.records id rec)) ≡ blocks_with file (heads_of (header_of file)) id
 wanted_put file value id rec small stands =

@@ -26,7 +26,7 @@ use Rattle.quota_pages.proofs.LentLemmas.{few_numbers, keeps_flushed, lent_of_st
 use Rattle.quota_pages.proofs.UsedLemmas.{keeps_more}
 use Rattle.tree_file.specs.TreeChange.{IsTorn, TreeLeaves}
 
--- where some page was lent for writing the named file is what was shown, and else nothing has changed
+-- where some page was lent for writing the named file is what was shown, and otherwise nothing has changed
 pub flushed_some : (files : World) (name : List ℕ) (pages : List Page) → is_some_lent pages ≡ true → flushed_files files name pages ≡ with_file files name (Some (shown pages (bytes_of (files name))))
 unfolding flushed_files
 flushed_some files name pages some = cond-true _ _ _ some

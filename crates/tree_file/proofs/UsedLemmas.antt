@@ -20,7 +20,7 @@ use Rattle.tree_build.proofs.RecordLemmas.{found_or_later, used_there}
 abbrev pub id_of : Option Entry → Option ℕ
 id_of o = option_map (λ (entry : Entry). entry.id) o
 
--- the identifiers of the entries at so many places from one on, and the record of the first entry there of an identifier
+-- the identifiers of the entries at this many places from one on, and the record of the first entry there of an identifier
 abbrev pub ids_from : (ℕ → Option Entry) → ℕ → ℕ → List ℕ
 ids_from f low count = map (λ (entry : Entry). entry.id) (filter_map f (range_with_len low count))
 

@@ -39,7 +39,7 @@ HoldsComing records coming = AreNext records coming.after (left_of coming)
 abbrev pub FitsComing : Format → Coming → Type 0
 FitsComing format coming = AreFit format coming.after (left_of coming)
 
--- A number of so many digits leads down the tree of a file to a block with these bytes.
+-- A number of this many digits leads down the tree of a file to a block with these bytes.
 pub record LeadsTo (file : List ℕ) (blocks digits number : ℕ) (bytes : List ℕ) : Type 0 where
   pub block : ℕ
   pub led : block_led_to file blocks digits number ≡ Some block

@@ -18,7 +18,7 @@ use Rattle.tree_file.specs.Room.{blocks_wanted}
 use Rattle.tree_file.specs.TreeChange.{TreeChanged, TreeLeaves}
 
 -- A file of a value became one of the changed value, with these heads, of which there are no more blocks than it may have: those that
--- it wanted for that, and there was something to do.
+-- it needed for that, and there was something to do.
 pub record ChangesTree (limit : ℕ) (change : FileChange) (value : QuotaValue) (before after : List ℕ) (heads : Heads) : Type 0 where
   pub stands : TreeStandsFor after (changed_value change value)
   pub heads_are : heads ≡ heads_of (header_of after)

@@ -28,14 +28,14 @@ pub record HoldsTree (tells : Bool) (named : Option (List ℕ)) (header : Header
   pub same : AreOf header (header_of file)
   pub next : HoldsComing value.records coming
 
--- A file, as it is, has no room for a value: it wants so many blocks and may have only so many.
+-- A file, as it is, has no room for a value: it needs `blocks` blocks and may have only `limit`.
 pub record LacksRoom (seen : FileSeen) (file : Option (List ℕ)) (value : QuotaValue) (blocks limit : ℕ) : Type 0 where
   pub needs : blocks ≡ blocks_wanted value.format file (ids_in value.records)
   pub may : limit ≡ seen.limit
   pub passes : limit < blocks
 
 -- The faults that a call on an opened tree file may answer, whatever the store tells: a damage names an identifier only where
--- its kind does, and memory is never wanting.
+-- its kind does, and memory never runs out.
 abbrev pub MayRefuse : FileFault → Type 0
 MayRefuse Store = ⊤
 MayRefuse (Damage damage) = NamesItsId damage.kind damage.id

@@ -1,4 +1,4 @@
--- How many blocks a tree file wants for records. Whether it has room for a change rests on that number, and so on the file as it is.
+-- How many blocks a tree file needs for records. Whether it has room for a change rests on that number, and so on the file as it is.
 use Rattle.std.specs.Prelude.{ℕ, ◌==◌, Bool, is_none, List, find, Option, Some, None}
 use Rattle.quota_types.specs.declared.file_kind.Format.{Format}
 use Rattle.quota_types.specs.declared.file_kind.Format.TheVariants.{V1, V2R0, V2R1}

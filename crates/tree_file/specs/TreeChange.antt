@@ -123,6 +123,7 @@ tree_laws tells =
     laws_of tells (λ _ file value. TreeStandsFor file value) (λ seen change. TreeMakes seen.limit change) (λ _ _ old after left. TreeLeaves old after left)
     (λ seen file _ value blocks limit. LacksRoom seen file value blocks limit) (λ _ fault. MayRefuse fault) tree_change_reads tree_change_writes tree_done_writes
 
--- an opened tree file of this name with this header and these answers that come next, which may have so many blocks, with its store
+-- an opened tree file of this name with this header and these answers that come next, which may have at most this many blocks, with
+-- its store
 abbrev pub tree_at : Bool → (name : List ℕ) → FileUse → Header → Coming → ℕ → StoreSeen → FileAt
 tree_at tells name opened header coming limit store = file_at (HoldsTree tells (store.files name) header coming limit) (seen_in opened name header.format limit) store

@@ -74,8 +74,8 @@ IsTreeView named kind asked limit (Err NoFile) = named ≡ None
 IsTreeView named kind asked limit (Err Memory) = ⊥
 IsTreeView named kind asked limit (Err fault) = FitsRequest asked limit fault × IsSomeAnd named (IsRefusedFor kind asked limit fault)
 
--- Why opening is refused: the store's count of faults rose, memory is wanting, there is no file, or the file is refused. What
--- is said of the file holds where the store tells it; that no other refusal comes, and where the limit lies, holds always.
+-- Why opening is refused: the store's count of faults rose, there is not enough memory, there is no file, or the file is refused.
+-- What is said of the file holds where the store tells it; that no other refusal comes, and where the limit lies, holds always.
 abbrev pub IsTreeFault : ℕ → ℕ → Bool → Option (List ℕ) → Kind → Option Format → ℕ → OpenFault → Type 0
 IsTreeFault before now tells named kind asked limit Store = Rose before now
 IsTreeFault before now tells named kind asked limit NoFile = IsTrue tells → named ≡ None

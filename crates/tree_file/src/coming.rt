@@ -129,7 +129,7 @@ fn block_below<'a>(
     pages.buffered(led_from(block, blocks, digit)?)
 }
 
-/// The block to which a digit leads from a block of the tree, or None where it leads nowhere in a file of so many blocks.
+/// The block to which a digit leads from a block of the tree, or None where it leads nowhere in a file of this many blocks.
 fn led_from(block: &[u8; 1024], blocks: u32, digit: u8) -> Option<u32>
     ensures { (file : List ℕ) (number : ℕ) → block.now ≡ block_of file number
         → result ≡ led_by file blocks digit number }

@@ -11,7 +11,7 @@ ghost use Rattle.quota_pages.specs.Pages.{name_of, pages_of};
 use quota_blocks::{Store, StoreFault};
 use quota_pages::Pages;
 
-/// Writes each block that was lent for writing, and then syncs the file. The buffer is empty then, also where that fails.
+/// Writes each block that was lent for writing, and then syncs the file. The buffer is empty then, even where that fails.
 ///
 /// # Errors
 ///

@@ -25,8 +25,8 @@ use quota_pages::Pages;
 use quota_types::Rec;
 use tree_change::{ChangeFault, put_record, remove_record};
 
-/// Gives an identifier this record in a file with this header, which may have so many blocks, and syncs it. Answers the
-/// heads that the header has then. The buffer is empty before and then. A record that is there already costs one write.
+/// Gives an identifier this record in a file with this header, which may have at most `limit` blocks, and syncs it. Answers
+/// the heads that the header has then. The buffer is empty before and then. A record that is there already costs one write.
 ///
 /// # Errors
 ///

@@ -27,13 +27,13 @@ use tree_check::check;
 /// Opens a tree file, which is checked block by block as the store has it. Nothing but its header is kept.
 ///
 /// It has one of the kind, of the format that is asked for, where one is, and at most `limit` blocks. The first block is read,
-/// and then each block that the header states twice at most, also where the file is refused.
+/// and then each block that the header states twice at most, even where the file is refused.
 ///
 /// # Errors
 ///
 /// It is refused where there is no such file; where its header is of no quota file, of one of another kind, of a version
 /// that is not known, of fewer than two blocks, of another format than the one that is asked for, or of more blocks than
-/// `limit`; and where it is damaged, in this order; and where the store failed or memory was wanting.
+/// `limit`; and where it is damaged, in this order; and where the store failed or there was not enough memory.
 pub fn open_tree<S: Store>(
     alloc: Global,
     store: &mut S,

@@ -39,7 +39,7 @@ pub removed_rest : (records : Records) (id number : ℕ) → id ≢ number → g
 removed_rest records id number other =
     get-remove nat_cmp_total records id number ∙ ap (λ (b : Bool). cond b None (get records number)) (unsigned_tied number id ∙ ne_eqb number id (λ same. other (sym same)))
 
--- where a list has no more of each number than another one, and is not shorter, the other has no number that it has not
+-- where a list has no more of each number than another one, and is not shorter, the other has no number that it does not have
 pub no_stray : (xs ys : List ℕ) → ((n : ℕ) → times xs n ≤ times ys n) → length ys ≤ length xs → (n : ℕ) → times xs n ≡ 0 → times ys n ≡ 0
 no_stray xs ys fewer short n none = elim (cases_lt 0 (times ys n)) [
   | inr absent ↦ omega (arith, absent)

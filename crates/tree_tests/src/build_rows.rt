@@ -26,7 +26,7 @@ const ONE_INODE: Rec = Rec {
 /// The entries of a file that is built.
 #[derive(Drop)]
 enum Entries {
-    /// So many identifiers from 0 on, each so far above the one before it, that use one inode each.
+    /// This many identifiers from 0 on, each this far above the one before it, that use one inode each.
     Spaced(u32, u32),
     Listed(&'static [Entry]),
 }

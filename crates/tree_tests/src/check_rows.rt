@@ -17,7 +17,7 @@ struct CheckRow {
 
 /// What a check answers.
 enum Answer {
-    /// So many records and free blocks.
+    /// This many records and free blocks.
     Found(u64, u32),
     /// A damage: its kind, its block and its identifier.
     Named(DamageKind, u32, u32),
@@ -44,7 +44,7 @@ fn expect_checks(rt: &impl Abort, alloc: Global, rows: &[CheckRow]) {
     }
 }
 
-/// What a check answers on the row's file; None where memory is wanting.
+/// What a check answers on the row's file; None where there is not enough memory.
 fn answer_of(alloc: Global, row: &CheckRow) -> Option<Result<Checked, CheckFault>> {
     let (len, changes) = row.file;
     let file = made(alloc, len, changes).ok()?;
@@ -197,7 +197,7 @@ fn is_permitted(row: &CheckRow, damage: Damage) -> bool {
         .any(|permitted| as_result(permitted) == answer)
 }
 
-/// What opening a row's file is refused with; None where it is not refused, or memory is wanting.
+/// What opening a row's file is refused with; None where it is not refused, or there is not enough memory.
 fn refusal_of(alloc: Global, row: &CheckRow) -> Option<OpenFault> {
     let (len, changes) = row.file;
     let file = made(alloc, len, changes).ok()?;
@@ -223,7 +223,7 @@ fn each_damage_is_named_where_the_file_is_opened(rt: HostRuntime) {
 const IDS: &[u32] = &[0, 5, 1000, 1001, u32::MAX];
 
 /// The six-block file, opened with nothing wrong, and the store that it is read from behind that, in which it has a row's
-/// changes; None where memory is wanting.
+/// changes; None where there is not enough memory.
 fn opened_before(alloc: Global, row: &CheckRow) -> Option<(TreeFile, MemStore)> {
     let sound = made(alloc, 6144, &[]).ok()?;
     let mut store = store_of(alloc, sound.as_slice(), &[]).ok()?;
@@ -283,7 +283,7 @@ const READ: &[(&str, SixBlocks, u64)] = &[
     ("block 6 is free", (7168, &[&[(BLOCKS, 7), (FREE, 6)]]), 12),
 ];
 
-/// Expects each file to be accepted with so few reads.
+/// Expects each file to be accepted with this few reads.
 fn expect_reads(rt: &impl Abort, alloc: Global, rows: &[(&str, SixBlocks, u64)]) {
     for (title, (len, changes), most) in rows {
         let got = made(alloc, *len, changes).and_then(|file| checked(alloc, file.as_slice()));

@@ -79,7 +79,7 @@ fn of_ids(
 }
 
 impl Plain<'_> {
-    /// The byte at a place of a block, 0 behind the end of the file: `block_of`.
+    /// The byte at a place of a block, 0 past the end of the file: `block_of`.
     fn byte(&self, block: u32, at: u64) -> u8 {
         let at = 1024 * u64::from(block) + at.min(1023);
         self.file.get(at as usize).copied().unwrap_or(0)
@@ -113,7 +113,7 @@ impl Plain<'_> {
         Ok(())
     }
 
-    /// The paths of so many digits: `paths`.
+    /// The paths of this many digits: `paths`.
     fn paths(&self, digits: u32) -> Result<Vec<TreePath>, AllocError> {
         let mut paths = vec![in self.alloc;
             TreePath {
@@ -136,7 +136,7 @@ impl Plain<'_> {
         Ok(next)
     }
 
-    /// The blocks to which the paths of so many digits come: `level`.
+    /// The blocks to which the paths of this many digits lead: `level`.
     fn level(&self, digits: u32) -> Result<Vec<u32>, AllocError> {
         let paths = self.paths(digits)?;
         paths.iter().map(|path| path.block).collect(self.alloc)

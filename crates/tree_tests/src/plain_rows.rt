@@ -15,8 +15,8 @@ struct Compared {
 }
 
 impl Compared {
-    /// Whether both agree: the check succeeds where there is no defect, with the same numbers, and else names one of the
-    /// defects.
+    /// Whether both agree: the check succeeds where there is no defect, with the same numbers, and otherwise names one
+    /// of the defects.
     fn agrees(&self) -> bool {
         match self.answer {
             Ok(found) => {

@@ -270,7 +270,7 @@ pub(crate) fn named(kind: DamageKind, block: u32, id: u32) -> Result<Checked, Ch
     Err(CheckFault::Damage(Damage { kind, block, id }))
 }
 
-/// The answer that finds so many records and free blocks.
+/// The answer that finds this many records and free blocks.
 pub(crate) fn found(used: u64, free: u32) -> Result<Checked, CheckFault> {
     Ok(Checked { used, free })
 }

@@ -32,7 +32,7 @@ fn expect_openings(rt: &impl Abort, alloc: Global, rows: &[OpenRow]) {
     }
 }
 
-/// What the call answers; None where memory is wanting, or where it may not be asked for.
+/// What the call answers; None where there is not enough memory, or where it may not be asked for.
 fn answer_of(alloc: Global, row: &OpenRow) -> Option<Result<Said, OpenFault>> {
     let (len, changes) = row.file;
     let file = made(alloc, len, changes).ok()?;

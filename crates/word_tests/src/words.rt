@@ -3,7 +3,7 @@ use command_words::{UsageFault, read_words};
 use std::alloc::{AllocError, Global};
 use std::process::Abort;
 
-/// Words, parted by single spaces, and what they are read as.
+/// Words, separated by single spaces, and what they are read as.
 type Row = (&'static str, &'static str);
 
 /// Each command is read.
@@ -219,7 +219,7 @@ fn read(alloc: Global, words: &[String], in_script: bool) -> Result<String, Allo
     }
 }
 
-/// The words of a text, parted by single spaces.
+/// The words of a text, separated by single spaces.
 fn words_of(alloc: Global, text: &str) -> Result<Vec<String>, AllocError> {
     let mut words = Vec::new(alloc);
     for word in text.split(' ') {
