@@ -1,6 +1,6 @@
 -- Edits of lines, one after another: what they have done up to one of them, what a command does that makes them, and for what the
 -- edit of one may fail.
-use Rattle.std.proofs.Common.{◌≡◌, ◌⊎◌, ℕ, Bool, IsTrue, List, [], ◌∷◌, ◌++◌, Option, None, Some, Ok, Err, Result, inl, inr, refl, sym, subst, ◌∙◌, arith, true}
+use Rattle.std.proofs.Common.{◌≡◌, ◌≢◌, ◌⊎◌, ℕ, Bool, IsTrue, List, [], ◌∷◌, ◌++◌, Option, None, Some, Ok, Err, Result, inl, inr, refl, sym, subst, ◌∙◌, arith, true}
 use Rattle.std.specs.Prelude.{IsOkAnd, is_none}
 use Rattle.std.proofs.lemmas.Bool.{false≢true}
 use Rattle.id_names.specs.NamesFile.{NameLine}
@@ -34,13 +34,13 @@ use Rattle.edit_steps.specs.EditStep.{value_left, ChangeMayRefuse, edit_cause, e
 use Rattle.run_steps.proofs.DoingLemmas.{AreWritten, done_of, written_both, written_none}
 use Rattle.run_steps.proofs.LookingLemmas.{AddsEnd, adds_looking, adds_none, adds_then, leads_doing, part_adding, steps_adding}
 use Rattle.run_steps.proofs.OpeningLemmas.{refused_steps, store_later, with_store}
-use Rattle.run_steps.proofs.PartLemmas.{carried_whole, part_from}
+use Rattle.run_steps.proofs.PartLemmas.{carried_whole, part_but_output, part_from}
 use Rattle.run_steps.proofs.ReasonLemmas.{reason_but_stated}
 use Rattle.run_steps.proofs.RowLemmas.{LeadsBy, led_both, part_led, steps_led}
 use Rattle.batch_commands.proofs.BatchInputLemmas.{unnamed}
 use Rattle.edit_steps.proofs.EditFileLemmas.{AnyEdits, edit_may}
 use Rattle.edit_steps.proofs.EditLemmas.{IsMade, acts_of, acts_written, step_made}
-use Rattle.edit_steps.proofs.RefusedEditLemmas.{HasEditCause, IsRefusedAt, edit_reason, refused_part}
+use Rattle.edit_steps.proofs.RefusedEditLemmas.{HasEditCause, IsRefusedAt, edit_no_output, edit_reason, refused_part}
 
 -- the value that an edit left is held
 pub left_held : (holds : QuotaValue → Type 0) (edited : Result QuotaValue (Field × ℕ)) (value : QuotaValue) → IsOkAnd edited holds → holds (value_left edited value)
@@ -128,8 +128,8 @@ all_carried file now lines start may tells old store holds made leaves =
 -- An edit was refused.
 
 -- what was done of the steps of an outcome was done of those of one that is met at a line
-pub met_part : (number : ℕ) (outcome : Outcome (List Act)) (next : List Act → Steps) (tells : RunTells) (old new : RunSeen) → IsDoneInPart (Then outcome next) tells old new
-    → IsDoneInPart (Then (met_at number outcome) next) tells old new
+pub met_part : {why : Option Cause} (number : ℕ) (outcome : Outcome (List Act)) (next : List Act → Steps) (tells : RunTells) (old new : RunSeen) → IsDoneInPart (Then outcome next) tells why old new
+    → IsDoneInPart (Then (met_at number outcome) next) tells why old new
 met_part number (Passed acts) next tells old new part = part
 met_part number (Refused refusal) next tells old new part =
     part_from (Then (Refused refusal) next) (Then (met_at number (Refused refusal)) next) tells old old.store old.input new refl (λ done hand now by. by) part
@@ -160,10 +160,10 @@ line_refused file now lines line rest start may tells old before after holds fau
           let are = made told.store in
           let here = with_store old before in
           let steps = LineSteps file now (line ∷ rest) are.value in
-          part_led are.acts steps (LineSteps file now lines start) tells old here (with_store old after) (are.leads (outside_of old) refl) (done_of are.acts tells old before are.done)
+          part_led are.acts steps (LineSteps file now lines start) tells old here (with_store old after) (omega arith) (omega arith) (are.leads (outside_of old) refl) (done_of are.acts tells old before are.done)
           (part_from (Then (met_at line.number (own are.value)) (behind are.value)) steps tells here before old.input (with_store old after) refl (λ done hand now by. by)
           (met_part line.number (own are.value) (behind are.value) tells here (with_store old after)
-          (refused_part file edit are.value (behind are.value) tells here after (edit_cause fault) (λ act from. inl (record { done_none = refl; at_hand = refl; same = refl }))
+          (refused_part file edit are.value (behind are.value) tells here after (edit_cause fault) (edit_no_output fault) (λ act from. inl (record { done_none = refl; at_hand = refl; same = refl }))
           (refused are.value are.held) told.store)));
       may_refuse = allowed;
       placed = record { line = λ no. refl; input_line = λ no. unnamed line.number (edit_cause fault) no };
@@ -183,6 +183,12 @@ line_is_reason names place old new stated SinkFault said may so = absurd may
 line_is_reason names place old new stated LinkFault said may so = absurd may
 line_is_reason names place old new stated NoMemory said may so = absurd may
 line_is_reason names place old new stated _ said may so = so
+
+-- nor that of an output
+line_no_output : (names : List NameLine) (place : List ℕ) (cause : Cause) (said : List ℕ) → LineMayRefuse names place cause said → Some cause ≢ Some SinkFault
+line_no_output names place cause said may is =
+    let sink : cause ≡ SinkFault = cc in
+    subst (λ (c : Cause). LineMayRefuse names place c said) sink may
 
 -- lines behind which a refusal comes do what the lines do, and then end with it
 lines_add : (file : List ℕ) (now : ℕ) (lines : List LineEdit) (value : QuotaValue) (behind : Option Refusal) → AddsEnd behind (LineSteps file now lines value) (EditsThen file now lines value behind)
@@ -205,7 +211,8 @@ then_refused file now start names place asked refusal may more tells old new is 
       done = tt;
       refused = line_is_reason names place old new _ refusal.cause refusal.name line_may.may (λ told.
           subst (λ (r : Option Refusal). HasSteps all tells r old new) is (steps_adding asked.refusal steps all tells None old new adds (carries.done told)));
-      part = λ told. part_adding asked.refusal steps all tells old new adds (carries.part told);
+      part = λ told. part_but_output all tells old new (line_no_output names place refusal.cause refusal.name line_may.may)
+          (part_adding asked.refusal steps all tells old new adds (carries.part told));
       may_refuse = allowed;
       placed = record { line = λ no. line_may.line; input_line = line_may.input_line };
       only_reads = λ only. absurd (cc);

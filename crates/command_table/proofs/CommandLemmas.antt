@@ -188,7 +188,7 @@ pub not_read : (table : Command → Description) (asked : Result Command Refusal
     → IsCarriedOut (asked_by table asked) invocation tells old old (Err (usage_refusal fault))
 not_read table (Ok command) invocation tells old (UsageOf kind word) is = absurd (cc)
 not_read table (Ok command) invocation tells old NoMemory is = record {
-  carries = nothing_carried ((table command).steps invocation) _ _ tells old (usage_refusal NoMemory) tt (inl refl) (record { line = λ no. refl; input_line = λ no. refl });
+  carries = nothing_carried ((table command).steps invocation) _ _ tells old (usage_refusal NoMemory) (λ is. cc) tt (inl refl) (record { line = λ no. refl; input_line = λ no. refl });
   named = holds_of_one (table command).replaces _ (λ file told. refl);
   edited = holds_of_one (table command).edits _ (λ file told other. inl refl);
   within = record { alone = holds_of_one (table command).alone _ (λ file other differ. refl); few = most_same (table command).most_writes old.store.writes };
@@ -203,7 +203,7 @@ not_read table (Ok command) invocation tells old NoMemory is = record {
 not_read table (Err refusal) invocation tells old (UsageOf kind word) is =
     let same : refusal ≡ usage_refusal (UsageOf kind word) = cc in
     subst (λ (r : Refusal). IsCarriedOut (refused r) invocation tells old old (Err (usage_refusal (UsageOf kind word)))) (sym same) (record {
-      carries = stop_carried _ (refused (usage_refusal (UsageOf kind word))).may tells old (usage_refusal (UsageOf kind word)) (λ stated fact. fact) refl (record { line = λ no. refl; input_line = λ no. refl });
+      carries = stop_carried _ (refused (usage_refusal (UsageOf kind word))).may tells old (usage_refusal (UsageOf kind word)) (λ is. cc) (λ stated fact. fact) refl (record { line = λ no. refl; input_line = λ no. refl });
       named = tt;
       edited = tt;
       within = record { alone = tt; few = tt };
@@ -220,7 +220,7 @@ not_read table (Err refusal) invocation tells old NoMemory is = absurd (cc)
 -- a command that does not stand here is refused
 pub not_here_carried : (invocation : Invocation) (tells : RunTells) (old : RunSeen) → IsCarriedOut not_here invocation tells old old (Err unknown_command)
 not_here_carried invocation tells old = record {
-  carries = stop_carried not_here.uses not_here.may tells old unknown_command (λ stated fact. fact) refl (record { line = λ no. refl; input_line = λ no. refl });
+  carries = stop_carried not_here.uses not_here.may tells old unknown_command (λ is. cc) (λ stated fact. fact) refl (record { line = λ no. refl; input_line = λ no. refl });
   named = tt;
   edited = tt;
   within = record { alone = tt; few = tt };

@@ -1,5 +1,5 @@
 -- From an edit that was made to what a command does that edits a file, and warns.
-use Rattle.std.proofs.Common.{◌≡◌, ℕ, ◌+◌, ◌≤◌, Bool, true, false, IsTrue, List, [], ◌∷◌, ◌++◌, take, None, Ok, Err, inr, refl, sym, ap, subst, ◌∙◌, arith, append-nil, append_assoc}
+use Rattle.std.proofs.Common.{◌≡◌, ℕ, ◌+◌, ◌≤◌, Bool, true, false, IsTrue, List, [], ◌∷◌, ◌++◌, take, None, Some, Ok, Err, inr, refl, sym, ap, subst, ◌∙◌, arith, append-nil, append_assoc}
 use Rattle.std.specs.List.{concat}
 use Rattle.std.proofs.lemmas.Bool.{false≢true}
 use Rattle.quota_blocks.specs.Count.{Rose}
@@ -14,7 +14,7 @@ use Rattle.refusals.specs.Refusals.{refusal_of}
 use Rattle.refusals.specs.Outcome.{Outcome}
 use Rattle.run_steps.specs.Act.{Act, Follows, ToErr, answers, err_bytes, out_bytes, started_by}
 use Rattle.run_steps.specs.Done.{AreDone, AreDoneInPart, RunSeen, RunTells}
-use Rattle.run_steps.specs.Run.{CarriesOut, HasSteps, IsDoneInPart}
+use Rattle.run_steps.specs.Run.{CarriesOut, FailsAtHand, HasSteps, IsDoneInPart}
 use Rattle.run_steps.specs.Steps.{DoingAll, Finish, Steps, Then}
 use Rattle.run_steps.specs.Changing.{edit_uses}
 use Rattle.edit_commands.specs.Edits.{IsSaidInPart, said_acts}
@@ -73,34 +73,51 @@ all_said acts lines tells old store err are said = record {
   writes = writes_for-before acts (said_acts lines) old.store.writes store.writes are.writes;
 }
 
+-- acts were done up to lines, and these come next
+abbrev SaidUpTo : RunTells → (acts next : List Act) → (old new : RunSeen) → Type 0
+SaidUpTo tells acts next old new = (part : AreDoneInPart tells acts old new) × (part.rest ≡ next)
+
 -- some lines were said, and of the next one a prefix
 said_up_to : (acts : List Act) (lines said unsaid : List (List ℕ)) (tells : RunTells) (old : RunSeen) (store : StoreSeen) (err : SinkSeen) → AreWritten acts old.store store → lines ≡ said ++ unsaid
-    → (IsTrue tells.err → AppendsPrefix (old.err.written ++ concat said) err.written (err_bytes (take 1 (said_acts unsaid)))) → AreDoneInPart tells (acts ++ said_acts lines) old (with_said old store err)
+    → (IsTrue tells.err → AppendsPrefix (old.err.written ++ concat said) err.written (err_bytes (take 1 (said_acts unsaid)))) → SaidUpTo tells (acts ++ said_acts lines) (said_acts unsaid) old (with_said old store err)
 said_up_to acts lines said unsaid tells old store err are whole part =
-    let first = all_said acts said (record tells { err = false }) old store err are (λ told. absurd (false≢true told)) in
-    record {
-      done = acts ++ said_acts said;
-      rest = said_acts unsaid;
-      whole = ap (λ (l : List (List ℕ)). acts ++ said_acts l) whole ∙ ap (λ (a : List Act). acts ++ a) (said_append said unsaid) ∙ sym (append_assoc acts (said_acts said) (said_acts unsaid));
-      files = (store.files, first.files, none_in_part (said_acts unsaid) store.files store.files refl);
-      out = λ told. appends_nothing (old.out.written ++ out_bytes (acts ++ said_acts said)) old.out.written (out_bytes (take 1 (said_acts unsaid))) (first.out told);
-      err = λ told. subst (λ (b : List ℕ). AppendsPrefix (old.err.written ++ b) err.written (err_bytes (take 1 (said_acts unsaid)))) (sym (all_err acts said old.store store are)) (part told);
-      answered = first.answered;
-      started = first.started;
-      writes = writes_for-before (acts ++ said_acts said) (take 1 (said_acts unsaid)) old.store.writes store.writes first.writes;
-    }
+    let first = all_said acts said (record tells { err = false }) old store err are (λ told. absurd (false≢true told)) in (
+      record {
+        done = acts ++ said_acts said;
+        rest = said_acts unsaid;
+        whole = ap (λ (l : List (List ℕ)). acts ++ said_acts l) whole ∙ ap (λ (a : List Act). acts ++ a) (said_append said unsaid) ∙ sym (append_assoc acts (said_acts said) (said_acts unsaid));
+        files = (store.files, first.files, none_in_part (said_acts unsaid) store.files store.files refl);
+        out = λ told. appends_nothing (old.out.written ++ out_bytes (acts ++ said_acts said)) old.out.written (out_bytes (take 1 (said_acts unsaid))) (first.out told);
+        err = λ told. subst (λ (b : List ℕ). AppendsPrefix (old.err.written ++ b) err.written (err_bytes (take 1 (said_acts unsaid)))) (sym (all_err acts said old.store store are)) (part told);
+        answered = first.answered;
+        started = first.started;
+        writes = writes_for-before (acts ++ said_acts said) (take 1 (said_acts unsaid)) old.store.writes store.writes first.writes;
+      },
+      refl,
+    )
 
--- the error output failed in a line
+-- the error output failed in a line, which is at hand where it tells
+abbrev UnsaidIn : RunTells → List Act → (old new : RunSeen) → Type 0
+UnsaidIn tells acts old new =
+    (part : AreDoneInPart tells acts old new) × (IsTrue tells.err → (line : List ℕ) × (more : List Act) × (part.rest ≡ ToErr line ∷ more))
+
 unsaid_told : (acts : List Act) (lines : List (List ℕ)) (tells : RunTells) (old : RunSeen) (store : StoreSeen) (err : SinkSeen) → AreWritten acts old.store store
-    → IsSaidInPart lines old.err.written err.written → AreDoneInPart tells (acts ++ said_acts lines) old (with_said old store err)
+    → IsSaidInPart lines old.err.written err.written → UnsaidIn tells (acts ++ said_acts lines) old (with_said old store err)
 unsaid_told acts lines tells old store err are part =
-    said_up_to acts lines part.said (part.line ∷ part.more) tells old store err are (part.whole ∙ ap (λ (u : List (List ℕ)). part.said ++ u) part.next)
-    (λ told. subst (λ (b : List ℕ). AppendsPrefix (old.err.written ++ concat part.said) err.written b) (sym (append-nil part.line)) part.written)
+    let up_to = said_up_to acts lines part.said (part.line ∷ part.more) tells old store err are (part.whole ∙ ap (λ (u : List (List ℕ)). part.said ++ u) part.next)
+    (λ told. subst (λ (b : List ℕ). AppendsPrefix (old.err.written ++ concat part.said) err.written b) (sym (append-nil part.line)) part.written) in
+    (up_to.0, λ told. (part.line, said_acts part.more, up_to.1))
 
 unsaid_case : (acts : List Act) (lines : List (List ℕ)) (tells : RunTells) (old : RunSeen) (store : StoreSeen) (err : SinkSeen) (told : Bool) → told ≡ tells.err → AreWritten acts old.store store
-    → (IsTrue tells.err → IsSaidInPart lines old.err.written err.written) → AreDoneInPart tells (acts ++ said_acts lines) old (with_said old store err)
+    → (IsTrue tells.err → IsSaidInPart lines old.err.written err.written) → UnsaidIn tells (acts ++ said_acts lines) old (with_said old store err)
 unsaid_case acts lines tells old store err true is are part = unsaid_told acts lines tells old store err are (part (sym is))
-unsaid_case acts lines tells old store err false is are part = said_up_to acts lines [] lines tells old store err are refl (λ told. absurd (false≢true (is ∙ told)))
+unsaid_case acts lines tells old store err false is are part =
+    let up_to = said_up_to acts lines [] lines tells old store err are refl (λ told. absurd (false≢true (is ∙ told))) in
+    (up_to.0, λ told. absurd (false≢true (is ∙ told)))
+
+-- a line that is at hand fails where the error output did
+fails_unsaid : (rest : List Act) (line : List ℕ) (more : List Act) (out err : Type 0) → rest ≡ ToErr line ∷ more → err → FailsAtHand (take 1 rest) out err
+fails_unsaid rest line more out err is failed = subst (λ (r : List Act). FailsAtHand (take 1 r) out err) (sym is) failed
 
 -- Edits that were made.
 
@@ -135,9 +152,12 @@ edit_unsaid name edit value lines warns may tells old store err made said warnin
   done = tt;
   refused = inr (warning, rose);
   part = λ told.
-      subst (λ (o : Outcome (List Act)). IsDoneInPart (Saying o lines) tells old (with_said old store err)) (sym (step_made name edit value _ old.store store made told.store))
-      (acts_in_part (acts_of name edit value ++ said_acts lines) None tells old (with_said old store err) refl
-      (unsaid_case (acts_of name edit value) lines tells old store err tells.err refl (acts_written name edit value _ old.store store made told.store) (said told.store)));
+      let unsaid = unsaid_case (acts_of name edit value) lines tells old store err tells.err refl (acts_written name edit value _ old.store store made told.store) (said told.store) in
+      subst (λ (o : Outcome (List Act)). IsDoneInPart (Saying o lines) tells (Some SinkFault) old (with_said old store err)) (sym (step_made name edit value _ old.store store made told.store))
+      (acts_in_part (acts_of name edit value ++ said_acts lines) None tells old (with_said old store err) refl unsaid.0
+      (λ is err_told.
+      let next = unsaid.1 err_told in
+      fails_unsaid unsaid.0.rest next.0 next.1 _ _ next.2 rose));
   may_refuse = allowed;
   placed = record { line = λ no. refl; input_line = λ no. refl };
   only_reads = λ only. absurd (cc);

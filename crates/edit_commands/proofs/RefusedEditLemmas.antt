@@ -18,7 +18,7 @@ use Rattle.edit_steps.specs.EditStep.{edit_cause, edit_step}
 use Rattle.run_steps.proofs.OpeningLemmas.{refused_steps, unwritten, with_store}
 use Rattle.run_steps.proofs.ReasonLemmas.{reason_but_stated}
 use Rattle.edit_commands.proofs.EditLemmas.{Saying}
-use Rattle.edit_steps.proofs.RefusedEditLemmas.{IsRefusedAt, refused_part, HasEditCause, edit_reason}
+use Rattle.edit_steps.proofs.RefusedEditLemmas.{IsRefusedAt, edit_no_output, refused_part, HasEditCause, edit_reason}
 
 -- a file that was only read before an edit that was refused
 pub left_for-read : (cause : Cause) (old between left : Option (List ℕ)) → between ≡ old → IsLeftFor cause between left → IsLeftFor cause old left
@@ -38,7 +38,7 @@ edit_unmade name edit value lines warns more tells old store holds fault held re
       (record { acts_none = refl; same = same; ends = refl })))
       (edit_reason name edit (old.store.files name) (edit_uses warns) old (with_store old store) old.store.faults holds fault (omega arith) cause);
   part = λ told.
-      refused_part name edit value (λ (acts : List Act). DoingAll (acts ++ said_acts lines) Finish) tells old store (edit_cause fault)
+      refused_part name edit value (λ (acts : List Act). DoingAll (acts ++ said_acts lines) Finish) tells old store (edit_cause fault) (edit_no_output fault)
       (λ act from. inl (record { done_none = refl; at_hand = refl; same = refl })) refused told.store;
   may_refuse = allowed;
   placed = record { line = λ no. refl; input_line = λ no. refl };

@@ -1,5 +1,5 @@
 -- Words that stand for identifiers, limits and times, of which one is faulty.
-use Rattle.std.proofs.Common.{◌≡◌, ℕ, true, false, if◌then◌else◌, nat_lt, ◌^◌, List, [], ◌∷◌, length, Option, None, Some, Err, ◌⊎◌, inl, inr, refl, sym, ap, subst, ◌∙◌}
+use Rattle.std.proofs.Common.{◌≡◌, ℕ, true, false, if◌then◌else◌, nat_lt, ◌^◌, List, [], ◌∷◌, length, Option, None, Some, Err, ◌⊎◌, inl, inr, refl, sym, ap, subst, ◌∙◌, ◌≢◌}
 use Rattle.std.specs.Prelude.{◌&&◌, codes, is_none}
 use Rattle.std.proofs.lemmas.Option.{none-some}
 use Rattle.std.specs.Str.{all_ascii_digits, bytes_eq}
@@ -9,7 +9,7 @@ use Rattle.quota_blocks.specs.Numeral.{number_of, value_of}
 use Rattle.set_edit.specs.Number.{limit_of}
 use Rattle.set_edit.specs.declared.time_word.TimeWord.TheVariants.{Seconds, Unset}
 use Rattle.refusals.specs.declared.cause.Cause.{Cause}
-use Rattle.refusals.specs.declared.cause.Cause.TheVariants.{UnknownName, BadNumber}
+use Rattle.refusals.specs.declared.cause.Cause.TheVariants.{UnknownName, BadNumber, SinkFault}
 use Rattle.refusals.specs.declared.reason.Place.{Place}
 use Rattle.refusals.specs.declared.reason.Refusal.{Refusal}
 use Rattle.edit_commands.specs.declared.edit.EditWords.{EditWords}
@@ -81,6 +81,11 @@ word_reason : (uses : Uses) (old : RunSeen) (refusal : Refusal) → (refusal.cau
 word_reason uses old refusal (inl is) stated fact = subst (λ (c : Cause). HasReason uses old old stated c) (sym is) fact
 word_reason uses old refusal (inr is) stated fact = subst (λ (c : Cause). HasReason uses old old stated c) (sym is) fact
 
+-- no output failed for it
+word_no_output : (refusal : Refusal) → (refusal.cause ≡ UnknownName) ⊎ (refusal.cause ≡ BadNumber) → Some refusal.cause ≢ Some SinkFault
+word_no_output refusal (inl is) same = cc
+word_no_output refusal (inr is) same = cc
+
 -- the status of such a refusal is 1
 pub word_status : (refusal : Refusal) → IsOfWord refusal → status_of refusal.cause ≡ 1
 word_status refusal (inl is, place) = ap status_of is
@@ -96,7 +101,7 @@ pub word_refused : {V : Type 0} (outcome : Outcome V) (next : V → Steps) (uses
     → CarriesOut (Then outcome next) uses more tells old old (Err refusal)
 word_refused outcome next uses more tells old refusal read word allows =
     subst (λ (o : Outcome _). CarriesOut (Then o next) uses more tells old old (Err refusal)) (sym read)
-    (stop_carried uses more tells old refusal (word_reason uses old refusal word.0)
+    (stop_carried uses more tells old refusal (word_no_output refusal word.0) (word_reason uses old refusal word.0)
     (allows (read ∙ ap (λ (r : Refusal). Refused r) (refusal_nowhere refusal word.1)))
     (record { line = λ no. ap (λ (p : Place). p.line) word.1; input_line = λ no. ap (λ (p : Place). p.input_line) word.1 }))
 

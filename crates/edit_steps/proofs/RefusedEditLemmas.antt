@@ -1,5 +1,5 @@
 -- An edit of a file that was refused: what was begun of it, and its reason.
-use Rattle.std.proofs.Common.{◌≡◌, ◌≢◌, ℕ, ◌+◌, ◌≤◌, Bool, true, false, IsTrue, List, [], ◌∷◌, ◌++◌, Option, Ok, Err, Result, inl, refl, sym, ap, subst, ◌∙◌, append-nil, arith}
+use Rattle.std.proofs.Common.{◌≡◌, ◌≢◌, ℕ, ◌+◌, ◌≤◌, Bool, true, false, IsTrue, List, [], ◌∷◌, ◌++◌, Option, Some, Ok, Err, Result, inl, refl, sym, ap, subst, ◌∙◌, append-nil, arith}
 use Rattle.std.specs.Prelude.{◌&&◌, ◌<◌, nat_lt, IfSome, IsOkAnd}
 use Rattle.std.proofs.lemmas.Bool.{false≢true}
 use Rattle.std.proofs.lemmas.Bool.Decides.{nat_tests}
@@ -20,7 +20,7 @@ use Rattle.set_edit.specs.Editing.{Edit}
 use Rattle.set_edit.specs.declared.fault.EditFault.{EditFault}
 use Rattle.set_edit.specs.declared.fault.EditFault.TheVariants.{File, NoRoom as Unfit}
 use Rattle.refusals.specs.declared.cause.Cause.{Cause}
-use Rattle.refusals.specs.declared.cause.Cause.TheVariants.{Full as FileFull, NoRoom as NoRoomFor}
+use Rattle.refusals.specs.declared.cause.Cause.TheVariants.{Full as FileFull, NoRoom as NoRoomFor, SinkFault}
 use Rattle.refusals.specs.Outcome.{Refused}
 use Rattle.refusals.specs.Refusals.{refusal_of}
 use Rattle.refusals.specs.Status.{status_of}
@@ -32,7 +32,7 @@ use Rattle.run_steps.specs.Steps.{Steps, Then}
 use Rattle.run_steps.specs.Changing.{blocks_after, written}
 use Rattle.edit_steps.specs.EditStep.{changed, edit_cause, edit_step, is_too_large}
 use Rattle.run_steps.proofs.ActLemmas.{appends_nothing}
-use Rattle.run_steps.proofs.OpeningLemmas.{with_store}
+use Rattle.run_steps.proofs.OpeningLemmas.{file_no_output, with_store}
 use Rattle.run_steps.proofs.PartLemmas.{nothing_begun}
 use Rattle.run_steps.proofs.WritesLemmas.{writes_for-edit}
 
@@ -61,6 +61,11 @@ refused_read name edit value told old new cause read = record {
   few = omega (arith, read.writes);
 }
 
+-- an edit is not refused since an output failed
+pub edit_no_output : (fault : EditFault) → Some (edit_cause fault) ≢ Some SinkFault
+edit_no_output (File fault) is = file_no_output fault is
+edit_no_output (Unfit out) is = cc
+
 -- What was begun.
 
 -- steps that begin with an act that they are given
@@ -68,16 +73,17 @@ abbrev pub BeginsWith : (List Act → Steps) → Type 0
 BeginsWith next = (act : Act) (from : Outside) → HasBegun (next (act ∷ [])) from [] (act ∷ []) from
 
 -- nothing was begun where the store was only read
-read_part : {done : Bool} (name : List ℕ) (steps : Steps) (tells : RunTells) (old : RunSeen) (store : StoreSeen) → OnlyReads done name old.store store → IsDoneInPart steps tells old (with_store old store)
-read_part name steps tells old store reads = nothing_begun steps tells old (with_store old store) reads.files (λ told. refl) (λ told. refl) refl refl refl reads.writes
+read_part : {done : Bool} {why : Option Cause} (name : List ℕ) (steps : Steps) (tells : RunTells) (old : RunSeen) (store : StoreSeen) → why ≢ Some SinkFault → OnlyReads done name old.store store
+    → IsDoneInPart steps tells why old (with_store old store)
+read_part name steps tells old store other reads = nothing_begun steps tells old (with_store old store) other reads.files (λ told. refl) (λ told. refl) refl refl refl reads.writes
 
-written_part : {done : Bool} (name : List ℕ) (blocks : ℕ) (edited : QuotaValue) (idle large : Bool) (next : List Act → Steps) (tells : RunTells) (old : RunSeen) (store : StoreSeen) → BeginsWith next
+written_part : {done : Bool} {why : Option Cause} (name : List ℕ) (blocks : ℕ) (edited : QuotaValue) (idle large : Bool) (next : List Act → Steps) (tells : RunTells) (old : RunSeen) (store : StoreSeen) → why ≢ Some SinkFault → BeginsWith next
     → (IsTrue idle → OnlyReads done name old.store store) → (IsTrue large → OnlyReads done name old.store store) → MayBeLeft edited (old.store.files name) (store.files name) → EditsOne name old.store store → store.writes ≤ old.store.writes + 12
-    → IsDoneInPart (Then (written name blocks edited idle large) next) tells old (with_store old store)
-written_part name blocks edited true large next tells old store begins same full named leaves few = read_part name (next []) tells old store (same refl)
-written_part name blocks edited false true next tells old store begins same full named leaves few =
-    read_part name (Then (written name blocks edited false true) next) tells old store (full refl)
-written_part name blocks edited false false next tells old store begins same full named leaves few = record {
+    → IsDoneInPart (Then (written name blocks edited idle large) next) tells why old (with_store old store)
+written_part name blocks edited true large next tells old store other begins same full named leaves few = read_part name (next []) tells old store other (same refl)
+written_part name blocks edited false true next tells old store other begins same full named leaves few =
+    read_part name (Then (written name blocks edited false true) next) tells old store other (full refl)
+written_part name blocks edited false false next tells old store other begins same full named leaves few = record {
   done = [];
   hand = Change name edited ∷ [];
   now = outside_of old;
@@ -89,22 +95,23 @@ written_part name blocks edited false false next tells old store begins same ful
   started = refl;
   datagrams = refl;
   writes = writes_for-edit name edited old.store.writes store.writes few;
+  failed = λ is told. absurd (other is);
 }
 
-changed_part : (name : List ℕ) (edit : Edit) (value : QuotaValue) (edited : Result QuotaValue (Field × ℕ)) (next : List Act → Steps) (tells : RunTells) (old : RunSeen) (store : StoreSeen) (cause : Cause)
-    → edit.edited value ≡ edited → BeginsWith next → IsRefusedAt name edit value (IsTrue tells.store) old.store store cause → IsTrue tells.store
-    → IsDoneInPart (Then (changed name edit (old.store.files name) value edited) next) tells old (with_store old store)
-changed_part name edit value (Ok one) next tells old store cause set begins refused is =
-    written_part name (blocks_after (old.store.files name) one) one (edit.is_idle value) (is_too_large edit (old.store.files name) one) next tells old store begins (refused.idle is) (refused.full is one set)
+changed_part : {why : Option Cause} (name : List ℕ) (edit : Edit) (value : QuotaValue) (edited : Result QuotaValue (Field × ℕ)) (next : List Act → Steps) (tells : RunTells) (old : RunSeen) (store : StoreSeen) (cause : Cause)
+    → edit.edited value ≡ edited → why ≢ Some SinkFault → BeginsWith next → IsRefusedAt name edit value (IsTrue tells.store) old.store store cause → IsTrue tells.store
+    → IsDoneInPart (Then (changed name edit (old.store.files name) value edited) next) tells why old (with_store old store)
+changed_part name edit value (Ok one) next tells old store cause set other begins refused is =
+    written_part name (blocks_after (old.store.files name) one) one (edit.is_idle value) (is_too_large edit (old.store.files name) one) next tells old store other begins (refused.idle is) (refused.full is one set)
     (refused.named is one set) refused.leaves refused.few
-changed_part name edit value (Err out) next tells old store cause set begins refused is =
-    read_part name (Then (changed name edit (old.store.files name) value (Err out)) next) tells old store (refused.unfit is out set)
+changed_part name edit value (Err out) next tells old store cause set other begins refused is =
+    read_part name (Then (changed name edit (old.store.files name) value (Err out)) next) tells old store other (refused.unfit is out set)
 
 -- of the steps of an edit that was refused the first act was begun at most
-pub refused_part : (name : List ℕ) (edit : Edit) (value : QuotaValue) (next : List Act → Steps) (tells : RunTells) (old : RunSeen) (store : StoreSeen) (cause : Cause)
-    → BeginsWith next → IsRefusedAt name edit value (IsTrue tells.store) old.store store cause → IsTrue tells.store
-    → IsDoneInPart (Then (edit_step name edit (old.store.files name) value) next) tells old (with_store old store)
-refused_part name edit value next tells old store cause begins refused is = changed_part name edit value (edit.edited value) next tells old store cause refl begins refused is
+pub refused_part : {why : Option Cause} (name : List ℕ) (edit : Edit) (value : QuotaValue) (next : List Act → Steps) (tells : RunTells) (old : RunSeen) (store : StoreSeen) (cause : Cause)
+    → why ≢ Some SinkFault → BeginsWith next → IsRefusedAt name edit value (IsTrue tells.store) old.store store cause → IsTrue tells.store
+    → IsDoneInPart (Then (edit_step name edit (old.store.files name) value) next) tells why old (with_store old store)
+refused_part name edit value next tells old store cause other begins refused is = changed_part name edit value (edit.edited value) next tells old store cause refl other begins refused is
 
 -- Why an edit was refused.
 

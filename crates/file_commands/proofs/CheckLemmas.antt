@@ -51,7 +51,7 @@ use Rattle.file_commands.specs.Check.{ReplaceSteps, UnfitMayRefuse, UsageMayLack
 use Rattle.run_steps.specs.Changing.{edit_uses}
 use Rattle.file_commands.specs.FileValue.{IsMadeAnew, WritingMayRefuse}
 use Rattle.refusals.specs.Refusals.{refusal_of}
-use Rattle.run_steps.proofs.OpeningLemmas.{refused_reads, with_store}
+use Rattle.run_steps.proofs.OpeningLemmas.{refused_reads, with_store, file_no_output}
 use Rattle.run_steps.proofs.PhaseLemmas.{carries_on, leads_same, stop_carried}
 use Rattle.file_commands.proofs.ReplacingLemmas.{replace_wanting}
 use Rattle.run_steps.proofs.ShowingLemmas.{damage_may}
@@ -162,7 +162,7 @@ pub check_unfit : (name : List ℕ) (value : QuotaValue) (usage : UsageMap) (now
 check_unfit name value usage now out tells old is =
     subst (λ (r : Result QuotaValue NoRoomFor). CarriesOut (ReplaceSteps name r) (edit_uses false) (ReplacingMayRefuse value name) tells old old (Err (refusal_of (NoRoom out) name)))
     (sym (ap (with_applied value) is))
-    (stop_carried (edit_uses false) (ReplacingMayRefuse value name) tells old (refusal_of (NoRoom out) name) (λ stated fact. fact)
+    (stop_carried (edit_uses false) (ReplacingMayRefuse value name) tells old (refusal_of (NoRoom out) name) (λ is. cc) (λ stated fact. fact)
     (inl (refl, applied_lacks value now usage out is)) (record { line = λ no. refl; input_line = λ no. refl }))
 
 -- Files that were opened and not read.
@@ -189,7 +189,7 @@ pub not_read_whole : {done : Bool} (kind : Kind) (asked : Option Format) (name :
     → IfSome (file_refusal fault) (IsLookupFault before store.faults holds) → IfSome (file_refusal fault) (MayRefuse format) → ((cause : Cause) → MayRefuseOpening asked name cause name → may cause name)
     → CarriesOut (Opening kind asked name next) uses may tells old (with_store old store) (Err (refusal_of (file_cause fault) name))
 not_read_whole kind asked name next uses may tells old store format before holds fault asks reads le seen cause may_be allowed =
-    refused_reads name (Opening kind asked name next) uses may tells old store (refusal_of (file_cause fault) name) reads
+    refused_reads name (Opening kind asked name next) uses may tells old store (refusal_of (file_cause fault) name) (file_no_output fault) reads
     (read_reason uses old (with_store old store) tells _ before holds fault le seen cause)
     (allowed (file_cause fault) (read_may asked name format before store.faults holds fault asks cause may_be))
     (record { line = λ no. refl; input_line = λ no. refl })

@@ -30,7 +30,7 @@ use Rattle.convert.specs.Source.{HasRead, IsReadingFault}
 use Rattle.convert.specs.declared.fault.ConvertFault.{ConvertFault}
 use Rattle.convert.specs.declared.fault.ConvertFault.TheVariants.{SameName as NamesAreSame, TargetExists as TargetIsThere, Open, File, NoRoom as Unfit, Replace}
 use Rattle.refusals.specs.declared.cause.Cause.{Cause}
-use Rattle.refusals.specs.declared.cause.Cause.TheVariants.{StoreFault, Memory, Damaged, Full, NoRoom, TargetExists, SameName}
+use Rattle.refusals.specs.declared.cause.Cause.TheVariants.{StoreFault, Memory, Damaged, Full, NoRoom, TargetExists, SameName, SinkFault}
 use Rattle.refusals.specs.declared.reason.Refusal.{Refusal}
 use Rattle.refusals.specs.Outcome.{Outcome, Passed, Refused, and_then}
 use Rattle.refusals.specs.Refusals.{refusal_of}
@@ -42,7 +42,7 @@ use Rattle.run_steps.specs.Meaning.{EndsBy}
 use Rattle.run_steps.specs.Run.{CarriesOut, HasReason, HasSteps, IsPlacedBy}
 use Rattle.run_steps.specs.Steps.{DoingAll, Finish, Opening, Steps, Then}
 use Rattle.run_steps.specs.declared.invocation.Invocation.{Invocation}
-use Rattle.run_steps.proofs.OpeningLemmas.{none_done, not_opened, outside_same, refused_so, store_later, with_store}
+use Rattle.run_steps.proofs.OpeningLemmas.{none_done, not_opened, outside_same, refused_so, opening_no_output, store_later, with_store}
 use Rattle.run_steps.proofs.PartLemmas.{nothing_begun}
 use Rattle.run_steps.proofs.PhaseLemmas.{carries_on, carries_opening, leads_looking}
 use Rattle.run_steps.proofs.ShowingLemmas.{damage_may}
@@ -55,14 +55,14 @@ use Rattle.file_commands.proofs.ReplacingLemmas.{no_flat_blocks, no_room_for, re
 
 module _ (source target : List ℕ) (may : Cause → List ℕ → Type 0) (tells : RunTells) (old : RunSeen) (store : StoreSeen) (looks : OnlyLooks source target old.store store) where
   -- steps that were refused, for a reason
-  looked_carried : (steps : Steps) (refusal : Refusal)
+  looked_carried : (steps : Steps) (refusal : Refusal) → Some refusal.cause ≢ Some SinkFault
       → HasReason (edit_uses false) old (with_store old store) (IsWorldTold tells → HasSteps steps tells (Some refusal) old (with_store old store)) refusal.cause
       → may refusal.cause refusal.name → IsPlacedBy (edit_uses false) refusal
       → CarriesOut steps (edit_uses false) may tells old (with_store old store) (Err refusal)
-  looked_carried steps refusal reason allowed placed =
+  looked_carried steps refusal other reason allowed placed =
       refused_so steps (edit_uses false) may tells old (with_store old store) refusal
       (record { files = looks.files; writes = looks.writes }) refl (store_later old store looks.later)
-      (λ told. nothing_begun steps tells old (with_store old store) looks.files (λ told. refl) (λ told. refl) refl refl refl looks.writes) reason
+      (λ told. nothing_begun steps tells old (with_store old store) other looks.files (λ told. refl) (λ told. refl) refl refl refl looks.writes) reason
       allowed placed
 
   -- steps that end at once
@@ -73,24 +73,24 @@ module _ (source target : List ℕ) (may : Cause → List ℕ → Type 0) (tells
     done = none_done tells old store old.input (record { files = looks.files; writes = looks.writes });
   }
 
-  looked_refused : {V : Type 0} (outcome : Outcome V) (next : V → Steps) (refusal : Refusal) → (IsTrue tells.store → outcome ≡ Refused refusal)
+  looked_refused : {V : Type 0} (outcome : Outcome V) (next : V → Steps) (refusal : Refusal) → Some refusal.cause ≢ Some SinkFault → (IsTrue tells.store → outcome ≡ Refused refusal)
       → ((stated : Type 0) → stated → HasReason (edit_uses false) old (with_store old store) stated refusal.cause)
       → may refusal.cause refusal.name → IsPlacedBy (edit_uses false) refusal
       → CarriesOut (Then outcome next) (edit_uses false) may tells old (with_store old store) (Err refusal)
-  looked_refused outcome next refusal is own allowed placed =
-      looked_carried (Then outcome next) refusal (own _ (λ told. ended_steps (Then outcome next) refusal (λ new same.
+  looked_refused outcome next refusal other is own allowed placed =
+      looked_carried (Then outcome next) refusal other (own _ (λ told. ended_steps (Then outcome next) refusal (λ new same.
       subst (λ (o : Outcome _). EndsBy (Then o next) (outside_of old) [] new (Some refusal)) (sym (is told.store)) (record { acts_none = refl; same = same; ends = refl })))) allowed placed
 
   -- the store failed, or there was not enough memory
   looked_failed : (steps : Steps) (name : List ℕ) → Rose old.store.faults store.faults → may StoreFault name
       → CarriesOut steps (edit_uses false) may tells old (with_store old store) (Err (refusal_of StoreFault name))
   looked_failed steps name rose allowed =
-      looked_carried steps (refusal_of StoreFault name) rose allowed (record { line = λ no. refl; input_line = λ no. refl })
+      looked_carried steps (refusal_of StoreFault name) (λ is. cc) rose allowed (record { line = λ no. refl; input_line = λ no. refl })
 
   looked_wanting : (steps : Steps) (name : List ℕ) → may Memory name
       → CarriesOut steps (edit_uses false) may tells old (with_store old store) (Err (refusal_of Memory name))
   looked_wanting steps name allowed =
-      looked_carried steps (refusal_of Memory name) tt allowed (record { line = λ no. refl; input_line = λ no. refl })
+      looked_carried steps (refusal_of Memory name) (λ is. cc) tt allowed (record { line = λ no. refl; input_line = λ no. refl })
 
 -- The names.
 
@@ -225,7 +225,7 @@ module _ (kind : Kind) (before after : Format) (source target : List ℕ) (invoc
   not_made (TooManyBlocks blocks limit) is looks same leaves =
       let format_is = made_format kind before after source target tells.store old.store.files is.made is.converts in
       carries_made is.made (Err (refusal_of (Full blocks limit) target)) is.free is.converts
-      (looked_refused source target Says tells old store looks (made source target (Ok is.made)) (λ (acts : List Act). DoingAll acts Finish) (refusal_of (Full blocks limit) target)
+      (looked_refused source target Says tells old store looks (made source target (Ok is.made)) (λ (acts : List Act). DoingAll acts Finish) (refusal_of (Full blocks limit) target) (λ is. cc)
       (λ told. no_room_for target is.made blocks limit is.cause.0 is.cause.1 is.cause.2) (λ stated fact. fact)
       (ap is_flat (sym format_is) ∙ no_flat_blocks is.made.format (ids_in is.made.records) most_blocks is.cause.0, is.cause.2, omega (arith, is.cause.0, is.cause.1, is.cause.2), refl)
       (nowhere_placed (Full blocks limit) target))
@@ -244,7 +244,7 @@ module _ (kind : Kind) (before after : Format) (source target : List ℕ) (invoc
   open_refused WantsMemory is looks = looked_wanting source target Says tells old store looks steps source tt
   open_refused fault is looks =
       carries_targeting kind before after source target invocation tells old (with_store old store) (Err (refusal_of (opening_cause fault) source)) is.apart is.absent
-      (looked_carried source target Says tells old store looks next (refusal_of (opening_cause fault) source)
+      (looked_carried source target Says tells old store looks next (refusal_of (opening_cause fault) source) (opening_no_output fault)
       (λ told. ended_steps source target Says tells old store looks next (refusal_of (opening_cause fault) source)
       (λ new same. inr (fault, fault_seen _ _ _ _ kind (Some before) fault is.cause told.store (λ own. own), record { acts_none = refl; same = same; ends = refl })))
       (open_says fault is looks) (nowhere_placed (opening_cause fault) source))
@@ -253,7 +253,7 @@ module _ (kind : Kind) (before after : Format) (source target : List ℕ) (invoc
       → Carried steps (Err (refusal_of (file_cause fault) source))
   read_refused CallFailed cause looks = looked_failed source target Says tells old store looks steps source cause tt
   read_refused (FileDamaged damage) cause looks =
-      looked_carried source target Says tells old store looks steps (refusal_of (Damaged damage) source) (λ told. absurd (cause.0 told.store))
+      looked_carried source target Says tells old store looks steps (refusal_of (Damaged damage) source) (λ is. cc) (λ told. absurd (cause.0 told.store))
       (damage_may (Some before) before damage refl cause.1, refl) (nowhere_placed (Damaged damage) source)
   read_refused (NoBlocks blocks limit) cause looks = absurd cause
   read_refused NoMemory cause looks = looked_wanting source target Says tells old store looks steps source tt
@@ -263,25 +263,25 @@ module _ (kind : Kind) (before after : Format) (source target : List ℕ) (invoc
       let refusal = refusal_of (NoRoom out) source in
       carries_read kind before after source target invocation tells old (with_store old store) (Err refusal) is.value is.free.apart is.free.absent is.read
       (subst (λ (r : Result QuotaValue NoRoomFor). Carried (MakingSteps source target r) (Err refusal)) (sym is.refused)
-      (looked_refused source target Says tells old store looks (made source target (Err out)) (λ (acts : List Act). DoingAll acts Finish) refusal (λ told. refl) (λ stated fact. fact)
+      (looked_refused source target Says tells old store looks (made source target (Err out)) (λ (acts : List Act). DoingAll acts Finish) refusal (λ is. cc) (λ told. refl) (λ stated fact. fact)
       ((is.value, record { kind_is = is.read.kind_is; format_is = is.read.format_is; grace = is.read.grace; kept = is.read.kept }, is.refused), refl)
       (nowhere_placed (NoRoom out) source)))
 
   -- the names were refused
-  names_refused : (refusal : Refusal) → (IsTrue tells.store → targeted source target old.store.files ≡ Refused refusal) → OnlyLooks source target old.store store
+  names_refused : (refusal : Refusal) → Some refusal.cause ≢ Some SinkFault → (IsTrue tells.store → targeted source target old.store.files ≡ Refused refusal) → OnlyLooks source target old.store store
       → ((stated : Type 0) → stated → HasReason (edit_uses false) old (with_store old store) stated refusal.cause) → Says refusal.cause refusal.name → IsPlacedBy (edit_uses false) refusal
       → Carried steps (Err refusal)
-  names_refused refusal is looks own allowed placed =
+  names_refused refusal other is looks own allowed placed =
       carries_on source (Then (targeted source target old.store.files) (λ (_ : Unit {0}). next)) steps (edit_uses false) Says Says tells old old.store (with_store old store) (Err refusal)
       (only_reads-none {done = true} source old.store) (λ told. leads_looking (Then (targeted source target old.store.files) (λ (_ : Unit {0}). next)) _ (outside_of old) refl) (λ cause said may. may)
-      (looked_refused source target Says tells old store looks (targeted source target old.store.files) (λ (_ : Unit {0}). next) refusal is own allowed placed)
+      (looked_refused source target Says tells old store looks (targeted source target old.store.files) (λ (_ : Unit {0}). next) refusal other is own allowed placed)
 
   pub not_converted : (fault : ConvertFault) → IsConvertFault tells.store asked old.store store fault → UnlessMaking fault (OnlyLooks source target old.store store)
       → store.files target ≡ old.store.files target → LeavesOthers source target old.store store → Carried steps (Err (convert_refusal source target fault))
   not_converted NamesAreSame is looks same leaves =
-      names_refused (refusal_of SameName source) (λ told. targets_same source target old.store.files is) looks (λ stated fact. fact) (is, refl) (nowhere_placed SameName source)
+      names_refused (refusal_of SameName source) (λ is. cc) (λ told. targets_same source target old.store.files is) looks (λ stated fact. fact) (is, refl) (nowhere_placed SameName source)
   not_converted TargetIsThere is looks same leaves =
-      names_refused (refusal_of TargetExists target) (λ told. targets_there source target old.store.files is.0 (is.1 told)) looks (λ stated fact. fact) (is.0, refl) (nowhere_placed TargetExists target)
+      names_refused (refusal_of TargetExists target) (λ is. cc) (λ told. targets_there source target old.store.files is.0 (is.1 told)) looks (λ stated fact. fact) (is.0, refl) (nowhere_placed TargetExists target)
   not_converted (Open fault) is looks same leaves = open_refused fault is looks
   not_converted (File fault) is looks same leaves = read_refused fault is.1 looks
   not_converted (Unfit out) is looks same leaves = unfit_refused out is looks

@@ -32,7 +32,7 @@ use Rattle.run_steps.proofs.PartLemmas.{acts_in_part, carried_whole}
 use Rattle.run_steps.proofs.PhaseLemmas.{nothing_carried, placed_nowhere}
 use Rattle.run_steps.proofs.ReasonLemmas.{reason_since}
 use Rattle.run_steps.proofs.SeenOnceLemmas.{seen_once}
-use Rattle.run_steps.proofs.ShowingLemmas.{told_begun, told_steps}
+use Rattle.run_steps.proofs.ShowingLemmas.{out_failed, told_begun, told_steps}
 use Rattle.run_steps.proofs.WritesLemmas.{writes_for-replacement}
 use Rattle.file_commands.specs.FileValue.{replace_cause}
 use Rattle.file_commands.specs.Generate.{GenerateMayRefuse, IsUnreported, gathered_cause, generate_uses}
@@ -54,8 +54,8 @@ changed_steps name new next tells refusal old store to follows has = record {
   };
 }
 
-changed_part : (name : List ℕ) (new : QuotaValue) (next : Steps) (tells : RunTells) (old : RunSeen) (store : StoreSeen) (to : RunSeen)
-    → FollowsAct (Replace name new) old.store.files store.files → IsDoneInPart next tells (with_store old store) to → IsDoneInPart (Doing (Replace name new) next) tells old to
+changed_part : {why : Option Cause} (name : List ℕ) (new : QuotaValue) (next : Steps) (tells : RunTells) (old : RunSeen) (store : StoreSeen) (to : RunSeen)
+    → FollowsAct (Replace name new) old.store.files store.files → IsDoneInPart next tells why (with_store old store) to → IsDoneInPart (Doing (Replace name new) next) tells why old to
 changed_part name new next tells old store to follows part = record {
   done = Replace name new ∷ part.done;
   hand = part.hand;
@@ -68,6 +68,7 @@ changed_part name new next tells old store to follows part = record {
   started = part.started;
   datagrams = part.datagrams;
   writes = writes_for-replacement name new (part.done ++ part.hand) old.store.writes to.store.writes;
+  failed = part.failed;
 }
 
 -- a file was changed, and the next steps were carried out
@@ -105,7 +106,8 @@ change_failed name text new tells old store rose same leaves later =
       done = tt;
       refused = rose;
       part = λ told. acts_in_part acts None tells old (with_store old store) refl
-          (part_of [] acts tells old old.store store (written_yet old.store) (same, leaves) (writes_for-replacement name new [] old.store.writes store.writes));
+          (part_of [] acts tells old old.store store (written_yet old.store) (same, leaves) (writes_for-replacement name new [] old.store.writes store.writes))
+          (λ is told. absurd (cc));
       may_refuse = inr tt;
       placed = record { line = λ no. refl; input_line = λ no. refl };
       only_reads = λ only. absurd (false≢true (sym only));
@@ -125,7 +127,8 @@ pub told_in_part : (name text : List ℕ) (tells : RunTells) (old : RunSeen) (st
 told_in_part name text tells old store out refusal unwritten later out_later prefix reason may placed =
     refused_so (Doing (ToOut text) Finish) showing_uses (ShowingMayRefuse None name) tells old (with_out old store out) refusal
     unwritten refl (record { store = later; input = omega arith; out = out_later; err = omega arith; link = omega arith })
-    (λ told. told_begun text tells old store out unwritten (prefix told.store)) (reason _) may (placed_nowhere showing_uses refusal placed)
+    (λ told. told_begun text tells old store out (out_failed old (with_out old store out) (IsWorldTold tells → ⊥) refusal.cause (reason ⊥)) unwritten (prefix told.store)) (reason _) may
+    (placed_nowhere showing_uses refusal placed)
 
 -- the output failed
 pub told_failed : (name text written : List ℕ) (tells : RunTells) (old : RunSeen) (store : StoreSeen) (out : SinkSeen) → IsUnwritten old.store store → old.store.faults ≤ store.faults
@@ -218,4 +221,4 @@ put_refused name text new tells old store needed PutFailed few cause unwritten s
 put_refused name text new tells old store needed (NoBlocks blocks limit) few cause unwritten same leaves = absurd (omega (arith, cause.0, few))
 put_refused name text new tells old store needed NoMemory few cause unwritten same leaves =
     subst (λ (s : StoreSeen). CarriesOut (Doing (Replace name new) (Doing (ToOut text) Finish)) generate_uses (GenerateMayRefuse name) tells old (with_store old s) (Err (refusal_of Memory name))) (sym unwritten)
-    (nothing_carried (Doing (Replace name new) (Doing (ToOut text) Finish)) generate_uses (GenerateMayRefuse name) tells old (refusal_of Memory name) tt (inr tt) (record { line = λ no. refl; input_line = λ no. refl }))
+    (nothing_carried (Doing (Replace name new) (Doing (ToOut text) Finish)) generate_uses (GenerateMayRefuse name) tells old (refusal_of Memory name) (λ is. cc) tt (inr tt) (record { line = λ no. refl; input_line = λ no. refl }))

@@ -86,7 +86,8 @@ replace_failed name new may tells old store rose same leaves later few allowed =
       done = tt;
       refused = rose;
       part = λ told. acts_in_part acts None tells old (with_store old store) refl
-          (part_of [] acts tells old old.store store (written_yet old.store) (same, leaves) (writes_for-replacement name new [] old.store.writes store.writes));
+          (part_of [] acts tells old old.store store (written_yet old.store) (same, leaves) (writes_for-replacement name new [] old.store.writes store.writes))
+          (λ is told. absurd (cc));
       may_refuse = allowed;
       placed = record { line = λ no. refl; input_line = λ no. refl };
       only_reads = λ only. absurd (false≢true (sym only));
@@ -103,14 +104,14 @@ replace_full name new may tells old store blocks limit same passes needs is allo
     let refusal = refusal_of (Full blocks limit) name in
     subst (λ (s : StoreSeen). CarriesOut (ReplaceSteps name (Ok new)) (edit_uses false) may tells old (with_store old s) (Err refusal)) (sym same)
     (by_outcome name new (Refused refusal) may tells old old (Err refusal) (no_room_for name new blocks limit passes needs is)
-    (stop_carried (edit_uses false) may tells old refusal (λ stated fact. fact) allowed (record { line = λ no. refl; input_line = λ no. refl })))
+    (stop_carried (edit_uses false) may tells old refusal (λ is. cc) (λ stated fact. fact) allowed (record { line = λ no. refl; input_line = λ no. refl })))
 
 -- there was not enough memory
 pub replace_wanting : (name : List ℕ) (new : Result QuotaValue NoRoom) (may : Cause → List ℕ → Type 0) (tells : RunTells) (old : RunSeen) (store : StoreSeen) → store ≡ old.store → may Memory name
     → CarriesOut (ReplaceSteps name new) (edit_uses false) may tells old (with_store old store) (Err (refusal_of Memory name))
 replace_wanting name new may tells old store same allowed =
     subst (λ (s : StoreSeen). CarriesOut (ReplaceSteps name new) (edit_uses false) may tells old (with_store old s) (Err (refusal_of Memory name))) (sym same)
-    (nothing_carried (ReplaceSteps name new) (edit_uses false) may tells old (refusal_of Memory name) tt allowed (record { line = λ no. refl; input_line = λ no. refl }))
+    (nothing_carried (ReplaceSteps name new) (edit_uses false) may tells old (refusal_of Memory name) (λ is. cc) tt allowed (record { line = λ no. refl; input_line = λ no. refl }))
 
 -- a flat file needs no blocks
 pub no_flat_blocks : (format : Format) (ids : List ℕ) (most : ℕ) → most < blocks_needed format ids → IsTreeFormat format

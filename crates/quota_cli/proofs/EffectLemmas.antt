@@ -1,5 +1,6 @@
 -- What holds of every effect of words that ask for one command.
 use Rattle.std.proofs.Common.{◌≡◌, ℕ, Bool, true, List, Option, None, Some, sym, subst}
+use Rattle.refusals.specs.declared.cause.Cause.{Cause}
 use Rattle.refusals.specs.declared.reason.Refusal.{Refusal}
 use Rattle.refusals.specs.Status.{end_status, group_of}
 use Rattle.refusals.proofs.GroupLemmas.{status_in-some}
@@ -15,8 +16,8 @@ use Rattle.run_steps.proofs.PartLemmas.{part_of_end}
 use Rattle.run_steps.proofs.RoomLemmas.{unless_full}
 
 -- what was done in part is a first part of the acts of every effect, except for a refusal for lack of room
-pub part_of_effect : (rooms : Bool) (setting : Setting) (tells : RunTells) (old new : RunSeen) (acts : List Act) (to : Outside) (ended : ℕ) → LooksFirstBy rooms true true (steps_asked setting)
-    → IsDoneInPart (steps_asked setting) tells old new → (effect : Effect setting (outside_of old) acts to ended) → UnlessFull rooms effect.refusal (AreDoneInPart tells acts old new)
+pub part_of_effect : {why : Option Cause} (rooms : Bool) (setting : Setting) (tells : RunTells) (old new : RunSeen) (acts : List Act) (to : Outside) (ended : ℕ) → LooksFirstBy rooms true true (steps_asked setting)
+    → IsDoneInPart (steps_asked setting) tells why old new → (effect : Effect setting (outside_of old) acts to ended) → UnlessFull rooms effect.refusal (AreDoneInPart tells acts old new)
 part_of_effect rooms setting tells old new acts to ended looks part effect =
     unless_full rooms effect.refusal effect.refusal (λ full. full)
     (λ (own : AreDoneInPart tells effect.own old new).

@@ -19,7 +19,7 @@ use Rattle.run_steps.specs.Meaning.{EndsBy, IsSure, closing}
 use Rattle.run_steps.specs.OneCommand.{AreReceived, ReadsToEnd, Receives}
 use Rattle.run_steps.specs.Run.{CarriesOut, HasFailed, HasReason, HasSteps, IsDoneInPart, Uses}
 use Rattle.run_steps.specs.Writes.{ReadsWithin}
-use Rattle.quota_cli.specs.Headline.{HasEffect, HasEffectUpToErr, HasSaid, IsRefusedWord, IsStopped, Keeps, Setting, asked, steps_asked, uses_asked}
+use Rattle.quota_cli.specs.Headline.{HasEffect, HasEffectUpToErr, HasSaid, IsRefusedRun, IsRefusedWord, IsStopped, Keeps, LeavesLink, Setting, asked, steps_asked, uses_asked}
 use Rattle.quota_cli.specs.Script.{StandsInScript}
 use Rattle.command_words.specs.Asked.{command_of}
 use Rattle.command_table.specs.Description.{IsLeftByEdit, IsOnlyRead, StopsIt, IsCarriedOut}
@@ -158,7 +158,7 @@ run_headline setting tells old new said result status reads carries finished tol
     whole_effect setting tells old (once_said new said) status has.0 (subst (λ (s : SinkSeen). old.err.faults ≤ s.faults) (sym has.1) carries.later.err) told.err none.err reads
 
 run_part : (setting : Setting) (tells : RunTells) (old new : RunSeen) (said : SinkSeen) (result : Result (Unit {0}) Refusal) → AskedCarried setting tells old new result
-    → IsWorldTold tells → IsDoneInPart (steps_asked setting) (record tells { err = false }) old (once_said new said)
+    → IsWorldTold tells → IsDoneInPart (steps_asked setting) (record tells { err = false }) None old (once_said new said)
 run_part setting tells old new said result carries told = part_but_err (steps_asked setting) tells old new said (carries.part told)
 
 -- a line that was written, of an error output that had got nothing before
@@ -176,25 +176,38 @@ stops_it : (status other : ℕ) → status ≡ other → (status ≡ 4) ⊎ (sta
 stops_it status other is (inl four) = inl (sym is ∙ four)
 stops_it status other is (inr five) = inr (sym is ∙ five)
 
-run_stopped : (setting : Setting) (tells : RunTells) (old new : RunSeen) (said : SinkSeen) (result : Result (Unit {0}) Refusal) (status : ℕ)
-    → AskedCarried setting tells old new result → IfErr result (λ (refusal : Refusal). refusal.cause ≡ LinkFault → (asked setting).unfinished setting.invocation tells old new)
-    → (IsTrue (uses_asked setting).reads_commands → IfErr result (λ (refusal : Refusal). StopsIt refusal.cause → refusal.place.line ≡ None → IsOnlyRead old new))
-    → AreStanding setting tells old new result → IsFinished tells new.err said result status
-    → (status ≡ 4) ⊎ (status ≡ 5) → IsStopped setting tells old (once_said new said) status
-run_stopped setting tells old new said (Ok value) status carries unfinished unbegun stands finished ends = absurd (stopped_not status 0 finished.status_is (λ e. omega (arith, e)) (λ e. omega (arith, e)) ends)
-run_stopped setting tells old new said (Err refusal) status carries unfinished unbegun stands finished ends = record {
+-- the link is as it was where nothing that was reached uses it
+abbrev IsUnlinked : Setting → RunTells → RunSeen → RunSeen → Result (Unit {0}) Refusal → Type 0
+IsUnlinked setting tells old new result = LeavesLink setting tells old new (result_err result)
+
+abbrev refused_run : (setting : Setting) (tells : RunTells) (old new : RunSeen) (said : SinkSeen) (refusal : Refusal) (status : ℕ)
+    → AskedCarried setting tells old new (Err refusal) → AreStanding setting tells old new (Err refusal) → IsUnlinked setting tells old new (Err refusal) → IsFinished tells new.err said (Err refusal) status
+    → IsRefusedRun setting tells old (once_said new said) status
+refused_run setting tells old new said refusal status carries stands unlinked finished = record {
   refusal = refusal;
-  before = new;
-  all_else = refl;
-  reason = by_case (reason_case setting tells old new refusal carries);
+  before = new.err;
+  later = carries.later.err;
+  may = carries.may_refuse;
   placed = record { by_uses = carries.placed; in_script = stands };
+  reason = reason_but_stated (uses_asked setting) old new _ ⊤ refusal.cause (λ _. tt) carries.refused;
   status_is = finished.status_is;
   quiet = carries.quiet;
   line = finished.written;
+  unlinked = unlinked;
+}
+
+run_stopped : (setting : Setting) (tells : RunTells) (old new : RunSeen) (said : SinkSeen) (result : Result (Unit {0}) Refusal) (status : ℕ)
+    → AskedCarried setting tells old new result → IfErr result (λ (refusal : Refusal). refusal.cause ≡ LinkFault → (asked setting).unfinished setting.invocation tells old new)
+    → (IsTrue (uses_asked setting).reads_commands → IfErr result (λ (refusal : Refusal). StopsIt refusal.cause → refusal.place.line ≡ None → IsOnlyRead old new))
+    → AreStanding setting tells old new result → IsUnlinked setting tells old new result → IsFinished tells new.err said result status
+    → (status ≡ 4) ⊎ (status ≡ 5) → IsStopped setting tells old (once_said new said) status
+run_stopped setting tells old new said (Ok value) status carries unfinished unbegun stands unlinked finished ends = absurd (stopped_not status 0 finished.status_is (λ e. omega (arith, e)) (λ e. omega (arith, e)) ends)
+run_stopped setting tells old new said (Err refusal) status carries unfinished unbegun stands unlinked finished ends = record {
+  run = refused_run setting tells old new said refusal status carries stands unlinked finished;
+  reason = by_case (reason_case setting tells old new refusal carries);
   part = carries.part;
   unfinished = unfinished;
   unbegun = λ reads. unbegun reads (stops_it status (status_of refusal.cause) finished.status_is ends);
-  later = carries.later.err;
 }
   where
     by_case : ReasonCase setting tells old new refusal → HasReason (uses_asked setting) old new ⊥ refusal.cause
@@ -216,21 +229,14 @@ run_complete setting tells old new said (Err refusal) status carries finished to
         absurd (none-some refusal (sym (sure_ends (steps_asked setting) (outside_of old) has.acts (outside_of new) (Some refusal) sure has.by_steps)))
 
 run_says : (setting : Setting) (tells : RunTells) (old new : RunSeen) (said : SinkSeen) (result : Result (Unit {0}) Refusal) (status : ℕ)
-    → AskedCarried setting tells old new result → AreStanding setting tells old new result → IsFinished tells new.err said result status
+    → AskedCarried setting tells old new result → AreStanding setting tells old new result → IsUnlinked setting tells old new result → IsFinished tells new.err said result status
     → HasSaid setting tells old (once_said new said) status
-run_says setting tells old new said (Ok value) status carries stands finished =
-    inl (finished.status_is, λ no told. nothing_said new.err said (finished.written told) ∙ ap (λ (s : SinkSeen). s.written) (carries.quiet no))
-run_says setting tells old new said (Err refusal) status carries stands finished = inr (record {
-  refusal = refusal;
-  before = new.err;
-  later = carries.later.err;
-  may = carries.may_refuse;
-  placed = record { by_uses = carries.placed; in_script = stands };
-  reason = reason_but_stated (uses_asked setting) old new _ ⊤ refusal.cause (λ _. tt) carries.refused;
+run_says setting tells old new said (Ok value) status carries stands unlinked finished = inl (record {
   status_is = finished.status_is;
-  quiet = carries.quiet;
-  line = finished.written;
+  quiet = λ no told. nothing_said new.err said (finished.written told) ∙ ap (λ (s : SinkSeen). s.written) (carries.quiet no);
+  unlinked = unlinked;
 })
+run_says setting tells old new said (Err refusal) status carries stands unlinked finished = inr (refused_run setting tells old new said refusal status carries stands unlinked finished)
 
 ended_unwritten : (uses : Uses) (result : Result (Unit {0}) Refusal) (status : ℕ) (same : Type 0)
     → (uses.changes ≡ false → same) → (IsTrue uses.all_or_nothing → IfErr result (λ (refusal : Refusal). status_of refusal.cause ≢ 4 → same))
@@ -317,7 +323,7 @@ pub run_keeps : (setting : Setting) (tells : RunTells) (old new : RunSeen) (said
     → Keeps setting tells old (once_said new said) status
 run_keeps setting tells old new said result status carried stands finished usage words = record {
   done = run_done setting tells old new said result status carried.carries finished;
-  stopped = run_stopped setting tells old new said result status carried.carries carried.unfinished carried.unbegun stands finished;
+  stopped = run_stopped setting tells old new said result status carried.carries carried.unfinished carried.unbegun stands carried.unlinked finished;
   part = run_part setting tells old new said result carried.carries;
   complete = run_complete setting tells old new said result status carried.carries finished;
   usage = λ no.
@@ -327,7 +333,7 @@ run_keeps setting tells old new said result status carried stands finished usage
   words = λ refusal faulty.
       let own = words refusal faulty in
       run_words setting tells old new said result status refusal carried.carries finished own.0 own.1;
-  says = run_says setting tells old new said result status carried.carries stands finished;
+  says = run_says setting tells old new said result status carried.carries stands carried.unlinked finished;
   writes = run_writes setting tells old new said result status carried.carries finished;
   named = run_named (asked setting).replaces (λ (file : List ℕ). IsTrue tells.store → new.store.files file ≡ old.store.files file) result status finished.status_is carried.named;
   edited = run_edited (asked setting).edits (λ (s : ℕ) (file : List ℕ). IsTrue tells.store → IsLeftByEdit s old.store.files new.store.files file) result status finished.status_is
@@ -337,13 +343,5 @@ run_keeps setting tells old new said result status carried stands finished usage
   made = run_held (IsTrue tells.store → (asked setting).made setting.invocation (outside_of old) new.store.files) result status finished.status_is carried.made;
   synced = λ so told. run_synced result status old.store new.store finished.status_is (carried.synced told) so;
   untaken = λ one. run_untaken (new.link ≡ old.link) result status finished.status_is (carried.untaken one);
-  unlinked = record {
-    refusal = result_err result;
-    before = new.err;
-    later = carried.carries.later.err;
-    ended = finished.status_is;
-    line = finished.written;
-    unlinked = carried.unlinked;
-  };
   later = run_later setting tells old new said result status carried.carries finished;
 }

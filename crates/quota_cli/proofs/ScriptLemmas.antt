@@ -1,5 +1,5 @@
 -- Lines of a script that were carried out, one after another, and the script that they stand in.
-use Rattle.std.proofs.Common.{◌≡◌, ◌≤◌, ◌<◌, ◌+◌, ℕ, Bool, true, false, cond, IsTrue, List, [], ◌∷◌, Option, None, Some, Ok, Err, Result, inl, inr, refl, sym, ap, subst, ◌∙◌, arith}
+use Rattle.std.proofs.Common.{◌≡◌, ◌≤◌, ◌<◌, ◌+◌, ℕ, Bool, true, false, cond, IsTrue, List, [], ◌∷◌, Option, None, Some, Ok, Err, Result, inl, inr, refl, sym, ap, subst, ◌∙◌, arith, ◌≢◌}
 use Rattle.std.specs.Prelude.{⊤, ◌&&◌, IfErr, IfSome, IsSome, is_none, is_ok}
 use Rattle.std.specs.Result.{result_err}
 use Rattle.std.specs.Str.{is_utf8}
@@ -14,14 +14,14 @@ use Rattle.quota_blocks.specs.Seen.{SourceSeen}
 use Rattle.quota_blocks.specs.Words.{words_of}
 use Rattle.outside.proofs.FrameLemmas.{only_reads-none, syncs-none, syncs-then}
 use Rattle.refusals.specs.declared.cause.Cause.{Cause}
-use Rattle.refusals.specs.declared.cause.Cause.TheVariants.{LinkFault, SourceFault, TooLarge, LongLine, BadLine, Memory}
+use Rattle.refusals.specs.declared.cause.Cause.TheVariants.{LinkFault, SourceFault, TooLarge, LongLine, BadLine, Memory, SinkFault}
 use Rattle.refusals.specs.declared.reason.Place.{Place}
 use Rattle.refusals.specs.declared.reason.Refusal.{Refusal}
 use Rattle.refusals.specs.Outcome.{Passed, Refused}
 use Rattle.refusals.specs.Refusals.{in_line, nowhere, refusal_of}
-use Rattle.run_steps.specs.Done.{Outside, RunSeen, RunTells, outside_of}
+use Rattle.run_steps.specs.Done.{Outside, RunSeen, RunTells, outside_of, IsWorldTold}
 use Rattle.run_steps.specs.Meaning.{IsSure, IsTaken}
-use Rattle.run_steps.specs.Run.{HasReason, Uses}
+use Rattle.run_steps.specs.Run.{HasReason, Uses, IsDoneInPart, cause_in}
 use Rattle.run_steps.specs.declared.invocation.Invocation.{Invocation}
 use Rattle.run_steps.proofs.CarryingLemmas.{MayUseAll, carried_before, carried_in_line, carried_stopped, finish_carried, lined}
 use Rattle.run_steps.proofs.OpeningLemmas.{with_input}
@@ -40,6 +40,8 @@ use Rattle.command_table.proofs.InputLemmas.{spares_input}
 use Rattle.command_table.proofs.SureLemmas.{asked_sure, command_sure}
 use Rattle.quota_cli.specs.Carrying.{AreCarried, Ascends, IsLineCarried, unread_cause}
 use Rattle.quota_cli.specs.Script.{ComesTo, IsLeftUnfinished, IsLineUnfinished, IsOfLine, IsOfLines, StandsInScript, LineSteps, LinesSteps, LinesSuffice, RunningMayRefuse, ScriptSteps, asked_in_script, comes_to_link, is_come_to, is_up_to, line_invocation, script_uses, scripting}
+use Rattle.run_steps.specs.Steps.{Steps}
+use Rattle.run_steps.proofs.RowLemmas.{part_in_line}
 
 -- The numbers of lines.
 
@@ -139,6 +141,12 @@ own_reason (LongLine line) name tells old may stated fact = fact
 own_reason TooLarge name tells old may stated fact = fact
 own_reason _ name tells old may stated fact = absurd may
 
+-- no output failed for it
+own_no_output : (cause : Cause) (name : List ℕ) → ScriptMayRefuse cause name → Some cause ≢ Some SinkFault
+own_no_output cause name may is =
+    let sink : cause ≡ SinkFault = cc in
+    subst (λ (c : Cause). ScriptMayRefuse c name) sink may
+
 -- nor does it stop the script as a fault or lack of memory does
 own_no_stop : (cause : Cause) (name : List ℕ) → ScriptMayRefuse cause name → StopsIt cause → ⊥
 own_no_stop (BadLine line) name may (inl is) = omega (arith, is)
@@ -152,7 +160,7 @@ own_no_stop _ name may stopped = absurd may
 -- no line is left, and the script is refused itself
 pub lines_refused : (now : ℕ) (tells : RunTells) (old : RunSeen) (refusal : Refusal) → IsOfScript refusal → AreCarried now [] (Some refusal) tells old old (Err refusal)
 lines_refused now tells old refusal own = record {
-  carries = stop_carried script_uses RunningMayRefuse tells old refusal (own_reason refusal.cause refusal.name tells old own.may) (inr (inr (inl own.may))) (placed_nowhere script_uses refusal own.place);
+  carries = stop_carried script_uses RunningMayRefuse tells old refusal (own_no_output refusal.cause refusal.name own.may) (own_reason refusal.cause refusal.name tells old own.may) (inr (inr (inl own.may))) (placed_nowhere script_uses refusal own.place);
   synced = λ told. syncs-none old.store;
   own = λ none. own.may;
   within = λ some. let none : IsSome nowhere.line = subst (λ (p : Place). IsSome p.line) own.place some in absurd (false≢true none);
@@ -172,15 +180,22 @@ same_in_line line (Err refused) (Ok value) is = absurd (none-some _ is)
 same_in_line line (Ok passed) (Err refusal) is = absurd (none-some _ (sym is))
 same_in_line line (Err refused) (Err refusal) is = refl
 
--- what three facts say of a refusal holds of it in a line
-err_in_line : (line : ℕ) (first second third holds : Refusal → Type 0) (done result : Result (Unit {0}) Refusal) → result_err result ≡ in_line line (result_err done)
-    → ((refusal : Refusal) → first refusal → second refusal → third refusal → holds (lined line refusal)) → IfErr done first → IfErr done second → IfErr done third → IfErr result holds
-err_in_line line first second third holds (Ok passed) (Ok value) is so one two three = tt
-err_in_line line first second third holds (Ok passed) (Err refusal) is so one two three = absurd (none-some refusal (sym is))
-err_in_line line first second third holds (Err refusal) (Ok value) is so one two three = tt
-err_in_line line first second third holds (Err refusal) (Err said) is so one two three =
+-- what facts say of a refusal holds of it in a line
+err_in_line : (line : ℕ) (first second third fourth holds : Refusal → Type 0) (done result : Result (Unit {0}) Refusal) → result_err result ≡ in_line line (result_err done)
+    → ((refusal : Refusal) → first refusal → second refusal → third refusal → fourth refusal → holds (lined line refusal)) → IfErr done first → IfErr done second → IfErr done third → IfErr done fourth
+    → IfErr result holds
+err_in_line line first second third fourth holds (Ok passed) (Ok value) is so one two three four = tt
+err_in_line line first second third fourth holds (Ok passed) (Err refusal) is so one two three four = absurd (none-some refusal (sym is))
+err_in_line line first second third fourth holds (Err refusal) (Ok value) is so one two three four = tt
+err_in_line line first second third fourth holds (Err refusal) (Err said) is so one two three four =
     let same : said ≡ lined line refusal = cc in
-    subst holds (sym same) (so refusal one two three)
+    subst holds (sym same) (so refusal one two three four)
+
+-- what was done in part of steps that were refused
+part_of_err : (steps : Steps) (tells : RunTells) (old new : RunSeen) (result : Result (Unit {0}) Refusal) → (IsWorldTold tells → IsDoneInPart steps tells (cause_in result) old new)
+    → IfErr result (λ (refusal : Refusal). IsWorldTold tells → IsDoneInPart steps tells (Some refusal.cause) old new)
+part_of_err steps tells old new (Ok passed) part = tt
+part_of_err steps tells old new (Err refusal) part = part
 
 -- the link fails only for a command that uses it
 link_used : (uses : Uses) (old new : RunSeen) (stated : Type 0) (cause : Cause) → HasReason uses old new stated cause → cause ≡ LinkFault → IsTrue uses.link
@@ -197,15 +212,15 @@ line_carried now line tells old new done result is unlinked carried =
       carries = carries;
       synced = λ told. subst (λ (d : Bool). Syncs d old.store new.store) (sym (same_in_line line.number done result is)) (carried.synced told);
       unlinked = unlinked;
-      of_line = err_in_line line.number _ _ _ _ done result is
-          (λ refusal reason may left. record {
+      of_line = err_in_line line.number _ _ _ _ _ done result is
+          (λ refusal reason may left begun. record {
             named = refl;
             may = may;
             reason = reason_but_stated asked.uses old new _ ⊤ refusal.cause (λ stated. tt) reason;
             unfinished = λ failed. (link_used asked.uses old new _ refusal.cause reason failed, left failed);
-            part = carries.part;
+            part = λ told. part_in_line line.number (asked.steps (line_invocation now line)) tells old new (begun told);
           })
-          carried.carries.refused carried.carries.may_refuse carried.unfinished;
+          carried.carries.refused carried.carries.may_refuse carried.unfinished (part_of_err (asked.steps (line_invocation now line)) tells old new done carried.carries.part);
     }
 
 -- words of a line were carried out
@@ -239,7 +254,7 @@ pub text_wanting : (text : List ℕ) (invocation : Invocation) (tells : RunTells
 text_wanting text invocation tells old =
     let asked = asked_in_script text in
     record {
-      carries = nothing_carried (asked.steps invocation) asked.uses asked.may tells old (refusal_of Memory []) tt (inl refl) (placed_nowhere asked.uses (refusal_of Memory []) refl);
+      carries = nothing_carried (asked.steps invocation) asked.uses asked.may tells old (refusal_of Memory []) (λ is. cc) tt (inl refl) (placed_nowhere asked.uses (refusal_of Memory []) refl);
       named = every_file asked.replaces _ (λ file told. refl);
       edited = every_file asked.edits _ (λ file told other. inl refl);
       within = record { alone = every_file asked.alone _ (λ file other differ. refl); few = as_many asked.most_writes old.store.writes };
@@ -365,6 +380,10 @@ unread_unlinked : (fault : ScriptFault) → unread_cause fault ≡ LinkFault →
 unread_unlinked Source is = absurd (cc)
 unread_unlinked NoMemory is = absurd (cc)
 
+unread_no_output : (fault : ScriptFault) → Some (unread_cause fault) ≢ Some SinkFault
+unread_no_output Source is = cc
+unread_no_output NoMemory is = cc
+
 -- a script was not read
 pub script_unread : (invocation : Invocation) (tells : RunTells) (old : RunSeen) (input : SourceSeen) (fault : ScriptFault) → old.input.faults ≤ input.faults → (fault ≡ Source → Rose old.input.faults input.faults)
     → IsCarriedOut scripting invocation tells old (with_input old input) (Err (refusal_of (unread_cause fault) []))
@@ -372,7 +391,7 @@ script_unread invocation tells old input fault later rose = record {
   carries = record {
     done = tt;
     refused = unread_reason fault old (with_input old input) _ rose;
-    part = λ told. nothing_begun (ScriptSteps invocation) tells old (with_input old input) refl (λ is. refl) (λ is. refl) refl refl refl refl;
+    part = λ told. nothing_begun (ScriptSteps invocation) tells old (with_input old input) (unread_no_output fault) refl (λ is. refl) (λ is. refl) refl refl refl refl;
     may_refuse = unread_may fault;
     placed = record { line = λ none. refl; input_line = λ none. refl };
     only_reads = λ only. record { files = refl; writes = refl };

@@ -74,24 +74,9 @@ pub record IsPlaced (setting : Setting) (tells : RunTells) (old new : RunSeen) (
   pub by_uses : IsPlacedBy (uses_asked setting) refusal
   pub in_script : IsTrue (uses_asked setting).reads_commands → StandsInScript setting.invocation.now tells old new refusal
 
--- With status 4 or 5 the run was stopped by a fault or for lack of memory, and the error output got the line that says which. Before
--- that line the steps of the command had begun, and of the act that was at hand a part may have been done. Before it nothing was said,
--- unless the command warns. The link is said to have failed only where not all was done with it. Of a script, what stopped it outside
--- of its lines came before the first of them, when nothing had been done but that the input was read.
-pub record IsStopped (setting : Setting) (tells : RunTells) (old new : RunSeen) (status : ℕ) : Type 0 where
-  pub refusal : Refusal
-  pub before : RunSeen
-  pub all_else : new ≡ record before { err = new.err }
-  pub reason : HasReason (uses_asked setting) old before ⊥ refusal.cause
-  pub placed : IsPlaced setting tells old before refusal
-  pub status_is : status ≡ status_of refusal.cause
-  pub quiet : (uses_asked setting).warns ≡ false → before.err ≡ old.err
-  pub line : IsTrue tells.err → AppendsUnless (Rose before.err.faults new.err.faults) before.err.written new.err.written
-      (error_line refusal)
-  pub part : IsWorldTold tells → IsDoneInPart (steps_asked setting) tells old before
-  pub unfinished : refusal.cause ≡ LinkFault → (asked setting).unfinished setting.invocation tells old before
-  pub unbegun : IsTrue (uses_asked setting).reads_commands → refusal.place.line ≡ None → IsOnlyRead old before
-  pub later : old.err.faults ≤ before.err.faults
+-- the link is as it was where nothing that was reached uses it, up to the refusal that was said; this is known where the input tells
+abbrev pub LeavesLink : Setting → RunTells → RunSeen → RunSeen → Option Refusal → Type 0
+LeavesLink setting tells old new refusal = IsTrue tells.input → (asked setting).links old.input.left refusal ≡ false → new.link ≡ old.link
 
 -- A run that was refused: the status is the cause's, and at the end its error line went to the error output. Before that
 -- line nothing was said, unless the command warns.
@@ -106,28 +91,38 @@ pub record IsRefusedRun (setting : Setting) (tells : RunTells) (old new : RunSee
   pub quiet : (uses_asked setting).warns ≡ false → before ≡ old.err
   pub line : IsTrue tells.err → AppendsUnless (Rose before.faults new.err.faults) before.written new.err.written
       (error_line refusal)
+  pub unlinked : LeavesLink setting tells old new (Some refusal)
+
+-- what is seen of a run before its error line
+abbrev pub before_line : RunSeen → SinkSeen → RunSeen
+before_line new before = record new { err = before }
+
+-- With status 4 or 5 a run was refused for a fault or for lack of memory. Before the error line that says which its steps had begun, and
+-- of the act that was at hand a part may have been done; where it is an output that is said to have failed, bytes to it were at hand. The
+-- link is said to have failed only where not all was done with it. Of a script, what stopped it outside of its lines came before the
+-- first of them, when nothing had been done but that the input was read.
+pub record IsStopped (setting : Setting) (tells : RunTells) (old new : RunSeen) (status : ℕ) : Type 0 where
+  pub run : IsRefusedRun setting tells old new status
+  pub reason : HasReason (uses_asked setting) old (before_line new run.before) ⊥ run.refusal.cause
+  pub part : IsWorldTold tells → IsDoneInPart (steps_asked setting) tells (Some run.refusal.cause) old (before_line new run.before)
+  pub unfinished : run.refusal.cause ≡ LinkFault → (asked setting).unfinished setting.invocation tells old (before_line new run.before)
+  pub unbegun : IsTrue (uses_asked setting).reads_commands → run.refusal.place.line ≡ None → IsOnlyRead old (before_line new run.before)
+
+-- A run that ended well: it said nothing but warnings.
+pub record HasPassed (setting : Setting) (tells : RunTells) (old new : RunSeen) (status : ℕ) : Type 0 where
+  pub status_is : status ≡ 0
+  pub quiet : (uses_asked setting).warns ≡ false → IsTrue tells.err → new.err.written ≡ old.err.written
+  pub unlinked : LeavesLink setting tells old new None
 
 -- What the program says, whatever is told of all else: with status 0 nothing but warnings, and otherwise one error line.
 abbrev pub HasSaid : Setting → RunTells → RunSeen → RunSeen → ℕ → Type 0
-HasSaid setting tells old new status =
-    ((status ≡ 0) × ((uses_asked setting).warns ≡ false → IsTrue tells.err → new.err.written ≡ old.err.written))
-    ⊎ IsRefusedRun setting tells old new status
+HasSaid setting tells old new status = HasPassed setting tells old new status ⊎ IsRefusedRun setting tells old new status
 
 -- Where a word is faulty, the run ends with the refusal of the first such word.
 pub record IsRefusedWord (setting : Setting) (tells : RunTells) (old new : RunSeen) (status : ℕ) (refusal : Refusal) : Type 0 where
   pub status_is : status ≡ status_of refusal.cause
   pub line : IsTrue tells.err → AppendsUnless (Rose old.err.faults new.err.faults) old.err.written new.err.written
       (error_line refusal)
-
--- A run has said a refusal, or none, and the link is as it was where nothing that was reached up to that refusal uses it; this is known
--- where the input tells.
-pub record LeavesLink (setting : Setting) (tells : RunTells) (old new : RunSeen) (status : ℕ) : Type 0 where
-  pub refusal : Option Refusal
-  pub before : SinkSeen
-  pub later : old.err.faults ≤ before.faults
-  pub ended : status ≡ end_status refusal
-  pub line : IsTrue tells.err → AppendsUnless (Rose before.faults new.err.faults) before.written new.err.written (closing_line refusal)
-  pub unlinked : IsTrue tells.input → (asked setting).links old.input.left refusal ≡ false → new.link ≡ old.link
 
 -- What else a run keeps.
 pub record Keeps (setting : Setting) (tells : RunTells) (old new : RunSeen) (status : ℕ) : Type 0 where
@@ -139,7 +134,7 @@ pub record Keeps (setting : Setting) (tells : RunTells) (old new : RunSeen) (sta
   pub stopped : (status ≡ 4) ⊎ (status ≡ 5) → IsStopped setting tells old new status
   -- Whatever the status, the steps have begun: some acts were done, of the one at hand at most a part, and nothing that no
   -- step does, the error output left aside.
-  pub part : IsWorldTold tells → IsDoneInPart (steps_asked setting) (record tells { err = false }) old new
+  pub part : IsWorldTold tells → IsDoneInPart (steps_asked setting) (record tells { err = false }) None old new
   -- Where no step is refused, whatever is chosen, and nothing outside failed, the status is 0, unless memory runs out.
   pub complete : IsWorldTold tells → IsSure (steps_asked setting) (outside_of old) → NoFault old new → (status ≡ 0) ⊎ (status ≡ 5)
   -- Status 2 comes exactly where the words ask for nothing, unless they ask for commands to be read.
@@ -147,7 +142,8 @@ pub record Keeps (setting : Setting) (tells : RunTells) (old new : RunSeen) (sta
   -- Where a word is faulty, the first such word is refused, whatever is told, unless memory runs out.
   pub words : (refusal : Refusal) → (asked setting).faulty ≡ Some refusal
       → IsRefusedWord setting tells old new status refusal ⊎ (status ≡ 5)
-  -- Whatever is told, status 0 says nothing but warnings, and any other one is that of a cause whose error line went out.
+  -- Whatever is told, status 0 says nothing but warnings, and any other one is that of a cause whose error line went out. The link is
+  -- as it was where nothing that was reached uses it, up to the refusal that was said.
   pub says : HasSaid setting tells old new status
   -- A command that only reads changes no file and writes none, and neither does one that is all or nothing where it was refused
   -- by anything but a fault of something outside, whatever is told.
@@ -177,7 +173,5 @@ pub record Keeps (setting : Setting) (tells : RunTells) (old new : RunSeen) (sta
   pub synced : (status ≡ 0) ⊎ (¬ Rose old.store.faults new.store.faults) → IsTrue tells.store → AreSynced old.store new.store
   -- With status 5 nothing was done with the link: no datagram was taken. This is said of words that ask for no commands to be read.
   pub untaken : (uses_asked setting).reads_commands ≡ false → status ≡ 5 → new.link ≡ old.link
-  -- The link is as it was where nothing that was reached uses it, up to the refusal that was said.
-  pub unlinked : LeavesLink setting tells old new status
   -- No count of faults falls.
   pub later : IsLater old new

@@ -121,7 +121,7 @@ pub record IsOfLine (now : ℕ) (line : LineSaid) (tells : RunTells) (old new : 
   pub may : (asked_in_script line.text).may refusal.cause refusal.name
   pub reason : HasReason (asked_in_script line.text).uses old new ⊤ refusal.cause
   pub unfinished : refusal.cause ≡ LinkFault → IsLineUnfinished now line tells old new
-  pub part : IsWorldTold tells → IsDoneInPart (LineSteps now line) tells old new
+  pub part : IsWorldTold tells → IsDoneInPart (LineSteps now line) tells (Some refusal.cause) old new
 
 -- a refusal is that of one of the lines, which was at hand once those before it were carried out
 abbrev pub IsOfLines : (now : ℕ) → List LineSaid → RunTells → (old new : RunSeen) → Refusal → Type 0

@@ -12,6 +12,7 @@ ghost use Rattle.script_lines.specs.Script.{LineSaid};
 ghost use Rattle.quota_cli.specs.Headline.{Effect, Setting, asked, steps_asked, uses_asked};
 ghost use Rattle.run_steps.specs.Act.{Act};
 ghost use Rattle.run_steps.specs.Done.{AreDoneInPart, Outside, RunSeen, RunTells, outside_of};
+ghost use Rattle.refusals.specs.declared.cause.Cause.{Cause};
 ghost use Rattle.refusals.specs.declared.reason.Refusal.{Refusal};
 ghost use Rattle.run_steps.specs.Meaning.{EndsBy, IsSure};
 ghost use Rattle.run_steps.specs.OneCommand.{UnlessFull};
@@ -21,11 +22,11 @@ ghost use Rattle.run_steps.specs.Run.{IsDoneInPart};
 /// chooses, and of every way in which its steps end, the error line left out. Where the command reads edits, that is said of all but
 /// those that are refused for lack of room.
 pub fn a_run_does_a_first_part_of_every_effect()
-    ensures steps { (setting : Setting) (tells : RunTells) (old new : RunSeen) (acts : List Act) (to : Outside) (refusal : Option Refusal)
-        → (uses_asked setting).reads_commands ≡ false → IsDoneInPart (steps_asked setting) tells old new → EndsBy (steps_asked setting) (outside_of old) acts to refusal
+    ensures steps { (setting : Setting) (tells : RunTells) (why : Option Cause) (old new : RunSeen) (acts : List Act) (to : Outside) (refusal : Option Refusal)
+        → (uses_asked setting).reads_commands ≡ false → IsDoneInPart (steps_asked setting) tells why old new → EndsBy (steps_asked setting) (outside_of old) acts to refusal
         → UnlessFull (uses_asked setting).reads_edits refusal (AreDoneInPart tells acts old new) }
-    ensures effect { (setting : Setting) (tells : RunTells) (old new : RunSeen) (acts : List Act) (to : Outside) (status : ℕ)
-        → (uses_asked setting).reads_commands ≡ false → IsDoneInPart (steps_asked setting) tells old new → (effect : Effect setting (outside_of old) acts to status)
+    ensures effect { (setting : Setting) (tells : RunTells) (why : Option Cause) (old new : RunSeen) (acts : List Act) (to : Outside) (status : ℕ)
+        → (uses_asked setting).reads_commands ≡ false → IsDoneInPart (steps_asked setting) tells why old new → (effect : Effect setting (outside_of old) acts to status)
         → UnlessFull (uses_asked setting).reads_edits effect.refusal (AreDoneInPart tells acts old new) }
 {}
 

@@ -54,7 +54,7 @@ carried_before one others uses may tells old middle new passed result none first
   done = on_ok_weaker result (λ has told. steps_before one others tells None old middle new (first.done told) (has told)) then.done;
   refused = IfErr-weaker result _ _ (λ refusal reason. reason_before uses old middle new _ _ refusal.cause first.later
       (λ stated told. steps_before one others tells (Some refusal) old middle new (first.done told) (stated told)) reason) then.refused;
-  part = λ told. part_before one others tells old middle new (first.done told) (then.part told);
+  part = λ told. part_before one others tells old middle new first.later.out first.later.err (first.done told) (then.part told);
   may_refuse = then.may_refuse;
   placed = then.placed;
   only_reads = λ only. unwritten_both old middle new (first.only_reads only) (then.only_reads only);

@@ -122,5 +122,5 @@ steps_adding behind steps other tells ended old new adds has = record {
 }
 
 -- and what was done in part
-pub part_adding : (behind : Option Refusal) (steps other : Steps) (tells : RunTells) (old new : RunSeen) → AddsEnd behind steps other → IsDoneInPart steps tells old new → IsDoneInPart other tells old new
+pub part_adding : {why : Option Cause} (behind : Option Refusal) (steps other : Steps) (tells : RunTells) (old new : RunSeen) → AddsEnd behind steps other → IsDoneInPart steps tells why old new → IsDoneInPart other tells why old new
 part_adding behind steps other tells old new adds part = part_from steps other tells old old.store old.input new refl (adds.begun (outside_of old)) part

@@ -1,5 +1,5 @@
 -- What is seen once objects outside were used, and commands whose file was not opened.
-use Rattle.std.proofs.Common.{◌≡◌, ℕ, ◌≤◌, Bool, IsTrue, List, [], Option, None, Some, Err, inr, refl, sym, ap, arith, append-nil}
+use Rattle.std.proofs.Common.{◌≡◌, ◌≢◌, ℕ, ◌≤◌, Bool, IsTrue, List, [], Option, None, Some, Err, inr, refl, sym, ap, arith, append-nil}
 use Rattle.std.specs.Prelude.{IsSome}
 use Rattle.std.specs.Option.{IsSomeAnd}
 use Rattle.quota_types.specs.declared.damage.Damage.{Damage as Damaged}
@@ -12,16 +12,19 @@ use Rattle.quota_blocks.specs.Seen.{SinkSeen, SourceSeen, StoreSeen}
 use Rattle.quota_blocks.specs.World.{World}
 use Rattle.quota_blocks.specs.declared.quota_file.OpenFault.{OpenFault}
 use Rattle.quota_blocks.specs.declared.quota_file.OpenFault.TheVariants.{Store, NoFile, TooLarge, Memory, FormatMismatch, Damage}
+use Rattle.quota_blocks.specs.declared.quota_file.FileFault.{FileFault}
+use Rattle.quota_blocks.specs.declared.quota_file.FileFault.TheVariants.{Store as CallFailed, Damage as FileDamaged, Full as NoBlocks, Memory as NoMemory}
 use Rattle.quota_v1.specs.View.{IsFlatFault}
 use Rattle.quota_types.specs.Damage.{NamesItsId}
 use Rattle.tree_file.specs.View.{IsTreeFault}
 use Rattle.quota_map.specs.View.{IsOpenFault, most_blocks}
 use Rattle.quota_map.proofs.SeenLemmas.{IsOfCall, fault_seen, store_rose}
 use Rattle.refusals.specs.declared.cause.Cause.{Cause}
+use Rattle.refusals.specs.declared.cause.Cause.TheVariants.{SinkFault}
 use Rattle.refusals.specs.declared.reason.Refusal.{Refusal}
 use Rattle.run_steps.specs.Done.{AreDone, IsLater, IsUnwritten, IsWorldTold, Outside, RunSeen, RunTells, outside_of}
 use Rattle.run_steps.specs.Meaning.{EndsBy}
-use Rattle.run_steps.specs.Opening.{IsDamageAs, MayRefuseOpening, asks_tree, opening_cause}
+use Rattle.run_steps.specs.Opening.{IsDamageAs, MayRefuseOpening, asks_tree, file_cause, opening_cause}
 use Rattle.run_steps.specs.Run.{CarriesOut, HasReason, HasSteps, IsDoneInPart, IsPlacedBy, Uses}
 use Rattle.run_steps.specs.Steps.{Opening, Steps}
 use Rattle.run_steps.proofs.PartLemmas.{nothing_begun}
@@ -51,9 +54,10 @@ pub unwritten : {done : Bool} (name : List ℕ) (old new : StoreSeen) → OnlyRe
 unwritten name old new reads = record { files = reads.files; writes = reads.writes }
 
 -- nothing was done where the store was only read
-pub nothing_read : {done : Bool} (steps : Steps) (name : List ℕ) (tells : RunTells) (old : RunSeen) (store : StoreSeen) → OnlyReads done name old.store store → IsDoneInPart steps tells old (with_store old store)
-nothing_read steps name tells old store reads =
-    nothing_begun steps tells old (with_store old store) reads.files (λ told. refl) (λ told. refl) refl refl refl reads.writes
+pub nothing_read : {done : Bool} {why : Option Cause} (steps : Steps) (name : List ℕ) (tells : RunTells) (old : RunSeen) (store : StoreSeen) → why ≢ Some SinkFault → OnlyReads done name old.store store
+    → IsDoneInPart steps tells why old (with_store old store)
+nothing_read steps name tells old store other reads =
+    nothing_begun steps tells old (with_store old store) other reads.files (λ told. refl) (λ told. refl) refl refl refl reads.writes
 
 -- no act was done
 pub none_done : (tells : RunTells) (old : RunSeen) (store : StoreSeen) (input : SourceSeen) → IsUnwritten old.store store
@@ -80,9 +84,21 @@ refused_steps name steps tells old store refusal reads by = record {
 pub store_later : (old : RunSeen) (store : StoreSeen) → old.store.faults ≤ store.faults → IsLater old (with_store old store)
 store_later old store later = record { store = later; input = omega arith; out = omega arith; err = omega arith; link = omega arith }
 
+-- neither that a file is not opened nor that a call on an opened one is refused says that an output failed
+pub opening_no_output : (fault : OpenFault) → Some (opening_cause fault) ≢ Some SinkFault
+opening_no_output Store is = cc
+opening_no_output NoFile is = cc
+opening_no_output _ is = cc
+
+pub file_no_output : (fault : FileFault) → Some (file_cause fault) ≢ Some SinkFault
+file_no_output CallFailed is = cc
+file_no_output (FileDamaged damage) is = cc
+file_no_output (NoBlocks blocks limit) is = cc
+file_no_output NoMemory is = cc
+
 -- a command was refused where nothing was written
 pub refused_so : (steps : Steps) (uses : Uses) (may : Cause → List ℕ → Type 0) (tells : RunTells) (old new : RunSeen) (refusal : Refusal)
-    → IsUnwritten old.store new.store → new.err ≡ old.err → IsLater old new → (IsWorldTold tells → IsDoneInPart steps tells old new)
+    → IsUnwritten old.store new.store → new.err ≡ old.err → IsLater old new → (IsWorldTold tells → IsDoneInPart steps tells (Some refusal.cause) old new)
     → HasReason uses old new (IsWorldTold tells → HasSteps steps tells (Some refusal) old new) refusal.cause
     → may refusal.cause refusal.name → IsPlacedBy uses refusal
     → CarriesOut steps uses may tells old new (Err refusal)
@@ -100,14 +116,14 @@ refused_so steps uses may tells old new refusal same quiet later part reason all
 
 -- a command was refused where the store was only read
 pub refused_reads : {done : Bool} (name : List ℕ) (steps : Steps) (uses : Uses) (may : Cause → List ℕ → Type 0) (tells : RunTells)
-    (old : RunSeen) (store : StoreSeen) (refusal : Refusal) → OnlyReads done name old.store store
+    (old : RunSeen) (store : StoreSeen) (refusal : Refusal) → Some refusal.cause ≢ Some SinkFault → OnlyReads done name old.store store
     → HasReason uses old (with_store old store) (IsWorldTold tells → HasSteps steps tells (Some refusal) old (with_store old store))
     refusal.cause → may refusal.cause refusal.name → IsPlacedBy uses refusal
     → CarriesOut steps uses may tells old (with_store old store) (Err refusal)
-refused_reads name steps uses may tells old store refusal reads reason allowed placed =
+refused_reads name steps uses may tells old store refusal other reads reason allowed placed =
     refused_so steps uses may tells old (with_store old store) refusal (unwritten name old.store store reads) refl
     (store_later old store reads.later)
-    (λ told. nothing_read steps name tells old store reads) reason allowed placed
+    (λ told. nothing_read steps name tells old store other reads) reason allowed placed
 
 -- a refusal that is seen of the file
 seen_steps : {done : Bool} (name : List ℕ) (kind : Kind) (asked : Option Format) (next : QuotaValue → Steps) (tells : RunTells) (old : RunSeen) (store : StoreSeen) (fault : OpenFault)
@@ -163,7 +179,7 @@ pub not_opened : {done : Bool} (kind : Kind) (asked : Option Format) (name : Lis
     → ((cause : Cause) → MayRefuseOpening asked name cause name → may cause name)
     → CarriesOut (Opening kind asked name next) uses may tells old (with_store old store) (Err (refusal_of (opening_cause fault) name))
 not_opened kind asked name next uses may tells old store fault cause reads allowed =
-    refused_reads name (Opening kind asked name next) uses may tells old store (refusal_of (opening_cause fault) name) reads
+    refused_reads name (Opening kind asked name next) uses may tells old store (refusal_of (opening_cause fault) name) (opening_no_output fault) reads
     (open_reason uses name kind asked next tells old store fault reads cause)
     (allowed (opening_cause fault) (open_may name old.store.faults store.faults tells.store (old.store.files name) kind asked fault cause))
     (record { line = λ no. refl; input_line = λ no. refl })

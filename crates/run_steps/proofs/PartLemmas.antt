@@ -1,16 +1,19 @@
 -- Steps that were done in part.
-use Rattle.std.proofs.Common.{◌≡◌, ◌⊎◌, ℕ, Bool, true, false, IsTrue, List, [], ◌∷◌, ◌++◌, take, Option, None, Ok, inl, inr, refl, sym, ap, subst, ◌∙◌, append-nil}
+use Rattle.std.proofs.Common.{◌≡◌, ◌≢◌, ◌⊎◌, ℕ, Bool, true, false, IsTrue, List, [], ◌∷◌, ◌++◌, take, Option, None, Some, Ok, inl, inr, refl, sym, ap, subst, ◌∙◌, append-nil}
 use Rattle.std.proofs.lemmas.Bool.{false≢true}
+use Rattle.std.proofs.lemmas.Option.{none-some}
+use Rattle.quota_blocks.specs.Count.{Rose}
 use Rattle.quota_blocks.specs.Seen.{SinkSeen, SourceSeen, StoreSeen}
 use Rattle.quota_blocks.specs.Text.{AppendsPrefix}
 use Rattle.quota_blocks.specs.World.{World}
 use Rattle.refusals.specs.declared.cause.Cause.{Cause}
+use Rattle.refusals.specs.declared.cause.Cause.TheVariants.{SinkFault}
 use Rattle.refusals.specs.declared.reason.Refusal.{Refusal}
-use Rattle.run_steps.specs.Act.{Act, Change, Replace, Follows, FollowsInPart, out_bytes, err_bytes}
+use Rattle.run_steps.specs.Act.{Act, Change, Replace, ToErr, ToOut, Follows, FollowsInPart, out_bytes, err_bytes}
 use Rattle.run_steps.specs.Done.{AreDoneInPart, IsLater, IsUnwritten, IsWorldTold, Outside, RunSeen, RunTells, outside_of}
 use Rattle.run_steps.specs.Meaning.{EndsBy, HasBegun}
 use Rattle.run_steps.specs.OneCommand.{IsFirstPart, LooksFirstBy, UnlessFull}
-use Rattle.run_steps.specs.Run.{CarriesOut, HasSteps, IsDoneInPart, Uses}
+use Rattle.run_steps.specs.Run.{CarriesOut, FailsAtHand, HasSteps, IsDoneInPart, Uses}
 use Rattle.run_steps.specs.Steps.{AreDoneThen, Steps}
 use Rattle.run_steps.proofs.ActLemmas.{appends_nothing, none_appended, none_in_part}
 use Rattle.run_steps.proofs.MeaningLemmas.{begun_follow, ended_begun, first_part, looks_same, unbegun}
@@ -18,10 +21,16 @@ use Rattle.run_steps.proofs.RoomLemmas.{unless_full}
 use Rattle.run_steps.specs.Writes.{WritesFor}
 use Rattle.run_steps.proofs.WritesLemmas.{writes_for-before, writes_for-same}
 
+-- an output that failed since a later moment failed since an earlier one
+pub fails_before : (hand : List Act) (out out' err err' : Type 0) → (out → out') → (err → err') → FailsAtHand hand out err → FailsAtHand hand out' err'
+fails_before (ToOut bytes ∷ acts) out out' err err' more_out more_err failed = more_out failed
+fails_before (ToErr bytes ∷ acts) out out' err err' more_out more_err failed = more_err failed
+fails_before _ out out' err err' more_out more_err failed = absurd failed
+
 -- nothing was done
-pub nothing_begun : (steps : Steps) (tells : RunTells) (old new : RunSeen) → new.store.files ≡ old.store.files → (IsTrue tells.out → new.out.written ≡ old.out.written)
-    → (IsTrue tells.err → new.err.written ≡ old.err.written) → new.link.answers ≡ old.link.answers → new.link.started ≡ old.link.started → new.link.left ≡ old.link.left → new.store.writes ≡ old.store.writes → IsDoneInPart steps tells old new
-nothing_begun steps tells old new files out err sent started left writes =
+pub nothing_begun : {why : Option Cause} (steps : Steps) (tells : RunTells) (old new : RunSeen) → why ≢ Some SinkFault → new.store.files ≡ old.store.files → (IsTrue tells.out → new.out.written ≡ old.out.written)
+    → (IsTrue tells.err → new.err.written ≡ old.err.written) → new.link.answers ≡ old.link.answers → new.link.started ≡ old.link.started → new.link.left ≡ old.link.left → new.store.writes ≡ old.store.writes → IsDoneInPart steps tells why old new
+nothing_begun steps tells old new other files out err sent started left writes =
     let start = unbegun steps (outside_of old) in
     record {
       done = [];
@@ -35,10 +44,11 @@ nothing_begun steps tells old new files out err sent started left writes =
       started = started;
       datagrams = left;
       writes = writes_for-same start.0 old.store.writes new.store.writes writes;
+      failed = λ is told. absurd (other is);
     }
 
 -- what was done whole was done in part
-pub whole_begun : (steps : Steps) (tells : RunTells) (refusal : Option Refusal) (old new : RunSeen) → HasSteps steps tells refusal old new → IsDoneInPart steps tells old new
+pub whole_begun : (steps : Steps) (tells : RunTells) (refusal : Option Refusal) (old new : RunSeen) → HasSteps steps tells refusal old new → IsDoneInPart steps tells None old new
 whole_begun steps tells refusal old new has = record {
   done = has.acts;
   hand = [];
@@ -51,6 +61,7 @@ whole_begun steps tells refusal old new has = record {
   started = has.done.started;
   datagrams = refl;
   writes = writes_for-before has.acts [] old.store.writes new.store.writes has.done.writes;
+  failed = λ is told. absurd (none-some SinkFault is);
 }
 
 -- a command whose steps ended with no refusal was carried out
@@ -71,11 +82,11 @@ carried_whole steps uses may tells old new passed has unwritten quiet later = re
 }
 
 -- Steps were done in part where steps were that they lead to, once the store was read and the input was used.
-pub part_from : (next steps : Steps) (tells : RunTells) (old : RunSeen) (store : StoreSeen) (input : SourceSeen) (new : RunSeen)
+pub part_from : {why : Option Cause} (next steps : Steps) (tells : RunTells) (old : RunSeen) (store : StoreSeen) (input : SourceSeen) (new : RunSeen)
     → store.writes ≡ old.store.writes
     → ((done hand : List Act) (now : Outside) → HasBegun next (outside_of (record old { store = store; input = input })) done hand now
     → HasBegun steps (outside_of old) done hand now)
-    → IsDoneInPart next tells (record old { store = store; input = input }) new → IsDoneInPart steps tells old new
+    → IsDoneInPart next tells why (record old { store = store; input = input }) new → IsDoneInPart steps tells why old new
 part_from next steps tells old store input new same leads part = record {
   done = part.done;
   hand = part.hand;
@@ -88,6 +99,7 @@ part_from next steps tells old store input new same leads part = record {
   started = part.started;
   datagrams = part.datagrams;
   writes = subst (λ (w : ℕ). WritesFor (part.done ++ part.hand) w new.store.writes) same part.writes;
+  failed = part.failed;
 }
 
 -- acts of which the first ones were done have begun
@@ -111,8 +123,11 @@ all_in_part [] old new follows = follows
 all_in_part (_ ∷ rest) old new follows = follows
 
 -- acts that were done in part are steps that were done in part
-pub acts_in_part : (acts : List Act) (end : Option Refusal) (tells : RunTells) (old new : RunSeen) → new.link.left ≡ old.link.left → AreDoneInPart tells acts old new → IsDoneInPart (AreDoneThen acts end) tells old new
-acts_in_part acts end tells old new left part = record {
+pub acts_in_part : {why : Option Cause} (acts : List Act) (end : Option Refusal) (tells : RunTells) (old new : RunSeen) → new.link.left ≡ old.link.left
+    → (part : AreDoneInPart tells acts old new)
+    → (why ≡ Some SinkFault → IsTrue tells.err → FailsAtHand (take 1 part.rest) (Rose old.out.faults new.out.faults) (Rose old.err.faults new.err.faults))
+    → IsDoneInPart (AreDoneThen acts end) tells why old new
+acts_in_part acts end tells old new left part failed = record {
   done = part.done;
   hand = take 1 part.rest;
   now = record (outside_of old) { files = part.files.0 };
@@ -125,10 +140,28 @@ acts_in_part acts end tells old new left part = record {
   started = part.started;
   datagrams = left;
   writes = part.writes;
+  failed = failed;
+}
+
+-- so for another cause, unless it is that an output failed
+pub part_but_output : {why other : Option Cause} (steps : Steps) (tells : RunTells) (old new : RunSeen) → other ≢ Some SinkFault → IsDoneInPart steps tells why old new → IsDoneInPart steps tells other old new
+part_but_output steps tells old new not part = record {
+  done = part.done;
+  hand = part.hand;
+  now = part.now;
+  begun = part.begun;
+  files = part.files;
+  out = part.out;
+  err = part.err;
+  answered = part.answered;
+  started = part.started;
+  datagrams = part.datagrams;
+  writes = part.writes;
+  failed = λ is told. absurd (not is);
 }
 
 -- what the error output got does not count where it is left out
-pub part_but_err : (steps : Steps) (tells : RunTells) (old new : RunSeen) (said : SinkSeen) → IsDoneInPart steps tells old new → IsDoneInPart steps (record tells { err = false }) old (record new { err = said })
+pub part_but_err : {why : Option Cause} (steps : Steps) (tells : RunTells) (old new : RunSeen) (said : SinkSeen) → IsDoneInPart steps tells why old new → IsDoneInPart steps (record tells { err = false }) None old (record new { err = said })
 part_but_err steps tells old new said part = record {
   done = part.done;
   hand = part.hand;
@@ -141,6 +174,7 @@ part_but_err steps tells old new said part = record {
   started = part.started;
   datagrams = part.datagrams;
   writes = part.writes;
+  failed = λ is told. absurd (none-some SinkFault is);
 }
 
 -- What was done in part of one command is a first part of every end of it.
@@ -161,7 +195,7 @@ hand_writes done hand rest old new (inl none) writes =
     writes_for-before done (take 1 rest) old new (subst (λ (a : List Act). WritesFor a old new) (append-nil done) (subst (λ (a : List Act). WritesFor (done ++ a) old new) none writes))
 hand_writes done hand rest old new (inr first) writes = subst (λ (a : List Act). WritesFor (done ++ a) old new) first writes
 
-pub part_of_end : (rooms : Bool) (steps : Steps) (tells : RunTells) (old new : RunSeen) (acts : List Act) (to : Outside) (refusal : Option Refusal) → LooksFirstBy rooms true true steps → IsDoneInPart steps tells old new
+pub part_of_end : {why : Option Cause} (rooms : Bool) (steps : Steps) (tells : RunTells) (old new : RunSeen) (acts : List Act) (to : Outside) (refusal : Option Refusal) → LooksFirstBy rooms true true steps → IsDoneInPart steps tells why old new
     → EndsBy steps (outside_of old) acts to refusal → UnlessFull rooms refusal (AreDoneInPart tells acts old new)
 part_of_end rooms steps tells old new acts to refusal looks part ends =
     unless_full rooms refusal refusal (λ full. full) (λ (first : IsFirstPart part.done part.hand acts). record {

@@ -1,5 +1,5 @@
 -- Commands in phases: what was carried out where a phase was refused, and where it passed and the next one was carried out.
-use Rattle.std.proofs.Common.{◌≡◌, ℕ, ◌≤◌, Bool, true, false, IsTrue, List, [], Option, None, Some, Ok, Err, Result, inl, inr, refl, sym, ap, subst, ◌∙◌, arith}
+use Rattle.std.proofs.Common.{◌≡◌, ◌≢◌, ℕ, ◌≤◌, Bool, true, false, IsTrue, List, [], Option, None, Some, Ok, Err, Result, inl, inr, refl, sym, ap, subst, ◌∙◌, arith}
 use Rattle.std.specs.Prelude.{unwrap_or}
 use Rattle.std.specs.FinMap.{empty}
 use Rattle.std.proofs.lemmas.Bool.{false≢true}
@@ -34,12 +34,16 @@ use Rattle.run_steps.proofs.ReasonLemmas.{reason_since}
 
 -- Commands that were refused before anything was done.
 
+-- lack of memory does not say that an output failed
+pub memory_no_output : Some Memory ≢ Some SinkFault
+memory_no_output is = cc
+
 -- nothing was begun, and the command was refused
-pub nothing_carried : (steps : Steps) (uses : Uses) (may : Cause → List ℕ → Type 0) (tells : RunTells) (old : RunSeen) (refusal : Refusal)
+pub nothing_carried : (steps : Steps) (uses : Uses) (may : Cause → List ℕ → Type 0) (tells : RunTells) (old : RunSeen) (refusal : Refusal) → Some refusal.cause ≢ Some SinkFault
     → HasReason uses old old (IsWorldTold tells → HasSteps steps tells (Some refusal) old old) refusal.cause
     → may refusal.cause refusal.name → IsPlacedBy uses refusal → CarriesOut steps uses may tells old old (Err refusal)
-nothing_carried steps uses may tells old refusal reason allowed outside =
-    refused_reads [] steps uses may tells old old.store refusal (only_reads-none {done = true} [] old.store) reason allowed outside
+nothing_carried steps uses may tells old refusal other reason allowed outside =
+    refused_reads [] steps uses may tells old old.store refusal other (only_reads-none {done = true} [] old.store) reason allowed outside
 
 -- a step that is refused at once
 stop_steps : (tells : RunTells) (old : RunSeen) (refusal : Refusal) → HasSteps (Stop refusal) tells (Some refusal) old old
@@ -48,10 +52,10 @@ stop_steps tells old refusal =
     (λ new same. record { acts_none = refl; same = same; ends = refl })
 
 -- a refusal of words is no fault
-pub stop_carried : (uses : Uses) (may : Cause → List ℕ → Type 0) (tells : RunTells) (old : RunSeen) (refusal : Refusal)
+pub stop_carried : (uses : Uses) (may : Cause → List ℕ → Type 0) (tells : RunTells) (old : RunSeen) (refusal : Refusal) → Some refusal.cause ≢ Some SinkFault
     → ((stated : Type 0) → stated → HasReason uses old old stated refusal.cause) → may refusal.cause refusal.name → IsPlacedBy uses refusal → CarriesOut (Stop refusal) uses may tells old old (Err refusal)
-stop_carried uses may tells old refusal own allowed outside =
-    nothing_carried (Stop refusal) uses may tells old refusal (own _ (λ told. stop_steps tells old refusal)) allowed outside
+stop_carried uses may tells old refusal other own allowed outside =
+    nothing_carried (Stop refusal) uses may tells old refusal other (own _ (λ told. stop_steps tells old refusal)) allowed outside
 
 -- Phases that pass: they only read the store, or take bytes from the input.
 
@@ -111,8 +115,8 @@ steps_on name next steps tells refusal old store input new reads leads has = rec
 }
 
 -- they were done in part
-part_on : {done : Bool} (name : List ℕ) (next steps : Steps) (tells : RunTells) (old : RunSeen) (store : StoreSeen) (input : SourceSeen) (new : RunSeen) → OnlyReads done name old.store store
-    → LeadsTo next (record (outside_of old) { input = input.left }) steps (outside_of old) → IsDoneInPart next tells (with_input (with_store old store) input) new → IsDoneInPart steps tells old new
+part_on : {done : Bool} {why : Option Cause} (name : List ℕ) (next steps : Steps) (tells : RunTells) (old : RunSeen) (store : StoreSeen) (input : SourceSeen) (new : RunSeen) → OnlyReads done name old.store store
+    → LeadsTo next (record (outside_of old) { input = input.left }) steps (outside_of old) → IsDoneInPart next tells why (with_input (with_store old store) input) new → IsDoneInPart steps tells why old new
 part_on name next steps tells old store input new reads leads part =
     part_from next steps tells old store input new reads.writes
     (λ done hand now by. leads.begun done hand now (subst (λ (o : Outside). HasBegun next o done hand now)
@@ -181,13 +185,19 @@ names_reason uses file tells old store seen refusal stated LinkFault said fault 
 names_reason uses file tells old store seen refusal stated Memory said fault may so = tt
 names_reason uses file tells old store seen refusal stated _ said fault may so = λ told. so told.store (fault told.store)
 
+-- no output failed for it
+names_no_output : (file : List ℕ) (cause : Cause) (said : List ℕ) → FileOfNamesMayRefuse file cause said → Some cause ≢ Some SinkFault
+names_no_output file cause said may is =
+    let sink : cause ≡ SinkFault = cc in
+    subst (λ (c : Cause). FileOfNamesMayRefuse file c said) sink may
+
 -- the file of names was refused
 names_refused : {done : Bool} (kind : Kind) (file : List ℕ) (next : List NameLine → Steps) (uses : Uses) (more : Cause → List ℕ → Type 0) (tells : RunTells) (old : RunSeen) (store : StoreSeen) (refusal : Refusal)
     → OnlyReads done file old.store store → IsNamesFault old.store.faults store.faults tells.store (names_seen kind (Some file) old.store.files) refusal refusal.cause
     → FileOfNamesMayRefuse file refusal.cause refusal.name → more refusal.cause refusal.name → IsPlacedBy uses refusal
     → CarriesOut (Naming kind (Some file) next) uses more tells old (with_store old store) (Err refusal)
 names_refused kind file next uses more tells old store refusal reads fault may allowed placed =
-    refused_reads file (Naming kind (Some file) next) uses more tells old store refusal reads
+    refused_reads file (Naming kind (Some file) next) uses more tells old store refusal (names_no_output file refusal.cause refusal.name may) reads
     (names_reason uses file tells old store (names_seen kind (Some file) old.store.files) refusal _ refusal.cause refusal.name fault may
     (λ told is. refused_reading file (names_seen kind (Some file) old.store.files) next (Naming kind (Some file) next) tells old store
     refusal reads

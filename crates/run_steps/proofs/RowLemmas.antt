@@ -1,7 +1,8 @@
 -- Commands one after another, and commands in a line of a script: what was carried out.
-use Rattle.std.proofs.Common.{◌≡◌, ℕ, List, ◌++◌, Option, None, Some, inl, inr, refl, sym, ap, subst, ◌∙◌, append_assoc}
+use Rattle.std.proofs.Common.{◌≡◌, ◌≤◌, ℕ, List, ◌++◌, Option, None, Some, inl, inr, refl, sym, ap, subst, ◌∙◌, arith, append_assoc}
 use Rattle.quota_blocks.specs.Seen.{Started}
 use Rattle.quota_blocks.specs.Text.{AppendsPrefix}
+use Rattle.refusals.specs.declared.cause.Cause.{Cause}
 use Rattle.refusals.specs.declared.reason.Refusal.{Refusal}
 use Rattle.refusals.specs.Refusals.{in_line}
 use Rattle.run_steps.specs.Act.{Act, answers, err_bytes, out_bytes, started_by}
@@ -12,7 +13,7 @@ use Rattle.run_steps.specs.Steps.{Before, InLine, Steps}
 use Rattle.run_steps.proofs.ActLemmas.{answers-append, err_bytes-append, follows-append, out_bytes-append, started_by-append}
 use Rattle.run_steps.specs.Writes.{WritesFor}
 use Rattle.run_steps.proofs.WritesLemmas.{writes_for-then}
-use Rattle.run_steps.proofs.PartLemmas.{part_from}
+use Rattle.run_steps.proofs.PartLemmas.{fails_before, part_from}
 
 -- acts that were done, and then others
 pub done_both : (tells : RunTells) (acts more : List Act) (old middle new : RunSeen) → AreDone tells acts old middle → AreDone tells more middle new → AreDone tells (acts ++ more) old new
@@ -57,9 +58,9 @@ prefix_behind old before middle new done bytes is prefix =
     subst (λ (b : List ℕ). AppendsPrefix b new bytes) (ap (λ (b : List ℕ). b ++ done) is ∙ append_assoc old before done) prefix
 
 -- the acts were done, and then the next steps in part
-pub part_led : (acts : List Act) (next steps : Steps) (tells : RunTells) (old middle new : RunSeen) → LeadsBy acts next (outside_of middle) steps (outside_of old) → AreDone tells acts old middle
-    → IsDoneInPart next tells middle new → IsDoneInPart steps tells old new
-part_led acts next steps tells old middle new leads first part = record {
+pub part_led : {why : Option Cause} (acts : List Act) (next steps : Steps) (tells : RunTells) (old middle new : RunSeen) → old.out.faults ≤ middle.out.faults → old.err.faults ≤ middle.err.faults
+    → LeadsBy acts next (outside_of middle) steps (outside_of old) → AreDone tells acts old middle → IsDoneInPart next tells why middle new → IsDoneInPart steps tells why old new
+part_led acts next steps tells old middle new out_later err_later leads first part = record {
   done = acts ++ part.done;
   hand = part.hand;
   now = part.now;
@@ -75,6 +76,7 @@ part_led acts next steps tells old middle new leads first part = record {
   datagrams = part.datagrams;
   writes = subst (λ (a : List Act). WritesFor a old.store.writes new.store.writes) (sym (append_assoc acts part.done part.hand))
       (writes_for-then acts (part.done ++ part.hand) old.store.writes middle.store.writes new.store.writes first.writes part.writes);
+  failed = λ is told. fails_before part.hand _ _ _ _ (λ rose. omega (arith, out_later, rose)) (λ rose. omega (arith, err_later, rose)) (part.failed is told);
 }
 
 -- Commands one after another.
@@ -93,16 +95,17 @@ steps_before one others tells ended old middle new first then =
     steps_led first.acts others (Before one others) tells ended old middle new (led_before one others (outside_of old) first.acts (outside_of middle) first.by_steps) first.done then
 
 -- steps passed, and then the ones behind them were done in part
-pub part_before : (one others : Steps) (tells : RunTells) (old middle new : RunSeen) → HasSteps one tells None old middle → IsDoneInPart others tells middle new → IsDoneInPart (Before one others) tells old new
-part_before one others tells old middle new first part =
-    part_led first.acts others (Before one others) tells old middle new (led_before one others (outside_of old) first.acts (outside_of middle) first.by_steps) first.done part
+pub part_before : {why : Option Cause} (one others : Steps) (tells : RunTells) (old middle new : RunSeen) → old.out.faults ≤ middle.out.faults → old.err.faults ≤ middle.err.faults
+    → HasSteps one tells None old middle → IsDoneInPart others tells why middle new → IsDoneInPart (Before one others) tells why old new
+part_before one others tells old middle new out_later err_later first part =
+    part_led first.acts others (Before one others) tells old middle new out_later err_later (led_before one others (outside_of old) first.acts (outside_of middle) first.by_steps) first.done part
 
 -- steps were refused, and none behind them came
 pub steps_stopped : (one others : Steps) (tells : RunTells) (refusal : Refusal) (old new : RunSeen) → HasSteps one tells (Some refusal) old new → HasSteps (Before one others) tells (Some refusal) old new
 steps_stopped one others tells refusal old new has = record { acts = has.acts; by_steps = inl (refusal, refl, has.by_steps); done = has.done }
 
 -- steps were done in part, and none behind them came
-pub part_stopped : (one others : Steps) (tells : RunTells) (old new : RunSeen) → IsDoneInPart one tells old new → IsDoneInPart (Before one others) tells old new
+pub part_stopped : {why : Option Cause} (one others : Steps) (tells : RunTells) (old new : RunSeen) → IsDoneInPart one tells why old new → IsDoneInPart (Before one others) tells why old new
 part_stopped one others tells old new part = part_from one (Before one others) tells old old.store old.input new refl
     (λ done hand now by. inl by) part
 
@@ -111,6 +114,6 @@ pub steps_in_line : (line : ℕ) (steps : Steps) (tells : RunTells) (ended : Opt
 steps_in_line line steps tells ended old new has = record { acts = has.acts; by_steps = (ended, refl, has.by_steps); done = has.done }
 
 -- and were done in part in one
-pub part_in_line : (line : ℕ) (steps : Steps) (tells : RunTells) (old new : RunSeen) → IsDoneInPart steps tells old new → IsDoneInPart (InLine line steps) tells old new
+pub part_in_line : {why : Option Cause} (line : ℕ) (steps : Steps) (tells : RunTells) (old new : RunSeen) → IsDoneInPart steps tells why old new → IsDoneInPart (InLine line steps) tells why old new
 part_in_line line steps tells old new part = part_from steps (InLine line steps) tells old old.store old.input new refl
     (λ done hand now by. by) part

@@ -14,7 +14,10 @@ use Rattle.quota_blocks.specs.declared.quota_file.FileFault.{FileFault}
 use Rattle.quota_blocks.specs.declared.quota_file.FileFault.TheVariants.{Store as StoreFailed, Damage as FileDamaged, Full as NoBlocks, Memory as NoMemory}
 use Rattle.quota_map.specs.AnyFile.{MayRefuse}
 use Rattle.quota_map.specs.View.{IsOpenedAs, IsView}
+use Rattle.std.proofs.lemmas.Bool.{false≢true}
+use Rattle.quota_blocks.specs.Count.{Rose}
 use Rattle.refusals.specs.declared.cause.Cause.{Cause}
+use Rattle.refusals.specs.declared.cause.Cause.TheVariants.{SinkFault}
 use Rattle.refusals.specs.Refusals.{refusal_of}
 use Rattle.run_steps.specs.Act.{ToOut}
 use Rattle.run_steps.specs.Done.{IsUnwritten, IsWorldTold, RunSeen, RunTells, outside_of}
@@ -36,10 +39,19 @@ pub record IsShowing (kind : Kind) (asked : Option Format) (name : List ℕ) (te
       → AppendsPrefix old.out.written out.written (text value)
   pub later : old.out.faults ≤ out.faults
 
+-- an output that is said to have failed is the standard output, where nothing is warned of
+pub out_failed : (old new : RunSeen) (stated : Type 0) (cause : Cause) → HasReason showing_uses old new stated cause → Some cause ≡ Some SinkFault → Rose old.out.faults new.out.faults
+out_failed old new stated cause reason is =
+    let sink : cause ≡ SinkFault = cc in
+    elim (subst (λ (c : Cause). HasReason showing_uses old new stated c) sink reason) [
+      | inl rose ↦ rose
+      | inr warned ↦ absurd (false≢true warned.0)
+    ]
+
 -- a text was written, or a prefix of it, once the store was only read
-pub told_begun : (text : List ℕ) (tells : RunTells) (old : RunSeen) (store : StoreSeen) (out : SinkSeen) → IsUnwritten old.store store
-    → (IsTrue tells.out → AppendsPrefix old.out.written out.written text) → IsDoneInPart (Doing (ToOut text) Finish) tells old (with_out old store out)
-told_begun text tells old store out same prefix = record {
+pub told_begun : {why : Option Cause} (text : List ℕ) (tells : RunTells) (old : RunSeen) (store : StoreSeen) (out : SinkSeen) → (why ≡ Some SinkFault → Rose old.out.faults out.faults) → IsUnwritten old.store store
+    → (IsTrue tells.out → AppendsPrefix old.out.written out.written text) → IsDoneInPart (Doing (ToOut text) Finish) tells why old (with_out old store out)
+told_begun text tells old store out rose same prefix = record {
   done = [];
   hand = ToOut text ∷ [];
   now = outside_of old;
@@ -53,6 +65,7 @@ told_begun text tells old store out same prefix = record {
   started = refl;
   datagrams = refl;
   writes = writes_for-same (ToOut text ∷ []) old.store.writes store.writes same.writes;
+  failed = λ is told. rose is;
 }
 
 -- a text was written whole
@@ -73,13 +86,14 @@ told_steps text tells old store out same whole = record {
 }
 
 -- a text that is shown, or a prefix of it
-text_begun : (kind : Kind) (asked : Option Format) (name : List ℕ) (text : QuotaValue → List ℕ) (tells : RunTells) (old : RunSeen) (store : StoreSeen) (out : SinkSeen)
-    → IsShowing kind asked name text tells old store out → IsTrue tells.store → IsDoneInPart (ShowingSteps kind asked name text) tells old (with_out old store out)
-text_begun kind asked name text tells old store out showing told =
+text_begun : {why : Option Cause} (kind : Kind) (asked : Option Format) (name : List ℕ) (text : QuotaValue → List ℕ) (tells : RunTells) (old : RunSeen) (store : StoreSeen) (out : SinkSeen)
+    → IsShowing kind asked name text tells old store out → (why ≡ Some SinkFault → Rose old.out.faults out.faults) → IsTrue tells.store
+    → IsDoneInPart (ShowingSteps kind asked name text) tells why old (with_out old store out)
+text_begun kind asked name text tells old store out showing rose told =
     let good = showing.seen told in
     part_from (Doing (ToOut (text good.0)) Finish) (ShowingSteps kind asked name text) tells old old.store old.input
     (with_out old store out) refl (λ done hand now by. inr (good.0, good.1, by))
-    (told_begun (text good.0) tells old store out (unwritten name old.store store showing.reads)
+    (told_begun (text good.0) tells old store out rose (unwritten name old.store store showing.reads)
     (λ out_told. showing.prefix told out_told good.0 good.1))
 
 -- a text was shown whole
@@ -112,7 +126,7 @@ shown_in_part kind asked name text tells old store out cause showing unshown =
     (refusal_of cause name)
     (unwritten name old.store store showing.reads) refl
     (record { store = showing.reads.later; input = omega arith; out = showing.later; err = omega arith; link = omega arith })
-    (λ told. text_begun kind asked name text tells old store out showing told.store) (unshown.reason _) unshown.may
+    (λ told. text_begun kind asked name text tells old store out showing (out_failed old (with_out old store out) (IsWorldTold tells → ⊥) cause (unshown.reason ⊥)) told.store) (unshown.reason _) unshown.may
     (record { line = λ no. refl; input_line = λ no. refl })
 
 -- a damage that a call on an opened file answers is one of the format that was asked for

@@ -56,10 +56,10 @@ steps_starting port next tells ended old link new is told has =
     (leads_starting port next (outside_of (with_start old link)) (outside_of old) (outside_started old link is.left)) (start_done port tells old link is told) has
 
 -- a link was started, and the next steps were done in part
-part_starting : (port : ℕ) (next : Steps) (tells : RunTells) (old : RunSeen) (link : LinkSeen) (new : RunSeen) → IsStarted port (IsTrue tells.link) old.link link → IsTrue tells.link
-    → IsDoneInPart next tells (with_start old link) new → IsDoneInPart (Starting port next) tells old new
+part_starting : {why : Option Cause} (port : ℕ) (next : Steps) (tells : RunTells) (old : RunSeen) (link : LinkSeen) (new : RunSeen) → IsStarted port (IsTrue tells.link) old.link link → IsTrue tells.link
+    → IsDoneInPart next tells why (with_start old link) new → IsDoneInPart (Starting port next) tells why old new
 part_starting port next tells old link new is told part =
-    part_led (Start port old.link.left ∷ []) next (Starting port next) tells old (with_start old link) new
+    part_led (Start port old.link.left ∷ []) next (Starting port next) tells old (with_start old link) new (omega arith) (omega arith)
     (leads_starting port next (outside_of (with_start old link)) (outside_of old) (outside_started old link is.left)) (start_done port tells old link is told) part
 
 -- a link was started, and the next steps were carried out

@@ -1,6 +1,6 @@
 -- Steps that read an input: what was carried out where it was refused, and where it was read and the next steps were carried
 -- out.
-use Rattle.std.proofs.Common.{◌≡◌, ℕ, ◌≤◌, Bool, false, IsTrue, List, [], Option, None, Some, Err, Result, refl, sym, ap, subst, arith}
+use Rattle.std.proofs.Common.{◌≡◌, ◌≢◌, ℕ, ◌≤◌, Bool, false, IsTrue, List, [], Option, None, Some, Err, Result, refl, sym, ap, subst, arith}
 use Rattle.std.specs.Prelude.{IsSome}
 use Rattle.quota_blocks.specs.Behind.{IsBehind}
 use Rattle.quota_blocks.specs.Count.{Rose}
@@ -85,6 +85,12 @@ input_reason uses what from tells old store input said refusal stated LinkFault 
 input_reason uses what from tells old store input said refusal stated Memory name fault may so = tt
 input_reason uses what from tells old store input said refusal stated _ name fault may so = λ told. so told (fault told)
 
+-- no output failed for it
+input_no_output : (what : InputKind) (from : Option (List ℕ)) (cause : Cause) (name : List ℕ) → InputMayRefuse what from cause name → Some cause ≢ Some SinkFault
+input_no_output what from cause name may is =
+    let sink : cause ≡ SinkFault = cc in
+    subst (λ (c : Cause). InputMayRefuse what from c name) sink may
+
 -- the input was not read
 pub input_refused : {done : Bool} {V : Type 0} (name : List ℕ) (what : InputKind) (from : Option (List ℕ)) (is_whole : V → Bool) (read : List ℕ → Outcome V) (next : V → Steps) (uses : Uses) (more : Cause → List ℕ → Type 0) (tells : RunTells)
     (old : RunSeen) (store : StoreSeen) (input : SourceSeen) (refusal : Refusal)
@@ -98,7 +104,7 @@ input_refused name what from is_whole read next uses more tells old store input 
     let new = with_input (with_store old store) input in
     refused_so steps uses more tells old new refusal (unwritten name old.store store reads) refl
     (record { store = reads.later; input = le; out = omega arith; err = omega arith; link = omega arith })
-    (λ told. nothing_begun steps tells old new reads.files (λ out. refl) (λ err. refl) refl refl refl reads.writes)
+    (λ told. nothing_begun steps tells old new (input_no_output what from refusal.cause refusal.name may) reads.files (λ out. refl) (λ err. refl) refl refl refl reads.writes)
     (input_reason uses what from tells old store input (input_said from read old.store.files old.input.left) refusal _ refusal.cause
     refusal.name fault may
     (λ told is. refused_taking name from is_whole read next tells old store input refusal reads is (taken told))) allowed placed

@@ -1,5 +1,5 @@
 -- How a command is carried out, whichever it is.
-use Rattle.std.specs.Prelude.{◌≡◌, ◌≢◌, ◌⊎◌, ◌&&◌, ℕ, Bool, false, IsTrue, List, ◌++◌, Option, Some, None, Result, OnOk, IfErr}
+use Rattle.std.specs.Prelude.{◌≡◌, ◌≢◌, ◌⊎◌, ◌&&◌, ℕ, Bool, false, IsTrue, List, ◌∷◌, ◌++◌, Option, Some, None, Result, Ok, Err, OnOk, IfErr}
 use Rattle.quota_blocks.specs.Count.{Rose}
 use Rattle.quota_blocks.specs.Text.{AppendsPrefix}
 use Rattle.refusals.specs.declared.cause.Cause.{Cause}
@@ -7,7 +7,7 @@ use Rattle.refusals.specs.declared.cause.Cause.TheVariants.{StoreFault, SourceFa
 use Rattle.refusals.specs.declared.reason.Refusal.{Refusal}
 use Rattle.refusals.specs.Refusals.{stands_in_line}
 use Rattle.refusals.specs.Status.{ByGroup, group_of, status_of}
-use Rattle.run_steps.specs.Act.{Act, FollowsInPart, answers, err_bytes, out_bytes, started_by}
+use Rattle.run_steps.specs.Act.{Act, ToErr, ToOut, FollowsInPart, answers, err_bytes, out_bytes, started_by}
 use Rattle.run_steps.specs.Done.{AreDone, IsLater, IsUnwritten, IsWorldTold, Outside, RunSeen, RunTells, outside_of}
 use Rattle.run_steps.specs.Meaning.{EndsBy, HasBegun}
 use Rattle.run_steps.specs.Steps.{Steps}
@@ -56,11 +56,23 @@ pub record HasSteps (steps : Steps) (tells : RunTells) (refusal : Option Refusal
   pub by_steps : EndsBy steps (outside_of old) acts (outside_of new) refusal
   pub done : AreDone tells acts old new
 
+-- the cause for which a command was refused, if it was
+abbrev pub cause_in : Result (Unit {0}) Refusal → Option Cause
+cause_in (Ok passed) = None
+cause_in (Err refusal) = Some refusal.cause
+
+-- bytes are at hand, and the output to which they go failed
+abbrev pub FailsAtHand : (hand : List Act) → (out err : Type 0) → Type 0
+FailsAtHand (ToOut bytes ∷ acts) out err = out
+FailsAtHand (ToErr bytes ∷ acts) out err = err
+FailsAtHand _ out err = ⊥
+
 -- Steps were done in part: they have begun, and the act that is at hand, if there is one, may have been done in part: bytes by
 -- a prefix of them, an edit as one that failed may leave the file, and a replacement and an answer not at all; a link is never
 -- started in part. Nothing else was done, and there were no more calls of `write` to the store than these acts take, the one
--- at hand with them. What is left of the input is not said.
-pub record IsDoneInPart (steps : Steps) (tells : RunTells) (old new : RunSeen) : Type 0 where
+-- at hand with them. What is left of the input is not said. Where it is an output that is said to have failed, bytes to it are
+-- at hand, and its count of faults rose; this is known where the error output tells.
+pub record IsDoneInPart (steps : Steps) (tells : RunTells) (why : Option Cause) (old new : RunSeen) : Type 0 where
   pub done : List Act
   pub hand : List Act
   pub now : Outside
@@ -72,6 +84,7 @@ pub record IsDoneInPart (steps : Steps) (tells : RunTells) (old new : RunSeen) :
   pub started : new.link.started ≡ started_by done old.link.started
   pub datagrams : new.link.left ≡ now.datagrams
   pub writes : WritesFor (done ++ hand) old.store.writes new.store.writes
+  pub failed : why ≡ Some SinkFault → IsTrue tells.err → FailsAtHand hand (Rose old.out.faults new.out.faults) (Rose old.err.faults new.err.faults)
 
 -- A command was carried out but for the error line. Where it ended well or was refused by a step, its steps say so and
 -- its acts were done. Where it was stopped, there is a reason. In every case its steps were done in part, if not whole. Nothing
@@ -79,7 +92,7 @@ pub record IsDoneInPart (steps : Steps) (tells : RunTells) (old new : RunSeen) :
 pub record CarriesOut (steps : Steps) (uses : Uses) (may : Cause → List ℕ → Type 0) (tells : RunTells) (old new : RunSeen) (result : Result (Unit {0}) Refusal) : Type 0 where
   pub done : OnOk result (IsWorldTold tells → HasSteps steps tells None old new)
   pub refused : IfErr result (λ (refusal : Refusal). HasReason uses old new (IsWorldTold tells → HasSteps steps tells (Some refusal) old new) refusal.cause)
-  pub part : IsWorldTold tells → IsDoneInPart steps tells old new
+  pub part : IsWorldTold tells → IsDoneInPart steps tells (cause_in result) old new
   pub may_refuse : IfErr result (λ (refusal : Refusal). may refusal.cause refusal.name)
   pub placed : IfErr result (IsPlacedBy uses)
   pub only_reads : uses.changes ≡ false → IsUnwritten old.store new.store

@@ -2,6 +2,7 @@
 
 ghost use Rattle.std.specs.Prelude.{◌≡◌, ◌++◌, ◌∷◌, [], Bool, List, Option, ℕ, true};
 ghost use Rattle.refusals.specs.Refusals.{in_line};
+ghost use Rattle.refusals.specs.declared.cause.Cause.{Cause};
 ghost use Rattle.refusals.specs.declared.reason.Refusal.{Refusal};
 ghost use Rattle.run_steps.specs.Act.{Act, Follows};
 ghost use Rattle.run_steps.specs.Done.{AreDoneInPart, Outside, RunSeen, RunTells, outside_of};
@@ -32,9 +33,9 @@ pub fn what_has_begun_is_a_first_part_of_every_end()
     ensures acts { (rooms : Bool) (steps : Steps) (old now new : Outside) (done hand acts : List Act) (refusal : Option Refusal)
         → LooksFirstBy rooms true true steps → HasBegun steps old done hand now → EndsBy steps old acts new refusal
         → UnlessFull rooms refusal (IsFirstPart done hand acts) }
-    ensures seen { (rooms : Bool) (steps : Steps) (tells : RunTells) (old new : RunSeen) (to : Outside) (acts : List Act)
+    ensures seen { (rooms : Bool) (steps : Steps) (tells : RunTells) (why : Option Cause) (old new : RunSeen) (to : Outside) (acts : List Act)
         (refusal : Option Refusal)
-        → LooksFirstBy rooms true true steps → IsDoneInPart steps tells old new → EndsBy steps (outside_of old) acts to refusal
+        → LooksFirstBy rooms true true steps → IsDoneInPart steps tells why old new → EndsBy steps (outside_of old) acts to refusal
         → UnlessFull rooms refusal (AreDoneInPart tells acts old new) }
 {}
 

@@ -1,5 +1,5 @@
 -- Datagrams that were answered, all that were asked for or not, as steps.
-use Rattle.std.proofs.Common.{◌≡◌, ℕ, zero, suc, ◌<◌, ◌≤◌, IsTrue, true, false, List, [], ◌∷◌, ◌++◌, length, map, Result, Ok, Err, OnOk, OnErr, Option, None, Some, IfSome, refl, sym, ap, subst, ◌∙◌, inl, inr, append-nil, arith}
+use Rattle.std.proofs.Common.{◌≡◌, ℕ, zero, suc, ◌<◌, ◌≤◌, IsTrue, true, false, List, [], ◌∷◌, ◌++◌, length, map, Result, Ok, Err, OnOk, OnErr, Option, None, Some, IfSome, refl, sym, ap, subst, ◌∙◌, inl, inr, append-nil, arith, ◌≢◌}
 use Rattle.std.specs.List.{All, cons_option, filter_map, slice_get}
 use Rattle.std.specs.Option.{option_to_list}
 use Rattle.std.specs.Result.{is_err}
@@ -24,7 +24,7 @@ use Rattle.rquota_serve.specs.declared.fault.ServeFault.{ServeFault}
 use Rattle.rquota_serve.specs.declared.fault.ServeFault.TheVariants.{Link as LinkFailed, File as FileFailed}
 use Rattle.refusals.specs.Refusals.{refusal_of}
 use Rattle.refusals.specs.declared.cause.Cause.{Cause}
-use Rattle.refusals.specs.declared.cause.Cause.TheVariants.{LinkFault}
+use Rattle.refusals.specs.declared.cause.Cause.TheVariants.{LinkFault, SinkFault}
 use Rattle.run_steps.specs.Act.{Act, Answer, Follows, answers, err_bytes, out_bytes, started_by}
 use Rattle.run_steps.specs.Done.{IsWorldTold, Outside, RunSeen, RunTells, outside_of}
 use Rattle.run_steps.specs.Meaning.{EndsBy, HasBegun}
@@ -193,11 +193,11 @@ answered_begun exported (datagram ∷ done) at_hand (suc calls) files input left
       ),
     )
 
-stopped_part : (exported : Exported) (calls : ℕ) (serves : Exported → Type 0) (tells : RunTells) (old : RunSeen) (store : StoreSeen) (link : LinkSeen)
-    → serves exported → store.files ≡ old.store.files → store.writes ≡ old.store.writes → link.started ≡ old.link.started → Stopped serves calls old.link link
-    → IsDoneInPart (AnsweringSteps exported calls) tells old (with_link old store link)
+stopped_part : {why : Option Cause} (exported : Exported) (calls : ℕ) (serves : Exported → Type 0) (tells : RunTells) (old : RunSeen) (store : StoreSeen) (link : LinkSeen)
+    → why ≢ Some SinkFault → serves exported → store.files ≡ old.store.files → store.writes ≡ old.store.writes → link.started ≡ old.link.started → Stopped serves calls old.link link
+    → IsDoneInPart (AnsweringSteps exported calls) tells why old (with_link old store link)
 unfolding acts_of
-stopped_part exported calls serves tells old store link is files writes started stopped =
+stopped_part exported calls serves tells old store link other is files writes started stopped =
     let sent = answers_of exported stopped.done in
     let begun = answered_begun exported stopped.done stopped.at_hand calls old.store.files old.input.left link.left stopped.few stopped.unsent in
     record {
@@ -212,6 +212,7 @@ stopped_part exported calls serves tells old store link is files writes started 
       started = started ∙ sym (answering-started sent old.link.started);
       datagrams = refl;
       writes = writes_for-same (acts_of exported stopped.done ++ begun.0) old.store.writes store.writes writes;
+      failed = λ is told. absurd (other is);
     }
 
 -- What was carried out.
@@ -252,6 +253,14 @@ serve_reason (FileFailed (FileDamaged damage)) exported serves stated tells old 
 serve_reason (FileFailed (NoBlocks blocks limit)) exported serves stated tells old new is cause = absurd cause
 serve_reason (FileFailed NoMemory) exported serves stated tells old new is cause = absurd cause
 
+-- none is that an output failed
+serve_no_output : (fault : ServeFault) → Some (serve_cause fault) ≢ Some SinkFault
+serve_no_output LinkFailed is = cc
+serve_no_output (FileFailed CallFailed) is = cc
+serve_no_output (FileFailed (FileDamaged damage)) is = cc
+serve_no_output (FileFailed (NoBlocks blocks limit)) is = cc
+serve_no_output (FileFailed NoMemory) is = cc
+
 all_at : {T : Type 0} (P : T → Type 0) (list : List T) (place : ℕ) (one : T) → All P list → slice_get list place ≡ Some one → P one
 all_at P list place one all at = subst P (get_or_from_slice_get list place one one at) (All-get_or P list place one (slice_get_within list place one at) all)
 
@@ -273,7 +282,7 @@ pub stopped_carried : (exported : Exported) (calls : ℕ) (format : Option Forma
 stopped_carried exported calls format file seen fault serves tells old store link serving is stopped cause asked may = record {
   done = tt;
   refused = serve_reason fault exported serves _ tells old (with_link old store link) is cause;
-  part = λ told. stopped_part exported calls serves tells old store link (is told.store) serving.files serving.writes serving.started (stopped told.link);
+  part = λ told. stopped_part exported calls serves tells old store link (serve_no_output fault) (is told.store) serving.files serving.writes serving.started (stopped told.link);
   may_refuse = serve_may format file seen fault asked may _ _ _ _ serves cause;
   placed = record { line = λ no. refl; input_line = λ no. refl };
   only_reads = λ only. record { files = serving.files; writes = serving.writes };
@@ -289,7 +298,7 @@ pub unstarted_carried : (exported : Exported) (calls port : ℕ) (format : Optio
 unstarted_carried exported calls port format file tells old link left sent started rose later = record {
   done = tt;
   refused = (refl, rose);
-  part = λ told. nothing_begun (Starting port (AnsweringSteps exported calls)) tells old (with_link old old.store link) refl (λ t. refl) (λ t. refl) sent (started told.link) left refl;
+  part = λ told. nothing_begun (Starting port (AnsweringSteps exported calls)) tells old (with_link old old.store link) (λ is. cc) refl (λ t. refl) (λ t. refl) sent (started told.link) left refl;
   may_refuse = tt;
   placed = record { line = λ no. refl; input_line = λ no. refl };
   only_reads = λ only. record { files = refl; writes = refl };

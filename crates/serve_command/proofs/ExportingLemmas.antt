@@ -36,6 +36,7 @@ use Rattle.run_steps.proofs.PhaseLemmas.{carries_on, carries_opening, leads_open
 use Rattle.rquota_serve.proofs.AddingLemmas.{AllSeen}
 use Rattle.run_steps.proofs.SeenOnceLemmas.{seen_once}
 use Rattle.serve_command.specs.Serve.{AnsweringMayRefuse, AreExported, ExportingMayRefuse, OpeningAll, new_of, news_of, serve_uses}
+use Rattle.run_steps.proofs.PartLemmas.{part_but_output}
 
 -- the steps behind the first file, by its value
 abbrev pub behind_first : Option Format → Export → List Export → Exported → (Exported → Steps) → QuotaValue → Steps
@@ -125,7 +126,7 @@ unnamed : (steps : Steps) (may : Cause → List ℕ → Type 0) (tells : RunTell
 unnamed steps may tells old new refusal allowed carries = record {
   done = tt;
   refused = tt;
-  part = carries.part;
+  part = λ told. part_but_output steps tells old new (λ is. cc) (carries.part told);
   may_refuse = allowed;
   placed = record { line = λ no. refl; input_line = λ no. refl };
   only_reads = carries.only_reads;

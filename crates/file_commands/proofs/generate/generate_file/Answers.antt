@@ -2,7 +2,7 @@ use Rattle.std.proofs.Common.{inr, refl, sym}
 use Rattle.outside.proofs.FrameLemmas.{syncs-none}
 use Rattle.refusals.specs.declared.cause.Cause.TheVariants.{Memory}
 use Rattle.refusals.specs.Refusals.{refusal_of}
-use Rattle.run_steps.proofs.PhaseLemmas.{carries_as, nothing_carried}
+use Rattle.run_steps.proofs.PhaseLemmas.{carries_as, memory_no_output, nothing_carried}
 use Rattle.file_commands.specs.Generate.{generate_uses}
 use Rattle.file_commands.proofs.generate.generate_file.Goals as goal
 
@@ -14,7 +14,7 @@ returns-in-Ok-clause-carries g c = λ input err link input_tells err_tells link_
 pub returns-in-Err-clause-carries : goal.returns-in-Err-clause-carries
 returns-in-Err-clause-carries g c = λ input err link input_tells err_tells link_tells.
     rw (c.of.ensures, c.in-Err.ensures.refused)
-    (nothing_carried _ generate_uses _ _ _ (refusal_of Memory c.args.file) tt (inr tt)
+    (nothing_carried _ generate_uses _ _ _ (refusal_of Memory c.args.file) memory_no_output tt (inr tt)
     (record { line = λ no. refl; input_line = λ no. refl }))
 
 pub returns-in-Err-clause-synced : goal.returns-in-Err-clause-synced

@@ -5,7 +5,7 @@ use Rattle.refusals.specs.Refusals.{refusal_of}
 use Rattle.refusals.specs.declared.cause.Cause.TheVariants.{Memory}
 use Rattle.run_steps.specs.Done.{seen_of, tells_of}
 use Rattle.run_steps.specs.Steps.{Starting}
-use Rattle.run_steps.proofs.PhaseLemmas.{carries_more, nothing_carried}
+use Rattle.run_steps.proofs.PhaseLemmas.{carries_more, memory_no_output, nothing_carried}
 use Rattle.rquota_serve.specs.Exported.{Exported, nothing_exported}
 use Rattle.rquota_serve.specs.Exports.{Serves}
 use Rattle.rquota_serve.proofs.ServingLemmas.{stopped-before}
@@ -56,7 +56,7 @@ returns-in-Ok-clause-carries g c = λ input out err input_tells out_tells err_te
     (carries_more (ServeSteps c.args.format c.args.calls c.args.port c.args.exports invocation) serve_uses (AnsweringMayRefuse c.args.format first) (ServeMayRefuse c.args.format c.args.exports) tells old new _
     (λ cause said may. inr may)
     (opened.3 (λ (exported : Exported). Starting c.args.port (AnsweringSteps exported c.args.calls)) first input out err (L.seen c.args.link.now) input_tells out_tells err_tells L.tells new _
-    (nothing_carried (Starting c.args.port (AnsweringSteps opened.0 c.args.calls)) serve_uses (AnsweringMayRefuse c.args.format first) tells new (refusal_of Memory []) tt tt (record { line = λ no. refl; input_line = λ no. refl }))))
+    (nothing_carried (Starting c.args.port (AnsweringSteps opened.0 c.args.calls)) serve_uses (AnsweringMayRefuse c.args.format first) tells new (refusal_of Memory []) memory_no_output tt tt (record { line = λ no. refl; input_line = λ no. refl }))))
 
 pub returns-clause-carries : goal.returns-clause-carries
 returns-clause-carries g c = λ input out err input_tells out_tells err_tells invocation.
