@@ -16,7 +16,7 @@
 # or length. Then the file is what a recovery by that makes of it, from the first run on (`edit_journal/specs/Undo.antt`).
 # - No run is ended by a signal, takes ten seconds, or holds more than 256 KiB beyond the most that such runs hold on the sound
 #   file from which it was made.
-# - A reader of its own, which follows docs/FORMATS.md (bench/plain_reader.py), says which file is sound, and what it stands
+# - A reader of its own, which follows docs/FORMATS.md (tests/plain_reader.py), says which file is sound, and what it stands
 #   for. A sound one is accepted. Any other one is refused, with the status and the cause that the header asks for, or with a
 #   damage that holds of the file, by its kind, block and identifier. Then `setquota` alone refuses it by the same line; the file
 #   is as it was, byte for byte, and none is beside it.
@@ -52,7 +52,7 @@ kept=$(mktemp -d)
 # try WHAT COUNT FIRST: tries so many cases from that one on.
 try() {
     echo "$1:"
-    python3 -B "$top/bench/hostile_$1.py" "$program" "${SEED:-1}" "$3" "$2" "${JOBS:-$(nproc)}" "$work" "$kept"
+    PYTHONPATH=$top/tests python3 -B "$top/bench/hostile_$1.py" "$program" "${SEED:-1}" "$3" "$2" "${JOBS:-$(nproc)}" "$work" "$kept"
 }
 
 status=0

@@ -6,17 +6,14 @@ bench/hostile.sh says what is tried. It works in the folder WORK. The folder KEP
 what failed, in a file of the number of the first case that did.
 """
 import collections
-import multiprocessing
 import os
 import socket
 import struct
-import sys
 import tempfile
 import time
 
-sys.path.insert(0, os.path.join(os.path.dirname(os.path.abspath(__file__)), "..", "tests"))
-from draws import RECURRENCE, Draws
-from hostile_files import SOUND_CASES, Runner, Sound, Wrong, want
+from draws import Draws
+from hostile_files import SOUND_CASES, Runner, Sound, Wrong, parts_of, try_all, want
 from plain_reader import Record, Tree, flat_value
 from serve_client import PROGRAM, call, connected, credential, opaque, units
 
@@ -351,25 +348,17 @@ def served(task):
         return collections.Counter(), [cases[0]], 0, 0
 
 
-def main(program, seed, first, count, jobs, work, kept):
-    first, count, seed = int(first), int(count), int(seed)
-    print("seed %d, cases %d to %d, %s processes. The numbers of a case:\n%s" % (seed, first, first + count - 1, jobs, RECURRENCE))
-    begun, failed, counts, worst, tasks = time.monotonic(), [], collections.Counter(), (0, 0), []
+def parts_by_format(cases):
+    """The cases by their format, every third one of each, in parts that a server takes."""
     for at, form in enumerate(FORMATS):
-        own = range(first + (at - first) % 3, first + count, 3)
-        tasks += [(program, seed, work, kept, form, own[start : start + CALLS]) for start in range(0, len(own), CALLS)]
-    with multiprocessing.Pool(int(jobs)) as pool:
-        for more, wrong, *most in pool.imap_unordered(served, tasks):
-            counts += more
-            failed += wrong
-            worst = tuple(map(max, worst, most))
-    for what, number in counts.most_common():
-        print("%8d %s" % (number, what))
-    print("%8d servers failed%s" % (len(failed), ": " + " ".join(map(str, failed[:20])) if failed else ""))
-    print("most memory of a server: %d KiB; at most %d KiB more than with sound calls alone" % worst)
-    print("it took %.0f s" % (time.monotonic() - begun))
-    sys.exit(bool(failed))
+        for part in parts_of(cases[(at - cases.start) % len(FORMATS) :: len(FORMATS)], CALLS):
+            yield form, part
 
 
 if __name__ == "__main__":
-    main(*sys.argv[1:])
+    try_all(
+        parts_by_format,
+        served,
+        "servers failed",
+        "most memory of a server: %d KiB; at most %d KiB more than with sound calls alone",
+    )

@@ -672,24 +672,35 @@ def judged(task):
     return judge.counts, judge.failed, judge.most_held, judge.most_more, judge.runner.most_time
 
 
-def main(program, seed, first, count, jobs, work, kept):
+def parts_of(cases, size):
+    return [cases[at : at + size] for at in range(0, len(cases), size)]
+
+
+def try_all(parts, tried, failing, measures):
+    """Tries the cases that the words of the command line ask for, in parts that `parts` makes of them, each by `tried`, and
+    prints what they came to. Ends with status 1 where some failed."""
+    program, seed, first, count, jobs, work, kept = sys.argv[1:]
     first, count, seed = int(first), int(count), int(seed)
     print("seed %d, cases %d to %d, %s processes. The numbers of a case:\n%s" % (seed, first, first + count - 1, jobs, RECURRENCE))
-    begun, failed, counts, worst = time.monotonic(), [], collections.Counter(), (0, 0, 0)
-    parts = [range(first, first + count)[at : at + CASES_AT_ONCE] for at in range(0, count, CASES_AT_ONCE)]
-    tasks = [(program, seed, work, kept, part) for part in parts]
+    begun, failed, counts, worst = time.monotonic(), [], collections.Counter(), None
+    tasks = [(program, seed, work, kept, *part) for part in parts(range(first, first + count))]
     with multiprocessing.Pool(int(jobs)) as pool:
-        for more, wrong, *most in pool.imap_unordered(judged, tasks):
+        for more, wrong, *most in pool.imap_unordered(tried, tasks):
             counts += more
             failed += wrong
-            worst = tuple(map(max, worst, most))
+            worst = tuple(map(max, worst or most, most))
     for what, number in counts.most_common():
         print("%8d %s" % (number, what))
-    print("%8d failed%s" % (len(failed), ": " + " ".join(map(str, sorted(failed)[:20])) if failed else ""))
-    print("most memory of a run: %d KiB; at most %d KiB more than on a sound file; longest run: %.3f s" % worst)
+    print("%8d %s%s" % (len(failed), failing, ": " + " ".join(map(str, sorted(failed)[:20])) if failed else ""))
+    print(measures % worst)
     print("it took %.0f s" % (time.monotonic() - begun))
     sys.exit(bool(failed))
 
 
 if __name__ == "__main__":
-    main(*sys.argv[1:])
+    try_all(
+        lambda cases: [(part,) for part in parts_of(cases, CASES_AT_ONCE)],
+        judged,
+        "failed",
+        "most memory of a run: %d KiB; at most %d KiB more than on a sound file; longest run: %.3f s",
+    )

@@ -35,6 +35,16 @@ repository() {
     rm -f "$folder"/begun.* "$folder/slow" "$folder/faulty"
 }
 
+# begin SECONDS: a call of bin/build in the background, of which each proof takes so long, once three of them are at hand.
+begin() {
+    echo "$1" >"$folder/slow"
+    bin/build 2>/dev/null &
+    for ((i = 0; i < 2000; i++)); do
+        if [ "$(wc -l <"$folder/said")" = 3 ]; then break; fi
+        sleep 0.01
+    done
+}
+
 # The stand-in says what it is asked for, and makes what `rt` makes. The three crates that stand on nothing wait for each
 # other, and so end at the same moment. It is slow where there is a file `slow`, and does not prove the crate that the
 # file `faulty` names.
@@ -121,12 +131,7 @@ same 'it proves that crate' "$(grep -c 'lib middle' "$folder/said")" 1
 
 # A call that is stopped.
 repository
-echo 60 >"$folder/slow"
-bin/build 2>/dev/null &
-for ((i = 0; i < 2000; i++)); do
-    if [ "$(wc -l <"$folder/said")" = 3 ]; then break; fi
-    sleep 0.01
-done
+begin 60
 start=$SECONDS
 kill $!
 got=0
@@ -139,12 +144,7 @@ same 'the next call goes on' "$(bin/quota_cli x 2>/dev/null)" 'ran x'
 
 # What is edited while it is proved.
 repository
-echo 1 >"$folder/slow"
-bin/build 2>/dev/null &
-for ((i = 0; i < 2000; i++)); do
-    if [ "$(wc -l <"$folder/said")" = 3 ]; then break; fi
-    sleep 0.01
-done
+begin 1
 touch crates/low/src/lib.rt
 wait $!
 rm "$folder/slow"

@@ -1,6 +1,6 @@
 #!/usr/bin/env python3
-"""Random edits of a tree file by `setquota` and `edquota`, whose outcome is compared with a map, and with a reader of
-its own.
+"""Random edits of a tree file by `setquota` and `edquota`, whose outcome is compared with a map, by a reader of its own
+(plain_reader.py).
 
 tree_edits.py PROGRAM FORMAT SEED ROUNDS LINES RUNS FORMS all|kept [FILE]
     Makes a file of that format in the current folder, or a copy of FILE, whose users get new limits first. Changes it in
@@ -14,14 +14,12 @@ tree_edits.py PROGRAM FORMAT SEED ROUNDS LINES RUNS FORMS all|kept [FILE]
 import os
 import random
 import shutil
-import struct
 import subprocess
 import sys
 
-BLOCK = 1024
+from plain_reader import BLOCK, Refused, Tree, Unsound
+
 FILE = "edited"
-# Of each version: the fields of an entry, and how many a data block has.
-ENTRIES = {"vfsv0": (struct.Struct("<6I3Q"), 21), "vfsv1": (struct.Struct("<2I8Q"), 14)}
 
 
 class Differs(Exception):
@@ -34,54 +32,10 @@ def want(holds, *words):
 
 
 def records_in(data, form):
-    """The records of a tree file, read as docs/FORMATS.md has it: of each identifier its soft and hard limits of blocks
-    and of inodes, and its use in bytes and in inodes. The file has to be sound."""
-    entry, room = ENTRIES[form]
-    blocks, free, listed = struct.unpack_from("<3I", data, 20)
-    want(len(data) >= blocks * BLOCK, "the file is short of", blocks, "blocks")
-    roles, leaves, records, roomy = {0: "header"}, {}, {}, set()
-
-    def take(block, role):
-        want(0 < block < blocks, role, block, "is outside")
-        want(block not in roles, role, block, "is", roles.get(block), "too")
-        roles[block] = role
-
-    def walk(block, level, before):
-        take(block, "tree")
-        words = struct.unpack_from("<256I", data, block * BLOCK)
-        want(level == 0 or any(words), "tree block", block, "is empty")
-        for at, word in enumerate(words):
-            if word and level < 3:
-                walk(word, level + 1, before * 256 + at)
-            elif word:
-                leaves.setdefault(word, set()).add(before * 256 + at)
-
-    walk(1, 0, 0)
-    for block, ids in leaves.items():
-        take(block, "data")
-        start = block * BLOCK
-        raw = [data[at:at + entry.size] for at in range(start + 16, start + 16 + room * entry.size, entry.size)]
-        used = [entry.unpack(it) for it in raw if any(it)]
-        want(struct.unpack_from("<H", data, start + 8)[0] == len(used), "data block", block, "says another number")
-        want(len(used) == len(ids) and {it[0] for it in used} == ids, "data block", block, "has other entries")
-        if len(used) < room:
-            roomy.add(block)
-        for fields in used:
-            ihard, isoft, inodes, bhard, bsoft, space = fields[-8:-2]
-            records[fields[0]] = (bsoft, bhard, isoft, ihard, space, inodes)
-    while free:
-        take(free, "free")
-        free = struct.unpack_from("<I", data, free * BLOCK)[0]
-    before = 0
-    while listed:
-        want(listed in roomy, "block", listed, "is in the entry list")
-        roomy.remove(listed)
-        following, previous = struct.unpack_from("<2I", data, listed * BLOCK)
-        want(previous == before, "block", listed, "names another before it")
-        before, listed = listed, following
-    want(not roomy, "blocks", roomy, "are not in the entry list")
-    want(len(roles) == blocks, "of", blocks, "blocks", len(roles), "have a role")
-    return records
+    """The records of a tree file, which has to be sound: of each identifier its soft and hard limits of blocks and of inodes,
+    and its use in bytes and in inodes."""
+    records = Tree(data, "user", form).value().records
+    return {id: (it.bsoft, it.bhard, it.isoft, it.ihard, it.space, it.inodes) for id, it in records.items()}
 
 
 def state():
@@ -234,7 +188,7 @@ def main(words):
     try:
         edit(*words[:2], *map(int, words[2:7]), words[7] == "kept", words[8] if words[8:] else None)
         print("same")
-    except Differs as found:
+    except (Differs, Refused, Unsound) as found:
         print(found)
 
 

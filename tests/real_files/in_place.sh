@@ -159,7 +159,7 @@ fi
 # memory where there is one. The numbers behind the format are the seed, the rounds, and in each round the lines of a
 # batch, the runs for one user and the forms.
 if command -v python3 >/dev/null; then
-    edits=("$top/tests/tree_edits.py" "$folder/program")
+    edits=(python3 -B "$top/tests/tree_edits.py" "$folder/program")
     same 'random edits of the sample' "$("${edits[@]}" vfsv1 1 3 40 10 10 all "$top/samples/aquota.user")" same
     memory=$folder
     if [ -d /dev/shm ] && [ -w /dev/shm ]; then memory=/dev/shm; fi

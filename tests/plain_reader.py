@@ -123,11 +123,11 @@ class Tree:
 
     def chain(self, head):
         """The blocks of a list, and the number that ends it."""
-        met, at = [], head
+        met, at = {}, head
         while self.leads(at) and at not in met:
-            met.append(at)
+            met[at] = True
             at = self.next_of(at)
-        return met, at
+        return list(met), at
 
     def value(self):
         """What the file stands for, where it is sound."""
