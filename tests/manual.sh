@@ -1,14 +1,13 @@
 #!/usr/bin/env bash
-# Looks at the manual pages, docs/quota_cli.8 and docs/quota_cli-COMMAND.8: their form; the commands and options in them
-# beside those that the help names; and what their examples show, by running them; and what the commands in README.md and in
-# the documents show, where the text that they write stands right behind them. Ends with status 1 where something differs.
+# Looks at the manual pages, docs/quota_cli.8 and docs/quota_cli-COMMAND.8: their form; the commands, their forms and options in
+# them beside those that the help has; and what they and all other documents show (tests/examples.sh). Ends with status 1 where
+# something differs.
 set -Eeuo pipefail
 shopt -s inherit_errexit
 trap 'echo "manual: line $LINENO failed: $BASH_COMMAND" >&2' ERR
 top=$(cd "$(dirname "${BASH_SOURCE[0]}")/.." && pwd)
 pages=("$top"/docs/quota_cli*.8)
 run=$top/bin/quota_cli
-client=$top/tests/serve_client.py
 folder=$(mktemp -d)
 trap 'rm -rf "$folder"' EXIT
 cd "$folder"
@@ -84,6 +83,22 @@ for name in $commands; do
     same "what the help lacks of the options of $name"
 done
 
+# The forms of the commands, and of the whole, which the pages have as a synopsis.
+{
+    sed -n 's/^Usage: //p' help
+    awk '/^(  )?[^ ]/ { if (form) print form; form = /^  / ? "quota_cli" : "" }
+        form && match($0, /[^ ]/) && RSTART < 25 { sub(/   +[a-z].*/, ""); $1 = $1; form = form " " $0 }' help
+    printf '%s\n' 'quota_cli --help' 'quota_cli --version'
+} | sort >wanted
+sed -nE '/^\.Sh SYNOPSIS/,/^\.Sh DESCRIPTION/{
+    /^\.Sh/d
+    s/^\.//; s/^Nm.*/@quota_cli/
+    s/ , Ns Ar /,/; s/(^| )(Cm|Ar) /\1/g; s/(^| )Fl /\1-/g; s/ \| /|/g
+    s/^Op (.*) \.\.\.$/[\1].../; s/^Op (.*)/[\1]/; s/^(.*[^]]) \.\.\.$/(\1).../
+    p
+}' "${pages[@]}" | tr '\n' ' ' | tr '@' '\n' | sed 's/ *$//; /^$/d' | sort >got
+same 'the forms of the commands in the pages'
+
 # The error lines of quota_cli.8 are those of COMMANDS, but that the latter has one row for a damage with and without an
 # identifier.
 awk '/^\.Sh / { on = /EXIT STATUS/ } on && /^\.Bd / { shown = 1; next } /^\.Ed/ { shown = 0 } on && shown' \
@@ -91,144 +106,6 @@ awk '/^\.Sh / { on = /EXIT STATUS/ } on && /^\.Bd / { shown = 1; next } /^\.Ed/ 
 sed -nE 's/^\| [0-9] \| `(quota: [^`]*)`.*/\1/p' "$top/docs/COMMANDS.md" | sort >got
 same 'the error lines in COMMANDS'
 
-# examples PAGE: the examples of a page that begin with a command, without what troff needs.
-examples() {
-    awk '/^\.Sh / { on = /EXAMPLES/ } on && /^\.Bd / { first = 1; next } /^\.Ed/ { shown = 0 }
-        on && first { shown = /^\$ /; first = 0 } on && shown' "$1" | sed -e 's/\\e/\\/g' -e 's/\\&//g'
-}
-
-# Those of each page run one after another, in a folder of their own.
-quota_cli() { timeout 20 "$run" "$@"; }
-for page in "${pages[@]}"; do
-    name=${page##*/}
-    mkdir -p "of $name/tests"
-    cd "of $name"
-    ln -s "$client" tests/serve_client.py
-    examples "$page" >all
-    if command -v python3 >/dev/null; then
-        sed "s/8750/$("$client" free)/g" all >wanted
-    else
-        if grep -q 8750 all; then echo 'manual: python3 is not there: the example of a call over UDP is not shown' >&2; fi
-        grep -vE '8750|^[0-9]+ quota ' all >wanted || true
-    fi
-    while IFS= read -r line; do
-        if [[ $line == '$ '* ]]; then
-            echo "$line"
-            eval "${line#'$ '}" </dev/null 2>&1 || true
-        fi
-    done <wanted >got
-    wait
-    same "what the examples of $name show"
-    cd "$folder"
-done
-
-# blocks DOCUMENT: leaves each block of a document in a file `block.N`, and writes N of those right behind which another one
-# stands.
-blocks() {
-    awk '/^```/ {
-            inside = !inside
-            if (inside && number++ && !text) print number - 1
-            if (inside) printf "" >("block." number)
-            text = 0
-            next
-        }
-        inside { print >("block." number); next }
-        /./ { text = 1 }' "$1"
-}
-
-# Those behind which the text stands that they write: this text.
-shown=0
-for document in $(cd "$top" && ls README.md CONTRIBUTING.md docs/*.md); do
-    rm -f block.*
-    for number in $(blocks "$top/$document"); do
-        port=8750
-        if grep -q 8750 "block.$number"; then
-            if ! command -v python3 >/dev/null; then continue; fi
-            port=$("$client" free)
-        fi
-        cp "block.$((number + 1))" wanted
-        sed "s/8750/$port/g" "block.$number" >words
-        (cd "$top" && . "$folder/words" </dev/null 2>&1 && wait) >got || true
-        same "what $(head -n 1 words) shows in $document"
-        shown=$((shown + 1))
-    done
-done
-
-# The others of COMMANDS, and those examples of the pages that are for a file system, with folders of this test in the place of
-# /home and /root: that each command in them ends well, and the limits of alice at the end of each.
-quotaoff() { :; }
-quotaon() { :; }
-editor() { sed -i '3s/102400 204800/100M 200M/' "$1"; }
-ended_well() {
-    local status=0
-    timeout 20 "$run" "$@" || status=$?
-    if [ "$status" != 0 ]; then echo "status $status of: $*" >>"$folder/ended_badly"; fi
-    return "$status"
-}
-# What the commands of a block find there, made once: a file with limits of alice, and inputs.
-mkdir ready home
-echo 'alice:x:1000:100::/home/alice:/bin/sh' >ready/passwd
-echo '1000 100 1 1 8' >ready/listing
-echo 'alice 100M 200M 1k 2k' >ready/lines
-quota_cli quotacheck -c -u --input ready/listing home/aquota.user
-quota_cli setquota -u 1000 100M 200M 1k 2k home/aquota.user
-quota_cli edquota --print --names ready/passwd alice "$folder/home/aquota.user" >ready/form
-mv home ready/
-# prepare BLOCK: puts it in place for a block, with the file in the format from which the block converts.
-prepare() {
-    rm -rf home root
-    mkdir root
-    cp -rp ready/. .
-    case $(cat "$1") in
-        *vfsv0,vfsv1*)
-            quota_cli convertquota -u -f vfsv1,vfsv0 home/aquota.user home/older
-            mv home/older home/aquota.user
-            ;;
-        *vfsold,vfsv1*)
-            quota_cli convertquota -u -f vfsv1,vfsold home/aquota.user home/quota.user
-            rm home/aquota.user home/aquota.user.undo
-            ;;
-    esac
-}
-# done_as_shown BLOCK WHERE: carries the commands of a block out.
-done_as_shown() {
-    prepare "$1"
-    : >ended_badly
-    sed -e "s|/home|$folder/home|g" -e "s|/root|$folder/root|g" -e "s|/etc/passwd|$folder/passwd|g" \
-        -e 's/^\( *\)quota_cli /\1ended_well /' -e 's/\([(|] *\)quota_cli /\1ended_well /g' "$1" >words
-    (. ./words </dev/null >said 2>&1) || echo 'its last command failed' >>ended_badly
-    grep ' differ: ' said >>ended_badly || true
-    quota_cli repquota -u -v --names passwd home/aquota.user 2>&1 | awk '$1 == "alice" { print $4, $5, $8, $9 }' >got
-    cat ended_badly >>got
-    echo '102400 204800 1000 2000' >wanted
-    same "what comes of $(grep -m 1 'quota_cli\|flock' "$1") in $2"
-    shown=$((shown + 1))
-}
-rm -f block.*
-: >block.0
-blocks "$top/docs/COMMANDS.md" >pairs
-for block in block.*; do
-    number=${block#block.}
-    if grep -qE '^ *(quota_cli|flock) ' "$block" && ! grep -q rquotad "$block" && ! grep -qx "$number" pairs; then
-        done_as_shown "$block" docs/COMMANDS.md
-    fi
-done
-for page in "${pages[@]}"; do
-    awk '/^\.Sh / { on = /EXAMPLES/ } on && /^\.Bd / { first = 1; next } /^\.Ed/ { shown = 0 }
-        on && first { shown = !/^\$ /; first = 0 } on && shown' "$page" | sed -e 's/\\e/\\/g' >block
-    if [ -s block ]; then done_as_shown block "${page##*/}"; fi
-done
-# The commands in the text of COMING_FROM_QUOTA_TOOLS, each by itself, with some words in the place of those in capitals.
-page=COMING_FROM_QUOTA_TOOLS.md
-grep -o '`quota_cli [^`]* [^`]*`' "$top/docs/$page" | grep -v rquotad | tr -d '`' | sort -u >commands
-while IFS= read -r command; do
-    sed -E 's|\<FILE\>|/home/aquota.user|; s/\<(NAME|PROTO)\>/1000/g; s/\<[BI](GRACE|TIME)\>/604800/g' <<<"$command" >block
-    done_as_shown block "docs/$page"
-done <commands
-if [ "$shown" -lt 20 ]; then
-    failed=1
-    echo "FAILED: only $shown examples of the documents were found" >&2
-fi
-
+if ! "$top/tests/examples.sh"; then failed=1; fi
 if [ "$failed" = 0 ]; then echo 'manual: the pages and the documents show what the program does'; fi
 exit "$failed"

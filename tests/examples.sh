@@ -1,0 +1,535 @@
+#!/usr/bin/env bash
+# Goes through all that README.md and its neighbours, docs/*.md and the manual pages show: each display, and what in their text a
+# reader may type or the program says. Each is run, and what comes of it compared with what stands there; or it is looked at as
+# its rule below says. What no rule knows fails, by its file and line, so that nothing is shown that nobody tries. Ends with
+# status 1 where something differs.
+#
+# What cannot be run as it stands is run with these changes:
+# - /home, /root, /etc/passwd and /etc/group are folders and files of this test. In /home are a quota file of users and one of
+#   groups, in which alice has limits. A display of COMMANDS is run for groups, and with flat files, too, as that page says.
+# - quotaoff, quotaon, mount and `editor` are stand-ins, which look at their words.
+# - 8750 is a port that is free, and --calls says 2, or 1 in a loop, which ends once its file is taken away.
+# - `...` behind find stands for the words of the find of COMMANDS, and words in capitals for a file, a user, a number or `true`.
+set -Eeuo pipefail
+shopt -s inherit_errexit
+trap 'echo "examples: line $LINENO failed: $BASH_COMMAND" >&2' ERR
+top=$(cd "$(dirname "${BASH_SOURCE[0]}")/.." && pwd)
+client=$top/tests/serve_client.py
+folder=$(mktemp -d)
+trap 'rm -rf "$folder"' EXIT
+cd "$folder"
+failed=0
+tried=0
+# The place in which commands are carried out, and a port that is free.
+place=$folder/place
+port=$("$client" free)
+# The words of the find of COMMANDS, as sed takes them.
+listing=$(sed -nE 's/^find (.*) >.* &&$/\1/p' "$top/docs/COMMANDS.md" | sed 's/[\\&]/\\&/g')
+
+# wrong LINE WHAT: tells what is wrong at a line of the document.
+wrong() {
+    failed=1
+    echo "FAILED: $document:$1: $2" >&2
+}
+
+# same LINE WHAT [shown]: compares the files `got` and `wanted`. Where the latter is shown, it stands there from this line on.
+same() {
+    local at=$1 differs first
+    if ! differs=$(diff wanted got); then
+        first=${differs%%[!0-9]*}
+        if [ "${3-}" = shown ] && [ "$first" -gt 0 ]; then at=$((at + first - 1)); fi
+        wrong "$at" "$2"
+        printf '%s\n' "$differs" >&2
+    fi
+}
+
+# ---- What the documents show
+
+# units DOCUMENT: its displays, the outputs that stand right behind one, and of its text what has a blank in it between marks,
+# or is an option or a name of a file. Each goes to a file unit.N, and its line here has N, the line at which it begins, what it
+# is, the column of a table in which it stands, and the heading above it.
+units() {
+    rm -f unit.*
+    if [[ $1 == *.8 ]]; then
+        sed -e 's/\\e/\\/g' -e 's/\\&//g' "$top/$1" | awk "$unit"'
+            /^\.Bd / { inside = 1; from = NR + 1; text = ""; next }
+            /^\.Ed/ { unit(from, "display", text); inside = 0; next }
+            inside { text = text $0 "\n"; next }
+            /^\.Sh / { heading = substr($0, 5) }
+            /^\.(D1|Dl|nf|EX)/ { unit(NR, "unread", $0) }
+            /^\.Ql / || /^\.Cm [a-z]+ Fl / {
+                gsub(/^\.(Ql|Cm) |"| [.,;:)]+$/, "")
+                gsub(/ Fl /, " -")
+                if (/ /) unit(NR, "words", $0)
+            }'
+    else
+        awk "$unit"'
+            function between(line, text) {
+                gsub(/ +/, " ", text)
+                if (text ~ / |^-[[:alpha:]-]|^(bin|bench|docs|samples|tests|[.]ci)\//) unit(line, "words", text)
+            }
+            /^ *```/ && !inside { inside = 1; from = NR + 1; indent = index($0, "`"); text = ""; next }
+            /^ *```/ {
+                before = before == "display" ? "output" : before ~ /^<!-- .* by bin\/layers -->/ ? "drawn" : "display"
+                column = inside = 0
+                unit(from, before, text)
+                next
+            }
+            inside { text = text substr($0, indent) "\n"; next }
+            /^(~~~|    |\t|<pre)/ { unit(NR, "unread", $0) }
+            /^#/ { heading = $0; gsub(/^#+ |`/, "", heading) }
+            /^[|]/ || !/./ { open = 0 }
+            /./ {
+                before = rest = $0
+                column = 0
+                while (at = index(rest, "`")) {
+                    piece = substr(rest, 1, at - 1)
+                    rest = substr(rest, at + 1)
+                    if (open) {
+                        between(from, words piece)
+                    } else {
+                        column += gsub(/[|]/, "|", piece)
+                        from = NR
+                        words = ""
+                    }
+                    open = !open
+                }
+                words = words rest " "
+            }' "$top/$1"
+    fi
+}
+unit='function unit(line, kind, text) {
+    printf "%s", text >("unit." ++number)
+    close("unit." number)
+    print number, line, kind, column + 0, heading
+}'
+
+# ---- Where commands are carried out
+
+mkdir tools ready ready/home
+"$top/bin/quota_cli" --help >help
+ln -s "$top/crates/quota_program/out/quota_program" tools/built
+cat >tools/quota_cli <<'TOOL'
+#!/usr/bin/env bash
+# The built program, for 20 seconds at most. A status but 0 is noted.
+status=0
+timeout 20 "$FOLDER/tools/built" "$@" || status=$?
+if [ "$status" != 0 ]; then echo "status $status of: quota_cli $*" >>"$FOLDER/ended_badly"; fi
+exit "$status"
+TOOL
+cat >tools/quotaoff <<'TOOL'
+#!/usr/bin/env bash
+[ $# = 2 ] && [[ $1 == -[ug] ]] && [ -d "$2" ]
+TOOL
+cat >tools/mount <<'TOOL'
+#!/usr/bin/env bash
+[ $# = 3 ] && [ "$1 $2" = '-o remount,ro' ] && [ -d "$3" ]
+TOOL
+cat >tools/editor <<'TOOL'
+#!/usr/bin/env bash
+sed -i '3s/ 1024 2048 / 100M 200M /; 3s/ 3 4$/ 1k 2k/' "$1"
+TOOL
+cp tools/quotaoff tools/quotaon
+chmod +x tools/*
+export FOLDER=$folder PATH=$folder/tools:$PATH
+
+# Alice, number 1000, has some limits; those that the documents set are the ones of 1001, and of her in the lines of an input.
+echo 'alice:x:1000:1000::/home/alice:/bin/sh' >ready/passwd
+echo 'alice:x:1000:' >ready/group
+echo '1000 100M 200M 1k 2k' >ready/lines
+for kind in user group; do
+    echo '1000 1000 1 1 8' | quota_cli quotacheck -c "-${kind:0:1}" "ready/home/aquota.$kind"
+    printf '%s\n' '1000 1M 2M 3 4' '1001 100M 200M 1k 2k' | quota_cli setquota "-${kind:0:1}" -b "ready/home/aquota.$kind"
+done
+own='quota 1024 1 2048 1024 4 4 3 1 0 0'
+
+# prepare KIND: makes the place anew for the text at hand: for users or for groups, with the file in the format from which it
+# converts, or flat.
+prepare() {
+    local kind=${1/flat/user} file
+    rm -rf "$place"
+    cp -rp ready "$place"
+    mkdir "$place/root"
+    file=$place/home/aquota.$kind
+    options=("-${kind:0:1}" --names "$place/passwd")
+    if [ "$1" = group ]; then options[2]=$place/group; fi
+    case "$1 $text" in
+        flat*) as vfsold "$file" && options+=(-F vfsold) ;;
+        *vfsv0,vfsv1*) as vfsv0 "$file" ;;
+        *vfsold,*) as vfsold "$file" && mv "$file" "${file/aquota/quota}" ;;
+    esac
+    if [[ $text == *'--input form'* ]]; then
+        quota_cli edquota "${options[@]}" --print alice "$file" >"$place/form"
+        editor "$place/form"
+    fi
+}
+# as FORMAT FILE: converts a file of users or groups into a format.
+as() {
+    quota_cli convertquota "${options[0]}" -f "vfsv1,$1" "$2" "$2.other"
+    mv "$2.other" "$2"
+    rm "$2.undo"
+}
+
+# placed KIND: the text at hand as it is run in the place, for users or for groups, or with flat files.
+placed() {
+    sed -E -e "s|find (/home -xdev )?\.\.\.|find $listing|" -e 's|\<FILE\>|/home/aquota.user|g' -e 's/\<COMMAND\>/true/' \
+        -e 's/\<NAME\>/1000/; s/\<PROTO\>/1001/; s/\<[BI](GRACE|TIME)\>/604800/g' <<<"$text" |
+        case $1 in
+            group) sed -E 's/ -u / -g /g; s/passwd/group/g; s/\<(a?quota)\.user/\1.group/g' ;;
+            flat) sed '/quotao/!s/ -u / -u -F vfsold /g' ;;
+            *) cat ;;
+        esac |
+        sed -E -e 's|--export /home |--export @ |g' -e "s#/(home|root)\>#$place/\1#g" -e 's|--export @ |--export /home |g' \
+            -e "s#/etc/(passwd|group)\>#$place/\1#g" -e "s/\<8750\>/$port/g"
+}
+
+# ---- Rules for displays, and for commands in the text: each looks at the text at hand
+
+# carried_out: commands end well and complain of nothing, and alice has the limits then that they set. A command in the text
+# writes numbers alone, where it is none of the program.
+carried_out() {
+    local kinds=user kind flags=-uo status limits='1024 2048 3 4'
+    if [[ $document == docs/COMMANDS.md && $text == *quota_cli* ]]; then kinds='user group flat'; fi
+    if [[ $text == *convertquota* ]]; then kinds=${kinds% flat}; fi
+    if [ "$unit_kind" = display ]; then flags=-euo; fi
+    if grep -qE '100M 200M|--apply|setquota .*-[bp] |[$]name' <<<"$text"; then limits='102400 204800 1000 2000'; fi
+    echo "$text" >>shown
+    for kind in $kinds; do
+        prepare "$kind"
+        placed "$kind" >"$place/words"
+        : >ended_badly
+        : >wanted
+        if [[ $text == 'while read '* ]]; then
+            # It goes on behind a line that is refused.
+            sed -i '1i bob 1 2 3 4' "$place/lines"
+            printf '%s\n' "status 1 of: quota_cli setquota bob 1 2 3 4 $place/home/aquota.user" 'quota: unknown name bob' >wanted
+        fi
+        status=0
+        (cd "$place" && timeout 60 bash "$flags" pipefail words) </dev/null >said 2>faults || status=$?
+        {
+            cat ended_badly
+            grep -vxE 'quota: (block|inode) time not set, soft limit not exceeded' faults || true
+            if [ "$status" != 0 ]; then echo "status $status"; fi
+            quota_cli repquota -v "${options[@]}" "$place/home/aquota.${kind/flat/user}" 2>&1 |
+                awk '$1 == "alice" { print $4, $5, $8, $9 }'
+        } >got
+        echo "$limits" >>wanted
+        same "$line" "what comes of it, for $kind, is something else"
+        if [[ $text =~ ^(find\ /home\ -xdev\ -printf|head|stat|ulimit)\  ]] && ! grep -qxE '[0-9 ]+|unlimited' said; then
+            wrong "$line" 'it writes no numbers'
+        fi
+    done
+}
+
+# compared: what is written is the text behind the display.
+compared() {
+    printf '%s\n' "${text//8750/$port}" wait >words
+    cp "unit.$((number + 1))" wanted
+    (cd "$top" && timeout 60 bash -eu "$folder/words") </dev/null >got 2>&1 || true
+    same "$next_line" 'it writes something else' shown
+    cat got >>shown
+}
+
+# session: commands behind a dollar sign, which follow those before them in their page, write what stands behind each.
+session() {
+    local name=${document##*/} it
+    mkdir -p "of $name/tests"
+    ln -sf "$client" "of $name/tests/"
+    echo "${text//8750/$port}" >wanted
+    (
+        cd "of $name"
+        while IFS= read -r it; do
+            if [[ $it == '$ '* ]]; then
+                echo "$it"
+                eval "${it#'$ '}" </dev/null 2>&1 || true
+            fi
+        done <../wanted
+        wait
+    ) >got
+    same "$line" 'it writes something else' shown
+    cat got >>shown
+}
+
+# served: a call for each of two cases is answered, with the limits of alice, and then the command ends well.
+served() {
+    local case=typed second=2 ended
+    if [[ $text == *' group '* ]]; then
+        case=group
+        second=3
+    fi
+    prepare user
+    placed user | sed -E 's/--calls [0-9]+/--calls 2/' >"$place/words"
+    : >ended_badly
+    (cd "$place" && exec timeout 30 bash -eu words) </dev/null >said 2>&1 &
+    ended=$!
+    "$client" ask "$port" own "$case" >got 2>&1 || true
+    wait "$ended" || true
+    cat said ended_badly >>got
+    printf '%s\n' "1 $own" "$second $own" >wanted
+    same "$line" 'it answers something else'
+}
+
+# looped: each round reads the file anew, and the loop ends at the first fault.
+looped() {
+    local ended
+    prepare user
+    placed user | sed -E 's/--calls [0-9]+/--calls 1/' >"$place/words"
+    (cd "$place" && exec timeout 30 bash -eu words) </dev/null >said 2>&1 &
+    ended=$!
+    {
+        "$client" ask "$port" own || true
+        quota_cli setquota -u 1000 5M 6M 7 8 "$place/home/aquota.user"
+        # (the round that answers now may have begun before)
+        "$client" ask "$port" own >/dev/null || true
+        "$client" ask "$port" own || true
+        rm "$place/home/aquota.user"
+        "$client" ask "$port" own >/dev/null 2>&1 || true
+    } >got 2>&1
+    wait "$ended" || true
+    cat said >>got
+    printf '%s\n' "1 $own" '1 quota 1024 1 6144 5120 4 8 7 1 0 0' "quota: $place/home/aquota.user: no such file" >wanted
+    same "$line" 'it answers something else'
+}
+
+# unit_of_systemd: what it starts is served, and systemd has nothing to say about it, where it is there.
+unit_of_systemd() {
+    local whole=$text it
+    while IFS= read -r it; do
+        text=${it#*/usr/local/sbin/}
+        served
+    done < <(grep '^ExecStart=' <<<"$whole")
+    echo "${whole//'/usr/local/sbin'/$folder/tools}" >quota.service
+    : >wanted
+    : >got
+    if command -v systemd-analyze >/dev/null; then systemd-analyze verify ./quota.service >got 2>&1 || true; fi
+    same "$line" 'systemd does not take it'
+}
+
+# wrong_body: in a copy of the crate, in which the line that it breaks stands behind that of T, it can be applied.
+wrong_body() {
+    local old
+    rm -rf copy
+    mkdir -p copy/bench copy/crates/set_edit/wrong-bodies
+    cp "$top/bench/wrong_bodies.sh" copy/bench/
+    cp -r "$top/crates/set_edit/src" copy/crates/set_edit/
+    old=$(sed -n 's/^old: //p' <<<"$text")
+    sed -i "/(true, b'T') => /a $old" copy/crates/set_edit/src/number.rt
+    echo "$text" >copy/crates/set_edit/wrong-bodies/it.edit
+    echo 'wrong_bodies: 1 of 1 can be applied' >wanted
+    copy/bench/wrong_bodies.sh --look | sed '/^$/d' >got || true
+    same "$line" 'it cannot be applied'
+}
+
+# in_sources: the names in a picture stand in the sources.
+in_sources() {
+    if [ ! -e names ]; then cat "$top"/crates/*/src/*.rt | grep -oE '\w+' | sort -u >names; fi
+    grep -oE '\w+_\w+|[A-Z]\w+' <<<"$text" | sort -u | comm -23 - names >got
+    : >wanted
+    same "$line" 'no source has these names'
+}
+
+# quoted: each line is said by a run of this test, with any word in the place of one in capitals. It is looked for at the end.
+quoted() {
+    local it at=$line
+    while IFS= read -r it; do printf '%s\t%s\n' "$document:$((at++))" "$1$it" >>quotes; done <<<"$text"
+}
+
+# options_of COMMAND: the options in the text are those that the help has for this command, or for any where it is none; with
+# their values, where the text is nothing else.
+options_of() {
+    local it forms them
+    forms=$(awk -v name="$1" '/^(  )?[^ ]/ { on = $1 == name } on && match($0, /[^ ]/) < 25' help)
+    if [ -z "$forms" ]; then forms=$(cat help); fi
+    if [[ $text == -*' '* ]]; then
+        it=$(sed -E 's/\<vfs\w+,vfs\w+/OLD,NEW/g; s/\<vfs\w+/FORMAT/g; s|/etc/\w+|FILE|g' <<<"$text")
+        if ! grep -qF -- "$it" <<<"$forms"; then wrong "$line" "the help does not have $it"; fi
+        return
+    fi
+    read -ra them < <(grep -oE -- '(^| )--?\w+' <<<"$text" | sed -E ':a; s/(^| )-(\w)(\w)/\1-\2 -\3/; ta' | tr '\n' ' ')
+    for it in "${them[@]}"; do
+        if ! grep -qE -- "(^|[^-[:alnum:]])$it\>" <<<"$forms"; then wrong "$line" "the help of $1 does not have $it"; fi
+    done
+}
+
+# in_repository WORD..: the file is there, and the further words stand in it, unless they are in capitals or name a crate.
+in_repository() {
+    local it
+    if ! compgen -G "$top/$1" >/dev/null; then wrong "$line" "$1 is not there"; return; fi
+    for it in "${@:2}"; do
+        if [[ $it =~ [^A-Z] && ! -d $top/crates/$it ]] && ! grep -qwF -- "$it" "$top/$1"; then wrong "$line" "$1 does not know $it"; fi
+    done
+}
+
+# formatted PAGE: a manual page that is there, and that man writes where it is there, too.
+formatted() {
+    in_repository "$1"
+    if command -v man >/dev/null && ! man -l "$top/$1" 2>/dev/null | grep -q NAME; then wrong "$line" 'man does not write it'; fi
+}
+
+# known_to_rt WORD..: a command of rt, with its options.
+known_to_rt() {
+    local it
+    if ! command -v rt >/dev/null; then return; fi
+    if [ ! -e of_rt ]; then rt help >of_rt 2>&1 || true; fi
+    for it in "rt $1" "${@:2}"; do
+        if [[ $it == rt\ * || $it == -* ]] && ! grep -qF -- "$it" of_rt; then wrong "$line" "rt does not have $it"; fi
+    done
+}
+
+# display: the rule for the display at hand.
+display() {
+    if [ "$next_kind" = output ]; then
+        compared
+        return
+    fi
+    case $text in
+        '$ '*) session ;;
+        '[Unit]'*) unit_of_systemd ;;
+        'while quota_cli rquotad '*) looped ;;
+        'quota_cli rquotad '*) served ;;
+        'quota_cli '* | 'quotaoff '* | 'find '* | 'flock '*) carried_out ;;
+        'file: '*) wrong_body ;;
+        'words ──► '*) in_sources ;;
+        *)
+            case $document/$heading in
+                # what a script of bench/ printed
+                docs/MEASURED.md/bench/*.sh) in_repository "$heading" ;;
+                docs/quota_cli.8/'EXIT STATUS') quoted 'quota: ' ;;
+                *.8/*) quoted '' ;;
+                *) wrong "$line" 'no rule of tests/examples.sh knows this display' ;;
+            esac
+            ;;
+    esac
+}
+
+# words: the rule for the words at hand.
+words() {
+    local commands them
+    commands=$(grep -oE '^  [a-z]+' help | sort -u)
+    read -ra them <<<"$text"
+    if [ "$document $column" = 'docs/COMING_FROM_QUOTA_TOOLS.md 1' ]; then
+        theirs "${them[@]}"
+        return
+    fi
+    case $text in
+        'quota: '?* | 'quota_cli: '?*) quoted '' ;;
+        'quota_cli rquotad '*) served ;;
+        'quota_cli '* | 'find '* | 'flock '* | 'head '* | 'stat '* | 'ulimit '* | 'getent '* | 'set -'* | 'cp '* | 'mount '*) carried_out ;;
+        'while read '*) carried_out ;;
+        'man -l '*) formatted "${them[2]}" ;;
+        'rt '*) known_to_rt "${them[@]:1}" ;;
+        bin/* | bench/* | docs/* | samples/* | tests/* | .ci/*) in_repository "${them[@]}" ;;
+        -*' '*) options_of "$heading" ;;
+        -*) if [ "$column" -gt 1 ] && grep -qx "  ${heading#rpc.}" <<<"$commands"; then options_of "${heading#rpc.}"; fi ;;
+        # names of things, and code, which nobody types at a shell
+        'standard input' | 'standard output' | 'UDP port N' | 'line N: ' | 'quota: ' | ' of ID' | 'rattle-kit-'*) ;;
+        'struct '* | 'impl '* | 'pub use' | 'holds '* | '('*) ;;
+        *)
+            if grep -qx "  ${them[0]}" <<<"$commands"; then
+                options_of "${them[0]}"
+            elif [[ $document == *.8 ]]; then
+                quoted ''
+            else
+                wrong "$line" "no rule of tests/examples.sh knows these words: $text"
+            fi
+            ;;
+    esac
+}
+
+# theirs WORD..: of a command of the quota tools, which works on mounted file systems alone, the values stand in the row of ours.
+theirs() {
+    local it ours
+    ours=$(sed -n "${line}s/^|[^|]*|//p" "$top/$document")
+    for it in "${@:2}"; do
+        if [[ $it != -* && $it != /home && $ours != *"$it"* ]]; then wrong "$line" "$it stands in the first column alone"; fi
+    done
+}
+
+: >shown
+: >quotes
+cd "$top"
+documents=(*.md docs/*.*)
+cd "$folder"
+for document in "${documents[@]}"; do
+    units "$document" >list
+    mapfile -t list <list
+    for at in "${!list[@]}"; do
+        read -r number line unit_kind column heading <<<"${list[at]}"
+        read -r _ next_line next_kind _ <<<"${list[at + 1]-}"
+        text=$(cat "unit.$number")
+        tried=$((tried + 1))
+        case $unit_kind in
+            display) display ;;
+            words) words ;;
+            # (an output is looked at with its display, and the picture of the crates by bin/layers --check)
+            output | drawn) ;;
+            *) wrong "$line" 'tests/examples.sh does not read displays of this form' ;;
+        esac
+    done
+done
+
+# ---- What the program says
+
+# said: makes the program say what the documents quote of it, where no example does.
+said() {
+    local it
+    mkdir saying
+    cd saying
+    cp "$top/samples/aquota.user" q
+    quota_cli repquota none
+    truncate -s 41943080 large
+    quota_cli repquota -F vfsold large
+    seq 1048576 | awk '{ print $1 * 256 - 1, 0, 1, $1, 8 }' | quota_cli quotacheck -c made
+    quota_cli convertquota -f vfsv1,vfsv0 q q
+    quota_cli setquota bob 0 0 0 0 q
+    quota_cli setquota 1000 x 0 0 0 q
+    quota_cli $'\377'
+    quota_cli repquota large
+    quota_cli repquota -g q
+    quota_cli repquota -F vfsv0 q
+    # The version, the number of blocks, the identifier of an entry, and a file that ends too early.
+    for it in '4 \2' '20 \1' '2064 \11'; do
+        cp q other
+        printf '%b' "${it#* }" | dd of=other bs=1 seek="${it% *}" conv=notrunc status=none
+        quota_cli repquota other
+    done
+    head -c 4096 q >other
+    quota_cli repquota other
+    quota_cli repquota -F vfsold other
+    quota_cli repquota .
+    quota_cli setquota -b q <.
+    quota_cli repquota q >/dev/full
+    "$client" hold "$port" quota_cli rquotad --calls 1 --port "$port" --export /home user q
+    yes x | head -n 1000000 | (ulimit -v 40000 && exec "$folder/tools/built" script)
+    printf '\n\nx\n' | quota_cli setquota -b q
+    printf '\n\n7 x 0 0 0\n' | quota_cli setquota -b q
+    printf '\ncarol 0 0 0 0\n' >lines
+    printf '\n\n\n\n\n\nsetquota -b --input lines q\n' | quota_cli script
+    printf '\n\n\n%4097s\n' x | quota_cli script
+    printf '\377\n' | quota_cli script
+    yes '' | head -c 16777217 | quota_cli script
+    # What a terminal is told of a file that may not be read, which root always may.
+    mkdir home
+    chmod 755 "$folder" . home
+    install -m 000 q home/aquota.user
+    cp "$folder/tools/built" quota_cli
+    set -- ./quota_cli repquota "$PWD/home/aquota.user"
+    if [ "$(id -u)" = 0 ]; then set -- setpriv --reuid=65534 --regid=65534 --clear-groups "$@"; fi
+    "$top/tests/real_files/terminal.py" "$@" 2>&1 | sed "s|$PWD||" >&2
+}
+(said) </dev/null >/dev/null 2>>shown || true
+
+while IFS=$'\t' read -r it text; do
+    pattern=$(sed -E 's/[][\.*^$+?(){}|]/\\&/g; s/\<[A-Z]+\>/[^ ]+/g' <<<"$text")
+    if [[ $text == quota* ]]; then pattern="^$pattern\$"; fi
+    if ! grep -qE -- "$pattern" shown; then
+        document=${it%:*}
+        wrong "${it##*:}" "the program says this nowhere here: $text"
+    fi
+done <quotes
+if [ "$tried" -lt 300 ]; then
+    failed=1
+    echo "FAILED: only $tried displays and words of the documents were found" >&2
+fi
+if [ "$failed" = 0 ]; then echo "examples: the $tried displays and words of the documents are as they say"; fi
+exit "$failed"
