@@ -218,6 +218,9 @@ carried_out() {
         if [[ $text =~ ^(find\ /home\ -xdev\ -printf|head|stat|ulimit)\  ]] && ! grep -qxE '[0-9 ]+|unlimited' said; then
             wrong "$line" 'it writes no numbers'
         fi
+        if [[ $text == *' --version' && $(sed -n "${line}p" "$top/$document") =~ \ says\ ([0-9.]+[0-9]) ]]; then
+            grep -qF " ${BASH_REMATCH[1]} " said || wrong "$line" "it says $(cat said)"
+        fi
     done
 }
 
@@ -291,18 +294,15 @@ looped() {
     same "$line" 'it answers something else'
 }
 
-# unit_of_systemd: what it starts is served, and systemd has nothing to say about it, where it is there.
+# unit_of_systemd: what it starts is a loop, and systemd has nothing to say about it, where it is there.
 unit_of_systemd() {
-    local whole=$text it
-    while IFS= read -r it; do
-        text=${it#*/usr/local/sbin/}
-        served
-    done < <(grep '^ExecStart=' <<<"$whole")
-    echo "${whole//'/usr/local/sbin'/$folder/tools}" >quota.service
+    echo "${text//'/usr/local/sbin'/$folder/tools}" >quota.service
     : >wanted
     : >got
     if command -v systemd-analyze >/dev/null; then systemd-analyze verify ./quota.service >got 2>&1 || true; fi
     same "$line" 'systemd does not take it'
+    text=$(sed -n "s|/usr/local/sbin/||; s/^ExecStart=.* -c '\(.*\)'$/\1/p" <<<"$text")
+    looped
 }
 
 # wrong_body: in a copy of the crate, in which the line that it breaks stands behind that of T, it can be applied.
@@ -345,9 +345,9 @@ options_of() {
         if ! grep -qF -- "$it" <<<"$forms"; then wrong "$line" "the help does not have $it"; fi
         return
     fi
-    read -ra them < <(grep -oE -- '(^| )--?\w+' <<<"$text" | sed -E ':a; s/(^| )-(\w)(\w)/\1-\2 -\3/; ta' | tr '\n' ' ')
+    read -ra them <<<"$text"
     for it in "${them[@]}"; do
-        if ! grep -qE -- "(^|[^-[:alnum:]])$it\>" <<<"$forms"; then wrong "$line" "the help of $1 does not have $it"; fi
+        if [[ $it == -* ]] && ! grep -qE -- "(^|[^-[:alnum:]])$it\>" <<<"$forms"; then wrong "$line" "the help of $1 does not have $it"; fi
     done
 }
 
@@ -366,11 +366,11 @@ formatted() {
     if command -v man >/dev/null && ! man -l "$top/$1" 2>/dev/null | grep -q NAME; then wrong "$line" 'man does not write it'; fi
 }
 
-# known_to_rt WORD..: a command of rt, with its options.
+# known_to_rt WORD..: a command of rt with its options, as its help or the page that it names has them.
 known_to_rt() {
     local it
     if ! command -v rt >/dev/null; then return; fi
-    if [ ! -e of_rt ]; then rt help >of_rt 2>&1 || true; fi
+    if [ ! -e of_rt ]; then { rt help || true; cat "$(rt doc)"; } >of_rt 2>&1; fi
     for it in "rt $1" "${@:2}"; do
         if [[ $it == rt\ * || $it == -* ]] && ! grep -qF -- "$it" of_rt; then wrong "$line" "rt does not have $it"; fi
     done
@@ -414,7 +414,7 @@ words() {
     case $text in
         'quota: '?* | 'quota_cli: '?*) quoted '' ;;
         'quota_cli rquotad '*) served ;;
-        'quota_cli '* | 'find '* | 'flock '* | 'head '* | 'stat '* | 'ulimit '* | 'getent '* | 'set -'* | 'cp '* | 'mount '*) carried_out ;;
+        'quota_cli '* | 'find '* | 'flock '* | 'head '* | 'stat '* | 'ulimit '* | 'getent '* | 'set -'* | 'cp '* | 'mount '* | 'sort '*) carried_out ;;
         'while read '*) carried_out ;;
         'man -l '*) formatted "${them[2]}" ;;
         'rt '*) known_to_rt "${them[@]:1}" ;;
