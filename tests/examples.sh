@@ -305,19 +305,27 @@ unit_of_systemd() {
     looped
 }
 
-# wrong_body: in a copy of the crate, in which the line that it breaks stands behind that of T, it can be applied.
+# wrong_body: it can be applied in a copy of the crate, in which the line of the text stands behind that of T.
 wrong_body() {
-    local old
+    local body
     rm -rf copy
     mkdir -p copy/bench copy/crates/set_edit/wrong-bodies
     cp "$top/bench/wrong_bodies.sh" copy/bench/
     cp -r "$top/crates/set_edit/src" copy/crates/set_edit/
-    old=$(sed -n 's/^old: //p' <<<"$text")
-    sed -i "/(true, b'T') => /a $old" copy/crates/set_edit/src/number.rt
+    body=$(sed -n 's/.*`\((true, [^`]*\)`.*/\1/p' "$top/$document")
+    sed -i "/(true, b'T') => /a $body" copy/crates/set_edit/src/number.rt
     echo "$text" >copy/crates/set_edit/wrong-bodies/it.edit
     echo 'wrong_bodies: 1 of 1 can be applied' >wanted
     copy/bench/wrong_bodies.sh --look | sed '/^$/d' >got || true
     same "$line" 'it cannot be applied'
+}
+
+# row: the number of a limit in P, so many times 2^40, is that of a row of tests.
+row() {
+    local form='^\("([0-9]+)P", Some\(([0-9_]+)\)\)$'
+    if [[ $text =~ $form && $(printf '%u' $((BASH_REMATCH[1] << 40))) != "${BASH_REMATCH[2]//_/}" ]]; then
+        wrong "$line" 'it is another number'
+    fi
 }
 
 # in_sources: the names in a picture stand in the sources.
@@ -423,6 +431,7 @@ words() {
         -*) if [ "$column" -gt 1 ] && grep -qx "  ${heading#rpc.}" <<<"$commands"; then options_of "${heading#rpc.}"; fi ;;
         # names of things, and code, which nobody types at a shell
         'standard input' | 'standard output' | 'UDP port N' | 'line N: ' | 'quota: ' | ' of ID' | 'rattle-kit-'*) ;;
+        '("'*) row ;;
         'struct '* | 'impl '* | 'pub use' | 'holds '* | '('*) ;;
         *)
             if grep -qx "  ${them[0]}" <<<"$commands"; then
