@@ -52,9 +52,9 @@ mkdir "$folder/tools"
 cat >"$folder/tools/rt" <<'RT'
 #!/usr/bin/env bash
 crate=${PWD##*/}
-echo "$1 $crate" >>"$FOLDER/said"
 mkdir -p out/rlib
 touch out/kept
+echo "$1 $crate" >>"$FOLDER/said"
 if [ -e "$FOLDER/slow" ]; then
     trap 'exit 143' TERM
     sleep "$(cat "$FOLDER/slow")" & wait $!
