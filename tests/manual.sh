@@ -99,6 +99,17 @@ sed -nE '/^\.Sh SYNOPSIS/,/^\.Sh DESCRIPTION/{
 }' "${pages[@]}" | tr '\n' ' ' | tr '@' '\n' | sed 's/ *$//; /^$/d' | sort >got
 same 'the forms of the commands in the pages'
 
+# What the help shows: the words of a find, which the page of quotacheck has, and names of pages.
+grep -oE "[-]printf '[^']+'" help >wanted
+sed 's/\\e/\\/g' "$top/docs/quota_cli-quotacheck.8" | grep -oE "[-]printf '[^']+'" | sort -u >got
+same 'the find of the help'
+for name in $(grep -oE '\<man quota_cli[-a-z]*' help | cut -d ' ' -f 2 || true); do
+    if [ ! -e "$top/docs/$name.8" ]; then
+        failed=1
+        echo "FAILED: the help names $name, which is no page" >&2
+    fi
+done
+
 # The error lines of quota_cli.8 are those of COMMANDS, but that the latter has one row for a damage with and without an
 # identifier.
 awk '/^\.Sh / { on = /EXIT STATUS/ } on && /^\.Bd / { shown = 1; next } /^\.Ed/ { shown = 0 } on && shown' \

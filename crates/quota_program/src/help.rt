@@ -61,10 +61,10 @@ that is read in place of standard input. --device NUMBER counts one device.
 Exit status: 0 done, 1 refused, 2 wrong words, 3 not a quota file that is asked
 for, or a damaged one, 4 a fault of the system, 5 want of memory.
 
-The manual pages are the reference: man quota_cli, and for a command with a page
-of its own man quota_cli-setquota and its like. In the program's repository they
-stand in docs/, beside FORMATS.md, which has the bytes of quota files, and
-PROMISES.md, which has what is proved.
+The manual pages are the reference: man quota_cli, and for a command with a
+page of its own man quota_cli-setquota and its like. In the program's
+repository they stand in docs/, beside FORMATS.md, which has the bytes of quota
+files, and PROMISES.md, which has what is proved.
 ";
 
 /// What `--version` writes.
