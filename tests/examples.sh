@@ -272,6 +272,9 @@ served() {
     same "$line" 'it answers something else'
 }
 
+# asked: the answer to a call, which is made once more where it is lost between two rounds.
+asked() { "$client" ask "$port" own || "$client" ask "$port" own || true; }
+
 # looped: each round reads the file anew, and the loop ends at the first fault.
 looped() {
     local ended
@@ -280,14 +283,14 @@ looped() {
     (cd "$place" && exec timeout 30 bash -eu words) </dev/null >said 2>&1 &
     ended=$!
     {
-        "$client" ask "$port" own || true
+        asked
         quota_cli setquota -u 1000 5M 6M 7 8 "$place/home/aquota.user"
         # (the round that answers now may have begun before)
-        "$client" ask "$port" own >/dev/null || true
-        "$client" ask "$port" own || true
+        asked >/dev/null
+        asked
         rm "$place/home/aquota.user"
-        "$client" ask "$port" own >/dev/null 2>&1 || true
-    } >got 2>&1
+        "$client" ask "$port" own >/dev/null || true
+    } >got 2>/dev/null
     wait "$ended" || true
     cat said >>got
     printf '%s\n' "1 $own" '1 quota 1024 1 6144 5120 4 8 7 1 0 0' "quota: $place/home/aquota.user: no such file" >wanted
@@ -312,7 +315,7 @@ wrong_body() {
     mkdir -p copy/bench copy/crates/set_edit/wrong-bodies
     cp "$top/bench/wrong_bodies.sh" copy/bench/
     cp -r "$top/crates/set_edit/src" copy/crates/set_edit/
-    body=$(sed -n 's/.*`\((true, [^`]*\)`.*/\1/p' "$top/$document")
+    body=$(grep -h '^(true, ' unit.*)
     sed -i "/(true, b'T') => /a $body" copy/crates/set_edit/src/number.rt
     echo "$text" >copy/crates/set_edit/wrong-bodies/it.edit
     echo 'wrong_bodies: 1 of 1 can be applied' >wanted
@@ -536,6 +539,9 @@ while IFS=$'\t' read -r it text; do
         wrong "${it##*:}" "the program says this nowhere here: $text"
     fi
 done <quotes
+for it in man rt systemd-analyze; do
+    if ! command -v "$it" >/dev/null; then echo "examples: $it is not there: what it says is not looked at" >&2; fi
+done
 if [ "$tried" -lt 300 ]; then
     failed=1
     echo "FAILED: only $tried displays and words of the documents were found" >&2
