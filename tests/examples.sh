@@ -12,7 +12,7 @@
 # - `...` behind find stands for the words of the find of COMMANDS, and words in capitals for a file, a user, a number or `true`.
 set -Eeuo pipefail
 shopt -s inherit_errexit
-trap 'echo "examples: line $LINENO failed: $BASH_COMMAND" >&2' ERR
+trap 'echo "examples: line $LINENO failed at ${document-}:${line-}: $BASH_COMMAND" >&2' ERR
 top=$(cd "$(dirname "${BASH_SOURCE[0]}")/.." && pwd)
 client=$top/tests/serve_client.py
 folder=$(mktemp -d)
@@ -108,7 +108,6 @@ unit='function unit(line, kind, text) {
 
 mkdir tools ready ready/home
 "$top/bin/quota_cli" --help >help
-ln -s "$top/crates/quota_program/out/quota_program" tools/built
 cat >tools/quota_cli <<'TOOL'
 #!/usr/bin/env bash
 # The built program, for 20 seconds at most. A status but 0 is noted.
@@ -131,6 +130,7 @@ sed -i '3s/ 1024 2048 / 100M 200M /; 3s/ 3 4$/ 1k 2k/' "$1"
 TOOL
 cp tools/quotaoff tools/quotaon
 chmod +x tools/*
+ln -s "$top/crates/quota_program/out/quota_program" tools/built
 export FOLDER=$folder PATH=$folder/tools:$PATH
 
 # Alice, number 1000, has some limits; those that the documents set are the ones of 1001, and of her in the lines of an input.
@@ -315,7 +315,7 @@ wrong_body() {
     mkdir -p copy/bench copy/crates/set_edit/wrong-bodies
     cp "$top/bench/wrong_bodies.sh" copy/bench/
     cp -r "$top/crates/set_edit/src" copy/crates/set_edit/
-    body=$(grep -h '^(true, ' unit.*)
+    body=$(grep -h '^(true, ' unit.* || true)
     sed -i "/(true, b'T') => /a $body" copy/crates/set_edit/src/number.rt
     echo "$text" >copy/crates/set_edit/wrong-bodies/it.edit
     echo 'wrong_bodies: 1 of 1 can be applied' >wanted
@@ -358,23 +358,32 @@ options_of() {
     fi
     read -ra them <<<"$text"
     for it in "${them[@]}"; do
-        if [[ $it == -* ]] && ! grep -qE -- "(^|[^-[:alnum:]])$it\>" <<<"$forms"; then wrong "$line" "the help of $1 does not have $it"; fi
+        if [[ $it == -* ]] && ! grep -qE -- "(^|[^-[:alnum:]])$it\>" <<<"$forms"; then
+            wrong "$line" "the help does not have $it of $1"
+        fi
     done
 }
 
 # in_repository WORD..: the file is there, and the further words stand in it, unless they are in capitals or name a crate.
 in_repository() {
     local it
-    if ! compgen -G "$top/$1" >/dev/null; then wrong "$line" "$1 is not there"; return; fi
+    if ! compgen -G "$top/$1" >/dev/null; then
+        wrong "$line" "$1 is not there"
+        return
+    fi
     for it in "${@:2}"; do
-        if [[ $it =~ [^A-Z] && ! -d $top/crates/$it ]] && ! grep -qwF -- "$it" "$top/$1"; then wrong "$line" "$1 does not know $it"; fi
+        if [[ $it =~ [^A-Z] && ! -d $top/crates/$it ]] && ! grep -qwF -- "$it" "$top/$1"; then
+            wrong "$line" "$1 does not know $it"
+        fi
     done
 }
 
 # formatted PAGE: a manual page that is there, and that man writes where it is there, too.
 formatted() {
     in_repository "$1"
-    if command -v man >/dev/null && ! man -l "$top/$1" 2>/dev/null | grep -q NAME; then wrong "$line" 'man does not write it'; fi
+    if command -v man >/dev/null && ! man -l "$top/$1" 2>/dev/null | grep NAME >/dev/null; then
+        wrong "$line" 'man does not write it'
+    fi
 }
 
 # known_to_rt WORD..: a command of rt with its options, as its help or the page that it names has them.
@@ -425,13 +434,16 @@ words() {
     case $text in
         'quota: '?* | 'quota_cli: '?*) quoted '' ;;
         'quota_cli rquotad '*) served ;;
-        'quota_cli '* | 'find '* | 'flock '* | 'head '* | 'stat '* | 'ulimit '* | 'getent '* | 'set -'* | 'cp '* | 'mount '* | 'sort '*) carried_out ;;
-        'while read '*) carried_out ;;
+        'quota_cli '* | 'while read '* | 'find '* | 'flock '* | 'mount '* | 'cp '*) carried_out ;;
+        'getent '* | 'head '* | 'set -'* | 'sort '* | 'stat '* | 'ulimit '*) carried_out ;;
         'man -l '*) formatted "${them[2]}" ;;
         'rt '*) known_to_rt "${them[@]:1}" ;;
         bin/* | bench/* | docs/* | samples/* | tests/* | .ci/*) in_repository "${them[@]}" ;;
-        -*' '*) options_of "$heading" ;;
-        -*) if [ "$column" -gt 1 ] && grep -qx "  ${heading#rpc.}" <<<"$commands"; then options_of "${heading#rpc.}"; fi ;;
+        -*' '*) options_of "${heading#rpc.}" ;;
+        -*)
+            # (one that stands alone may be another program's, but for the tables of our commands)
+            if [ "$column" -gt 1 ] && grep -qx "  ${heading#rpc.}" <<<"$commands"; then options_of "${heading#rpc.}"; fi
+            ;;
         # names of things, and code, which nobody types at a shell
         'standard input' | 'standard output' | 'UDP port N' | 'line N: ' | 'quota: ' | ' of ID' | 'rattle-kit-'*) ;;
         '("'*) row ;;
