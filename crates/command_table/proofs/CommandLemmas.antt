@@ -154,7 +154,7 @@ read_carried table command asked invocation tells old new result is carried =
       carries = carries_more _ _ _ _ tells old new result (λ cause said may. inr may) carried.carries;
       named = carried.named;
       edited = carried.edited;
-      within = record { alone = carried.within.alone; few = carried.within.few };
+      within = record { alone = carried.within.alone; anew = carried.within.anew; few = carried.within.few };
       reads = carried.reads;
       made = carried.made;
       synced = carried.synced;
@@ -191,7 +191,11 @@ not_read table (Ok command) invocation tells old NoMemory is = record {
   carries = nothing_carried ((table command).steps invocation) _ _ tells old (usage_refusal NoMemory) (λ is. cc) tt (inl refl) (record { line = λ no. refl; input_line = λ no. refl });
   named = holds_of_one (table command).replaces _ (λ file told. refl);
   edited = holds_of_one (table command).edits _ (λ file told other. inl refl);
-  within = record { alone = holds_of_one (table command).alone _ (λ file other differ. refl); few = most_same (table command).most_writes old.store.writes };
+  within = record {
+    alone = holds_of_one (table command).alone _ (λ file other differ. refl);
+    anew = holds_of_one (table command).anew _ (λ file other differ differs. refl);
+    few = most_same (table command).most_writes old.store.writes;
+  };
   reads = tt;
   made = tt;
   synced = λ told. syncs-none old.store;
@@ -206,7 +210,7 @@ not_read table (Err refusal) invocation tells old (UsageOf kind word) is =
       carries = stop_carried _ (refused (usage_refusal (UsageOf kind word))).may tells old (usage_refusal (UsageOf kind word)) (λ is. cc) (λ stated fact. fact) refl (record { line = λ no. refl; input_line = λ no. refl });
       named = tt;
       edited = tt;
-      within = record { alone = tt; few = tt };
+      within = record { alone = tt; anew = tt; few = tt };
       reads = tt;
       made = tt;
       synced = λ told. syncs-none old.store;
@@ -223,7 +227,7 @@ not_here_carried invocation tells old = record {
   carries = stop_carried not_here.uses not_here.may tells old unknown_command (λ is. cc) (λ stated fact. fact) refl (record { line = λ no. refl; input_line = λ no. refl });
   named = tt;
   edited = tt;
-  within = record { alone = tt; few = tt };
+  within = record { alone = tt; anew = tt; few = tt };
   reads = tt;
   made = tt;
   synced = λ told. syncs-none old.store;

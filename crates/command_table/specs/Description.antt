@@ -2,6 +2,7 @@
 use Rattle.std.specs.Prelude.{◌≡◌, ◌≢◌, ◌≤◌, ◌⊎◌, ◌+◌, ℕ, Bool, false, None, IsTrue, IfErr, IfSome, OnErr, OnOk, List, Option, Result, is_ok}
 use Rattle.std.specs.Result.{result_err}
 use Rattle.quota_blocks.specs.Frame.{Syncs}
+use Rattle.quota_blocks.specs.Replacement.{ReplacesOnly}
 use Rattle.quota_blocks.specs.Seen.{StoreSeen}
 use Rattle.quota_blocks.specs.World.{KeepsOthers, World}
 use Rattle.refusals.specs.declared.cause.Cause.{Cause}
@@ -37,6 +38,8 @@ pub record Description : Type 1 where
   pub edits : Option (List ℕ)
   -- the only file that it changes, and the only one that it writes, however it ends
   pub alone : Option (List ℕ)
+  -- the only file that it makes anew, however it ends: no other one changes but the one with `.new` added to its name
+  pub anew : Option (List ℕ)
   -- how many calls of `write` to the store it makes at most, however it ends, where that rests on nothing but its words
   pub most_writes : Option ℕ
   -- how many calls of `read` to the store it makes at most where it was done, by what was outside, where that is said
@@ -72,10 +75,11 @@ abbrev pub IsLeftByEdit : (status : ℕ) (old new : World) → List ℕ → Type
 IsLeftByEdit status old new file =
     status ≢ 0 → (new file ≡ old file) ⊎ ((status ≡ 4) × ((value : QuotaValue) × MayBeLeft value (old file) (new file)))
 
--- However a command ended, and whatever is told, no other file has changed than the only one that it changes, and there were no more
--- calls of `write` to the store than it makes.
+-- However a command ended, and whatever is told, no other file has changed than the only one that it changes, or than the only one that
+-- it makes anew and the one with `.new` added to that name, and there were no more calls of `write` to the store than it makes.
 pub record ChangesWithin (command : Description) (old new : StoreSeen) : Type 0 where
   pub alone : IfSome command.alone (λ (file : List ℕ). KeepsOthers file old.files new.files)
+  pub anew : IfSome command.anew (λ (file : List ℕ). ReplacesOnly file old.files new.files)
   pub few : IfSome command.most_writes (λ (most : ℕ). new.writes ≤ old.writes + most)
 
 -- A command was carried out but for its error line. Where it was refused, for whichever cause, a file that it replaces as a whole

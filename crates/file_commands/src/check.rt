@@ -1,5 +1,6 @@
 ghost use Rattle.std.specs.Prelude.{ℕ, Option, ◌≡◌, ◌⊎◌, Bool, IsSome, IsTrue, OnErr, OnOk, false, is_ok};
 ghost use Rattle.quota_blocks.specs.Frame.{Syncs};
+ghost use Rattle.quota_blocks.specs.Replacement.{ReplacesOnly};
 ghost use Rattle.quota_blocks.specs.Seen.{LinkSeen, SinkSeen, SourceSeen};
 ghost use Rattle.quota_map.specs.View.{IsOpenedAs};
 ghost use Rattle.run_steps.specs.Done.{seen_of, tells_of};
@@ -48,6 +49,8 @@ pub fn check_file<S: Store, I: Source>(
         (S.seen store.old).files (S.seen store.new).files) }
     // Where it was refused, for whichever cause, the file is as it was.
     ensures named { OnErr result ((S.seen store.new).files file ≡ (S.seen store.old).files file) }
+    // However it ended, no other file has changed but the one under whose name the new one is written first.
+    ensures others { ReplacesOnly file (S.seen store.old).files (S.seen store.new).files }
     // What was written has been synced where it was done, and where it was not too, unless a call on the store failed.
     ensures synced { IsTrue S.tells → Syncs (is_ok result) (S.seen store.old) (S.seen store.new) }
     ensures untouched { IsSome from → input.new ≡ input.old }
@@ -83,6 +86,7 @@ fn check_opened<S: Store, I: Source>(
     ensures anew { OnOk result (IsTrue S.tells → IsMadeAnew kind (IsOpenedAs format) file
         (S.seen store.old).files (S.seen store.new).files) }
     ensures named { OnErr result ((S.seen store.new).files file ≡ (S.seen store.old).files file) }
+    ensures others { ReplacesOnly file (S.seen store.old).files (S.seen store.new).files }
     ensures synced { IsTrue S.tells → Syncs (is_ok result) (S.seen store.old) (S.seen store.new) }
     ensures untouched { IsSome from → input.new ≡ input.old }
     ensures keeps { I.keeps false input.old input.new }
@@ -117,6 +121,7 @@ fn check_value<S: Store, I: Source>(
     ensures anew { OnOk result (IsTrue S.tells → IsMadeAnew value.kind (λ format. format ≡ value.format) file
         (S.seen store.old).files (S.seen store.new).files) }
     ensures named { OnErr result ((S.seen store.new).files file ≡ (S.seen store.old).files file) }
+    ensures others { ReplacesOnly file (S.seen store.old).files (S.seen store.new).files }
     ensures synced { IsTrue S.tells → Syncs (is_ok result) (S.seen store.old) (S.seen store.new) }
     ensures untouched { IsSome from → input.new ≡ input.old }
     ensures keeps { I.keeps false input.old input.new }
@@ -146,6 +151,7 @@ fn replace_usage<S: Store>(
     ensures anew { OnOk result (IsTrue S.tells → IsMadeAnew value.kind (λ format. format ≡ value.format) file
         (S.seen store.old).files (S.seen store.new).files) }
     ensures named { OnErr result ((S.seen store.new).files file ≡ (S.seen store.old).files file) }
+    ensures others { ReplacesOnly file (S.seen store.old).files (S.seen store.new).files }
     ensures synced { IsTrue S.tells → Syncs (is_ok result) (S.seen store.old) (S.seen store.new) }
 {
     match apply(

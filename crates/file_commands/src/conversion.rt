@@ -1,6 +1,6 @@
 ghost use Rattle.std.specs.Prelude.{◌≡◌, ◌≢◌, Bool, IsTrue, OnErr, OnOk, false, is_ok};
 ghost use Rattle.quota_blocks.specs.Frame.{Syncs};
-ghost use Rattle.quota_blocks.specs.Replacement.{replacement_name};
+ghost use Rattle.quota_blocks.specs.Replacement.{ReplacesOnly, replacement_name};
 ghost use Rattle.quota_blocks.specs.Seen.{LinkSeen, SinkSeen, SourceSeen};
 ghost use Rattle.run_steps.specs.Changing.{edit_uses};
 ghost use Rattle.run_steps.specs.Done.{seen_of, tells_of};
@@ -46,6 +46,8 @@ pub fn convert_file<S: Store>(
     ensures named { OnErr result ((S.seen store.new).files target ≡ (S.seen store.old).files target) }
     // The file that is converted is as it was in every case.
     ensures source { (S.seen store.new).files source ≡ (S.seen store.old).files source }
+    // However it ended, no other file has changed but the one under whose name the new one is written first.
+    ensures others { ReplacesOnly target (S.seen store.old).files (S.seen store.new).files }
     // What was written has been synced where it was done, and where it was not too, unless a call on the store failed.
     ensures synced { IsTrue S.tells → Syncs (is_ok result) (S.seen store.old) (S.seen store.new) }
 {

@@ -7,6 +7,7 @@ ghost use Rattle.quota_blocks.specs.Count.{Rose};
 ghost use Rattle.quota_blocks.specs.Frame.{Syncs};
 ghost use Rattle.quota_blocks.specs.Listed.{ids_of, records_of};
 ghost use Rattle.quota_blocks.specs.QuotaValue.{QuotaValue};
+ghost use Rattle.quota_blocks.specs.Replacement.{ReplacesOnly};
 ghost use Rattle.quota_blocks.specs.Seen.{LinkSeen, SinkSeen, SourceSeen};
 ghost use Rattle.quota_map.specs.View.{IsView, most_blocks};
 ghost use Rattle.refusals.specs.Refusals.{nowhere};
@@ -60,6 +61,8 @@ pub fn generate_file<S: Store, O: Sink>(
         (tells_of S.tells input_tells O.tells err_tells link_tells)
         (seen_of (S.seen store.old) input (O.seen out.old) err link)
         (seen_of (S.seen store.new) input (O.seen out.new) err link) result }
+    // However it ended, no other file has changed but the one under whose name the new one is written first.
+    ensures others { ReplacesOnly file (S.seen store.old).files (S.seen store.new).files }
     // What was written has been synced where it was done, and where it was not too, unless a call on the store failed.
     ensures synced { IsTrue S.tells → Syncs (is_ok result) (S.seen store.old) (S.seen store.new) }
 {
@@ -118,6 +121,7 @@ fn write_made<S: Store, O: Sink>(
         (tells_of S.tells input_tells O.tells err_tells link_tells)
         (seen_of (S.seen store.old) input (O.seen out.old) err link)
         (seen_of (S.seen store.new) input (O.seen out.new) err link) result }
+    ensures others { ReplacesOnly file (S.seen store.old).files (S.seen store.new).files }
     ensures synced { IsTrue S.tells → Syncs (is_ok result) (S.seen store.old) (S.seen store.new) }
 {
     match replace_file(
@@ -154,6 +158,7 @@ fn tell_made<S: Store, O: Sink>(
         (tells_of S.tells input_tells O.tells err_tells link_tells)
         (seen_of (S.seen store.old) input (O.seen out.old) err link)
         (seen_of (S.seen store.new) input (O.seen out.new) err link) result }
+    ensures unwritten { IsUnwritten (S.seen store.old) (S.seen store.new) }
     ensures synced { Syncs (is_ok result) (S.seen store.old) (S.seen store.new) }
 {
     let Ok(name) = Word::copy_of(alloc, file.as_str()) else {

@@ -338,7 +338,7 @@ run_keeps setting tells old new said result status carried stands finished usage
   named = run_named (asked setting).replaces (λ (file : List ℕ). IsTrue tells.store → new.store.files file ≡ old.store.files file) result status finished.status_is carried.named;
   edited = run_edited (asked setting).edits (λ (s : ℕ) (file : List ℕ). IsTrue tells.store → IsLeftByEdit s old.store.files new.store.files file) result status finished.status_is
       (λ file told other. absurd (other refl)) carried.edited;
-  within = record { alone = carried.within.alone; few = carried.within.few };
+  within = record { alone = carried.within.alone; anew = carried.within.anew; few = carried.within.few };
   reads = run_held (IsWorldTold tells → ReadsWithin ((asked setting).most_reads (outside_of old)) old.store new.store) result status finished.status_is carried.reads;
   made = run_held (IsTrue tells.store → (asked setting).made setting.invocation (outside_of old) new.store.files) result status finished.status_is carried.made;
   synced = λ so told. run_synced result status old.store new.store finished.status_is (carried.synced told) so;

@@ -156,9 +156,10 @@ pub record Keeps (setting : Setting) (tells : RunTells) (old new : RunSeen) (sta
   -- leave it. With status 0 nothing is said here.
   pub edited : IfSome (asked setting).edits (λ (file : List ℕ). IsTrue tells.store
       → IsLeftByEdit status old.store.files new.store.files file)
-  -- Whatever is told, and with any status, no other file has changed than the only one that the command changes, and there were no more
-  -- calls of `write` to the store than it makes: twelve at most where it edits a file once. What many edits add up to is said of the acts
-  -- in `part`: twelve for each one that was done, and twelve for the one at hand.
+  -- Whatever is told, and with any status, no other file has changed than the only one that the command changes, or than the only one
+  -- that it makes anew and the one with `.new` added to that name. There were no more calls of `write` to the store than it makes: twelve
+  -- at most where it edits a file once. What many edits add up to is said of the acts in `part`: twelve for each one that was done, and
+  -- twelve for the one at hand.
   pub within : ChangesWithin (asked setting) old.store new.store
   -- With status 0 there were no more calls of `read` to the store than the command makes, where that is said: of `rquotad` those of
   -- opening each file, and five for each datagram; of `setquota -b` without a file of names and out of the standard input those of

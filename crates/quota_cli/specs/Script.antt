@@ -154,6 +154,7 @@ scripting = record {
   replaces = None;
   edits = None;
   alone = None;
+  anew = None;
   most_writes = None;
   most_reads = λ (old : Outside). None;
   made = λ (invocation : Invocation) (old : Outside) (files : World). ⊤;
