@@ -23,7 +23,7 @@ use Rattle.refusals.specs.declared.cause.Cause.TheVariants.{StoreFault, SourceFa
 use Rattle.refusals.specs.declared.reason.Refusal.{Refusal}
 use Rattle.refusals.specs.Outcome.{Outcome, Passed, Refused}
 use Rattle.refusals.specs.Refusals.{refusal_of}
-use Rattle.run_steps.specs.Act.{Act}
+use Rattle.run_steps.specs.Act.{Act, Together}
 use Rattle.run_steps.specs.Done.{Outside, RunSeen, RunTells, outside_of}
 use Rattle.run_steps.specs.Meaning.{EndsBy}
 use Rattle.run_steps.specs.Opening.{MayRefuseOpening}
@@ -72,16 +72,16 @@ made_none file now lines start name old store holds reads held = record {
 
 -- the steps of a line whose edit was made go on with those of the lines behind it
 line_leads : (file : List ℕ) (now : ℕ) (line : LineEdit) (rest : List LineEdit) (value : QuotaValue) (told : Type 0) (before after : StoreSeen) (from : Outside) → IsMade file (edit_of line now) value told before after → told
-    → LeadsBy (acts_of file (edit_of line now) value) (LineSteps file now rest (value_left ((edit_of line now).edited value) value)) (record from { files = after.files })
+    → LeadsBy (acts_of Together file (edit_of line now) value) (LineSteps file now rest (value_left ((edit_of line now).edited value) value)) (record from { files = after.files })
     (LineSteps file now (line ∷ rest) value) (record from { files = before.files })
 line_leads file now line rest value told before after from made is =
     let edit = edit_of line now in
-    let acts = acts_of file edit value in
+    let acts = acts_of Together file edit value in
     let next = LineSteps file now rest (value_left (edit.edited value) value) in
     let here = record from { files = before.files } in
     let leads = subst (λ (o : Outcome (List Act)). LeadsBy acts next (record from { files = after.files }) (Then (met_at line.number o) (λ (a : List Act). DoingAll a next)) here)
-    (sym (step_made file edit value told before after made is))
-    (leads_doing acts next here after.files (acts_written file edit value told before after made is).files) in
+    (sym (step_made Together file edit value told before after made is))
+    (leads_doing acts next here after.files (acts_written Together file edit value told before after made is).files) in
     record { ends = leads.ends; begun = leads.begun }
 
 -- one more was made
@@ -90,13 +90,13 @@ pub made_more : (file : List ℕ) (now : ℕ) (lines : List LineEdit) (line : Li
     → IsOkAnd ((edit_of line now).edited are.value) after_holds → AreMade file now lines rest start old after after_holds
 made_more file now lines line rest start old before after holds after_holds told is are made held =
     let edit = edit_of line now in
-    let acts = acts_of file edit are.value in
+    let acts = acts_of Together file edit are.value in
     let left = value_left (edit.edited are.value) are.value in
     record {
       value = left;
       held = left_held after_holds (edit.edited are.value) are.value held;
       acts = are.acts ++ acts;
-      done = written_both are.acts acts old before after are.done (acts_written file edit are.value told before after made is);
+      done = written_both are.acts acts old before after are.done (acts_written Together file edit are.value told before after made is);
       leads = λ from same.
           led_both are.acts acts (LineSteps file now rest left) (LineSteps file now (line ∷ rest) are.value) (LineSteps file now lines start)
           (record from { files = after.files }) (record from { files = before.files }) from (are.leads from same)
@@ -145,7 +145,7 @@ line_refused file now lines line rest start may tells old before after holds fau
     let edit = edit_of line now in
     let said = at_line line.number (refusal_of (edit_cause fault) file) in
     let behind = λ (value : QuotaValue) (acts : List Act). DoingAll acts (LineSteps file now rest (value_left (edit.edited value) value)) in
-    let own = λ (value : QuotaValue). edit_step file edit (before.files file) value in
+    let own = λ (value : QuotaValue). edit_step Together file edit (before.files file) value in
     record {
       done = tt;
       refused = reason_but_stated line_uses old (with_store old after) _ _ (edit_cause fault) (λ step told.
@@ -155,7 +155,7 @@ line_refused file now lines line rest start may tells old before after holds fau
           (refused_steps file (LineSteps file now (line ∷ rest) are.value) tells (with_store old before) after said ((refused are.value are.held).whole is.1) (λ new same.
           subst (λ (o : Outcome (List Act)). EndsBy (Then (met_at line.number o) (behind are.value)) (outside_of (with_store old before)) [] new (Some said)) (sym is.0)
           (record { acts_none = refl; same = same; ends = refl }))))
-          (edit_reason file edit (before.files file) line_uses old (with_store old after) before.faults holds fault first.later cause);
+          (edit_reason Together file edit (before.files file) line_uses old (with_store old after) before.faults holds fault first.later cause);
       part = λ told.
           let are = made told.store in
           let here = with_store old before in
@@ -163,7 +163,7 @@ line_refused file now lines line rest start may tells old before after holds fau
           part_led are.acts steps (LineSteps file now lines start) tells old here (with_store old after) (omega arith) (omega arith) (are.leads (outside_of old) refl) (done_of are.acts tells old before are.done)
           (part_from (Then (met_at line.number (own are.value)) (behind are.value)) steps tells here before old.input (with_store old after) refl (λ done hand now by. by)
           (met_part line.number (own are.value) (behind are.value) tells here (with_store old after)
-          (refused_part file edit are.value (behind are.value) tells here after (edit_cause fault) (edit_no_output fault) (λ act from. inl (record { done_none = refl; at_hand = refl; same = refl }))
+          (refused_part Together file edit are.value (behind are.value) tells here after (edit_cause fault) (edit_no_output fault) (λ act from. inl (record { done_none = refl; at_hand = refl; same = refl }))
           (refused are.value are.held) told.store)));
       may_refuse = allowed;
       placed = record { line = λ no. refl; input_line = λ no. unnamed line.number (edit_cause fault) no };
@@ -197,7 +197,7 @@ lines_add file now (line ∷ lines) value behind =
     let edit = edit_of line now in
     let left = value_left (edit.edited value) value in
     let adds = lines_add file now lines left behind in
-    adds_looking behind _ _ (λ files. adds_then behind (met_at line.number (edit_step file edit (files file) value)) (LineSteps file now lines left) (EditsThen file now lines left behind) adds)
+    adds_looking behind _ _ (λ files. adds_then behind (met_at line.number (edit_step Together file edit (files file) value)) (LineSteps file now lines left) (EditsThen file now lines left behind) adds)
 
 -- the edits before a refused line were made, and then comes its refusal
 pub then_refused : (file : List ℕ) (now : ℕ) (start : QuotaValue) (names : List NameLine) (place : List ℕ) (asked : Asked) (refusal : Refusal) (may more : Cause → List ℕ → Type 0) (tells : RunTells) (old new : RunSeen)

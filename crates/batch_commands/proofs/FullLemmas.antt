@@ -16,7 +16,7 @@ use Rattle.refusals.specs.declared.cause.Cause.{Cause}
 use Rattle.refusals.specs.declared.cause.Cause.TheVariants.{Full}
 use Rattle.refusals.specs.declared.reason.Refusal.{Refusal}
 use Rattle.refusals.specs.Outcome.{Outcome, Passed, Refused}
-use Rattle.run_steps.specs.Act.{Act}
+use Rattle.run_steps.specs.Act.{Act, Together}
 use Rattle.run_steps.specs.Changing.{blocks_after, written}
 use Rattle.run_steps.specs.Done.{Outside}
 use Rattle.run_steps.specs.Meaning.{EndsBy}
@@ -85,11 +85,12 @@ line_written : (kind : Kind) (asked : Option Format) (file : List ℕ) (now : �
     (refusal : Refusal) (blocks limit : ℕ) → refusal.cause ≡ Full blocks limit → RestFull kind asked file now lines more to refusal blocks limit
     → IsView (old.files file) kind asked (Ok value) → (edit_of line now).edited value ≡ Ok new
     → (idle : Bool) → (edit_of line now).is_idle value ≡ idle → (large : Bool) → is_too_large (edit_of line now) (old.files file) new ≡ large
-    → EndsBy (Then (met_at line.number (written file (blocks_after (old.files file) new) new idle large)) (λ (done : List Act). DoingAll done (EditsThen file now lines new more))) old acts to (Some refusal)
+    → EndsBy (Then (met_at line.number (written Together file (blocks_after (old.files file) new) new idle large)) (λ (done : List Act). DoingAll done (EditsThen file now lines new more))) old acts to (Some refusal)
     → (refusal.name ≡ file) × IsFullForOne kind asked now (line ∷ lines) (to.files file) blocks limit
 line_written kind asked file now line lines more value new old acts to refusal blocks limit is rest view set true idle large over ends =
     let same = idle_same value new line.id line.limits now idle set in
-    let found = rest new old acts (subst (λ (v : QuotaValue). IsView (old.files file) kind asked (Ok v)) (sym same) view) ends in
+    let seen : IsView (ends.1 file) kind asked (Ok value) = subst (λ (w : World). IsView (w file) kind asked (Ok value)) (sym ends.3) view in
+    let found = rest new (record old { files = ends.1 }) ends.0 (subst (λ (v : QuotaValue). IsView (ends.1 file) kind asked (Ok v)) (sym same) seen) ends.4 in
     (found.0, one_more kind asked now line lines (to.files file) blocks limit found.1)
 line_written kind asked file now line lines more value new old acts to refusal blocks limit is rest view set false idle true over ends =
     let full = subst (λ (o : Outside). (refusal.name ≡ file) × IsFullFor kind asked (edit_of line now) (o.files file) blocks limit) (sym ends.same)
@@ -104,7 +105,7 @@ line_written kind asked file now line lines more value new old acts to refusal b
 line_full : (kind : Kind) (asked : Option Format) (file : List ℕ) (now : ℕ) (line : LineEdit) (lines : List LineEdit) (more : Option Refusal) (value : QuotaValue) (old : Outside) (acts : List Act) (to : Outside)
     (refusal : Refusal) (blocks limit : ℕ) → refusal.cause ≡ Full blocks limit → RestFull kind asked file now lines more to refusal blocks limit
     → IsView (old.files file) kind asked (Ok value) → (edited : Result QuotaValue (Field × ℕ)) → (edit_of line now).edited value ≡ edited
-    → EndsBy (Then (met_at line.number (changed file (edit_of line now) (old.files file) value edited)) (λ (done : List Act). DoingAll done (EditsThen file now lines (value_left edited value) more))) old acts to (Some refusal)
+    → EndsBy (Then (met_at line.number (changed Together file (edit_of line now) (old.files file) value edited)) (λ (done : List Act). DoingAll done (EditsThen file now lines (value_left edited value) more))) old acts to (Some refusal)
     → (refusal.name ≡ file) × IsFullForOne kind asked now (line ∷ lines) (to.files file) blocks limit
 line_full kind asked file now line lines more value old acts to refusal blocks limit is rest view (Ok new) set ends =
     line_written kind asked file now line lines more value new old acts to refusal blocks limit is rest view set ((edit_of line now).is_idle value) refl (is_too_large (edit_of line now) (old.files file) new) refl ends

@@ -4,4 +4,8 @@ pub mod BatchLemmas
 pub mod FullLemmas
 pub mod LookLemmas
 pub mod MeaningLemmas
+pub mod MemoryLemmas
+pub mod OverLemmas
 pub mod ReadsLemmas
+pub mod TogetherLemmas
+pub mod WantingLemmas

@@ -4,7 +4,7 @@ use Rattle.quota_blocks.specs.QuotaValue.{QuotaValue}
 use Rattle.quota_blocks.specs.World.{World}
 use Rattle.id_names.specs.NamesFile.{NameLine}
 use Rattle.command_words.specs.declared.command.Common.{Common}
-use Rattle.run_steps.specs.Act.{Act}
+use Rattle.run_steps.specs.Act.{Act, Together}
 use Rattle.run_steps.specs.Done.{Outside}
 use Rattle.run_steps.specs.SameViews.{FileAsked, IsSameFile, LooksAlikeBy, Opens}
 use Rattle.run_steps.specs.Steps.{DoingAll, Opening}
@@ -24,7 +24,7 @@ lines_alike one other file now (line ∷ lines) value behind =
     let rest = EditsThen file now lines (value_left (edit.edited value) value) behind in
     let next = λ (acts : List Act). DoingAll acts rest in (
       line_steps_alike file edit (one file) (other file) value line.number next,
-      alike_then true one other (met_at line.number (edit_step file edit (one file) value)) next
+      alike_then true one other (met_at line.number (edit_step Together file edit (one file) value)) next
           (λ acts. alike_doing true one other acts rest (lines_alike one other file now lines (value_left (edit.edited value) value) behind)),
     )
 
@@ -40,7 +40,7 @@ lines_open holds file now (line ∷ lines) value behind old opened opens =
     let edit = edit_of line now in
     let left = value_left (edit.edited value) value in
     let rest = EditsThen file now lines left behind in
-    opens_then holds (met_at line.number (edit_step file edit (old.files file) value)) (λ (acts : List Act). DoingAll acts rest) old opened (λ acts more.
+    opens_then holds (met_at line.number (edit_step Together file edit (old.files file) value)) (λ (acts : List Act). DoingAll acts rest) old opened (λ acts more.
     lines_open holds file now lines left behind old opened (opens_doing acts rest old opened more)) opens
 
 applying_opens : (holds : Type 0) (file : List ℕ) (now : ℕ) (value : QuotaValue) (asked : Asked) (old : Outside) (opened : FileAsked) → Opens (Applying file now value asked) old opened → holds

@@ -8,7 +8,7 @@ use Rattle.id_names.specs.NamesFile.{NameLine}
 use Rattle.command_words.specs.declared.command.Common.{Common}
 use Rattle.refusals.specs.declared.reason.Refusal.{Refusal}
 use Rattle.refusals.specs.Outcome.{Passed}
-use Rattle.run_steps.specs.Act.{Act}
+use Rattle.run_steps.specs.Act.{Act, Together}
 use Rattle.run_steps.specs.Done.{Outside}
 use Rattle.run_steps.specs.Meaning.{IsSure}
 use Rattle.run_steps.specs.Naming.{names_seen}
@@ -36,7 +36,7 @@ lines_look looks takes file now (line ∷ lines) value behind =
     let rest = EditsThen file now lines left behind in
     let next = λ (acts : List Act). DoingAll acts rest in (
       inr (λ one other. line_steps_alike file edit (one file) (other file) value line.number next),
-      λ files. looks_then true looks takes (met_at line.number (edit_step file edit (files file) value)) next
+      λ files. looks_then true looks takes (met_at line.number (edit_step Together file edit (files file) value)) next
           (λ acts. looks_doing true looks takes acts rest (λ may. lines_look may takes file now lines left behind)),
     )
 
@@ -55,7 +55,7 @@ lines_stopped file now [] value refusal = tt
 lines_stopped file now (line ∷ lines) value refusal = λ files.
     let edit = edit_of line now in
     let rest = EditsThen file now lines (value_left (edit.edited value) value) (Some refusal) in
-    reads_then (met_at line.number (edit_step file edit (files file) value)) (λ (acts : List Act). DoingAll acts rest) (λ acts.
+    reads_then (met_at line.number (edit_step Together file edit (files file) value)) (λ (acts : List Act). DoingAll acts rest) (λ acts.
     reads_doing acts rest (lines_stopped file now lines (value_left (edit.edited value) value) refusal))
 
 -- edits are done behind an input that was read to its end, or end with the refusal of a line
@@ -76,11 +76,11 @@ lines_sure : (file : List ℕ) (now : ℕ) (lines : List LineEdit) (value : Quot
 lines_sure file now [] value old fit = refl
 lines_sure file now (line ∷ lines) value old fit =
     let edit = edit_of line now in
-    let acts = change_acts file fit.0 (edit.is_idle value) in
-    let step = step_fits file edit (old.files file) value fit.0 fit.1 in
+    let acts = change_acts Together file fit.0 (edit.is_idle value) in
+    let step = step_fits Together file edit (old.files file) value fit.0 fit.1 in
     let left : fit.0 ≡ value_left (edit.edited value) value = sym (ap (λ (r : Result QuotaValue (Field × ℕ)). value_left r value) fit.1.0) in
     let rest = LineSteps file now lines (value_left (edit.edited value) value) in
-    sure_then (met_at line.number (edit_step file edit (old.files file) value)) (λ (a : List Act). DoingAll a rest) acts old (ap (met_at line.number) step)
+    sure_then (met_at line.number (edit_step Together file edit (old.files file) value)) (λ (a : List Act). DoingAll a rest) acts old (ap (met_at line.number) step)
     (sure_doing acts rest old (λ files follows.
     subst (λ (v : QuotaValue). IsSure (LineSteps file now lines v) (record old { files = files })) left
     (lines_sure file now lines fit.0 (record old { files = files }) (fit.2 acts files step follows))))

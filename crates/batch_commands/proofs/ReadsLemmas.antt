@@ -3,6 +3,7 @@ use Rattle.std.proofs.Common.{◌≡◌, ℕ, ◌+◌, ◌*◌, ◌≤◌, List,
 use Rattle.id_names.specs.NamesFile.{NameLine}
 use Rattle.quota_blocks.specs.Block.{file_of}
 use Rattle.quota_blocks.specs.QuotaFile.{FileSeen}
+use Rattle.quota_blocks.specs.Replace.{pieces_of}
 use Rattle.quota_blocks.specs.Seen.{StoreSeen}
 use Rattle.quota_blocks.specs.World.{World}
 use Rattle.quota_map.specs.AnyFile.{any_change_reads, reads_of_get}
@@ -33,16 +34,16 @@ asked_edits : (names : List NameLine) (from : Option (List ℕ)) (files : World)
 asked_edits names None files left asked none said = same_passed (input_asks names [] left) asked said
 asked_edits names (Some name) files left asked none said = absurd (cc)
 
-pub asked_reads : (names : List NameLine) (from : Option (List ℕ)) (files : World) (left : List ℕ) (asked : Asked) (before middle now : ℕ) → from ≡ None → input_said from (batch_step names from) files left ≡ Passed asked
-    → middle ≡ before → now ≤ middle + 17 * length asked.edits → now ≤ before + line_reads names left
-asked_reads names from files left asked before middle now none said same few =
-    subst (λ (a : Asked). now ≤ before + 17 * length a.edits) (sym (asked_edits names from files left asked none said))
-    (subst (λ (b : ℕ). now ≤ b + 17 * length asked.edits) same few)
+pub asked_reads : (names : List NameLine) (from : Option (List ℕ)) (files : World) (left : List ℕ) (asked : Asked) (before middle now pieces : ℕ) → from ≡ None → input_said from (batch_step names from) files left ≡ Passed asked
+    → middle ≡ before → now ≤ middle + (pieces + 17 * length asked.edits) → now ≤ before + (pieces + line_reads names left)
+asked_reads names from files left asked before middle now pieces none said same few =
+    subst (λ (a : Asked). now ≤ before + (pieces + 17 * length a.edits)) (sym (asked_edits names from files left asked none said))
+    (subst (λ (b : ℕ). now ≤ b + (pieces + 17 * length asked.edits)) same few)
 
 -- where there are names, or lines of a file, nothing is said
 pub batch_within : (common : Common) (from : Option (List ℕ)) (file : List ℕ) (files : World) (bytes : List ℕ) (old new : StoreSeen)
-    → (common.names ≡ None → from ≡ None → new.reads ≤ old.reads + (opening_reads common.format (file_of files file) + line_reads [] bytes)) → ReadsWithin (batch_reads common from file files bytes) old new
-batch_within common from file files bytes old new few = within common.names from (opening_reads common.format (file_of files file) + line_reads [] bytes) few
+    → (common.names ≡ None → from ≡ None → new.reads ≤ old.reads + (opening_reads common.format (file_of files file) + (pieces_of (length (file_of files file)) + line_reads [] bytes))) → ReadsWithin (batch_reads common from file files bytes) old new
+batch_within common from file files bytes old new few = within common.names from (opening_reads common.format (file_of files file) + (pieces_of (length (file_of files file)) + line_reads [] bytes)) few
   where
     within : (names from : Option (List ℕ)) (reads : ℕ) → (names ≡ None → from ≡ None → new.reads ≤ old.reads + reads) → ReadsWithin (if_neither names from reads) old new
     within None None reads few = few refl refl
@@ -52,11 +53,11 @@ batch_within common from file files bytes old new few = within common.names from
 -- so it is of what was done once the names were read
 pub named_within : (common : Common) (from : Option (List ℕ)) (file bytes : List ℕ) (result : Result (Unit {0}) Refusal) (told input_told : Type 0) (names : List NameLine) (old middle new : StoreSeen)
     → MayBeNames common.names names → (common.names ≡ None → middle ≡ old)
-    → (from ≡ None → OnOk result (told → input_told → new.reads ≤ middle.reads + (opening_reads common.format (file_of middle.files file) + line_reads names bytes)))
+    → (from ≡ None → OnOk result (told → input_told → new.reads ≤ middle.reads + (opening_reads common.format (file_of middle.files file) + (pieces_of (length (file_of middle.files file)) + line_reads names bytes))))
     → OnOk result (told → input_told → ReadsWithin (batch_reads common from file old.files bytes) old new)
 named_within common from file bytes (Ok value) told input_told names old middle new given same few = λ is input_is.
     batch_within common from file old.files bytes old new (λ none without.
     let no_names : names ≡ [] = subst (λ (n : Option (List ℕ)). MayBeNames n names) none given in
-    subst (λ (s : StoreSeen). new.reads ≤ s.reads + (opening_reads common.format (file_of s.files file) + line_reads [] bytes)) (same none)
-    (subst (λ (l : List NameLine). new.reads ≤ middle.reads + (opening_reads common.format (file_of middle.files file) + line_reads l bytes)) no_names (few without is input_is)))
+    subst (λ (s : StoreSeen). new.reads ≤ s.reads + (opening_reads common.format (file_of s.files file) + (pieces_of (length (file_of s.files file)) + line_reads [] bytes))) (same none)
+    (subst (λ (l : List NameLine). new.reads ≤ middle.reads + (opening_reads common.format (file_of middle.files file) + (pieces_of (length (file_of middle.files file)) + line_reads l bytes))) no_names (few without is input_is)))
 named_within common from file bytes (Err refusal) told input_told names old middle new given same few = tt

@@ -9,6 +9,7 @@ use Rattle.quota_blocks.specs.InputLines.{InputLines, NoLine, LineThen, LongNext
 use Rattle.quota_blocks.specs.QuotaValue.{QuotaValue}
 use Rattle.quota_blocks.specs.Words.{words_of}
 use Rattle.quota_blocks.specs.Block.{file_of}
+use Rattle.quota_blocks.specs.Replace.{pieces_of}
 use Rattle.quota_blocks.specs.World.{World}
 use Rattle.quota_map.specs.View.{opening_reads}
 use Rattle.set_edit.specs.Editing.{Edit}
@@ -25,7 +26,7 @@ use Rattle.refusals.specs.declared.cause.Cause.TheVariants.{Memory, LongLine, To
 use Rattle.refusals.specs.declared.reason.Refusal.{Refusal}
 use Rattle.command_words.specs.declared.command.Common.{Common}
 use Rattle.run_steps.specs.declared.invocation.Invocation.{Invocation}
-use Rattle.run_steps.specs.Act.{Act}
+use Rattle.run_steps.specs.Act.{Act, Together}
 use Rattle.run_steps.specs.InputLine.{says_nothing}
 use Rattle.run_steps.specs.Naming.{MayBeNames, NamesMayRefuse}
 use Rattle.run_steps.specs.Opening.{MayRefuseOpening}
@@ -157,7 +158,7 @@ abbrev pub EditsThen : List ℕ → ℕ → List LineEdit → QuotaValue → Opt
 EditsThen name now [] value behind = Ending behind
 EditsThen name now (line ∷ lines) value behind =
     Looking (λ (files : World).
-    Then (met_at line.number (edit_step name (edit_of line now) (files name) value)) (λ (acts : List Act).
+    Then (met_at line.number (edit_step Together name (edit_of line now) (files name) value)) (λ (acts : List Act).
     DoingAll acts (EditsThen name now lines (value_left ((edit_of line now).edited value) value) behind)))
 
 -- edits are done, up to one that is refused
@@ -187,9 +188,10 @@ abbrev pub if_neither : (names from : Option (List ℕ)) → ℕ → Option ℕ
 if_neither None None reads = Some reads
 if_neither names from reads = None
 
--- how many calls of `read` lines of the standard input make at most, the opening of the file with them, where there are no names
+-- how many calls of `read` lines of the standard input make at most, the opening of the file with them, where there are no names; the
+-- file is read once more where they are edited together
 abbrev pub batch_reads : Common → Option (List ℕ) → List ℕ → World → (bytes : List ℕ) → Option ℕ
-batch_reads common from file files bytes = if_neither common.names from (opening_reads common.format (file_of files file) + line_reads [] bytes)
+batch_reads common from file files bytes = if_neither common.names from (opening_reads common.format (file_of files file) + (pieces_of (length (file_of files file)) + line_reads [] bytes))
 
 -- edits of lines change the store, and those before a refused one stay
 abbrev pub line_uses : Uses

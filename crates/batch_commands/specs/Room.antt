@@ -8,7 +8,7 @@ use Rattle.quota_blocks.specs.QuotaValue.{QuotaValue}
 use Rattle.quota_blocks.specs.World.{World}
 use Rattle.refusals.specs.Outcome.{Passed}
 use Rattle.command_words.specs.declared.command.Common.{Common}
-use Rattle.run_steps.specs.Act.{Act, Follows}
+use Rattle.run_steps.specs.Act.{Act, Follows, Together}
 use Rattle.run_steps.specs.Done.{Outside}
 use Rattle.run_steps.specs.Naming.{names_seen}
 use Rattle.run_steps.specs.Taking.{input_said}
@@ -22,7 +22,7 @@ abbrev pub AllFit : List ℕ → ℕ → List LineEdit → World → QuotaValue 
 AllFit name now [] files value = ⊤
 AllFit name now (line ∷ lines) files value =
     (new : QuotaValue) × Fits (edit_of line now) (files name) value new
-    × ((acts : List Act) (left : World) → edit_step name (edit_of line now) (files name) value ≡ Passed acts → Follows acts files left
+    × ((acts : List Act) (left : World) → edit_step Together name (edit_of line now) (files name) value ≡ Passed acts → Follows acts files left
     → AllFit name now lines left new)
 
 -- one of these lines asks for an edit for which a file has no room

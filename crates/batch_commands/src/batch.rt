@@ -1,19 +1,24 @@
-ghost use Rattle.std.specs.Prelude.{ℕ, ◌+◌, ◌*◌, ◌≤◌, Option, None, ◌≡◌, Bool, false, IsSome, IsTrue, OnOk, length, is_ok};
+ghost use Rattle.std.specs.Prelude.{ℕ, ◌+◌, ◌*◌, ◌≤◌, Option, None, ◌≡◌, ◌≢◌, Bool, Ok, false, IfErr, IsSome, IsTrue, OnOk, length, is_ok};
 ghost use Rattle.quota_types.specs.declared.file_kind.Format.{Format as FormatOf};
 ghost use Rattle.quota_blocks.specs.Block.{file_of};
 ghost use Rattle.quota_blocks.specs.Frame.{Syncs};
 ghost use Rattle.quota_blocks.specs.QuotaValue.{QuotaValue};
 ghost use Rattle.quota_blocks.specs.Seen.{LinkSeen, SinkSeen, SourceSeen};
-ghost use Rattle.quota_blocks.specs.World.{KeepsOthers};
-ghost use Rattle.quota_map.specs.View.{IsOpenedAs, fresh_seen, opening_reads};
+ghost use Rattle.quota_blocks.specs.EditsOne.{EditsOne};
+ghost use Rattle.quota_blocks.specs.Replace.{pieces_of};
+ghost use Rattle.quota_blocks.specs.Replacement.{ReplacesOnly};
+ghost use Rattle.quota_map.specs.View.{IsOpenedAs, IsView, fresh_seen, opening_reads};
+ghost use Rattle.refusals.specs.declared.cause.Cause.TheVariants.{Memory};
 ghost use Rattle.run_steps.specs.Done.{seen_of, tells_of};
 ghost use Rattle.run_steps.specs.Run.{CarriesOut};
 ghost use Rattle.run_steps.specs.Steps.{Opening};
 ghost use Rattle.run_steps.specs.Writes.{ReadsWithin};
 ghost use Rattle.batch_commands.specs.Batch.{BatchMayRefuse, BatchSteps, LineSteps, LineEditMayRefuse, NamedBatchMayRefuse, ReadSteps, batch_reads, batch_uses, line_reads, line_uses};
+ghost use Rattle.batch_commands.specs.Together.{IfWanting};
 
 use crate::batch_input::{Batch, take_batch};
 use crate::batch_line::{LineEdit, at_line};
+use crate::together::{Attempt, edit_together};
 use command_words::Common;
 use edit_steps::edit_cause;
 use id_names::Names;
@@ -44,12 +49,14 @@ pub fn apply_lines<S: Store, I: Source>(
         (tells_of S.tells I.tells out_tells err_tells link_tells)
         (seen_of (S.seen store.old) (I.seen input.old) out err link)
         (seen_of (S.seen store.new) (I.seen input.new) out err link) result }
-    // No file but this one has changed, however it ended.
-    ensures alone { KeepsOthers file (S.seen store.old).files (S.seen store.new).files }
+    // Where there was not enough memory the file is as it was.
+    ensures wanting { IfWanting ((S.seen store.new).files file ≡ (S.seen store.old).files file) result }
+    // No file but this one has changed, and the one with `.new` added to its name, however it ended.
+    ensures others { ReplacesOnly file (S.seen store.old).files (S.seen store.new).files }
     // What was written has been synced where it was done, and where it was not too, unless a call on the store failed.
     ensures synced { IsTrue S.tells → Syncs (is_ok result) (S.seen store.old) (S.seen store.new) }
-    // Where it was done without a file of names, and out of the standard input, no more was read than the opening of the file takes, and
-    // seventeen blocks for each line that asks for an edit.
+    // Where it was done without a file of names, and out of the standard input, no more was read than the opening of the file takes, the
+    // file once more, and seventeen blocks for each line that asks for an edit.
     ensures reads { OnOk result (IsTrue S.tells → IsTrue I.tells
         → ReadsWithin (batch_reads common from file (S.seen store.old).files (I.seen input.old).left) (S.seen store.old) (S.seen store.new)) }
     ensures untouched { IsSome from → input.new ≡ input.old }
@@ -84,15 +91,19 @@ fn apply_named<S: Store, I: Source>(
         (tells_of S.tells I.tells out_tells err_tells link_tells)
         (seen_of (S.seen store.old) (I.seen input.old) out err link)
         (seen_of (S.seen store.new) (I.seen input.new) out err link) result }
-    ensures alone { KeepsOthers file (S.seen store.old).files (S.seen store.new).files }
+    ensures wanting { IfWanting ((S.seen store.new).files file ≡ (S.seen store.old).files file) result }
+    ensures others { ReplacesOnly file (S.seen store.old).files (S.seen store.new).files }
     ensures synced { IsTrue S.tells → Syncs (is_ok result) (S.seen store.old) (S.seen store.new) }
     ensures reads { from ≡ None → OnOk result (IsTrue S.tells → IsTrue I.tells → (S.seen store.new).reads ≤ (S.seen store.old).reads
-        + (opening_reads format (file_of (S.seen store.old).files file) + line_reads names.now (I.seen input.old).left)) }
+        + (opening_reads format (file_of (S.seen store.old).files file) + (pieces_of (length (file_of (S.seen store.old).files file))
+        + line_reads names.now (I.seen input.old).left))) }
     ensures untouched { IsSome from → input.new ≡ input.old }
     ensures keeps { I.keeps false input.old input.new }
 {
     match open_file(alloc, store, file.as_str(), kind, format) {
-        Ok(opened) => apply_opened(alloc, names, opened, from, file, store, input, now),
+        Ok(opened) => apply_opened(
+            alloc, names, kind, format, opened, from, file, store, input, now,
+        ),
         Err(fault) => Err(Refusal::of(opening_cause(fault), file)),
     }
 }
@@ -101,7 +112,9 @@ fn apply_named<S: Store, I: Source>(
 fn apply_opened<S: Store, I: Source>(
     alloc: Global,
     names: &Names,
-    mut opened: AnyFile,
+    kind: Kind,
+    format: Option<Format>,
+    opened: AnyFile,
     from: Option<Word>,
     file: Word,
     store: &mut S,
@@ -109,24 +122,36 @@ fn apply_opened<S: Store, I: Source>(
     now: u64,
 ) -> Result<(), Refusal>
     requires { ⟦<AnyFile as QuotaFile<S>>⟧.seen opened ≡ fresh_seen file (⟦<AnyFile as QuotaFile<S>>⟧.seen opened).format }
-    ensures carries { (asked : Option FormatOf) → IsOpenedAs asked (⟦<AnyFile as QuotaFile<S>>⟧.seen opened).format
+    ensures carries { IsOpenedAs format (⟦<AnyFile as QuotaFile<S>>⟧.seen opened).format
         → (value : QuotaValue) → (IsTrue S.tells → ⟦<AnyFile as QuotaFile<S>>⟧.holds opened store.old value)
+        → (IsTrue S.tells → IsView ((S.seen store.old).files file) kind format (Ok value))
         → (out err : SinkSeen) (link : LinkSeen) (out_tells err_tells link_tells : Bool)
-        → CarriesOut (ReadSteps names.now from file now value) (batch_uses from) (NamedBatchMayRefuse asked from file names.now)
+        → CarriesOut (ReadSteps names.now from file now value) (batch_uses from) (NamedBatchMayRefuse format from file names.now)
         (tells_of S.tells I.tells out_tells err_tells link_tells)
         (seen_of (S.seen store.old) (I.seen input.old) out err link)
         (seen_of (S.seen store.new) (I.seen input.new) out err link) result }
-    ensures alone { KeepsOthers file (S.seen store.old).files (S.seen store.new).files }
+    ensures wanting { IfWanting ((S.seen store.new).files file ≡ (S.seen store.old).files file) result }
+    ensures others { ReplacesOnly file (S.seen store.old).files (S.seen store.new).files }
     ensures synced { IsTrue S.tells → Syncs (is_ok result) (S.seen store.old) (S.seen store.new) }
     ensures reads { from ≡ None → OnOk result (IsTrue S.tells → IsTrue I.tells
-        → (S.seen store.new).reads ≤ (S.seen store.old).reads + line_reads names.now (I.seen input.old).left) }
+        → (S.seen store.new).reads ≤ (S.seen store.old).reads + (pieces_of (length (file_of (S.seen store.old).files file))
+        + line_reads names.now (I.seen input.old).left)) }
     ensures untouched { IsSome from → input.new ≡ input.old }
     ensures keeps { I.keeps false input.old input.new }
 {
     match take_batch(alloc, names, from, store, input) {
         Ok(batch) => {
             let Batch { edits, refusal } = batch;
-            match edit_all(&mut opened, edits.as_slice(), file, store, now) {
+            match edit_lines(
+                alloc,
+                kind,
+                format,
+                opened,
+                edits.as_slice(),
+                file,
+                store,
+                now,
+            ) {
                 Ok(()) => match refusal {
                     Some(refusal) => Err(refusal),
                     None => Ok(()),
@@ -138,8 +163,41 @@ fn apply_opened<S: Store, I: Source>(
     }
 }
 
+/// Sets the limits that lines ask for in an opened file of this name, up to the first edit that is refused: by one replacement of the
+/// file where that pays, and otherwise in its place, one line after another.
+fn edit_lines<S: Store>(
+    alloc: Global,
+    kind: Kind,
+    format: Option<Format>,
+    mut opened: AnyFile,
+    lines: &[LineEdit],
+    file: Word,
+    store: &mut S,
+    now: u64,
+) -> Result<(), Refusal>
+    requires { ⟦<AnyFile as QuotaFile<S>>⟧.seen opened ≡ fresh_seen file (⟦<AnyFile as QuotaFile<S>>⟧.seen opened).format }
+    ensures carries { IsOpenedAs format (⟦<AnyFile as QuotaFile<S>>⟧.seen opened).format
+        → (value : QuotaValue) → (IsTrue S.tells → ⟦<AnyFile as QuotaFile<S>>⟧.holds opened store.old value)
+        → (IsTrue S.tells → IsView ((S.seen store.old).files file) kind format (Ok value))
+        → (input : SourceSeen) (out err : SinkSeen) (link : LinkSeen) (input_tells out_tells err_tells link_tells : Bool)
+        → CarriesOut (LineSteps file now lines.now value) line_uses (LineEditMayRefuse format file)
+        (tells_of S.tells input_tells out_tells err_tells link_tells)
+        (seen_of (S.seen store.old) input out err link)
+        (seen_of (S.seen store.new) input out err link) result }
+    ensures wanting { IfWanting ((S.seen store.new).files file ≡ (S.seen store.old).files file) result }
+    ensures others { ReplacesOnly file (S.seen store.old).files (S.seen store.new).files }
+    ensures synced { IsTrue S.tells → Syncs (is_ok result) (S.seen store.old) (S.seen store.new) }
+    ensures reads { OnOk result (IsTrue S.tells → (S.seen store.new).reads ≤ (S.seen store.old).reads
+        + (pieces_of (length (file_of (S.seen store.old).files file)) + 17 * length lines.now)) }
+{
+    match edit_together(alloc, kind, format, lines, file, store, now) {
+        Attempt::Ended(ended) => ended,
+        Attempt::NotMade(file) => edit_all(&mut opened, lines, file, store, now),
+    }
+}
+
 /// Sets the limits that lines ask for in an opened file of this name, in order, up to the first edit that is refused.
-fn edit_all<S: Store>(
+pub fn edit_all<S: Store>(
     opened: &mut AnyFile,
     lines: &[LineEdit],
     file: Word,
@@ -154,7 +212,9 @@ fn edit_all<S: Store>(
         (tells_of S.tells input_tells out_tells err_tells link_tells)
         (seen_of (S.seen store.old) input out err link)
         (seen_of (S.seen store.new) input out err link) result }
-    ensures alone { KeepsOthers file (S.seen store.old).files (S.seen store.new).files }
+    // None is refused for lack of memory.
+    ensures memory { IfErr result (λ refusal. refusal.cause ≢ Memory) }
+    ensures leaves { EditsOne file (S.seen store.old) (S.seen store.new) }
     ensures synced { IsTrue S.tells → Syncs (is_ok result) (S.seen store.old) (S.seen store.new) }
     ensures reads { OnOk result ((S.seen store.new).reads ≤ (S.seen store.old).reads + 17 * length lines.now) }
 {

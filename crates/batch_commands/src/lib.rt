@@ -7,5 +7,6 @@ mod batch;
 mod batch_input;
 mod batch_line;
 pub mod laws;
+mod together;
 
 pub use batch::apply_lines;

@@ -9,7 +9,7 @@ use Rattle.quota_types.specs.declared.file_kind.Format.{Format}
 use Rattle.quota_types.specs.declared.file_kind.Kind.{Kind}
 use Rattle.quota_blocks.specs.QuotaValue.{QuotaValue}
 use Rattle.refusals.specs.declared.cause.Cause.{Cause}
-use Rattle.refusals.specs.declared.cause.Cause.TheVariants.{Usage}
+use Rattle.refusals.specs.declared.cause.Cause.TheVariants.{Usage, Memory}
 use Rattle.refusals.specs.declared.cause.UsageKind.{UsageKind}
 use Rattle.refusals.specs.declared.reason.Refusal.{Refusal}
 use Rattle.refusals.specs.Refusals.{refusal_of}
@@ -154,6 +154,7 @@ read_carried table command asked invocation tells old new result is carried =
       carries = carries_more _ _ _ _ tells old new result (λ cause said may. inr may) carried.carries;
       named = carried.named;
       edited = carried.edited;
+      spared = carried.spared;
       within = record { alone = carried.within.alone; anew = carried.within.anew; few = carried.within.few };
       reads = carried.reads;
       made = carried.made;
@@ -191,6 +192,7 @@ not_read table (Ok command) invocation tells old NoMemory is = record {
   carries = nothing_carried ((table command).steps invocation) _ _ tells old (usage_refusal NoMemory) (λ is. cc) tt (inl refl) (record { line = λ no. refl; input_line = λ no. refl });
   named = holds_of_one (table command).replaces _ (λ file told. refl);
   edited = holds_of_one (table command).edits _ (λ file told other. inl refl);
+  spared = holds_of_one (table command).spared _ (λ file memory told. refl);
   within = record {
     alone = holds_of_one (table command).alone _ (λ file other differ. refl);
     anew = holds_of_one (table command).anew _ (λ file other differ differs. refl);
@@ -210,6 +212,7 @@ not_read table (Err refusal) invocation tells old (UsageOf kind word) is =
       carries = stop_carried _ (refused (usage_refusal (UsageOf kind word))).may tells old (usage_refusal (UsageOf kind word)) (λ is. cc) (λ stated fact. fact) refl (record { line = λ no. refl; input_line = λ no. refl });
       named = tt;
       edited = tt;
+      spared = tt;
       within = record { alone = tt; anew = tt; few = tt };
       reads = tt;
       made = tt;
@@ -227,6 +230,7 @@ not_here_carried invocation tells old = record {
   carries = stop_carried not_here.uses not_here.may tells old unknown_command (λ is. cc) (λ stated fact. fact) refl (record { line = λ no. refl; input_line = λ no. refl });
   named = tt;
   edited = tt;
+  spared = tt;
   within = record { alone = tt; anew = tt; few = tt };
   reads = tt;
   made = tt;
@@ -277,6 +281,7 @@ of_done (Err refusal) holds is = tt
 
 -- a command that uses no link and reads no commands was carried out
 pub carried_alone : (d : Description) (invocation : Invocation) (tells : RunTells) (old new : RunSeen) (result : Result (Unit {0}) Refusal)
+    → IfSome d.spared (λ (file : List ℕ). IfErr result (λ (refusal : Refusal). refusal.cause ≡ Memory → IsTrue tells.store → new.store.files file ≡ old.store.files file))
     → d.unfinished invocation tells old new → d.uses.reads_commands ≡ false → new.link ≡ old.link → CarriesOut (d.steps invocation) d.uses
     d.may tells old new result
     → IfSome d.replaces (λ (file : List ℕ). OnErr result (IsTrue tells.store → new.store.files file ≡ old.store.files file))
@@ -285,10 +290,11 @@ pub carried_alone : (d : Description) (invocation : Invocation) (tells : RunTell
     → ChangesWithin d old.store new.store → OnOk result (IsWorldTold tells → ReadsWithin (d.most_reads (outside_of old)) old.store new.store)
     → OnOk result (IsTrue tells.store → d.made invocation (outside_of old) new.store.files)
     → (IsTrue tells.store → Syncs (is_ok result) old.store new.store) → IsCarriedOut d invocation tells old new result
-carried_alone d invocation tells old new result finished one same carries named edited within reads made synced = record {
+carried_alone d invocation tells old new result spared finished one same carries named edited within reads made synced = record {
   carries = carries;
   named = named;
   edited = edited;
+  spared = spared;
   within = within;
   reads = reads;
   made = made;

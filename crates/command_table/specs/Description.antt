@@ -6,7 +6,7 @@ use Rattle.quota_blocks.specs.Replacement.{ReplacesOnly}
 use Rattle.quota_blocks.specs.Seen.{StoreSeen}
 use Rattle.quota_blocks.specs.World.{KeepsOthers, World}
 use Rattle.refusals.specs.declared.cause.Cause.{Cause}
-use Rattle.refusals.specs.declared.cause.Cause.TheVariants.{LinkFault}
+use Rattle.refusals.specs.declared.cause.Cause.TheVariants.{LinkFault, Memory}
 use Rattle.refusals.specs.declared.reason.Refusal.{Refusal}
 use Rattle.refusals.specs.Status.{status_of}
 use Rattle.quota_blocks.specs.QuotaValue.{QuotaValue}
@@ -36,6 +36,8 @@ pub record Description : Type 1 where
   pub replaces : Option (List ℕ)
   -- the file that it edits, which stays as it was where the command was refused, but for what an edit that failed may leave of it
   pub edits : Option (List ℕ)
+  -- a file that stays as it was where there was not enough memory, where neither of these says so
+  pub spared : Option (List ℕ)
   -- the only file that it changes, and the only one that it writes, however it ends
   pub alone : Option (List ℕ)
   -- the only file that it makes anew, however it ends: no other one changes but the one with `.new` added to its name
@@ -83,7 +85,8 @@ pub record ChangesWithin (command : Description) (old new : StoreSeen) : Type 0 
   pub few : IfSome command.most_writes (λ (most : ℕ). new.writes ≤ old.writes + most)
 
 -- A command was carried out but for its error line. Where it was refused, for whichever cause, a file that it replaces as a whole
--- is as it was, and one that it edits is as an edit leaves it by the status of that cause. What was written has been synced where it was
+-- is as it was, and one that it edits is as an edit leaves it by the status of that cause; one that is spared is as it was where there
+-- was not enough memory. What was written has been synced where it was
 -- done, and where it was refused too, unless a call on the store failed. The link is said to have failed only where not all was done with
 -- it; where memory ran out, a command that reads no commands did nothing with it; and a command that did not come to use it left it as it
 -- was. Where commands were to be read, and what stopped that names no line, nothing was done but that the input was read.
@@ -92,6 +95,8 @@ pub record IsCarriedOut (command : Description) (invocation : Invocation) (tells
   pub named : IfSome command.replaces (λ (file : List ℕ). OnErr result (IsTrue tells.store → new.store.files file ≡ old.store.files file))
   pub edited : IfSome command.edits (λ (file : List ℕ). IfErr result (λ (refusal : Refusal). IsTrue tells.store
       → IsLeftByEdit (status_of refusal.cause) old.store.files new.store.files file))
+  pub spared : IfSome command.spared (λ (file : List ℕ). IfErr result (λ (refusal : Refusal). refusal.cause ≡ Memory → IsTrue tells.store
+      → new.store.files file ≡ old.store.files file))
   pub within : ChangesWithin command old.store new.store
   pub reads : OnOk result (IsWorldTold tells → ReadsWithin (command.most_reads (outside_of old)) old.store new.store)
   pub made : OnOk result (IsTrue tells.store → command.made invocation (outside_of old) new.store.files)

@@ -12,7 +12,7 @@ use Rattle.refusals.specs.declared.cause.Cause.{Cause}
 use Rattle.refusals.specs.declared.cause.Cause.TheVariants.{SinkFault}
 use Rattle.refusals.specs.Refusals.{refusal_of}
 use Rattle.refusals.specs.Outcome.{Outcome}
-use Rattle.run_steps.specs.Act.{Act, Follows, ToErr, answers, err_bytes, out_bytes, started_by}
+use Rattle.run_steps.specs.Act.{Act, Follows, ToErr, answers, err_bytes, out_bytes, started_by, InPlace}
 use Rattle.run_steps.specs.Done.{AreDone, AreDoneInPart, RunSeen, RunTells}
 use Rattle.run_steps.specs.Run.{CarriesOut, FailsAtHand, HasSteps, IsDoneInPart}
 use Rattle.run_steps.specs.Steps.{DoingAll, Finish, Steps, Then}
@@ -22,7 +22,7 @@ use Rattle.edit_steps.specs.EditStep.{edit_step}
 use Rattle.run_steps.proofs.ActLemmas.{answers-append, appends_nothing, err_bytes-append, follows-append, none_in_part, out_bytes-append, started_by-append}
 use Rattle.run_steps.proofs.DoingLemmas.{AreWritten, done_steps}
 use Rattle.run_steps.proofs.PartLemmas.{acts_in_part, carried_whole}
-use Rattle.run_steps.proofs.WritesLemmas.{writes_for-before}
+use Rattle.run_steps.proofs.WritesLemmas.{writes_for-before, writes_in_part}
 use Rattle.edit_steps.proofs.EditLemmas.{IsMade, acts_of, step_made, acts_written}
 
 -- what is seen once the store was used, and lines were said
@@ -91,7 +91,8 @@ said_up_to acts lines said unsaid tells old store err are whole part =
         err = λ told. subst (λ (b : List ℕ). AppendsPrefix (old.err.written ++ b) err.written (err_bytes (take 1 (said_acts unsaid)))) (sym (all_err acts said old.store store are)) (part told);
         answered = first.answered;
         started = first.started;
-        writes = writes_for-before (acts ++ said_acts said) (take 1 (said_acts unsaid)) old.store.writes store.writes first.writes;
+        writes = writes_in_part (take 1 (said_acts unsaid)) ((acts ++ said_acts said) ++ take 1 (said_acts unsaid)) old.store.writes store.writes
+            (writes_for-before (acts ++ said_acts said) (take 1 (said_acts unsaid)) old.store.writes store.writes first.writes);
       },
       refl,
     )
@@ -127,18 +128,18 @@ Saying outcome lines = Then outcome (λ (acts : List Act). DoingAll (acts ++ sai
 
 -- an edit of a value was made, and all that is to be said was said
 made_steps : (name : List ℕ) (edit : Edit) (value : QuotaValue) (lines : List (List ℕ)) (tells : RunTells) (old : RunSeen) (store : StoreSeen) (err : SinkSeen) → IsMade name edit value (IsTrue tells.store) old.store store
-    → (IsTrue tells.err → err.written ≡ old.err.written ++ concat lines) → IsTrue tells.store → HasSteps (Saying (edit_step name edit (old.store.files name) value) lines) tells None old (with_said old store err)
+    → (IsTrue tells.err → err.written ≡ old.err.written ++ concat lines) → IsTrue tells.store → HasSteps (Saying (edit_step InPlace name edit (old.store.files name) value) lines) tells None old (with_said old store err)
 made_steps name edit value lines tells old store err made said told =
-    subst (λ (o : Outcome (List Act)). HasSteps (Saying o lines) tells None old (with_said old store err)) (sym (step_made name edit value _ old.store store made told))
-    (done_steps (acts_of name edit value ++ said_acts lines) None tells old (with_said old store err) refl refl
-    (all_said (acts_of name edit value) lines tells old store err (acts_written name edit value _ old.store store made told) said))
+    subst (λ (o : Outcome (List Act)). HasSteps (Saying o lines) tells None old (with_said old store err)) (sym (step_made InPlace name edit value _ old.store store made told))
+    (done_steps (acts_of InPlace name edit value ++ said_acts lines) None tells old (with_said old store err) refl refl
+    (all_said (acts_of InPlace name edit value) lines tells old store err (acts_written InPlace name edit value _ old.store store made told) said))
 
 pub edit_made : (name : List ℕ) (edit : Edit) (value : QuotaValue) (lines : List (List ℕ)) (warns : Bool) (may : Cause → List ℕ → Type 0) (tells : RunTells) (old : RunSeen) (store : StoreSeen) (err : SinkSeen)
     → IsMade name edit value (IsTrue tells.store) old.store store → (IsTrue tells.store → IsTrue tells.err → err.written ≡ old.err.written ++ concat lines)
     → (warns ≡ false → err ≡ old.err) → old.err.faults ≤ err.faults
-    → CarriesOut (Saying (edit_step name edit (old.store.files name) value) lines) (edit_uses warns) may tells old (with_said old store err) (Ok tt)
+    → CarriesOut (Saying (edit_step InPlace name edit (old.store.files name) value) lines) (edit_uses warns) may tells old (with_said old store err) (Ok tt)
 edit_made name edit value lines warns may tells old store err made said quiet later =
-    carried_whole (Saying (edit_step name edit (old.store.files name) value) lines) (edit_uses warns) may tells old (with_said old store err) tt
+    carried_whole (Saying (edit_step InPlace name edit (old.store.files name) value) lines) (edit_uses warns) may tells old (with_said old store err) tt
     (λ told. made_steps name edit value lines tells old store err made (said told.store) told.store)
     (λ only. absurd (false≢true (sym only))) quiet
     (record { store = made.leaves.later; input = omega arith; out = omega arith; err = later; link = omega arith })
@@ -147,14 +148,14 @@ edit_made name edit value lines warns may tells old store err made said quiet la
 pub edit_unsaid : (name : List ℕ) (edit : Edit) (value : QuotaValue) (lines : List (List ℕ)) (warns : Bool) (may : Cause → List ℕ → Type 0) (tells : RunTells) (old : RunSeen) (store : StoreSeen) (err : SinkSeen)
     → IsMade name edit value (IsTrue tells.store) old.store store → (IsTrue tells.store → IsTrue tells.err → IsSaidInPart lines old.err.written err.written)
     → IsTrue warns → Rose old.err.faults err.faults → old.err.faults ≤ err.faults → may SinkFault name
-    → CarriesOut (Saying (edit_step name edit (old.store.files name) value) lines) (edit_uses warns) may tells old (with_said old store err) (Err (refusal_of SinkFault name))
+    → CarriesOut (Saying (edit_step InPlace name edit (old.store.files name) value) lines) (edit_uses warns) may tells old (with_said old store err) (Err (refusal_of SinkFault name))
 edit_unsaid name edit value lines warns may tells old store err made said warning rose later allowed = record {
   done = tt;
   refused = inr (warning, rose);
   part = λ told.
-      let unsaid = unsaid_case (acts_of name edit value) lines tells old store err tells.err refl (acts_written name edit value _ old.store store made told.store) (said told.store) in
-      subst (λ (o : Outcome (List Act)). IsDoneInPart (Saying o lines) tells (Some SinkFault) old (with_said old store err)) (sym (step_made name edit value _ old.store store made told.store))
-      (acts_in_part (acts_of name edit value ++ said_acts lines) None tells old (with_said old store err) refl unsaid.0
+      let unsaid = unsaid_case (acts_of InPlace name edit value) lines tells old store err tells.err refl (acts_written InPlace name edit value _ old.store store made told.store) (said told.store) in
+      subst (λ (o : Outcome (List Act)). IsDoneInPart (Saying o lines) tells (Some SinkFault) old (with_said old store err)) (sym (step_made InPlace name edit value _ old.store store made told.store))
+      (acts_in_part (acts_of InPlace name edit value ++ said_acts lines) None tells old (with_said old store err) refl unsaid.0
       (λ is err_told.
       let next = unsaid.1 err_told in
       fails_unsaid unsaid.0.rest next.0 next.1 _ _ next.2 rose));

@@ -19,7 +19,7 @@ use Rattle.command_words.specs.declared.command.Common.{Common}
 use Rattle.refusals.specs.declared.cause.Cause.TheVariants.{Full}
 use Rattle.refusals.specs.declared.reason.Refusal.{Refusal}
 use Rattle.refusals.specs.Outcome.{Outcome, Passed, Refused}
-use Rattle.run_steps.specs.Act.{Act, Change}
+use Rattle.run_steps.specs.Act.{Act, Change, InPlace}
 use Rattle.run_steps.specs.Changing.{blocks_after, written}
 use Rattle.run_steps.specs.Done.{Outside}
 use Rattle.run_steps.specs.Meaning.{EndsBy}
@@ -61,17 +61,17 @@ never_done acts old done new refusal ends = absurd (none-some refusal (sym (doin
 
 written_full : (kind : Kind) (asked : Option Format) (file : List ℕ) (edit : Edit) (value new : QuotaValue) (lines : List (List ℕ)) (old : Outside) (acts : List Act) (to : Outside) (refusal : Refusal) (blocks limit : ℕ)
     → refusal.cause ≡ Full blocks limit → IsView (old.files file) kind asked (Ok value) → edit.edited value ≡ Ok new
-    → (idle : Bool) → edit.is_idle value ≡ idle → (large : Bool) → is_too_large edit (old.files file) new ≡ large → EndsBy (Saying (written file (blocks_after (old.files file) new) new idle large) lines) old acts to (Some refusal)
+    → (idle : Bool) → edit.is_idle value ≡ idle → (large : Bool) → is_too_large edit (old.files file) new ≡ large → EndsBy (Saying (written InPlace file (blocks_after (old.files file) new) new idle large) lines) old acts to (Some refusal)
     → (refusal.name ≡ file) × IsFullFor kind asked edit (to.files file) blocks limit
 written_full kind asked file edit value new lines old acts to refusal blocks limit is view set true idle large more ends = never_done (said_acts lines) old acts to refusal ends
 written_full kind asked file edit value new lines old acts to refusal blocks limit is view set false idle true more ends =
     subst (λ (o : Outside). (refusal.name ≡ file) × IsFullFor kind asked edit (o.files file) blocks limit) (sym ends.same)
     (full_for kind asked file edit value new old.files refusal _ blocks limit view set idle more is ends.ends refl refl)
-written_full kind asked file edit value new lines old acts to refusal blocks limit is view set false idle false more ends = never_done (Change file new ∷ said_acts lines) old acts to refusal ends
+written_full kind asked file edit value new lines old acts to refusal blocks limit is view set false idle false more ends = never_done (Change InPlace file new ∷ said_acts lines) old acts to refusal ends
 
 step_full : (kind : Kind) (asked : Option Format) (file : List ℕ) (edit : Edit) (value : QuotaValue) (lines : List (List ℕ)) (old : Outside) (acts : List Act) (to : Outside) (refusal : Refusal) (blocks limit : ℕ)
     → refusal.cause ≡ Full blocks limit → IsView (old.files file) kind asked (Ok value)
-    → (edited : Result QuotaValue (Field × ℕ)) → edit.edited value ≡ edited → EndsBy (Saying (changed file edit (old.files file) value edited) lines) old acts to (Some refusal)
+    → (edited : Result QuotaValue (Field × ℕ)) → edit.edited value ≡ edited → EndsBy (Saying (changed InPlace file edit (old.files file) value edited) lines) old acts to (Some refusal)
     → (refusal.name ≡ file) × IsFullFor kind asked edit (to.files file) blocks limit
 step_full kind asked file edit value lines old acts to refusal blocks limit is view (Ok new) set ends =
     written_full kind asked file edit value new lines old acts to refusal blocks limit is view set (edit.is_idle value) refl (is_too_large edit (old.files file) new) refl ends

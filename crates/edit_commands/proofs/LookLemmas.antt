@@ -7,7 +7,7 @@ use Rattle.quota_blocks.specs.World.{World}
 use Rattle.quota_types.specs.declared.record.Grace.{Grace as GracePeriods}
 use Rattle.id_names.specs.NamesFile.{NameLine}
 use Rattle.command_words.specs.declared.command.Common.{Common}
-use Rattle.run_steps.specs.Act.{Act, ToOut}
+use Rattle.run_steps.specs.Act.{Act, ToOut, InPlace}
 use Rattle.run_steps.specs.Done.{Outside}
 use Rattle.run_steps.specs.OneCommand.{AreSameSteps}
 use Rattle.run_steps.specs.Numbers.{grace_read, identifier_of}
@@ -36,12 +36,12 @@ Edited edit file invocation value acts = DoingAll (acts ++ said_acts (warnings i
 -- Their looks are alike.
 
 file_edit_alike : (rooms : Bool) (one other : World) (kind : Kind) (asked : Option Format) (edit : FileEdit) (file : List ℕ) (invocation : Invocation)
-    → ((value : QuotaValue) → AreSameSteps rooms (Then (edit_step file (edit_meant edit invocation.now) (one file) value) (Edited edit file invocation value))
-    (Then (edit_step file (edit_meant edit invocation.now) (other file) value) (Edited edit file invocation value)))
+    → ((value : QuotaValue) → AreSameSteps rooms (Then (edit_step InPlace file (edit_meant edit invocation.now) (one file) value) (Edited edit file invocation value))
+    (Then (edit_step InPlace file (edit_meant edit invocation.now) (other file) value) (Edited edit file invocation value)))
     → LooksAlikeBy rooms one other (FileEditSteps kind asked edit file invocation)
 file_edit_alike rooms one other kind asked edit file invocation same = λ value. (
   same value,
-  alike_then rooms one other (edit_step file (edit_meant edit invocation.now) (one file) value) (Edited edit file invocation value)
+  alike_then rooms one other (edit_step InPlace file (edit_meant edit invocation.now) (one file) value) (Edited edit file invocation value)
       (λ acts. alike_done rooms one other (acts ++ said_acts (warnings invocation.line (skipped_by edit value))) None),
 )
 
@@ -86,7 +86,7 @@ file_edit_opens : (common : Common) (edit : FileEdit) (file : List ℕ) (invocat
     → IsFileOf common file opened
 file_edit_opens common edit file invocation old opened opens =
     let is = IsFileOf common file opened in
-    let seen = λ (files : World) (value : QuotaValue). edit_step file (edit_meant edit invocation.now) (files file) value in
+    let seen = λ (files : World) (value : QuotaValue). edit_step InPlace file (edit_meant edit invocation.now) (files file) value in
     let edited = seen old.files in
     opens_opening is common.kind common.format file (λ (value : QuotaValue). Looking (λ (files : World). Then (seen files value) (Edited edit file invocation value))) old opened (λ same. same) (λ value.
     opens_then is (edited value) (Edited edit file invocation value) old opened (λ acts.

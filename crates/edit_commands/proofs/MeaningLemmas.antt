@@ -11,7 +11,7 @@ use Rattle.set_edit.specs.Edits.{limits_edit}
 use Rattle.set_edit.specs.declared.limits.Limits.{Limits as FourLimits}
 use Rattle.command_words.specs.declared.command.Common.{Common}
 use Rattle.refusals.specs.Outcome.{Passed}
-use Rattle.run_steps.specs.Act.{ToOut}
+use Rattle.run_steps.specs.Act.{ToOut, InPlace}
 use Rattle.run_steps.specs.Done.{Outside}
 use Rattle.run_steps.specs.Meaning.{IsSure}
 use Rattle.run_steps.specs.Naming.{names_seen}
@@ -41,7 +41,7 @@ file_edit_looks takes kind asked edit file invocation = (
   refl,
   λ value. (
     inl refl,
-    λ files. looks_then false true takes (edit_step file (edit_meant edit invocation.now) (files file) value) _
+    λ files. looks_then false true takes (edit_step InPlace file (edit_meant edit invocation.now) (files file) value) _
         (λ acts. looks_done false true takes (acts ++ said_acts (warnings invocation.line (skipped_by edit value))) None),
   ),
 )
@@ -74,10 +74,10 @@ file_edit_sure : (kind : Kind) (asked : Option Format) (edit : FileEdit) (file :
 file_edit_sure kind asked edit file invocation value new old view fits =
     let meant = edit_meant edit invocation.now in
     let lines = λ (v : QuotaValue). warnings invocation.line (skipped_by edit v) in
-    sure_opening kind asked file (λ v. Looking (λ (files : World). Saying (edit_step file meant (files file) v) (lines v))) value old view
-    (sure_then (edit_step file meant (old.files file) value) (λ acts. DoingAll (acts ++ said_acts (lines value)) Finish) (change_acts file new (meant.is_idle value)) old
-    (step_fits file meant (old.files file) value new fits)
-    (sure_done (change_acts file new (meant.is_idle value) ++ said_acts (lines value)) old))
+    sure_opening kind asked file (λ v. Looking (λ (files : World). Saying (edit_step InPlace file meant (files file) v) (lines v))) value old view
+    (sure_then (edit_step InPlace file meant (old.files file) value) (λ acts. DoingAll (acts ++ said_acts (lines value)) Finish) (change_acts InPlace file new (meant.is_idle value)) old
+    (step_fits InPlace file meant (old.files file) value new fits)
+    (sure_done (change_acts InPlace file new (meant.is_idle value) ++ said_acts (lines value)) old))
 
 -- The names are known, the words well formed, the file is accepted, and the edit fits.
 pub edit_sure : (common : Common) (words : EditWords) (file : List ℕ) (invocation : Invocation) (names : List NameLine) (edit : FileEdit) (value new : QuotaValue) (old : Outside)

@@ -16,7 +16,7 @@ use Rattle.refusals.specs.declared.reason.Refusal.{Refusal}
 use Rattle.command_words.specs.declared.command.Common.{Common}
 use Rattle.edit_commands.specs.declared.edit.EditWords.{EditWords}
 use Rattle.edit_commands.specs.declared.edit.FileEdit.{FileEdit}
-use Rattle.run_steps.specs.Act.{Act, MayBeLeft, ToErr}
+use Rattle.run_steps.specs.Act.{Act, InPlace, MayBeLeft, ToErr}
 use Rattle.run_steps.specs.Naming.{MayBeNames, NamesMayRefuse}
 use Rattle.run_steps.specs.Opening.{MayRefuseOpening}
 use Rattle.refusals.specs.Outcome.{Passed, Refused, refusal_in}
@@ -65,7 +65,7 @@ abbrev pub FileEditSteps : Kind → Option Format → FileEdit → List ℕ → 
 FileEditSteps kind asked edit file invocation =
     Opening kind asked file (λ (value : QuotaValue).
     Looking (λ (files : World).
-    Then (edit_step file (edit_meant edit invocation.now) (files file) value) (λ (acts : List Act).
+    Then (edit_step InPlace file (edit_meant edit invocation.now) (files file) value) (λ (acts : List Act).
     DoingAll (acts ++ said_acts (warnings invocation.line (skipped_by edit value))) Finish)))
 
 -- the names are read, and then the words, and then the file is edited

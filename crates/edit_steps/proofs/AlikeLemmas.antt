@@ -4,7 +4,7 @@ use Rattle.quota_types.specs.declared.field.Field.{Field}
 use Rattle.quota_blocks.specs.QuotaValue.{QuotaValue}
 use Rattle.set_edit.specs.Editing.{Edit}
 use Rattle.refusals.specs.Outcome.{Outcome, Passed, Refused}
-use Rattle.run_steps.specs.Act.{Act}
+use Rattle.run_steps.specs.Act.{Act, Way}
 use Rattle.run_steps.specs.Changing.{blocks_after, written}
 use Rattle.run_steps.specs.OneCommand.{AreSameSteps, IsFullCause}
 use Rattle.run_steps.specs.Steps.{Steps, Then}
@@ -19,16 +19,16 @@ WantsRoom (Refused refusal) = IsFullCause refusal.cause
 abbrev pub AreAlike : (one other : Outcome (List Act)) → Type 0
 AreAlike one other = (one ≡ other) ⊎ (WantsRoom one ⊎ WantsRoom other)
 
-written_alike : (name : List ℕ) (blocks more : ℕ) (new : QuotaValue) (idle large also : Bool) → AreAlike (written name blocks new idle large) (written name more new idle also)
-written_alike name blocks more new true large also = inl refl
-written_alike name blocks more new false true also = inr (inl tt)
-written_alike name blocks more new false false true = inr (inr tt)
-written_alike name blocks more new false false false = inl refl
+written_alike : (way : Way) (name : List ℕ) (blocks more : ℕ) (new : QuotaValue) (idle large also : Bool) → AreAlike (written way name blocks new idle large) (written way name more new idle also)
+written_alike way name blocks more new true large also = inl refl
+written_alike way name blocks more new false true also = inr (inl tt)
+written_alike way name blocks more new false false true = inr (inr tt)
+written_alike way name blocks more new false false false = inl refl
 
-pub changed_alike : (name : List ℕ) (edit : Edit) (one other : Option (List ℕ)) (value : QuotaValue) (edited : Result QuotaValue (Field × ℕ)) → AreAlike (changed name edit one value edited) (changed name edit other value edited)
-changed_alike name edit one other value (Ok new) =
-    written_alike name (blocks_after one new) (blocks_after other new) new (edit.is_idle value) (is_too_large edit one new) (is_too_large edit other new)
-changed_alike name edit one other value (Err out) = inl refl
+pub changed_alike : (way : Way) (name : List ℕ) (edit : Edit) (one other : Option (List ℕ)) (value : QuotaValue) (edited : Result QuotaValue (Field × ℕ)) → AreAlike (changed way name edit one value edited) (changed way name edit other value edited)
+changed_alike way name edit one other value (Ok new) =
+    written_alike way name (blocks_after one new) (blocks_after other new) new (edit.is_idle value) (is_too_large edit one new) (is_too_large edit other new)
+changed_alike way name edit one other value (Err out) = inl refl
 
 pub then_alike : (one other : Outcome (List Act)) (next : List Act → Steps) → AreAlike one other → AreSameSteps true (Then one next) (Then other next)
 then_alike one other next (inl same) = inl (ap (λ (o : Outcome (List Act)). Then o next) same)

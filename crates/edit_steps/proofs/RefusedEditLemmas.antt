@@ -24,17 +24,17 @@ use Rattle.refusals.specs.declared.cause.Cause.TheVariants.{Full as FileFull, No
 use Rattle.refusals.specs.Outcome.{Refused}
 use Rattle.refusals.specs.Refusals.{refusal_of}
 use Rattle.refusals.specs.Status.{status_of}
-use Rattle.run_steps.specs.Act.{Act, Change, MayBeLeft}
+use Rattle.run_steps.specs.Act.{Act, Change, MayBeLeft, Way}
 use Rattle.run_steps.specs.Done.{Outside, RunSeen, RunTells, outside_of}
 use Rattle.run_steps.specs.Meaning.{HasBegun}
 use Rattle.run_steps.specs.Run.{HasReason, IsDoneInPart, Uses}
 use Rattle.run_steps.specs.Steps.{Steps, Then}
-use Rattle.run_steps.specs.Changing.{blocks_after, written}
+use Rattle.run_steps.specs.Changing.{blocks_after, idle_acts, written}
 use Rattle.edit_steps.specs.EditStep.{changed, edit_cause, edit_step, is_too_large}
-use Rattle.run_steps.proofs.ActLemmas.{appends_nothing}
+use Rattle.run_steps.proofs.ActLemmas.{appends_nothing, leaves_others}
 use Rattle.run_steps.proofs.OpeningLemmas.{file_no_output, with_store}
 use Rattle.run_steps.proofs.PartLemmas.{nothing_begun}
-use Rattle.run_steps.proofs.WritesLemmas.{writes_for-edit}
+use Rattle.run_steps.proofs.WritesLemmas.{writes_for-edit, writes_in_part}
 
 -- What an edit of a value left that was refused: nothing was written unless the store failed. Where this much is told, nothing was
 -- written either where nothing is to be done, the value does not fit or there is no room for it, and the named file is what an edit
@@ -77,41 +77,41 @@ read_part : {done : Bool} {why : Option Cause} (name : List ℕ) (steps : Steps)
     → IsDoneInPart steps tells why old (with_store old store)
 read_part name steps tells old store other reads = nothing_begun steps tells old (with_store old store) other reads.files (λ told. refl) (λ told. refl) refl refl refl reads.writes
 
-written_part : {done : Bool} {why : Option Cause} (name : List ℕ) (blocks : ℕ) (edited : QuotaValue) (idle large : Bool) (next : List Act → Steps) (tells : RunTells) (old : RunSeen) (store : StoreSeen) → why ≢ Some SinkFault → BeginsWith next
+written_part : {done : Bool} {why : Option Cause} (way : Way) (name : List ℕ) (blocks : ℕ) (edited : QuotaValue) (idle large : Bool) (next : List Act → Steps) (tells : RunTells) (old : RunSeen) (store : StoreSeen) → why ≢ Some SinkFault → BeginsWith next
     → (IsTrue idle → OnlyReads done name old.store store) → (IsTrue large → OnlyReads done name old.store store) → MayBeLeft edited (old.store.files name) (store.files name) → EditsOne name old.store store → store.writes ≤ old.store.writes + 12
-    → IsDoneInPart (Then (written name blocks edited idle large) next) tells why old (with_store old store)
-written_part name blocks edited true large next tells old store other begins same full named leaves few = read_part name (next []) tells old store other (same refl)
-written_part name blocks edited false true next tells old store other begins same full named leaves few =
-    read_part name (Then (written name blocks edited false true) next) tells old store other (full refl)
-written_part name blocks edited false false next tells old store other begins same full named leaves few = record {
+    → IsDoneInPart (Then (written way name blocks edited idle large) next) tells why old (with_store old store)
+written_part way name blocks edited true large next tells old store other begins same full named leaves few = read_part name (next (idle_acts way)) tells old store other (same refl)
+written_part way name blocks edited false true next tells old store other begins same full named leaves few =
+    read_part name (Then (written way name blocks edited false true) next) tells old store other (full refl)
+written_part way name blocks edited false false next tells old store other begins same full named leaves few = record {
   done = [];
-  hand = Change name edited ∷ [];
+  hand = Change way name edited ∷ [];
   now = outside_of old;
-  begun = begins (Change name edited) (outside_of old);
-  files = (named, leaves.files);
+  begun = begins (Change way name edited) (outside_of old);
+  files = (named, leaves_others way name old.store.files store.files leaves.files);
   out = λ told. appends_nothing (old.out.written ++ []) old.out.written [] (sym (append-nil old.out.written));
   err = λ told. appends_nothing (old.err.written ++ []) old.err.written [] (sym (append-nil old.err.written));
   answered = sym (append-nil old.link.answers);
   started = refl;
   datagrams = refl;
-  writes = writes_for-edit name edited old.store.writes store.writes few;
+  writes = writes_in_part (Change way name edited ∷ []) (Change way name edited ∷ []) old.store.writes store.writes (writes_for-edit way name edited old.store.writes store.writes few);
   failed = λ is told. absurd (other is);
 }
 
-changed_part : {why : Option Cause} (name : List ℕ) (edit : Edit) (value : QuotaValue) (edited : Result QuotaValue (Field × ℕ)) (next : List Act → Steps) (tells : RunTells) (old : RunSeen) (store : StoreSeen) (cause : Cause)
+changed_part : {why : Option Cause} (way : Way) (name : List ℕ) (edit : Edit) (value : QuotaValue) (edited : Result QuotaValue (Field × ℕ)) (next : List Act → Steps) (tells : RunTells) (old : RunSeen) (store : StoreSeen) (cause : Cause)
     → edit.edited value ≡ edited → why ≢ Some SinkFault → BeginsWith next → IsRefusedAt name edit value (IsTrue tells.store) old.store store cause → IsTrue tells.store
-    → IsDoneInPart (Then (changed name edit (old.store.files name) value edited) next) tells why old (with_store old store)
-changed_part name edit value (Ok one) next tells old store cause set other begins refused is =
-    written_part name (blocks_after (old.store.files name) one) one (edit.is_idle value) (is_too_large edit (old.store.files name) one) next tells old store other begins (refused.idle is) (refused.full is one set)
+    → IsDoneInPart (Then (changed way name edit (old.store.files name) value edited) next) tells why old (with_store old store)
+changed_part way name edit value (Ok one) next tells old store cause set other begins refused is =
+    written_part way name (blocks_after (old.store.files name) one) one (edit.is_idle value) (is_too_large edit (old.store.files name) one) next tells old store other begins (refused.idle is) (refused.full is one set)
     (refused.named is one set) refused.leaves refused.few
-changed_part name edit value (Err out) next tells old store cause set other begins refused is =
-    read_part name (Then (changed name edit (old.store.files name) value (Err out)) next) tells old store other (refused.unfit is out set)
+changed_part way name edit value (Err out) next tells old store cause set other begins refused is =
+    read_part name (Then (changed way name edit (old.store.files name) value (Err out)) next) tells old store other (refused.unfit is out set)
 
 -- of the steps of an edit that was refused the first act was begun at most
-pub refused_part : {why : Option Cause} (name : List ℕ) (edit : Edit) (value : QuotaValue) (next : List Act → Steps) (tells : RunTells) (old : RunSeen) (store : StoreSeen) (cause : Cause)
+pub refused_part : {why : Option Cause} (way : Way) (name : List ℕ) (edit : Edit) (value : QuotaValue) (next : List Act → Steps) (tells : RunTells) (old : RunSeen) (store : StoreSeen) (cause : Cause)
     → why ≢ Some SinkFault → BeginsWith next → IsRefusedAt name edit value (IsTrue tells.store) old.store store cause → IsTrue tells.store
-    → IsDoneInPart (Then (edit_step name edit (old.store.files name) value) next) tells why old (with_store old store)
-refused_part name edit value next tells old store cause other begins refused is = changed_part name edit value (edit.edited value) next tells old store cause refl other begins refused is
+    → IsDoneInPart (Then (edit_step way name edit (old.store.files name) value) next) tells why old (with_store old store)
+refused_part way name edit value next tells old store cause other begins refused is = changed_part way name edit value (edit.edited value) next tells old store cause refl other begins refused is
 
 -- Why an edit was refused.
 
@@ -123,10 +123,10 @@ IsLacking file new blocks limit = (blocks ≡ blocks_after file new) × (limit �
 more_of : (a b : ℕ) → a < b → nat_lt a b ≡ true
 more_of a b less = grind (arith, nat_tests)
 
-written_full : (name : List ℕ) (blocks : ℕ) (new : QuotaValue) (idle large : Bool) → idle ≡ false → IsTrue large → written name blocks new idle large ≡ Refused (refusal_of (FileFull blocks most_blocks) name)
-written_full name blocks new true large some more = absurd (cc)
-written_full name blocks new false true some more = refl
-written_full name blocks new false false some more = absurd (false≢true more)
+written_full : (way : Way) (name : List ℕ) (blocks : ℕ) (new : QuotaValue) (idle large : Bool) → idle ≡ false → IsTrue large → written way name blocks new idle large ≡ Refused (refusal_of (FileFull blocks most_blocks) name)
+written_full way name blocks new true large some more = absurd (cc)
+written_full way name blocks new false true some more = refl
+written_full way name blocks new false false some more = absurd (false≢true more)
 
 -- a value for which there is no room is found to be too large
 too_large : (edit : Edit) (new : QuotaValue) (needs more : Bool) → IsTrue needs → IsTrue more → IsTrue (needs && more)
@@ -135,21 +135,21 @@ too_large edit new true false needs more = absurd (false≢true more)
 too_large edit new false more needs is = absurd (false≢true needs)
 
 -- the refusal of a value for which there is no room
-pub full_changed : (name : List ℕ) (edit : Edit) (file : Option (List ℕ)) (value : QuotaValue) (edited : Result QuotaValue (Field × ℕ)) (blocks limit : ℕ)
+pub full_changed : (way : Way) (name : List ℕ) (edit : Edit) (file : Option (List ℕ)) (value : QuotaValue) (edited : Result QuotaValue (Field × ℕ)) (blocks limit : ℕ)
     → IsTrue edit.needs_room → IsOkAnd edited (λ (new : QuotaValue). IsLacking file new blocks limit) → edit.is_idle value ≡ false
-    → changed name edit file value edited ≡ Refused (refusal_of (FileFull blocks limit) name)
-full_changed name edit file value (Ok new) blocks limit needs lacking wanted =
-    written_full name (blocks_after file new) new (edit.is_idle value) (is_too_large edit file new) wanted
+    → changed way name edit file value edited ≡ Refused (refusal_of (FileFull blocks limit) name)
+full_changed way name edit file value (Ok new) blocks limit needs lacking wanted =
+    written_full way name (blocks_after file new) new (edit.is_idle value) (is_too_large edit file new) wanted
     (too_large edit new edit.needs_room (nat_lt most_blocks (blocks_after file new)) needs (more_of most_blocks (blocks_after file new) (subst (λ (b : ℕ). most_blocks < b) lacking.0 lacking.2)))
     ∙ ap (λ (b : ℕ). Refused (refusal_of (FileFull b most_blocks) name)) (sym lacking.0)
     ∙ ap (λ (l : ℕ). Refused (refusal_of (FileFull blocks l) name)) (sym lacking.1)
-full_changed name edit file value (Err out) blocks limit needs lacking wanted = absurd lacking
+full_changed way name edit file value (Err out) blocks limit needs lacking wanted = absurd lacking
 
 -- the refusal of a value that does not fit
-pub unfit_refused : (name : List ℕ) (edit : Edit) (file : Option (List ℕ)) (value : QuotaValue) (out : NoRoom) → out.id ≡ edit.id → edit.edited value ≡ Err (out.field, out.value)
-    → edit_step name edit file value ≡ Refused (refusal_of (NoRoomFor out) name)
-unfit_refused name edit file value out same is =
-    ap (λ (r : Result QuotaValue (Field × ℕ)). changed name edit file value r) is
+pub unfit_refused : (way : Way) (name : List ℕ) (edit : Edit) (file : Option (List ℕ)) (value : QuotaValue) (out : NoRoom) → out.id ≡ edit.id → edit.edited value ≡ Err (out.field, out.value)
+    → edit_step way name edit file value ≡ Refused (refusal_of (NoRoomFor out) name)
+unfit_refused way name edit file value out same is =
+    ap (λ (r : Result QuotaValue (Field × ℕ)). changed way name edit file value r) is
     ∙ ap (λ (i : ℕ). Refused (refusal_of (NoRoomFor (record { id = i; field = out.field; value = out.value })) name)) (sym same)
 
 -- Why an edit of this file was refused: its cause, over the value that the file holds.
@@ -161,16 +161,16 @@ pub record HasEditCause (edit : Edit) (file : Option (List ℕ)) (before now : �
   pub wanted : IfSome (file_fault fault) (λ (out : FileFault). UnlessStoreFailed out ((value : QuotaValue) → holds value → edit.is_idle value ≡ false))
 
 -- the step of an edit of the value of this file is refused with a cause that is no fault
-abbrev pub IsStepRefused : List ℕ → Edit → Option (List ℕ) → EditFault → QuotaValue → Type 0
-IsStepRefused name edit file fault value = (edit_step name edit file value ≡ Refused (refusal_of (edit_cause fault) name)) × (status_of (edit_cause fault) ≢ 4)
+abbrev pub IsStepRefused : Way → List ℕ → Edit → Option (List ℕ) → EditFault → QuotaValue → Type 0
+IsStepRefused way name edit file fault value = (edit_step way name edit file value ≡ Refused (refusal_of (edit_cause fault) name)) × (status_of (edit_cause fault) ≢ 4)
 
-pub edit_reason : (name : List ℕ) (edit : Edit) (file : Option (List ℕ)) (uses : Uses) (old new : RunSeen) (before : ℕ) (holds : QuotaValue → Type 0) (fault : EditFault) → old.store.faults ≤ before
-    → HasEditCause edit file before new.store.faults holds fault → HasReason uses old new ((value : QuotaValue) → holds value → IsStepRefused name edit file fault value) (edit_cause fault)
-edit_reason name edit file uses old new before holds (File Store) le cause = let rose = cause.refused in omega (arith, le, rose)
-edit_reason name edit file uses old new before holds (File (Damage damage)) le cause = λ value held. absurd (cause.refused value held)
-edit_reason name edit file uses old new before holds (File (Full blocks limit)) le cause = λ value held. (
-  full_changed name edit file value (edit.edited value) blocks limit cause.refused.0 (cause.refused.1 value held) (cause.wanted value held),
+pub edit_reason : (way : Way) (name : List ℕ) (edit : Edit) (file : Option (List ℕ)) (uses : Uses) (old new : RunSeen) (before : ℕ) (holds : QuotaValue → Type 0) (fault : EditFault) → old.store.faults ≤ before
+    → HasEditCause edit file before new.store.faults holds fault → HasReason uses old new ((value : QuotaValue) → holds value → IsStepRefused way name edit file fault value) (edit_cause fault)
+edit_reason way name edit file uses old new before holds (File Store) le cause = let rose = cause.refused in omega (arith, le, rose)
+edit_reason way name edit file uses old new before holds (File (Damage damage)) le cause = λ value held. absurd (cause.refused value held)
+edit_reason way name edit file uses old new before holds (File (Full blocks limit)) le cause = λ value held. (
+  full_changed way name edit file value (edit.edited value) blocks limit cause.refused.0 (cause.refused.1 value held) (cause.wanted value held),
   λ e. omega (arith, e),
 )
-edit_reason name edit file uses old new before holds (File Memory) le cause = tt
-edit_reason name edit file uses old new before holds (Unfit out) le cause = λ value held. (unfit_refused name edit file value out cause.id (cause.no_room value held), λ e. omega (arith, e))
+edit_reason way name edit file uses old new before holds (File Memory) le cause = tt
+edit_reason way name edit file uses old new before holds (Unfit out) le cause = λ value held. (unfit_refused way name edit file value out cause.id (cause.no_room value held), λ e. omega (arith, e))

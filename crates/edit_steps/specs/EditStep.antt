@@ -10,7 +10,7 @@ use Rattle.set_edit.specs.declared.fault.EditFault.TheVariants.{File, NoRoom as 
 use Rattle.quota_types.specs.declared.file_kind.Format.{Format}
 use Rattle.refusals.specs.declared.cause.Cause.{Cause}
 use Rattle.refusals.specs.declared.cause.Cause.TheVariants.{NoRoom, Full}
-use Rattle.run_steps.specs.Act.{Act}
+use Rattle.run_steps.specs.Act.{Act, Way}
 use Rattle.run_steps.specs.Opening.{asks_tree, file_cause}
 use Rattle.refusals.specs.Outcome.{Outcome, Refused}
 use Rattle.refusals.specs.Refusals.{refusal_of}
@@ -21,13 +21,13 @@ abbrev pub is_too_large : Edit → Option (List ℕ) → QuotaValue → Bool
 is_too_large edit file new = edit.needs_room && nat_lt most_blocks (blocks_after file new)
 
 -- the value of this file was edited, or the format has no room for a field
-abbrev pub changed : List ℕ → Edit → Option (List ℕ) → QuotaValue → Result QuotaValue (Field × ℕ) → Outcome (List Act)
-changed name edit file value (Ok new) = written name (blocks_after file new) new (edit.is_idle value) (is_too_large edit file new)
-changed name edit file value (Err out) = Refused (refusal_of (NoRoom (record { id = edit.id; field = out.0; value = out.1 })) name)
+abbrev pub changed : Way → List ℕ → Edit → Option (List ℕ) → QuotaValue → Result QuotaValue (Field × ℕ) → Outcome (List Act)
+changed way name edit file value (Ok new) = written way name (blocks_after file new) new (edit.is_idle value) (is_too_large edit file new)
+changed way name edit file value (Err out) = Refused (refusal_of (NoRoom (record { id = edit.id; field = out.0; value = out.1 })) name)
 
--- the value is edited that the file of this name, whose bytes are these, stands for
-abbrev pub edit_step : List ℕ → Edit → Option (List ℕ) → QuotaValue → Outcome (List Act)
-edit_step name edit file value = changed name edit file value (edit.edited value)
+-- the value is edited, in this way, that the file of this name, whose bytes are these, stands for
+abbrev pub edit_step : Way → List ℕ → Edit → Option (List ℕ) → QuotaValue → Outcome (List Act)
+edit_step way name edit file value = changed way name edit file value (edit.edited value)
 
 -- the value that an edit leaves
 abbrev pub value_left : Result QuotaValue (Field × ℕ) → QuotaValue → QuotaValue

@@ -33,7 +33,7 @@ use Rattle.run_steps.proofs.PhaseLemmas.{nothing_carried, placed_nowhere}
 use Rattle.run_steps.proofs.ReasonLemmas.{reason_since}
 use Rattle.run_steps.proofs.SeenOnceLemmas.{seen_once}
 use Rattle.run_steps.proofs.ShowingLemmas.{out_failed, told_begun, told_steps}
-use Rattle.run_steps.proofs.WritesLemmas.{writes_for-replacement}
+use Rattle.run_steps.proofs.WritesLemmas.{writes_for-replacement, writes_in_part}
 use Rattle.file_commands.specs.FileValue.{replace_cause}
 use Rattle.file_commands.specs.Generate.{GenerateMayRefuse, IsUnreported, gathered_cause, generate_uses}
 
@@ -67,7 +67,8 @@ changed_part name new next tells old store to follows part = record {
   answered = part.answered;
   started = part.started;
   datagrams = part.datagrams;
-  writes = writes_for-replacement name new (part.done ++ part.hand) old.store.writes to.store.writes;
+  writes = writes_in_part part.hand (Replace name new ∷ (part.done ++ part.hand)) old.store.writes to.store.writes
+      (writes_for-replacement name new (part.done ++ part.hand) old.store.writes to.store.writes);
   failed = part.failed;
 }
 

@@ -297,6 +297,18 @@ run_edited None left result status is done kept = tt
 run_edited (Some file) left (Ok value) status is done kept = subst (λ (s : ℕ). left s file) (sym is) (done file)
 run_edited (Some file) left (Err refusal) status is done kept = subst (λ (s : ℕ). left s file) (sym is) kept
 
+-- a cause with status 5 is lack of memory
+memory_alone : (cause : Cause) → status_of cause ≡ 5 → cause ≡ Memory
+memory_alone Memory five = refl
+memory_alone _ five = absurd (omega (arith, five))
+
+-- a file that is spared stays with status 5
+run_spared : (spared : Option (List ℕ)) (same : List ℕ → Type 0) (result : Result (Unit {0}) Refusal) (status : ℕ) → status ≡ end_status (result_err result)
+    → IfSome spared (λ (file : List ℕ). IfErr result (λ (refusal : Refusal). refusal.cause ≡ Memory → same file)) → IfSome spared (λ (file : List ℕ). status ≡ 5 → same file)
+run_spared None same result status is kept = tt
+run_spared (Some file) same (Ok value) status is kept = λ five. absurd (omega (arith, is, five))
+run_spared (Some file) same (Err refusal) status is kept = λ five. kept (memory_alone refusal.cause (sym is ∙ five))
+
 -- what holds where it was done holds with status 0
 run_held : (holds : Type 0) (result : Result (Unit {0}) Refusal) (status : ℕ) → status ≡ end_status (result_err result) → OnOk result holds → status ≡ 0 → holds
 run_held holds (Ok value) status is done = λ zero. done
@@ -338,6 +350,7 @@ run_keeps setting tells old new said result status carried stands finished usage
   named = run_named (asked setting).replaces (λ (file : List ℕ). IsTrue tells.store → new.store.files file ≡ old.store.files file) result status finished.status_is carried.named;
   edited = run_edited (asked setting).edits (λ (s : ℕ) (file : List ℕ). IsTrue tells.store → IsLeftByEdit s old.store.files new.store.files file) result status finished.status_is
       (λ file told other. absurd (other refl)) carried.edited;
+  spared = run_spared (asked setting).spared (λ (file : List ℕ). IsTrue tells.store → new.store.files file ≡ old.store.files file) result status finished.status_is carried.spared;
   within = record { alone = carried.within.alone; anew = carried.within.anew; few = carried.within.few };
   reads = run_held (IsWorldTold tells → ReadsWithin ((asked setting).most_reads (outside_of old)) old.store new.store) result status finished.status_is carried.reads;
   made = run_held (IsTrue tells.store → (asked setting).made setting.invocation (outside_of old) new.store.files) result status finished.status_is carried.made;

@@ -156,6 +156,8 @@ pub record Keeps (setting : Setting) (tells : RunTells) (old new : RunSeen) (sta
   -- leave it. With status 0 nothing is said here.
   pub edited : IfSome (asked setting).edits (λ (file : List ℕ). IsTrue tells.store
       → IsLeftByEdit status old.store.files new.store.files file)
+  -- With status 5 a file that is spared is as it was: that of `setquota -b`.
+  pub spared : IfSome (asked setting).spared (λ (file : List ℕ). status ≡ 5 → IsTrue tells.store → new.store.files file ≡ old.store.files file)
   -- Whatever is told, and with any status, no other file has changed than the only one that the command changes, or than the only one
   -- that it makes anew and the one with `.new` added to that name. There were no more calls of `write` to the store than it makes: twelve
   -- at most where it edits a file once. What many edits add up to is said of the acts in `part`: twelve for each one that was done, and

@@ -153,6 +153,7 @@ scripting = record {
   faulty = None;
   replaces = None;
   edits = None;
+  spared = None;
   alone = None;
   anew = None;
   most_writes = None;

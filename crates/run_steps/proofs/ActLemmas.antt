@@ -2,14 +2,14 @@
 use Rattle.std.proofs.Common.{◌≡◌, ℕ, Bool, IsTrue, List, [], ◌∷◌, ◌++◌, take, Option, None, Some, inl, refl, sym, ap, subst, ◌∙◌, append_assoc, append-nil}
 use Rattle.quota_blocks.specs.Seen.{SinkSeen, Started, started_at}
 use Rattle.quota_blocks.specs.Text.{AppendsPrefix}
-use Rattle.quota_blocks.specs.World.{World}
+use Rattle.quota_blocks.specs.World.{KeepsOthers, World}
 use Rattle.refusals.specs.declared.reason.Refusal.{Refusal}
 use Rattle.refusals.specs.Line.{closing_line, error_line}
-use Rattle.run_steps.specs.Act.{Act, ToOut, ToErr, Start, Answer, Change, Replace, Follows, FollowsInPart, answers, err_bytes, out_bytes, started_by}
+use Rattle.run_steps.specs.Act.{Act, InPlace, LeavesOthers, Together, ToOut, ToErr, Start, Answer, Change, Replace, Way, Follows, FollowsInPart, answers, err_bytes, out_bytes, started_by}
 use Rattle.run_steps.specs.Done.{AreDone, AreDoneInPart, RunSeen, RunTells}
 use Rattle.run_steps.specs.Meaning.{closing}
-use Rattle.run_steps.specs.Writes.{WritesFor}
-use Rattle.run_steps.proofs.WritesLemmas.{writes_for-before}
+use Rattle.run_steps.specs.Writes.{WritesInPart}
+use Rattle.run_steps.proofs.WritesLemmas.{writes_for-before, writes_in_part-next}
 
 pub out_bytes-append : (acts more : List Act) → out_bytes (acts ++ more) ≡ out_bytes acts ++ out_bytes more
 out_bytes-append [] more = refl
@@ -60,7 +60,8 @@ started_by-closing (Some refusal) before = refl
 
 -- files that are as they were follow any acts of which none was begun
 pub none_in_part : (acts : List Act) (old new : World) → new ≡ old → FollowsInPart acts old new
-none_in_part (Change name value ∷ acts) old new same = (inl (ap (λ (w : World). w name) same), λ other differ. ap (λ (w : World). w other) same)
+none_in_part (Change InPlace name value ∷ acts) old new same = (inl (ap (λ (w : World). w name) same), λ other differ. ap (λ (w : World). w other) same)
+none_in_part (Change Together name value ∷ acts) old new same = (inl (ap (λ (w : World). w name) same), λ other differ apart. ap (λ (w : World). w other) same)
 none_in_part (Replace name value ∷ acts) old new same = (ap (λ (w : World). w name) same, λ other differ differs. ap (λ (w : World). w other) same)
 none_in_part _ old new same = same
 
@@ -71,7 +72,7 @@ appends_nothing old new bytes same = record { done = []; rest = bytes; appended 
 -- files of which more acts were to follow
 more_in_part : (rest more : List Act) (middle new : World) → FollowsInPart rest middle new → FollowsInPart (rest ++ more) middle new
 more_in_part [] more middle new same = none_in_part more middle new same
-more_in_part (Change name value ∷ rest) more middle new kept = kept
+more_in_part (Change way name value ∷ rest) more middle new kept = kept
 more_in_part (Replace name value ∷ rest) more middle new kept = kept
 more_in_part (_ ∷ rest) more middle new same = same
 
@@ -91,11 +92,16 @@ first_err : (rest more : List Act) (old new : List ℕ) → AppendsPrefix old ne
 first_err [] more old new p = appends_nothing old new (err_bytes (take 1 more)) (none_appended old new p)
 first_err (act ∷ rest) more old new p = p
 
-first_writes : (done rest more : List Act) (old new : ℕ) → WritesFor (done ++ take 1 rest) old new → WritesFor (done ++ take 1 (rest ++ more)) old new
-first_writes done [] more old new writes = writes_for-before done (take 1 more) old new (subst (λ (acts : List Act). WritesFor acts old new) (append-nil done) writes)
+first_writes : (done rest more : List Act) (old new : ℕ) → WritesInPart (take 1 rest) (done ++ take 1 rest) old new → WritesInPart (take 1 (rest ++ more)) (done ++ take 1 (rest ++ more)) old new
+first_writes done [] more old new writes = writes_in_part-next (take 1 more) done old new (subst (λ (acts : List Act). WritesInPart [] acts old new) (append-nil done) writes)
 first_writes done (act ∷ rest) more old new writes = writes
 
 -- acts that were done in part are some of more acts
+-- whatever its way, an edit that leaves all other files leaves what its way does
+pub leaves_others : (way : Way) (name : List ℕ) (old new : World) → KeepsOthers name old new → LeavesOthers way name old new
+leaves_others InPlace name old new keeps = keeps
+leaves_others Together name old new keeps = λ other differ apart. keeps other differ
+
 pub part_of_more : (tells : RunTells) (acts more : List Act) (old new : RunSeen) → AreDoneInPart tells acts old new → AreDoneInPart tells (acts ++ more) old new
 part_of_more tells acts more old new part = record {
   done = part.done;

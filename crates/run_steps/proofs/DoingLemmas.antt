@@ -12,7 +12,7 @@ use Rattle.run_steps.specs.Steps.{AreDoneThen}
 use Rattle.run_steps.proofs.ActLemmas.{answers-append, appends_nothing, err_bytes-append, follows-append, out_bytes-append, started_by-append}
 use Rattle.run_steps.proofs.OpeningLemmas.{with_store}
 use Rattle.run_steps.specs.Writes.{WritesFor}
-use Rattle.run_steps.proofs.WritesLemmas.{writes_for-same, writes_for-then}
+use Rattle.run_steps.proofs.WritesLemmas.{writes_for-same, writes_for-then, writes_in_part}
 
 -- the end is the stated one
 pub doing_ends : (acts : List Act) (end : Option Refusal) (from : Outside) (done : List Act) (to : Outside) (ended : Option Refusal) → EndsBy (AreDoneThen acts end) from done to ended → ended ≡ end
@@ -87,5 +87,6 @@ part_of acts rest tells old middle store written in_part writes = record {
       (sym (append-nil old.err.written) ∙ ap (λ (b : List ℕ). old.err.written ++ b) (sym written.err));
   answered = sym (append-nil old.link.answers) ∙ ap (λ (b : List (List ℕ)). old.link.answers ++ b) (sym written.answered);
   started = sym (written.started old.link.started);
-  writes = writes_for-then acts (take 1 rest) old.store.writes middle.writes store.writes written.writes writes;
+  writes = writes_in_part (take 1 rest) (acts ++ take 1 rest) old.store.writes store.writes
+      (writes_for-then acts (take 1 rest) old.store.writes middle.writes store.writes written.writes writes);
 }

@@ -128,7 +128,7 @@ first_none done hand acts none is = record { rest = acts; whole = ap (λ (d : Li
 same_after : (looks : Bool) (act : Act) (one other one' other' : World) → (IsTrue looks → one ≡ other) → FollowsAct act one one' → FollowsAct act other other'
     → IsTrue (looks && leaves_files act) → one' ≡ other'
 same_after false act one other one' other' same first second is = absurd (false≢true is)
-same_after true (Change name value) one other one' other' same first second is = absurd (false≢true is)
+same_after true (Change way name value) one other one' other' same first second is = absurd (false≢true is)
 same_after true (Replace name value) one other one' other' same first second is = absurd (false≢true is)
 same_after true _ one other one' other' same first second is = first ∙ same refl ∙ sym second
 

@@ -18,8 +18,8 @@ use Rattle.run_steps.specs.Steps.{AreDoneThen, Steps}
 use Rattle.run_steps.proofs.ActLemmas.{appends_nothing, none_appended, none_in_part}
 use Rattle.run_steps.proofs.MeaningLemmas.{begun_follow, ended_begun, first_part, looks_same, unbegun}
 use Rattle.run_steps.proofs.RoomLemmas.{unless_full}
-use Rattle.run_steps.specs.Writes.{WritesFor}
-use Rattle.run_steps.proofs.WritesLemmas.{writes_for-before, writes_for-same}
+use Rattle.run_steps.specs.Writes.{WritesInPart}
+use Rattle.run_steps.proofs.WritesLemmas.{writes_for-before, writes_for-same, writes_in_part, writes_in_part-next}
 
 -- an output that failed since a later moment failed since an earlier one
 pub fails_before : (hand : List Act) (out out' err err' : Type 0) → (out → out') → (err → err') → FailsAtHand hand out err → FailsAtHand hand out' err'
@@ -43,7 +43,7 @@ nothing_begun steps tells old new other files out err sent started left writes =
       answered = sent ∙ sym (append-nil old.link.answers);
       started = started;
       datagrams = left;
-      writes = writes_for-same start.0 old.store.writes new.store.writes writes;
+      writes = writes_in_part start.0 start.0 old.store.writes new.store.writes (writes_for-same start.0 old.store.writes new.store.writes writes);
       failed = λ is told. absurd (other is);
     }
 
@@ -60,7 +60,7 @@ whole_begun steps tells refusal old new has = record {
   answered = has.done.answered;
   started = has.done.started;
   datagrams = refl;
-  writes = writes_for-before has.acts [] old.store.writes new.store.writes has.done.writes;
+  writes = writes_in_part [] (has.acts ++ []) old.store.writes new.store.writes (writes_for-before has.acts [] old.store.writes new.store.writes has.done.writes);
   failed = λ is told. absurd (none-some SinkFault is);
 }
 
@@ -98,7 +98,7 @@ part_from next steps tells old store input new same leads part = record {
   answered = part.answered;
   started = part.started;
   datagrams = part.datagrams;
-  writes = subst (λ (w : ℕ). WritesFor (part.done ++ part.hand) w new.store.writes) same part.writes;
+  writes = subst (λ (w : ℕ). WritesInPart part.hand (part.done ++ part.hand) w new.store.writes) same part.writes;
   failed = part.failed;
 }
 
@@ -111,13 +111,13 @@ acts_begun (act ∷ done) rest end from files follows = inr (done, follows.0, re
 
 -- of acts that follow in part only the first counts
 first_in_part : (rest : List Act) (old new : World) → FollowsInPart rest old new → FollowsInPart (take 1 rest) old new
-first_in_part (Change name value ∷ rest) old new follows = follows
+first_in_part (Change way name value ∷ rest) old new follows = follows
 first_in_part (Replace name value ∷ rest) old new follows = follows
 first_in_part [] old new follows = follows
 first_in_part (_ ∷ rest) old new follows = follows
 
 all_in_part : (rest : List Act) (old new : World) → FollowsInPart (take 1 rest) old new → FollowsInPart rest old new
-all_in_part (Change name value ∷ rest) old new follows = follows
+all_in_part (Change way name value ∷ rest) old new follows = follows
 all_in_part (Replace name value ∷ rest) old new follows = follows
 all_in_part [] old new follows = follows
 all_in_part (_ ∷ rest) old new follows = follows
@@ -190,10 +190,10 @@ hand_prefix bytes_of hand rest old new nothing (inl none) prefix =
     appends_nothing old new (bytes_of (take 1 rest)) (none_appended old new (subst (λ (b : List ℕ). AppendsPrefix old new b) (ap bytes_of none ∙ nothing) prefix))
 hand_prefix bytes_of hand rest old new nothing (inr first) prefix = subst (λ (a : List Act). AppendsPrefix old new (bytes_of a)) first prefix
 
-hand_writes : (done hand rest : List Act) (old new : ℕ) → (hand ≡ []) ⊎ (hand ≡ take 1 rest) → WritesFor (done ++ hand) old new → WritesFor (done ++ take 1 rest) old new
+hand_writes : (done hand rest : List Act) (old new : ℕ) → (hand ≡ []) ⊎ (hand ≡ take 1 rest) → WritesInPart hand (done ++ hand) old new → WritesInPart (take 1 rest) (done ++ take 1 rest) old new
 hand_writes done hand rest old new (inl none) writes =
-    writes_for-before done (take 1 rest) old new (subst (λ (a : List Act). WritesFor a old new) (append-nil done) (subst (λ (a : List Act). WritesFor (done ++ a) old new) none writes))
-hand_writes done hand rest old new (inr first) writes = subst (λ (a : List Act). WritesFor (done ++ a) old new) first writes
+    writes_in_part-next (take 1 rest) done old new (subst (λ (a : List Act). WritesInPart [] a old new) (append-nil done) (subst (λ (a : List Act). WritesInPart a (done ++ a) old new) none writes))
+hand_writes done hand rest old new (inr first) writes = subst (λ (a : List Act). WritesInPart a (done ++ a) old new) first writes
 
 pub part_of_end : {why : Option Cause} (rooms : Bool) (steps : Steps) (tells : RunTells) (old new : RunSeen) (acts : List Act) (to : Outside) (refusal : Option Refusal) → LooksFirstBy rooms true true steps → IsDoneInPart steps tells why old new
     → EndsBy steps (outside_of old) acts to refusal → UnlessFull rooms refusal (AreDoneInPart tells acts old new)

@@ -11,8 +11,8 @@ use Rattle.run_steps.specs.Meaning.{EndsBy, HasBegun}
 use Rattle.run_steps.specs.Run.{HasSteps, IsDoneInPart}
 use Rattle.run_steps.specs.Steps.{Before, InLine, Steps}
 use Rattle.run_steps.proofs.ActLemmas.{answers-append, err_bytes-append, follows-append, out_bytes-append, started_by-append}
-use Rattle.run_steps.specs.Writes.{WritesFor}
-use Rattle.run_steps.proofs.WritesLemmas.{writes_for-then}
+use Rattle.run_steps.specs.Writes.{WritesInPart}
+use Rattle.run_steps.proofs.WritesLemmas.{writes_for-then, writes_in_part-then}
 use Rattle.run_steps.proofs.PartLemmas.{fails_before, part_from}
 
 -- acts that were done, and then others
@@ -74,8 +74,8 @@ part_led acts next steps tells old middle new out_later err_later leads first pa
       ∙ ap (λ (b : List (List ℕ)). old.link.answers ++ b) (sym (answers-append acts part.done));
   started = part.started ∙ ap (λ (s : Started). started_by part.done s) first.started ∙ sym (started_by-append acts part.done old.link.started);
   datagrams = part.datagrams;
-  writes = subst (λ (a : List Act). WritesFor a old.store.writes new.store.writes) (sym (append_assoc acts part.done part.hand))
-      (writes_for-then acts (part.done ++ part.hand) old.store.writes middle.store.writes new.store.writes first.writes part.writes);
+  writes = subst (λ (a : List Act). WritesInPart part.hand a old.store.writes new.store.writes) (sym (append_assoc acts part.done part.hand))
+      (writes_in_part-then part.hand acts (part.done ++ part.hand) old.store.writes middle.store.writes new.store.writes first.writes part.writes);
   failed = λ is told. fails_before part.hand _ _ _ _ (λ rose. omega (arith, out_later, rose)) (λ rose. omega (arith, err_later, rose)) (part.failed is told);
 }
 

@@ -102,7 +102,7 @@ record GoesOn (looks takes : Bool) (one : Outside) (other : World) (here there :
 -- files that may still be looked at after an act are those from before it
 left_by : (looks : Bool) (act : Act) (world old new : World) → (IsTrue looks → old ≡ world) → FollowsAct act old new → IsTrue (looks && leaves_files act) → new ≡ world
 left_by false act world old new same follows is = absurd (false≢true is)
-left_by true (Change name value) world old new same follows is = absurd (false≢true is)
+left_by true (Change way name value) world old new same follows is = absurd (false≢true is)
 left_by true (Replace name value) world old new same follows is = absurd (false≢true is)
 left_by true _ world old new same follows is = follows ∙ same refl
 
@@ -242,7 +242,7 @@ seen_as_too name value new from seen = (
 
 -- files that follow an act in one world may follow it in the other
 follow_too : (act : Act) (old new from : World) → FollowsAct act old new → (to : World) × FollowsAct act from to
-follow_too (Change name value) old new from follows = seen_as_too name value new from follows.0
+follow_too (Change way name value) old new from follows = seen_as_too name value new from follows.0
 follow_too (Replace name value) old new from follows =
     let to = seen_as_too name value new from follows.0 in
     (to.0, (to.1.0, λ other differ differs. to.1.1 other differ))

@@ -27,7 +27,7 @@ use Rattle.run_steps.specs.Showing.{ShowingMayRefuse, ShowingSteps, showing_uses
 use Rattle.run_steps.proofs.ActLemmas.{appends_nothing}
 use Rattle.run_steps.specs.Steps.{Doing, Finish}
 use Rattle.run_steps.proofs.OpeningLemmas.{outside_same, refused_so, unwritten, with_out}
-use Rattle.run_steps.proofs.WritesLemmas.{writes_for-same}
+use Rattle.run_steps.proofs.WritesLemmas.{writes_for-same, writes_in_part}
 use Rattle.run_steps.proofs.PartLemmas.{carried_whole, part_from}
 
 -- What was done while a text was shown: the store was only read, and the output got the text about each value that the file
@@ -64,7 +64,7 @@ told_begun text tells old store out rose same prefix = record {
   answered = sym (append-nil old.link.answers);
   started = refl;
   datagrams = refl;
-  writes = writes_for-same (ToOut text ∷ []) old.store.writes store.writes same.writes;
+  writes = writes_in_part (ToOut text ∷ []) (ToOut text ∷ []) old.store.writes store.writes (writes_for-same (ToOut text ∷ []) old.store.writes store.writes same.writes);
   failed = λ is told. rose is;
 }
 

@@ -7,16 +7,23 @@ use Rattle.quota_blocks.specs.QuotaValue.{QuotaValue}
 use Rattle.quota_map.specs.AnyFile.{AnyLeaves}
 use Rattle.quota_map.specs.View.{IsView}
 
+-- How an opened file is edited: in its place; or together with others, either in its place or, for all of them, by one replacement of
+-- the file.
+pub data Way : Type 0 where
+  InPlace : Way
+  Together : Way
+
 -- One act: bytes to the output, bytes to the error output, a link that is started at a port when these datagrams are left, an
--- answer to a datagram, or a file that from then on stands for another value: an opened one that is edited, or one that is
--- replaced as a whole.
+-- answer to a datagram, a file that from then on stands for another value: an opened one that is edited, or one that is replaced as
+-- a whole; or an edit, together with others, that has nothing to do.
 pub data Act : Type 0 where
   ToOut : List ℕ → Act
   ToErr : List ℕ → Act
   Start : ℕ → List Datagram → Act
   Answer : List ℕ → Act
-  Change : List ℕ → QuotaValue → Act
+  Change : Way → List ℕ → QuotaValue → Act
   Replace : List ℕ → QuotaValue → Act
+  Idle : Act
 
 -- the bytes that go to the output, joined
 abbrev pub out_bytes : List Act → List ℕ
@@ -45,7 +52,7 @@ started_by (_ ∷ acts) before = started_by acts before
 -- no file is changed
 abbrev pub ChangesNone : List Act → Type 0
 ChangesNone [] = ⊤
-ChangesNone (Change name value ∷ acts) = ⊥
+ChangesNone (Change way name value ∷ acts) = ⊥
 ChangesNone (Replace name value ∷ acts) = ⊥
 ChangesNone (_ ∷ acts) = ChangesNone acts
 
@@ -56,7 +63,7 @@ IsSeenAs name value files = IsView (files name) value.kind (Some value.format) (
 -- Files follow one act. After an edit and after a replacement the named file stands for the new value; an edit leaves all other
 -- files, and a replacement all others but the one with `.new` added to the name. The other acts leave all files.
 abbrev pub FollowsAct : Act → World → World → Type 0
-FollowsAct (Change name value) old new = IsSeenAs name value new × KeepsOthers name old new
+FollowsAct (Change way name value) old new = IsSeenAs name value new × KeepsOthers name old new
 FollowsAct (Replace name value) old new = IsSeenAs name value new × ReplacesOnly name old new
 FollowsAct _ old new = new ≡ old
 
@@ -72,10 +79,17 @@ MayBeLeft value old left =
     (left ≡ old)
     ⊎ ((after : Option (List ℕ)) × IsView after value.kind (Some value.format) (Ok value) × AnyLeaves value.format old after left)
 
+-- what an edit that failed leaves of other files than the named one: all, or, where it may be made by a replacement, all but the one
+-- with `.new` added to the name
+abbrev pub LeavesOthers : Way → List ℕ → World → World → Type 0
+LeavesOthers InPlace name old new = KeepsOthers name old new
+LeavesOthers Together name old new = ReplacesOnly name old new
+
 -- Files after acts of which at most the first was begun. An edit leaves what an edit that failed may leave of the named file, and
--- all other files; a replacement leaves the named file as it was, and all others but the one with `.new` added to the name.
+-- of all other files what its way leaves; a replacement leaves the named file as it was, and all others but the one with `.new` added
+-- to the name.
 abbrev pub FollowsInPart : List Act → World → World → Type 0
 FollowsInPart [] old new = new ≡ old
-FollowsInPart (Change name value ∷ _) old new = MayBeLeft value (old name) (new name) × KeepsOthers name old new
+FollowsInPart (Change way name value ∷ _) old new = MayBeLeft value (old name) (new name) × LeavesOthers way name old new
 FollowsInPart (Replace name value ∷ _) old new = (new name ≡ old name) × ReplacesOnly name old new
 FollowsInPart (_ ∷ _) old new = new ≡ old

@@ -5,7 +5,7 @@ use Rattle.quota_blocks.specs.Seen.{Datagram, LinkSeen, SinkSeen, SourceSeen, St
 use Rattle.quota_blocks.specs.Text.{AppendsPrefix}
 use Rattle.quota_blocks.specs.World.{World}
 use Rattle.run_steps.specs.Act.{Act, Follows, FollowsInPart, answers, err_bytes, out_bytes, started_by}
-use Rattle.run_steps.specs.Writes.{WritesFor}
+use Rattle.run_steps.specs.Writes.{WritesFor, WritesInPart}
 
 -- whether the store, the input, the output, the error output and the link tell
 pub record RunTells : Type 0 where
@@ -90,7 +90,7 @@ pub record AreDoneInPart (tells : RunTells) (acts : List Act) (old new : RunSeen
   pub err : IsTrue tells.err → AppendsPrefix (old.err.written ++ err_bytes done) new.err.written (err_bytes (take 1 rest))
   pub answered : new.link.answers ≡ old.link.answers ++ answers done
   pub started : new.link.started ≡ started_by done old.link.started
-  pub writes : WritesFor (done ++ take 1 rest) old.store.writes new.store.writes
+  pub writes : WritesInPart (take 1 rest) (done ++ take 1 rest) old.store.writes new.store.writes
 
 -- the bytes are appended, or, where the sink failed, a prefix of them
 pub record AppendsUnless (rose : Type 0) (old new bytes : List ℕ) : Type 0 where

@@ -12,7 +12,7 @@ use Rattle.run_steps.specs.Steps.{Steps, Ending, Doing, Looking, Opening, Readin
 
 -- an act leaves the files
 abbrev pub leaves_files : Act → Bool
-leaves_files (Change name value) = false
+leaves_files (Change way name value) = false
 leaves_files (Replace name value) = false
 leaves_files _ = true
 

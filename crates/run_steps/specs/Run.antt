@@ -11,7 +11,7 @@ use Rattle.run_steps.specs.Act.{Act, ToErr, ToOut, FollowsInPart, answers, err_b
 use Rattle.run_steps.specs.Done.{AreDone, IsLater, IsUnwritten, IsWorldTold, Outside, RunSeen, RunTells, outside_of}
 use Rattle.run_steps.specs.Meaning.{EndsBy, HasBegun}
 use Rattle.run_steps.specs.Steps.{Steps}
-use Rattle.run_steps.specs.Writes.{WritesFor}
+use Rattle.run_steps.specs.Writes.{WritesInPart}
 
 -- Which objects a command uses. A command that changes no file only reads the store; one that is all or nothing has
 -- written nothing where it was refused, unless something outside failed. One that warns writes more to the error output
@@ -70,7 +70,7 @@ FailsAtHand _ out err = ⊥
 -- Steps were done in part: they have begun, and the act that is at hand, if there is one, may have been done in part: bytes by
 -- a prefix of them, an edit as one that failed may leave the file, and a replacement and an answer not at all; a link is never
 -- started in part. Nothing else was done, and there were no more calls of `write` to the store than these acts take, the one
--- at hand with them. What is left of the input is not said. Where it is an output that is said to have failed, bytes to it are
+-- at hand with them, unless that is an edit that may be made together with others. What is left of the input is not said. Where it is an output that is said to have failed, bytes to it are
 -- at hand, and its count of faults rose; this is known where the error output tells.
 pub record IsDoneInPart (steps : Steps) (tells : RunTells) (why : Option Cause) (old new : RunSeen) : Type 0 where
   pub done : List Act
@@ -83,7 +83,7 @@ pub record IsDoneInPart (steps : Steps) (tells : RunTells) (why : Option Cause) 
   pub answered : new.link.answers ≡ old.link.answers ++ answers done
   pub started : new.link.started ≡ started_by done old.link.started
   pub datagrams : new.link.left ≡ now.datagrams
-  pub writes : WritesFor (done ++ hand) old.store.writes new.store.writes
+  pub writes : WritesInPart hand (done ++ hand) old.store.writes new.store.writes
   pub failed : why ≡ Some SinkFault → IsTrue tells.err → FailsAtHand hand (Rose old.out.faults new.out.faults) (Rose old.err.faults new.err.faults)
 
 -- A command was carried out but for the error line. Where it ended well or was refused by a step, its steps say so and

@@ -2,7 +2,7 @@
 use Rattle.std.specs.Prelude.{◌≡◌, ◌≤◌, ◌+◌, ◌*◌, ℕ, List, [], ◌∷◌, Option, IfSome, ⊤}
 use Rattle.quota_blocks.specs.Seen.{StoreSeen}
 use Rattle.quota_blocks.specs.World.{KeepsOthers}
-use Rattle.run_steps.specs.Act.{Act, Change, ChangesNone, Replace}
+use Rattle.run_steps.specs.Act.{Act, Change, ChangesNone, Idle, InPlace, Replace, Together}
 
 -- no file is replaced as a whole
 abbrev pub ReplacesNone : List Act → Type 0
@@ -10,16 +10,29 @@ ReplacesNone [] = ⊤
 ReplacesNone (Replace name value ∷ acts) = ⊥
 ReplacesNone (_ ∷ acts) = ReplacesNone acts
 
--- how many of the acts are edits of an opened file
+-- how many of the acts are edits of an opened file, those that have nothing to do among them
 abbrev pub edits_in : List Act → ℕ
 edits_in [] = 0
-edits_in (Change name value ∷ acts) = 1 + edits_in acts
+edits_in (Change way name value ∷ acts) = 1 + edits_in acts
+edits_in (Idle ∷ acts) = 1 + edits_in acts
 edits_in (_ ∷ acts) = edits_in acts
 
 -- Acts take this many calls of `write`: none where they change no file, and twelve at most for each edit where they replace none.
 pub record WritesFor (acts : List Act) (old new : ℕ) : Type 0 where
   pub none : ChangesNone acts → new ≡ old
   pub few : ReplacesNone acts → new ≤ old + 12 * edits_in acts
+
+-- what is at hand is no edit that may be made together with others
+abbrev pub IsMadeAlone : List Act → Type 0
+IsMadeAlone (Change Together name value ∷ acts) = ⊥
+IsMadeAlone _ = ⊤
+
+-- Acts, of which the one at hand may be done in part, take this many calls of `write`: as many as if it was done whole, where it is no
+-- edit that may be made together with others; of a replacement that makes many of them and fails nothing is said but where no act
+-- changes a file.
+pub record WritesInPart (hand acts : List Act) (old new : ℕ) : Type 0 where
+  pub none : ChangesNone acts → new ≡ old
+  pub few : IsMadeAlone hand → ReplacesNone acts → new ≤ old + 12 * edits_in acts
 
 -- However an edit of the named file ended, and whatever is told, all other files are as they were, with twelve calls of `write` at
 -- most.

@@ -33,7 +33,7 @@ use Rattle.run_steps.specs.Steps.{Starting, Steps}
 use Rattle.run_steps.proofs.ActLemmas.{appends_nothing, none_in_part}
 use Rattle.run_steps.proofs.PartLemmas.{nothing_begun, whole_begun}
 use Rattle.run_steps.proofs.ShowingLemmas.{damage_may}
-use Rattle.run_steps.proofs.WritesLemmas.{writes_for-same}
+use Rattle.run_steps.proofs.WritesLemmas.{writes_for-same, writes_in_part}
 use Rattle.serve_command.specs.Serve.{AnsweringMayRefuse, AnsweringSteps, IsAsAsked, Replying, serve_cause, serve_uses}
 
 -- what is seen once the store and the link were used
@@ -211,7 +211,8 @@ stopped_part exported calls serves tells old store link other is files writes st
       answered = stopped.answers exported is ∙ ap (λ (l : List (List ℕ)). old.link.answers ++ l) (sym (answering-answers sent));
       started = started ∙ sym (answering-started sent old.link.started);
       datagrams = refl;
-      writes = writes_for-same (acts_of exported stopped.done ++ begun.0) old.store.writes store.writes writes;
+      writes = writes_in_part begun.0 (acts_of exported stopped.done ++ begun.0) old.store.writes store.writes
+          (writes_for-same (acts_of exported stopped.done ++ begun.0) old.store.writes store.writes writes);
       failed = λ is told. absurd (other is);
     }
 

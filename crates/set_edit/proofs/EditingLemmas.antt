@@ -8,7 +8,7 @@ use Rattle.quota_blocks.specs.Changes.{Changes, FileAt, FileLaws, IsDone, LacksR
 use Rattle.quota_blocks.specs.FileChange.{FileChange, Remove, edit_by}
 use Rattle.quota_blocks.specs.Frame.{OnlyReads, Syncs}
 use Rattle.quota_blocks.specs.LooksUp.{LooksUp}
-use Rattle.quota_blocks.specs.QuotaFile.{CountsRefusal, FileSeen, IfFull, IsChangeFault, IsLookupFault, UnlessStoreFailed}
+use Rattle.quota_blocks.specs.QuotaFile.{CountsRefusal, FileSeen, IfFull, IsChangeFault, IsLookupFault, UnlessStoreFailed, WantsNoMemory}
 use Rattle.quota_blocks.specs.QuotaValue.{QuotaValue}
 use Rattle.quota_blocks.specs.World.{World}
 use Rattle.quota_blocks.specs.declared.quota_file.FileFault.{FileFault}
@@ -167,3 +167,10 @@ edits-syncs edit laws old new (Ok done) edits told =
     syncs-all old.store new.store edits.value.leaves.later (are_synced old.seen.name old.store new.store (edits.value.done.synced told))
 edits-syncs edit laws old new (Err (File fault)) edits told = syncs-refused (value_edit edit) laws old new fault edits.value.leaves edits.value.refused
 edits-syncs edit laws old new (Err (Unfit out)) edits told = syncs-read old.seen.name old.store new.store edits.no_room.unwritten
+
+-- a look-up is not refused for lack of memory
+pub look_wants : (before now : ℕ) (holds : QuotaValue → Type 0) (fault : FileFault) → IsLookupFault before now holds fault → WantsNoMemory fault
+look_wants before now holds Store cause = tt
+look_wants before now holds (Damage damage) cause = tt
+look_wants before now holds (Full blocks limit) cause = absurd cause
+look_wants before now holds Memory cause = absurd cause

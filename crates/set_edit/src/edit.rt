@@ -1,7 +1,9 @@
-ghost use Rattle.std.specs.Prelude.{◌≡◌, IsTrue, unwrap_or};
+ghost use Rattle.std.specs.Prelude.{◌≡◌, IfErr, IfSome, IsTrue, unwrap_or};
 ghost use Rattle.quota_types.specs.Kept.{IsKept};
 ghost use Rattle.quota_types.specs.Rec.{zero_record};
 ghost use Rattle.quota_blocks.specs.Changes.{Changes, file_at, laws_of};
+ghost use Rattle.quota_blocks.specs.QuotaFile.{WantsNoMemory};
+ghost use Rattle.set_edit.specs.EditFault.{file_fault};
 ghost use Rattle.set_edit.specs.Edited.{change_to, with_limits};
 ghost use Rattle.set_edit.specs.Editing.{Edits, ReadsOnce};
 ghost use Rattle.set_edit.specs.Edits.{limits_edit};
@@ -35,6 +37,8 @@ pub fn set_limits<S: Store, F: QuotaFile<S>>(
     // However it ended, no more was read than a look-up and some change of the file may read.
     ensures reads { ReadsOnce (F.get_reads (F.seen file.old).format) (F.change_reads (F.seen file.old))
         (S.seen store.old).reads (S.seen store.new).reads }
+    // It is never refused for lack of memory.
+    ensures memory { IfErr result (λ fault. IfSome (file_fault fault) WantsNoMemory) }
 {
     let old = file.get(store, id)?;
     let rec = limited(old, limits);
@@ -69,6 +73,7 @@ pub(crate) fn put_or_remove<S: Store, F: QuotaFile<S>>(
         (laws_of S.tells F.stands_for F.makes F.may_leave F.lacks_room F.may_refuse F.change_reads F.change_writes F.done_writes)
         (file_at (F.holds file.old store.old) (F.seen file.old) (S.seen store.old))
         (file_at (F.holds file.new store.new) (F.seen file.new) (S.seen store.new)) result }
+    ensures memory { IfErr result WantsNoMemory }
 {
     if rec.is_null() {
         file.remove(store, id)

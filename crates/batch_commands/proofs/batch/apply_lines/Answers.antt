@@ -1,8 +1,10 @@
+use Rattle.quota_blocks.specs.World.{World}
 use Rattle.std.proofs.Common.{inl, inr, ap}
-use Rattle.outside.proofs.FrameLemmas.{keeps_others-then, syncs-after_read, syncs-read}
+use Rattle.outside.proofs.FrameLemmas.{keeps_other_two-then, syncs-after_read, syncs-read}
 use Rattle.run_steps.proofs.PhaseLemmas.{carries_naming, naming_refused}
-use Rattle.edit_steps.proofs.AloneLemmas.{others-read}
 use Rattle.batch_commands.proofs.ReadsLemmas.{named_within}
+use Rattle.batch_commands.proofs.TogetherLemmas.{replaces-read}
+use Rattle.batch_commands.proofs.WantingLemmas.{wanting_since}
 use Rattle.batch_commands.proofs.batch.apply_lines.Goals as goal
 
 pub returns-in-Ok-clause-carries : goal.returns-in-Ok-clause-carries
@@ -20,11 +22,11 @@ returns-in-Err-clause-carries g c = λ out err link out_tells err_tells link_tel
     let read = c.in-Err.ensures in
     naming_refused c.args.common.kind c.args.common.names _ _ _ _ _ _ _ read.leaves read.refused read.may (λ may. inl may) read.placed
 
-pub returns-in-Ok-clause-alone : goal.returns-in-Ok-clause-alone
-returns-in-Ok-clause-alone g c = keeps_others-then c.args.file _ _ _ (others-read c.args.file _ _ _ c.in-Ok.ensures.leaves) c.apply_named.ensures.alone
+pub returns-in-Ok-clause-others : goal.returns-in-Ok-clause-others
+returns-in-Ok-clause-others g c = keeps_other_two-then c.args.file _ _ _ _ (replaces-read c.args.file _ _ _ c.in-Ok.ensures.leaves) c.apply_named.ensures.others
 
-pub returns-in-Err-clause-alone : goal.returns-in-Err-clause-alone
-returns-in-Err-clause-alone g c = others-read c.args.file _ _ _ c.in-Err.ensures.leaves
+pub returns-in-Err-clause-others : goal.returns-in-Err-clause-others
+returns-in-Err-clause-others g c = replaces-read c.args.file _ _ _ c.in-Err.ensures.leaves
 
 pub returns-in-Ok-clause-reads : goal.returns-in-Ok-clause-reads
 returns-in-Ok-clause-reads g c =
@@ -34,3 +36,9 @@ returns-in-Ok-clause-reads g c =
 
 pub returns-in-Err-clause-synced : goal.returns-in-Err-clause-synced
 returns-in-Err-clause-synced g c = λ told. syncs-read _ _ _ c.in-Err.ensures.leaves
+
+pub returns-in-Ok-clause-wanting : goal.returns-in-Ok-clause-wanting
+returns-in-Ok-clause-wanting g c = wanting_since c.apply_named.result _ _ _ (ap (λ (files : World). files c.args.file) c.in-Ok.ensures.leaves.files) c.apply_named.ensures.wanting
+
+pub returns-in-Err-clause-wanting : goal.returns-in-Err-clause-wanting
+returns-in-Err-clause-wanting g c = λ is. ap (λ (files : World). files c.args.file) c.in-Err.ensures.leaves.files

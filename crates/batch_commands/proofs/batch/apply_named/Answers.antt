@@ -1,9 +1,14 @@
-use Rattle.std.proofs.Common.{inl, inr, sym, arith}
+use Rattle.std.proofs.Common.{◌≡◌, inl, inr, Ok, List, ℕ, sym, subst, ap, length, arith}
 use Rattle.std.proofs.lemmas.Result.{on_ok_weaker}
-use Rattle.outside.proofs.FrameLemmas.{keeps_others-then, syncs-after_read, syncs-read}
+use Rattle.quota_blocks.specs.Block.{file_of}
+use Rattle.quota_blocks.specs.Replace.{pieces_of}
+use Rattle.quota_blocks.specs.World.{World}
+use Rattle.quota_map.specs.View.{IsView}
+use Rattle.outside.proofs.FrameLemmas.{keeps_other_two-then, syncs-after_read, syncs-read}
 use Rattle.run_steps.proofs.OpeningLemmas.{not_opened}
 use Rattle.run_steps.proofs.PhaseLemmas.{carries_opening}
-use Rattle.edit_steps.proofs.AloneLemmas.{others-read}
+use Rattle.batch_commands.proofs.TogetherLemmas.{replaces-read}
+use Rattle.batch_commands.proofs.WantingLemmas.{wanting_since}
 use Rattle.batch_commands.proofs.batch.apply_named.Goals as goal
 
 pub returns-in-Ok-clause-carries : goal.returns-in-Ok-clause-carries
@@ -12,8 +17,8 @@ returns-in-Ok-clause-carries g c = λ out err link out_tells err_tells link_tell
     let file = c.as_str.ensures in
     carries_opening c.args.file c.args.kind c.args.format _ _ _ _ _ _ _ _ _ (rw file at opened.leaves)
     (λ told. rw file at (opened.seen told)) (λ cause said may. may)
-    (λ value view. c.apply_opened.ensures.carries c.args.format opened.as_asked value (λ told. opened.held told value (rw (sym file) at (view told)))
-    out err link out_tells err_tells link_tells)
+    (λ value view. c.apply_opened.ensures.carries opened.as_asked value (λ told. opened.held told value (rw (sym file) at (view told)))
+    (λ told. subst (λ (files : World). IsView (files c.args.file) c.args.kind c.args.format (Ok value)) (sym opened.leaves.files) (view told)) out err link out_tells err_tells link_tells)
 
 pub returns-in-Ok-clause-synced : goal.returns-in-Ok-clause-synced
 returns-in-Ok-clause-synced g c = λ told. syncs-after_read _ _ _ _ c.in-Ok.ensures.leaves (c.apply_opened.ensures.synced told)
@@ -24,11 +29,11 @@ returns-in-Err-clause-carries g c = λ out err link out_tells err_tells link_tel
     (not_opened c.args.kind c.args.format c.args.file _ _ _ _ _ _ c.in-Err.fault
     (rw c.as_str.ensures at c.in-Err.ensures.refused) (rw c.as_str.ensures at c.in-Err.ensures.leaves) (λ cause may. inl (inr may)))
 
-pub returns-in-Ok-clause-alone : goal.returns-in-Ok-clause-alone
-returns-in-Ok-clause-alone g c = keeps_others-then c.args.file _ _ _ (others-read c.args.file _ _ _ c.in-Ok.ensures.leaves) c.apply_opened.ensures.alone
+pub returns-in-Ok-clause-others : goal.returns-in-Ok-clause-others
+returns-in-Ok-clause-others g c = keeps_other_two-then c.args.file _ _ _ _ (replaces-read c.args.file _ _ _ c.in-Ok.ensures.leaves) c.apply_opened.ensures.others
 
-pub returns-in-Err-clause-alone : goal.returns-in-Err-clause-alone
-returns-in-Err-clause-alone g c = others-read c.args.file _ _ _ c.in-Err.ensures.leaves
+pub returns-in-Err-clause-others : goal.returns-in-Err-clause-others
+returns-in-Err-clause-others g c = replaces-read c.args.file _ _ _ c.in-Err.ensures.leaves
 
 pub returns-in-Ok-clause-reads : goal.returns-in-Ok-clause-reads
 returns-in-Ok-clause-reads g c = λ none.
@@ -36,7 +41,15 @@ returns-in-Ok-clause-reads g c = λ none.
     on_ok_weaker c.apply_opened.result (λ few told input_told.
     let opening = (rw c.as_str.ensures at c.in-Ok.ensures.reads) told in
     let lines = few told input_told in
-    omega (arith, opening, lines)) (c.apply_opened.ensures.reads none)
+    let same : (file_of (S.seen c.open_file.new.store).files c.args.file) ≡ (file_of (S.seen c.args.store.now).files c.args.file) = ap (λ (files : World). file_of files c.args.file) c.in-Ok.ensures.leaves.files in
+    let whole = ap (λ (bytes : List ℕ). pieces_of (length bytes)) same in
+    omega (arith, opening, lines, whole)) (c.apply_opened.ensures.reads none)
 
 pub returns-in-Err-clause-synced : goal.returns-in-Err-clause-synced
 returns-in-Err-clause-synced g c = λ told. syncs-read _ _ _ c.in-Err.ensures.leaves
+
+pub returns-in-Ok-clause-wanting : goal.returns-in-Ok-clause-wanting
+returns-in-Ok-clause-wanting g c = wanting_since c.apply_opened.result _ _ _ (ap (λ (files : World). files c.args.file) c.in-Ok.ensures.leaves.files) c.apply_opened.ensures.wanting
+
+pub returns-in-Err-clause-wanting : goal.returns-in-Err-clause-wanting
+returns-in-Err-clause-wanting g c = λ is. ap (λ (files : World). files c.args.file) c.in-Err.ensures.leaves.files

@@ -1,21 +1,26 @@
-use Rattle.std.proofs.Common.{false, Option, inl, inr, sym, ap, subst}
+use Rattle.std.proofs.Common.{false, ◌∙◌, ◌≤◌, ◌+◌, ◌*◌, length, Ok, Option, inl, inr, sym, ap, subst}
 use Rattle.std.specs.Prelude.{IfSome}
 use Rattle.std.proofs.lemmas.Bool.{false≢true}
+use Rattle.quota_blocks.specs.Block.{file_of}
+use Rattle.quota_blocks.specs.Replace.{pieces_of}
+use Rattle.quota_blocks.specs.Seen.{StoreSeen}
 use Rattle.quota_blocks.specs.World.{World}
-use Rattle.outside.proofs.FrameLemmas.{keeps_others-then, syncs-all, syncs-any, syncs-less, syncs-read, syncs-then}
+use Rattle.outside.proofs.FrameLemmas.{keeps_other_two-then, syncs-all, syncs-any, syncs-less, syncs-read, syncs-then}
 use Rattle.quota_map.specs.AnyFile.{HoldsAny}
+use Rattle.quota_map.specs.View.{IsView}
 use Rattle.refusals.specs.declared.reason.Refusal.{Refusal}
 use Rattle.run_steps.specs.Taking.{Lines, input_name}
 use Rattle.batch_commands.specs.Batch.{Applying, Asked, IsOfLine, LineEditMayRefuse, is_to_end, line_uses}
 use Rattle.batch_commands.proofs.BatchLemmas.{ends_none, then_ended, then_refused, then_stopped}
 use Rattle.run_steps.proofs.PhaseLemmas.{placed_nowhere}
 use Rattle.run_steps.proofs.TakingLemmas.{carries_taking, fault_more, has_taken, input_refused}
-use Rattle.edit_steps.proofs.AloneLemmas.{others-read}
+use Rattle.batch_commands.proofs.TogetherLemmas.{replaces-read}
 use Rattle.batch_commands.proofs.ReadsLemmas.{asked_reads}
+use Rattle.batch_commands.proofs.WantingLemmas.{line_wants}
 use Rattle.batch_commands.proofs.batch.apply_opened.Goals as goal
 
 pub returns-in-Some-clause-carries : goal.returns-in-Some-clause-carries
-returns-in-Some-clause-carries g c = λ format as_asked value held out err link out_tells err_tells link_tells.
+returns-in-Some-clause-carries g c = λ as_asked value held seen out err link out_tells err_tells link_tells.
     let took = c.in-Ok.ensures in
     let asked : Asked = record { edits = c.in-Ok.batch.edits.items; refusal = c.in-Ok.batch.refusal } in
     let may = subst (λ (o : Option Refusal). IfSome o (IsOfLine c.args.names.now (input_name c.args.from))) c.in-Some.is took.may_ask in
@@ -24,14 +29,15 @@ returns-in-Some-clause-carries g c = λ format as_asked value held out err link 
     (λ told. has_taken c.args.from (is_to_end asked) _ _ (took.behind told.input)
     (λ all none. took.ended (ends_none asked.refusal all) none told.input)
     (λ some. ap (λ i. (g.I.Source.seen i).left) (took.untouched some))) (λ cause said may. may)
-    (then_refused _ _ _ c.args.names.now (input_name c.args.from) asked c.in-Some.refusal (LineEditMayRefuse format c.args.file) _ _ _ _
+    (then_refused _ _ _ c.args.names.now (input_name c.args.from) asked c.in-Some.refusal (LineEditMayRefuse c.args.format c.args.file) _ _ _ _
     c.in-Some.is may (inr (inr may.may))
-    (rw c.as_slice.ensures.value at (c.in-Ok-edit_all.ensures.carries format as_asked value
+    (rw c.as_slice.ensures.value at (c.in-Ok-edit_lines.ensures.carries as_asked value
     (λ told. subst (λ (files : World). HoldsAny g.S.Store.tells files c.args.opened value) (sym took.leaves.files) (held told))
+    (λ told. subst (λ (files : World). IsView (files c.args.file) c.args.kind c.args.format (Ok value)) (sym took.leaves.files) (seen told))
     (g.I.Source.seen c.take_batch.new.input) out err link g.I.Source.tells out_tells err_tells link_tells)))
 
-pub returns-in-Ok-edit_all-clause-carries : goal.returns-in-Ok-edit_all-clause-carries
-returns-in-Ok-edit_all-clause-carries g c = λ format as_asked value held out err link out_tells err_tells link_tells.
+pub returns-in-Ok-edit_lines-clause-carries : goal.returns-in-Ok-edit_lines-clause-carries
+returns-in-Ok-edit_lines-clause-carries g c = λ as_asked value held seen out err link out_tells err_tells link_tells.
     let took = c.in-Ok.ensures in
     let asked : Asked = record { edits = c.in-Ok.batch.edits.items; refusal = c.in-Ok.batch.refusal } in
     carries_taking _ c.args.from is_to_end _ (Applying c.args.file c.args.now value) asked line_uses _ _ _ _ _ _ _ _
@@ -39,29 +45,30 @@ returns-in-Ok-edit_all-clause-carries g c = λ format as_asked value held out er
     (λ told. has_taken c.args.from (is_to_end asked) _ _ (took.behind told.input)
     (λ all none. took.ended (ends_none asked.refusal all) none told.input)
     (λ some. ap (λ i. (g.I.Source.seen i).left) (took.untouched some))) (λ cause said may. may)
-    (then_ended _ _ _ asked (LineEditMayRefuse format c.args.file) _ _ _ _ c.in-None.is
-    (rw c.as_slice.ensures.value at (c.in-Ok-edit_all.ensures.carries format as_asked value
+    (then_ended _ _ _ asked (LineEditMayRefuse c.args.format c.args.file) _ _ _ _ c.in-None.is
+    (rw c.as_slice.ensures.value at (c.in-Ok-edit_lines.ensures.carries as_asked value
     (λ told. subst (λ (files : World). HoldsAny g.S.Store.tells files c.args.opened value) (sym took.leaves.files) (held told))
+    (λ told. subst (λ (files : World). IsView (files c.args.file) c.args.kind c.args.format (Ok value)) (sym took.leaves.files) (seen told))
     (g.I.Source.seen c.take_batch.new.input) out err link g.I.Source.tells out_tells err_tells link_tells)))
 
 pub returns-in-Some-clause-synced : goal.returns-in-Some-clause-synced
-returns-in-Some-clause-synced g c = λ told. syncs-any _ _ _ (syncs-read _ _ _ c.in-Ok.ensures.leaves) (c.in-Ok-edit_all.ensures.synced told)
+returns-in-Some-clause-synced g c = λ told. syncs-any _ _ _ (syncs-read _ _ _ c.in-Ok.ensures.leaves) (c.in-Ok-edit_lines.ensures.synced told)
 
-pub returns-in-Ok-edit_all-clause-synced : goal.returns-in-Ok-edit_all-clause-synced
-returns-in-Ok-edit_all-clause-synced g c = λ told.
+pub returns-in-Ok-edit_lines-clause-synced : goal.returns-in-Ok-edit_lines-clause-synced
+returns-in-Ok-edit_lines-clause-synced g c = λ told.
     let took = c.in-Ok.ensures in
     syncs-then _ _ _
     (syncs-all _ _ took.leaves.later (record { none = took.synced c.in-None.is; changed = λ name. inr (ap (λ (files : World). files name) took.leaves.files) }))
-    (c.in-Ok-edit_all.ensures.synced told)
+    (c.in-Ok-edit_lines.ensures.synced told)
 
 pub returns-in-Ok-clause-synced : goal.returns-in-Ok-clause-synced
-returns-in-Ok-clause-synced g c = λ told. syncs-any _ _ _ (syncs-read _ _ _ c.in-Ok.ensures.leaves) (c.in-Err-edit_all.ensures.synced told)
+returns-in-Ok-clause-synced g c = λ told. syncs-any _ _ _ (syncs-read _ _ _ c.in-Ok.ensures.leaves) (c.in-Err-edit_lines.ensures.synced told)
 
 pub returns-clause-synced : goal.returns-clause-synced
 returns-clause-synced g c = λ told. syncs-less _ _ (syncs-read _ _ _ c.in-Err.ensures.leaves)
 
 pub returns-in-Ok-clause-carries : goal.returns-in-Ok-clause-carries
-returns-in-Ok-clause-carries g c = λ format as_asked value held out err link out_tells err_tells link_tells.
+returns-in-Ok-clause-carries g c = λ as_asked value held seen out err link out_tells err_tells link_tells.
     let took = c.in-Ok.ensures in
     let asked : Asked = record { edits = c.in-Ok.batch.edits.items; refusal = c.in-Ok.batch.refusal } in
     carries_taking _ c.args.from is_to_end _ (Applying c.args.file c.args.now value) asked line_uses _ _ _ _ _ _ _ _
@@ -69,13 +76,14 @@ returns-in-Ok-clause-carries g c = λ format as_asked value held out err link ou
     (λ told. has_taken c.args.from (is_to_end asked) _ _ (took.behind told.input)
     (λ all none. took.ended (ends_none asked.refusal all) none told.input)
     (λ some. ap (λ i. (g.I.Source.seen i).left) (took.untouched some))) (λ cause said may. may)
-    (then_stopped _ _ _ asked c.in-Err-edit_all.refusal (LineEditMayRefuse format c.args.file) _ _ _ _ (λ cause said may. inl may)
-    (rw c.as_slice.ensures.value at (c.in-Err-edit_all.ensures.carries format as_asked value
+    (then_stopped _ _ _ asked c.in-Err-edit_lines.refusal (LineEditMayRefuse c.args.format c.args.file) _ _ _ _ (λ cause said may. inl may)
+    (rw c.as_slice.ensures.value at (c.in-Err-edit_lines.ensures.carries as_asked value
     (λ told. subst (λ (files : World). HoldsAny g.S.Store.tells files c.args.opened value) (sym took.leaves.files) (held told))
+    (λ told. subst (λ (files : World). IsView (files c.args.file) c.args.kind c.args.format (Ok value)) (sym took.leaves.files) (seen told))
     (g.I.Source.seen c.take_batch.new.input) out err link g.I.Source.tells out_tells err_tells link_tells)))
 
 pub returns-clause-carries : goal.returns-clause-carries
-returns-clause-carries g c = λ format as_asked value held out err link out_tells err_tells link_tells.
+returns-clause-carries g c = λ as_asked value held seen out err link out_tells err_tells link_tells.
     let took = c.in-Err.ensures in
     input_refused _ Lines c.args.from is_to_end _ (Applying c.args.file c.args.now value) _ _ _ _ _ _ _ took.leaves took.later
     (fault_more _ _ _ _ _ _ _ c.in-Err.refusal c.in-Err.refusal.cause (λ rose. rose) (λ rose. rose) (λ told. (told.store, told.input)) took.refused)
@@ -83,23 +91,36 @@ returns-clause-carries g c = λ format as_asked value held out err link out_tell
     (λ some. ap (λ i. (g.I.Source.seen i).left) (took.untouched some)))
     took.may (inr (inl took.may)) (placed_nowhere line_uses c.in-Err.refusal took.placed)
 
-pub returns-in-Some-clause-alone : goal.returns-in-Some-clause-alone
-returns-in-Some-clause-alone g c = keeps_others-then c.args.file _ _ _ (others-read c.args.file _ _ _ c.in-Ok.ensures.leaves) c.in-Ok-edit_all.ensures.alone
+pub returns-in-Some-clause-others : goal.returns-in-Some-clause-others
+returns-in-Some-clause-others g c = keeps_other_two-then c.args.file _ _ _ _ (replaces-read c.args.file _ _ _ c.in-Ok.ensures.leaves) c.in-Ok-edit_lines.ensures.others
 
-pub returns-in-Ok-edit_all-clause-alone : goal.returns-in-Ok-edit_all-clause-alone
-returns-in-Ok-edit_all-clause-alone g c = keeps_others-then c.args.file _ _ _ (others-read c.args.file _ _ _ c.in-Ok.ensures.leaves) c.in-Ok-edit_all.ensures.alone
+pub returns-in-Ok-edit_lines-clause-others : goal.returns-in-Ok-edit_lines-clause-others
+returns-in-Ok-edit_lines-clause-others g c = keeps_other_two-then c.args.file _ _ _ _ (replaces-read c.args.file _ _ _ c.in-Ok.ensures.leaves) c.in-Ok-edit_lines.ensures.others
 
-pub returns-in-Ok-clause-alone : goal.returns-in-Ok-clause-alone
-returns-in-Ok-clause-alone g c = keeps_others-then c.args.file _ _ _ (others-read c.args.file _ _ _ c.in-Ok.ensures.leaves) c.in-Err-edit_all.ensures.alone
+pub returns-in-Ok-clause-others : goal.returns-in-Ok-clause-others
+returns-in-Ok-clause-others g c = keeps_other_two-then c.args.file _ _ _ _ (replaces-read c.args.file _ _ _ c.in-Ok.ensures.leaves) c.in-Err-edit_lines.ensures.others
 
-pub returns-clause-alone : goal.returns-clause-alone
-returns-clause-alone g c = others-read c.args.file _ _ _ c.in-Err.ensures.leaves
+pub returns-clause-others : goal.returns-clause-others
+returns-clause-others g c = replaces-read c.args.file _ _ _ c.in-Err.ensures.leaves
 
-pub returns-in-Ok-edit_all-clause-reads : goal.returns-in-Ok-edit_all-clause-reads
-returns-in-Ok-edit_all-clause-reads g c = λ none told input_told.
+pub returns-in-Ok-edit_lines-clause-reads : goal.returns-in-Ok-edit_lines-clause-reads
+returns-in-Ok-edit_lines-clause-reads g c = λ none told input_told.
     let S = g.S.Store in
     let took = c.in-Ok.ensures in
     let asked : Asked = record { edits = c.in-Ok.batch.edits.items; refusal = c.in-Ok.batch.refusal } in
-    asked_reads c.args.names.now c.args.from (S.seen c.args.store.now).files _ asked (S.seen c.args.store.now).reads (S.seen c.take_batch.new.store).reads _ none (took.read told input_told)
-    (ap (λ s. (S.seen s).reads) (took.unread none))
-    (rw c.as_slice.ensures.value at c.in-Ok-edit_all.ensures.reads)
+    let unread = ap S.seen (took.unread none) in
+    asked_reads c.args.names.now c.args.from (S.seen c.args.store.now).files _ asked (S.seen c.args.store.now).reads (S.seen c.take_batch.new.store).reads _
+    (pieces_of (length (file_of (S.seen c.args.store.now).files c.args.file))) none (took.read told input_told) (ap (λ (s : StoreSeen). s.reads) unread)
+    (subst (λ (s : StoreSeen). (S.seen c.edit_lines.new.store).reads ≤ (S.seen c.take_batch.new.store).reads + (pieces_of (length (file_of s.files c.args.file)) + 17 * length asked.edits)) unread
+    (rw c.as_slice.ensures.value at (c.in-Ok-edit_lines.ensures.reads told)))
+
+pub returns-in-Some-clause-wanting : goal.returns-in-Some-clause-wanting
+returns-in-Some-clause-wanting g c =
+    let may = subst (λ (o : Option Refusal). IfSome o (IsOfLine c.args.names.now (input_name c.args.from))) c.in-Some.is c.in-Ok.ensures.may_ask in
+    λ is. absurd (line_wants c.args.names.now (input_name c.args.from) c.in-Some.refusal.cause c.in-Some.refusal.name may.may is)
+
+pub returns-in-Ok-clause-wanting : goal.returns-in-Ok-clause-wanting
+returns-in-Ok-clause-wanting g c = λ is. c.in-Err-edit_lines.ensures.wanting is ∙ ap (λ (files : World). files c.args.file) c.in-Ok.ensures.leaves.files
+
+pub returns-clause-wanting : goal.returns-clause-wanting
+returns-clause-wanting g c = λ is. ap (λ (files : World). files c.args.file) c.in-Err.ensures.leaves.files

@@ -2,7 +2,7 @@ use Rattle.std.proofs.Common.{◌≡◌, ◌+◌, IsTrue, List, [], drop, refl, 
 use Rattle.std.proofs.lemmas.List.{drop_all, drop_more}
 use Rattle.quota_blocks.specs.EditsOne.{EditsOne}
 use Rattle.quota_blocks.specs.QuotaFile.{FileSeen}
-use Rattle.outside.proofs.FrameLemmas.{keeps_others-then, only_reads-none, syncs-none, syncs-then}
+use Rattle.outside.proofs.FrameLemmas.{only_reads-none, syncs-none, syncs-then}
 use Rattle.quota_blocks.proofs.EditsOneLemmas.{edits_one-none, edits_one-then}
 use Rattle.set_edit.proofs.EditingLemmas.{edits-syncs}
 use Rattle.quota_map.specs.AnyFile.{HoldsAny, any_seen}
@@ -12,6 +12,7 @@ use Rattle.run_steps.specs.Done.{seen_of, tells_of}
 use Rattle.batch_commands.proofs.BatchLemmas.{AreMade, all_carried, line_may_fail, line_refused, made_more, made_none}
 use Rattle.edit_steps.proofs.EditFileLemmas.{any_cause, any_made, any_refused, limits_keep_format}
 use Rattle.batch_commands.proofs.ReadsLemmas.{line_few}
+use Rattle.batch_commands.proofs.WantingLemmas.{wants_none}
 use Rattle.batch_commands.proofs.batch.edit_all.Goals as goal
 
 pub loop-line-init : goal.loop-line-init
@@ -86,17 +87,17 @@ returns-in-Err-clause-carries g c = λ asked as_asked value held input out err l
     kept.leaves leaves
     (line_may_fail asked file _ _ c.args.now S.tells c.loop-line.opened c.set_limits.new.file before after format fault was as_asked refused))
 
-pub returns-clause-alone : goal.returns-clause-alone
-returns-clause-alone g c = c.loop-line.invariant.leaves.files
+pub returns-clause-leaves : goal.returns-clause-leaves
+returns-clause-leaves g c = c.loop-line.invariant.leaves
 
-pub returns-in-Err-clause-alone : goal.returns-in-Err-clause-alone
-returns-in-Err-clause-alone g c =
+pub returns-in-Err-clause-leaves : goal.returns-in-Err-clause-leaves
+returns-in-Err-clause-leaves g c =
     let S = g.S.Store in
     let kept = c.loop-line.invariant in
     let edits = c.set_limits.ensures.edits in
     let named : (any_seen c.loop-line.opened).name ≡ c.args.file = ap (λ (s : FileSeen). s.name) (kept.same ∙ c.requires) in
     let leaves : EditsOne c.args.file (S.seen c.loop-line.store) (S.seen c.set_limits.new.store) = rw named at edits.value.leaves in
-    keeps_others-then c.args.file _ _ _ kept.leaves.files leaves.files
+    edits_one-then _ _ _ _ kept.leaves leaves
 
 pub returns-clause-reads : goal.returns-clause-reads
 returns-clause-reads g c =
@@ -105,3 +106,6 @@ returns-clause-reads g c =
 
 pub returns-in-Err-clause-synced : goal.returns-in-Err-clause-synced
 returns-in-Err-clause-synced g c = λ told. syncs-then _ _ _ (c.loop-line.invariant.synced told) (edits-syncs _ _ _ _ _ c.in-Err.ensures.edits told)
+
+pub returns-in-Err-clause-memory : goal.returns-in-Err-clause-memory
+returns-in-Err-clause-memory g c = rw (c.at_line.ensures, c.of.ensures, c.edit_cause.ensures) (wants_none c.in-Err.fault c.in-Err.ensures.memory)

@@ -2,7 +2,7 @@ use Rattle.std.proofs.Common.{Ok, Err, rules}
 use Rattle.std.proofs.lemmas.Result.{err_from_is_err_and}
 use Rattle.quota_blocks.proofs.LooksUpLemmas.{is_looked_up}
 use Rattle.set_edit.specs.Edits.{limits_edit}
-use Rattle.set_edit.proofs.EditingLemmas.{edits-unfit, edits-unlooked, reads_looked, reads_once}
+use Rattle.set_edit.proofs.EditingLemmas.{edits-unfit, edits-unlooked, look_wants, reads_looked, reads_once}
 use Rattle.set_edit.proofs.EditsLemmas.{limits-edits}
 use Rattle.set_edit.proofs.edit.set_limits.Goals as goal
 
@@ -19,6 +19,7 @@ returns g c =
           })
           (c.grace.ensures.value _) c.limited-rec.ensures next.wanted next.kept next.null;
       reads = reads_once _ g.F.QuotaFile.change_reads _ _ _ _ _ _ looked_up.looks.same looked_up.looks.reads c.in_ok-put_or_remove.ensures.changes.reads;
+      memory = tt;
     }
 
 pub returns-in_err-put_or_remove : goal.returns-in_err-put_or_remove
@@ -35,6 +36,7 @@ returns-in_err-put_or_remove g c =
           })
           (c.grace.ensures.value _) c.limited-rec.ensures next.wanted next.kept next.null);
       reads = reads_once _ g.F.QuotaFile.change_reads _ _ _ _ _ _ looked_up.looks.same looked_up.looks.reads c.in_err-put_or_remove.ensures.changes.reads;
+      memory = rw (p.1, p.2) c.in_err-put_or_remove.ensures.memory;
     }
 
 pub returns-in_err-old-clause-reads : goal.returns-in_err-old-clause-reads
@@ -52,3 +54,13 @@ pub returns-in_err-next-clause-edits : goal.returns-in_err-next-clause-edits
 returns-in_err-next-clause-edits g c =
     let p = err_from_is_err_and c.from_residual-in_err-next.result c.from_residual-in_err-next.ensures.1 in
     rw (p.1, p.2) (edits-unfit _ _ _ _ c.in_err-next.field-0.0 (search rules))
+
+pub returns-in_err-old-clause-memory : goal.returns-in_err-old-clause-memory
+returns-in_err-old-clause-memory g c =
+    let p = err_from_is_err_and c.from_residual.result c.from_residual.ensures.1 in
+    rw (p.1, p.2) (look_wants _ _ _ c.in_err-old.field-0.0 c.in_err-old.ensures.looks.refused)
+
+pub returns-in_err-next-clause-memory : goal.returns-in_err-next-clause-memory
+returns-in_err-next-clause-memory g c =
+    let p = err_from_is_err_and c.from_residual-in_err-next.result c.from_residual-in_err-next.ensures.1 in
+    rw (p.1, p.2) tt

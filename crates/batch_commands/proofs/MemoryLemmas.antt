@@ -1,0 +1,137 @@
+-- Edits of lines of a file in memory: what was carried out there is what the lines do, and what is known of it whatever the lines do.
+use Rattle.std.proofs.Common.{◌≡◌, ℕ, Bool, true, false, List, [], Option, None, Some, Ok, Err, Result, inl, inr, refl, sym, ap, subst, ◌∙◌, arith}
+use Rattle.std.specs.Prelude.{◌<◌, IfErr}
+use Rattle.std.proofs.lemmas.Option.{same_Some}
+use Rattle.file_in_memory.specs.OneFile.{only_file}
+use Rattle.quota_blocks.specs.EditsOne.{EditsOne, StaysUnlessWritten}
+use Rattle.quota_blocks.specs.Frame.{OnlyReads}
+use Rattle.quota_blocks.specs.QuotaValue.{QuotaValue}
+use Rattle.quota_map.specs.View.{IsView}
+use Rattle.quota_types.specs.declared.file_kind.Format.{Format}
+use Rattle.quota_types.specs.declared.file_kind.Kind.{Kind}
+use Rattle.quota_blocks.specs.Seen.{LinkSeen, SinkSeen, SourceSeen, StoreSeen}
+use Rattle.quota_blocks.specs.World.{KeepsOthers, World}
+use Rattle.refusals.specs.declared.cause.Cause.{Cause}
+use Rattle.refusals.specs.declared.reason.Refusal.{Refusal}
+use Rattle.refusals.specs.Status.{group_of, status_of}
+use Rattle.refusals.proofs.GroupLemmas.{ByFault, ByMemory, ByStep, GroupCase, group_case}
+use Rattle.run_steps.specs.Act.{Follows}
+use Rattle.run_steps.specs.Done.{Outside, IsWorldTold, RunTells, seen_of, tells_of}
+use Rattle.run_steps.specs.Meaning.{EndsBy}
+use Rattle.run_steps.specs.Run.{CarriesOut, HasSteps}
+use Rattle.run_steps.specs.Steps.{Steps}
+use Rattle.run_steps.specs.Writes.{WritesFor}
+use Rattle.batch_commands.specs.declared.together.Edited.{Edited}
+use Rattle.batch_commands.specs.Batch.{line_uses}
+use Rattle.batch_commands.specs.Together.{HasBytes, IsEditOf, IsMadeInMemory, IsOfEdit, memory_seen, refusal_in}
+use Rattle.batch_commands.proofs.TogetherLemmas.{only_file-at, only_name_of}
+
+-- the files of what is met outside, with the rest of it
+abbrev around : World → SourceSeen → LinkSeen → Outside
+around files input link = record { files = files; input = input.left; datagrams = link.left }
+
+-- Steps that were done, of stores with the same files and as many calls of `write`.
+steps_seen : (steps : Steps) (tells told : RunTells) (refusal : Option Refusal) (old new old' new' : StoreSeen) (input : SourceSeen) (out err : SinkSeen) (link : LinkSeen) → told.out ≡ tells.out → told.err ≡ tells.err
+    → old.files ≡ old'.files → old.writes ≡ old'.writes → new.files ≡ new'.files → new.writes ≡ new'.writes
+    → HasSteps steps told refusal (seen_of old input out err link) (seen_of new input out err link) → HasSteps steps tells refusal (seen_of old' input out err link) (seen_of new' input out err link)
+steps_seen steps tells told refusal old new old' new' input out err link out_so err_so files writes files' writes' has = record {
+  acts = has.acts;
+  by_steps = subst (λ (w : World). EndsBy steps (around w input link) has.acts (around new'.files input link) refusal) files
+      (subst (λ (w : World). EndsBy steps (around old.files input link) has.acts (around w input link) refusal) files' has.by_steps);
+  done = record {
+    files = subst (λ (w : World). Follows has.acts w new'.files) files (subst (λ (w : World). Follows has.acts old.files w) files' has.done.files);
+    out = λ is. has.done.out (out_so ∙ is);
+    err = λ is. has.done.err (err_so ∙ is);
+    answered = has.done.answered;
+    started = has.done.started;
+    writes = subst (λ (n : ℕ). WritesFor has.acts n new'.writes) writes (subst (λ (n : ℕ). WritesFor has.acts old.writes n) writes' has.done.writes);
+  };
+}
+
+case_steps : (steps : Steps) (tells : RunTells) (old new : StoreSeen) (input : SourceSeen) (out err : SinkSeen) (link : LinkSeen) (refusal : Refusal) (failed : Type 0) → status_of refusal.cause < 4
+    → GroupCase (group_of refusal.cause) failed (IsWorldTold tells → HasSteps steps tells (Some refusal) (seen_of old input out err link) (seen_of new input out err link)) → IsWorldTold tells
+    → HasSteps steps tells (Some refusal) (seen_of old input out err link) (seen_of new input out err link)
+case_steps steps tells old new input out err link refusal failed own (ByFault four fails) told = absurd (omega (arith, own, four))
+case_steps steps tells old new input out err link refusal failed own (ByMemory five) told = absurd (omega (arith, own, five))
+case_steps steps tells old new input out err link refusal failed own (ByStep not_four not_five stated) told = stated told
+
+-- what was carried out, and not stopped by a fault, was done
+carried_steps : (steps : Steps) (may : Cause → List ℕ → Type 0) (tells : RunTells) (old new : StoreSeen) (input : SourceSeen) (out err : SinkSeen) (link : LinkSeen) (ended : Result (Unit {0}) Refusal)
+    → IfErr ended (λ (refusal : Refusal). status_of refusal.cause < 4) → CarriesOut steps line_uses may tells (seen_of old input out err link) (seen_of new input out err link) ended → IsWorldTold tells
+    → HasSteps steps tells (refusal_in ended) (seen_of old input out err link) (seen_of new input out err link)
+carried_steps steps may tells old new input out err link (Ok passed) own carries told = carries.done told
+carried_steps steps may tells old new input out err link (Err refusal) own carries told =
+    case_steps steps tells old new input out err link refusal _ own (group_case (group_of refusal.cause) _ _ carries.refused) told
+
+-- Lines were carried out over one file in memory, whatever else is seen.
+abbrev pub CarriesInMemory : Steps → (may : Cause → List ℕ → Type 0) → (before after : StoreSeen) → Result (Unit {0}) Refusal → Type 0
+CarriesInMemory steps may before after ended =
+    (input : SourceSeen) (out err : SinkSeen) (link : LinkSeen) (input_tells out_tells err_tells link_tells : Bool)
+    → CarriesOut steps line_uses may (tells_of true input_tells out_tells err_tells link_tells) (seen_of before input out err link) (seen_of after input out err link) ended
+
+-- the one file has the same name as before
+name_kept : (file bytes name : List ℕ) (before after : StoreSeen) (bytes' : List ℕ) → HasBytes file bytes before → after.files ≡ only_file name bytes' → KeepsOthers file before.files after.files → name ≡ file
+name_kept file bytes name before after bytes' has is keeps =
+    only_name_of file bytes name bytes' (subst (λ (w : World). KeepsOthers file w (only_file name bytes')) has.files (subst (λ (w : World). KeepsOthers file before.files w) is keeps))
+
+pub memory_made : (steps : Steps) (may : Cause → List ℕ → Type 0) (file bytes name : List ℕ) (before after : StoreSeen) (edited : Edited) → HasBytes file bytes before → after.files ≡ only_file name edited.bytes.items
+    → after.writes ≡ edited.writes → EditsOne file before after → IfErr edited.ended (λ (refusal : Refusal). status_of refusal.cause < 4) → CarriesInMemory steps may before after edited.ended
+    → IsMadeInMemory steps file bytes edited
+memory_made steps may file bytes name before after edited has is writes leaves own carries = λ input out err link tells.
+    let told = tells_of true true tells.out tells.err true in
+    let named = name_kept file bytes name before after edited.bytes.items has is leaves.files in
+    steps_seen steps tells told (refusal_in edited.ended) before after (memory_seen file bytes 0) (memory_seen file edited.bytes.items edited.writes) input out err link refl refl has.files has.unwritten
+    (is ∙ ap (λ (n : List ℕ). only_file n edited.bytes.items) named) writes
+    (carried_steps steps may told before after input out err link edited.ended own (carries input out err link true tells.out tells.err true) (record { store = refl; input = refl; link = refl }))
+
+-- while nothing was written the file has its bytes
+same_bytes : (file bytes name : List ℕ) (before after : StoreSeen) (bytes' : List ℕ) → HasBytes file bytes before → after.files ≡ only_file name bytes' → name ≡ file → StaysUnlessWritten before after → after.writes ≡ 0 → bytes' ≡ bytes
+same_bytes file bytes name before after bytes' has is named (inl same) none =
+    same_Some bytes' bytes
+    (sym (only_file-at file bytes') ∙ ap (λ (n : List ℕ). only_file n bytes' file) (sym named) ∙ ap (λ (w : World). w file) (sym is ∙ same.0 ∙ has.files) ∙ only_file-at file bytes)
+same_bytes file bytes name before after bytes' has is named (inr rose) none = absurd (omega (arith, rose, none))
+
+own_refused : (steps : Steps) (may : Cause → List ℕ → Type 0) (tells : RunTells) (before after : StoreSeen) (input : SourceSeen) (out err : SinkSeen) (link : LinkSeen) (ended : Result (Unit {0}) Refusal)
+    → IfErr ended (λ (refusal : Refusal). status_of refusal.cause < 4) → CarriesOut steps line_uses may tells (seen_of before input out err link) (seen_of after input out err link) ended → IfErr ended (IsOfEdit may)
+own_refused steps may tells before after input out err link (Ok passed) own carries = tt
+own_refused steps may tells before after input out err link (Err refusal) own carries = record { allowed = carries.may_refuse; placed = carries.placed; own = own }
+
+-- nothing is seen
+no_source : SourceSeen
+no_source = record { left = []; faults = 0 }
+
+no_sink : SinkSeen
+no_sink = record { written = []; faults = 0 }
+
+no_link : LinkSeen
+no_link = record { left = []; answers = []; started = record { times = 0; last = None }; faults = 0 }
+
+pub memory_edit : (steps : Steps) (may : Cause → List ℕ → Type 0) (file bytes name : List ℕ) (before after : StoreSeen) (edited : Edited) → HasBytes file bytes before → after.files ≡ only_file name edited.bytes.items
+    → after.writes ≡ edited.writes → EditsOne file before after → IfErr edited.ended (λ (refusal : Refusal). status_of refusal.cause < 4) → CarriesInMemory steps may before after edited.ended
+    → IsEditOf may bytes edited
+memory_edit steps may file bytes name before after edited has is writes leaves own carries =
+    let named = name_kept file bytes name before after edited.bytes.items has is leaves.files in
+    record {
+      same = λ none. same_bytes file bytes name before after edited.bytes.items has is named leaves.written (writes ∙ none);
+      refused = own_refused steps may (tells_of true true true true true) before after no_source no_sink no_sink no_link edited.ended own (carries no_source no_sink no_sink no_link true true true true);
+    }
+
+-- The file in memory, once it was opened.
+
+-- a new store of one file
+abbrev pub fresh_file : (name bytes : List ℕ) → StoreSeen
+fresh_file name bytes = record { files = only_file name bytes; unsynced = λ _. false; faults = 0; reads = 0; writes = 0 }
+
+-- it has its bytes still where it was only read
+pub opened_bytes : {done : Bool} (text name bytes : List ℕ) (memory opened : StoreSeen) → text ≡ name → memory ≡ fresh_file text bytes → OnlyReads done name memory opened → HasBytes name bytes opened
+opened_bytes text name bytes memory opened named is reads = record {
+  files = reads.files ∙ ap (λ (s : StoreSeen). s.files) is ∙ ap (λ (n : List ℕ). only_file n bytes) named;
+  unwritten = reads.writes ∙ ap (λ (s : StoreSeen). s.writes) is;
+}
+
+-- and whoever opens it sees what its bytes stand for
+pub opened_view : (text name bytes : List ℕ) (memory : StoreSeen) (kind : Kind) (asked : Option Format) (value : QuotaValue) → text ≡ name → memory ≡ fresh_file text bytes → IsView (Some bytes) kind asked (Ok value)
+    → IsView (memory.files name) kind asked (Ok value)
+opened_view text name bytes memory kind asked value named is view =
+    subst (λ (f : Option (List ℕ)). IsView f kind asked (Ok value))
+    (sym (ap (λ (s : StoreSeen). s.files name) is ∙ ap (λ (n : List ℕ). only_file n bytes name) named ∙ only_file-at name bytes)) view

@@ -1,0 +1,425 @@
+-- Edits of lines that are made together: from what they made in memory of the file to what they did to it.
+use Rattle.std.proofs.Common.{◌≡◌, ◌≢◌, inl, inr, ℕ, ◌+◌, ◌*◌, ◌≤◌, Bool, true, false, IsTrue, List, [], ◌∷◌, ◌++◌, length, Option, None, Some, Ok, Err, Result, refl, sym, ap, subst, ◌∙◌, append-nil, arith}
+use Rattle.std.specs.Prelude.{IfErr, IsSome, unwrap_or}
+use Rattle.std.proofs.lemmas.Result.{IfErr-weaker, on_ok_weaker}
+use Rattle.std.specs.Str.{bytes_eq}
+use Rattle.std.proofs.lemmas.Bool.{cases_Bool, false≢true}
+use Rattle.std.proofs.lemmas.Option.{none-some, same_Some}
+use Rattle.file_in_memory.specs.OneFile.{only_file}
+use Rattle.quota_types.specs.declared.field.Field.{Field}
+use Rattle.quota_blocks.specs.Count.{Rose}
+use Rattle.quota_blocks.specs.Block.{file_of}
+use Rattle.quota_blocks.specs.Frame.{OnlyReads, ReplacesOne, Syncs}
+use Rattle.quota_blocks.specs.Load.{IsLoadFault}
+use Rattle.quota_blocks.specs.declared.whole_file.LoadFault.{LoadFault}
+use Rattle.quota_blocks.specs.declared.whole_file.LoadFault.TheVariants.{Store as NotRead, NoFile, TooLarge, Memory as Wanting}
+use Rattle.outside.proofs.FrameLemmas.{syncs-then}
+use Rattle.quota_map.specs.View.{IsView}
+use Rattle.quota_types.specs.declared.file_kind.Format.{Format}
+use Rattle.quota_types.specs.declared.file_kind.Format.TheVariants.{V1, V2R0, V2R1}
+use Rattle.quota_types.specs.declared.file_kind.Kind.{Kind}
+use Rattle.run_steps.specs.Opening.{MayRefuseOpening}
+use Rattle.run_steps.proofs.ReasonLemmas.{reason_since}
+use Rattle.quota_blocks.specs.QuotaValue.{QuotaValue}
+use Rattle.quota_blocks.specs.Replace.{IsReplaceFault, OnNoMemory}
+use Rattle.quota_blocks.specs.declared.replacement.ReplaceFault.{ReplaceFault}
+use Rattle.quota_blocks.specs.declared.replacement.ReplaceFault.TheVariants.{Store as NotStored, Full, Memory as NoMemory}
+use Rattle.quota_blocks.proofs.ReplaceLemmas.{replacement_name-ne}
+use Rattle.quota_blocks.specs.Replacement.{ReplacesOnly, replaced_files, replacement_name}
+use Rattle.quota_blocks.specs.Seen.{StoreSeen}
+use Rattle.quota_blocks.specs.World.{KeepsOthers, World, with_file}
+use Rattle.outside.proofs.WorldLemmas.{KeepsOthers-with_file, bytes_eq-same, bytes_eq-true, with_file-at, with_file-same}
+use Rattle.set_edit.specs.Editing.{Edit}
+use Rattle.refusals.specs.declared.cause.Cause.{Cause}
+use Rattle.refusals.specs.declared.cause.Cause.TheVariants.{Memory as WantOfMemory, SinkFault, StoreFault}
+use Rattle.refusals.specs.declared.reason.Refusal.{Refusal}
+use Rattle.refusals.specs.Refusals.{refusal_of}
+use Rattle.refusals.specs.Status.{group_of, status_of}
+use Rattle.refusals.proofs.GroupLemmas.{by_group_of}
+use Rattle.run_steps.specs.Act.{Act, Change, ChangesNone, Follows, Idle, Together}
+use Rattle.run_steps.specs.Changing.{blocks_after, written}
+use Rattle.run_steps.specs.Done.{IsUnwritten, IsWorldTold, Outside, RunSeen, RunTells, outside_of, seen_of}
+use Rattle.run_steps.specs.Meaning.{EndsBy, HasBegun}
+use Rattle.run_steps.specs.Run.{CarriesOut, HasReason, HasSteps, IsDoneInPart, IsPlacedBy, Uses}
+use Rattle.run_steps.specs.Steps.{Doing, DoingAll, Ending, Steps, Then}
+use Rattle.run_steps.specs.Writes.{WritesFor, edits_in}
+use Rattle.run_steps.proofs.ActLemmas.{appends_nothing}
+use Rattle.run_steps.proofs.DoingLemmas.{AreWritten, done_of}
+use Rattle.run_steps.proofs.LookingLemmas.{leads_doing}
+use Rattle.run_steps.proofs.MeaningLemmas.{ends_follow}
+use Rattle.run_steps.proofs.OpeningLemmas.{outside_same, refused_so, store_later, with_store}
+use Rattle.run_steps.proofs.PartLemmas.{carried_whole, nothing_begun, part_but_output, part_from, whole_begun}
+use Rattle.run_steps.proofs.RowLemmas.{part_led}
+use Rattle.run_steps.proofs.WritesLemmas.{writes_for-same}
+use Rattle.edit_steps.specs.EditStep.{changed, is_too_large, value_left}
+use Rattle.batch_commands.specs.declared.batch_line.LineEdit.{LineEdit}
+use Rattle.batch_commands.specs.declared.together.Attempt.{Attempt}
+use Rattle.batch_commands.specs.declared.together.Attempt.TheVariants.{Ended, NotMade}
+use Rattle.batch_commands.specs.declared.together.Edited.{Edited}
+use Rattle.batch_commands.specs.Batch.{LineEditMayRefuse, LineSteps, edit_of, line_uses, met_at}
+use Rattle.batch_commands.specs.Together.{IfEnded, IsEditOf, IsMadeInMemory, IsOfEdit, IsOnlyRead, StandsAlone, allowed, allowed_by, load_cause, memory_seen, refusal_in, replace_cause}
+use Rattle.batch_commands.proofs.OverLemmas.{lines_counted, lines_over, over}
+
+-- calls that only read replace nothing
+pub replaces-read : {done : Bool} (file name : List ℕ) (old new : StoreSeen) → OnlyReads done name old new → ReplacesOnly file old.files new.files
+replaces-read file name old new read = λ other differ apart. ap (λ (files : World). files other) read.files
+
+-- The first change is at hand.
+
+-- Wherever steps end that change a file, they may have been done in part so: the file of this name is as it was, and no other one has
+-- changed but the one with `.new` added to the name.
+abbrev pub MayStop : List ℕ → Steps → Type 0
+MayStop file steps =
+    (why : Option Cause) (tells : RunTells) (old : RunSeen) (store : StoreSeen) (acts : List Act) (to : Outside) (refusal : Option Refusal) → why ≢ Some SinkFault → store.files file ≡ old.store.files file
+    → ReplacesOnly file old.store.files store.files → EndsBy steps (outside_of old) acts to refusal → (ChangesNone acts → ⊥) → IsDoneInPart steps tells why old (with_store old store)
+
+no_acts : (acts : List Act) → acts ≡ [] → ChangesNone acts
+no_acts acts none = subst (λ (a : List Act). ChangesNone a) (sym none) tt
+
+end_stops : (file : List ℕ) (stated : Option Refusal) → MayStop file (Ending stated)
+end_stops file stated why tells old store acts to refusal other same leaves by some = absurd (some (no_acts acts by.acts_none))
+
+idle_done : (store : StoreSeen) → AreWritten (Idle ∷ []) store store
+idle_done store = record {
+  files = (store.files, refl, refl);
+  writes = writes_for-same (Idle ∷ []) store.writes store.writes refl;
+  out = refl;
+  err = refl;
+  answered = refl;
+  started = λ before. refl;
+}
+
+idle_changes : (acts rest : List Act) → acts ≡ Idle ∷ rest → (ChangesNone acts → ⊥) → ChangesNone rest → ⊥
+idle_changes acts rest is some none = some (subst (λ (a : List Act). ChangesNone a) (sym is) none)
+
+idle_stops : (file : List ℕ) (next : Steps) → MayStop file next → MayStop file (Doing Idle next)
+idle_stops file next more why tells old store acts to refusal other same leaves by some =
+    let behind = subst (λ (w : World). EndsBy next (record (outside_of old) { files = w }) by.0 to refusal) by.3 by.4 in
+    part_led (Idle ∷ []) next (Doing Idle next) tells old old (with_store old store) (omega arith) (omega arith)
+    (leads_doing (Idle ∷ []) next (outside_of old) old.store.files (old.store.files, refl, refl))
+    (done_of (Idle ∷ []) tells old old.store (idle_done old.store))
+    (more why tells old store by.0 to refusal other same leaves behind (idle_changes acts by.0 by.2 some))
+
+change_stops : (file : List ℕ) (value : QuotaValue) (next : Steps) → MayStop file (Doing (Change Together file value) next)
+change_stops file value next why tells old store acts to refusal other same leaves by some = record {
+  done = [];
+  hand = Change Together file value ∷ [];
+  now = outside_of old;
+  begun = inl (record { done_none = refl; at_hand = refl; same = refl });
+  files = (inl same, leaves);
+  out = λ told. appends_nothing (old.out.written ++ []) old.out.written [] (sym (append-nil old.out.written));
+  err = λ told. appends_nothing (old.err.written ++ []) old.err.written [] (sym (append-nil old.err.written));
+  answered = sym (append-nil old.link.answers);
+  started = refl;
+  datagrams = refl;
+  writes = record { none = λ none. absurd none; few = λ alone. absurd alone };
+  failed = λ is told. absurd (other is);
+}
+
+written_stops : (file : List ℕ) (number blocks : ℕ) (new : QuotaValue) (idle large : Bool) (next : Steps) → MayStop file next
+    → MayStop file (Then (met_at number (written Together file blocks new idle large)) (λ (acts : List Act). DoingAll acts next))
+written_stops file number blocks new true large next more = idle_stops file next more
+written_stops file number blocks new false true next more = end_stops file _
+written_stops file number blocks new false false next more = change_stops file new next
+
+changed_stops : (file : List ℕ) (number : ℕ) (edit : Edit) (bytes : Option (List ℕ)) (value : QuotaValue) (edited : Result QuotaValue (Field × ℕ)) (next : Steps) → MayStop file next
+    → MayStop file (Then (met_at number (changed Together file edit bytes value edited)) (λ (acts : List Act). DoingAll acts next))
+changed_stops file number edit bytes value (Ok new) next more = written_stops file number (blocks_after bytes new) new (edit.is_idle value) (is_too_large edit bytes new) next more
+changed_stops file number edit bytes value (Err out) next more = end_stops file _
+
+-- so may lines
+pub lines_stop : (file : List ℕ) (now : ℕ) (lines : List LineEdit) (value : QuotaValue) → MayStop file (LineSteps file now lines value)
+lines_stop file now [] value = end_stops file None
+lines_stop file now (line ∷ lines) value = λ why tells old store acts to refusal other same leaves by some.
+    let edit = edit_of line now in
+    let left = value_left (edit.edited value) value in
+    let part = changed_stops file line.number edit (old.store.files file) value (edit.edited value) (LineSteps file now lines left) (lines_stop file now lines left)
+    why tells old store acts to refusal other same leaves by some in
+    record {
+      done = part.done;
+      hand = part.hand;
+      now = part.now;
+      begun = part.begun;
+      files = part.files;
+      out = part.out;
+      err = part.err;
+      answered = part.answered;
+      started = part.started;
+      datagrams = part.datagrams;
+      writes = part.writes;
+      failed = part.failed;
+    }
+
+-- What was made in memory.
+
+-- the one file has its bytes
+pub only_file-at : (name bytes : List ℕ) → only_file name bytes name ≡ Some bytes
+only_file-at name bytes = with_file-at (λ _. None) name (Some bytes)
+
+-- a world of one file whose other files are those of another one has that one's name
+pub only_name_of : (name bytes other bytes' : List ℕ) → KeepsOthers name (only_file name bytes) (only_file other bytes') → other ≡ name
+only_name_of name bytes other bytes' keeps =
+    elim (cases_Bool (bytes_eq other name)) [
+      | inl same ↦ bytes_eq-true other name same
+      | inr differs ↦
+          let apart : other ≢ name = λ is. false≢true (sym differs ∙ ap (λ (n : List ℕ). bytes_eq n name) is ∙ bytes_eq-same name) in
+          absurd (none-some bytes' (sym (KeepsOthers-with_file (λ _. None) name (Some bytes) other apart) ∙ sym (keeps other apart) ∙ only_file-at other bytes'))
+    ]
+
+-- What was done to the store.
+
+-- the file that was edited in memory takes the place of the one that was there
+abbrev pub Takes : (old new : StoreSeen) (file bytes : List ℕ) → Type 0
+Takes old new file bytes = new.files ≡ with_file old.files file (Some bytes)
+
+-- what was written for it is allowed
+pub record IsAllowed (count : ℕ) (edited : Edited) (old new : StoreSeen) : Type 0 where
+  pub none : edited.writes ≡ 0 → new.writes ≡ old.writes
+  pub few : new.writes ≤ old.writes + allowed count edited
+
+-- edits that ended took this many calls of `write` at least
+allowed_few : (count writes : ℕ) (ended : Result (Unit {0}) Refusal) (acts : List Act) → writes ≤ 0 + 12 * edits_in acts → (refusal_in ended ≡ None → edits_in acts ≡ count) → allowed_by count writes ended ≤ 12 * edits_in acts
+allowed_few count writes (Ok passed) acts few all = let same = all refl in omega (arith, same)
+allowed_few count writes (Err refusal) acts few all = omega (arith, few)
+
+-- what was done in memory was done to the file
+pub steps_over : (file : List ℕ) (now : ℕ) (lines : List LineEdit) (value : QuotaValue) (bytes : List ℕ) (edited : Edited) (tells : RunTells) (old : RunSeen) (store : StoreSeen)
+    → IsMadeInMemory (LineSteps file now lines value) file bytes edited → old.store.files file ≡ Some bytes → Takes old.store store file edited.bytes.items
+    → IsAllowed (length lines) edited old.store store → HasSteps (LineSteps file now lines value) tells (refusal_in edited.ended) old (with_store old store)
+steps_over file now lines value bytes edited tells old store made there takes writes =
+    let steps = LineSteps file now lines value in
+    let has = made old.input old.out old.err old.link tells in
+    let new_there : store.files ≡ with_file old.store.files file (only_file file edited.bytes.items file) =
+    takes ∙ ap (λ (f : Option (List ℕ)). with_file old.store.files file f) (sym (only_file-at file edited.bytes.items)) in
+    let by = subst (λ (w : World). EndsBy steps (outside_of old) has.acts (record (outside_of old) { files = w }) (refusal_in edited.ended)) (sym new_there)
+    (lines_over file now lines value (outside_of (seen_of (memory_seen file bytes 0) old.input old.out old.err old.link)) (outside_of old)
+    (outside_of (seen_of (memory_seen file edited.bytes.items edited.writes) old.input old.out old.err old.link)) has.acts (refusal_in edited.ended)
+    (there ∙ sym (only_file-at file bytes)) has.by_steps) in
+    record {
+      acts = has.acts;
+      by_steps = by;
+      done = record {
+        files = ends_follow steps (outside_of old) has.acts (outside_of (with_store old store)) (refusal_in edited.ended) by;
+        out = has.done.out;
+        err = has.done.err;
+        answered = has.done.answered;
+        started = has.done.started;
+        writes = record {
+          none = λ none. writes.none (has.done.writes.none none);
+          few = λ none.
+              let most = allowed_few (length lines) edited.writes edited.ended has.acts (has.done.writes.few none) (λ passed.
+              lines_counted file now lines value (outside_of old) (outside_of (with_store old store)) has.acts
+              (subst (λ (r : Option Refusal). EndsBy steps (outside_of old) has.acts (outside_of (with_store old store)) r) passed by)) in
+              let less = writes.few in
+              omega (arith, most, less);
+        };
+      };
+    }
+
+-- a refusal of an edit says of no output that it failed
+edit_other : (may : Cause → List ℕ → Type 0) (refusal : Refusal) → IsOfEdit may refusal → Some refusal.cause ≢ Some SinkFault
+edit_other may refusal own is =
+    let sink : refusal.cause ≡ SinkFault = same_Some _ _ is in
+    let four : status_of refusal.cause ≡ 4 = ap status_of sink in
+    let less = own.own in
+    omega (arith, four, less)
+
+-- edits that ended so were carried out where their steps were done
+pub edits_carried : (steps : Steps) (may : Cause → List ℕ → Type 0) (tells : RunTells) (old : RunSeen) (store : StoreSeen) (ended : Result (Unit {0}) Refusal)
+    → old.store.faults ≤ store.faults → IfErr ended (IsOfEdit may) → (IsWorldTold tells → HasSteps steps tells (refusal_in ended) old (with_store old store))
+    → CarriesOut steps line_uses may tells old (with_store old store) ended
+edits_carried steps may tells old store (Ok passed) later own has =
+    carried_whole steps line_uses may tells old (with_store old store) passed has (λ only. absurd (false≢true (sym only))) (λ no. refl) (store_later old store later)
+edits_carried steps may tells old store (Err refusal) later own has = record {
+  done = tt;
+  refused = by_group_of (group_of refusal.cause) _ _ (λ four. let less = own.own in absurd (omega (arith, four, less))) (λ not_four not_five. has);
+  part = λ told. part_but_output steps tells old (with_store old store) (edit_other may refusal own) (whole_begun steps tells (Some refusal) old (with_store old store) (has told));
+  may_refuse = own.allowed;
+  placed = own.placed;
+  only_reads = λ only. absurd (false≢true (sym only));
+  all_or_nothing = λ whole. absurd (false≢true whole);
+  quiet = λ no. refl;
+  later = store_later old store later;
+}
+
+-- The replacement failed.
+
+-- edits that were made in memory and not put back were carried out up to the fault of the store
+pub stopped_carried : (file : List ℕ) (now : ℕ) (lines : List LineEdit) (value : QuotaValue) (bytes : List ℕ) (edited : Edited) (may : Cause → List ℕ → Type 0) (tells : RunTells) (old : RunSeen) (store : StoreSeen)
+    → (edited.writes ≡ 0 → ⊥) → may StoreFault file → (IsTrue tells.store → StandsAlone old.store.files file bytes × IsMadeInMemory (LineSteps file now lines value) file bytes edited)
+    → store.files file ≡ old.store.files file → ReplacesOnly file old.store.files store.files → old.store.faults ≤ store.faults → Rose old.store.faults store.faults
+    → CarriesOut (LineSteps file now lines value) line_uses may tells old (with_store old store) (Err (refusal_of StoreFault file))
+stopped_carried file now lines value bytes edited may tells old store some allowed_so made same leaves later rose = record {
+  done = tt;
+  refused = rose;
+  part = λ told.
+      let of = made told.store in
+      let has = of.1 old.input old.out old.err old.link tells in
+      lines_stop file now lines value (Some StoreFault) tells old store has.acts _ (refusal_in edited.ended) (λ is. cc) same leaves
+      (lines_over file now lines value (outside_of (seen_of (memory_seen file bytes 0) old.input old.out old.err old.link)) (outside_of old)
+      (outside_of (seen_of (memory_seen file edited.bytes.items edited.writes) old.input old.out old.err old.link)) has.acts (refusal_in edited.ended)
+      (of.0.named ∙ sym (only_file-at file bytes)) has.by_steps)
+      (λ none. some (has.done.writes.none none));
+  may_refuse = allowed_so;
+  placed = record { line = λ no. refl; input_line = λ no. refl };
+  only_reads = λ only. absurd (false≢true (sym only));
+  all_or_nothing = λ whole. absurd (false≢true whole);
+  quiet = λ no. refl;
+  later = store_later old store later;
+}
+
+-- The store was only read.
+
+-- a call that only read wrote nothing
+only_unwritten : {done : Bool} (old new : StoreSeen) → IsOnlyRead done old new → IsUnwritten old new
+only_unwritten old new reads = record { files = reads.files; writes = reads.writes }
+
+read_then : (old store new : StoreSeen) → IsUnwritten old store → IsUnwritten store new → IsUnwritten old new
+read_then old store new first same = record { files = same.files ∙ first.files; writes = same.writes ∙ first.writes }
+
+-- what was done from there was done
+steps_read : {done : Bool} (steps : Steps) (tells : RunTells) (refusal : Option Refusal) (old : RunSeen) (store : StoreSeen) (new : RunSeen) → IsOnlyRead done old.store store
+    → HasSteps steps tells refusal (with_store old store) new → HasSteps steps tells refusal old new
+steps_read steps tells refusal old store new reads has = record {
+  acts = has.acts;
+  by_steps = subst (λ (o : Outside). EndsBy steps o has.acts (outside_of new) refusal) (outside_same old store reads.files) has.by_steps;
+  done = record {
+    files = subst (λ (w : World). Follows has.acts w new.store.files) reads.files has.done.files;
+    out = has.done.out;
+    err = has.done.err;
+    answered = has.done.answered;
+    started = has.done.started;
+    writes = subst (λ (w : ℕ). WritesFor has.acts w new.store.writes) reads.writes has.done.writes;
+  };
+}
+
+-- and what was carried out from there was carried out
+pub carries_read : {done : Bool} (steps : Steps) (uses : Uses) (may : Cause → List ℕ → Type 0) (tells : RunTells) (old : RunSeen) (store : StoreSeen) (new : RunSeen) (result : Result (Unit {0}) Refusal) → IsOnlyRead done old.store store
+    → CarriesOut steps uses may tells (with_store old store) new result → CarriesOut steps uses may tells old new result
+carries_read steps uses may tells old store new result reads carries = record {
+  done = on_ok_weaker result (λ has told. steps_read steps tells None old store new reads (has told)) carries.done;
+  refused = IfErr-weaker result _ _ (λ refusal reason. reason_since uses old new store old.input _ _ refusal.cause reads.later (omega arith)
+      (λ stated told. steps_read steps tells (Some refusal) old store new reads (stated told)) reason) carries.refused;
+  part = λ told. part_from steps steps tells old store old.input new reads.writes
+      (λ done hand now by. subst (λ (o : Outside). HasBegun steps o done hand now) (outside_same old store reads.files) by) (carries.part told);
+  may_refuse = carries.may_refuse;
+  placed = carries.placed;
+  only_reads = λ only. read_then old.store store new.store (only_unwritten old.store store reads) (carries.only_reads only);
+  all_or_nothing = λ whole. IfErr-weaker result _ _ (λ refusal unless other. read_then old.store store new.store (only_unwritten old.store store reads) (unless other)) (carries.all_or_nothing whole);
+  quiet = carries.quiet;
+  later = record {
+    store = omega (arith, reads.later, carries.later.store);
+    input = carries.later.input;
+    out = carries.later.out;
+    err = carries.later.err;
+    link = carries.later.link;
+  };
+}
+
+-- what was synced from there was synced
+pub syncs_read : {done one : Bool} (old store new : StoreSeen) → IsOnlyRead done old store → IsTrue done → Syncs one store new → Syncs one old new
+syncs_read old store new reads is syncs =
+    syncs-then old store new
+    (record { later = reads.later; synced = λ so. record { none = reads.synced (inl is); changed = λ other. inr (ap (λ (files : World). files other) reads.files) } }) syncs
+
+-- it was only read, and nothing was done
+pub none_carried : {done : Bool} (steps : Steps) (uses : Uses) (may : Cause → List ℕ → Type 0) (tells : RunTells) (old : RunSeen) (store : StoreSeen) (refusal : Refusal) → Some refusal.cause ≢ Some SinkFault → IsOnlyRead done old.store store
+    → HasReason uses old (with_store old store) (IsWorldTold tells → HasSteps steps tells (Some refusal) old (with_store old store)) refusal.cause → may refusal.cause refusal.name → IsPlacedBy uses refusal
+    → CarriesOut steps uses may tells old (with_store old store) (Err refusal)
+none_carried steps uses may tells old store refusal other reads reason allowed_so placed =
+    refused_so steps uses may tells old (with_store old store) refusal (only_unwritten old.store store reads) refl (store_later old store reads.later)
+    (λ told. nothing_begun steps tells old (with_store old store) other reads.files (λ told. refl) (λ told. refl) refl refl refl reads.writes) reason allowed_so placed
+
+load_other : (fault : LoadFault) → Some (load_cause fault) ≢ Some SinkFault
+load_other NotRead is = cc
+load_other NoFile is = cc
+load_other TooLarge is = cc
+load_other Wanting is = cc
+
+-- a file that has a value is there, and is no longer than it is
+load_reason : (uses : Uses) (old : RunSeen) (store : StoreSeen) (tells : RunTells) (file : Option (List ℕ)) (there : IsTrue tells.store → IsSome file) (stated : Type 0) (fault : LoadFault)
+    → IsLoadFault old.store.faults store.faults tells.store file (length (unwrap_or file [])) fault → HasReason uses old (with_store old store) (IsWorldTold tells → stated) (load_cause fault)
+load_reason uses old store tells file there stated NotRead cause = cause
+load_reason uses old store tells None there stated NoFile cause = λ told. absurd (false≢true (there told.store))
+load_reason uses old store tells (Some bytes) there stated NoFile cause = λ told. absurd (none-some bytes (sym (cause told.store)))
+load_reason uses old store tells None there stated TooLarge cause = λ told. absurd (false≢true (there told.store))
+load_reason uses old store tells (Some bytes) there stated TooLarge cause = λ told. let more = cause told.store in absurd (omega (arith, more))
+load_reason uses old store tells file there stated Wanting cause = tt
+
+load_may : (asked : Option Format) (file : List ℕ) (fault : LoadFault) → MayRefuseOpening asked file (load_cause fault) file
+load_may asked file NotRead = tt
+load_may asked file NoFile = refl
+load_may asked file TooLarge = refl
+load_may asked file Wanting = tt
+
+-- lines whose file was not read whole
+pub unread_carried : {done : Bool} (steps : Steps) (asked : Option Format) (file : List ℕ) (tells : RunTells) (old : RunSeen) (store : StoreSeen) (fault : LoadFault) → IsOnlyRead done old.store store
+    → (IsTrue tells.store → IsSome (old.store.files file)) → IsLoadFault old.store.faults store.faults tells.store (old.store.files file) (length (file_of old.store.files file)) fault
+    → CarriesOut steps line_uses (LineEditMayRefuse asked file) tells old (with_store old store) (Err (refusal_of (load_cause fault) file))
+unread_carried steps asked file tells old store fault reads there cause =
+    none_carried steps line_uses (LineEditMayRefuse asked file) tells old store (refusal_of (load_cause fault) file) (load_other fault) reads
+    (load_reason line_uses old store tells (old.store.files file) there _ fault cause) (inr (load_may asked file fault)) (record { line = λ no. refl; input_line = λ no. refl })
+
+-- a file that stands for a value is there
+pub view_some : (file : Option (List ℕ)) (kind : Kind) (asked : Option Format) (value : QuotaValue) → IsView file kind asked (Ok value) → IsSome file
+view_some (Some bytes) kind asked value view = refl
+view_some None kind asked value view = absurd (none_view kind asked value view)
+  where
+    none_view : (kind : Kind) (asked : Option Format) (value : QuotaValue) → IsView None kind asked (Ok value) → ⊥
+    none_view kind None value view = view.0
+    none_view kind (Some V1) value view = view.0
+    none_view kind (Some V2R0) value view = view.0
+    none_view kind (Some V2R1) value view = view.0
+
+-- so it is of edits that were to be made together
+pub ended_read : {done : Bool} (attempt : Attempt) (steps : Steps) (uses : Uses) (may : Cause → List ℕ → Type 0) (tells : RunTells) (old : RunSeen) (store : StoreSeen) (new : RunSeen) → IsOnlyRead done old.store store
+    → IfEnded attempt (CarriesOut steps uses may tells (with_store old store) new) → IfEnded attempt (CarriesOut steps uses may tells old new)
+ended_read (Ended result) steps uses may tells old store new reads carries = carries_read steps uses may tells old store new result reads carries
+ended_read (NotMade name) steps uses may tells old store new reads carries = tt
+
+-- The replacement.
+
+-- nothing was done
+pub only_read-none : {done : Bool} (old new : StoreSeen) → new ≡ old → IsOnlyRead done old new
+only_read-none old new same = record {
+  files = ap (λ (s : StoreSeen). s.files) same;
+  later = omega (arith, ap (λ (s : StoreSeen). s.faults) same);
+  writes = ap (λ (s : StoreSeen). s.writes) same;
+  synced = λ so name is. subst (λ (s : StoreSeen). IsTrue (s.unsynced name)) same is;
+}
+
+-- there was not enough memory, and nothing was done
+pub wanting_carried : {done : Bool} (steps : Steps) (asked : Option Format) (file : List ℕ) (tells : RunTells) (old : RunSeen) (store : StoreSeen) → IsOnlyRead done old.store store
+    → CarriesOut steps line_uses (LineEditMayRefuse asked file) tells old (with_store old store) (Err (refusal_of WantOfMemory file))
+wanting_carried steps asked file tells old store reads =
+    none_carried steps line_uses (LineEditMayRefuse asked file) tells old store (refusal_of WantOfMemory file) (λ is. cc) reads tt (inr tt) (record { line = λ no. refl; input_line = λ no. refl })
+
+-- where the edits wrote nothing the file is as they left it
+pub kept_takes : (file bytes : List ℕ) (edited : Edited) (old : StoreSeen) → old.files file ≡ Some bytes → edited.bytes.items ≡ bytes → Takes old old file edited.bytes.items
+kept_takes file bytes edited old there same = sym (with_file-same old.files file (Some edited.bytes.items) (there ∙ ap (λ (b : List ℕ). Some b) (sym same)))
+
+-- a file that was replaced, where none had its name with `.new` added
+pub replaced_takes : (file bytes : List ℕ) (old new : StoreSeen) → old.files (replacement_name file) ≡ None → new.files ≡ replaced_files old.files file bytes → Takes old new file bytes
+replaced_takes file bytes old new none is = is ∙ ap (λ (w : World). with_file w file (Some bytes)) (with_file-same old.files (replacement_name file) None none)
+
+-- edits that were made in memory, which the file took over
+pub put_carried : (file : List ℕ) (now : ℕ) (lines : List LineEdit) (value : QuotaValue) (bytes : List ℕ) (edited : Edited) (count : ℕ) (may : Cause → List ℕ → Type 0) (tells : RunTells) (old : RunSeen) (store : StoreSeen)
+    → IsEditOf may bytes edited → length lines ≡ count → (IsTrue tells.store → StandsAlone old.store.files file bytes × IsMadeInMemory (LineSteps file now lines value) file bytes edited)
+    → (IsTrue tells.store → StandsAlone old.store.files file bytes → Takes old.store store file edited.bytes.items) → old.store.faults ≤ store.faults → IsAllowed count edited old.store store
+    → CarriesOut (LineSteps file now lines value) line_uses may tells old (with_store old store) edited.ended
+put_carried file now lines value bytes edited count may tells old store edits counted made takes later writes =
+    edits_carried (LineSteps file now lines value) may tells old store edited.ended later edits.refused (λ told.
+    let of = made told.store in
+    steps_over file now lines value bytes edited tells old store of.1 of.0.named (takes told.store of.0)
+    (subst (λ (n : ℕ). IsAllowed n edited old.store store) (sym counted) writes))
+
+-- edits that were made in memory and not put back
+pub refused_carried : (file : List ℕ) (now : ℕ) (lines : List LineEdit) (value : QuotaValue) (bytes : List ℕ) (edited : Edited) (asked : Option Format) (tells : RunTells) (old : RunSeen) (store : StoreSeen) (fault : ReplaceFault)
+    → (edited.writes ≡ 0 → ⊥) → (IsTrue tells.store → StandsAlone old.store.files file bytes × IsMadeInMemory (LineSteps file now lines value) file bytes edited)
+    → KeepsOthers (replacement_name file) old.store.files store.files → ReplacesOne file old.store store → IsReplaceFault old.store.faults store.faults fault → OnNoMemory fault (store ≡ old.store)
+    → CarriesOut (LineSteps file now lines value) line_uses (LineEditMayRefuse asked file) tells old (with_store old store) (Err (refusal_of (replace_cause fault) file))
+refused_carried file now lines value bytes edited asked tells old store NotStored some made keeps leaves cause memory =
+    stopped_carried file now lines value bytes edited (LineEditMayRefuse asked file) tells old store some (inr tt) made (keeps file (λ is. replacement_name-ne file (sym is))) leaves.files leaves.later cause
+refused_carried file now lines value bytes edited asked tells old store (Full blocks limit) some made keeps leaves cause memory = absurd cause
+refused_carried file now lines value bytes edited asked tells old store NoMemory some made keeps leaves cause memory =
+    wanting_carried (LineSteps file now lines value) asked file tells old store (only_read-none {done = true} old.store store memory)

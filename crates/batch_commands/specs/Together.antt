@@ -1,0 +1,105 @@
+-- Edits of many lines that are made together: in memory, after which the file is replaced once. Source: this project's own.
+use Rattle.std.specs.Prelude.{◌≡◌, ◌*◌, ◌<◌, ◌≤◌, ℕ, Bool, false, List, Option, Some, None, Result, Ok, Err, IfErr, ⊤}
+use Rattle.file_in_memory.specs.OneFile.{only_file}
+use Rattle.outside.specs.Frame.{IsUnfailed}
+use Rattle.outside.specs.Replacement.{replacement_name}
+use Rattle.outside.specs.Seen.{StoreSeen}
+use Rattle.outside.specs.Unsynced.{AddsNone}
+use Rattle.outside.specs.World.{World}
+use Rattle.quota_blocks.specs.declared.whole_file.LoadFault.{LoadFault}
+use Rattle.quota_blocks.specs.declared.whole_file.LoadFault.TheVariants.{Store, NoFile, TooLarge, Memory}
+use Rattle.quota_blocks.specs.Seen.{LinkSeen, SinkSeen, SourceSeen}
+use Rattle.quota_blocks.specs.declared.replacement.ReplaceFault.{ReplaceFault}
+use Rattle.quota_blocks.specs.declared.replacement.ReplaceFault.TheVariants.{Store as NotStored, Full, Memory as Wanting}
+use Rattle.refusals.specs.declared.cause.Cause.{Cause}
+use Rattle.refusals.specs.declared.cause.Cause.TheVariants.{StoreFault, NoFile as NoSuchFile, TooLarge as FileTooLarge, Memory as WantOfMemory}
+use Rattle.refusals.specs.declared.reason.Refusal.{Refusal}
+use Rattle.refusals.specs.Status.{status_of}
+use Rattle.run_steps.specs.Done.{RunTells, seen_of}
+use Rattle.run_steps.specs.Run.{HasSteps, IsPlacedBy}
+use Rattle.run_steps.specs.Steps.{Steps}
+use Rattle.batch_commands.specs.Batch.{line_uses}
+use Rattle.batch_commands.specs.declared.together.Attempt.{Attempt}
+use Rattle.batch_commands.specs.declared.together.Attempt.TheVariants.{Ended, NotMade}
+use Rattle.batch_commands.specs.declared.together.Edited.{Edited}
+
+-- a fact of how edits that were to be made together ended, where they were made
+abbrev pub IfEnded : Attempt → (Result (Unit {0}) Refusal → Type 0) → Type 0
+IfEnded (Ended result) P = P result
+IfEnded (NotMade name) P = ⊤
+
+-- a fact of the name that is handed back, where they were not made
+abbrev pub IfNotMade : Attempt → (List ℕ → Type 0) → Type 0
+IfNotMade (Ended result) P = ⊤
+IfNotMade (NotMade name) P = P name
+
+-- the refusal with which edits ended, if one was refused
+abbrev pub refusal_in : Result (Unit {0}) Refusal → Option Refusal
+refusal_in (Ok passed) = None
+refusal_in (Err refusal) = Some refusal
+
+-- what is said where the file is not read whole
+abbrev pub load_cause : LoadFault → Cause
+load_cause Store = StoreFault
+load_cause NoFile = NoSuchFile
+load_cause TooLarge = FileTooLarge
+load_cause Memory = WantOfMemory
+
+-- Calls that only read leave all files and make no call of `write`; where they were done, or no call on the store failed, no name is
+-- unsynced that was not.
+pub record IsOnlyRead (done : Bool) (old new : StoreSeen) : Type 0 where
+  pub files : new.files ≡ old.files
+  pub later : old.faults ≤ new.faults
+  pub writes : new.writes ≡ old.writes
+  pub synced : IsUnfailed done old new → AddsNone old.unsynced new.unsynced
+
+-- The file of this name has these bytes, and there is none under the name that a new one would be written under.
+pub record StandsAlone (files : World) (name bytes : List ℕ) : Type 0 where
+  pub named : files name ≡ Some bytes
+  pub no_other : files (replacement_name name) ≡ None
+
+-- what is seen of one file in memory, after so many calls of `write`
+abbrev pub memory_seen : (name bytes : List ℕ) (writes : ℕ) → StoreSeen
+memory_seen name bytes writes = record { files = only_file name bytes; unsynced = λ _. false; faults = 0; reads = 0; writes = writes }
+
+-- A store has one file, of this name and these bytes, and no call of `write` was made.
+pub record HasBytes (name bytes : List ℕ) (seen : StoreSeen) : Type 0 where
+  pub files : seen.files ≡ only_file name bytes
+  pub unwritten : seen.writes ≡ 0
+
+-- A line was refused by its edit, whatever is told: for one of these causes, and not since something failed or memory ran out.
+pub record IsOfEdit (may : Cause → List ℕ → Type 0) (refusal : Refusal) : Type 0 where
+  pub allowed : may refusal.cause refusal.name
+  pub placed : IsPlacedBy line_uses refusal
+  pub own : status_of refusal.cause < 4
+
+-- Edits in memory of a file of these bytes: where nothing was written the bytes are as they were, and a line that was refused was
+-- refused by its edit.
+pub record IsEditOf (may : Cause → List ℕ → Type 0) (bytes : List ℕ) (edited : Edited) : Type 0 where
+  pub same : edited.writes ≡ 0 → edited.bytes.items ≡ bytes
+  pub refused : IfErr edited.ended (IsOfEdit may)
+
+-- what edits of a file of these bytes made in memory of it is what the steps do there, however they ended, whatever else is seen
+abbrev pub IsMadeInMemory : Steps → (name bytes : List ℕ) → Edited → Type 0
+IsMadeInMemory steps name bytes edited =
+    (input : SourceSeen) (out err : SinkSeen) (link : LinkSeen) (tells : RunTells)
+    → HasSteps steps tells (refusal_in edited.ended) (seen_of (memory_seen name bytes 0) input out err link) (seen_of (memory_seen name edited.bytes.items edited.writes) input out err link)
+
+-- what is said where the file is not replaced
+abbrev pub replace_cause : ReplaceFault → Cause
+replace_cause NotStored = StoreFault
+replace_cause (Full blocks limit) = StoreFault
+replace_cause Wanting = WantOfMemory
+
+-- how many calls of `write` a replacement may take: twelve for each line, or, where one was refused, as many as the edits made
+abbrev pub allowed_by : (count writes : ℕ) → Result (Unit {0}) Refusal → ℕ
+allowed_by count writes (Ok passed) = 12 * count
+allowed_by count writes (Err refusal) = writes
+
+-- the same of a file that was edited in memory
+abbrev pub allowed : (count : ℕ) → Edited → ℕ
+allowed count edited = allowed_by count edited.writes edited.ended
+
+-- a fact where there was not enough memory
+abbrev pub IfWanting : Type 0 → Result (Unit {0}) Refusal → Type 0
+IfWanting P result = IfErr result (λ (refusal : Refusal). refusal.cause ≡ WantOfMemory → P)

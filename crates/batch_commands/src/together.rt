@@ -1,0 +1,354 @@
+ghost use Rattle.std.specs.Prelude.{◌≡◌, ◌+◌, ◌<◌, ◌≤◌, ◌^◌, ℕ, Bool, true, Option, None, Some, IfErr, IfOk, IfSome, IsTrue, List, Ok, false, length, is_ok};
+ghost use Rattle.std.specs.Option.{option_map};
+ghost use Rattle.std.specs.String.{string_bytes};
+ghost use Rattle.outside.specs.Frame.{Syncs};
+ghost use Rattle.outside.specs.Replacement.{ReplacesOnly, replacement_name};
+ghost use Rattle.quota_blocks.specs.Block.{file_of};
+ghost use Rattle.quota_blocks.specs.Load.{IsLoadFault};
+ghost use Rattle.quota_blocks.specs.QuotaValue.{QuotaValue};
+ghost use Rattle.quota_blocks.specs.Replace.{pieces_of};
+ghost use Rattle.quota_blocks.specs.Seen.{LinkSeen, SinkSeen, SourceSeen};
+ghost use Rattle.quota_map.specs.View.{IsOpenedAs, IsView, fresh_seen};
+ghost use Rattle.quota_types.specs.declared.file_kind.Format.{Format as FormatOf};
+ghost use Rattle.refusals.specs.Status.{status_of};
+ghost use Rattle.run_steps.specs.Done.{seen_of, tells_of};
+ghost use Rattle.run_steps.specs.Run.{CarriesOut};
+ghost use Rattle.batch_commands.specs.Batch.{LineEditMayRefuse, LineSteps, line_uses};
+ghost use Rattle.batch_commands.specs.Together.{HasBytes, IfEnded, IfNotMade, IfWanting, IsEditOf, IsMadeInMemory, IsOnlyRead, StandsAlone, allowed, load_cause, replace_cause};
+
+use crate::batch::edit_all;
+use crate::batch_line::LineEdit;
+use file_in_memory::OneFile;
+use quota_blocks::{LoadFault, OpenFault, QuotaFile, ReplaceFault, Store, load, replace};
+use quota_map::{AnyFile, open_file};
+use quota_types::{Format, Kind};
+use refusals::{Cause, Refusal, Word};
+use std::alloc::{AllocError, Global};
+
+/// How many bytes one call of `Store::write` takes.
+const PIECE: u64 = 1024;
+
+/// How many calls of `Store::write` the edit of one line makes at most.
+const MOST_WRITES: u64 = 12;
+
+/// By how many bytes a tree file grows at most where a record is put into it that was not there.
+const MOST_GROWTH: u64 = 4096;
+
+/// How many bytes a record of a flat file has.
+const FLAT_RECORD: u64 = 40;
+
+/// How many bytes a file may have that is replaced.
+const MOST_BYTES: u64 = 1 << 42;
+
+/// What became of edits that were to be made together.
+#[derive(Debug, Drop)]
+pub enum Attempt {
+    /// They were made, up to one that was refused, or the store failed.
+    Ended(Result<(), Refusal>),
+    /// They were not made, and the store was only read. The name of the file is handed back.
+    NotMade(Word),
+}
+
+/// A file in memory, for which lines were edited, up to one that was refused.
+#[derive(Debug, Drop)]
+pub struct Edited {
+    /// Its bytes.
+    pub bytes: Vec<u8>,
+    /// How many calls of `write` the edits made.
+    pub writes: u64,
+    /// How they ended.
+    pub ended: Result<(), Refusal>,
+}
+
+/// Sets the limits that lines ask for in the file of this name, up to the first edit that is refused, by one replacement of the file.
+/// So it is done where there are at least two lines, where no file has its name with `.new` added, and where it pays: where the
+/// replacement takes no more than twelve calls of `write` for each line, or, where a line was refused, no more than the edits before
+/// that one made in memory. Where these made none nothing is written.
+///
+/// # Errors
+///
+/// In what became of it: a line was refused by its edit, the store failed, or there is not enough memory, with which the file is as it
+/// was.
+pub fn edit_together<S: Store>(
+    alloc: Global,
+    kind: Kind,
+    format: Option<Format>,
+    lines: &[LineEdit],
+    file: Word,
+    store: &mut S,
+    now: u64,
+) -> Attempt
+    ensures carries { (value : QuotaValue) → (IsTrue S.tells → IsView ((S.seen store.old).files file) kind format (Ok value))
+        → (input : SourceSeen) (out err : SinkSeen) (link : LinkSeen) (input_tells out_tells err_tells link_tells : Bool)
+        → IfEnded result (CarriesOut (LineSteps file now lines.now value) line_uses (LineEditMayRefuse format file)
+        (tells_of S.tells input_tells out_tells err_tells link_tells)
+        (seen_of (S.seen store.old) input out err link) (seen_of (S.seen store.new) input out err link)) }
+    ensures back { IfNotMade result (λ name. name ≡ file) }
+    // Where there was not enough memory the file is as it was.
+    ensures wanting { IfEnded result (IfWanting ((S.seen store.new).files file ≡ (S.seen store.old).files file)) }
+    ensures reads_only { IfNotMade result (λ _. IsOnlyRead true (S.seen store.old) (S.seen store.new)) }
+    ensures others { ReplacesOnly file (S.seen store.old).files (S.seen store.new).files }
+    ensures synced { IfEnded result (λ ended. IsTrue S.tells → Syncs (is_ok ended) (S.seen store.old) (S.seen store.new)) }
+    ensures reads { IsTrue S.tells → (S.seen store.new).reads
+        ≤ (S.seen store.old).reads + pieces_of (length (file_of (S.seen store.old).files file)) }
+{
+    match read_whole(alloc, format, lines, file.as_str(), store) {
+        Ok(Some(bytes)) => edit_bytes(alloc, kind, format, lines, file, bytes, store, now),
+        Ok(None) => Attempt::NotMade(file),
+        Err(fault) => Attempt::Ended(Err(Refusal::of(load_cause(fault), file))),
+    }
+}
+
+/// What is said where the file is not read whole.
+fn load_cause(fault: LoadFault) -> Cause
+    ensures { result ≡ load_cause fault }
+{
+    match fault {
+        LoadFault::Store => Cause::StoreFault,
+        LoadFault::NoFile => Cause::NoFile,
+        LoadFault::TooLarge => Cause::TooLarge,
+        LoadFault::Memory => Cause::Memory,
+    }
+}
+
+/// The bytes of the file of this name, where a replacement of it may take no more calls of `write` than the edits of these lines, and
+/// none has its name with `.new` added.
+fn read_whole<S: Store>(
+    alloc: Global,
+    format: Option<Format>,
+    lines: &[LineEdit],
+    name: &str,
+    store: &mut S,
+) -> Result<Option<Vec<u8>>, LoadFault>
+    ensures whole { IfOk result (λ found. IfSome found (λ bytes. IsTrue S.tells
+        → StandsAlone (S.seen store.old).files name.now bytes.items)) }
+    ensures refused { IfErr result (IsLoadFault (S.seen store.old).faults (S.seen store.new).faults S.tells
+        ((S.seen store.old).files name.now) (length (file_of (S.seen store.old).files name.now))) }
+    ensures leaves { IsOnlyRead (is_ok result) (S.seen store.old) (S.seen store.new) }
+    ensures reads { IsTrue S.tells → (S.seen store.new).reads
+        ≤ (S.seen store.old).reads + pieces_of (length (file_of (S.seen store.old).files name.now)) }
+{
+    match size_alone(alloc, name, store)? {
+        Some(size) if may_pay(format, lines, size) => Ok(Some(load(alloc, store, name, size)?)),
+        _ => Ok(None),
+    }
+}
+
+/// The length of the file of this name, where there is one, and none has its name with `.new` added.
+fn size_alone<S: Store>(alloc: Global, name: &str, store: &mut S) -> Result<Option<u64>, LoadFault>
+    ensures size { IfOk result (λ found. IfSome found (λ size. IsTrue S.tells
+        → Some size ≡ option_map length ((S.seen store.old).files name.now))) }
+    ensures alone { IfOk result (λ found. IfSome found (λ size. IsTrue S.tells
+        → (S.seen store.old).files (replacement_name name.now) ≡ None)) }
+    ensures refused { IfErr result (IsLoadFault (S.seen store.old).faults (S.seen store.new).faults S.tells
+        ((S.seen store.old).files name.now) (length (file_of (S.seen store.old).files name.now))) }
+    ensures leaves { IsOnlyRead (is_ok result) (S.seen store.old) (S.seen store.new) }
+    ensures reads { (S.seen store.new).reads ≡ (S.seen store.old).reads }
+{
+    let new_name = name_of_new(alloc, name)?;
+    match store.size(new_name.as_str())? {
+        Some(_) => Ok(None),
+        None => Ok(store.size(name)?),
+    }
+}
+
+/// The name under which a new file is written.
+#[tactic(auto, unfolding(outside::specs::Replacement::replacement_name))]
+fn name_of_new(alloc: Global, name: &str) -> Result<String, AllocError>
+    ensures { IfOk result (λ new_name. string_bytes new_name ≡ replacement_name name.now) }
+{
+    let mut new_name = String::from_str(alloc, name)?;
+    new_name.push_str(".new")?;
+    Ok(new_name)
+}
+
+/// Whether edits of these lines may make as many calls of `write` as a replacement of the file, which now has this many bytes.
+fn may_pay(format: Option<Format>, lines: &[LineEdit], size: u64) -> bool {
+    let count = lines.len() as u64;
+    count > 1 && pieces(reach(format, lines, size)) <= count.saturating_mul(MOST_WRITES)
+}
+
+/// How many bytes the file may have once these lines are edited.
+fn reach(format: Option<Format>, lines: &[LineEdit], size: u64) -> u64 {
+    match format {
+        Some(Format::V1) => lines
+            .iter()
+            .map(|line| FLAT_RECORD * (u64::from(line.id) + 1))
+            .fold(size, u64::max),
+        _ => size.saturating_add((lines.len() as u64).saturating_mul(MOST_GROWTH)),
+    }
+}
+
+/// How many calls of `write` this many bytes take.
+fn pieces(bytes: u64) -> u64
+    ensures { result ≡ pieces_of bytes }
+{
+    bytes.div_ceil(PIECE)
+}
+
+/// Edits lines of a file of these bytes in memory, and puts the new file in its place where that pays.
+fn edit_bytes<S: Store>(
+    alloc: Global,
+    kind: Kind,
+    format: Option<Format>,
+    lines: &[LineEdit],
+    file: Word,
+    bytes: Vec<u8>,
+    store: &mut S,
+    now: u64,
+) -> Attempt
+    ensures carries { (value : QuotaValue) → (IsTrue S.tells → StandsAlone (S.seen store.old).files file bytes.items)
+        → (IsTrue S.tells → IsView (Some bytes.items) kind format (Ok value))
+        → (input : SourceSeen) (out err : SinkSeen) (link : LinkSeen) (input_tells out_tells err_tells link_tells : Bool)
+        → IfEnded result (CarriesOut (LineSteps file now lines.now value) line_uses (LineEditMayRefuse format file)
+        (tells_of S.tells input_tells out_tells err_tells link_tells)
+        (seen_of (S.seen store.old) input out err link) (seen_of (S.seen store.new) input out err link)) }
+    ensures back { IfNotMade result (λ name. name ≡ file) }
+    ensures untouched { IfNotMade result (λ _. S.seen store.new ≡ S.seen store.old) }
+    ensures wanting { IfEnded result (IfWanting ((S.seen store.new).files file ≡ (S.seen store.old).files file)) }
+    ensures others { ReplacesOnly file (S.seen store.old).files (S.seen store.new).files }
+    ensures synced { IfEnded result (λ ended. IsTrue S.tells → Syncs (is_ok ended) (S.seen store.old) (S.seen store.new)) }
+    ensures reads { (S.seen store.new).reads ≡ (S.seen store.old).reads }
+{
+    match edit_in_memory(alloc, kind, format, lines, file.as_str(), bytes, now) {
+        Ok(Some(edited)) => put_back(alloc, file, lines.len() as u64, edited, store),
+        Ok(None) => Attempt::NotMade(file),
+        Err(_) => Attempt::Ended(Err(Refusal::of(Cause::Memory, file))),
+    }
+}
+
+/// Edits lines of a file of these bytes in memory, up to the first edit that is refused. It is `None` where the file is not opened.
+///
+/// # Errors
+///
+/// There is not enough memory.
+fn edit_in_memory(
+    alloc: Global,
+    kind: Kind,
+    format: Option<Format>,
+    lines: &[LineEdit],
+    name: &str,
+    bytes: Vec<u8>,
+    now: u64,
+) -> Result<Option<Edited>, AllocError>
+    ensures made { IfOk result (λ found. IfSome found (λ edited. (value : QuotaValue) → IsView (Some bytes.items) kind format (Ok value)
+        → IsMadeInMemory (LineSteps name.now now lines.now value) name.now bytes.items edited)) }
+    ensures edits { IfOk result (λ found. IfSome found (IsEditOf (LineEditMayRefuse format name.now) bytes.items)) }
+{
+    let file = Word::copy_of(alloc, name)?;
+    let mut memory = OneFile::new(String::from_str(alloc, name)?, bytes);
+    match open_file(alloc, &mut memory, name, kind, format) {
+        Ok(opened) => Ok(Some(edit_opened(opened, lines, file, memory, now)?)),
+        Err(OpenFault::Store | OpenFault::Memory) => Err(AllocError),
+        Err(_) => Ok(None),
+    }
+}
+
+/// Edits lines of an opened file in memory, up to the first edit that is refused.
+///
+/// # Errors
+///
+/// There is not enough memory.
+fn edit_opened(
+    mut opened: AnyFile,
+    lines: &[LineEdit],
+    file: Word,
+    mut memory: OneFile,
+    now: u64,
+) -> Result<Edited, AllocError>
+    requires { ⟦<AnyFile as QuotaFile<OneFile>>⟧.seen opened ≡ fresh_seen file (⟦<AnyFile as QuotaFile<OneFile>>⟧.seen opened).format }
+    ensures made { IfOk result (λ edited. (bytes : List ℕ) → HasBytes file bytes (⟦<OneFile as Store>⟧.seen memory)
+        → (value : QuotaValue) → ⟦<AnyFile as QuotaFile<OneFile>>⟧.holds opened memory value
+        → IsMadeInMemory (LineSteps file now lines.now value) file bytes edited) }
+    ensures edits { IfOk result (λ edited. (bytes : List ℕ) → HasBytes file bytes (⟦<OneFile as Store>⟧.seen memory)
+        → (asked : Option FormatOf) → IsOpenedAs asked (⟦<AnyFile as QuotaFile<OneFile>>⟧.seen opened).format
+        → (value : QuotaValue) → ⟦<AnyFile as QuotaFile<OneFile>>⟧.holds opened memory value
+        → IsEditOf (LineEditMayRefuse asked file) bytes edited) }
+{
+    let ended = edit_all(&mut opened, lines, file, &mut memory, now);
+    if is_fault(&ended) {
+        return Err(AllocError);
+    }
+    let writes = memory.writes();
+    let bytes = memory.into_bytes();
+    Ok(Edited {
+        bytes,
+        writes,
+        ended,
+    })
+}
+
+/// Whether edits ended since something failed or there was not enough memory.
+fn is_fault(ended: &Result<(), Refusal>) -> bool
+    ensures { result ≡ false → IfErr ended.now (λ refusal. status_of refusal.cause < 4) }
+{
+    match ended {
+        Ok(()) => false,
+        Err(refusal) => refusal.cause.status() >= 4,
+    }
+}
+
+/// Puts a file that was edited in memory in the place of the one of this name, where that pays. Where the edits of its lines, of which
+/// there are `count`, wrote nothing there is nothing to be put.
+fn put_back<S: Store>(
+    alloc: Global,
+    file: Word,
+    count: u64,
+    edited: Edited,
+    store: &mut S,
+) -> Attempt
+    ensures carries { (asked : Option FormatOf) (bytes : List ℕ) → IsEditOf (LineEditMayRefuse asked file) bytes edited
+        → (now : ℕ) (lines : List LineEdit) (value : QuotaValue) → length lines ≡ count
+        → (IsTrue S.tells → StandsAlone (S.seen store.old).files file bytes × IsMadeInMemory (LineSteps file now lines value) file bytes edited)
+        → (input : SourceSeen) (out err : SinkSeen) (link : LinkSeen) (input_tells out_tells err_tells link_tells : Bool)
+        → IfEnded result (CarriesOut (LineSteps file now lines value) line_uses (LineEditMayRefuse asked file)
+        (tells_of S.tells input_tells out_tells err_tells link_tells)
+        (seen_of (S.seen store.old) input out err link) (seen_of (S.seen store.new) input out err link)) }
+    ensures back { IfNotMade result (λ name. name ≡ file) }
+    ensures untouched { IfNotMade result (λ _. S.seen store.new ≡ S.seen store.old) }
+    ensures wanting { (asked : Option FormatOf) (bytes : List ℕ) → IsEditOf (LineEditMayRefuse asked file) bytes edited
+        → IfEnded result (IfWanting ((S.seen store.new).files file ≡ (S.seen store.old).files file)) }
+    ensures others { ReplacesOnly file (S.seen store.old).files (S.seen store.new).files }
+    ensures synced { IfEnded result (λ ended. IsTrue S.tells → Syncs (is_ok ended) (S.seen store.old) (S.seen store.new)) }
+    ensures reads { (S.seen store.new).reads ≡ (S.seen store.old).reads }
+{
+    if edited.writes == 0 {
+        return Attempt::Ended(edited.ended);
+    }
+    if !pays(count, &edited) {
+        return Attempt::NotMade(file);
+    }
+    match replace(alloc, store, file.as_str(), edited.bytes.as_slice()) {
+        Ok(()) => Attempt::Ended(edited.ended),
+        Err(fault) => Attempt::Ended(Err(Refusal::of(replace_cause(fault), file))),
+    }
+}
+
+/// What is said where the file is not replaced.
+fn replace_cause(fault: ReplaceFault) -> Cause
+    ensures { result ≡ replace_cause fault }
+{
+    match fault {
+        ReplaceFault::Store | ReplaceFault::Full { .. } => Cause::StoreFault,
+        ReplaceFault::Memory => Cause::Memory,
+    }
+}
+
+/// Whether the replacement by a file that was edited in memory pays, and it may be replaced.
+fn pays(count: u64, edited: &Edited) -> bool
+    ensures within { result ≡ true → length edited.now.bytes.items ≤ 2 ^ 42 }
+    ensures few { result ≡ true → pieces_of (length edited.now.bytes.items) ≤ allowed count edited.now }
+{
+    let bytes = edited.bytes.len() as u64;
+    bytes <= MOST_BYTES && pieces(bytes) <= allowed(count, edited)
+}
+
+/// How many calls of `write` the replacement may take.
+fn allowed(count: u64, edited: &Edited) -> u64
+    ensures { result ≤ allowed count edited.now }
+{
+    match edited.ended {
+        Ok(()) => count.saturating_mul(MOST_WRITES),
+        Err(_) => edited.writes,
+    }
+}
