@@ -3,15 +3,22 @@
 # `bench/setquota.sh`. First one change, of a user who is known, of one who is new and of one whose record goes: beside
 # reading the file once in pieces of 1,024 bytes the ratio of their times (the best of five each), the most memory that the
 # program holds, and its calls of the system. Then, of the file of the users 0 to 999,999 and of the flat one, `setquota -b`
-# of 1,000 lines and of 10,000 (`lines=NUMBER` asks for another number than that), for known users and, of the tree file,
-# for new ones: a line beside writing one block of a copy of the file and syncing it, beside four, as many as a new user
-# needs, one of them past the end, and beside what a rollback journal of one block costs at least: its old bytes and its new ones,
-# a gate that is opened and closed, and a sync behind each; each is done half as often as there are lines before the batch, and
-# half as often behind it. And what a line costs over a folder in memory, without a disk, and the calls of the system for a line.
+# of 1,000 lines, which are made in place one after another, for known users and, of the tree file, for new ones: a line
+# beside writing one block of a copy of the file and syncing it, beside four, as many as a new user needs, one of them past
+# the end, and beside what a rollback journal of one block costs at least: its old bytes and its new ones, a gate that is
+# opened and closed, and a sync behind each; each is done half as often as there are lines before the batch, and half as
+# often behind it. And what a line costs over a folder in memory, without a disk, and the calls of the system for a line.
+# Then `setquota -b` of `lines` lines (10,000) and of `many` (1,000,000), which are made together and have 16 bytes at most:
+# new limits of as many users of those files, and of as many new ones in a file without records: beside awk, which sets the
+# same limits in a text dump of the file (`bench/edits.awk`), and beside reading the old file and writing and syncing one of
+# the size of the new one, both in pieces of 1,024 bytes, the best of three times each in turn; the most memory that the
+# program holds; and, where it is installed and a file system may be mounted, beside the `setquota` of the quota tools, once,
+# which checks and syncs nothing.
 maker=make_tree_file.py
 . "$(dirname "${BASH_SOURCE[0]}")/measure.sh"
 "$top/bin/quota_cli" edquota --print -u 7 q >said
 lines=${lines:-10000}
+many=${many:-1000000}
 
 # The next user whom a change of each kind meets, and how far it is from there to the one behind. The known ones and those
 # who leave are users of both files. A new one needs a tree block of each level below the root, and those who leave use
@@ -77,7 +84,7 @@ each() {
     echo "$1 $lines" | awk '{ printf "%.3f", $1 / $2 * 1000 }'
 }
 
-# batch KIND FIRST STEP NUMBER: a batch of NUMBER lines, for the users of these numbers.
+# batch KIND FIRST STEP NUMBER: a batch of NUMBER lines that are made in place, for the users of these numbers.
 batch() {
     local lines=$4 ours what
     local batch=("$program" setquota "${format[@]}" -u -b q)
@@ -99,7 +106,7 @@ batch() {
     fi
 }
 
-# batches KIND FIRST STEP: a batch of 1,000 lines, with its calls of the system for a line, and one of `lines` lines.
+# batches KIND FIRST STEP: a batch of 1,000 lines, and the calls of the system for a line of another one.
 batches() {
     local first=$2
     batch "$1" "$first" "$3" 1000
@@ -109,15 +116,70 @@ batches() {
         strace -f -c -o calls "$program" setquota "${format[@]}" -u -b q <given >/dev/null
         awk '/pread64|pwrite64|fsync|fdatasync/ { printf "calls of the system a line: %s %.2f\n", $NF, $4 / 1000 }' calls
     fi
-    first=$((first + 1000 * $3))
-    batch "$1" "$first" "$3" "$lines"
 }
 
-memory=
-if [ -d /dev/shm ] && [ -w /dev/shm ]; then
-    memory=$(mktemp -d -p /dev/shm)
-    trap 'rm -rf "$folder" "$memory"' EXIT
-fi
+# edit_text: sets the limits of `given` in the text `dump`, by awk.
+edit_text() {
+    "$awk" -v now="$(date +%s)" -f "$top/bench/edits.awk" given dump >edited
+}
+
+# copy_once: reads the file `start`, and writes and syncs as many bytes as the file `place` has.
+copy_once() {
+    dd if=start of=/dev/null bs=1024
+    dd if=/dev/zero of=copy bs=1024 count=$(($(stat -c %s "$place") / 1024)) conv=fsync
+}
+
+# has_same: looks whether the file `place` has the records of the text `edited`.
+has_same() {
+    "$program" repquota "${format[@]}" -u -v "$place" | tail -n +5 >report
+    sort -n edited | "$awk" -v now="$(date +%s)" -f "$top/bench/report.awk" | cmp - report ||
+        echo "the texts differ: the grace column of a timer may have passed a minute between the two"
+}
+
+# together NUMBER WHO STEP: a batch of so many lines for users of these numbers, over copies of the file `start`, whose text is
+# `dump`.
+together() {
+    local ours=999999 text=999999 copying=999999 tool
+    local words=(setquota "${format[@]}" -u -b --input given "$place")
+    seq 0 "$3" $((($1 - 1) * $3)) | awk '{ print $1, 0, 1 + $1 % 9, 0, 1 + $1 % 7 }' >given
+    for _ in 1 2 3; do
+        cp start "$place"
+        sync
+        ours=$(least "$ours" "$(time_of "$program" "${words[@]}")")
+        text=$(least "$text" "$(time_of edit_text)")
+        copying=$(least "$copying" "$(time_of copy_once)")
+    done
+    has_same
+    echo "setquota -b of $1 lines for $2 users: $ours s"
+    echo "awk: $text s, ratio $(ratio "$ours" "$text")"
+    echo "one copy: $copying s, ratio $(ratio "$ours" "$copying")"
+    if [ -n "$mounted" ]; then
+        cp start "$place"
+        sync
+        tool=$(time_of setquota -F "${format[1]:-vfsv1}" -u -b "$mounted" <given)
+        echo "the quota tools: $tool s, ratio $(ratio "$ours" "$tool")"
+    fi
+    cp start "$place"
+    memory "$place" "${words[@]}"
+}
+
+# all_together NAME: such batches over a copy of q, and over a file without records, each under the name at which the quota
+# tools look where these are there.
+all_together() {
+    local step number
+    place=${mounted:-.}/$1
+    mv q start
+    for number in "$lines" "$many"; do together "$number" known $((1000000 / number)); done
+    rm "$place"
+    "$program" quotacheck -c "${format[@]}" -u "$place" </dev/null
+    mv "$place" start
+    : >dump
+    for number in "$lines" "$many"; do together "$number" new 1; done
+    rm -f "$place"* start copy given edited report
+}
+
+if [ -d /dev/shm ] && [ -w /dev/shm ]; then memory=$(mktemp -d -p /dev/shm); fi
+mount_image
 
 # changes KIND..: one change of each of these kinds.
 changes() {
@@ -137,6 +199,8 @@ changes known new leaving
 has_all
 batches known 0 80
 batches new 2000000 1000
+make_file
+all_together aquota.user
 echo "multiples of 7, the blocks shuffled:"
 make_file spread
 changes known new leaving
@@ -147,3 +211,5 @@ echo "a flat file of 1,048,576 records, which is full:"
 make_file
 changes known leaving
 batches known 0 80
+make_file
+all_together quota.user

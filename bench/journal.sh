@@ -6,7 +6,8 @@
 # lines costs, and, beside one report of the user 7, the same with a recovery before it. At last the time of such changes of a
 # file of 20,000 users, with the start of the program, beside those of SQLite of 20,000 rows in turn (in a running Python, a
 # connection for each change): the best and the middle one of `rounds`. And what a line of `setquota -b` of 1,000 lines for
-# them costs beside one of 1,000 changes of a row over one connection, in turn.
+# them costs that are made in place, since a file has the name of a new one, beside one of 1,000 changes of a row over one
+# connection, in turn.
 maker=make_tree_file.py
 . "$(dirname "${BASH_SOURCE[0]}")/measure.sh"
 rounds=${rounds:-15}
@@ -170,4 +171,5 @@ print(f"ours: {min(ours):.3f} to {max(ours):.3f} ms; PERSIST: {min(theirs):.3f} 
 print(f"ratio of the best {best:.2f}, of the middle ones {middle:.2f}")
 PY
 seq 0 20 19980 | awk '{ print $1, 100, 200 + $1, 10, 20 }' >given
+: >s.new
 echo "a line of 1,000 lines: $(python3 lines.py "$program" setquota -u -b s)"

@@ -7,9 +7,37 @@ shopt -s inherit_errexit
 top=$(cd "$(dirname "${BASH_SOURCE[0]}")/.." && pwd)
 program=$top/crates/quota_program/out/quota_program
 folder=$(mktemp -d)
-trap 'rm -rf "$folder"' EXIT
+memory=
+mounted=
+trap leave EXIT
 cd "$folder"
 awk=$(command -v mawk || command -v awk)
+
+# leave: takes away what was made, also a folder in memory and what is mounted, where there is such a one.
+leave() {
+    if [ -n "$mounted" ]; then umount "$mounted"; fi
+    rm -rf "$folder" ${memory:+"$memory"}
+}
+
+# mount_image: mounts a new file system of ext4 in a file, with quotas off, for the `setquota` of the quota tools, and puts its
+# folder into `mounted`. Where that cannot be done it says why, and `mounted` stays empty.
+mount_image() {
+    local wanted
+    for wanted in setquota mkfs.ext4 mount; do
+        if ! command -v "$wanted" >/dev/null; then
+            echo "$wanted is not there: the quota tools are not measured"
+            return
+        fi
+    done
+    truncate -s 400M image
+    mkfs.ext4 -q -F image
+    mkdir mounted
+    if mount -o loop,usrquota image mounted 2>said; then
+        mounted=$folder/mounted
+    else
+        echo 'nothing may be mounted: the quota tools are not measured'
+    fi
+}
 
 # make_file WORD..: makes `q` and `dump`, with further words of the script that `maker` names.
 make_file() {

@@ -1,19 +1,14 @@
 #!/usr/bin/env bash
 # Measures changes beside those of the `setquota` of the quota tools, where that is installed and a file system may be
 # mounted: one of a known user, of a new one and of one whose record goes, in the tree file of the users 0 to 999,999 and in a
-# full flat file, and `setquota -b` of 1,000 lines for known users. Both work on a file system of ext4 in a file, which is
-# mounted for it with quotas off, in turn: the best of five times each, a batch once. The tool checks and syncs nothing.
+# full flat file, and `setquota -b` of 1,000 lines for known users, which are made in place one after another (edits.sh has
+# more lines, which are made together). Both work on a file system of ext4 in a file, which is mounted for it with quotas off, in
+# turn: the best of five times each, a batch once. The tool checks and syncs nothing.
 maker=make_tree_file.py
 . "$(dirname "${BASH_SOURCE[0]}")/measure.sh"
 
-for wanted in setquota mkfs.ext4 mount; do
-    if ! command -v "$wanted" >/dev/null; then echo "$wanted is not there: nothing is measured" && exit; fi
-done
-truncate -s 400M image
-mkfs.ext4 -q -F image
-mkdir mounted
-if ! mount -o loop,usrquota image mounted 2>said; then echo "nothing may be mounted: nothing is measured" && exit; fi
-trap 'umount "$folder/mounted"; rm -rf "$folder"' EXIT
+mount_image
+if [ -z "$mounted" ]; then exit; fi
 
 # The user whom the next change of each kind meets, and how far it is from there to the one behind.
 declare -A user=() step=([known]=7007 [new]=16777216 [leaving]=42000)
@@ -30,22 +25,22 @@ next() {
 changes() {
     local format=$1 name=$2 kind ours theirs
     user=([known]=7007 [new]=33554432 [leaving]=42000)
-    mv q "mounted/$name"
+    mv q "$mounted/$name"
     for kind in "${@:3}"; do
         ours=999999 theirs=999999
         for _ in 1 2 3 4 5; do
             next "$kind"
-            ours=$(least "$ours" "$(time_of "$program" setquota -F "$format" -u "${words[@]}" "mounted/$name")")
+            ours=$(least "$ours" "$(time_of "$program" setquota -F "$format" -u "${words[@]}" "$mounted/$name")")
             next "$kind"
-            theirs=$(least "$theirs" "$(time_of setquota -F "$format" -u "${words[@]}" "$folder/mounted")")
+            theirs=$(least "$theirs" "$(time_of setquota -F "$format" -u "${words[@]}" "$mounted")")
         done
         echo "a $kind user in a file of $format: $ours s, the tool: $theirs s"
     done
     seq 0 80 79920 | awk '{ print $1, 100, 200, 10, 20 }' >given
-    ours=$(time_of "$program" setquota -F "$format" -u -b "mounted/$name" <given)
-    theirs=$(time_of setquota -F "$format" -u -b "$folder/mounted" <given)
+    ours=$(time_of "$program" setquota -F "$format" -u -b "$mounted/$name" <given)
+    theirs=$(time_of setquota -F "$format" -u -b "$mounted" <given)
     echo "1,000 lines for known users in a file of $format: $ours s, the tool: $theirs s"
-    rm "mounted/$name"
+    rm "$mounted/$name"
 }
 
 changes vfsv1 aquota.user known new leaving

@@ -1,6 +1,7 @@
 #!/usr/bin/env bash
 # Measures, in one run, a script of 10,000 lines that set limits of the 1,000 users of a file, beside 10,000 runs of the program,
-# and beside the same lines by `setquota -b`: their seconds and ratios, and how many calls of the system sync a line of each.
+# and beside the same lines by `setquota -b`, which makes them together: their seconds and ratios, and how many calls of the
+# system sync a line of each.
 # Then what a sync costs: the script again, over a folder in memory.
 maker=make_flat_file.py
 . "$(dirname "${BASH_SOURCE[0]}")/measure.sh"

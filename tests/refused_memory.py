@@ -64,6 +64,7 @@ ROWS = [
     Row("a first edit", [LISTED], ["setquota", "-u", "70000", "100", "200", "10", "20", "q"]),
     Row("a batch", [LISTED, limits(9)], ["setquota", "-u", "-b", "q"], "7 1 2 3 4\n1000 100 x 10 20\n", 1, "",
         "quota: input line 2: bad number x\n"),
+    Row("lines that are made together", [LISTED], ["setquota", "-u", "-b", "q"], "7 1 2 3 4\n1000 100 200 10 20\n"),
     Row("a report", [EMPTY, (["setquota", "1000", "100", "200", "10", "20", "q"], "")], ["repquota", "-u", "-v", "q"], "", 0, REPORT),
     Row("a made file", [], ["generate", "0", "1", "q"], "", 0, "lines 1, inodes 1, identifiers 1, KiB 216, report 351 bytes\n"),
 ]

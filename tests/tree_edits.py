@@ -6,8 +6,9 @@ tree_edits.py PROGRAM FORMAT SEED ROUNDS LINES RUNS FORMS all|kept [FILE]
     Makes a file of that format in the current folder, or a copy of FILE, whose users get new limits first. Changes it in
     so many rounds: each has a batch of so many lines, so many runs for one user each, and so many forms that are printed,
     changed and read in again. With `kept` no edit takes a record away. Prints `same` where each run for one user changed
-    at most twelve blocks; where no run shortened the file, gave it another inode, owner, group or permissions, or made or
-    removed a file beside it, with an undo file there; and where the file is sound and has the records of the map after each round, and `repquota`
+    at most twelve blocks; where no run shortened the file, gave it another owner, group or permissions, or left or took
+    away a file beside it, with an undo file there; where none gave it another inode but a batch with no file of the name
+    of a new one beside; and where the file is sound and has the records of the map after each round, and `repquota`
     shows them at the end. Else it prints what differs first.
 """
 
@@ -110,11 +111,22 @@ class Edited:
         return self.given(id, (0,) * 4 if gone and not self.keeps else self.drawn(id))
 
     def batch(self, edits):
-        """Edits by one run."""
+        """Edits by one run. Where a file stands beside with the name of a new one they are made in place, and else they may
+        be made together, by a new file in the place of the old one; each way is taken as often."""
         old = len(self.bytes())
+        in_place = self.random.random() < 0.5
+        if in_place:
+            with open(FILE + ".new", "wb"):
+                pass
+        before = state()
         self.run("setquota", "-b", FILE, stdin="".join(" ".join(edit) + "\n" for edit in edits))
         want(len(self.bytes()) >= old, "a batch shortened the file")
-        want(state() == self.state, "a batch left the state", state(), "in place of", self.state)
+        kept = slice(None) if in_place else slice(1, 5)
+        want(state()[kept] == before[kept], "a batch left the state", state(), "in place of", before)
+        want(os.path.exists(FILE + ".new") == in_place, "a new file is left beside, or was taken away")
+        if in_place:
+            os.remove(FILE + ".new")
+        self.state = state()
 
     def single(self, words):
         """An edit by a run of its own."""

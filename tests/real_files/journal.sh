@@ -44,12 +44,14 @@ release() {
     wait "$holder"
 }
 
-# after_stops WHAT NEWS WORD..: what is left of the change of q by these words in the format at hand, from `old` on.
+# after_stops WHAT NEWS WORD..: what is left of the change of q by these words in the format at hand, from `old` on. Where
+# --anew stands before NEWS it writes the file anew.
 after_stops() {
-    local what="$1 of $format" news=$2
+    local what="$1 of $format" news=$2 anew=
+    if [ "${news%% *}" = --anew ]; then anew=--anew news=${news#* }; fi
     shift 2
     same "what stops of $what leave" \
-        "$("$top/tests/real_files/stopped.py" q old $news -- "$program" "$@" -- "$program" repquota -F "$format" q 2>said)" sound
+        "$("$top/tests/real_files/stopped.py" $anew q old $news -- "$program" "$@" -- "$program" repquota -F "$format" q 2>said)" sound
 }
 
 # one_change WHAT WORD..: the same of one change, whose new file is made without a stop.
@@ -89,7 +91,18 @@ if command -v python3 >/dev/null && [ "$(uname -m)" = x86_64 ]; then
             "$program" setquota -F "$format" -b q <<<"$line"
             cp q "new.$number"
         done <given
-        after_stops 'a batch' 'new.1 new.2 new.3' setquota -F "$format" -b --input given q
+        # Lines are made where they stand where a file has the name of a new one, which is let be, and else, where there are
+        # enough of them, all together: what a stop leaves then is none of them or all.
+        echo beside >q.new
+        after_stops 'a batch in place' 'new.1 new.2 new.3' setquota -F "$format" -b --input given q
+        same "the file beside a batch of $format" "$(cat q.new)" beside
+        rm q.new
+        seq 1000 1029 | awk '{ print $1, 100, 200, 10, 20 }' >>given
+        cp old q
+        while read -r line; do "$program" setquota -F "$format" -b q <<<"$line"; done <given
+        cp q new
+        after_stops 'a batch' '--anew new' setquota -F "$format" -b --input given q
+        rm -f q.new
     done
 
     # A reader recovers a file: without a word, alone, and once.

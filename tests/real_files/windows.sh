@@ -16,6 +16,22 @@ for format in vfsold vfsv1; do
         "$run" setquota -F "$format" --names users "$name" "$bsoft" "$bhard" "$isoft" "$ihard" other
     done <few
     same "single changes of $format make the same file" "$(cmp one other && echo same)" same
+    # Many lines are made together, by a new file with the owner and the permissions of the old one, or, beside a file of the
+    # name of a new one, where they stand, which leaves the same bytes.
+    cp one other
+    chmod 640 one other
+    : >other.new
+    first=$(stat -c %i one)
+    second=$(stat -c %i other)
+    seq 18 83 4999 | awk '{ print "user" $1, 3 * $1, 4 * $1, $1 % 7, 9 } END { print "6001 1 1 1 1\n6001 0 0 0 0" }' >many
+    expect "many lines of $format together" 0 '' '' setquota -F "$format" --names users -b --input many one
+    expect "many lines of $format in place" 0 '' '' setquota -F "$format" --names users -b --input many other
+    same "both make the same file of $format" "$(cmp one other && echo same)" same
+    same "together by a new file of $format" "$(($(stat -c %i one) == first)) $(stat -c %a one) $(echo one*)" '0 640 one one.undo'
+    same "in place in the old file of $format" "$(($(stat -c %i other) == second)) $(stat -c %s other.new)" '1 0'
+    same "a line of them in $format" "$("$run" repquota -F "$format" one | grep '^#101 ')" \
+        '#101         --          4        303        404      -        1        3        9      -'
+    rm other.new
     same "all names of a large $format file" "$("$run" repquota -F "$format" --names users one | sed 1,4d | awk '{ print $1 }' | cksum)" \
         "$(seq 5000 | sed 's/^/user/' | cksum)"
     same "the end of a $format file that grew" "$("$run" repquota -v -F "$format" one | tail -n 1)" \
@@ -25,7 +41,7 @@ for format in vfsold vfsv1; do
     same "its sums of $format" "$("$run" repquota -u -F "$format" other | sed 1,4d | awk '{ kib += $3; inodes += $7 } END { print NR, kib, inodes }')" \
         '5000 20000 5000'
 done
-rm one other owners owners.again users few
+rm one other owners owners.again users few many
 
 # The greatest identifier and the greatest use of a flat file.
 expect 'the greatest flat file' 0 '' '' quotacheck -c -F vfsold q <<<'1048575 0 1 1 8589934590'

@@ -174,6 +174,8 @@ text alice 100 200 0 0
 text bob 1 2 3 4
 file l
 file q empty
+text beside
+file q.new
 fails store 1
 run setquota -b --names other --input l q
 status 4
@@ -181,6 +183,7 @@ status 4
 same q
 file q empty
 may q first
+stays q.new
 sweep store setquota -b --names other --input l q
 holds q both
 ";

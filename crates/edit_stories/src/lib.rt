@@ -10,3 +10,4 @@ pub mod limits;
 pub mod refused_forms;
 pub mod refused_lines;
 pub mod stops;
+pub mod together;

@@ -383,17 +383,20 @@ record blocks 4 inodes 9
 record bsoft 3
 holds q
 
-= whichever call fails under lines, those before it stay
+= whichever call fails under lines that are made where they stand, those before it stay
 file q three
 run setquota -F vfsold 3 1 2 0 0 q
 changes q
 get q
 keep first
 file q three
+text beside
+file q.new
 text 3 1 2 0 0
 text 2 0 0 0 0
 input
 may q first
+stays q.new
 sweep store setquota -F vfsold -b q
 record blocks 9 inodes 9 itime 9
 record bhard 8 bsoft 2 blocks 4 ihard 9 isoft 8 inodes 9 btime 5 itime 6

@@ -68,7 +68,7 @@ stop setquota -T -u 1000 3600 unset q | repquota -p q
 ! quota: inode time not set, soft limit not exceeded
 changes q
 
-= three lines
+= three lines, each where it stands, since a file has the name of a new one
 file q timed
 run setquota 7 1 2 0 0 q
 changes q
@@ -79,12 +79,15 @@ changes q
 get q
 keep second
 file q timed
+text beside
+file q.new
 text 7 1 2 0 0
 text 1000 3 4 0 0
 text 7 0 0 0 0
 input
 may q first
 may q second
+stays q.new
 stop setquota -b q | repquota -v q
 changes q
 
@@ -149,7 +152,7 @@ stop setquota -F vfsv0 -T -u 1000 3600 unset q | repquota -F vfsv0 -p q
 ! quota: inode time not set, soft limit not exceeded
 changes q
 
-= three lines
+= three lines, each where it stands, since a file has the name of a new one
 file q timed0
 run setquota -F vfsv0 7 1 2 0 0 q
 changes q
@@ -160,12 +163,15 @@ changes q
 get q
 keep second
 file q timed0
+text beside
+file q.new
 text 7 1 2 0 0
 text 1000 3 4 0 0
 text 7 0 0 0 0
 input
 may q first
 may q second
+stays q.new
 stop setquota -b -F vfsv0 q | repquota -F vfsv0 -v q
 changes q
 
@@ -230,7 +236,7 @@ file q flat
 stop setquota -F vfsold -T -u 1 3600 unset q | repquota -F vfsold -p q
 changes q
 
-= three lines
+= three lines, each where it stands, since a file has the name of a new one
 file q flat
 run setquota -F vfsold 7 1 2 0 0 q
 changes q
@@ -241,12 +247,15 @@ changes q
 get q
 keep second
 file q flat
+text beside
+file q.new
 text 7 1 2 0 0
 text 1 3 4 0 0
 text 7 0 0 0 0
 input
 may q first
 may q second
+stays q.new
 stop setquota -b -F vfsold q | repquota -F vfsold -v q
 changes q
 

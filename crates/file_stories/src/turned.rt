@@ -60,6 +60,14 @@ file q timed
 text 1000 1 1 1 1
 text 7 1 1 1 1
 input
+turn setquota -b q
+changes q
+file q timed
+text beside
+file q.new
+text 1000 1 1 1 1
+text 7 1 1 1 1
+input
 may q one
 turn setquota -b q
 changes q

@@ -1,6 +1,7 @@
 use crate::playing::play;
 use edit_stories::{
     applied, batches, edits, ended_batches, forms, limits, refused_forms, refused_lines, stops,
+    together,
 };
 use story_player::FILES;
 
@@ -76,6 +77,51 @@ fn forms_are_refused(rt: HostRuntime) {
 #[test]
 fn the_lines_before_one_at_fault_stay(rt: HostRuntime) {
     play(&rt, rt.alloc(), &[FILES, refused_lines::REFUSED_LINES]);
+}
+
+#[test]
+fn lines_made_together_leave_what_they_leave_in_place(rt: HostRuntime) {
+    play(
+        &rt,
+        rt.alloc(),
+        &[FILES, together::FILES_OF_LINES, together::BOTH_WAYS],
+    );
+}
+
+#[test]
+fn lines_before_a_refused_one_are_made_both_ways(rt: HostRuntime) {
+    play(
+        &rt,
+        rt.alloc(),
+        &[FILES, together::FILES_OF_LINES, together::REFUSED_BOTH_WAYS],
+    );
+}
+
+#[test]
+fn lines_are_made_together_where_the_file_is_small(rt: HostRuntime) {
+    play(
+        &rt,
+        rt.alloc(),
+        &[FILES, together::FILES_OF_LINES, together::BOUNDS],
+    );
+}
+
+#[test]
+fn a_failing_call_leaves_none_of_the_lines_or_all(rt: HostRuntime) {
+    play(
+        &rt,
+        rt.alloc(),
+        &[FILES, together::FILES_OF_LINES, together::FAILING],
+    );
+}
+
+#[test]
+fn a_stop_leaves_none_of_the_lines_or_all(rt: HostRuntime) {
+    play(
+        &rt,
+        rt.alloc(),
+        &[FILES, together::FILES_OF_LINES, together::STOPPED],
+    );
 }
 
 #[test]
