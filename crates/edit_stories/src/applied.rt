@@ -21,7 +21,6 @@ run edquota --print -u 1000 q
 >   q 4 0 0 1 0 0
 input three
 both edquota --apply -u 1000 q
-left 0
 changes q
 run repquota q
 head user q 7days 7days
@@ -31,7 +30,6 @@ use two
 text   q 999 100 200 77 10 20
 input
 both edquota --apply -u 1000 q
-left 0
 changes q
 run repquota q
 head user q 7days 7days
@@ -43,7 +41,6 @@ text  \t
 text
 input
 both edquota --apply -u 1000 q
-left 0
 changes q
 run repquota q
 head user q 7days 7days
@@ -53,7 +50,6 @@ use two
 raw q 4 100 200 1 10 20
 input
 both edquota --apply -u 1000 q
-left 0
 changes q
 run repquota q
 head user q 7days 7days
@@ -63,7 +59,6 @@ use two
 text   q 4 1M 2G 1 3k 4m
 input
 both edquota --apply -u 1000 q
-left 0
 changes q
 run repquota q
 head user q 7days 7days
@@ -73,7 +68,6 @@ use two
 text   q 4 2 8 1 0 0
 input
 both edquota --apply -u 1000 q
-left 0
 changes q
 run repquota q
 head user q 7days 7days

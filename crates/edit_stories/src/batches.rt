@@ -4,7 +4,6 @@ pub const BATCHES: &str = "\
 file q empty
 input
 both setquota -u -b q
-left 0
 writes 0
 run repquota -v q
 head user q 7days 7days
@@ -15,7 +14,6 @@ text # only
 raw #
 input
 both setquota -u -b q
-left 0
 writes 0
 run repquota -v q
 head user q 7days 7days
@@ -23,7 +21,6 @@ file q empty
 text 8 0 0 0 0
 input
 both setquota -u -b q
-left 0
 writes 0
 run repquota -v q
 head user q 7days 7days
@@ -31,7 +28,6 @@ file q empty
 raw 7 1 2 0 0
 input
 both setquota -u -b q
-left 0
 changes q
 run repquota -v q
 head user q 7days 7days
@@ -44,7 +40,6 @@ text \t007  1\t2 0 0\x20
 raw #7 5 5 5 5
 input
 both setquota -u -b q
-left 0
 changes q
 run repquota -v q
 head user q 7days 7days
@@ -57,7 +52,6 @@ raw #
 hex ff
 input
 both setquota -u -b q
-left 0
 changes q
 run repquota -v q
 head user q 7days 7days
@@ -68,7 +62,6 @@ hex 00 0d 0a
 text 7 1 2 0 0
 input
 both setquota -u -b q
-left 0
 changes q
 run repquota -v q
 head user q 7days 7days
@@ -80,7 +73,6 @@ text 7 1 2 0 0
 text 8 0 0 0 0
 input
 both setquota -u -b q
-left 0
 changes q
 run repquota -v q
 head user q 7days 7days
@@ -91,7 +83,6 @@ text 7 1 2 0 0
 text 9 0 0 0 0
 input
 both setquota -u -b q
-left 0
 changes q
 run repquota -v q
 head user q 7days 7days
@@ -100,7 +91,6 @@ file q empty
 text 7 1M 2G 3k 4m
 input
 both setquota -u -b q
-left 0
 changes q
 run repquota -v q
 head user q 7days 7days
@@ -109,7 +99,6 @@ file q empty
 text 4294967295 0 0 0 18446744073709551615
 input
 both setquota -u -b q
-left 0
 changes q
 run repquota -v q
 head user q 7days 7days

@@ -48,8 +48,7 @@ pub const PERIODS: &str = "\
 = periods are set in the header of a tree file
 file q empty
 run setquota -u -t 86400 3600 q
-hex 111fc0d9 01000000 80510100 100e0000
-begins q
+at q 0 3653246737 1 86400 3600
 run repquota -u q
 head user q 24:00 01:00
 

@@ -78,11 +78,12 @@ head user q 7days 7days
 > #7           --          0          1          2      -        0        0        0      -
 
 = no byte is lost where a line ends at the edge of a piece
-file q empty
 raw # note
 fill 32 1017
 text
-again 3
+keep note
+file q empty
+use note 3
 raw 7 1 2 0 0
 fill 32 1013
 text
@@ -95,10 +96,7 @@ head user q 7days 7days
 > #7           --          0          1          2      -        0        0        0      -
 > #89          --          0          3          4      -        0        0        0      -
 file q empty
-raw # note
-fill 32 1017
-text
-again 3
+use note 3
 raw 7 1 2 0 0
 fill 32 1014
 text
@@ -111,10 +109,7 @@ head user q 7days 7days
 > #7           --          0          1          2      -        0        0        0      -
 > #89          --          0          3          4      -        0        0        0      -
 file q empty
-raw # note
-fill 32 1017
-text
-again 3
+use note 3
 raw 7 1 2 0 0
 fill 32 1015
 text
@@ -132,10 +127,9 @@ file q empty
 raw #
 fill 32 999
 text
-again 9
-keep notes
+keep note
 text 7 1 2 0 0
-use notes
+use note 9
 keep lines
 input lines
 fails input 1
@@ -161,11 +155,11 @@ head user q 7days 7days
 file q empty
 run setquota 1000 100 200 0 0 q
 changes q
-get q
+use q
 keep first
 run setquota 1001 1 2 3 4 q
 changes q
-get q
+use q
 keep both
 text alice:x:1000:1000:Alice:/home/alice:/bin/sh
 text bob:x:1001:100::/home/bob:/bin/sh

@@ -55,7 +55,7 @@ holds q
 file q
 run setquota -F vfsold -u 65535 1 1 0 0 q
 writes 1
-long q 2621440
+at q 2621440 end
 
 = a timer starts where the use exceeds the soft limit
 fill 0 40000
@@ -147,7 +147,7 @@ same q
 writes 0
 file q
 run setquota -F vfsold -u 2 0 0 0 0 q
-long q 0
+at q 0 end
 writes 0
 ";
 
@@ -277,7 +277,7 @@ file q old
 run setquota -F vfsold -u 60 2 8 0 0 q
 changes q
 writes 1
-get q
+use q
 keep new
 file q old
 fails store 1
@@ -387,7 +387,7 @@ holds q
 file q three
 run setquota -F vfsold 3 1 2 0 0 q
 changes q
-get q
+use q
 keep first
 file q three
 text beside

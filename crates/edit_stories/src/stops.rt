@@ -7,7 +7,7 @@ pub const STOPPED_FILES: &str = "\
 file q timed
 run convertquota -f vfsv1,vfsv0 q r
 changes r
-get r
+use r
 keep timed0
 hex 111fc0d9 00000000 803a0900 803a0900 00000000 02000000 00000000 00000000
 keep empty0
@@ -32,9 +32,9 @@ changes q
 = limits in a file that has no records, and behind them none
 file q empty
 stop setquota -u 1000 100 200 0 0 q | repquota -v q
-long q 6144
+at q 6144 end
 stop setquota -u 1000 0 0 0 0 q | repquota -v q
-long q 6144
+at q 6144 end
 run repquota -v q
 head user q 7days 7days
 
@@ -72,11 +72,11 @@ changes q
 file q timed
 run setquota 7 1 2 0 0 q
 changes q
-get q
+use q
 keep first
 run setquota 1000 3 4 0 0 q
 changes q
-get q
+use q
 keep second
 file q timed
 text beside
@@ -112,7 +112,7 @@ status 1
 head user q 7days 7days
 > #1000        --          0        100        200      -        0        0        0      -
 ! quota: line 3: bad number 10x
-long q 6144
+at q 6144 end
 ";
 
 /// Files of vfsv0.
@@ -130,9 +130,9 @@ changes q
 = limits in a file that has no records, and behind them none
 file q empty0
 stop setquota -F vfsv0 -u 1000 100 200 0 0 q | repquota -F vfsv0 -v q
-long q 6144
+at q 6144 end
 stop setquota -F vfsv0 -u 1000 0 0 0 0 q | repquota -F vfsv0 -v q
-long q 6144
+at q 6144 end
 run repquota -F vfsv0 -v q
 head user q 7days 7days
 
@@ -156,11 +156,11 @@ changes q
 file q timed0
 run setquota -F vfsv0 7 1 2 0 0 q
 changes q
-get q
+use q
 keep first
 run setquota -F vfsv0 1000 3 4 0 0 q
 changes q
-get q
+use q
 keep second
 file q timed0
 text beside
@@ -196,7 +196,7 @@ status 1
 head user q 7days 7days
 > #1000        --          0        100        200      -        0        0        0      -
 ! quota: line 3: bad number 10x
-long q 6144
+at q 6144 end
 ";
 
 /// Flat files.
@@ -209,12 +209,12 @@ changes q
 = limits of an identifier behind the end of the file
 file q flat
 stop setquota -F vfsold -u 60 1 2 3 4 q | edquota --print -F vfsold 60 q
-long q 2440
+at q 2440 end
 
 = limits in an empty file, of which a stop leaves nothing or the whole new one
 file q
 stop setquota -F vfsold -u 1000 100 200 10 20 q | repquota -F vfsold q
-long q 40040
+at q 40040 end
 
 = limits that go
 file q flat
@@ -240,11 +240,11 @@ changes q
 file q flat
 run setquota -F vfsold 7 1 2 0 0 q
 changes q
-get q
+use q
 keep first
 run setquota -F vfsold 1 3 4 0 0 q
 changes q
-get q
+use q
 keep second
 file q flat
 text beside

@@ -21,7 +21,7 @@ keep garbage
 file q six
 run setquota -u 1000 100 200 10 20 q
 changes q
-get q
+use q
 keep limited
 
 = a call that is cut to each length: up to 23 bytes it gets no reply, and with all 80 the whole one

@@ -4,7 +4,7 @@
 pub const ENDED: &str = "\
 = a report in a script that is not written ends it, and the line before stays
 use empty
-size 2048
+fill 0 2016
 file q
 text setquota -u 1000 100 200 0 0 q
 text repquota -u -v q
@@ -38,7 +38,7 @@ file q timed
 run setquota -T -u 1000 3600 unset q
 ! quota: inode time not set, soft limit not exceeded
 changes q
-get q
+use q
 keep set
 file q timed
 fails error 1

@@ -6,19 +6,19 @@ pub const SWEPT: &str = "\
 = limits behind the end of an empty flat file
 file q
 sweep each setquota -F vfsold -u 1000 100 200 10 20 q
-long q 40040
+at q 40040 end
 
 = a new file of a listing, and its report
 text 1000 100 2049 12 8
 file l
 stays q
 sweep each quotacheck -c -u -F vfsv1 --input l q
-long q 6144
+at q 6144 end
 sweep each repquota -u q
 head user q 7days 7days
 > #1000        --          4          0          0      -        1        0        0      -
-get q
-size 6244
+use q
+fill 0 100
 file q
 sweep each repquota -u q
 head user q 7days 7days
@@ -26,11 +26,11 @@ head user q 7days 7days
 
 = a listing with a line that stands there twice
 text 1000 100 2049 12 8
-again 2
+text 1000 100 2049 12 8
 file l
 stays q
 sweep each quotacheck -c -u -F vfsv1 --input l q
-long q 6144
+at q 6144 end
 
 = a listing with a line that is at odds with an earlier one
 text 1000 100 2049 12 8
@@ -55,12 +55,12 @@ absent q q.new
 
 = limits of the first identifier of a tree file, which go again
 use empty
-size 2048
+fill 0 2016
 file q
 sweep each setquota -u 1000 100 200 0 0 q
-long q 6144
+at q 6144 end
 sweep each setquota -u 1000 0 0 0 0 q
-long q 6144
+at q 6144 end
 sweep each setquota -u 1000 0 0 0 0 q
 same q
 
@@ -112,7 +112,7 @@ changes q
 stays q r
 sweep each convertquota -u -f vfsv1,vfsv0 q r
 same q
-long r 6144
+at r 6144 end
 stays q r r.new
 sweep each convertquota -u -f vfsv1,vfsv0 q r
 status 1
@@ -138,7 +138,7 @@ sent
 
 = a script that ends at its third line
 use empty
-size 2048
+fill 0 2016
 file q
 text setquota -u 1000 100 200 0 0 q
 text repquota -u -v q
@@ -150,7 +150,7 @@ status 1
 head user q 7days 7days
 > #1000        --          0        100        200      -        0        0        0      -
 ! quota: line 3: bad number 10x
-long q 6144
+at q 6144 end
 
 = lines that set limits, of which the third lacks a word, or has a faulty one
 file q empty

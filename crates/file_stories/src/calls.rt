@@ -4,10 +4,12 @@
 /// and reads record 0. A report reads 25 records at a time, and a record that is looked up is read where the file has it. A
 /// change writes one record and syncs the file.
 pub const ORDER: &str = "\
-= a report reads its file 25 records at a time
+= a record of other rows
 record bhard 1 bsoft 1 blocks 1 ihard 1 isoft 1 inodes 1
-again 30
-file q
+keep record
+
+= a report reads its file 25 records at a time
+file q record 30
 run repquota -F vfsold -u -v q
 calls size q; read q; read q; read q;
 head user q 7days 7days
@@ -43,52 +45,40 @@ head user q 7days 7days
 > #29          --          1          1          1      -        1        1        1      -
 
 = a record behind the end is written where it stands
-record bhard 1 bsoft 1 blocks 1 ihard 1 isoft 1 inodes 1
-again 30
-file q
+file q record 30
 run setquota -F vfsold -u 60 2 8 0 0 q
 calls size q; read q; write q; sync q;
 changes q
-long q 2440
+at q 2440 end
 
 = a record that is there is read and written over
-record bhard 1 bsoft 1 blocks 1 ihard 1 isoft 1 inodes 1
-again 30
-file q
+file q record 30
 run setquota -F vfsold -u 7 2 8 0 0 q
 calls size q; read q; read q; write q; sync q;
 changes q
-long q 1200
+at q 1200 end
 
 = grace periods are written with the rest of record 0
-record bhard 1 bsoft 1 blocks 1 ihard 1 isoft 1 inodes 1
-again 30
-file q
+file q record 30
 run setquota -F vfsold -t 86400 3600 q
 calls size q; read q; read q; write q; sync q;
 changes q
-long q 1200
+at q 1200 end
 
 = nothing to write
-record bhard 1 bsoft 1 blocks 1 ihard 1 isoft 1 inodes 1
-again 30
-file q
+file q record 30
 run setquota -F vfsold -u 60 0 0 0 0 q
 calls size q; read q;
 
 = a file that is not there is not read
-record bhard 1 bsoft 1 blocks 1 ihard 1 isoft 1 inodes 1
-again 30
-file q
+file q record 30
 run setquota -F vfsold -u 60 0 0 0 0 r
 status 1
 ! quota: r: no such file
 calls size r;
 
 = words that are refused call no store
-record bhard 1 bsoft 1 blocks 1 ihard 1 isoft 1 inodes 1
-again 30
-file q
+file q record 30
 run setquota -F vfsold -u 60 x 0 0 0 q
 status 1
 ! quota: bad number x
@@ -99,9 +89,7 @@ status 2
 calls
 
 = of a file that is no tree file the first block is read
-record bhard 1 bsoft 1 blocks 1 ihard 1 isoft 1 inodes 1
-again 30
-file q
+file q record 30
 run repquota q
 status 3
 ! quota: q: not a quota file

@@ -21,7 +21,7 @@ keep fifteen
 file q
 input fifteen
 run quotacheck -c -u -F vfsv1 q
-long q 7168
+at q 7168 end
 at q 20 7 0
 at q 28 3
 at q 3072 0 0 1
@@ -36,11 +36,11 @@ text 19 100 2049 19 8
 text 20 100 2049 20 8
 input
 run quotacheck -c -F vfsv0 q
-long q 6144
+at q 6144 end
 at q 20 6
 at q 28 0
 run setquota -u 21 1 1 0 0 q
-long q 7168
+at q 7168 end
 at q 20 7
 
 = limits stay and usage and timers are those of the listing
@@ -70,7 +70,7 @@ holds q
 file q six
 input
 both quotacheck -u q
-long q 2048
+at q 2048 end
 run repquota -u -v q
 head user q 7days 7days
 
@@ -101,81 +101,46 @@ head user q 7days 7days
 > #1000        --          0          2          8      -        0        0        0      -
 
 = the kind, the format, the periods and the flags stay
-use six
-put 20 2
-put 28 0
-put 1024 0
-put 0 3653245223
-size 2048
-keep was
-file q was
+put end 3653245223 1 604800 604800 0 2
+fill 0 2024
+file q
 text 1000 1000 2049 12 8
 input
 both quotacheck -g q
-long q 6144
-use was
-size 20
-begins q
-use six
-put 20 2
-put 28 0
-put 1024 0
-put 4 0
-size 2048
-keep was
-file q was
+at q 6144 end
+at q 0 3653245223 1 604800 604800 0
+put end 3653246737 0 604800 604800 0 2
+fill 0 2024
+file q
 text 1000 1000 2049 12 8
 input
 both quotacheck q
-long q 6144
-use was
-size 20
-begins q
-use six
-put 20 2
-put 28 0
-put 1024 0
-put 4 0
-size 2048
-keep was
-file q was
+at q 6144 end
+at q 0 3653246737 0 604800 604800 0
+put end 3653246737 0 604800 604800 0 2
+fill 0 2024
+file q
 text 1000 1000 2049 12 8
 input
 both quotacheck -F vfsv0 q
-long q 6144
-use was
-size 20
-begins q
-use six
-put 20 2
-put 28 0
-put 1024 0
-put 8 86400 3600
-size 2048
-keep was
-file q was
+at q 6144 end
+at q 0 3653246737 0 604800 604800 0
+put end 3653246737 1 86400 3600 0 2
+fill 0 2024
+file q
 text 1000 1000 2049 12 8
 input
 both quotacheck q
-long q 6144
-use was
-size 20
-begins q
-use six
-put 20 2
-put 28 0
-put 1024 0
-put 16 5
-size 2048
-keep was
-file q was
+at q 6144 end
+at q 0 3653246737 1 86400 3600 0
+put end 3653246737 1 604800 604800 5 2
+fill 0 2024
+file q
 text 1000 1000 2049 12 8
 input
 both quotacheck q
-long q 6144
-use was
-size 20
-begins q
+at q 6144 end
+at q 0 3653246737 1 604800 604800 5
 
 = the times of user 0 of a flat file are the periods, whatever it uses
 record bhard 8 bsoft 2 ihard 9 isoft 1 btime 604800 itime 86400
@@ -194,7 +159,7 @@ file q
 input listing
 run quotacheck -c -u -F vfsv1 q
 changes q
-get q
+use q
 keep made
 use made
 fill 1 100

@@ -2,7 +2,8 @@
 
 /// One map in each format: identifier 0 with a space of one byte and a timer, a record that limits and counts nothing but has
 /// timers, and identifier 1000 with timers above 32 bits; grace periods of 1 second and of 2^32 - 1, and flags. A flat file
-/// has whole KiB, and no timer of identifier 0.
+/// has whole KiB, and no timer of identifier 0. The rules let the one data block of a new file be any of 2 to 6; its place
+/// here is the one that this program chooses.
 pub const PAIRS: &str = "\
 = one map in each format
 fill 0 7168
@@ -50,39 +51,32 @@ run repquota -F vfsold -v -p r
 head user r 00:00 49710days
 > #0           --          1          0          0      0        1        0        0      0
 > #1000        ++          3          1          2 4294967296        5        3        4 4294967297
-drop r
 
 = from vfsold to vfsv0
 file q old
 run convertquota -f vfsold,vfsv0 q r
 same q
 absent r.new
-long r 7168
-put end 3653246737 0 1 4294967295 0 7 0
-begins r
-put end 0 0 0 1 0 0 1024 0 0 0 0 0 1000 4 3 5 2 1 3072 0 0 1 1 1
-has r
+at r 7168 end
+at r 0 3653246737 0 1 4294967295 0 7 0
+at r 2064 0 0 0 1 0 0 1024 0 0 0 0 0 1000 4 3 5 2 1 3072 0 0 1 1 1
 run repquota -F vfsv0 -v -p r
 head user r 00:00 49710days
 > #0           --          1          0          0      0        1        0        0      0
 > #1000        ++          3          1          2 4294967296        5        3        4 4294967297
-drop r
 
 = from vfsold to vfsv1
 file q old
 run convertquota -f vfsold,vfsv1 q r
 same q
 absent r.new
-long r 7168
-put end 3653246737 1 1 4294967295 0 7 0
-begins r
-put end 0 0 0 0 0 0 1 0 0 0 0 0 1024 0 0 0 0 0 1000 0 4 0 3 0 5 0 2 0 1 0 3072 0 0 1 1 1
-has r
+at r 7168 end
+at r 0 3653246737 1 1 4294967295 0 7 0
+at r 2064 0 0 0 0 0 0 1 0 0 0 0 0 1024 0 0 0 0 0 1000 0 4 0 3 0 5 0 2 0 1 0 3072 0 0 1 1 1
 run repquota -F vfsv1 -v -p r
 head user r 00:00 49710days
 > #0           --          1          0          0      0        1        0        0      0
 > #1000        ++          3          1          2 4294967296        5        3        4 4294967297
-drop r
 
 = from vfsv0 to vfsold
 file q middle
@@ -94,39 +88,32 @@ run repquota -F vfsold -v -p r
 head user r 00:00 49710days
 > #0           --          1          0          0      0        1        0        0      0
 > #1000        ++          3          1          2 4294967296        5        3        4 4294967297
-drop r
 
 = from vfsv0 to vfsv0
 file q middle
 run convertquota -f vfsv0,vfsv0 q r
 same q
 absent r.new
-long r 7168
-put end 3653246737 0 1 4294967295 0 7 0
-begins r
-put end 0 0 0 1 0 0 1 0 7 0 0 0 1000 4 3 5 2 1 2049 0 0 1 1 1
-has r
+at r 7168 end
+at r 0 3653246737 0 1 4294967295 0 7 0
+at r 2064 0 0 0 1 0 0 1 0 7 0 0 0 1000 4 3 5 2 1 2049 0 0 1 1 1
 run repquota -F vfsv0 -v -p r
 head user r 00:00 49710days
 > #0           --          1          0          0      0        1        0        0      0
 > #1000        ++          3          1          2 4294967296        5        3        4 4294967297
-drop r
 
 = from vfsv0 to vfsv1
 file q middle
 run convertquota -f vfsv0,vfsv1 q r
 same q
 absent r.new
-long r 7168
-put end 3653246737 1 1 4294967295 0 7 0
-begins r
-put end 0 0 0 0 0 0 1 0 0 0 0 0 1 0 7 0 0 0 1000 0 4 0 3 0 5 0 2 0 1 0 2049 0 0 1 1 1
-has r
+at r 7168 end
+at r 0 3653246737 1 1 4294967295 0 7 0
+at r 2064 0 0 0 0 0 0 1 0 0 0 0 0 1 0 7 0 0 0 1000 0 4 0 3 0 5 0 2 0 1 0 2049 0 0 1 1 1
 run repquota -F vfsv1 -v -p r
 head user r 00:00 49710days
 > #0           --          1          0          0      0        1        0        0      0
 > #1000        ++          3          1          2 4294967296        5        3        4 4294967297
-drop r
 
 = from vfsv1 to vfsold
 file q new
@@ -138,39 +125,32 @@ run repquota -F vfsold -v -p r
 head user r 00:00 49710days
 > #0           --          1          0          0      0        1        0        0      0
 > #1000        ++          3          1          2 4294967296        5        3        4 4294967297
-drop r
 
 = from vfsv1 to vfsv0
 file q new
 run convertquota -f vfsv1,vfsv0 q r
 same q
 absent r.new
-long r 7168
-put end 3653246737 0 1 4294967295 0 7 0
-begins r
-put end 0 0 0 1 0 0 1 0 7 0 0 0 1000 4 3 5 2 1 2049 0 0 1 1 1
-has r
+at r 7168 end
+at r 0 3653246737 0 1 4294967295 0 7 0
+at r 2064 0 0 0 1 0 0 1 0 7 0 0 0 1000 4 3 5 2 1 2049 0 0 1 1 1
 run repquota -F vfsv0 -v -p r
 head user r 00:00 49710days
 > #0           --          1          0          0      0        1        0        0      0
 > #1000        ++          3          1          2 4294967296        5        3        4 4294967297
-drop r
 
 = from vfsv1 to vfsv1
 file q new
 run convertquota -f vfsv1,vfsv1 q r
 same q
 absent r.new
-long r 7168
-put end 3653246737 1 1 4294967295 0 7 0
-begins r
-put end 0 0 0 0 0 0 1 0 0 0 0 0 1 0 7 0 0 0 1000 0 4 0 3 0 5 0 2 0 1 0 2049 0 0 1 1 1
-has r
+at r 7168 end
+at r 0 3653246737 1 1 4294967295 0 7 0
+at r 2064 0 0 0 0 0 0 1 0 0 0 0 0 1 0 7 0 0 0 1000 0 4 0 3 0 5 0 2 0 1 0 2049 0 0 1 1 1
 run repquota -F vfsv1 -v -p r
 head user r 00:00 49710days
 > #0           --          1          0          0      0        1        0        0      0
 > #1000        ++          3          1          2 4294967296        5        3        4 4294967297
-drop r
 ";
 
 /// Values at the ends of what a format has room for.
@@ -220,7 +200,7 @@ file q
 run convertquota -f vfsv0,vfsold q r
 same q
 changes r
-long r 40040
+at r 40040 end
 at r 40000 0 0 1
 run repquota -F vfsold -u r
 head user r 7days 7days
@@ -241,9 +221,8 @@ put 5280 1000 0 0 0 0 0 0 0 0 0 1
 file q
 run convertquota -f vfsv1,vfsv1 q r
 same q
-long r 6144
-put end 3653246737 1 604800 604800 0 6 0
-begins r
+at r 6144 end
+at r 0 3653246737 1 604800 604800 0 6 0
 run repquota -u -v r
 head user r 7days 7days
 > #1000        --          0          1          0      -        0        0        0      -
@@ -278,7 +257,7 @@ same q
 record btime 604800 itime 604800
 holds r
 
-= a space of 2^32 KiB has no room in a flat file, and is told in bytes
+= a space of 2^32 - 1 KiB has room in a flat file
 fill 0 6144
 put 0 3653246737 0 604800 604800 0 6 0 5
 put 1024 2
@@ -295,7 +274,8 @@ changes r
 run repquota -F vfsold r
 head user r 7days 7days
 > #1000        -- 4294967295          0          0      -        1        0        0      -
-drop r
+
+= a space of 2^32 KiB has none, and is told in bytes
 use full
 put 5160 4294966273 1023
 file q

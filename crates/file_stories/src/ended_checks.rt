@@ -121,7 +121,7 @@ writes 0
 file q six
 run setquota -u 7 2 8 0 0 q
 changes q
-get q
+use q
 keep fresh
 now 18446744073709551615
 file q timed
@@ -153,9 +153,6 @@ writes 0
 /// Files that are refused before a listing is read, and calls that fail.
 pub const CALLS: &str = "\
 = the file is opened before the listing is read
-use six
-size 6143
-keep cut
 file q six
 run quotacheck absent
 status 1
@@ -177,31 +174,31 @@ run quotacheck q
 status 3
 ! quota: q: not a quota file
 writes 0
-file q cut
+file q short
 run quotacheck q
 status 3
 ! quota: q: damaged: Short at block 5
 writes 0
-file q cut
+file q short
 run quotacheck -F vfsold q
 status 3
 ! quota: q: damaged: PartialRecord at record 153
 writes 0
 
 = a new file is made whatever stood there, or where nothing did
-file q cut
+file q short
 text 1000 100 2049 12 8
 input
 run quotacheck -c -u -F vfsv1 q
-long q 6144
-file q cut
+at q 6144 end
+file q short
 text 1000 100 2049 12 8
 input
 run quotacheck -c -u absent
-long absent 6144
+at absent 6144 end
 
 = no new file is made of a wrong listing
-file q cut
+file q short
 text x
 input
 run quotacheck -c -u absent
@@ -253,7 +250,10 @@ run quotacheck -c q
 status 4
 ! quota: store fault
 changes q.new
-drop q.new
+
+= so it is where a new file is made
+file l two
+file q six
 input two
 stays q
 sweep store quotacheck -c q
@@ -264,10 +264,16 @@ run quotacheck -c --input l q
 status 4
 ! quota: store fault
 changes q.new
-drop q.new
+
+= and where it is made of a file
+file l two
+file q six
 stays q
 sweep store quotacheck -c --input l q
 changes q
+
+= an input that fails ends a check and leaves the file
+file l two
 file q six
 input two
 fails input 1

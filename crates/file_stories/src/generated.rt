@@ -46,9 +46,8 @@ text 2264 100 2049 1009 472
 text 4139 100 2049 1011 288
 input
 run quotacheck -c -u -F vfsv1 r
-left 0
 changes r
-get q
+use q
 holds r
 
 = the report has as many bytes as are told

@@ -98,7 +98,7 @@ file other users
 file q timed
 run setquota 1000 100 200 0 0 q
 changes q
-get q
+use q
 keep numbers
 file q timed
 run setquota --names other alice 100 200 0 0 q
@@ -110,7 +110,7 @@ file other users
 file q timed
 run setquota -p 1000 1001 q
 changes q
-get q
+use q
 keep numbers
 file q timed
 run setquota --names other -p alice bob q
@@ -127,7 +127,7 @@ file q timed
 run setquota -T 1000 5 5 q
 ! quota: inode time not set, soft limit not exceeded
 changes q
-get q
+use q
 keep numbers
 file q timed
 run setquota --names other -T alice 5 5 q
@@ -140,7 +140,7 @@ file other users
 file q timed
 run setquota -t 5 5 q
 changes q
-get q
+use q
 keep numbers
 file q timed
 run setquota --names none -t 5 5 q
@@ -152,7 +152,7 @@ file other users
 file q timed
 run setquota 1000 1 1 1 1 q
 changes q
-get q
+use q
 keep numbers
 file q timed
 run setquota --names other 01000 1 1 1 1 q

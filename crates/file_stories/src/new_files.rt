@@ -6,32 +6,32 @@ raw no quota file
 file q
 input
 both quotacheck -c -u -F vfsv1 q
-put end 3653246737 1 604800 604800 0 2 0 0 0 0
-size 2048
+put end 3653246737 1 604800 604800 0 2
+fill 0 2024
 holds q
 absent q.new
 raw no quota file
 file q
 input
 both quotacheck -c q
-put end 3653246737 1 604800 604800 0 2 0 0 0 0
-size 2048
+put end 3653246737 1 604800 604800 0 2
+fill 0 2024
 holds q
 absent q.new
 raw no quota file
 file q
 input
 both quotacheck -cF vfsv0 q
-put end 3653246737 0 604800 604800 0 2 0 0 0 0
-size 2048
+put end 3653246737 0 604800 604800 0 2
+fill 0 2024
 holds q
 absent q.new
 raw no quota file
 file q
 input
 both quotacheck -c -g q
-put end 3653245223 1 604800 604800 0 2 0 0 0 0
-size 2048
+put end 3653245223 1 604800 604800 0 2
+fill 0 2024
 holds q
 absent q.new
 raw no quota file
@@ -47,7 +47,6 @@ file q
 text 1000 100 2049 12 8
 input
 both quotacheck -c -u -F vfsv1 q
-left 0
 changes q
 run repquota -u q
 head user q 7days 7days
@@ -56,7 +55,6 @@ file q
 raw 1000 100 2049 12 8
 input
 both quotacheck -c -u -F vfsv1 q
-left 0
 changes q
 run repquota -u q
 head user q 7days 7days
@@ -66,7 +64,6 @@ text 1000 100 2049 12 8
 text 1000 100 2049 12 8
 input
 both quotacheck -c -u -F vfsv1 q
-left 0
 changes q
 run repquota -u q
 head user q 7days 7days
@@ -78,7 +75,6 @@ text \t1000\t 100 2049  12\t8\x20
 text
 input
 both quotacheck -c -u -F vfsv1 q
-left 0
 changes q
 run repquota -u q
 head user q 7days 7days
@@ -87,7 +83,6 @@ file q
 text 00000000000000001000 0100 02049 012 08
 input
 both quotacheck -c -u -F vfsv1 q
-left 0
 changes q
 run repquota -u q
 head user q 7days 7days
@@ -97,7 +92,6 @@ text 1000 100 2049 12 8
 text 1000 100 2049 13 8
 input
 both quotacheck -c -u -F vfsv1 q
-left 0
 changes q
 run repquota -u q
 head user q 7days 7days
@@ -107,7 +101,6 @@ text 1000 100 2049 12 8
 text 1000 100 2050 12 8
 input
 both quotacheck -c -u -F vfsv1 q
-left 0
 changes q
 run repquota -u q
 head user q 7days 7days
@@ -117,7 +110,6 @@ text 1000 100 2049 12 8
 text 1000 100 2050 12 8
 input
 both quotacheck -c -u -F vfsv1 --device 2049 q
-left 0
 changes q
 run repquota -u q
 head user q 7days 7days
@@ -127,7 +119,6 @@ text 1000 100 2049 12 8
 text 7 7 2050 12 9
 input
 both quotacheck -c -u -F vfsv1 --device 2049 q
-left 0
 changes q
 run repquota -u q
 head user q 7days 7days
@@ -138,7 +129,6 @@ text 7 7 2050 12 10
 text 1000 1 2049 12 8
 input
 both quotacheck -c -u -F vfsv1 --device 2049 q
-left 0
 changes q
 run repquota -u q
 head user q 7days 7days
@@ -148,7 +138,6 @@ text 1000 100 2049 12 8
 text 1000 100 2050 12 8
 input
 both quotacheck -c -u -F vfsv1 --device 2051 q
-left 0
 changes q
 run repquota -u q
 head user q 7days 7days
@@ -156,7 +145,6 @@ file q
 text 1000 100 18446744073709551615 18446744073709551615 8
 input
 both quotacheck -c -u -F vfsv1 --device 18446744073709551615 q
-left 0
 changes q
 run repquota -u q
 head user q 7days 7days
@@ -165,7 +153,6 @@ file q
 text 4294967295 4294967295 0 0 7
 input
 both quotacheck -c -u -F vfsv1 q
-left 0
 changes q
 run repquota -u q
 head user q 7days 7days
@@ -176,7 +163,7 @@ file q
 text 1000 100 2049 12 8
 input
 run quotacheck -c -u -F vfsv1 q
-long q 6144
+at q 6144 end
 at q 20 6 0
 at q 28 2
 at q 2056 1
@@ -184,7 +171,7 @@ at q 2064 1000
 run repquota -u q
 head user q 7days 7days
 > #1000        --          4          0          0      -        1        0        0      -
-get q
+use q
 fill 1 100
 file q
 run repquota -u q
@@ -195,7 +182,7 @@ text 1000 100 2049 12 8
 text 1000 100 2049 12 8
 input
 run quotacheck -c -u -F vfsv1 q
-long q 6144
+at q 6144 end
 at q 20 6 0
 at q 28 2
 at q 2056 1
@@ -203,7 +190,7 @@ at q 2064 1000
 run repquota -u q
 head user q 7days 7days
 > #1000        --          4          0          0      -        1        0        0      -
-get q
+use q
 fill 1 100
 file q
 run repquota -u q
@@ -212,9 +199,10 @@ head user q 7days 7days
 file q
 input
 run quotacheck -c -u -F vfsv1 q
-changes q
-get q
-size 32
+put end 3653246737 1 604800 604800 0 2
+fill 0 2024
+holds q
+put end 3653246737 1 604800 604800 0 2 0 0
 file q
 run repquota -u q
 head user q 7days 7days

@@ -66,23 +66,26 @@ same q
 absent r r.new
 writes 0
 
-= tree files have grace periods of 0, and flat ones of 2^64 - 1
+= tree files have grace periods of 0
 use empty
 put 8 0 4294967295
 file q
 run convertquota -f vfsv1,vfsv0 q r
 same q
 put end 3653246737 0 0 4294967295 0 2
-size 2048
+fill 0 2024
 holds r
-drop r
+
+= flat files have grace periods of 2^64 - 1
 record btime 18446744073709551615 itime 18446744073709551615
 keep longest
 file q longest
 run convertquota -f vfsold,vfsold q r
 same q
 holds r longest
-drop r
+
+= tree files have none of 2^32
+file q longest
 run convertquota -f vfsold,vfsv1 q r
 status 1
 ! quota: q: no room for bgrace 18446744073709551615
@@ -102,7 +105,7 @@ file q
 run convertquota -f vfsold,vfsv0 q r
 same q
 put end 3653246737 0 604800 4294967295 0 2
-size 2048
+fill 0 2024
 holds r
 ";
 
@@ -121,7 +124,8 @@ status 1
 same r
 absent q r.new
 calls size r;
-drop r
+
+= a file that is not there is no such file
 run convertquota -f vfsv1,vfsv0 q r
 status 1
 ! quota: q: no such file
@@ -183,7 +187,7 @@ run convertquota -g -f vfsv0,vfsv1 q r
 same q
 hex 2719c0d9
 hex 01000000 803a0900 803a0900 00000000 02000000 00000000 00000000
-size 2048
+fill 0 2016
 holds r
 
 = no file has the name under which the new one is written first
@@ -207,7 +211,7 @@ raw junk
 file r.new
 run convertquota -f vfsv1,vfsold q r
 same q
-long r 40040
+at r 40040 end
 absent r.new
 
 = the new file is made whole and synced before it gets its name
@@ -223,30 +227,34 @@ file q six
 stays q r
 sweep store convertquota -f vfsv1,vfsold q r
 same q
-long r 40040
-drop r
+at r 40040 end
+
+= so it is of a new file of vfsv0
+file q six
 stays q r
 sweep store convertquota -f vfsv1,vfsv0 q r
 same q
-long r 6144
-drop r
+at r 6144 end
+
+= and of one of vfsv1
 file q six
 stays q r
 sweep store convertquota -f vfsv1,vfsv1 q r
 same q
-long r 6144
-drop r
+at r 6144 end
+
+= and where the old file is a flat one
 record btime 604800 itime 604800
 record bhard 1 bsoft 1 blocks 1 ihard 1 isoft 1 inodes 1
 file q
 stays q r
 sweep store convertquota -f vfsold,vfsv1 q r
 same q
-long r 6144
+at r 6144 end
 
 = a damage that is met after opening ends a conversion
 file q six
 turn convertquota -f vfsv1,vfsv0 q r
 same q
-long r 6144
+at r 6144 end
 ";

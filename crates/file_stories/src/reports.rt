@@ -133,8 +133,8 @@ status 2
 pub const FAILING: &str = "\
 = each of the three calls of the store fails, and a report has no more
 record bhard 2 bsoft 1 blocks 1 ihard 2 isoft 1 inodes 1
-again 3
-file q
+keep record
+file q record 3
 fails store 1
 run repquota -F vfsold -u -v q
 status 4
@@ -160,9 +160,7 @@ head user q 7days 7days
 > #2           --          1          1          2      -        1        1        2      -
 
 = the first call of the output fails, and a report has one
-record bhard 2 bsoft 1 blocks 1 ihard 2 isoft 1 inodes 1
-again 3
-file q
+file q record 3
 fails output 1
 run repquota -F vfsold -u -v q
 status 4
@@ -175,9 +173,7 @@ head user q 7days 7days
 > #2           --          1          1          2      -        1        1        2      -
 
 = whichever call of the output fails is told
-record bhard 2 bsoft 1 blocks 1 ihard 2 isoft 1 inodes 1
-again 3
-file q
+file q record 3
 sweep output repquota -F vfsold -u -v q
 head user q 7days 7days
 > #0           --          1          1          2      -        1        1        2      -
@@ -185,9 +181,7 @@ head user q 7days 7days
 > #2           --          1          1          2      -        1        1        2      -
 
 = an error output that fails changes no report, and takes the line of a fault
-record bhard 2 bsoft 1 blocks 1 ihard 2 isoft 1 inodes 1
-again 3
-file q
+file q record 3
 fails error 1
 run repquota -F vfsold -u -v q
 head user q 7days 7days

@@ -21,14 +21,14 @@ keep absent
 file q six
 run setquota -u 1000 100 200 10 20 q
 changes q
-get q
+use q
 keep limited
 use limited
 put 0 3653245223
 keep group
 run convertquota -u -f vfsv1,vfsv0 q r
 changes r
-get r
+use r
 keep older
 record btime 604800 itime 604800
 fill 0 39960
@@ -199,7 +199,7 @@ keep told
 file q six
 run setquota -u 1000 100 200 10 20 q
 changes q
-get q
+use q
 keep limited
 
 = the first file that is refused is named, and the link is not called
@@ -237,14 +237,13 @@ use told
 sent
 same q
 
-= the link is started once, at the port that is asked for
+= each of two datagrams is answered
 file q limited
 use call
 datagram 1700000000
 use call
 datagram 1700000000
 run rquotad --calls 2 --port 875 --export /home user q
-started 1 port 875
 use told
 sent
 use told
@@ -258,7 +257,6 @@ datagram 1700000000
 fails link 1
 run rquotad --calls 1 --port 875 --export /home user q
 status 4
-started 0
 ! quota: link fault
 same q
 

@@ -39,7 +39,7 @@ keep thirty
 file q
 input thirty
 both quotacheck -c -u -F vfsv1 q
-long q 8192
+at q 8192 end
 run repquota -u --names other q
 head user q 7days 7days
 > root         --         24          0          0      -        3        0        0      -
@@ -49,7 +49,7 @@ head user q 7days 7days
 file q
 input thirty
 both quotacheck -c -u -F vfsv1 --device 2049 q
-long q 8192
+at q 8192 end
 run repquota -u --names other q
 head user q 7days 7days
 > root         --         20          0          0      -        2        0        0      -
@@ -59,7 +59,7 @@ head user q 7days 7days
 file q
 input thirty
 both quotacheck --device=2049 -cu q
-long q 8192
+at q 8192 end
 run repquota -u --names other q
 head user q 7days 7days
 > root         --         20          0          0      -        2        0        0      -

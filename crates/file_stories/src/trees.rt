@@ -19,7 +19,7 @@ head user q 7days 7days
 
 = bytes behind the last block are passed over
 use six
-size 6244
+fill 0 100
 file q
 run repquota -uFvfsv1 q
 head user q 7days 7days
@@ -47,8 +47,7 @@ head user q 7days 7days
 /// them be named; the number here is the one that this program chooses.
 pub const REFUSED: &str = "\
 = a file that is too short for its blocks
-use six
-size 6143
+use short
 file q
 run repquota -u q
 status 3
@@ -98,9 +97,7 @@ file q
 run repquota q
 status 3
 ! quota: q: bad block count
-use six
-size 32
-put 20 1048577
+put end 3653246737 1 604800 604800 0 1048577 0 5
 file q
 run repquota q
 status 1
@@ -167,11 +164,8 @@ pub const SET: &str = "\
 = a timer starts, and runs out
 file q six
 run setquota -u 1000 2 8 0 0 q
-long q 6144
-hex e8030000 00000000 00000000 00000000 00000000 00000000
-hex 01000000 00000000 08000000 00000000 02000000 00000000
-hex 00100000 00000000 802b5d65 00000000 00000000 00000000
-has q
+at q 6144 end
+at q 5136 1000 0 0 0 0 0 1 0 8 0 2 0 4096 0 1700604800 0 0 0
 run repquota -u q
 head user q 7days 7days
 > #1000        +-          4          2          8  7days        1        0        0      -
@@ -207,40 +201,29 @@ head user q 7days 7days
 > #1000        --          4          4          8      0        1        0        0      0
 
 = limits are set in an empty file of vfsv1
-use six
-size 32
-put 20 2
-put 28 0
+put end 3653246737 1 604800 604800 0 2 0 0
 file q
 run setquota -u 1000 100 200 0 0 q
-long q 6144
+at q 6144 end
 run repquota -u -v q
 head user q 7days 7days
 > #1000        --          0        100        200      -        0        0        0      -
 
 = limits are set in an empty file of vfsv0
-use six
-size 32
-put 4 0
-put 20 2
-put 28 0
+put end 3653246737 0 604800 604800 0 2 0 0
 file q
 run setquota -u 1000 100 200 0 0 q
-long q 6144
+at q 6144 end
 run repquota -F vfsv0 -v q
 head user q 7days 7days
 > #1000        --          0        100        200      -        0        0        0      -
 
 = limits are set in a file of groups
-use six
-size 2048
-put 0 3653245223
-put 20 2
-put 28 0
-put 1024 0
+put end 3653245223 1 604800 604800 0 2
+fill 0 2024
 file q
 run setquota -g 1000 100 200 0 0 q
-long q 6144
+at q 6144 end
 run repquota -g -v q
 head group q 7days 7days
 > #1000        --          0        100        200      -        0        0        0      -
@@ -248,7 +231,7 @@ head group q 7days 7days
 = one more identifier takes one more block
 file q six
 run setquota 0 100 200 0 0 q
-long q 7168
+at q 7168 end
 run repquota -v q
 head user q 7days 7days
 > #0           --          0        100        200      -        0        0        0      -

@@ -54,7 +54,7 @@ changes q
 file q timed
 run setquota 1000 1 1 1 1 q
 changes q
-get q
+use q
 keep one
 file q timed
 text 1000 1 1 1 1

@@ -20,21 +20,16 @@ fn datagrams_are_cut_and_too_long(rt: HostRuntime) {
     play(&rt, rt.alloc(), &[FILES, datagrams::REFUSED]);
 }
 
-/// A story in which a command names a damage of the file of six blocks with a change.
-fn story_of(
-    alloc: Global,
-    change: &str,
-    command: &str,
-    damage: &str,
-) -> Result<String, AllocError> {
+/// A story in which a command names a damage of the file that these lines gather.
+fn story_of(alloc: Global, lines: &str, command: &str, damage: &str) -> Result<String, AllocError> {
     format!(in alloc;
-        "= {command}\nuse six\n{change}\nfile q\nrun {command}\nstatus 3\n! quota: q: damaged: {damage}\n"
+        "= {command}\n{lines}\nfile q\nrun {command}\nstatus 3\n! quota: q: damaged: {damage}\n"
     )
 }
 
-/// Whether a command names this damage of a file with a change.
-fn is_named(alloc: Global, change: &str, command: &str, damage: &str) -> bool {
-    match story_of(alloc, change, command, damage) {
+/// Whether a command names this damage of the file that these lines gather.
+fn is_named(alloc: Global, lines: &str, command: &str, damage: &str) -> bool {
+    match story_of(alloc, lines, command, damage) {
         Ok(story) => matches!(
             failure_of(&QuotaCli, alloc, &[FILES, story.as_str()]),
             Ok(None)

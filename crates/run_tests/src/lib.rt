@@ -11,6 +11,8 @@ mod fault_tests;
 #[cfg(test)]
 mod file_tests;
 #[cfg(test)]
+mod link_tests;
+#[cfg(test)]
 mod playing;
 #[cfg(test)]
 mod script_tests;

@@ -86,6 +86,23 @@ const WRONG: &[WrongStory] = &[
         "= a\nfile q\nrun setquota -F vfsold -t 1 1 q\nfill 0 40\nholds q\n",
         "a: line 5, 'holds q': it has 40 bytes, and 1 at place 24",
     ),
+    ("= a\nuse b\n", "a: line 2, 'use b': nothing has this name"),
+    (
+        "= a\nfile q\nrun setquota -F vfsold -t 1 1 q\nat q 24 1 0 2\n",
+        "a: line 4, 'at q 24 1 0 2': it is 1",
+    ),
+    (
+        "= a\nfile q\nrun setquota -F vfsold -t 1 1 q\nat q 36 0 0\n",
+        "a: line 4, 'at q 36 0 0': the file ends before",
+    ),
+    (
+        "= a\nfile q\nrun setquota -F vfsold -t 1 1 q\nat q 36 end\n",
+        "a: line 4, 'at q 36 end': it is 40",
+    ),
+    (
+        "= a\nfile q\nraw x\ninput\nrun setquota -F vfsold -t 1 1 q\nchanges q\n",
+        "a: line 6, 'the end': it did not take the input to the end",
+    ),
     (
         "= a\nfile q\nrun setquota -F vfsold -b q\n",
         "a: line 3, 'run setquota -F vfsold -b q': the input was read, and there is none",

@@ -6,32 +6,31 @@ pub const FAILING: &str = "\
 file q empty
 run setquota 1000 100 200 0 0 q
 changes q
-get q
+use q
 keep first
 
 = a script that fails while it is read has run nothing
 raw #
 fill 32 999
 text
-again 9
-keep notes
+keep note
 file q empty
 text setquota 1000 100 200 0 0 q
-input notes
+input note 9
 fails input 1
 run script
 status 4
 ! quota: input fault
 writes 0
 text setquota 1000 100 200 0 0 q
-input notes
+input note 9
 fails input 2
 run script
 status 4
 ! quota: input fault
 writes 0
 text setquota 1000 100 200 0 0 q
-input notes
+input note 9
 stays q q.new
 sweep input script
 changes q

@@ -16,7 +16,6 @@ raw #
 hex ff
 input
 run script
-left 0
 head user q 7days 7days
 > #1000        --          4          0          0      -        1        0        0      -
 
@@ -89,7 +88,6 @@ text
 text repquota q
 input
 run script
-left 0
 head user q 7days 7days
 > #1000        --          4          0          0      -        1        0        0      -
 head user q 7days 7days
@@ -135,15 +133,13 @@ status 1
 fill 32 4096
 input
 run script
-left 0
 
 = all lines are counted
 text #
-again 150
-keep notes
-use notes
+keep note
+use note 150
 text
-use notes
+use note 150
 text script
 input
 run script

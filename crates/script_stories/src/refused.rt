@@ -4,7 +4,7 @@
 pub const REFUSED: &str = "\
 = a script ends at the first command that is refused
 use empty
-size 2048
+fill 0 2016
 file q
 text setquota -u 1000 100 200 0 0 q
 text repquota -u -v q
@@ -13,7 +13,6 @@ text repquota -u -v q
 input
 run script
 status 1
-left 0
 head user q 7days 7days
 > #1000        --          0        100        200      -        0        0        0      -
 ! quota: line 3: bad number 10x
@@ -163,7 +162,7 @@ input
 run script
 status 1
 ! quota: line 2: q: no room for bsoft 4294967296 of 3
-long q 160
+at q 160 end
 
 = a line of an input and the line of the script are both told
 text 7 1 2 3 4
@@ -295,7 +294,6 @@ text # nothing
 text setquota -T 1000 5 unset q
 input
 run script
-left 0
 writes 0
 ! quota: line 2: block time not set, soft limit not exceeded
 ! quota: line 2: inode time not set, soft limit not exceeded

@@ -5,25 +5,22 @@ pub const RUN: &str = "\
 = a script of no bytes, and one that says nothing
 input
 run script
-left 0
 text # nothing
 text
 input
 run script
-left 0
 
 = a limit is set and reported
 use empty
-size 2048
+fill 0 2016
 file q
 text setquota -u 1000 100 200 0 0 q
 text repquota -u -v q
 input
 run script
-left 0
 head user q 7days 7days
 > #1000        --          0        100        200      -        0        0        0      -
-long q 6144
+at q 6144 end
 
 = the last line needs no newline
 file q six
@@ -31,7 +28,6 @@ text setquota 7 1 2 0 0 q
 raw setquota 8 3 4 0 0 q
 input
 run script
-left 0
 changes q
 run repquota -v q
 head user q 7days 7days
@@ -101,7 +97,7 @@ head user p 7days 7days
 changes q r p
 same l
 absent q.new r.new p.new
-long p 40040
+at p 40040 end
 
 = a file that a line generates is reported by the next one
 text generate 0 1 q

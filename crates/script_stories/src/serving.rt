@@ -16,7 +16,7 @@ keep told_later
 file q six
 run setquota -u 1000 100 200 10 20 q
 changes q
-get q
+use q
 keep limited
 
 = each datagram is answered once, out of the file as the lines before left it
@@ -32,7 +32,6 @@ text setquota 1000 2000 3000 10 20 q
 text rquotad --calls 1 --port 876 --export /home user q
 input
 run script
-started 2 port 876
 use told
 sent
 use told

@@ -1,5 +1,7 @@
 use std::alloc::Global;
-use story_stage::{Gather, Stage, Told, Wrong, found, holds_if, number, set, unmet};
+use story_stage::{
+    Gather, NamedBytes, Stage, Told, Wrong, find, found, holds_if, number, set, unmet,
+};
 
 /// Carries out a line that gathers bytes.
 ///
@@ -8,16 +10,13 @@ use story_stage::{Gather, Stage, Told, Wrong, found, holds_if, number, set, unme
 /// The line does not hold, or there was not enough memory.
 pub fn gather(stage: &mut Stage, what: Gather, rest: &str) -> Told {
     match what {
-        Gather::Line => add_line(stage, rest),
-        Gather::Raw => add(stage, rest.as_bytes()),
+        Gather::Line => add_text(stage, rest, b"\n"),
+        Gather::Raw => add_text(stage, rest, b""),
         Gather::Hex => add_hex(stage, rest),
         Gather::Filled => add_filled(stage, rest),
         Gather::Record => add_record(stage, rest),
         Gather::Put => put_numbers(stage, rest),
-        Gather::Size => set_size(stage, rest),
-        Gather::Again => repeat(stage, rest),
         Gather::Kept => add_kept(stage, rest),
-        Gather::File => add_file(stage, rest),
         Gather::Keep => keep(stage, rest),
     }
 }
@@ -26,9 +25,9 @@ fn add(stage: &mut Stage, bytes: &[u8]) -> Told {
     Ok(stage.gathered.extend_from_slice(bytes)?)
 }
 
-fn add_line(stage: &mut Stage, rest: &str) -> Told {
-    add(stage, rest.as_bytes())?;
-    add(stage, b"\n")
+fn add_text(stage: &mut Stage, text: &str, end: &[u8]) -> Told {
+    add(stage, text.as_bytes())?;
+    add(stage, end)
 }
 
 /// The value of a hexadecimal digit.
@@ -75,27 +74,14 @@ fn count(alloc: Global, word: &str) -> Result<usize, Wrong> {
     Ok(number as usize)
 }
 
-/// Adds a byte as many times as a word says.
-fn add_times(stage: &mut Stage, byte: u8, times: &str) -> Told {
+fn add_filled(stage: &mut Stage, rest: &str) -> Told {
+    let (byte, times) = rest.split_once(' ').unwrap_or((rest, ""));
+    let Ok(byte) = byte.parse::<u8>() else {
+        return unmet(stage.alloc, "a byte is misspelt");
+    };
     let more = count(stage.alloc, times)?;
     let all = stage.gathered.len().saturating_add(more);
     Ok(stage.gathered.resize(all, byte)?)
-}
-
-fn add_filled(stage: &mut Stage, rest: &str) -> Told {
-    let Some((byte, times)) = rest.split_once(' ') else {
-        return unmet(stage.alloc, "a byte and a number are wanted");
-    };
-    match byte.parse::<u8>() {
-        Ok(byte) => add_times(stage, byte, times),
-        Err(_) => unmet(stage.alloc, "a byte is misspelt"),
-    }
-}
-
-/// Adds the `width` lowest bytes of a number, the lowest one first.
-fn add_number(stage: &mut Stage, word: &str, width: usize) -> Told {
-    let bytes = number(stage.alloc, word)?.to_le_bytes();
-    add(stage, bytes.get(..width).unwrap_or(b""))
 }
 
 /// The fields of a record of a flat file in their order, and how many bytes each has.
@@ -127,18 +113,12 @@ fn add_record(stage: &mut Stage, rest: &str) -> Told {
     let mut named = 0usize;
     for (field, width) in FIELDS {
         let word = word_behind(rest, field);
-        add_number(stage, word.unwrap_or("0"), *width)?;
+        let bytes = number(stage.alloc, word.unwrap_or("0"))?.to_le_bytes();
+        add(stage, bytes.get(..*width).unwrap_or(b""))?;
         named = named.saturating_add(if word.is_some() { 2 } else { 0 });
     }
     let words = rest.split(' ').filter(|word| !word.is_empty()).count();
     holds_if(stage.alloc, words == named, "a field is misspelt")
-}
-
-fn add_numbers(stage: &mut Stage, rest: &str) -> Told {
-    for word in rest.split(' ') {
-        add_number(stage, word, 4)?;
-    }
-    Ok(())
 }
 
 /// Writes the four lowest bytes of a number over those from a place on, and answers whether they were there.
@@ -154,16 +134,20 @@ fn overwrite(bytes: &mut [u8], at: usize, number: u64) -> bool {
     true
 }
 
+/// Writes numbers over the gathered bytes from a place on, or behind them.
 fn put_numbers(stage: &mut Stage, rest: &str) -> Told {
-    let Some((at, numbers)) = rest.split_once(' ') else {
-        return unmet(stage.alloc, "a place and numbers are wanted");
+    let (place, numbers) = rest.split_once(' ').unwrap_or((rest, ""));
+    let is_end = place == "end";
+    let mut at = if is_end {
+        stage.gathered.len()
+    } else {
+        count(stage.alloc, place)?
     };
-    if at == "end" {
-        return add_numbers(stage, numbers);
-    }
-    let mut at = count(stage.alloc, at)?;
     for word in numbers.split(' ') {
         let number = number(stage.alloc, word)?;
+        if is_end {
+            add(stage, &[0; 4])?;
+        }
         if !overwrite(&mut stage.gathered, at, number) {
             return unmet(stage.alloc, "there are no bytes at this place");
         }
@@ -172,27 +156,32 @@ fn put_numbers(stage: &mut Stage, rest: &str) -> Told {
     Ok(())
 }
 
-fn set_size(stage: &mut Stage, rest: &str) -> Told {
-    let size = count(stage.alloc, rest)?;
-    Ok(stage.gathered.resize(size, 0)?)
-}
-
-fn repeat(stage: &mut Stage, rest: &str) -> Told {
-    let times = count(stage.alloc, rest)?;
-    let once = stage.take();
-    for _ in 0..times {
-        add(stage, &once)?;
+/// The bytes that were kept under a name, or else those that a file of this name has.
+fn kept_or_file<'a>(
+    alloc: Global,
+    kept: &'a [NamedBytes],
+    files: &'a [NamedBytes],
+    name: &str,
+) -> Result<&'a [u8], Wrong> {
+    match find(kept, name) {
+        Some(bytes) => Ok(bytes),
+        None => found(alloc, files, name),
     }
-    Ok(())
 }
 
-/// Adds the bytes that were kept under a name; an empty one adds none.
-pub(crate) fn add_kept(stage: &mut Stage, name: &str) -> Told {
-    if name.is_empty() {
+/// Adds the bytes that were kept under a name, or else those that a file of this name has now, as often as a number behind
+/// the name says, or once. Where there is no name, it adds none.
+pub(crate) fn add_kept(stage: &mut Stage, rest: &str) -> Told {
+    if rest.is_empty() {
         return Ok(());
     }
-    let bytes = found(stage.alloc, &stage.kept, name)?;
-    Ok(stage.gathered.extend_from_slice(bytes)?)
+    let (name, times) = rest.split_once(' ').unwrap_or((rest, "1"));
+    let times = count(stage.alloc, times)?;
+    let bytes = kept_or_file(stage.alloc, &stage.kept, &stage.files, name)?;
+    for _ in 0..times {
+        stage.gathered.extend_from_slice(bytes)?;
+    }
+    Ok(())
 }
 
 /// The word at the front of the rest of a line. What was kept under the name behind it, if there is one, is added.
@@ -200,11 +189,6 @@ pub(crate) fn name_in<'a>(stage: &mut Stage, rest: &'a str) -> Result<&'a str, W
     let (name, kept) = rest.split_once(' ').unwrap_or((rest, ""));
     add_kept(stage, kept)?;
     Ok(name)
-}
-
-fn add_file(stage: &mut Stage, rest: &str) -> Told {
-    let bytes = found(stage.alloc, &stage.files, rest)?;
-    Ok(stage.gathered.extend_from_slice(bytes)?)
 }
 
 fn keep(stage: &mut Stage, rest: &str) -> Told {

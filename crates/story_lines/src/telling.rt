@@ -2,8 +2,8 @@ use crate::gathering::name_in;
 use crate::report_head::head_of;
 use std::alloc::Global;
 use story_stage::{
-    Last, NO_LINE, NamedBytes, OfBytes, OfFile, Stage, Tell, Told, Wrong, find, has_name, holds_if,
-    instead, is_number, number, unmet,
+    Last, NO_LINE, OfFile, Stage, Tell, Told, Wrong, find, found, has_name, holds_if, instead,
+    is_number, number, unmet,
 };
 
 /// Carries out a line that says what the last run left.
@@ -12,37 +12,32 @@ use story_stage::{
 ///
 /// The line does not hold, or there was not enough memory.
 pub fn tell(stage: &mut Stage, what: Tell, rest: &str) -> Told {
-    match what {
-        Tell::Bytes(says) => tell_bytes(stage, rest, says),
-        Tell::Answer => tell_answers(stage, rest),
-        _ => match &mut stage.last {
-            Some(last) => tell_of(stage.alloc, last, what, rest),
-            None => unmet(stage.alloc, NO_LINE),
-        },
-    }
+    let Some(mut last) = stage.last.take() else {
+        return unmet(stage.alloc, NO_LINE);
+    };
+    let told = tell_of(stage, &mut last, what, rest);
+    stage.last = Some(last);
+    told
 }
 
 /// Carries out a line that says something of this run.
-fn tell_of(alloc: Global, last: &mut Last, what: Tell, rest: &str) -> Told {
+fn tell_of(stage: &mut Stage, last: &mut Last, what: Tell, rest: &str) -> Told {
+    let alloc = stage.alloc;
     match what {
-        Tell::Status => tell_status(alloc, last, rest),
+        Tell::Status => {
+            last.status_told = true;
+            tell_number(alloc, u64::from(last.ran.status), rest)
+        }
         Tell::Out => tell_out(alloc, last, rest),
         Tell::Head => tell_head(alloc, last, rest),
         Tell::Err => tell_err(alloc, last, rest),
+        Tell::Calls => tell_calls(alloc, last, rest),
         Tell::Files(says) => tell_files(alloc, last, rest, says),
-        Tell::Started => tell_started(alloc, last, rest),
-        Tell::Length => tell_length(alloc, last, rest),
+        Tell::Bytes => tell_bytes(stage, last, rest),
         Tell::Numbers => tell_numbers(alloc, last, rest),
-        Tell::Writes => tell_number(alloc, last.ran.writes, rest),
-        Tell::Left => tell_number(alloc, last.ran.left(), rest),
-        _ => tell_calls(alloc, last, rest),
+        Tell::Writes => tell_number(alloc, last.ran.diary.writes, rest),
+        Tell::Answer => tell_answers(stage, last, rest),
     }
-}
-
-fn tell_status(alloc: Global, last: &mut Last, rest: &str) -> Told {
-    let want = number(alloc, rest)?;
-    last.status_told = true;
-    is_number(alloc, u64::from(last.ran.status), want)
 }
 
 fn tell_number(alloc: Global, is: u64, rest: &str) -> Told {
@@ -51,14 +46,15 @@ fn tell_number(alloc: Global, is: u64, rest: &str) -> Told {
 }
 
 fn tell_calls(alloc: Global, last: &Last, rest: &str) -> Told {
-    if last.ran.noted.as_str().trim_end() == rest {
+    let calls = last.ran.diary.noted.as_str().trim_end();
+    if calls == rest {
         return Ok(());
     }
-    Err(Wrong::Said(last.ran.noted.clone()?))
+    instead(alloc, calls.as_bytes())
 }
 
 /// The line of a text that begins at a place, without its newline.
-fn line_at(said: &[u8], at: usize) -> &[u8] {
+pub(crate) fn line_at(said: &[u8], at: usize) -> &[u8] {
     let rest = said.get(at..).unwrap_or(b"");
     rest.split(|byte| *byte == b'\n').next().unwrap_or(b"")
 }
@@ -81,7 +77,7 @@ fn tell_out(alloc: Global, last: &mut Last, want: &str) -> Told {
 fn tell_head(alloc: Global, last: &mut Last, rest: &str) -> Told {
     let head = head_of(alloc, rest)?;
     for line in head.as_str().lines() {
-        last.out_told = end_of(alloc, last.ran.out(), last.out_told, line)?;
+        tell_out(alloc, last, line)?;
     }
     Ok(())
 }
@@ -146,6 +142,7 @@ fn is_known(alloc: Global, last: &Last, file: &str) -> Told {
     )
 }
 
+/// Notes that a line names a file.
 fn name(alloc: Global, last: &mut Last, file: &str) -> Told {
     last.named
         .push(String::from_str(alloc, file)?)
@@ -164,44 +161,16 @@ fn tell_files(alloc: Global, last: &mut Last, rest: &str, says: OfFile) -> Told 
     Ok(())
 }
 
-/// Whether a file has the gathered bytes so.
-fn has_so(says: OfBytes, file: &[u8], gathered: &[u8]) -> bool {
-    match says {
-        OfBytes::All => file == gathered,
-        OfBytes::Start => file.starts_with(gathered),
-        OfBytes::Part => file
-            .windows(gathered.len().max(1))
-            .any(|part| part == gathered),
-    }
-}
-
-/// That a file has bytes.
-fn has_bytes(alloc: Global, last: &mut Last, file: &str, gathered: &[u8], says: OfBytes) -> Told {
-    name(alloc, last, file)?;
-    match find(&last.ran.files, file) {
-        Some(bytes) if has_so(says, bytes, gathered) => Ok(()),
-        Some(bytes) => has_instead(alloc, bytes, gathered),
-        None => unmet(alloc, "there is no such file"),
-    }
-}
-
-fn tell_bytes(stage: &mut Stage, rest: &str, says: OfBytes) -> Told {
+fn tell_bytes(stage: &mut Stage, last: &mut Last, rest: &str) -> Told {
+    let alloc = stage.alloc;
     let file = name_in(stage, rest)?;
-    let gathered = stage.take();
-    match &mut stage.last {
-        Some(last) => has_bytes(stage.alloc, last, file, &gathered, says),
-        None => unmet(stage.alloc, NO_LINE),
-    }
-}
-
-fn tell_length(alloc: Global, last: &mut Last, rest: &str) -> Told {
-    let (file, length) = rest.split_once(' ').unwrap_or((rest, ""));
-    let want = number(alloc, length)?;
+    let wanted = stage.take();
     name(alloc, last, file)?;
-    match find(&last.ran.files, file) {
-        Some(bytes) => is_number(alloc, bytes.len() as u64, want),
-        None => unmet(alloc, "there is no such file"),
+    let bytes = found(alloc, &last.ran.files, file)?;
+    if bytes == wanted.as_slice() {
+        return Ok(());
     }
+    has_instead(alloc, bytes, &wanted)
 }
 
 /// The number in the four bytes at a place, or none where the file ends before.
@@ -214,133 +183,47 @@ fn number_at(file: &[u8], at: u64) -> Option<u64> {
     }
 }
 
-/// Whether numbers stand in a file from a place on.
-fn are_numbers(alloc: Global, file: &[u8], at: u64, numbers: &str) -> Told {
-    let mut at = at;
-    for word in numbers.split(' ') {
-        let want = number(alloc, word)?;
-        match number_at(file, at) {
-            Some(is) => is_number(alloc, is, want)?,
-            None => return unmet(alloc, "the file ends before"),
-        }
+/// That the number of a word stands in a file at a place, or that it ends there where the word is `end`.
+fn is_at(alloc: Global, file: &[u8], at: u64, word: &str) -> Told {
+    if word == "end" {
+        return is_number(alloc, file.len() as u64, at);
+    }
+    match number_at(file, at) {
+        Some(is) => tell_number(alloc, is, word),
+        None => unmet(alloc, "the file ends before"),
+    }
+}
+
+fn tell_numbers(alloc: Global, last: &mut Last, rest: &str) -> Told {
+    let (file, rest) = rest.split_once(' ').unwrap_or((rest, ""));
+    let (at, words) = rest.split_once(' ').unwrap_or((rest, ""));
+    let mut at = number(alloc, at)?;
+    name(alloc, last, file)?;
+    let bytes = found(alloc, &last.ran.files, file)?;
+    for word in words.split(' ') {
+        is_at(alloc, bytes, at, word)?;
         at = at.saturating_add(4);
     }
     Ok(())
 }
 
-fn tell_numbers(alloc: Global, last: &mut Last, rest: &str) -> Told {
-    let (file, numbers) = rest.split_once(' ').unwrap_or((rest, ""));
-    let (at, numbers) = numbers.split_once(' ').unwrap_or((numbers, ""));
-    name(alloc, last, file)?;
-    let at = number(alloc, at)?;
-    match find(&last.ran.files, file) {
-        Some(bytes) => are_numbers(alloc, bytes, at, numbers),
-        None => unmet(alloc, "there is no such file"),
-    }
-}
-
-/// That the next answer of the link has bytes.
-fn is_answer(alloc: Global, last: &mut Last, gathered: &[u8]) -> Told {
-    let answers = last.ran.streams.link.answers();
-    let Some(answer) = answers.get(last.answers_told) else {
-        return unmet(alloc, "no more answers were sent");
-    };
-    last.answers_told = last.answers_told.saturating_add(1);
-    if answer.as_slice() == gathered {
-        return Ok(());
-    }
-    Err(Wrong::Said(format!(in alloc; "it is {answer:?}")?))
-}
-
-/// That each of the next `times` answers of the link has bytes.
-fn are_answers(alloc: Global, last: &mut Last, gathered: &[u8], times: u64) -> Told {
-    for _ in 0..times {
-        is_answer(alloc, last, gathered)?;
-    }
-    Ok(())
-}
-
-fn tell_answers(stage: &mut Stage, rest: &str) -> Told {
+/// That each of the next answers of the link, or the next one, has the gathered bytes.
+fn tell_answers(stage: &mut Stage, last: &mut Last, rest: &str) -> Told {
+    let alloc = stage.alloc;
     let times = if rest.is_empty() {
         1
     } else {
-        number(stage.alloc, rest)?
+        number(alloc, rest)?
     };
-    let gathered = stage.take();
-    match &mut stage.last {
-        Some(last) => are_answers(stage.alloc, last, &gathered, times),
-        None => unmet(stage.alloc, NO_LINE),
-    }
-}
-
-/// That the link was started so often, the last time at a port.
-fn tell_started(alloc: Global, last: &Last, rest: &str) -> Told {
-    let link = &last.ran.streams.link;
-    let (times, port) = rest.split_once(" port ").unwrap_or((rest, ""));
-    tell_number(alloc, link.starts(), times)?;
-    match link.port() {
-        Some(is) => tell_number(alloc, u64::from(is), port),
-        None => holds_if(alloc, port.is_empty(), "it was not started"),
-    }
-}
-
-/// Whether a file is as before, or a line names it.
-fn is_told(last: &Last, file: &str) -> bool {
-    has_name(&last.named, file) || find(&last.before, file) == find(&last.ran.files, file)
-}
-
-/// The first of some files that is not as before and that no line names.
-fn untold<'a>(last: &'a Last, files: &'a [NamedBytes]) -> Option<&'a str> {
-    for (name, _) in files {
-        if !is_told(last, name.as_str()) {
-            return Some(name.as_str());
-        }
-    }
-    None
-}
-
-/// That everything that was gathered or set in a row was of use in it.
-///
-/// # Errors
-///
-/// It was not, or there was not enough memory.
-pub fn is_all_used(stage: &Stage) -> Told {
-    let alloc = stage.alloc;
-    holds_if(
-        alloc,
-        stage.gathered.is_empty(),
-        "bytes were gathered, and nothing uses them",
-    )?;
-    let are_none = stage.may.is_empty() && stage.stays.is_empty();
-    holds_if(
-        alloc,
-        are_none && stage.setting.is_none(),
-        "something was set for a run, and none comes",
-    )
-}
-
-/// A run of which everything was told that must be told.
-///
-/// # Errors
-///
-/// It was not, or there was not enough memory.
-pub fn is_all_told(alloc: Global, last: &Last) -> Told {
-    if !last.status_told {
-        is_number(alloc, u64::from(last.ran.status), 0)?;
-    }
-    if last.err_told < last.ran.err().len() {
-        return instead(alloc, line_at(last.ran.err(), last.err_told));
-    }
-    if last.out_told < last.ran.out().len() {
-        return instead(alloc, line_at(last.ran.out(), last.out_told));
-    }
-    if last.answers_told < last.ran.streams.link.answers().len() {
-        return unmet(alloc, "an answer was sent that no line tells");
-    }
-    for files in [&last.before, &last.ran.files] {
-        if let Some(name) = untold(last, files) {
-            let why = format!(in alloc; "no line tells of the file {name}")?;
-            return Err(Wrong::Said(why));
+    let wanted = stage.take();
+    for _ in 0..times {
+        let answers = last.ran.streams.link.answers();
+        let Some(answer) = answers.get(last.answers_told) else {
+            return unmet(alloc, "no more answers were sent");
+        };
+        last.answers_told = last.answers_told.saturating_add(1);
+        if answer.as_slice() != wanted.as_slice() {
+            return Err(Wrong::Said(format!(in alloc; "it is {answer:?}")?));
         }
     }
     Ok(())

@@ -5,9 +5,10 @@
 //! first table gathers bytes, one of the second makes them a file or an input, or says what the next run meets, one of
 //! the third runs words, and one of the fourth says what the run before it left. What a run wrote that no line tells,
 //! a status but 0 that no line tells, and a file that it made, changed or took away and that no line names, fail the
-//! row. So does a word or a number that is misspelt, and what was gathered or set and is of no use. Of files it looks at
-//! those that were there before and at those that a word of the run names, or of the lines of a script, and at each with
-//! `.new` added; no line may name another one.
+//! row. So does a word or a number that is misspelt, what was gathered or set and is of no use, and an input that is not
+//! taken to its end by a run that ends with status 0 or has an output. Of files it looks at those that were there before
+//! and at those that a word of the run names, or of the lines of a script, and at each with `.new` added; no line may name
+//! another one.
 //!
 //! | Gathers | |
 //! |---|---|
@@ -17,15 +18,12 @@
 //! | `fill BYTE N` | N bytes of this number |
 //! | `record FIELD N ..` | a record of a flat file: of `bhard`, `bsoft`, `blocks`, `ihard`, `isoft`, `inodes`, `btime`, `itime` those that are named, and 0 in all others |
 //! | `put AT A B ..` | numbers of four bytes, the lowest byte first, over the bytes gathered so far from a place on, or behind them at `end` |
-//! | `size N` | as many bytes as N: what is more is cut off, what is less is filled up with 0 |
-//! | `again N` | what was gathered so far N times |
-//! | `use NAME`, `get FILE` | what was kept under a name; what a file has now |
+//! | `use NAME [N]` | what was kept under a name, or else what the file of this name has now, once or N times |
 //! | `keep NAME` | keeps what was gathered, for all rows of the story, and gathers anew |
 //!
 //! | Sets | |
 //! |---|---|
-//! | `file NAME [KEPT]` | a file of the gathered bytes. Here and where else `[KEPT]` stands, what was kept under a name is gathered first |
-//! | `drop NAME` | the file is not there any more |
+//! | `file NAME [KEPT]` | a file of the gathered bytes. Here and where else `[KEPT]` stands, it may be a `NAME [N]` as of `use`, which is gathered first |
 //! | `input [KEPT]` | the gathered bytes are the standard input of the next run; with no such line a run must not read it |
 //! | `datagram MOMENT`, `datagram MOMENT cut` | they come as a datagram to the link of the next run, or as one for each length from 0 to their own; with no such line it must not be called |
 //! | `now MOMENT` | the moment of the runs from here on; 1,700,000,000 at first |
@@ -50,12 +48,9 @@
 //! | `! TEXT` | the next line of its error output |
 //! | `same FILE ..`, `changes FILE ..`, `absent FILE ..` | these files are as before the run; are others; are not there |
 //! | `holds FILE [KEPT]` | the file has the gathered bytes |
-//! | `long FILE N` | it has N bytes |
-//! | `begins FILE [KEPT]`, `has FILE [KEPT]` | it begins with the gathered bytes; they stand in it |
-//! | `at FILE PLACE A B ..` | these numbers of four bytes stand in it |
+//! | `at FILE PLACE A B ..` | these numbers of four bytes stand in it from the place on, and where the word `end` stands it ends |
 //! | `writes N` | how many calls of `write` of the store there were |
 //! | `calls TEXT` | all calls of the store |
-//! | `left N` | how many bytes of the input were not taken |
 //! | `sent`, `sent N` | the gathered bytes were the next answer of the link; each of the next N ones |
 #![tactic(auto)]
 
@@ -64,4 +59,4 @@ mod play;
 
 pub use files::FILES;
 pub use play::failure_of;
-pub use story_stage::{Program, Streams};
+pub use story_stage::{Object, Program, Setting, Streams, words_of};

@@ -1,7 +1,7 @@
 use std::alloc::{AllocError, Global};
 use story_lines::{gather, is_all_told, is_all_used, set_up, tell};
 use story_runs::run;
-use story_stage::{NO_LINE, Program, Runs, Stage, Told, VERBS, Verb, Wrong, unmet, verb_in};
+use story_stage::{NO_LINE, Program, Stage, Told, VERBS, Verb, Wrong, by_word, unmet};
 
 /// What fails in stories that are carried out one after the other, in words: the title of the row, the line that does not
 /// hold, and what was there instead. `None` where all of them hold. What a story keeps is there in those behind it.
@@ -28,7 +28,8 @@ fn play_all<P: Program>(program: &P, stage: &mut Stage, stories: &[&str]) -> Tol
 
 /// Carries out a story.
 fn play<P: Program>(program: &P, stage: &mut Stage, story: &str) -> Told {
-    stage.begin();
+    let untitled = String::new(stage.alloc);
+    stage.begin(untitled, 0);
     for line in story.lines() {
         stage.number = stage.number.saturating_add(1);
         let told = take_line(program, stage, line);
@@ -38,23 +39,17 @@ fn play<P: Program>(program: &P, stage: &mut Stage, story: &str) -> Told {
     at_line(stage, "the end", told)
 }
 
-/// What comes of a line, with its place where it does not hold.
+/// What comes of a line, with its place and what was there instead where it does not hold.
 fn at_line(stage: &Stage, line: &str, told: Told) -> Told {
-    match told {
-        Ok(()) => Ok(()),
-        Err(why) => Err(Wrong::Said(describe(stage, line, why)?)),
-    }
-}
-
-/// The line that does not hold, with its place and with what was there instead.
-fn describe(stage: &Stage, line: &str, why: Wrong) -> Result<String, AllocError> {
     let (title, number) = (stage.title.as_str(), stage.number);
-    match why {
-        Wrong::Said(why) => {
-            format!(in stage.alloc; "{title}: line {number}, '{line}': {}", why.as_str())
+    let why = match told {
+        Ok(()) => return Ok(()),
+        Err(Wrong::Said(why)) => {
+            format!(in stage.alloc; "{title}: line {number}, '{line}': {}", why.as_str())?
         }
-        Wrong::Memory => format!(in stage.alloc; "{title}: line {number}: no memory"),
-    }
+        Err(Wrong::Memory) => format!(in stage.alloc; "{title}: line {number}: no memory")?,
+    };
+    Err(Wrong::Said(why))
 }
 
 /// That everything was told of the last run, after which there is none.
@@ -73,19 +68,11 @@ fn is_whole(stage: &mut Stage) -> Told {
 }
 
 /// Ends a row and begins the next one.
-fn begin_row(stage: &mut Stage, line: &str) -> Told {
+fn begin_row(stage: &mut Stage, title: &str) -> Told {
     is_whole(stage)?;
-    stage.clear();
-    if let Some(title) = line.strip_prefix("= ") {
-        stage.title = String::from_str(stage.alloc, title)?;
-    }
+    let (title, number) = (String::from_str(stage.alloc, title)?, stage.number);
+    stage.begin(title, number);
     Ok(())
-}
-
-/// Runs words, where everything was told of the last run.
-fn run_next<P: Program>(program: &P, stage: &mut Stage, how: Runs, rest: &str) -> Told {
-    is_finished(stage)?;
-    run(program, stage, how, rest)
 }
 
 /// Carries out a line.
@@ -94,11 +81,14 @@ fn take_line<P: Program>(program: &P, stage: &mut Stage, line: &str) -> Told {
         return Ok(());
     }
     let (word, rest) = line.split_once(' ').unwrap_or((line, ""));
-    match verb_in(VERBS, word) {
-        Some(Verb::Row) => begin_row(stage, line),
+    match by_word(VERBS, word) {
+        Some(Verb::Row) => begin_row(stage, rest),
         Some(Verb::Gather(what)) => gather(stage, what, rest),
         Some(Verb::Set(what)) => set_up(stage, what, rest),
-        Some(Verb::Run(how)) => run_next(program, stage, how, rest),
+        Some(Verb::Run(how)) => {
+            is_finished(stage)?;
+            run(program, stage, how, rest)
+        }
         Some(Verb::Tell(what)) => tell(stage, what, rest),
         None => unmet(stage.alloc, NO_LINE),
     }

@@ -26,19 +26,15 @@ fn is_tree(file: &[u8]) -> bool {
     }
 }
 
-fn are_of_some(stage: &Stage, name: &str, files: (&[u8], &[u8]), left: &[u8]) -> bool {
+fn are_of_some(stage: &Stage, name: &str, (old, new): (&[u8], &[u8]), left: &[u8]) -> bool {
     let mut all = true;
     let mut at = 0;
     for block in left.chunks(BLOCK) {
-        all = all && (is_old_or_new(files, at, block) || is_allowed_at(stage, name, at, block));
+        let is_old_or_new = stands_at(old, at, block) || stands_at(new, at, block);
+        all = all && (is_old_or_new || is_allowed_at(stage, name, at, block));
         at = at.saturating_add(block.len());
     }
     all
-}
-
-/// Whether a block that stands at a place is the old or the new one.
-fn is_old_or_new((old, new): (&[u8], &[u8]), at: usize, block: &[u8]) -> bool {
-    stands_at(old, at, block) || stands_at(new, at, block)
 }
 
 /// Whether a line allows a file in which the block stands at the place.

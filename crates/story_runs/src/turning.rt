@@ -1,13 +1,8 @@
-use crate::sweeps::{at_call, is_allowed, run_whole};
+use crate::comparing::at_call;
+use crate::leaving::is_allowed;
 use story_stage::{
-    Program, Ran, Setting, Stage, Told, Wrong, find, holds_if, instead, is_number, run_line,
+    Program, Ran, Setting, Stage, Told, Wrong, find, holds_if, instead, is_number, run_over,
 };
-
-/// Whether two runs said the same. What they left is not compared: a change in place writes what it read, and a store that
-/// turns tells no file.
-fn said_same(whole: &Ran, ran: &Ran) -> bool {
-    whole.out() == ran.out() && whole.err() == ran.err()
-}
 
 /// Whether each file is as it was, or as a line allows, and there is no other one.
 fn are_files_kept(stage: &Stage, ran: &Ran) -> bool {
@@ -19,11 +14,13 @@ fn are_files_kept(stage: &Stage, ran: &Ran) -> bool {
     is_kept
 }
 
-/// A run over a store that turned.
+/// A run over a store that turned. Where it ends with status 0, what it left is not compared: a change in place writes what
+/// it read, and a store that turns tells no file.
 fn is_turned(stage: &Stage, whole: &Ran, ran: &Ran) -> Told {
     let alloc = stage.alloc;
     if ran.status == 0 {
-        return holds_if(alloc, said_same(whole, ran), "it said something else");
+        let is_same = whole.out() == ran.out() && whole.err() == ran.err();
+        return holds_if(alloc, is_same, "it said something else");
     }
     is_number(alloc, u64::from(ran.status), 3)?;
     holds_if(alloc, ran.out().is_empty(), "there is an output")?;
@@ -41,26 +38,10 @@ fn is_damaged<P: Program>(
     line: &str,
     whole: &Ran,
 ) -> Result<bool, Wrong> {
-    let ran = run_line(program, stage, setting, line)?;
+    let ran = run_over(program, stage, &stage.files, setting, line)?;
     let told = is_turned(stage, whole, &ran);
     at_call(stage.alloc, setting.good_reads, told)?;
     Ok(ran.status != 0)
-}
-
-/// Lets the store turn after each number of reads below that of the whole run.
-fn turn_each<P: Program>(
-    program: &P,
-    stage: &Stage,
-    setting: &mut Setting,
-    line: &str,
-    whole: &Ran,
-) -> Told {
-    let mut met_damage = false;
-    for good_reads in 0..whole.reads {
-        setting.good_reads = good_reads;
-        met_damage |= is_damaged(program, stage, setting, line, whole)?;
-    }
-    holds_if(stage.alloc, met_damage, "no run met a damage")
 }
 
 /// Runs words over a store that turns, once for each number of reads below that of the whole run.
@@ -70,7 +51,13 @@ pub(crate) fn run_turn<P: Program>(
     setting: &mut Setting,
     line: &str,
 ) -> Result<Ran, Wrong> {
-    let whole = run_whole(program, stage, setting, line)?;
-    turn_each(program, stage, setting, line, &whole)?;
+    let whole = run_over(program, stage, &stage.files, setting, line)?;
+    is_number(stage.alloc, u64::from(whole.status), 0)?;
+    let mut met_damage = false;
+    for good_reads in 0..whole.diary.reads {
+        setting.good_reads = good_reads;
+        met_damage |= is_damaged(program, stage, setting, line, &whole)?;
+    }
+    holds_if(stage.alloc, met_damage, "no run met a damage")?;
     Ok(whole)
 }

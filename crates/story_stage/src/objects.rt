@@ -1,5 +1,5 @@
-use crate::stage::{Failing, Setting};
-use quota_blocks::{Link, MemLink, MemSink, MemSource, Sink, Source};
+use crate::setting::{Object, Setting};
+use quota_blocks::{Link, MemLink, MemSink, MemSource, Source};
 use std::alloc::{AllocError, Global};
 
 /// What is in an input that a run must not read.
@@ -20,16 +20,12 @@ pub struct Streams {
     is_given_datagrams: bool,
 }
 
-fn sink_of(alloc: Global, failing: &[u64]) -> Result<MemSink, AllocError> {
-    Ok(MemSink::new(Vec::new(alloc), Vec::from_slice(alloc, failing)?))
-}
-
 /// The input, of which the first call fails where there is none.
-fn input_of(alloc: Global, input: Option<&[u8]>, failing: &[u64]) -> Result<MemSource, AllocError> {
-    match input {
+fn input_of(alloc: Global, setting: &Setting) -> Result<MemSource, AllocError> {
+    match &setting.input {
         Some(bytes) => Ok(MemSource::new(
             Vec::from_slice(alloc, bytes)?,
-            Vec::from_slice(alloc, failing)?,
+            setting.failing_of(alloc, Object::Input)?,
         )),
         None => Ok(MemSource::new(
             Vec::from_slice(alloc, UNREAD)?,
@@ -38,21 +34,20 @@ fn input_of(alloc: Global, input: Option<&[u8]>, failing: &[u64]) -> Result<MemS
     }
 }
 
-/// The link, of which the first call fails where no datagram comes and no call is to fail.
+/// The link of these datagrams and failing calls. Where there is none of either, the first call fails.
 fn link_of(
     alloc: Global,
     datagrams: &[(Vec<u8>, u64)],
-    failing: &Failing,
+    mut failing: Vec<u64>,
 ) -> Result<MemLink, AllocError> {
     let mut copies = Vec::new(alloc);
     for (bytes, moment) in datagrams {
         copies.push((Vec::from_slice(alloc, bytes)?, *moment))?;
     }
-    let mut plan = Vec::from_slice(alloc, &failing.link)?;
-    if datagrams.is_empty() && plan.is_empty() {
-        plan.push(1)?;
+    if datagrams.is_empty() && failing.is_empty() {
+        failing.push(1)?;
     }
-    Ok(MemLink::new(copies, plan))
+    Ok(MemLink::new(copies, failing))
 }
 
 impl Streams {
@@ -62,19 +57,27 @@ impl Streams {
     ///
     /// There was not enough memory.
     pub fn new(alloc: Global, setting: &Setting) -> Result<Streams, AllocError> {
-        let failing = &setting.failing;
-        let input = match &setting.input {
-            Some(bytes) => Some(bytes.as_slice()),
-            None => None,
-        };
+        let output = setting.failing_of(alloc, Object::Output)?;
+        let error = setting.failing_of(alloc, Object::Error)?;
+        let link = setting.failing_of(alloc, Object::Link)?;
+        let is_given_datagrams = !setting.datagrams.is_empty() || !link.is_empty();
         Ok(Streams {
-            input: input_of(alloc, input, &failing.input)?,
-            out: sink_of(alloc, &failing.output)?,
-            err: sink_of(alloc, &failing.error)?,
-            link: link_of(alloc, &setting.datagrams, failing)?,
-            is_given_input: input.is_some(),
-            is_given_datagrams: !setting.datagrams.is_empty() || !failing.link.is_empty(),
+            input: input_of(alloc, setting)?,
+            out: MemSink::new(Vec::new(alloc), output),
+            err: MemSink::new(Vec::new(alloc), error),
+            link: link_of(alloc, &setting.datagrams, link)?,
+            is_given_input: setting.input.is_some(),
+            is_given_datagrams,
         })
+    }
+
+    /// The bytes of the input that were not taken, where there is one.
+    pub fn left(&self) -> &[u8] {
+        if self.is_given_input {
+            self.input.left()
+        } else {
+            b""
+        }
     }
 
     /// What a run called that it was not given, or nothing.

@@ -1,5 +1,6 @@
+use crate::files::NamedBytes;
 use crate::objects::Streams;
-use crate::stage::NamedBytes;
+use crate::watched::Diary;
 
 /// What a run left.
 #[derive(Drop)]
@@ -12,14 +13,8 @@ pub struct Ran {
     pub files: Vec<NamedBytes>,
     /// The words, and behind them those of the lines of a script.
     pub words: Vec<String>,
-    /// How many blocks were read.
-    pub reads: u64,
-    /// How many blocks were written.
-    pub writes: u64,
-    /// How many calls of the store there were.
-    pub calls: u64,
-    /// Each of them, and the files that it names.
-    pub noted: String,
+    /// The calls of the store.
+    pub diary: Diary,
 }
 
 impl Ran {
@@ -31,11 +26,6 @@ impl Ran {
     /// The error output.
     pub fn err(&self) -> &[u8] {
         self.streams.err.bytes()
-    }
-
-    /// How many bytes of the input are left.
-    pub fn left(&self) -> u64 {
-        self.streams.input.left().len() as u64
     }
 }
 

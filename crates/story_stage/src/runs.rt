@@ -1,12 +1,16 @@
+use crate::files::{NamedBytes, find, names_left};
 use crate::objects::Streams;
 use crate::program::Program;
 use crate::ran::Ran;
-use crate::scripts::add_words;
-use crate::shelf::{NEW, files_on};
-use crate::stage::{NamedBytes, Setting, Stage};
+use crate::setting::Setting;
+use crate::stage::Stage;
 use crate::watched::Watched;
 use crate::wrong::{Wrong, holds_if};
+use quota_blocks::MemStore;
 use std::alloc::{AllocError, Global};
+
+/// The endings of names under which a run leaves files, besides those of the words.
+pub const NEW: &[&str] = &["", ".new"];
 
 /// The words of a line, separated by single spaces.
 ///
@@ -24,36 +28,50 @@ pub fn words_of(alloc: Global, line: &str) -> Result<Vec<String>, AllocError> {
     Ok(words)
 }
 
-/// Runs words over these files, and looks at what they left.
-fn run_words<P: Program>(
-    program: &P,
-    stage: &Stage,
-    files: &[NamedBytes],
-    setting: &Setting,
-    mut words: Vec<String>,
-) -> Result<Ran, AllocError> {
-    let alloc = stage.alloc;
-    let mut store = Watched::new(alloc, files, &setting.failing.store, setting.good_reads)?;
-    let mut streams = Streams::new(alloc, setting)?;
-    let (reads, writes) = (store.store.reads(), store.store.writes());
-    let status = program.run(alloc, &words, &mut store, &mut streams, stage.now);
-    add_words(alloc, &mut words, &setting.input)?;
-    let after = files_on(alloc, &mut store, files, &words, NEW)?;
-    let reads = store.store.reads().saturating_sub(reads);
-    let writes = store.store.writes().saturating_sub(writes);
-    Ok(Ran {
-        status,
-        streams,
-        files: after,
-        words,
-        reads,
-        writes,
-        calls: store.diary.calls,
-        noted: store.diary.noted,
-    })
+/// Adds the words of an input to the words that it goes with, where it is a script.
+fn add_words(
+    alloc: Global,
+    words: &mut Vec<String>,
+    input: &Option<Vec<u8>>,
+) -> Result<(), AllocError> {
+    let Some(bytes) = input else {
+        return Ok(());
+    };
+    if !matches!(words.first(), Some(word) if word.as_str() == "script") {
+        return Ok(());
+    }
+    let text = String::from_utf8_lossy(alloc, bytes)?;
+    for line in text.as_str().lines() {
+        for word in line.split(' ') {
+            words.push(String::from_str(alloc, word)?)?;
+        }
+    }
+    Ok(())
 }
 
-/// Runs the words of a line over these files in a store in memory.
+/// The files that a store has under some names.
+fn files_in(
+    alloc: Global,
+    store: &MemStore,
+    names: &[String],
+) -> Result<Vec<NamedBytes>, AllocError> {
+    let mut files = Vec::new(alloc);
+    for name in names {
+        let name = name.as_str();
+        if find(&files, name).is_some() {
+            continue;
+        }
+        if let Some(bytes) = store.file(name) {
+            files.push((
+                String::from_str(alloc, name)?,
+                Vec::from_slice(alloc, bytes)?,
+            ))?;
+        }
+    }
+    Ok(files)
+}
+
+/// Runs the words of a line over these files in a store in memory, and looks at what they left.
 ///
 /// # Errors
 ///
@@ -65,23 +83,20 @@ pub fn run_over<P: Program>(
     setting: &Setting,
     line: &str,
 ) -> Result<Ran, Wrong> {
-    let words = words_of(stage.alloc, line)?;
-    let mut ran = run_words(program, stage, files, setting, words)?;
-    let called = ran.streams.called();
-    holds_if(stage.alloc, called.is_empty(), called)?;
-    Ok(ran)
-}
-
-/// Runs the words of a line over the files that are there, in a store in memory.
-///
-/// # Errors
-///
-/// They called what they were not given, or there was not enough memory.
-pub fn run_line<P: Program>(
-    program: &P,
-    stage: &Stage,
-    setting: &Setting,
-    line: &str,
-) -> Result<Ran, Wrong> {
-    run_over(program, stage, &stage.files, setting, line)
+    let alloc = stage.alloc;
+    let mut words = words_of(alloc, line)?;
+    let mut store = Watched::new(alloc, files, setting)?;
+    let mut streams = Streams::new(alloc, setting)?;
+    let status = program.run(alloc, &words, &mut store, &mut streams, stage.now);
+    let called = streams.called();
+    holds_if(alloc, called.is_empty(), called)?;
+    add_words(alloc, &mut words, &setting.input)?;
+    let names = names_left(alloc, files, &words, NEW)?;
+    Ok(Ran {
+        status,
+        streams,
+        files: files_in(alloc, &store.store, &names)?,
+        words,
+        diary: store.diary,
+    })
 }

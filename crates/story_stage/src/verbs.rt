@@ -22,10 +22,7 @@ pub enum Gather {
     Filled,
     Record,
     Put,
-    Size,
-    Again,
     Kept,
-    File,
     Keep,
 }
 
@@ -33,7 +30,6 @@ pub enum Gather {
 #[derive(Clone, Copy)]
 pub enum Set {
     File,
-    NoFile,
     Input,
     Datagram,
     Moment,
@@ -66,13 +62,10 @@ pub enum Tell {
     Err,
     Calls,
     Files(OfFile),
-    Bytes(OfBytes),
+    Bytes,
     Answer,
-    Started,
-    Length,
     Numbers,
     Writes,
-    Left,
 }
 
 /// What a line says of a file, beside what it was before the run.
@@ -86,17 +79,6 @@ pub enum OfFile {
     Absent,
 }
 
-/// What a line says of the gathered bytes.
-#[derive(Clone, Copy)]
-pub enum OfBytes {
-    /// They are all those of a file.
-    All,
-    /// They are the first ones.
-    Start,
-    /// They are some of them, one after the other.
-    Part,
-}
-
 /// Each verb, by its word.
 pub const VERBS: &[(&str, Verb)] = &[
     ("=", Verb::Row),
@@ -106,13 +88,9 @@ pub const VERBS: &[(&str, Verb)] = &[
     ("fill", Verb::Gather(Gather::Filled)),
     ("record", Verb::Gather(Gather::Record)),
     ("put", Verb::Gather(Gather::Put)),
-    ("size", Verb::Gather(Gather::Size)),
-    ("again", Verb::Gather(Gather::Again)),
     ("use", Verb::Gather(Gather::Kept)),
-    ("get", Verb::Gather(Gather::File)),
     ("keep", Verb::Gather(Gather::Keep)),
     ("file", Verb::Set(Set::File)),
-    ("drop", Verb::Set(Set::NoFile)),
     ("input", Verb::Set(Set::Input)),
     ("datagram", Verb::Set(Set::Datagram)),
     ("now", Verb::Set(Set::Moment)),
@@ -132,22 +110,17 @@ pub const VERBS: &[(&str, Verb)] = &[
     ("same", Verb::Tell(Tell::Files(OfFile::Same))),
     ("changes", Verb::Tell(Tell::Files(OfFile::Other))),
     ("absent", Verb::Tell(Tell::Files(OfFile::Absent))),
-    ("holds", Verb::Tell(Tell::Bytes(OfBytes::All))),
-    ("begins", Verb::Tell(Tell::Bytes(OfBytes::Start))),
-    ("has", Verb::Tell(Tell::Bytes(OfBytes::Part))),
+    ("holds", Verb::Tell(Tell::Bytes)),
     ("sent", Verb::Tell(Tell::Answer)),
-    ("started", Verb::Tell(Tell::Started)),
-    ("long", Verb::Tell(Tell::Length)),
     ("at", Verb::Tell(Tell::Numbers)),
     ("writes", Verb::Tell(Tell::Writes)),
-    ("left", Verb::Tell(Tell::Left)),
 ];
 
-/// The verb of a word, among some.
-pub fn verb_in(verbs: &[(&str, Verb)], word: &str) -> Option<Verb> {
-    for (known, verb) in verbs {
+/// What stands for a word in a table.
+pub fn by_word<T: Copy>(table: &[(&str, T)], word: &str) -> Option<T> {
+    for (known, meaning) in table {
         if *known == word {
-            return Some(*verb);
+            return Some(*meaning);
         }
     }
     None

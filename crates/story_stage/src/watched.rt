@@ -1,15 +1,18 @@
 ghost use Rattle.quota_blocks.specs.InMemory.{mem_store_seen};
 
-use crate::disks::all_making_calls;
-use crate::stage::NamedBytes;
+use crate::files::NamedBytes;
+use crate::setting::{Object, Setting};
 use quota_blocks::{MemStore, Store, StoreFault};
 use std::alloc::{AllocError, Global};
 
-/// The calls that were made.
+/// The calls of a store that were made.
 #[derive(Drop)]
-pub(crate) struct Diary {
+pub struct Diary {
     /// How many there were.
     pub calls: u64,
+    /// How many of them read, and how many wrote.
+    pub reads: u64,
+    pub writes: u64,
     /// Each of them, and the files that it names. A call for which there is no memory is not written down.
     pub noted: String,
 }
@@ -38,16 +41,16 @@ pub(crate) struct Watched {
 }
 
 impl Watched {
-    /// A store with these files, all of them synced. The calls whose numbers stand in `failing` fail.
+    /// A store with these files, all of them synced, of which calls fail as it is set.
     pub(crate) fn new(
         alloc: Global,
         files: &[NamedBytes],
-        failing: &[u64],
-        good_reads: u64,
+        setting: &Setting,
     ) -> Result<Watched, AllocError> {
-        let made = all_making_calls(files);
+        let made = making_calls(files);
+        let failing = setting.failing_of(alloc, Object::Store)?;
         let mut plan = Vec::new(alloc);
-        for call in failing {
+        for call in &failing {
             plan.push(call.saturating_add(made))?;
         }
         let mut store = MemStore::new(Vec::new(alloc), plan);
@@ -58,11 +61,23 @@ impl Watched {
             store,
             diary: Diary {
                 calls: 0,
+                reads: 0,
+                writes: 0,
                 noted: String::new(alloc),
             },
-            good_reads,
+            good_reads: setting.good_reads,
         })
     }
+}
+
+/// How many calls make these files.
+pub fn making_calls(files: &[NamedBytes]) -> u64 {
+    let mut made = 0u64;
+    for (_, bytes) in files {
+        let blocks = (bytes.len() as u64).div_ceil(1024);
+        made = made.saturating_add(blocks).saturating_add(2);
+    }
+    made
 }
 
 /// Makes a file, and syncs it.
@@ -92,6 +107,7 @@ impl Store for Watched {
 
     fn read(&mut self, name: &str, at: u64, buf: &mut [u8]) -> Result<usize, StoreFault> {
         self.diary.note(&["read ", name]);
+        self.diary.reads = self.diary.reads.saturating_add(1);
         let count = self.store.read(name, at, buf)?;
         if self.good_reads == 0 {
             buf.fill(255);
@@ -102,6 +118,7 @@ impl Store for Watched {
 
     fn write(&mut self, name: &str, at: u64, bytes: &[u8]) -> Result<(), StoreFault> {
         self.diary.note(&["write ", name]);
+        self.diary.writes = self.diary.writes.saturating_add(1);
         self.store.write(name, at, bytes)
     }
 
