@@ -58,7 +58,7 @@ use Rattle.batch_commands.specs.declared.together.Attempt.TheVariants.{Ended, No
 use Rattle.batch_commands.specs.declared.together.Edited.{Edited}
 use Rattle.batch_commands.specs.Batch.{LineEditMayRefuse, LineSteps, edit_of, line_uses, met_at}
 use Rattle.batch_commands.specs.Together.{IfEnded, IsEditOf, IsMadeInMemory, IsOfEdit, IsOnlyRead, StandsAlone, allowed, allowed_by, load_cause, memory_seen, refusal_in, replace_cause}
-use Rattle.batch_commands.proofs.OverLemmas.{lines_counted, lines_over, over}
+use Rattle.batch_commands.proofs.OverLemmas.{lines_counted, lines_over}
 
 -- calls that only read replace nothing
 pub replaces-read : {done : Bool} (file name : List ℕ) (old new : StoreSeen) → OnlyReads done name old new → ReplacesOnly file old.files new.files

@@ -2,7 +2,7 @@
 use Rattle.std.proofs.Common.{◌≡◌, ℕ, ◌+◌, ◌≤◌, List, [], ◌∷◌, ◌++◌, refl, ◌∙◌, arith}
 use Rattle.quota_blocks.specs.QuotaValue.{QuotaValue}
 use Rattle.run_steps.specs.Act.{Act, Change, ChangesNone, Idle, Replace, Way}
-use Rattle.run_steps.specs.Writes.{IsMadeAlone, ReplacesNone, WritesFor, WritesInPart, edits_in}
+use Rattle.run_steps.specs.Writes.{ReplacesNone, WritesFor, WritesInPart, edits_in}
 
 -- where more acts change no file, the first ones change none
 changes_none_before : (acts more : List Act) → ChangesNone (acts ++ more) → ChangesNone acts

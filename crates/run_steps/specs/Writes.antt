@@ -2,7 +2,7 @@
 use Rattle.std.specs.Prelude.{◌≡◌, ◌≤◌, ◌+◌, ◌*◌, ℕ, List, [], ◌∷◌, Option, IfSome, ⊤}
 use Rattle.quota_blocks.specs.Seen.{StoreSeen}
 use Rattle.quota_blocks.specs.World.{KeepsOthers}
-use Rattle.run_steps.specs.Act.{Act, Change, ChangesNone, Idle, InPlace, Replace, Together}
+use Rattle.run_steps.specs.Act.{Act, Change, ChangesNone, Idle, Replace, Together}
 
 -- no file is replaced as a whole
 abbrev pub ReplacesNone : List Act → Type 0
