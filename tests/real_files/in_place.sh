@@ -109,7 +109,8 @@ traced() {
 
 # An edit syncs the file and its undo file before it begins, and four times in it, and renames nothing. The first one makes
 # the undo file, too: it is synced, and the folder with its name once before it takes its own name and once after that. So is
-# each new file; the listing of it is synced before it is read.
+# each new file, that of lines that are made together too, before which the old one and its undo file are synced; the listing
+# of a new file is synced before it is read.
 if strace -o trace.txt true 2>err.txt; then
     for format in vfsv0 vfsv1; do
         rm -f t t.undo new new.undo
@@ -122,6 +123,8 @@ if strace -o trace.txt true 2>err.txt; then
         same "the calls of grace periods of $format" "$(traced setquota -F "$format" -t 1 2 t)" 'few 6 0'
         same "the calls of three lines of $format" \
             "$(traced setquota -F "$format" -b t <<<$'1200 4 3 2 1\n1201 4 3 2 1\n1202 4 3 2 1')" 'few 14 0'
+        same "the calls of a hundred lines of $format, which are made together" \
+            "$(traced setquota -F "$format" -b t < <(seq 1200 1299 | awk '{ print $1, 5, 6, 7, 8 }'))" 'few 5 2'
         same "the calls of a new file of $format" "$(traced quotacheck -c -u -F "$format" --input owners new)" 'few 4 2'
 
         # A write that fails, or at which the program is killed, and a sync that fails: a command that reads the file
