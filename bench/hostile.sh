@@ -5,7 +5,7 @@
 #   With no words: 200,000 files, and then 1,000,000 datagrams. FIRST is the number of the first case, 0 without it.
 #   SEED: 1 without it. JOBS: how many processes there are at a time, as many as processors without it.
 # It prints what the cases came to, the worst memory and time, and how long it took, and ends with status 1 where a case failed.
-# What failed is kept in a folder that it names.
+# What failed is kept in a folder that it names. Each run is traced for what it takes, which the system has to allow (ptrace(2)).
 #
 # A file is a sound one of vfsold, vfsv0 or vfsv1, with one to four changes: of a word, a reference, a link of a list, a count, an
 # identifier, a value or the header, two references or identifiers exchanged, or another length. Its sound ones are 96, of up to
@@ -14,8 +14,9 @@
 # of three lines, or, about each eighth one, by three runs. About each sixth one has an undo file beside it, with an open gate,
 # which saves what the sound file has in the blocks that are others now; most of these are changed too, in their gate, head, ranges
 # or length. Then the file is what a recovery by that makes of it, from the first run on (`edit_journal/specs/Undo.antt`).
-# - No run is ended by a signal, takes ten seconds, or holds more than 256 KiB beyond the most that such runs hold on the sound
-#   file from which it was made.
+# - No run is ended by a signal or takes ten seconds. None takes more memory than such runs take at most on the sound file from
+#   which it was made, but for a page of the heap (4 KiB) and the place at which the system begins a stack (8 KiB). That is the
+#   memory that the program asks for; which pages of its file and of the C library are in memory besides is left to the system.
 # - A reader of its own, which follows docs/FORMATS.md (tests/plain_reader.py), says which file is sound, and what it stands
 #   for. A sound one is accepted. Any other one is refused, with the status and the cause that the header asks for, or with a
 #   damage that holds of the file, by its kind, block and identifier. Then `setquota` alone refuses it by the same line; the file
@@ -28,8 +29,8 @@
 # A datagram is a call with one to four changes: of a word or a byte, with bytes cut off, added, put in or taken out, or it is any
 # bytes; each 25th is a call as it was. Each `rquotad` takes up to 20,000 of them, of files of one format, and ends with status 0
 # after just so many. The replies are, byte for byte and in their order, those that docs/COMMANDS.md and docs/FORMATS.md ask for
-# (the seconds that are left are those of the moments at which it was sent and received), and no further ones; a
-# server holds at most 256 KiB more than one that meets sound calls alone.
+# (the seconds that are left are those of the moments at which it was sent and received), and no further ones. A server takes
+# nothing more of the heap than one that meets sound calls alone, nor of the stack but for where it begins.
 set -euo pipefail
 shopt -s inherit_errexit
 top=$(cd "$(dirname "${BASH_SOURCE[0]}")/.." && pwd)

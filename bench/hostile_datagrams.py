@@ -9,12 +9,15 @@ import collections
 import os
 import socket
 import struct
+import sys
 import tempfile
 import time
 
+from bulk import try_all
 from draws import Draws
-from hostile_files import SOUND_CASES, Runner, Sound, Wrong, parts_of, try_all, want
+from hostile_files import SOUND_CASES, Sound
 from plain_reader import Record, Tree, flat_value
+from runner import STACK, Runner, Wrong, beyond, want
 from serve_client import PROGRAM, call, connected, credential, opaque, units
 
 FORMATS = ("vfsold", "vfsv0", "vfsv1")
@@ -27,9 +30,7 @@ CALLS = 20_000
 WAITING = 60_000
 # What a datagram is read by.
 MOST = 4096
-# The KiB that a server may hold beyond one that meets sound calls alone.
-SLACK = 256
-# How long a server may take to begin, to answer and to end.
+# How long a server may take to begin and to answer.
 SECONDS = 20
 
 
@@ -240,7 +241,7 @@ class Shard:
         self.counts = collections.Counter()
 
     def serve(self, cases):
-        """Sends the datagrams of these cases, a sound one first, and looks at the replies; the KiB that the server held."""
+        """Sends the datagrams of these cases, a sound one first, and looks at the replies; what the server took."""
         port = free_port()
         words = ["rquotad", "--calls", str(len(cases) + 1), "--port", str(port), *self.served.words]
         self.runner.start(words)
@@ -252,12 +253,12 @@ class Shard:
                 self.send(sock, batch)
             sock.settimeout(0.1)
             self.nothing_comes(sock)
-            status, out, said, held = self.runner.end()
+            status, out, said, taken = self.runner.end()
         except Wrong:
-            self.runner.kill_others()
+            self.runner.kill()
             raise
         want((status, out, said) == (0, "", ""), "the server ended with", status, repr(out + said))
-        return held
+        return taken
 
     def first_reply(self, sock):
         """The reply to a call that does nothing. One that no socket was there to take is sent again."""
@@ -326,39 +327,40 @@ def free_port():
 shards = {}
 
 
+def shard_of(program, seed, folder, form):
+    """The shard of a format. What a server takes that meets the calls that are sound is measured before all others."""
+    if form not in shards:
+        shard = Shard(program, seed, folder, form)
+        first = FORMATS.index(form)
+        shard.taken = shard.serve([number for number in range(first, 3 * EACH * 1000, 3) if is_sound(number)])
+        shards[form] = shard
+    return shards[form]
+
+
 def served(task):
     """Serves some cases, and tells what they came to."""
     program, seed, folder, kept, form, cases = task
-    failed = []
+    shard = shard_of(program, seed, folder, form)
+    shard.counts, taken, failed = collections.Counter(), shard.taken, []
     try:
-        if form not in shards:
-            shards[form] = Shard(program, seed, folder, form)
-            # The calls that are sound, before all others.
-            first = FORMATS.index(form)
-            sound = [number for number in range(first, 3 * EACH * 1000, 3) if is_sound(number)]
-            shards[form].held = shards[form].serve(sound)
-        shard = shards[form]
-        shard.counts = collections.Counter()
-        held = shard.serve(cases)
-        want(held <= shard.held + SLACK, "a server held", held, "KiB, with sound calls alone", shard.held)
-        return shard.counts, failed, held, held - shard.held
+        taken = shard.serve(cases)
+        more = beyond(taken, shard.taken)
+        want(more[0] <= 0 and more[1] <= STACK, "it took %d KiB, and %d KiB of stack," % taken, "%d and %d more" % more)
     except Wrong as why:
+        failed = [cases[0]]
         with open(os.path.join(kept, "datagrams-%d" % cases[0]), "w") as file:
             file.write("%s, cases %d to %d\n%s\n" % (form, cases[0], cases[-1], why))
-        return collections.Counter(), [cases[0]], 0, 0
+    return shard.counts, failed, (*taken, *beyond(taken, shard.taken))
 
 
-def parts_by_format(cases):
-    """The cases by their format, every third one of each, in parts that a server takes."""
+def parts_of(cases):
+    """The cases of each format, as many at once as one server takes."""
     for at, form in enumerate(FORMATS):
-        for part in parts_of(cases[(at - cases.start) % len(FORMATS) :: len(FORMATS)], CALLS):
-            yield form, part
+        own = cases[(at - cases.start) % len(FORMATS) :: len(FORMATS)]
+        for start in range(0, len(own), CALLS):
+            yield form, own[start : start + CALLS]
 
 
 if __name__ == "__main__":
-    try_all(
-        parts_by_format,
-        served,
-        "servers failed",
-        "most memory of a server: %d KiB; at most %d KiB more than with sound calls alone",
-    )
+    memory = "most memory of a server: %d KiB, and %d KiB of stack; more than with sound calls: at most %d KiB, and %d KiB of stack"
+    try_all(sys.argv[1:], parts_of, served, "servers", memory)

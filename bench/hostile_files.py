@@ -5,40 +5,29 @@ hostile_files.py PROGRAM SEED FIRST COUNT JOBS WORK KEPT
 bench/hostile.sh says what is tried. It works in the folder WORK. The folder KEPT gets the cases that fail, each in a folder of its number.
 """
 import collections
-import ctypes
-import multiprocessing
 import os
 import re
 import shutil
-import signal
 import struct
 import sys
 import tempfile
 import time
 
-from draws import RECURRENCE, Draws
+from bulk import try_all
+from draws import Draws
 from plain_reader import BLOCK, FLAT, MAGIC, VERSIONS, WEEK, Record, Refused, Tree, Unsound, Value, flat_value
+from runner import STACK, Runner, Wrong, beyond, want
 
 # How many sound files the damaged ones are made from, and the cases by whose numbers they are made.
 SOUND = 96
 SOUND_CASES = 2**63
 NOW = 1_700_000_000
-# The seconds that a run may take, and the KiB that it may hold beyond a run on the sound file.
-SECONDS = 10
-SLACK = 256
+# The KiB of the heap that a run may take beyond the most that runs on the sound file take. Its words and its lists of what the
+# file has may be longer by some bytes, which may begin another page.
+PAGE = 4
 # How many ranges an undo file saves at most.
 SPANS = 12
 CASES_AT_ONCE = 200
-PR_SET_CHILD_SUBREAPER = 36
-
-
-class Wrong(Exception):
-    """What the program did is not what is wanted."""
-
-
-def want(holds, *words):
-    if not holds:
-        raise Wrong(" ".join(map(str, words)))
 
 
 # ---- Sound files
@@ -400,79 +389,9 @@ def read_value(case, data):
 # ---- Runs
 
 
-class Hang(Exception):
-    """A run did not end."""
-
-
-def overdue(*_):
-    raise Hang
-
-
-class Runner:
-    """Runs the program, one run at a time, in a folder of its own, and tells how each ended and what it held.
-
-    A process begins as a copy of the one that starts it, whose memory counts as its own then. So a small shell starts it, and
-    leaves it to this process."""
-
-    def __init__(self, program, folder):
-        self.program, self.folder = program, folder
-        ctypes.CDLL(None).prctl(PR_SET_CHILD_SUBREAPER, 1, 0, 0, 0)
-        signal.signal(signal.SIGALRM, overdue)
-        theirs, self.orders = os.pipe()
-        self.shell = os.posix_spawn("/bin/sh", ["sh"], {}, file_actions=[(os.POSIX_SPAWN_DUP2, theirs, 0)])
-        os.close(theirs)
-        self.order("cd '%s'; exec 2>/dev/null\n" % folder)
-        self.most_time = 0
-
-    def order(self, text):
-        os.write(self.orders, text.encode())
-
-    def path(self, name):
-        return os.path.join(self.folder, name)
-
-    def write(self, name, data):
-        with open(self.path(name), "wb") as file:
-            file.write(data)
-
-    def read(self, name):
-        with open(self.path(name), "rb") as file:
-            return file.read()
-
-    def run(self, words, script=b""):
-        """Runs the words, and tells the status, both outputs, and the KiB that the run held."""
-        begun = time.monotonic()
-        self.start(words, script)
-        ended = self.end()
-        self.most_time = max(self.most_time, time.monotonic() - begun)
-        return ended
-
-    def start(self, words, script=b""):
-        self.write("s", script)
-        self.order("('%s' %s <s >o 2>e &)\n" % (self.program, " ".join(words)))
-
-    def end(self):
-        """Waits for what was started, and tells as `run` does."""
-        signal.setitimer(signal.ITIMER_REAL, SECONDS)
-        try:
-            _, status, used = os.wait4(-1, 0)
-        except Hang:
-            self.kill_others()
-            raise Wrong("it did not end within %d s" % SECONDS) from None
-        finally:
-            signal.setitimer(signal.ITIMER_REAL, 0)
-        want(os.WIFEXITED(status), "it was ended by signal", os.WTERMSIG(status))
-        return os.WEXITSTATUS(status), self.read("o").decode(), self.read("e").decode(), used.ru_maxrss
-
-    def kill_others(self):
-        with open("/proc/self/task/%d/children" % os.getpid()) as file:
-            for pid in map(int, file.read().split()):
-                if pid != self.shell:
-                    os.kill(pid, signal.SIGKILL)
-                    os.waitpid(pid, 0)
-
-    def clear(self):
-        for name in os.listdir(self.folder):
-            os.remove(self.path(name))
+def most_of(measures, others):
+    """The greater one of each."""
+    return tuple(map(max, measures, others))
 
 
 class Ran:
@@ -480,8 +399,8 @@ class Ran:
     status, what it said, and the moments between which it ran."""
 
     def __init__(self, runner, words, alone):
-        self.held = self.done = self.status = 0
-        self.reports, self.said = [], ""
+        self.done = self.status = 0
+        self.taken, self.reports, self.said = (0, 0), [], ""
         self.since = int(time.time())
         if alone:
             for each in words:
@@ -495,8 +414,8 @@ class Ran:
             self.done = self.number_of_line() - 1 if self.status else len(words)
         self.until = int(time.time())
 
-    def take(self, status, out, said, held):
-        self.status, self.said, self.held = status, said, max(self.held, held)
+    def take(self, status, out, said, taken):
+        self.status, self.said, self.taken = status, said, most_of(self.taken, taken)
         self.reports += ["***" + text for text in out.split("***")[1:]]
 
     def number_of_line(self):
@@ -542,21 +461,24 @@ class Judge:
         self.seed, self.kept = seed, kept
         self.runner = Runner(program, folder)
         self.sound = [Sound(Draws(seed, SOUND_CASES + at), ("vfsold", "vfsv0", "vfsv1")[at % 3]) for at in range(SOUND)]
-        self.held = [self.held_of(at) for at in range(SOUND)]
-        self.counts, self.most_held, self.most_more, self.failed = collections.Counter(), 0, 0, []
+        self.taken = [self.taken_on(at) for at in range(SOUND)]
+        self.counts, self.failed, self.most = collections.Counter(), [], (0, 0, 0, 0)
 
-    def held_of(self, at):
-        """The most KiB that runs hold on a sound file: on some of its identifiers and on new ones, by scripts and alone."""
-        held, sound = 0, self.sound[at]
-        for number in range(6):
-            case = Case(self.seed, number, [sound])
-            case.data, case.undo, case.alone = bytes(sound.data), None, number % 2 == 1
-            self.runner.write("q", case.data)
-            ran = Ran(self.runner, case.words(), case.alone)
+    def taken_on(self, at):
+        """The most that runs take on a sound file: on some of its identifiers and on new ones, by scripts and alone, with
+        an undo file that is to be put back and without."""
+        taken, sound = (0, 0), self.sound[at]
+        undo = undo_of(sound.data, bytes(len(sound.data)))
+        for number in range(12):
+            case = Case(self.seed, number // 2, [sound])
+            self.runner.write("q", sound.data)
+            if number % 2 == 1:
+                self.runner.write("q.undo", undo)
+            ran = Ran(self.runner, case.words(), number // 2 % 2 == 1)
             want(ran.done > 0, "the sound file", at, "was refused:", ran.said)
-            held = max(held, ran.held)
+            taken = most_of(taken, ran.taken)
             self.runner.clear()
-        return held
+        return taken
 
     def take(self, number):
         """A case."""
@@ -632,9 +554,9 @@ class Judge:
         want(case.undo is None or self.runner.read("q.undo")[:1] != b"\1", "the gate is open still")
 
     def look_at_memory(self, case, ran):
-        more = ran.held - self.held[case.base]
-        self.most_held, self.most_more = max(self.most_held, ran.held), max(self.most_more, more)
-        want(more <= SLACK, "it held", ran.held, "KiB,", more, "KiB more than runs on the sound file")
+        more = beyond(ran.taken, self.taken[case.base])
+        self.most = most_of(self.most, (*ran.taken, *more))
+        want(more[0] <= PAGE and more[1] <= STACK, "it took %d KiB, and %d KiB of stack," % ran.taken, "%d and %d more" % more)
 
     def keep(self, case, why):
         """Keeps a case that failed, with the files as they are, and those that it began with."""
@@ -669,38 +591,13 @@ def judged(task):
     judge.counts, judge.failed = collections.Counter(), []
     for number in numbers:
         judge.take(number)
-    return judge.counts, judge.failed, judge.most_held, judge.most_more, judge.runner.most_time
+    return judge.counts, judge.failed, (*judge.most, judge.runner.most_time)
 
 
-def parts_of(cases, size):
-    return [cases[at : at + size] for at in range(0, len(cases), size)]
-
-
-def try_all(parts, tried, failing, measures):
-    """Tries the cases that the words of the command line ask for, in parts that `parts` makes of them, each by `tried`, and
-    prints what they came to. Ends with status 1 where some failed."""
-    program, seed, first, count, jobs, work, kept = sys.argv[1:]
-    first, count, seed = int(first), int(count), int(seed)
-    print("seed %d, cases %d to %d, %s processes. The numbers of a case:\n%s" % (seed, first, first + count - 1, jobs, RECURRENCE))
-    begun, failed, counts, worst = time.monotonic(), [], collections.Counter(), None
-    tasks = [(program, seed, work, kept, *part) for part in parts(range(first, first + count))]
-    with multiprocessing.Pool(int(jobs)) as pool:
-        for more, wrong, *most in pool.imap_unordered(tried, tasks):
-            counts += more
-            failed += wrong
-            worst = tuple(map(max, worst or most, most))
-    for what, number in counts.most_common():
-        print("%8d %s" % (number, what))
-    print("%8d %s%s" % (len(failed), failing, ": " + " ".join(map(str, sorted(failed)[:20])) if failed else ""))
-    print(measures % worst)
-    print("it took %.0f s" % (time.monotonic() - begun))
-    sys.exit(bool(failed))
+def parts_of(cases):
+    return [(cases[at : at + CASES_AT_ONCE],) for at in range(0, len(cases), CASES_AT_ONCE)]
 
 
 if __name__ == "__main__":
-    try_all(
-        lambda cases: [(part,) for part in parts_of(cases, CASES_AT_ONCE)],
-        judged,
-        "failed",
-        "most memory of a run: %d KiB; at most %d KiB more than on a sound file; longest run: %.3f s",
-    )
+    memory = "most memory of a run: %d KiB, and %d KiB of stack; more than on a sound file: at most %d KiB, and %d KiB of stack"
+    try_all(sys.argv[1:], parts_of, judged, "cases", memory + "\nlongest run: %.3f s")
