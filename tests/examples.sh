@@ -139,7 +139,8 @@ echo 'alice:x:1000:' >ready/group
 echo '1000 100M 200M 1k 2k' >ready/lines
 for kind in user group; do
     echo '1000 1000 1 1 8' | quota_cli quotacheck -c "-${kind:0:1}" "ready/home/aquota.$kind"
-    printf '%s\n' '1000 1M 2M 3 4' '1001 100M 200M 1k 2k' | quota_cli setquota "-${kind:0:1}" -b "ready/home/aquota.$kind"
+    quota_cli setquota "-${kind:0:1}" 1000 1M 2M 3 4 "ready/home/aquota.$kind"
+    quota_cli setquota "-${kind:0:1}" 1001 100M 200M 1k 2k "ready/home/aquota.$kind"
 done
 own='quota 1024 1 2048 1024 4 4 3 1 0 0'
 
