@@ -4,7 +4,7 @@
 /// Files of each format, lines of which some set limits of one who is known or new, one takes a record away, and one has
 /// nothing to do, and what these make of the files: worked out by hand.
 pub const FILES_OF_LINES: &str = "\
-= a flat file, of which identifier 1 exceeds both limits and identifier 2 uses nothing
+= a flat file, of which identifier 1 exceeds both soft limits and identifier 2 uses nothing
 record btime 604800 itime 604800
 record bhard 8 bsoft 2 blocks 4 ihard 9 isoft 8 inodes 9 btime 5 itime 6
 record bhard 8 bsoft 2
@@ -237,8 +237,8 @@ record bhard 4 bsoft 3 ihard 6 isoft 5
 holds q
 ";
 
-/// Lines of which one is refused: those before it are made, together where no fewer calls of `write` were needed where they
-/// stand.
+/// Lines of which one is refused: those before it are made, together only where that takes no more calls of `write` than
+/// where they stand.
 pub const REFUSED_BOTH_WAYS: &str = "\
 = a name that is unknown
 file q flat
@@ -424,8 +424,9 @@ changes q
 absent q.new
 ";
 
-/// Which lines are made together: two or more, in a file that can come to no more pieces of 1,024 bytes than twelve for each
-/// line. What a flat file comes to is told by the greatest identifier; a tree file may grow by four blocks with each line.
+/// Which lines are made together: two or more, in a file that can come to no more pieces of 1,024 bytes than twelve for
+/// each line. A flat file may come to the record of the greatest identifier, and a tree file may grow by four blocks with
+/// each line.
 pub const BOUNDS: &str = "\
 = two lines and twenty-four pieces of a flat file, or twenty-five
 file q flat
@@ -747,7 +748,7 @@ fill 0 80
 record bhard 2 bsoft 1 ihard 4 isoft 3
 holds q
 
-= a new file of listing that was left behind stays there, and lines are made where they stand
+= a new file that was left behind stays there, and lines are made where they stand
 file q flat
 use flat
 fill 0 40
