@@ -97,7 +97,7 @@ for round in 1 2 3 4 5; do
     same "round $round: the crate over others, and the program, come last" "$(tail -n 2 "$folder/said" | tr '\n' ' ')" \
         'lib over run quota_program '
     same "round $round: three at a time" "$((SECONDS - start < 15))" 1
-    same "round $round: what it says first" "$(head -n 1 "$folder/err" | grep -c 'building: 5 of 5 crates .* took 36 minutes')" 1
+    same "round $round: what it says first" "$(head -n 1 "$folder/err" | grep -c 'building: 5 of 5 crates .* took 22 minutes')" 1
 done
 
 : >"$folder/said"
