@@ -244,16 +244,28 @@ impl<'a, R: Files<File = File>> OpenFiles<'a, R> {
         }
     }
 
-    /// Where the file of a name is: one that was made may be behind a link, as an undo file may be.
+    /// Where the file of a name is: one that was made may be behind a link, as an undo file may be, and as one may be that is
+    /// to replace a file that was looked at.
     pub fn path_of(&self, name: &str) -> io::Result<String> {
         if let Some((file, ending)) = undone_file(name) {
             return undo_path(self.alloc, self.files, file, ending);
         }
-        let path = match &self.made {
-            Some(made) if made.name.as_str() == name => made.path.as_str(),
-            _ => name,
-        };
-        Ok(String::from_str(self.alloc, path)?)
+        if let Some(made) = &self.made {
+            if made.name.as_str() == name {
+                return Ok(String::from_str(self.alloc, made.path.as_str())?);
+            }
+        }
+        match name.strip_suffix(NEW) {
+            Some(file) if self.looks.first(file).is_some() => self.path_of_new(file),
+            _ => Ok(String::from_str(self.alloc, name)?),
+        }
+    }
+
+    /// Where the file stands that is to replace another one: beside that one.
+    fn path_of_new(&self, replaced: &str) -> io::Result<String> {
+        let mut path = behind_link(self.alloc, self.files, replaced)?;
+        path.push_str(NEW)?;
+        Ok(path)
     }
 
     /// Where a file is to be made. One that is to replace another stands beside that one, which is locked before.
@@ -263,9 +275,7 @@ impl<'a, R: Files<File = File>> OpenFiles<'a, R> {
         };
         let done = self.lock_before_change(replaced);
         self.at(FailedAt::Plain, done)?;
-        let mut path = behind_link(self.alloc, self.files, replaced)?;
-        path.push_str(NEW)?;
-        Ok(path)
+        self.path_of_new(replaced)
     }
 
     /// Where a file that is renamed goes. Where it was made and another program took its name meanwhile, that is an error.
