@@ -54,15 +54,6 @@ impl OneFile {
         }
     }
 
-    /// The bytes of the file.
-    pub fn bytes(&self) -> &[u8]
-        ensures only { (⟦<OneFile as Store>⟧.seen self.now).files ≡ only_file (one_file_name self.now) result.now }
-        ensures told { (name : List ℕ) → IsSome ((⟦<OneFile as Store>⟧.seen self.now).files name)
-            → (⟦<OneFile as Store>⟧.seen self.now).files name ≡ Some result.now }
-    {
-        self.bytes.as_slice()
-    }
-
     /// The bytes of the file. They are not copied, and no memory is taken.
     pub fn into_bytes(self) -> Vec<u8>
         ensures only { (⟦<OneFile as Store>⟧.seen self).files ≡ only_file (one_file_name self) result.items }
