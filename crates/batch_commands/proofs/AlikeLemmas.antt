@@ -3,7 +3,7 @@ use Rattle.std.proofs.Common.{inl, inr, ℕ, true, List, Option, ap}
 use Rattle.quota_blocks.specs.QuotaValue.{QuotaValue}
 use Rattle.set_edit.specs.Editing.{Edit}
 use Rattle.refusals.specs.Outcome.{Outcome, Passed, Refused}
-use Rattle.run_steps.specs.Act.{Act, Together}
+use Rattle.run_steps.specs.Act.{Act, Way}
 use Rattle.run_steps.specs.OneCommand.{AreSameSteps}
 use Rattle.run_steps.specs.Steps.{Steps, Then}
 use Rattle.batch_commands.specs.Batch.{met_at}
@@ -18,8 +18,8 @@ met_alike number one (Refused refusal) (inr (inr full)) = inr (inr full)
 met_alike number one (Passed acts) (inr (inr full)) = absurd full
 
 -- and of one that is met at a line
-pub line_steps_alike : (name : List ℕ) (edit : Edit) (one other : Option (List ℕ)) (value : QuotaValue) (number : ℕ) (next : List Act → Steps)
-    → AreSameSteps true (Then (met_at number (edit_step Together name edit one value)) next) (Then (met_at number (edit_step Together name edit other value)) next)
-line_steps_alike name edit one other value number next =
-    then_alike (met_at number (edit_step Together name edit one value)) (met_at number (edit_step Together name edit other value)) next
-    (met_alike number (edit_step Together name edit one value) (edit_step Together name edit other value) (changed_alike Together name edit one other value (edit.edited value)))
+pub line_steps_alike : (way : Way) (name : List ℕ) (edit : Edit) (one other : Option (List ℕ)) (value : QuotaValue) (number : ℕ) (next : List Act → Steps)
+    → AreSameSteps true (Then (met_at number (edit_step way name edit one value)) next) (Then (met_at number (edit_step way name edit other value)) next)
+line_steps_alike way name edit one other value number next =
+    then_alike (met_at number (edit_step way name edit one value)) (met_at number (edit_step way name edit other value)) next
+    (met_alike number (edit_step way name edit one value) (edit_step way name edit other value) (changed_alike way name edit one other value (edit.edited value)))

@@ -1,7 +1,7 @@
 -- Edits of lines, one after another: what they have done up to one of them, what a command does that makes them, and for what the
 -- edit of one may fail.
-use Rattle.std.proofs.Common.{◌≡◌, ◌≢◌, ◌⊎◌, ℕ, Bool, IsTrue, List, [], ◌∷◌, ◌++◌, Option, None, Some, Ok, Err, Result, inl, inr, refl, sym, subst, ◌∙◌, arith, true}
-use Rattle.std.specs.Prelude.{IsOkAnd, is_none}
+use Rattle.std.proofs.Common.{◌≡◌, ◌≢◌, ◌⊎◌, ℕ, ◌+◌, Bool, false, IsTrue, List, [], ◌∷◌, ◌++◌, Option, None, Some, Ok, Err, Result, inl, inr, refl, sym, subst, ◌∙◌, arith, true}
+use Rattle.std.specs.Prelude.{IsOkAnd, is_none, ⊤}
 use Rattle.std.proofs.lemmas.Bool.{false≢true}
 use Rattle.id_names.specs.NamesFile.{NameLine}
 use Rattle.quota_types.specs.declared.field.Field.{Field}
@@ -23,13 +23,14 @@ use Rattle.refusals.specs.declared.cause.Cause.TheVariants.{StoreFault, SourceFa
 use Rattle.refusals.specs.declared.reason.Refusal.{Refusal}
 use Rattle.refusals.specs.Outcome.{Outcome, Passed, Refused}
 use Rattle.refusals.specs.Refusals.{refusal_of}
-use Rattle.run_steps.specs.Act.{Act, Together}
+use Rattle.run_steps.specs.Act.{Act, Behind, InPlace, Together, Way}
 use Rattle.run_steps.specs.Done.{Outside, RunSeen, RunTells, outside_of}
 use Rattle.run_steps.specs.Meaning.{EndsBy}
 use Rattle.run_steps.specs.Opening.{MayRefuseOpening}
 use Rattle.run_steps.specs.Run.{CarriesOut, HasReason, HasSteps, IsDoneInPart}
 use Rattle.run_steps.specs.Steps.{DoingAll, Then, Steps}
-use Rattle.batch_commands.specs.Batch.{Applying, Asked, EditsThen, IsOfLine, LineEditMayRefuse, LineSteps, LineMayRefuse, at_line, edit_of, line_uses, met_at}
+use Rattle.run_steps.specs.Writes.{edits_in}
+use Rattle.batch_commands.specs.Batch.{Applying, Asked, EditsThen, IsOfLine, LineEditMayRefuse, LineSteps, LineMayRefuse, at_line, edit_of, line_uses, met_at, way_behind, way_of}
 use Rattle.edit_steps.specs.EditStep.{value_left, ChangeMayRefuse, edit_cause, edit_step}
 use Rattle.run_steps.proofs.DoingLemmas.{AreWritten, done_of, written_both, written_none}
 use Rattle.run_steps.proofs.LookingLemmas.{AddsEnd, adds_looking, adds_none, adds_then, leads_doing, part_adding, steps_adding}
@@ -39,8 +40,9 @@ use Rattle.run_steps.proofs.ReasonLemmas.{reason_but_stated}
 use Rattle.run_steps.proofs.RowLemmas.{LeadsBy, led_both, part_led, steps_led}
 use Rattle.batch_commands.proofs.BatchInputLemmas.{unnamed}
 use Rattle.edit_steps.proofs.EditFileLemmas.{AnyEdits, edit_may}
-use Rattle.edit_steps.proofs.EditLemmas.{IsMade, acts_of, acts_written, step_made}
-use Rattle.edit_steps.proofs.RefusedEditLemmas.{HasEditCause, IsRefusedAt, edit_no_output, edit_reason, refused_part}
+use Rattle.run_steps.proofs.WritesLemmas.{edits_in-append}
+use Rattle.edit_steps.proofs.EditLemmas.{IsMade, acts_of, acts_written, change_acts, step_made}
+use Rattle.edit_steps.proofs.RefusedEditLemmas.{HasEditCause, IsRefusedAt, edit_no_output, edit_reason_any, refused_part}
 
 -- the value that an edit left is held
 pub left_held : (holds : QuotaValue → Type 0) (edited : Result QuotaValue (Field × ℕ)) (value : QuotaValue) → IsOkAnd edited holds → holds (value_left edited value)
@@ -49,76 +51,109 @@ left_held holds (Err out) value held = absurd held
 
 -- Edits that were made, one after another.
 
--- Of the lines these are left: the edits of those before them were made, the file holds the value that they left, and the steps of
--- all lines go on with those of these.
-pub record AreMade (file : List ℕ) (now : ℕ) (lines rest : List LineEdit) (start : QuotaValue) (old store : StoreSeen) (holds : QuotaValue → Type 0) : Type 0 where
+-- edits of this way are acts even where they have nothing to do
+abbrev pub Counts : Way → Type 0
+Counts InPlace = ⊥
+Counts way = ⊤
+
+-- Of the lines these are left: the edits of those before them were made, so many, the file holds the value that they left, and the
+-- steps of all lines go on with those of these.
+pub record AreMade (way : Way) (file : List ℕ) (now : ℕ) (lines rest : List LineEdit) (start : QuotaValue) (made : ℕ) (old store : StoreSeen) (holds : QuotaValue → Type 0) : Type 0 where
   pub value : QuotaValue
+  pub next : Way
   pub held : holds value
   pub acts : List Act
   pub done : AreWritten acts old store
   pub leads : (from : Outside) → from.files ≡ old.files
-      → LeadsBy acts (LineSteps file now rest value) (record from { files = store.files }) (LineSteps file now lines start) from
+      → LeadsBy acts (LineSteps next file now rest value) (record from { files = store.files }) (LineSteps way file now lines start) from
+  pub goes_on : Counts way → Counts next
+  pub counted : Counts way → edits_in acts ≡ made
 
 -- none was made yet
-pub made_none : {done : Bool} (file : List ℕ) (now : ℕ) (lines : List LineEdit) (start : QuotaValue) (name : List ℕ) (old store : StoreSeen) (holds : QuotaValue → Type 0) → OnlyReads done name old store → holds start
-    → AreMade file now lines lines start old store holds
-made_none file now lines start name old store holds reads held = record {
+pub made_none : {done : Bool} (way : Way) (file : List ℕ) (now : ℕ) (lines : List LineEdit) (start : QuotaValue) (name : List ℕ) (old store : StoreSeen) (holds : QuotaValue → Type 0) → OnlyReads done name old store → holds start
+    → AreMade way file now lines lines start 0 old store holds
+made_none way file now lines start name old store holds reads held = record {
   value = start;
+  next = way;
   held = held;
   acts = [];
   done = written_none name old store reads;
-  leads = λ from same. leads_doing [] (LineSteps file now lines start) from store.files (reads.files ∙ sym same);
+  leads = λ from same. leads_doing [] (LineSteps way file now lines start) from store.files (reads.files ∙ sym same);
+  goes_on = λ counts. counts;
+  counted = λ counts. refl;
 }
 
 -- the steps of a line whose edit was made go on with those of the lines behind it
-line_leads : (file : List ℕ) (now : ℕ) (line : LineEdit) (rest : List LineEdit) (value : QuotaValue) (told : Type 0) (before after : StoreSeen) (from : Outside) → IsMade file (edit_of line now) value told before after → told
-    → LeadsBy (acts_of Together file (edit_of line now) value) (LineSteps file now rest (value_left ((edit_of line now).edited value) value)) (record from { files = after.files })
-    (LineSteps file now (line ∷ rest) value) (record from { files = before.files })
-line_leads file now line rest value told before after from made is =
+line_leads : (way : Way) (file : List ℕ) (now : ℕ) (line : LineEdit) (rest : List LineEdit) (value : QuotaValue) (told : Type 0) (before after : StoreSeen) (from : Outside) → IsMade file (edit_of line now) value told before after → told
+    → LeadsBy (acts_of way file (edit_of line now) value) (LineSteps (way_behind way ((edit_of line now).is_idle value)) file now rest (value_left ((edit_of line now).edited value) value)) (record from { files = after.files })
+    (LineSteps way file now (line ∷ rest) value) (record from { files = before.files })
+line_leads way file now line rest value told before after from made is =
     let edit = edit_of line now in
-    let acts = acts_of Together file edit value in
-    let next = LineSteps file now rest (value_left (edit.edited value) value) in
+    let acts = acts_of way file edit value in
+    let next = LineSteps (way_behind way (edit.is_idle value)) file now rest (value_left (edit.edited value) value) in
     let here = record from { files = before.files } in
     let leads = subst (λ (o : Outcome (List Act)). LeadsBy acts next (record from { files = after.files }) (Then (met_at line.number o) (λ (a : List Act). DoingAll a next)) here)
-    (sym (step_made Together file edit value told before after made is))
-    (leads_doing acts next here after.files (acts_written Together file edit value told before after made is).files) in
+    (sym (step_made way file edit value told before after made is))
+    (leads_doing acts next here after.files (acts_written way file edit value told before after made is).files) in
     record { ends = leads.ends; begun = leads.begun }
 
+-- such an edit is one act
+acts_counted : (way : Way) (name : List ℕ) (new : QuotaValue) (idle : Bool) → Counts way → edits_in (change_acts way name new idle) ≡ 1
+acts_counted InPlace name new idle counts = absurd counts
+acts_counted (Together others) name new true counts = refl
+acts_counted (Together others) name new false counts = refl
+acts_counted Behind name new true counts = refl
+acts_counted Behind name new false counts = refl
+
+-- and so are those behind it
+counts_on : (way : Way) (idle : Bool) → Counts way → Counts (way_behind way idle)
+counts_on InPlace idle counts = counts
+counts_on (Together others) true counts = counts
+counts_on (Together others) false counts = counts
+counts_on Behind idle counts = counts
+
 -- one more was made
-pub made_more : (file : List ℕ) (now : ℕ) (lines : List LineEdit) (line : LineEdit) (rest : List LineEdit) (start : QuotaValue) (old before after : StoreSeen) (holds after_holds : QuotaValue → Type 0) (told : Type 0) → told
-    → (are : AreMade file now lines (line ∷ rest) start old before holds) → IsMade file (edit_of line now) are.value told before after
-    → IsOkAnd ((edit_of line now).edited are.value) after_holds → AreMade file now lines rest start old after after_holds
-made_more file now lines line rest start old before after holds after_holds told is are made held =
+pub made_more : (way : Way) (file : List ℕ) (now : ℕ) (lines : List LineEdit) (line : LineEdit) (rest : List LineEdit) (start : QuotaValue) (made : ℕ) (old before after : StoreSeen) (holds after_holds : QuotaValue → Type 0) (told : Type 0) → told
+    → (are : AreMade way file now lines (line ∷ rest) start made old before holds) → IsMade file (edit_of line now) are.value told before after
+    → IsOkAnd ((edit_of line now).edited are.value) after_holds → AreMade way file now lines rest start (made + 1) old after after_holds
+made_more way file now lines line rest start made old before after holds after_holds told is are one held =
     let edit = edit_of line now in
-    let acts = acts_of Together file edit are.value in
+    let acts = acts_of are.next file edit are.value in
     let left = value_left (edit.edited are.value) are.value in
+    let next = way_behind are.next (edit.is_idle are.value) in
     record {
       value = left;
+      next = next;
       held = left_held after_holds (edit.edited are.value) are.value held;
       acts = are.acts ++ acts;
-      done = written_both are.acts acts old before after are.done (acts_written Together file edit are.value told before after made is);
+      done = written_both are.acts acts old before after are.done (acts_written are.next file edit are.value told before after one is);
       leads = λ from same.
-          led_both are.acts acts (LineSteps file now rest left) (LineSteps file now (line ∷ rest) are.value) (LineSteps file now lines start)
+          led_both are.acts acts (LineSteps next file now rest left) (LineSteps are.next file now (line ∷ rest) are.value) (LineSteps way file now lines start)
           (record from { files = after.files }) (record from { files = before.files }) from (are.leads from same)
-          (line_leads file now line rest are.value told before after from made is);
+          (line_leads are.next file now line rest are.value told before after from one is);
+      goes_on = λ counts. counts_on are.next (edit.is_idle are.value) (are.goes_on counts);
+      counted = λ counts.
+          let before_it = are.counted counts in
+          let own : edits_in acts ≡ 1 = acts_counted are.next file left (edit.is_idle are.value) (are.goes_on counts) in
+          omega (arith, edits_in-append are.acts acts, before_it, own);
     }
 
 -- What the steps of the lines that are left do, those of all lines do.
-made_steps : (file : List ℕ) (now : ℕ) (lines rest : List LineEdit) (start : QuotaValue) (tells : RunTells) (old : RunSeen) (before after : StoreSeen) (holds : QuotaValue → Type 0) (ended : Option Refusal)
-    → (are : AreMade file now lines rest start old.store before holds) → HasSteps (LineSteps file now rest are.value) tells ended (with_store old before) (with_store old after)
-    → HasSteps (LineSteps file now lines start) tells ended old (with_store old after)
-made_steps file now lines rest start tells old before after holds ended are has =
-    steps_led are.acts (LineSteps file now rest are.value) (LineSteps file now lines start) tells ended old (with_store old before) (with_store old after) (are.leads (outside_of old) refl)
+made_steps : (way : Way) (file : List ℕ) (now : ℕ) (lines rest : List LineEdit) (start : QuotaValue) (made : ℕ) (tells : RunTells) (old : RunSeen) (before after : StoreSeen) (holds : QuotaValue → Type 0) (ended : Option Refusal)
+    → (are : AreMade way file now lines rest start made old.store before holds) → HasSteps (LineSteps are.next file now rest are.value) tells ended (with_store old before) (with_store old after)
+    → HasSteps (LineSteps way file now lines start) tells ended old (with_store old after)
+made_steps way file now lines rest start made tells old before after holds ended are has =
+    steps_led are.acts (LineSteps are.next file now rest are.value) (LineSteps way file now lines start) tells ended old (with_store old before) (with_store old after) (are.leads (outside_of old) refl)
     (done_of are.acts tells old before are.done) has
 
 -- All edits were made.
 
-pub all_carried : (file : List ℕ) (now : ℕ) (lines : List LineEdit) (start : QuotaValue) (may : Cause → List ℕ → Type 0) (tells : RunTells) (old : RunSeen) (store : StoreSeen) (holds : QuotaValue → Type 0)
-    → (IsTrue tells.store → AreMade file now lines [] start old.store store holds) → EditsOne file old.store store
-    → CarriesOut (LineSteps file now lines start) line_uses may tells old (with_store old store) (Ok tt)
-all_carried file now lines start may tells old store holds made leaves =
-    carried_whole (LineSteps file now lines start) line_uses may tells old (with_store old store) tt
-    (λ told. made_steps file now lines [] start tells old store store holds None (made told.store) (record {
+pub all_carried : (way : Way) (file : List ℕ) (now : ℕ) (lines : List LineEdit) (start : QuotaValue) (made : ℕ) (may : Cause → List ℕ → Type 0) (tells : RunTells) (old : RunSeen) (store : StoreSeen) (holds : QuotaValue → Type 0)
+    → (IsTrue tells.store → AreMade way file now lines [] start made old.store store holds) → EditsOne file old.store store
+    → CarriesOut (LineSteps way file now lines start) line_uses may tells old (with_store old store) (Ok tt)
+all_carried way file now lines start made may tells old store holds are leaves =
+    carried_whole (LineSteps way file now lines start) line_uses may tells old (with_store old store) tt
+    (λ told. made_steps way file now lines [] start made tells old store store holds None (are told.store) (record {
       acts = [];
       by_steps = record { acts_none = refl; same = refl; ends = refl };
       done = done_of [] tells (with_store old store) store (written_none file store store (only_reads-none {done = true} file store));
@@ -134,36 +169,36 @@ met_part number (Passed acts) next tells old new part = part
 met_part number (Refused refusal) next tells old new part =
     part_from (Then (Refused refusal) next) (Then (met_at number (Refused refusal)) next) tells old old.store old.input new refl (λ done hand now by. by) part
 
-pub line_refused : (file : List ℕ) (now : ℕ) (lines : List LineEdit) (line : LineEdit) (rest : List LineEdit) (start : QuotaValue) (may : Cause → List ℕ → Type 0) (tells : RunTells) (old : RunSeen) (before after : StoreSeen)
+pub line_refused : (way : Way) (file : List ℕ) (now : ℕ) (lines : List LineEdit) (line : LineEdit) (rest : List LineEdit) (start : QuotaValue) (made : ℕ) (may : Cause → List ℕ → Type 0) (tells : RunTells) (old : RunSeen) (before after : StoreSeen)
     (holds : QuotaValue → Type 0) (fault : EditFault)
-    → (IsTrue tells.store → AreMade file now lines (line ∷ rest) start old.store before holds)
+    → (IsTrue tells.store → AreMade way file now lines (line ∷ rest) start made old.store before holds)
     → ((value : QuotaValue) → holds value → IsRefusedAt file (edit_of line now) value (IsTrue tells.store) before after (edit_cause fault))
     → HasEditCause (edit_of line now) (before.files file) before.faults after.faults holds fault
     → EditsOne file old.store before → EditsOne file before after → may (edit_cause fault) file
-    → CarriesOut (LineSteps file now lines start) line_uses may tells old (with_store old after) (Err (at_line line.number (refusal_of (edit_cause fault) file)))
-line_refused file now lines line rest start may tells old before after holds fault made refused cause first leaves allowed =
+    → CarriesOut (LineSteps way file now lines start) line_uses may tells old (with_store old after) (Err (at_line line.number (refusal_of (edit_cause fault) file)))
+line_refused way file now lines line rest start made may tells old before after holds fault are_made refused cause first leaves allowed =
     let edit = edit_of line now in
     let said = at_line line.number (refusal_of (edit_cause fault) file) in
-    let behind = λ (value : QuotaValue) (acts : List Act). DoingAll acts (LineSteps file now rest (value_left (edit.edited value) value)) in
-    let own = λ (value : QuotaValue). edit_step Together file edit (before.files file) value in
+    let behind = λ (next : Way) (value : QuotaValue) (acts : List Act). DoingAll acts (LineSteps (way_behind next (edit.is_idle value)) file now rest (value_left (edit.edited value) value)) in
+    let own = λ (next : Way) (value : QuotaValue). edit_step next file edit (before.files file) value in
     record {
       done = tt;
       refused = reason_but_stated line_uses old (with_store old after) _ _ (edit_cause fault) (λ step told.
-          let are = made told.store in
-          let is = step are.value are.held in
-          made_steps file now lines (line ∷ rest) start tells old before after holds (Some said) are
-          (refused_steps file (LineSteps file now (line ∷ rest) are.value) tells (with_store old before) after said ((refused are.value are.held).whole is.1) (λ new same.
-          subst (λ (o : Outcome (List Act)). EndsBy (Then (met_at line.number o) (behind are.value)) (outside_of (with_store old before)) [] new (Some said)) (sym is.0)
+          let are = are_made told.store in
+          let is = step are.next are.value are.held in
+          made_steps way file now lines (line ∷ rest) start made tells old before after holds (Some said) are
+          (refused_steps file (LineSteps are.next file now (line ∷ rest) are.value) tells (with_store old before) after said ((refused are.value are.held).whole is.1) (λ new same.
+          subst (λ (o : Outcome (List Act)). EndsBy (Then (met_at line.number o) (behind are.next are.value)) (outside_of (with_store old before)) [] new (Some said)) (sym is.0)
           (record { acts_none = refl; same = same; ends = refl }))))
-          (edit_reason Together file edit (before.files file) line_uses old (with_store old after) before.faults holds fault first.later cause);
+          (edit_reason_any file edit (before.files file) line_uses old (with_store old after) before.faults holds fault first.later cause);
       part = λ told.
-          let are = made told.store in
+          let are = are_made told.store in
           let here = with_store old before in
-          let steps = LineSteps file now (line ∷ rest) are.value in
-          part_led are.acts steps (LineSteps file now lines start) tells old here (with_store old after) (omega arith) (omega arith) (are.leads (outside_of old) refl) (done_of are.acts tells old before are.done)
-          (part_from (Then (met_at line.number (own are.value)) (behind are.value)) steps tells here before old.input (with_store old after) refl (λ done hand now by. by)
-          (met_part line.number (own are.value) (behind are.value) tells here (with_store old after)
-          (refused_part Together file edit are.value (behind are.value) tells here after (edit_cause fault) (edit_no_output fault) (λ act from. inl (record { done_none = refl; at_hand = refl; same = refl }))
+          let steps = LineSteps are.next file now (line ∷ rest) are.value in
+          part_led are.acts steps (LineSteps way file now lines start) tells old here (with_store old after) (omega arith) (omega arith) (are.leads (outside_of old) refl) (done_of are.acts tells old before are.done)
+          (part_from (Then (met_at line.number (own are.next are.value)) (behind are.next are.value)) steps tells here before old.input (with_store old after) refl (λ done hand now by. by)
+          (met_part line.number (own are.next are.value) (behind are.next are.value) tells here (with_store old after)
+          (refused_part are.next file edit are.value (behind are.next are.value) tells here after (edit_cause fault) (edit_no_output fault) (λ act from. inl (record { done_none = refl; at_hand = refl; same = refl }))
           (refused are.value are.held) told.store)));
       may_refuse = allowed;
       placed = record { line = λ no. refl; input_line = λ no. unnamed line.number (edit_cause fault) no };
@@ -191,22 +226,23 @@ line_no_output names place cause said may is =
     subst (λ (c : Cause). LineMayRefuse names place c said) sink may
 
 -- lines behind which a refusal comes do what the lines do, and then end with it
-lines_add : (file : List ℕ) (now : ℕ) (lines : List LineEdit) (value : QuotaValue) (behind : Option Refusal) → AddsEnd behind (LineSteps file now lines value) (EditsThen file now lines value behind)
-lines_add file now [] value behind = adds_none behind
-lines_add file now (line ∷ lines) value behind =
+lines_add : (way : Way) (file : List ℕ) (now : ℕ) (lines : List LineEdit) (value : QuotaValue) (behind : Option Refusal) → AddsEnd behind (LineSteps way file now lines value) (EditsThen way file now lines value behind)
+lines_add way file now [] value behind = adds_none behind
+lines_add way file now (line ∷ lines) value behind =
     let edit = edit_of line now in
     let left = value_left (edit.edited value) value in
-    let adds = lines_add file now lines left behind in
-    adds_looking behind _ _ (λ files. adds_then behind (met_at line.number (edit_step Together file edit (files file) value)) (LineSteps file now lines left) (EditsThen file now lines left behind) adds)
+    let after = way_behind way (edit.is_idle value) in
+    let adds = lines_add after file now lines left behind in
+    adds_looking behind _ _ (λ files. adds_then behind (met_at line.number (edit_step way file edit (files file) value)) (LineSteps after file now lines left) (EditsThen after file now lines left behind) adds)
 
 -- the edits before a refused line were made, and then comes its refusal
 pub then_refused : (file : List ℕ) (now : ℕ) (start : QuotaValue) (names : List NameLine) (place : List ℕ) (asked : Asked) (refusal : Refusal) (may more : Cause → List ℕ → Type 0) (tells : RunTells) (old new : RunSeen)
     → asked.refusal ≡ Some refusal → IsOfLine names place refusal → more refusal.cause refusal.name
-    → CarriesOut (LineSteps file now asked.edits start) line_uses may tells old new (Ok tt) → CarriesOut (Applying file now start asked) line_uses more tells old new (Err refusal)
+    → CarriesOut (LineSteps (way_of asked.edits) file now asked.edits start) line_uses may tells old new (Ok tt) → CarriesOut (Applying file now start asked) line_uses more tells old new (Err refusal)
 then_refused file now start names place asked refusal may more tells old new is line_may allowed carries =
-    let steps = LineSteps file now asked.edits start in
+    let steps = LineSteps (way_of asked.edits) file now asked.edits start in
     let all = Applying file now start asked in
-    let adds = lines_add file now asked.edits start asked.refusal in
+    let adds = lines_add (way_of asked.edits) file now asked.edits start asked.refusal in
     record {
       done = tt;
       refused = line_is_reason names place old new _ refusal.cause refusal.name line_may.may (λ told.
@@ -223,23 +259,23 @@ then_refused file now start names place asked refusal may more tells old new is 
 
 -- the edits of all lines were made
 pub then_ended : (file : List ℕ) (now : ℕ) (start : QuotaValue) (asked : Asked) (may more : Cause → List ℕ → Type 0) (tells : RunTells) (old new : RunSeen)
-    → asked.refusal ≡ None → CarriesOut (LineSteps file now asked.edits start) line_uses may tells old new (Ok tt) → CarriesOut (Applying file now start asked) line_uses more tells old new (Ok tt)
+    → asked.refusal ≡ None → CarriesOut (LineSteps (way_of asked.edits) file now asked.edits start) line_uses may tells old new (Ok tt) → CarriesOut (Applying file now start asked) line_uses more tells old new (Ok tt)
 then_ended file now start asked may more tells old new is carries =
-    let steps = LineSteps file now asked.edits start in
+    let steps = LineSteps (way_of asked.edits) file now asked.edits start in
     let all = Applying file now start asked in
     carried_whole all line_uses more tells old new tt
     (λ told. subst (λ (r : Option Refusal). HasSteps all tells r old new) is
-    (steps_adding asked.refusal steps all tells None old new (lines_add file now asked.edits start asked.refusal) (carries.done told)))
+    (steps_adding asked.refusal steps all tells None old new (lines_add (way_of asked.edits) file now asked.edits start asked.refusal) (carries.done told)))
     (λ only. absurd (false≢true (sym only))) carries.quiet carries.later
 
 -- an edit was refused, whatever comes behind the edits
 pub then_stopped : (file : List ℕ) (now : ℕ) (start : QuotaValue) (asked : Asked) (refusal : Refusal) (may more : Cause → List ℕ → Type 0) (tells : RunTells) (old new : RunSeen)
     → ((cause : Cause) (said : List ℕ) → may cause said → more cause said)
-    → CarriesOut (LineSteps file now asked.edits start) line_uses may tells old new (Err refusal) → CarriesOut (Applying file now start asked) line_uses more tells old new (Err refusal)
+    → CarriesOut (LineSteps (way_of asked.edits) file now asked.edits start) line_uses may tells old new (Err refusal) → CarriesOut (Applying file now start asked) line_uses more tells old new (Err refusal)
 then_stopped file now start asked refusal may more tells old new allows carries =
-    let steps = LineSteps file now asked.edits start in
+    let steps = LineSteps (way_of asked.edits) file now asked.edits start in
     let all = Applying file now start asked in
-    let adds = lines_add file now asked.edits start asked.refusal in
+    let adds = lines_add (way_of asked.edits) file now asked.edits start asked.refusal in
     record {
       done = tt;
       refused = reason_but_stated line_uses old new _ _ refusal.cause (λ stated told. steps_adding asked.refusal steps all tells (Some refusal) old new adds (stated told)) carries.refused;

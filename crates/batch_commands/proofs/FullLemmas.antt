@@ -16,7 +16,7 @@ use Rattle.refusals.specs.declared.cause.Cause.{Cause}
 use Rattle.refusals.specs.declared.cause.Cause.TheVariants.{Full}
 use Rattle.refusals.specs.declared.reason.Refusal.{Refusal}
 use Rattle.refusals.specs.Outcome.{Outcome, Passed, Refused}
-use Rattle.run_steps.specs.Act.{Act, Together}
+use Rattle.run_steps.specs.Act.{Act, Behind, InPlace, Together, Way}
 use Rattle.run_steps.specs.Changing.{blocks_after, written}
 use Rattle.run_steps.specs.Done.{Outside}
 use Rattle.run_steps.specs.Meaning.{EndsBy}
@@ -25,7 +25,7 @@ use Rattle.run_steps.specs.Steps.{DoingAll, Opening, Then}
 use Rattle.run_steps.specs.Taking.{file_said, input_said}
 use Rattle.run_steps.specs.declared.invocation.Invocation.{Invocation}
 use Rattle.run_steps.proofs.SeenAgainLemmas.{seen_again}
-use Rattle.batch_commands.specs.Batch.{Applying, Asked, BatchSteps, EditsThen, IsOfLine, LineMayRefuse, ReadSteps, asks_then, batch_step, edit_of, is_to_end, line_asks, lines_ask, met_at}
+use Rattle.batch_commands.specs.Batch.{Applying, Asked, BatchSteps, EditsThen, IsOfLine, LineMayRefuse, ReadSteps, asks_then, batch_step, edit_of, is_to_end, line_asks, lines_ask, met_at, way_behind, way_of}
 use Rattle.edit_steps.specs.EditStep.{value_left, changed, is_too_large}
 use Rattle.edit_steps.specs.Room.{IsFullFor}
 use Rattle.batch_commands.specs.Room.{IsFullForLine, IsFullForOne}
@@ -76,51 +76,61 @@ one_more kind asked now line lines file blocks limit one = record {
 }
 
 -- the lines behind one of which the edit left this value end so that one of them has no room
-abbrev RestFull : Kind → Option Format → List ℕ → ℕ → List LineEdit → Option Refusal → Outside → Refusal → (blocks limit : ℕ) → Type 0
-RestFull kind asked file now lines more to refusal blocks limit =
-    (value : QuotaValue) (old : Outside) (acts : List Act) → IsView (old.files file) kind asked (Ok value) → EndsBy (EditsThen file now lines value more) old acts to (Some refusal)
+abbrev RestFull : Way → Kind → Option Format → List ℕ → ℕ → List LineEdit → Option Refusal → Outside → Refusal → (blocks limit : ℕ) → Type 0
+RestFull way kind asked file now lines more to refusal blocks limit =
+    (value : QuotaValue) (old : Outside) (acts : List Act) → IsView (old.files file) kind asked (Ok value) → EndsBy (EditsThen way file now lines value more) old acts to (Some refusal)
     → (refusal.name ≡ file) × IsFullForOne kind asked now lines (to.files file) blocks limit
 
-line_written : (kind : Kind) (asked : Option Format) (file : List ℕ) (now : ℕ) (line : LineEdit) (lines : List LineEdit) (more : Option Refusal) (value new : QuotaValue) (old : Outside) (acts : List Act) (to : Outside)
-    (refusal : Refusal) (blocks limit : ℕ) → refusal.cause ≡ Full blocks limit → RestFull kind asked file now lines more to refusal blocks limit
+line_written : (way after : Way) (kind : Kind) (asked : Option Format) (file : List ℕ) (now : ℕ) (line : LineEdit) (lines : List LineEdit) (more : Option Refusal) (value new : QuotaValue) (old : Outside) (acts : List Act) (to : Outside)
+    (refusal : Refusal) (blocks limit : ℕ) → refusal.cause ≡ Full blocks limit → RestFull after kind asked file now lines more to refusal blocks limit
     → IsView (old.files file) kind asked (Ok value) → (edit_of line now).edited value ≡ Ok new
     → (idle : Bool) → (edit_of line now).is_idle value ≡ idle → (large : Bool) → is_too_large (edit_of line now) (old.files file) new ≡ large
-    → EndsBy (Then (met_at line.number (written Together file (blocks_after (old.files file) new) new idle large)) (λ (done : List Act). DoingAll done (EditsThen file now lines new more))) old acts to (Some refusal)
+    → EndsBy (Then (met_at line.number (written way file (blocks_after (old.files file) new) new idle large)) (λ (done : List Act). DoingAll done (EditsThen after file now lines new more))) old acts to (Some refusal)
     → (refusal.name ≡ file) × IsFullForOne kind asked now (line ∷ lines) (to.files file) blocks limit
-line_written kind asked file now line lines more value new old acts to refusal blocks limit is rest view set true idle large over ends =
+line_written InPlace after kind asked file now line lines more value new old acts to refusal blocks limit is rest view set true idle large over ends =
+    let same = idle_same value new line.id line.limits now idle set in
+    let found = rest new old acts (subst (λ (v : QuotaValue). IsView (old.files file) kind asked (Ok v)) (sym same) view) ends in
+    (found.0, one_more kind asked now line lines (to.files file) blocks limit found.1)
+line_written (Together others) after kind asked file now line lines more value new old acts to refusal blocks limit is rest view set true idle large over ends =
     let same = idle_same value new line.id line.limits now idle set in
     let seen : IsView (ends.1 file) kind asked (Ok value) = subst (λ (w : World). IsView (w file) kind asked (Ok value)) (sym ends.3) view in
     let found = rest new (record old { files = ends.1 }) ends.0 (subst (λ (v : QuotaValue). IsView (ends.1 file) kind asked (Ok v)) (sym same) seen) ends.4 in
     (found.0, one_more kind asked now line lines (to.files file) blocks limit found.1)
-line_written kind asked file now line lines more value new old acts to refusal blocks limit is rest view set false idle true over ends =
+line_written Behind after kind asked file now line lines more value new old acts to refusal blocks limit is rest view set true idle large over ends =
+    let same = idle_same value new line.id line.limits now idle set in
+    let seen : IsView (ends.1 file) kind asked (Ok value) = subst (λ (w : World). IsView (w file) kind asked (Ok value)) (sym ends.3) view in
+    let found = rest new (record old { files = ends.1 }) ends.0 (subst (λ (v : QuotaValue). IsView (ends.1 file) kind asked (Ok v)) (sym same) seen) ends.4 in
+    (found.0, one_more kind asked now line lines (to.files file) blocks limit found.1)
+line_written way after kind asked file now line lines more value new old acts to refusal blocks limit is rest view set false idle true over ends =
     let full = subst (λ (o : Outside). (refusal.name ≡ file) × IsFullFor kind asked (edit_of line now) (o.files file) blocks limit) (sym ends.same)
     (full_for kind asked file (edit_of line now) value new old.files refusal _ blocks limit view set idle over is ends.ends refl refl) in
     (full.0, record { before = []; line = line; behind = lines; whole = refl; full = full.1 })
-line_written kind asked file now line lines more value new old acts to refusal blocks limit is rest view set false idle false over ends =
+line_written way after kind asked file now line lines more value new old acts to refusal blocks limit is rest view set false idle false over ends =
     let kinds = set_kind value new line.id line.limits now set in
     let formats = set_format value new line.id line.limits now set in
     let found = rest new (record old { files = ends.1 }) ends.0 (seen_again kind asked (old.files file) (ends.1 file) value new view kinds formats ends.3.0) ends.4 in
     (found.0, one_more kind asked now line lines (to.files file) blocks limit found.1)
 
-line_full : (kind : Kind) (asked : Option Format) (file : List ℕ) (now : ℕ) (line : LineEdit) (lines : List LineEdit) (more : Option Refusal) (value : QuotaValue) (old : Outside) (acts : List Act) (to : Outside)
-    (refusal : Refusal) (blocks limit : ℕ) → refusal.cause ≡ Full blocks limit → RestFull kind asked file now lines more to refusal blocks limit
+line_full : (way after : Way) (kind : Kind) (asked : Option Format) (file : List ℕ) (now : ℕ) (line : LineEdit) (lines : List LineEdit) (more : Option Refusal) (value : QuotaValue) (old : Outside) (acts : List Act) (to : Outside)
+    (refusal : Refusal) (blocks limit : ℕ) → refusal.cause ≡ Full blocks limit → RestFull after kind asked file now lines more to refusal blocks limit
     → IsView (old.files file) kind asked (Ok value) → (edited : Result QuotaValue (Field × ℕ)) → (edit_of line now).edited value ≡ edited
-    → EndsBy (Then (met_at line.number (changed Together file (edit_of line now) (old.files file) value edited)) (λ (done : List Act). DoingAll done (EditsThen file now lines (value_left edited value) more))) old acts to (Some refusal)
+    → EndsBy (Then (met_at line.number (changed way file (edit_of line now) (old.files file) value edited)) (λ (done : List Act). DoingAll done (EditsThen after file now lines (value_left edited value) more))) old acts to (Some refusal)
     → (refusal.name ≡ file) × IsFullForOne kind asked now (line ∷ lines) (to.files file) blocks limit
-line_full kind asked file now line lines more value old acts to refusal blocks limit is rest view (Ok new) set ends =
-    line_written kind asked file now line lines more value new old acts to refusal blocks limit is rest view set ((edit_of line now).is_idle value) refl (is_too_large (edit_of line now) (old.files file) new) refl ends
-line_full kind asked file now line lines more value old acts to refusal blocks limit is rest view (Err out) set ends = other_refusal refusal _ blocks limit is ends.ends refl
+line_full way after kind asked file now line lines more value old acts to refusal blocks limit is rest view (Ok new) set ends =
+    line_written way after kind asked file now line lines more value new old acts to refusal blocks limit is rest view set ((edit_of line now).is_idle value) refl (is_too_large (edit_of line now) (old.files file) new) refl ends
+line_full way after kind asked file now line lines more value old acts to refusal blocks limit is rest view (Err out) set ends = other_refusal refusal _ blocks limit is ends.ends refl
 
 -- a refusal for another cause is none of these
 other_end : {R : Type 0} (more : Option Refusal) (refusal : Refusal) (blocks limit : ℕ) → refusal.cause ≡ Full blocks limit → IfOther more → Some refusal ≡ more → R
 other_end None refusal blocks limit is never same = absurd (none-some refusal (sym same))
 other_end (Some other) refusal blocks limit is never same = other_refusal refusal other blocks limit is same never
 
-applied_full : (kind : Kind) (asked : Option Format) (file : List ℕ) (now : ℕ) (lines : List LineEdit) (more : Option Refusal) (to : Outside) (refusal : Refusal) (blocks limit : ℕ)
-    → refusal.cause ≡ Full blocks limit → IfOther more → RestFull kind asked file now lines more to refusal blocks limit
-applied_full kind asked file now [] more to refusal blocks limit is never = λ value old acts view ends. other_end more refusal blocks limit is never ends.ends
-applied_full kind asked file now (line ∷ lines) more to refusal blocks limit is never = λ value old acts view ends.
-    line_full kind asked file now line lines more value old acts to refusal blocks limit is (applied_full kind asked file now lines more to refusal blocks limit is never) view ((edit_of line now).edited value) refl ends
+applied_full : (way : Way) (kind : Kind) (asked : Option Format) (file : List ℕ) (now : ℕ) (lines : List LineEdit) (more : Option Refusal) (to : Outside) (refusal : Refusal) (blocks limit : ℕ)
+    → refusal.cause ≡ Full blocks limit → IfOther more → RestFull way kind asked file now lines more to refusal blocks limit
+applied_full way kind asked file now [] more to refusal blocks limit is never = λ value old acts view ends. other_end more refusal blocks limit is never ends.ends
+applied_full way kind asked file now (line ∷ lines) more to refusal blocks limit is never = λ value old acts view ends.
+    let after = way_behind way ((edit_of line now).is_idle value) in
+    line_full way after kind asked file now line lines more value old acts to refusal blocks limit is (applied_full after kind asked file now lines more to refusal blocks limit is never) view ((edit_of line now).edited value) refl ends
 
 applying_full : (common : Common) (from : Option (List ℕ)) (file : List ℕ) (invocation : Invocation) (names : List NameLine) (value : QuotaValue) (old : Outside) (acts : List Act) (new : Outside) (refusal : Refusal) (blocks limit : ℕ)
     → refusal.cause ≡ Full blocks limit → names_seen common.kind common.names old.files ≡ Passed names → IsView (old.files file) common.kind common.format (Ok value)
@@ -130,7 +140,7 @@ applying_full common from file invocation names value old acts new refusal block
     let said = taking_passed from is_to_end (batch_step names from) (Applying file invocation.now value) old acts new refusal blocks limit is (λ bytes. tt) ends in
     let asked = said.0 in
     let never : IfOther asked.refusal = never_asked from (old.files) old.input asked said.2 in
-    let one = applied_full common.kind common.format file invocation.now asked.edits asked.refusal new refusal blocks limit is never value (record old { input = said.1 }) acts view said.3 in
+    let one = applied_full (way_of asked.edits) common.kind common.format file invocation.now asked.edits asked.refusal new refusal blocks limit is never value (record old { input = said.1 }) acts view said.3 in
     (one.0, record { names = names; asked = asked; known = known; said = said.2; one = one.1 })
   where
     of_passed : (asked other : Asked) → Passed asked ≡ Passed other → IfOther asked.refusal → IfOther other.refusal

@@ -1,6 +1,7 @@
 pub mod AlikeLemmas
 pub mod BatchInputLemmas
 pub mod BatchLemmas
+pub mod CountLemmas
 pub mod FullLemmas
 pub mod LookLemmas
 pub mod MeaningLemmas

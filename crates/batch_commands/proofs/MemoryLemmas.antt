@@ -1,6 +1,6 @@
 -- Edits of lines of a file in memory: what was carried out there is what the lines do, and what is known of it whatever the lines do.
-use Rattle.std.proofs.Common.{◌≡◌, ℕ, Bool, true, false, List, [], Option, None, Some, Ok, Err, Result, inl, inr, refl, sym, ap, subst, ◌∙◌, arith}
-use Rattle.std.specs.Prelude.{◌<◌, IfErr}
+use Rattle.std.proofs.Common.{◌≡◌, ℕ, Bool, true, false, List, [], Option, None, Some, Ok, Err, Result, inl, inr, sym, ap, subst, ◌∙◌, arith}
+use Rattle.std.specs.Prelude.{◌<◌, ◌≤◌, IfErr}
 use Rattle.std.proofs.lemmas.Option.{same_Some}
 use Rattle.file_in_memory.specs.OneFile.{only_file}
 use Rattle.quota_blocks.specs.EditsOne.{EditsOne, StaysUnlessWritten}
@@ -13,55 +13,42 @@ use Rattle.quota_blocks.specs.Seen.{LinkSeen, SinkSeen, SourceSeen, StoreSeen}
 use Rattle.quota_blocks.specs.World.{KeepsOthers, World}
 use Rattle.refusals.specs.declared.cause.Cause.{Cause}
 use Rattle.refusals.specs.declared.reason.Refusal.{Refusal}
-use Rattle.refusals.specs.Status.{group_of, status_of}
-use Rattle.refusals.proofs.GroupLemmas.{ByFault, ByMemory, ByStep, GroupCase, group_case}
+use Rattle.refusals.specs.Status.{status_of}
 use Rattle.run_steps.specs.Act.{Follows}
-use Rattle.run_steps.specs.Done.{Outside, IsWorldTold, RunTells, seen_of, tells_of}
+use Rattle.run_steps.specs.Done.{Outside, RunTells, seen_of, tells_of}
 use Rattle.run_steps.specs.Meaning.{EndsBy}
-use Rattle.run_steps.specs.Run.{CarriesOut, HasSteps}
+use Rattle.run_steps.specs.Run.{CarriesOut}
 use Rattle.run_steps.specs.Steps.{Steps}
 use Rattle.run_steps.specs.Writes.{WritesFor}
+use Rattle.batch_commands.specs.declared.batch.EditedLines.{EditedLines}
 use Rattle.batch_commands.specs.declared.together.Edited.{Edited}
 use Rattle.batch_commands.specs.Batch.{line_uses}
-use Rattle.batch_commands.specs.Together.{HasBytes, IsEditOf, IsMadeInMemory, IsOfEdit, memory_seen, refusal_in}
+use Rattle.batch_commands.specs.Together.{HasBytes, HasMade, IfOwn, IsEditOf, IsMadeInMemory, IsOfEdit, memory_seen, refusal_in}
+use Rattle.batch_commands.proofs.CountLemmas.{own_so}
 use Rattle.batch_commands.proofs.TogetherLemmas.{only_file-at, only_name_of}
 
 -- the files of what is met outside, with the rest of it
 abbrev around : World → SourceSeen → LinkSeen → Outside
 around files input link = record { files = files; input = input.left; datagrams = link.left }
 
--- Steps that were done, of stores with the same files and as many calls of `write`.
-steps_seen : (steps : Steps) (tells told : RunTells) (refusal : Option Refusal) (old new old' new' : StoreSeen) (input : SourceSeen) (out err : SinkSeen) (link : LinkSeen) → told.out ≡ tells.out → told.err ≡ tells.err
+-- Lines were edited, of stores with the same files and as many calls of `write`.
+made_seen : (steps : Steps) (tells : RunTells) (refusal : Option Refusal) (made : ℕ) (old new old' new' : StoreSeen) (input : SourceSeen) (out err : SinkSeen) (link : LinkSeen)
     → old.files ≡ old'.files → old.writes ≡ old'.writes → new.files ≡ new'.files → new.writes ≡ new'.writes
-    → HasSteps steps told refusal (seen_of old input out err link) (seen_of new input out err link) → HasSteps steps tells refusal (seen_of old' input out err link) (seen_of new' input out err link)
-steps_seen steps tells told refusal old new old' new' input out err link out_so err_so files writes files' writes' has = record {
+    → HasMade steps tells refusal made (seen_of old input out err link) (seen_of new input out err link) → HasMade steps tells refusal made (seen_of old' input out err link) (seen_of new' input out err link)
+made_seen steps tells refusal made old new old' new' input out err link files writes files' writes' has = record {
   acts = has.acts;
   by_steps = subst (λ (w : World). EndsBy steps (around w input link) has.acts (around new'.files input link) refusal) files
       (subst (λ (w : World). EndsBy steps (around old.files input link) has.acts (around w input link) refusal) files' has.by_steps);
   done = record {
     files = subst (λ (w : World). Follows has.acts w new'.files) files (subst (λ (w : World). Follows has.acts old.files w) files' has.done.files);
-    out = λ is. has.done.out (out_so ∙ is);
-    err = λ is. has.done.err (err_so ∙ is);
+    out = has.done.out;
+    err = has.done.err;
     answered = has.done.answered;
     started = has.done.started;
     writes = subst (λ (n : ℕ). WritesFor has.acts n new'.writes) writes (subst (λ (n : ℕ). WritesFor has.acts old.writes n) writes' has.done.writes);
   };
+  counted = has.counted;
 }
-
-case_steps : (steps : Steps) (tells : RunTells) (old new : StoreSeen) (input : SourceSeen) (out err : SinkSeen) (link : LinkSeen) (refusal : Refusal) (failed : Type 0) → status_of refusal.cause < 4
-    → GroupCase (group_of refusal.cause) failed (IsWorldTold tells → HasSteps steps tells (Some refusal) (seen_of old input out err link) (seen_of new input out err link)) → IsWorldTold tells
-    → HasSteps steps tells (Some refusal) (seen_of old input out err link) (seen_of new input out err link)
-case_steps steps tells old new input out err link refusal failed own (ByFault four fails) told = absurd (omega (arith, own, four))
-case_steps steps tells old new input out err link refusal failed own (ByMemory five) told = absurd (omega (arith, own, five))
-case_steps steps tells old new input out err link refusal failed own (ByStep not_four not_five stated) told = stated told
-
--- what was carried out, and not stopped by a fault, was done
-carried_steps : (steps : Steps) (may : Cause → List ℕ → Type 0) (tells : RunTells) (old new : StoreSeen) (input : SourceSeen) (out err : SinkSeen) (link : LinkSeen) (ended : Result (Unit {0}) Refusal)
-    → IfErr ended (λ (refusal : Refusal). status_of refusal.cause < 4) → CarriesOut steps line_uses may tells (seen_of old input out err link) (seen_of new input out err link) ended → IsWorldTold tells
-    → HasSteps steps tells (refusal_in ended) (seen_of old input out err link) (seen_of new input out err link)
-carried_steps steps may tells old new input out err link (Ok passed) own carries told = carries.done told
-carried_steps steps may tells old new input out err link (Err refusal) own carries told =
-    case_steps steps tells old new input out err link refusal _ own (group_case (group_of refusal.cause) _ _ carries.refused) told
 
 -- Lines were carried out over one file in memory, whatever else is seen.
 abbrev pub CarriesInMemory : Steps → (may : Cause → List ℕ → Type 0) → (before after : StoreSeen) → Result (Unit {0}) Refusal → Type 0
@@ -74,15 +61,20 @@ name_kept : (file bytes name : List ℕ) (before after : StoreSeen) (bytes' : Li
 name_kept file bytes name before after bytes' has is keeps =
     only_name_of file bytes name bytes' (subst (λ (w : World). KeepsOthers file w (only_file name bytes')) has.files (subst (λ (w : World). KeepsOthers file before.files w) is keeps))
 
-pub memory_made : (steps : Steps) (may : Cause → List ℕ → Type 0) (file bytes name : List ℕ) (before after : StoreSeen) (edited : Edited) → HasBytes file bytes before → after.files ≡ only_file name edited.bytes.items
-    → after.writes ≡ edited.writes → EditsOne file before after → IfErr edited.ended (λ (refusal : Refusal). status_of refusal.cause < 4) → CarriesInMemory steps may before after edited.ended
+-- Lines were edited over one file in memory, whatever else is seen, unless something failed.
+abbrev pub MadeInMemory : Steps → (before after : StoreSeen) → EditedLines → Type 0
+MadeInMemory steps before after lines =
+    (input : SourceSeen) (out err : SinkSeen) (link : LinkSeen) (tells : RunTells)
+    → IfOwn lines.ended (HasMade steps tells (refusal_in lines.ended) lines.made (seen_of before input out err link) (seen_of after input out err link))
+
+pub memory_made : (steps : Steps) (file bytes name : List ℕ) (before after : StoreSeen) (edited : Edited) → HasBytes file bytes before → after.files ≡ only_file name edited.bytes.items
+    → after.writes ≡ edited.writes → EditsOne file before after → IfErr edited.lines.ended (λ (refusal : Refusal). status_of refusal.cause < 4) → MadeInMemory steps before after edited.lines
     → IsMadeInMemory steps file bytes edited
-memory_made steps may file bytes name before after edited has is writes leaves own carries = λ input out err link tells.
-    let told = tells_of true true tells.out tells.err true in
+memory_made steps file bytes name before after edited has is writes leaves own made = λ input out err link tells.
     let named = name_kept file bytes name before after edited.bytes.items has is leaves.files in
-    steps_seen steps tells told (refusal_in edited.ended) before after (memory_seen file bytes 0) (memory_seen file edited.bytes.items edited.writes) input out err link refl refl has.files has.unwritten
+    made_seen steps tells (refusal_in edited.lines.ended) edited.lines.made before after (memory_seen file bytes 0) (memory_seen file edited.bytes.items edited.writes) input out err link has.files has.unwritten
     (is ∙ ap (λ (n : List ℕ). only_file n edited.bytes.items) named) writes
-    (carried_steps steps may told before after input out err link edited.ended own (carries input out err link true tells.out tells.err true) (record { store = refl; input = refl; link = refl }))
+    (own_so edited.lines.ended _ own (made input out err link tells))
 
 -- while nothing was written the file has its bytes
 same_bytes : (file bytes name : List ℕ) (before after : StoreSeen) (bytes' : List ℕ) → HasBytes file bytes before → after.files ≡ only_file name bytes' → name ≡ file → StaysUnlessWritten before after → after.writes ≡ 0 → bytes' ≡ bytes
@@ -106,14 +98,15 @@ no_sink = record { written = []; faults = 0 }
 no_link : LinkSeen
 no_link = record { left = []; answers = []; started = record { times = 0; last = None }; faults = 0 }
 
-pub memory_edit : (steps : Steps) (may : Cause → List ℕ → Type 0) (file bytes name : List ℕ) (before after : StoreSeen) (edited : Edited) → HasBytes file bytes before → after.files ≡ only_file name edited.bytes.items
-    → after.writes ≡ edited.writes → EditsOne file before after → IfErr edited.ended (λ (refusal : Refusal). status_of refusal.cause < 4) → CarriesInMemory steps may before after edited.ended
-    → IsEditOf may bytes edited
-memory_edit steps may file bytes name before after edited has is writes leaves own carries =
+pub memory_edit : (steps : Steps) (may : Cause → List ℕ → Type 0) (count : ℕ) (file bytes name : List ℕ) (before after : StoreSeen) (edited : Edited) → HasBytes file bytes before → after.files ≡ only_file name edited.bytes.items
+    → after.writes ≡ edited.writes → edited.lines.made ≤ count → EditsOne file before after → IfErr edited.lines.ended (λ (refusal : Refusal). status_of refusal.cause < 4)
+    → CarriesInMemory steps may before after edited.lines.ended → IsEditOf may count bytes edited
+memory_edit steps may count file bytes name before after edited has is writes few leaves own carries =
     let named = name_kept file bytes name before after edited.bytes.items has is leaves.files in
     record {
+      few = few;
       same = λ none. same_bytes file bytes name before after edited.bytes.items has is named leaves.written (writes ∙ none);
-      refused = own_refused steps may (tells_of true true true true true) before after no_source no_sink no_sink no_link edited.ended own (carries no_source no_sink no_sink no_link true true true true);
+      refused = own_refused steps may (tells_of true true true true true) before after no_source no_sink no_sink no_link edited.lines.ended own (carries no_source no_sink no_sink no_link true true true true);
     }
 
 -- The file in memory, once it was opened.

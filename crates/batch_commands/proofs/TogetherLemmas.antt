@@ -18,6 +18,7 @@ use Rattle.quota_map.specs.View.{IsView}
 use Rattle.quota_types.specs.declared.file_kind.Format.{Format}
 use Rattle.quota_types.specs.declared.file_kind.Format.TheVariants.{V1, V2R0, V2R1}
 use Rattle.quota_types.specs.declared.file_kind.Kind.{Kind}
+use Rattle.run_steps.specs.Naming.{load_cause}
 use Rattle.run_steps.specs.Opening.{MayRefuseOpening}
 use Rattle.run_steps.proofs.ReasonLemmas.{reason_since}
 use Rattle.quota_blocks.specs.QuotaValue.{QuotaValue}
@@ -42,7 +43,7 @@ use Rattle.run_steps.specs.Done.{IsUnwritten, IsWorldTold, Outside, RunSeen, Run
 use Rattle.run_steps.specs.Meaning.{EndsBy, HasBegun}
 use Rattle.run_steps.specs.Run.{CarriesOut, HasReason, HasSteps, IsDoneInPart, IsPlacedBy, Uses}
 use Rattle.run_steps.specs.Steps.{Doing, DoingAll, Ending, Steps, Then}
-use Rattle.run_steps.specs.Writes.{WritesFor, edits_in}
+use Rattle.run_steps.specs.Writes.{WritesFor}
 use Rattle.run_steps.proofs.ActLemmas.{appends_nothing}
 use Rattle.run_steps.proofs.DoingLemmas.{AreWritten, done_of}
 use Rattle.run_steps.proofs.LookingLemmas.{leads_doing}
@@ -56,9 +57,10 @@ use Rattle.batch_commands.specs.declared.batch_line.LineEdit.{LineEdit}
 use Rattle.batch_commands.specs.declared.together.Attempt.{Attempt}
 use Rattle.batch_commands.specs.declared.together.Attempt.TheVariants.{Ended, NotMade}
 use Rattle.batch_commands.specs.declared.together.Edited.{Edited}
-use Rattle.batch_commands.specs.Batch.{LineEditMayRefuse, LineSteps, edit_of, line_uses, met_at}
-use Rattle.batch_commands.specs.Together.{IfEnded, IsEditOf, IsMadeInMemory, IsOfEdit, IsOnlyRead, StandsAlone, allowed, allowed_by, load_cause, memory_seen, refusal_in, replace_cause}
-use Rattle.batch_commands.proofs.OverLemmas.{lines_counted, lines_over}
+use Rattle.batch_commands.specs.Batch.{LineEditMayRefuse, LineSteps, edit_of, line_uses, met_at, way_behind, way_of}
+use Rattle.batch_commands.specs.Together.{IfEnded, IsEditOf, IsMadeInMemory, IsOfEdit, IsOnlyRead, StandsAlone, memory_seen, refusal_in, replace_cause}
+use Rattle.batch_commands.proofs.OverLemmas.{lines_over}
+use Rattle.batch_commands.proofs.WantingLemmas.{unwritten_both}
 
 -- calls that only read replace nothing
 pub replaces-read : {done : Bool} (file name : List ℕ) (old new : StoreSeen) → OnlyReads done name old new → ReplacesOnly file old.files new.files
@@ -66,18 +68,19 @@ replaces-read file name old new read = λ other differ apart. ap (λ (files : Wo
 
 -- The first change is at hand.
 
--- Wherever steps end that change a file, they may have been done in part so: the file of this name is as it was, and no other one has
--- changed but the one with `.new` added to the name.
-abbrev pub MayStop : List ℕ → Steps → Type 0
-MayStop file steps =
+-- Wherever steps end that change a file, they may have been done in part so: the file of this name is as it was, no other one has
+-- changed but the one with `.new` added to the name, and there were twelve calls of `write` at most for an edit and each of the others
+-- that are made together with it.
+abbrev pub MayStop : ℕ → List ℕ → Steps → Type 0
+MayStop others file steps =
     (why : Option Cause) (tells : RunTells) (old : RunSeen) (store : StoreSeen) (acts : List Act) (to : Outside) (refusal : Option Refusal) → why ≢ Some SinkFault → store.files file ≡ old.store.files file
-    → ReplacesOnly file old.store.files store.files → EndsBy steps (outside_of old) acts to refusal → (ChangesNone acts → ⊥) → IsDoneInPart steps tells why old (with_store old store)
+    → ReplacesOnly file old.store.files store.files → store.writes ≤ old.store.writes + 12 * (1 + others) → EndsBy steps (outside_of old) acts to refusal → (ChangesNone acts → ⊥) → IsDoneInPart steps tells why old (with_store old store)
 
 no_acts : (acts : List Act) → acts ≡ [] → ChangesNone acts
 no_acts acts none = subst (λ (a : List Act). ChangesNone a) (sym none) tt
 
-end_stops : (file : List ℕ) (stated : Option Refusal) → MayStop file (Ending stated)
-end_stops file stated why tells old store acts to refusal other same leaves by some = absurd (some (no_acts acts by.acts_none))
+end_stops : (others : ℕ) (file : List ℕ) (stated : Option Refusal) → MayStop others file (Ending stated)
+end_stops others file stated why tells old store acts to refusal other same leaves few by some = absurd (some (no_acts acts by.acts_none))
 
 idle_done : (store : StoreSeen) → AreWritten (Idle ∷ []) store store
 idle_done store = record {
@@ -92,49 +95,51 @@ idle_done store = record {
 idle_changes : (acts rest : List Act) → acts ≡ Idle ∷ rest → (ChangesNone acts → ⊥) → ChangesNone rest → ⊥
 idle_changes acts rest is some none = some (subst (λ (a : List Act). ChangesNone a) (sym is) none)
 
-idle_stops : (file : List ℕ) (next : Steps) → MayStop file next → MayStop file (Doing Idle next)
-idle_stops file next more why tells old store acts to refusal other same leaves by some =
+idle_stops : (others : ℕ) (file : List ℕ) (next : Steps) → MayStop others file next → MayStop others file (Doing Idle next)
+idle_stops others file next more why tells old store acts to refusal other same leaves few by some =
     let behind = subst (λ (w : World). EndsBy next (record (outside_of old) { files = w }) by.0 to refusal) by.3 by.4 in
     part_led (Idle ∷ []) next (Doing Idle next) tells old old (with_store old store) (omega arith) (omega arith)
     (leads_doing (Idle ∷ []) next (outside_of old) old.store.files (old.store.files, refl, refl))
     (done_of (Idle ∷ []) tells old old.store (idle_done old.store))
-    (more why tells old store by.0 to refusal other same leaves behind (idle_changes acts by.0 by.2 some))
+    (more why tells old store by.0 to refusal other same leaves few behind (idle_changes acts by.0 by.2 some))
 
-change_stops : (file : List ℕ) (value : QuotaValue) (next : Steps) → MayStop file (Doing (Change Together file value) next)
-change_stops file value next why tells old store acts to refusal other same leaves by some = record {
+change_stops : (others : ℕ) (file : List ℕ) (value : QuotaValue) (next : Steps) → MayStop others file (Doing (Change (Together others) file value) next)
+change_stops others file value next why tells old store acts to refusal other same leaves few by some = record {
   done = [];
-  hand = Change Together file value ∷ [];
+  hand = Change (Together others) file value ∷ [];
   now = outside_of old;
   begun = inl (record { done_none = refl; at_hand = refl; same = refl });
-  files = (inl same, leaves);
+  files = (inl same, inr (same, leaves));
   out = λ told. appends_nothing (old.out.written ++ []) old.out.written [] (sym (append-nil old.out.written));
   err = λ told. appends_nothing (old.err.written ++ []) old.err.written [] (sym (append-nil old.err.written));
   answered = sym (append-nil old.link.answers);
   started = refl;
   datagrams = refl;
-  writes = record { none = λ none. absurd none; few = λ alone. absurd alone };
+  writes = record { none = λ none. absurd none; few = λ none. few };
   failed = λ is told. absurd (other is);
 }
 
-written_stops : (file : List ℕ) (number blocks : ℕ) (new : QuotaValue) (idle large : Bool) (next : Steps) → MayStop file next
-    → MayStop file (Then (met_at number (written Together file blocks new idle large)) (λ (acts : List Act). DoingAll acts next))
-written_stops file number blocks new true large next more = idle_stops file next more
-written_stops file number blocks new false true next more = end_stops file _
-written_stops file number blocks new false false next more = change_stops file new next
+written_stops : (others : ℕ) (file : List ℕ) (number blocks : ℕ) (new : QuotaValue) (idle large : Bool) (next : Steps) → (IsTrue idle → MayStop others file next)
+    → MayStop others file (Then (met_at number (written (Together others) file blocks new idle large)) (λ (acts : List Act). DoingAll acts next))
+written_stops others file number blocks new true large next more = idle_stops others file next (more refl)
+written_stops others file number blocks new false true next more = end_stops others file _
+written_stops others file number blocks new false false next more = change_stops others file new next
 
-changed_stops : (file : List ℕ) (number : ℕ) (edit : Edit) (bytes : Option (List ℕ)) (value : QuotaValue) (edited : Result QuotaValue (Field × ℕ)) (next : Steps) → MayStop file next
-    → MayStop file (Then (met_at number (changed Together file edit bytes value edited)) (λ (acts : List Act). DoingAll acts next))
-changed_stops file number edit bytes value (Ok new) next more = written_stops file number (blocks_after bytes new) new (edit.is_idle value) (is_too_large edit bytes new) next more
-changed_stops file number edit bytes value (Err out) next more = end_stops file _
+changed_stops : (others : ℕ) (file : List ℕ) (number : ℕ) (edit : Edit) (bytes : Option (List ℕ)) (value : QuotaValue) (edited : Result QuotaValue (Field × ℕ)) (next : Steps) → (IsTrue (edit.is_idle value) → MayStop others file next)
+    → MayStop others file (Then (met_at number (changed (Together others) file edit bytes value edited)) (λ (acts : List Act). DoingAll acts next))
+changed_stops others file number edit bytes value (Ok new) next more = written_stops others file number (blocks_after bytes new) new (edit.is_idle value) (is_too_large edit bytes new) next more
+changed_stops others file number edit bytes value (Err out) next more = end_stops others file _
 
 -- so may lines
-pub lines_stop : (file : List ℕ) (now : ℕ) (lines : List LineEdit) (value : QuotaValue) → MayStop file (LineSteps file now lines value)
-lines_stop file now [] value = end_stops file None
-lines_stop file now (line ∷ lines) value = λ why tells old store acts to refusal other same leaves by some.
+pub lines_stop : (others : ℕ) (file : List ℕ) (now : ℕ) (lines : List LineEdit) (value : QuotaValue) → MayStop others file (LineSteps (Together others) file now lines value)
+lines_stop others file now [] value = end_stops others file None
+lines_stop others file now (line ∷ lines) value = λ why tells old store acts to refusal other same leaves few by some.
     let edit = edit_of line now in
     let left = value_left (edit.edited value) value in
-    let part = changed_stops file line.number edit (old.store.files file) value (edit.edited value) (LineSteps file now lines left) (lines_stop file now lines left)
-    why tells old store acts to refusal other same leaves by some in
+    let next = λ (idle : Bool). LineSteps (way_behind (Together others) idle) file now lines left in
+    let part = changed_stops others file line.number edit (old.store.files file) value (edit.edited value) (next (edit.is_idle value))
+    (λ idle. subst (λ (b : Bool). MayStop others file (next b)) (sym idle) (lines_stop others file now lines left))
+    why tells old store acts to refusal other same leaves few by some in
     record {
       done = part.done;
       hand = part.hand;
@@ -172,46 +177,36 @@ only_name_of name bytes other bytes' keeps =
 abbrev pub Takes : (old new : StoreSeen) (file bytes : List ℕ) → Type 0
 Takes old new file bytes = new.files ≡ with_file old.files file (Some bytes)
 
--- what was written for it is allowed
-pub record IsAllowed (count : ℕ) (edited : Edited) (old new : StoreSeen) : Type 0 where
+-- what was written for it is allowed: nothing where its edits wrote nothing, and twelve calls of `write` at most for each line
+pub record IsAllowed (edited : Edited) (old new : StoreSeen) : Type 0 where
   pub none : edited.writes ≡ 0 → new.writes ≡ old.writes
-  pub few : new.writes ≤ old.writes + allowed count edited
-
--- edits that ended took this many calls of `write` at least
-allowed_few : (count writes : ℕ) (ended : Result (Unit {0}) Refusal) (acts : List Act) → writes ≤ 0 + 12 * edits_in acts → (refusal_in ended ≡ None → edits_in acts ≡ count) → allowed_by count writes ended ≤ 12 * edits_in acts
-allowed_few count writes (Ok passed) acts few all = let same = all refl in omega (arith, same)
-allowed_few count writes (Err refusal) acts few all = omega (arith, few)
+  pub few : new.writes ≤ old.writes + 12 * edited.lines.made
 
 -- what was done in memory was done to the file
-pub steps_over : (file : List ℕ) (now : ℕ) (lines : List LineEdit) (value : QuotaValue) (bytes : List ℕ) (edited : Edited) (tells : RunTells) (old : RunSeen) (store : StoreSeen)
-    → IsMadeInMemory (LineSteps file now lines value) file bytes edited → old.store.files file ≡ Some bytes → Takes old.store store file edited.bytes.items
-    → IsAllowed (length lines) edited old.store store → HasSteps (LineSteps file now lines value) tells (refusal_in edited.ended) old (with_store old store)
-steps_over file now lines value bytes edited tells old store made there takes writes =
-    let steps = LineSteps file now lines value in
+pub steps_over : (others : ℕ) (file : List ℕ) (now : ℕ) (lines : List LineEdit) (value : QuotaValue) (bytes : List ℕ) (edited : Edited) (tells : RunTells) (old : RunSeen) (store : StoreSeen)
+    → IsMadeInMemory (LineSteps (Together others) file now lines value) file bytes edited → old.store.files file ≡ Some bytes → Takes old.store store file edited.bytes.items
+    → IsAllowed edited old.store store → HasSteps (LineSteps (Together others) file now lines value) tells (refusal_in edited.lines.ended) old (with_store old store)
+steps_over others file now lines value bytes edited tells old store made there takes writes =
+    let steps = LineSteps (Together others) file now lines value in
     let has = made old.input old.out old.err old.link tells in
     let new_there : store.files ≡ with_file old.store.files file (only_file file edited.bytes.items file) =
     takes ∙ ap (λ (f : Option (List ℕ)). with_file old.store.files file f) (sym (only_file-at file edited.bytes.items)) in
-    let by = subst (λ (w : World). EndsBy steps (outside_of old) has.acts (record (outside_of old) { files = w }) (refusal_in edited.ended)) (sym new_there)
-    (lines_over file now lines value (outside_of (seen_of (memory_seen file bytes 0) old.input old.out old.err old.link)) (outside_of old)
-    (outside_of (seen_of (memory_seen file edited.bytes.items edited.writes) old.input old.out old.err old.link)) has.acts (refusal_in edited.ended)
+    let by = subst (λ (w : World). EndsBy steps (outside_of old) has.acts (record (outside_of old) { files = w }) (refusal_in edited.lines.ended)) (sym new_there)
+    (lines_over (Together others) file now lines value (outside_of (seen_of (memory_seen file bytes 0) old.input old.out old.err old.link)) (outside_of old)
+    (outside_of (seen_of (memory_seen file edited.bytes.items edited.writes) old.input old.out old.err old.link)) has.acts (refusal_in edited.lines.ended)
     (there ∙ sym (only_file-at file bytes)) has.by_steps) in
     record {
       acts = has.acts;
       by_steps = by;
       done = record {
-        files = ends_follow steps (outside_of old) has.acts (outside_of (with_store old store)) (refusal_in edited.ended) by;
+        files = ends_follow steps (outside_of old) has.acts (outside_of (with_store old store)) (refusal_in edited.lines.ended) by;
         out = has.done.out;
         err = has.done.err;
         answered = has.done.answered;
         started = has.done.started;
         writes = record {
           none = λ none. writes.none (has.done.writes.none none);
-          few = λ none.
-              let most = allowed_few (length lines) edited.writes edited.ended has.acts (has.done.writes.few none) (λ passed.
-              lines_counted file now lines value (outside_of old) (outside_of (with_store old store)) has.acts
-              (subst (λ (r : Option Refusal). EndsBy steps (outside_of old) has.acts (outside_of (with_store old store)) r) passed by)) in
-              let less = writes.few in
-              omega (arith, most, less);
+          few = λ none. omega (arith, has.counted, writes.few);
         };
       };
     }
@@ -245,19 +240,19 @@ edits_carried steps may tells old store (Err refusal) later own has = record {
 -- The replacement failed.
 
 -- edits that were made in memory and not put back were carried out up to the fault of the store
-pub stopped_carried : (file : List ℕ) (now : ℕ) (lines : List LineEdit) (value : QuotaValue) (bytes : List ℕ) (edited : Edited) (may : Cause → List ℕ → Type 0) (tells : RunTells) (old : RunSeen) (store : StoreSeen)
-    → (edited.writes ≡ 0 → ⊥) → may StoreFault file → (IsTrue tells.store → StandsAlone old.store.files file bytes × IsMadeInMemory (LineSteps file now lines value) file bytes edited)
-    → store.files file ≡ old.store.files file → ReplacesOnly file old.store.files store.files → old.store.faults ≤ store.faults → Rose old.store.faults store.faults
-    → CarriesOut (LineSteps file now lines value) line_uses may tells old (with_store old store) (Err (refusal_of StoreFault file))
-stopped_carried file now lines value bytes edited may tells old store some allowed_so made same leaves later rose = record {
+pub stopped_carried : (others : ℕ) (file : List ℕ) (now : ℕ) (lines : List LineEdit) (value : QuotaValue) (bytes : List ℕ) (edited : Edited) (may : Cause → List ℕ → Type 0) (tells : RunTells) (old : RunSeen) (store : StoreSeen)
+    → (edited.writes ≡ 0 → ⊥) → may StoreFault file → (IsTrue tells.store → StandsAlone old.store.files file bytes × IsMadeInMemory (LineSteps (Together others) file now lines value) file bytes edited)
+    → store.files file ≡ old.store.files file → ReplacesOnly file old.store.files store.files → store.writes ≤ old.store.writes + 12 * (1 + others) → old.store.faults ≤ store.faults → Rose old.store.faults store.faults
+    → CarriesOut (LineSteps (Together others) file now lines value) line_uses may tells old (with_store old store) (Err (refusal_of StoreFault file))
+stopped_carried others file now lines value bytes edited may tells old store some allowed_so made same leaves few later rose = record {
   done = tt;
   refused = rose;
   part = λ told.
       let of = made told.store in
       let has = of.1 old.input old.out old.err old.link tells in
-      lines_stop file now lines value (Some StoreFault) tells old store has.acts _ (refusal_in edited.ended) (λ is. cc) same leaves
-      (lines_over file now lines value (outside_of (seen_of (memory_seen file bytes 0) old.input old.out old.err old.link)) (outside_of old)
-      (outside_of (seen_of (memory_seen file edited.bytes.items edited.writes) old.input old.out old.err old.link)) has.acts (refusal_in edited.ended)
+      lines_stop others file now lines value (Some StoreFault) tells old store has.acts _ (refusal_in edited.lines.ended) (λ is. cc) same leaves few
+      (lines_over (Together others) file now lines value (outside_of (seen_of (memory_seen file bytes 0) old.input old.out old.err old.link)) (outside_of old)
+      (outside_of (seen_of (memory_seen file edited.bytes.items edited.writes) old.input old.out old.err old.link)) has.acts (refusal_in edited.lines.ended)
       (of.0.named ∙ sym (only_file-at file bytes)) has.by_steps)
       (λ none. some (has.done.writes.none none));
   may_refuse = allowed_so;
@@ -273,9 +268,6 @@ stopped_carried file now lines value bytes edited may tells old store some allow
 -- a call that only read wrote nothing
 only_unwritten : {done : Bool} (old new : StoreSeen) → IsOnlyRead done old new → IsUnwritten old new
 only_unwritten old new reads = record { files = reads.files; writes = reads.writes }
-
-read_then : (old store new : StoreSeen) → IsUnwritten old store → IsUnwritten store new → IsUnwritten old new
-read_then old store new first same = record { files = same.files ∙ first.files; writes = same.writes ∙ first.writes }
 
 -- what was done from there was done
 steps_read : {done : Bool} (steps : Steps) (tells : RunTells) (refusal : Option Refusal) (old : RunSeen) (store : StoreSeen) (new : RunSeen) → IsOnlyRead done old.store store
@@ -304,8 +296,8 @@ carries_read steps uses may tells old store new result reads carries = record {
       (λ done hand now by. subst (λ (o : Outside). HasBegun steps o done hand now) (outside_same old store reads.files) by) (carries.part told);
   may_refuse = carries.may_refuse;
   placed = carries.placed;
-  only_reads = λ only. read_then old.store store new.store (only_unwritten old.store store reads) (carries.only_reads only);
-  all_or_nothing = λ whole. IfErr-weaker result _ _ (λ refusal unless other. read_then old.store store new.store (only_unwritten old.store store reads) (unless other)) (carries.all_or_nothing whole);
+  only_reads = λ only. unwritten_both old.store store new.store (only_unwritten old.store store reads) (carries.only_reads only);
+  all_or_nothing = λ whole. IfErr-weaker result _ _ (λ refusal unless other. unwritten_both old.store store new.store (only_unwritten old.store store reads) (unless other)) (carries.all_or_nothing whole);
   quiet = carries.quiet;
   later = record {
     store = omega (arith, reads.later, carries.later.store);
@@ -403,23 +395,30 @@ pub replaced_takes : (file bytes : List ℕ) (old new : StoreSeen) → old.files
 replaced_takes file bytes old new none is = is ∙ ap (λ (w : World). with_file w file (Some bytes)) (with_file-same old.files (replacement_name file) None none)
 
 -- edits that were made in memory, which the file took over
-pub put_carried : (file : List ℕ) (now : ℕ) (lines : List LineEdit) (value : QuotaValue) (bytes : List ℕ) (edited : Edited) (count : ℕ) (may : Cause → List ℕ → Type 0) (tells : RunTells) (old : RunSeen) (store : StoreSeen)
-    → IsEditOf may bytes edited → length lines ≡ count → (IsTrue tells.store → StandsAlone old.store.files file bytes × IsMadeInMemory (LineSteps file now lines value) file bytes edited)
-    → (IsTrue tells.store → StandsAlone old.store.files file bytes → Takes old.store store file edited.bytes.items) → old.store.faults ≤ store.faults → IsAllowed count edited old.store store
-    → CarriesOut (LineSteps file now lines value) line_uses may tells old (with_store old store) edited.ended
-put_carried file now lines value bytes edited count may tells old store edits counted made takes later writes =
-    edits_carried (LineSteps file now lines value) may tells old store edited.ended later edits.refused (λ told.
+pub put_carried : (others : ℕ) (file : List ℕ) (now : ℕ) (lines : List LineEdit) (value : QuotaValue) (bytes : List ℕ) (edited : Edited) (may : Cause → List ℕ → Type 0) (tells : RunTells) (old : RunSeen) (store : StoreSeen)
+    → IsEditOf may (length lines) bytes edited → (IsTrue tells.store → StandsAlone old.store.files file bytes × IsMadeInMemory (LineSteps (Together others) file now lines value) file bytes edited)
+    → (IsTrue tells.store → StandsAlone old.store.files file bytes → Takes old.store store file edited.bytes.items) → old.store.faults ≤ store.faults → IsAllowed edited old.store store
+    → CarriesOut (LineSteps (Together others) file now lines value) line_uses may tells old (with_store old store) edited.lines.ended
+put_carried others file now lines value bytes edited may tells old store edits made takes later writes =
+    edits_carried (LineSteps (Together others) file now lines value) may tells old store edited.lines.ended later edits.refused (λ told.
     let of = made told.store in
-    steps_over file now lines value bytes edited tells old store of.1 of.0.named (takes told.store of.0)
-    (subst (λ (n : ℕ). IsAllowed n edited old.store store) (sym counted) writes))
+    steps_over others file now lines value bytes edited tells old store of.1 of.0.named (takes told.store of.0) writes)
 
 -- edits that were made in memory and not put back
-pub refused_carried : (file : List ℕ) (now : ℕ) (lines : List LineEdit) (value : QuotaValue) (bytes : List ℕ) (edited : Edited) (asked : Option Format) (tells : RunTells) (old : RunSeen) (store : StoreSeen) (fault : ReplaceFault)
-    → (edited.writes ≡ 0 → ⊥) → (IsTrue tells.store → StandsAlone old.store.files file bytes × IsMadeInMemory (LineSteps file now lines value) file bytes edited)
-    → KeepsOthers (replacement_name file) old.store.files store.files → ReplacesOne file old.store store → IsReplaceFault old.store.faults store.faults fault → OnNoMemory fault (store ≡ old.store)
-    → CarriesOut (LineSteps file now lines value) line_uses (LineEditMayRefuse asked file) tells old (with_store old store) (Err (refusal_of (replace_cause fault) file))
-refused_carried file now lines value bytes edited asked tells old store NotStored some made keeps leaves cause memory =
-    stopped_carried file now lines value bytes edited (LineEditMayRefuse asked file) tells old store some (inr tt) made (keeps file (λ is. replacement_name-ne file (sym is))) leaves.files leaves.later cause
-refused_carried file now lines value bytes edited asked tells old store (Full blocks limit) some made keeps leaves cause memory = absurd cause
-refused_carried file now lines value bytes edited asked tells old store NoMemory some made keeps leaves cause memory =
-    wanting_carried (LineSteps file now lines value) asked file tells old store (only_read-none {done = true} old.store store memory)
+pub refused_carried : (others : ℕ) (file : List ℕ) (now : ℕ) (lines : List LineEdit) (value : QuotaValue) (bytes : List ℕ) (edited : Edited) (asked : Option Format) (tells : RunTells) (old : RunSeen) (store : StoreSeen) (fault : ReplaceFault)
+    → (edited.writes ≡ 0 → ⊥) → (IsTrue tells.store → StandsAlone old.store.files file bytes × IsMadeInMemory (LineSteps (Together others) file now lines value) file bytes edited)
+    → KeepsOthers (replacement_name file) old.store.files store.files → ReplacesOne file old.store store → store.writes ≤ old.store.writes + 12 * (1 + others)
+    → IsReplaceFault old.store.faults store.faults fault → OnNoMemory fault (store ≡ old.store)
+    → CarriesOut (LineSteps (Together others) file now lines value) line_uses (LineEditMayRefuse asked file) tells old (with_store old store) (Err (refusal_of (replace_cause fault) file))
+refused_carried others file now lines value bytes edited asked tells old store NotStored some made keeps leaves few cause memory =
+    stopped_carried others file now lines value bytes edited (LineEditMayRefuse asked file) tells old store some (inr tt) made (keeps file (λ is. replacement_name-ne file (sym is))) leaves.files few leaves.later cause
+refused_carried others file now lines value bytes edited asked tells old store (Full blocks limit) some made keeps leaves few cause memory = absurd cause
+refused_carried others file now lines value bytes edited asked tells old store NoMemory some made keeps leaves few cause memory =
+    wanting_carried (LineSteps (Together others) file now lines value) asked file tells old store (only_read-none {done = true} old.store store memory)
+
+-- Several lines are edited together.
+
+pub way_many : (lines : List LineEdit) → 2 ≤ length lines → (others : ℕ) × (length lines ≡ 1 + others) × (way_of lines ≡ Together others)
+way_many [] many = absurd (omega (arith, many))
+way_many (line ∷ []) many = absurd (omega (arith, many))
+way_many (line ∷ next ∷ lines) many = (length (next ∷ lines), omega arith, refl)

@@ -1,8 +1,9 @@
--- What is left of a file where there was not enough memory.
-use Rattle.std.proofs.Common.{◌≡◌, ◌≢◌, ℕ, List, Option, Ok, Err, Result, subst, ◌∙◌}
+-- Where there was not enough memory nothing was written.
+use Rattle.std.proofs.Common.{◌≢◌, ℕ, List, Ok, Err, Result, subst, ◌∙◌}
 use Rattle.std.specs.Prelude.{IfErr, IfSome}
 use Rattle.id_names.specs.NamesFile.{NameLine}
 use Rattle.quota_blocks.specs.QuotaFile.{WantsNoMemory}
+use Rattle.quota_blocks.specs.Seen.{StoreSeen}
 use Rattle.quota_blocks.specs.declared.quota_file.FileFault.TheVariants.{Store, Damage, Full, Memory as NoMemory}
 use Rattle.set_edit.specs.EditFault.{file_fault}
 use Rattle.set_edit.specs.declared.fault.EditFault.{EditFault}
@@ -10,6 +11,7 @@ use Rattle.set_edit.specs.declared.fault.EditFault.TheVariants.{File, NoRoom as 
 use Rattle.refusals.specs.declared.cause.Cause.{Cause}
 use Rattle.refusals.specs.declared.cause.Cause.TheVariants.{Memory}
 use Rattle.refusals.specs.declared.reason.Refusal.{Refusal}
+use Rattle.run_steps.specs.Done.{IsUnwritten}
 use Rattle.edit_steps.specs.EditStep.{edit_cause}
 use Rattle.batch_commands.specs.Batch.{LineMayRefuse}
 use Rattle.batch_commands.specs.Together.{IfWanting}
@@ -27,10 +29,14 @@ pub wanting_never : (result : Result (Unit {0}) Refusal) (fact : Type 0) → IfE
 wanting_never (Ok passed) fact none = tt
 wanting_never (Err refusal) fact none = λ is. absurd (none is)
 
--- a file that was as it was before too
-pub wanting_since : (result : Result (Unit {0}) Refusal) (new middle old : Option (List ℕ)) → middle ≡ old → IfWanting (new ≡ middle) result → IfWanting (new ≡ old) result
-wanting_since (Ok passed) new middle old same wanting = tt
-wanting_since (Err refusal) new middle old same wanting = λ is. wanting is ∙ same
+-- nothing was written, and then again nothing
+pub unwritten_both : (old middle new : StoreSeen) → IsUnwritten old middle → IsUnwritten middle new → IsUnwritten old new
+unwritten_both old middle new first then = record { files = then.files ∙ first.files; writes = then.writes ∙ first.writes }
+
+-- nothing was written before either
+pub wanting_since : (result : Result (Unit {0}) Refusal) (old middle new : StoreSeen) → IsUnwritten old middle → IfWanting (IsUnwritten middle new) result → IfWanting (IsUnwritten old new) result
+wanting_since (Ok passed) old middle new first wanting = tt
+wanting_since (Err refusal) old middle new first wanting = λ is. unwritten_both old middle new first (wanting is)
 
 -- a line is not refused for lack of memory
 pub line_wants : (names : List NameLine) (place : List ℕ) (cause : Cause) (said : List ℕ) → LineMayRefuse names place cause said → cause ≢ Memory

@@ -1,6 +1,6 @@
 -- `setquota -b`: new limits of many identifiers, a line of an input each. Source: the manual page of setquota; what stands in
 -- a line, and that the edits of the lines before a refused one stay, is this project's own.
-use Rattle.std.specs.Prelude.{◌≡◌, ◌⊎◌, ℕ, ◌+◌, ◌*◌, length, Bool, true, false, if◌then◌else◌, List, [], ◌∷◌, Option, Some, None, is_none}
+use Rattle.std.specs.Prelude.{◌≡◌, ◌⊎◌, ℕ, ◌+◌, ◌*◌, ◌&&◌, length, nat_le, nat_lt, Bool, true, false, if◌then◌else◌, List, [], ◌∷◌, Option, Some, None, is_none}
 use Rattle.std.specs.List.{list_all}
 use Rattle.std.specs.Str.{is_utf8}
 use Rattle.id_names.specs.NamesFile.{NameLine}
@@ -26,7 +26,7 @@ use Rattle.refusals.specs.declared.cause.Cause.TheVariants.{Memory, LongLine, To
 use Rattle.refusals.specs.declared.reason.Refusal.{Refusal}
 use Rattle.command_words.specs.declared.command.Common.{Common}
 use Rattle.run_steps.specs.declared.invocation.Invocation.{Invocation}
-use Rattle.run_steps.specs.Act.{Act, Together}
+use Rattle.run_steps.specs.Act.{Act, Behind, InPlace, Together, Way}
 use Rattle.run_steps.specs.InputLine.{says_nothing}
 use Rattle.run_steps.specs.Naming.{MayBeNames, NamesMayRefuse}
 use Rattle.run_steps.specs.Opening.{MayRefuseOpening}
@@ -152,22 +152,33 @@ input_cause NoMemory failed = Memory
 abbrev pub edit_of : LineEdit → ℕ → Edit
 edit_of line now = limits_edit line.id line.limits now
 
--- Edits are done, each in the file as the ones before it left it, up to one that is refused; and behind the last one comes this
--- refusal, if there is one.
-abbrev pub EditsThen : List ℕ → ℕ → List LineEdit → QuotaValue → Option Refusal → Steps
-EditsThen name now [] value behind = Ending behind
-EditsThen name now (line ∷ lines) value behind =
+-- how the edits of lines are done: that of one line in its place, and those of more lines together
+abbrev pub way_of : List LineEdit → Way
+way_of [] = InPlace
+way_of (line ∷ []) = InPlace
+way_of (line ∷ next ∷ lines) = Together (length (next ∷ lines))
+
+-- how the edits behind one are done, which had nothing to do, or changed the file
+abbrev pub way_behind : Way → (idle : Bool) → Way
+way_behind (Together others) false = Behind
+way_behind way idle = way
+
+-- Edits are done, the first one in this way, each in the file as the ones before it left it, up to one that is refused; and behind the
+-- last one comes this refusal, if there is one.
+abbrev pub EditsThen : Way → List ℕ → ℕ → List LineEdit → QuotaValue → Option Refusal → Steps
+EditsThen way name now [] value behind = Ending behind
+EditsThen way name now (line ∷ lines) value behind =
     Looking (λ (files : World).
-    Then (met_at line.number (edit_step Together name (edit_of line now) (files name) value)) (λ (acts : List Act).
-    DoingAll acts (EditsThen name now lines (value_left ((edit_of line now).edited value) value) behind)))
+    Then (met_at line.number (edit_step way name (edit_of line now) (files name) value)) (λ (acts : List Act).
+    DoingAll acts (EditsThen (way_behind way ((edit_of line now).is_idle value)) name now lines (value_left ((edit_of line now).edited value) value) behind)))
 
 -- edits are done, up to one that is refused
-abbrev pub LineSteps : List ℕ → ℕ → List LineEdit → QuotaValue → Steps
-LineSteps file now edits value = EditsThen file now edits value None
+abbrev pub LineSteps : Way → List ℕ → ℕ → List LineEdit → QuotaValue → Steps
+LineSteps way file now edits value = EditsThen way file now edits value None
 
 -- edits are done, up to one that is refused, and then comes the refusal of the line behind them
 abbrev pub Applying : List ℕ → ℕ → QuotaValue → Asked → Steps
-Applying file now value asked = EditsThen file now asked.edits value asked.refusal
+Applying file now value asked = EditsThen (way_of asked.edits) file now asked.edits value asked.refusal
 
 -- the lines are read, and their edits done
 abbrev pub ReadSteps : List NameLine → Option (List ℕ) → List ℕ → ℕ → QuotaValue → Steps
@@ -179,19 +190,28 @@ BatchSteps common from file invocation =
     Naming common.kind common.names (λ (names : List NameLine).
     Opening common.kind common.format file (ReadSteps names from file invocation.now))
 
--- how many calls of `read` the edits make at most that an input asks for: seventeen each
-abbrev pub line_reads : List NameLine → (bytes : List ℕ) → ℕ
-line_reads names bytes = 17 * length (input_asks names [] bytes).edits
+-- the edits that an input asks for
+abbrev pub input_edits : List NameLine → (bytes : List ℕ) → List LineEdit
+input_edits names bytes = (input_asks names [] bytes).edits
+
+-- how many calls of `read` it takes to read a file of this length whole, where so many lines may be edited together in it: where there
+-- are several, and the file has no more pieces than twelve for each of them
+abbrev pub whole_reads : (count length : ℕ) → ℕ
+whole_reads count length = if nat_lt 1 count && nat_le (pieces_of length) (12 * count) then pieces_of length else 0
+
+-- how many calls of `read` edits of a file of this length make at most: seventeen each, and those that read it whole
+abbrev pub line_reads : List LineEdit → (size : ℕ) → ℕ
+line_reads edits size = whole_reads (length edits) size + 17 * length edits
 
 -- that many, where there is neither a file of names nor one of lines, which are read besides
 abbrev pub if_neither : (names from : Option (List ℕ)) → ℕ → Option ℕ
 if_neither None None reads = Some reads
 if_neither names from reads = None
 
--- how many calls of `read` lines of the standard input make at most, the opening of the file with them, where there are no names; the
--- file is read once more where they are edited together
+-- how many calls of `read` lines of the standard input make at most, the opening of the file with them, where there are no names
 abbrev pub batch_reads : Common → Option (List ℕ) → List ℕ → World → (bytes : List ℕ) → Option ℕ
-batch_reads common from file files bytes = if_neither common.names from (opening_reads common.format (file_of files file) + (pieces_of (length (file_of files file)) + line_reads [] bytes))
+batch_reads common from file files bytes =
+    if_neither common.names from (opening_reads common.format (file_of files file) + line_reads (input_edits [] bytes) (length (file_of files file)))
 
 -- edits of lines change the store, and those before a refused one stay
 abbrev pub line_uses : Uses

@@ -8,22 +8,23 @@ use Rattle.quota_blocks.specs.QuotaValue.{QuotaValue}
 use Rattle.quota_blocks.specs.World.{World}
 use Rattle.refusals.specs.Outcome.{Passed}
 use Rattle.command_words.specs.declared.command.Common.{Common}
-use Rattle.run_steps.specs.Act.{Act, Follows, Together}
+use Rattle.run_steps.specs.Act.{Act, Follows, Way}
 use Rattle.run_steps.specs.Done.{Outside}
 use Rattle.run_steps.specs.Naming.{names_seen}
 use Rattle.run_steps.specs.Taking.{input_said}
-use Rattle.batch_commands.specs.Batch.{Asked, batch_step, edit_of}
+use Rattle.batch_commands.specs.Batch.{Asked, batch_step, edit_of, way_behind}
 use Rattle.edit_steps.specs.EditStep.{edit_step}
 use Rattle.batch_commands.specs.declared.batch_line.LineEdit.{LineEdit}
 use Rattle.edit_steps.specs.Room.{Fits, IsFullFor}
 
--- edits of lines of the file of this name fit, each in the value, and in the file, whichever it is, that the ones before it left
-abbrev pub AllFit : List ℕ → ℕ → List LineEdit → World → QuotaValue → Type 0
-AllFit name now [] files value = ⊤
-AllFit name now (line ∷ lines) files value =
+-- edits of lines of the file of this name fit, the first of which is done in this way, each in the value, and in the file, whichever it
+-- is, that the ones before it left
+abbrev pub AllFit : Way → List ℕ → ℕ → List LineEdit → World → QuotaValue → Type 0
+AllFit way name now [] files value = ⊤
+AllFit way name now (line ∷ lines) files value =
     (new : QuotaValue) × Fits (edit_of line now) (files name) value new
-    × ((acts : List Act) (left : World) → edit_step Together name (edit_of line now) (files name) value ≡ Passed acts → Follows acts files left
-    → AllFit name now lines left new)
+    × ((acts : List Act) (left : World) → edit_step way name (edit_of line now) (files name) value ≡ Passed acts → Follows acts files left
+    → AllFit (way_behind way ((edit_of line now).is_idle value)) name now lines left new)
 
 -- one of these lines asks for an edit for which a file has no room
 pub record IsFullForOne (kind : Kind) (asked : Option Format) (now : ℕ) (lines : List LineEdit) (file : Option (List ℕ)) (blocks limit : ℕ) : Type 0 where

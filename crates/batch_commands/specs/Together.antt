@@ -1,23 +1,25 @@
 -- Edits of many lines that are made together: in memory, after which the file is replaced once. Source: this project's own.
-use Rattle.std.specs.Prelude.{◌≡◌, ◌*◌, ◌<◌, ◌≤◌, ℕ, Bool, false, List, Option, Some, None, Result, Ok, Err, IfErr, ⊤}
+use Rattle.std.specs.Prelude.{◌≡◌, ◌⊎◌, ◌+◌, ◌*◌, ◌<◌, ◌≤◌, ℕ, Bool, false, List, Option, Some, None, Result, Ok, Err, IfErr, ⊤}
 use Rattle.file_in_memory.specs.OneFile.{only_file}
 use Rattle.outside.specs.Frame.{IsUnfailed}
 use Rattle.outside.specs.Replacement.{replacement_name}
 use Rattle.outside.specs.Seen.{StoreSeen}
 use Rattle.outside.specs.Unsynced.{AddsNone}
 use Rattle.outside.specs.World.{World}
-use Rattle.quota_blocks.specs.declared.whole_file.LoadFault.{LoadFault}
-use Rattle.quota_blocks.specs.declared.whole_file.LoadFault.TheVariants.{Store, NoFile, TooLarge, Memory}
+use Rattle.quota_blocks.specs.Replace.{pieces_of}
 use Rattle.quota_blocks.specs.Seen.{LinkSeen, SinkSeen, SourceSeen}
 use Rattle.quota_blocks.specs.declared.replacement.ReplaceFault.{ReplaceFault}
 use Rattle.quota_blocks.specs.declared.replacement.ReplaceFault.TheVariants.{Store as NotStored, Full, Memory as Wanting}
 use Rattle.refusals.specs.declared.cause.Cause.{Cause}
-use Rattle.refusals.specs.declared.cause.Cause.TheVariants.{StoreFault, NoFile as NoSuchFile, TooLarge as FileTooLarge, Memory as WantOfMemory}
+use Rattle.refusals.specs.declared.cause.Cause.TheVariants.{StoreFault, Memory as WantOfMemory}
 use Rattle.refusals.specs.declared.reason.Refusal.{Refusal}
 use Rattle.refusals.specs.Status.{status_of}
-use Rattle.run_steps.specs.Done.{RunTells, seen_of}
-use Rattle.run_steps.specs.Run.{HasSteps, IsPlacedBy}
+use Rattle.run_steps.specs.Act.{Act}
+use Rattle.run_steps.specs.Done.{AreDone, RunSeen, RunTells, outside_of, seen_of}
+use Rattle.run_steps.specs.Meaning.{EndsBy}
+use Rattle.run_steps.specs.Run.{IsPlacedBy}
 use Rattle.run_steps.specs.Steps.{Steps}
+use Rattle.run_steps.specs.Writes.{edits_in}
 use Rattle.batch_commands.specs.Batch.{line_uses}
 use Rattle.batch_commands.specs.declared.together.Attempt.{Attempt}
 use Rattle.batch_commands.specs.declared.together.Attempt.TheVariants.{Ended, NotMade}
@@ -37,13 +39,6 @@ IfNotMade (NotMade name) P = P name
 abbrev pub refusal_in : Result (Unit {0}) Refusal → Option Refusal
 refusal_in (Ok passed) = None
 refusal_in (Err refusal) = Some refusal
-
--- what is said where the file is not read whole
-abbrev pub load_cause : LoadFault → Cause
-load_cause Store = StoreFault
-load_cause NoFile = NoSuchFile
-load_cause TooLarge = FileTooLarge
-load_cause Memory = WantOfMemory
 
 -- Calls that only read leave all files and make no call of `write`; where they were done, or no call on the store failed, no name is
 -- unsynced that was not.
@@ -73,17 +68,32 @@ pub record IsOfEdit (may : Cause → List ℕ → Type 0) (refusal : Refusal) : 
   pub placed : IsPlacedBy line_uses refusal
   pub own : status_of refusal.cause < 4
 
--- Edits in memory of a file of these bytes: where nothing was written the bytes are as they were, and a line that was refused was
--- refused by its edit.
-pub record IsEditOf (may : Cause → List ℕ → Type 0) (bytes : List ℕ) (edited : Edited) : Type 0 where
+-- Lines were edited, so many of them: the acts by which their steps end with this refusal, or with none, were done, and as many edits
+-- are among them.
+pub record HasMade (steps : Steps) (tells : RunTells) (refusal : Option Refusal) (made : ℕ) (old new : RunSeen) : Type 0 where
+  pub acts : List Act
+  pub by_steps : EndsBy steps (outside_of old) acts (outside_of new) refusal
+  pub done : AreDone tells acts old new
+  pub counted : edits_in acts ≡ made
+
+-- a fact of edits, unless they ended since something failed or there was not enough memory
+abbrev pub IfOwn : Result (Unit {0}) Refusal → Type 0 → Type 0
+IfOwn (Ok passed) P = P
+IfOwn (Err refusal) P = status_of refusal.cause < 4 → P
+
+-- Edits in memory of so many lines, of a file of these bytes: no more lines were edited; where nothing was written the bytes are as
+-- they were, and a line that was refused was refused by its edit.
+pub record IsEditOf (may : Cause → List ℕ → Type 0) (count : ℕ) (bytes : List ℕ) (edited : Edited) : Type 0 where
+  pub few : edited.lines.made ≤ count
   pub same : edited.writes ≡ 0 → edited.bytes.items ≡ bytes
-  pub refused : IfErr edited.ended (IsOfEdit may)
+  pub refused : IfErr edited.lines.ended (IsOfEdit may)
 
 -- what edits of a file of these bytes made in memory of it is what the steps do there, however they ended, whatever else is seen
 abbrev pub IsMadeInMemory : Steps → (name bytes : List ℕ) → Edited → Type 0
 IsMadeInMemory steps name bytes edited =
     (input : SourceSeen) (out err : SinkSeen) (link : LinkSeen) (tells : RunTells)
-    → HasSteps steps tells (refusal_in edited.ended) (seen_of (memory_seen name bytes 0) input out err link) (seen_of (memory_seen name edited.bytes.items edited.writes) input out err link)
+    → HasMade steps tells (refusal_in edited.lines.ended) edited.lines.made (seen_of (memory_seen name bytes 0) input out err link)
+    (seen_of (memory_seen name edited.bytes.items edited.writes) input out err link)
 
 -- what is said where the file is not replaced
 abbrev pub replace_cause : ReplaceFault → Cause
@@ -91,14 +101,9 @@ replace_cause NotStored = StoreFault
 replace_cause (Full blocks limit) = StoreFault
 replace_cause Wanting = WantOfMemory
 
--- how many calls of `write` a replacement may take: twelve for each line, or, where one was refused, as many as the edits made
-abbrev pub allowed_by : (count writes : ℕ) → Result (Unit {0}) Refusal → ℕ
-allowed_by count writes (Ok passed) = 12 * count
-allowed_by count writes (Err refusal) = writes
-
--- the same of a file that was edited in memory
-abbrev pub allowed : (count : ℕ) → Edited → ℕ
-allowed count edited = allowed_by count edited.writes edited.ended
+-- Nothing was read, or a file of this length once, where so many lines may make as many calls of `write` as a replacement of it.
+abbrev pub ReadsWhole : (count length before now : ℕ) → Type 0
+ReadsWhole count length before now = (now ≡ before) ⊎ ((pieces_of length ≤ 12 * count) × (now ≤ before + pieces_of length))
 
 -- a fact where there was not enough memory
 abbrev pub IfWanting : Type 0 → Result (Unit {0}) Refusal → Type 0

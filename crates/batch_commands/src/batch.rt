@@ -5,16 +5,16 @@ ghost use Rattle.quota_blocks.specs.Frame.{Syncs};
 ghost use Rattle.quota_blocks.specs.QuotaValue.{QuotaValue};
 ghost use Rattle.quota_blocks.specs.Seen.{LinkSeen, SinkSeen, SourceSeen};
 ghost use Rattle.quota_blocks.specs.EditsOne.{EditsOne};
-ghost use Rattle.quota_blocks.specs.Replace.{pieces_of};
 ghost use Rattle.quota_blocks.specs.Replacement.{ReplacesOnly};
 ghost use Rattle.quota_map.specs.View.{IsOpenedAs, IsView, fresh_seen, opening_reads};
 ghost use Rattle.refusals.specs.declared.cause.Cause.TheVariants.{Memory};
-ghost use Rattle.run_steps.specs.Done.{seen_of, tells_of};
+ghost use Rattle.run_steps.specs.Act.{Together, Way};
+ghost use Rattle.run_steps.specs.Done.{IsUnwritten, RunTells, seen_of, tells_of};
 ghost use Rattle.run_steps.specs.Run.{CarriesOut};
 ghost use Rattle.run_steps.specs.Steps.{Opening};
 ghost use Rattle.run_steps.specs.Writes.{ReadsWithin};
-ghost use Rattle.batch_commands.specs.Batch.{BatchMayRefuse, BatchSteps, LineSteps, LineEditMayRefuse, NamedBatchMayRefuse, ReadSteps, batch_reads, batch_uses, line_reads, line_uses};
-ghost use Rattle.batch_commands.specs.Together.{IfWanting};
+ghost use Rattle.batch_commands.specs.Batch.{BatchMayRefuse, BatchSteps, LineSteps, LineEditMayRefuse, NamedBatchMayRefuse, ReadSteps, batch_reads, batch_uses, input_edits, line_reads, line_uses, way_of};
+ghost use Rattle.batch_commands.specs.Together.{HasMade, IfOwn, IfWanting, refusal_in};
 
 use crate::batch_input::{Batch, take_batch};
 use crate::batch_line::{LineEdit, at_line};
@@ -49,14 +49,14 @@ pub fn apply_lines<S: Store, I: Source>(
         (tells_of S.tells I.tells out_tells err_tells link_tells)
         (seen_of (S.seen store.old) (I.seen input.old) out err link)
         (seen_of (S.seen store.new) (I.seen input.new) out err link) result }
-    // Where there was not enough memory the file is as it was.
-    ensures wanting { IfWanting ((S.seen store.new).files file ≡ (S.seen store.old).files file) result }
+    // Where there was not enough memory nothing was written.
+    ensures wanting { IfWanting (IsUnwritten (S.seen store.old) (S.seen store.new)) result }
     // No file but this one has changed, and the one with `.new` added to its name, however it ended.
     ensures others { ReplacesOnly file (S.seen store.old).files (S.seen store.new).files }
     // What was written has been synced where it was done, and where it was not too, unless a call on the store failed.
     ensures synced { IsTrue S.tells → Syncs (is_ok result) (S.seen store.old) (S.seen store.new) }
-    // Where it was done without a file of names, and out of the standard input, no more was read than the opening of the file takes, the
-    // file once more, and seventeen blocks for each line that asks for an edit.
+    // Where it was done without a file of names, and out of the standard input, no more was read than the opening of the file takes,
+    // seventeen blocks for each line that asks for an edit, and the file once more where its lines may be edited together.
     ensures reads { OnOk result (IsTrue S.tells → IsTrue I.tells
         → ReadsWithin (batch_reads common from file (S.seen store.old).files (I.seen input.old).left) (S.seen store.old) (S.seen store.new)) }
     ensures untouched { IsSome from → input.new ≡ input.old }
@@ -91,12 +91,12 @@ fn apply_named<S: Store, I: Source>(
         (tells_of S.tells I.tells out_tells err_tells link_tells)
         (seen_of (S.seen store.old) (I.seen input.old) out err link)
         (seen_of (S.seen store.new) (I.seen input.new) out err link) result }
-    ensures wanting { IfWanting ((S.seen store.new).files file ≡ (S.seen store.old).files file) result }
+    ensures wanting { IfWanting (IsUnwritten (S.seen store.old) (S.seen store.new)) result }
     ensures others { ReplacesOnly file (S.seen store.old).files (S.seen store.new).files }
     ensures synced { IsTrue S.tells → Syncs (is_ok result) (S.seen store.old) (S.seen store.new) }
     ensures reads { from ≡ None → OnOk result (IsTrue S.tells → IsTrue I.tells → (S.seen store.new).reads ≤ (S.seen store.old).reads
-        + (opening_reads format (file_of (S.seen store.old).files file) + (pieces_of (length (file_of (S.seen store.old).files file))
-        + line_reads names.now (I.seen input.old).left))) }
+        + (opening_reads format (file_of (S.seen store.old).files file)
+        + line_reads (input_edits names.now (I.seen input.old).left) (length (file_of (S.seen store.old).files file)))) }
     ensures untouched { IsSome from → input.new ≡ input.old }
     ensures keeps { I.keeps false input.old input.new }
 {
@@ -130,12 +130,12 @@ fn apply_opened<S: Store, I: Source>(
         (tells_of S.tells I.tells out_tells err_tells link_tells)
         (seen_of (S.seen store.old) (I.seen input.old) out err link)
         (seen_of (S.seen store.new) (I.seen input.new) out err link) result }
-    ensures wanting { IfWanting ((S.seen store.new).files file ≡ (S.seen store.old).files file) result }
+    ensures wanting { IfWanting (IsUnwritten (S.seen store.old) (S.seen store.new)) result }
     ensures others { ReplacesOnly file (S.seen store.old).files (S.seen store.new).files }
     ensures synced { IsTrue S.tells → Syncs (is_ok result) (S.seen store.old) (S.seen store.new) }
     ensures reads { from ≡ None → OnOk result (IsTrue S.tells → IsTrue I.tells
-        → (S.seen store.new).reads ≤ (S.seen store.old).reads + (pieces_of (length (file_of (S.seen store.old).files file))
-        + line_reads names.now (I.seen input.old).left)) }
+        → (S.seen store.new).reads ≤ (S.seen store.old).reads
+        + line_reads (input_edits names.now (I.seen input.old).left) (length (file_of (S.seen store.old).files file))) }
     ensures untouched { IsSome from → input.new ≡ input.old }
     ensures keeps { I.keeps false input.old input.new }
 {
@@ -180,49 +180,77 @@ fn edit_lines<S: Store>(
         → (value : QuotaValue) → (IsTrue S.tells → ⟦<AnyFile as QuotaFile<S>>⟧.holds opened store.old value)
         → (IsTrue S.tells → IsView ((S.seen store.old).files file) kind format (Ok value))
         → (input : SourceSeen) (out err : SinkSeen) (link : LinkSeen) (input_tells out_tells err_tells link_tells : Bool)
-        → CarriesOut (LineSteps file now lines.now value) line_uses (LineEditMayRefuse format file)
+        → CarriesOut (LineSteps (way_of lines.now) file now lines.now value) line_uses (LineEditMayRefuse format file)
         (tells_of S.tells input_tells out_tells err_tells link_tells)
         (seen_of (S.seen store.old) input out err link)
         (seen_of (S.seen store.new) input out err link) result }
-    ensures wanting { IfWanting ((S.seen store.new).files file ≡ (S.seen store.old).files file) result }
+    ensures wanting { IfWanting (IsUnwritten (S.seen store.old) (S.seen store.new)) result }
     ensures others { ReplacesOnly file (S.seen store.old).files (S.seen store.new).files }
     ensures synced { IsTrue S.tells → Syncs (is_ok result) (S.seen store.old) (S.seen store.new) }
     ensures reads { OnOk result (IsTrue S.tells → (S.seen store.new).reads ≤ (S.seen store.old).reads
-        + (pieces_of (length (file_of (S.seen store.old).files file)) + 17 * length lines.now)) }
+        + line_reads lines.now (length (file_of (S.seen store.old).files file))) }
 {
     match edit_together(alloc, kind, format, lines, file, store, now) {
         Attempt::Ended(ended) => ended,
-        Attempt::NotMade(file) => edit_all(&mut opened, lines, file, store, now),
+        Attempt::NotMade(file) => edit_all(&mut opened, lines, file, store, now).ended,
     }
 }
 
+/// Lines that were edited, up to one that was refused.
+#[derive(Debug, Drop)]
+pub struct EditedLines {
+    /// How many were.
+    pub made: u64,
+    /// How their edits ended.
+    pub ended: Result<(), Refusal>,
+}
+
 /// Sets the limits that lines ask for in an opened file of this name, in order, up to the first edit that is refused.
+///
+/// # Errors
+///
+/// In how it ended: an edit was refused, or the store failed. None is refused for lack of memory.
 pub fn edit_all<S: Store>(
     opened: &mut AnyFile,
     lines: &[LineEdit],
     file: Word,
     store: &mut S,
     now: u64,
-) -> Result<(), Refusal>
+) -> EditedLines
     requires { ⟦<AnyFile as QuotaFile<S>>⟧.seen opened.old ≡ fresh_seen file (⟦<AnyFile as QuotaFile<S>>⟧.seen opened.old).format }
-    ensures carries { (asked : Option FormatOf) → IsOpenedAs asked (⟦<AnyFile as QuotaFile<S>>⟧.seen opened.old).format
+    ensures carries { (way : Way) (asked : Option FormatOf) → IsOpenedAs asked (⟦<AnyFile as QuotaFile<S>>⟧.seen opened.old).format
         → (value : QuotaValue) → (IsTrue S.tells → ⟦<AnyFile as QuotaFile<S>>⟧.holds opened.old store.old value)
         → (input : SourceSeen) (out err : SinkSeen) (link : LinkSeen) (input_tells out_tells err_tells link_tells : Bool)
-        → CarriesOut (LineSteps file now lines.now value) line_uses (LineEditMayRefuse asked file)
+        → CarriesOut (LineSteps way file now lines.now value) line_uses (LineEditMayRefuse asked file)
         (tells_of S.tells input_tells out_tells err_tells link_tells)
         (seen_of (S.seen store.old) input out err link)
-        (seen_of (S.seen store.new) input out err link) result }
-    // None is refused for lack of memory.
-    ensures memory { IfErr result (λ refusal. refusal.cause ≢ Memory) }
+        (seen_of (S.seen store.new) input out err link) result.ended }
+    // So many lines were edited as it says, unless it ended since something failed.
+    ensures counted { IsTrue S.tells → (others : ℕ) (value : QuotaValue) → ⟦<AnyFile as QuotaFile<S>>⟧.holds opened.old store.old value
+        → (input : SourceSeen) (out err : SinkSeen) (link : LinkSeen) (tells : RunTells)
+        → IfOwn result.ended (HasMade (LineSteps (Together others) file now lines.now value) tells (refusal_in result.ended) result.made
+        (seen_of (S.seen store.old) input out err link)
+        (seen_of (S.seen store.new) input out err link)) }
+    ensures few { result.made ≤ length lines.now }
+    ensures memory { IfErr result.ended (λ refusal. refusal.cause ≢ Memory) }
     ensures leaves { EditsOne file (S.seen store.old) (S.seen store.new) }
-    ensures synced { IsTrue S.tells → Syncs (is_ok result) (S.seen store.old) (S.seen store.new) }
-    ensures reads { OnOk result ((S.seen store.new).reads ≤ (S.seen store.old).reads + 17 * length lines.now) }
+    ensures synced { IsTrue S.tells → Syncs (is_ok result.ended) (S.seen store.old) (S.seen store.new) }
+    ensures reads { OnOk result.ended ((S.seen store.new).reads ≤ (S.seen store.old).reads + 17 * length lines.now) }
 {
-    for line in lines {
+    for (made, line) in lines.iter().enumerate() {
         match set_limits(opened, store, line.id, &line.limits, now) {
             Ok(()) => {}
-            Err(fault) => return Err(at_line(line.number, Refusal::of(edit_cause(fault), file))),
+            Err(fault) => {
+                let refusal = at_line(line.number, Refusal::of(edit_cause(fault), file));
+                return EditedLines {
+                    made: made as u64,
+                    ended: Err(refusal),
+                };
+            }
         }
     }
-    Ok(())
+    EditedLines {
+        made: lines.len() as u64,
+        ended: Ok(()),
+    }
 }

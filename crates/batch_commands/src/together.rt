@@ -1,6 +1,5 @@
-ghost use Rattle.std.specs.Prelude.{◌≡◌, ◌+◌, ◌<◌, ◌≤◌, ◌^◌, ℕ, Bool, true, Option, None, Some, IfErr, IfOk, IfSome, IsTrue, List, Ok, false, length, is_ok};
+ghost use Rattle.std.specs.Prelude.{◌≡◌, ◌+◌, ◌*◌, ◌<◌, ◌≤◌, ◌^◌, ℕ, Bool, true, Option, None, Some, IfErr, IfOk, IfSome, IsErrAnd, IsTrue, List, Ok, false, length, is_ok};
 ghost use Rattle.std.specs.Option.{option_map};
-ghost use Rattle.std.specs.String.{string_bytes};
 ghost use Rattle.outside.specs.Frame.{Syncs};
 ghost use Rattle.outside.specs.Replacement.{ReplacesOnly, replacement_name};
 ghost use Rattle.quota_blocks.specs.Block.{file_of};
@@ -11,18 +10,20 @@ ghost use Rattle.quota_blocks.specs.Seen.{LinkSeen, SinkSeen, SourceSeen};
 ghost use Rattle.quota_map.specs.View.{IsOpenedAs, IsView, fresh_seen};
 ghost use Rattle.quota_types.specs.declared.file_kind.Format.{Format as FormatOf};
 ghost use Rattle.refusals.specs.Status.{status_of};
-ghost use Rattle.run_steps.specs.Done.{seen_of, tells_of};
+ghost use Rattle.run_steps.specs.Act.{Together};
+ghost use Rattle.run_steps.specs.Done.{IsUnwritten, seen_of, tells_of};
 ghost use Rattle.run_steps.specs.Run.{CarriesOut};
-ghost use Rattle.batch_commands.specs.Batch.{LineEditMayRefuse, LineSteps, line_uses};
-ghost use Rattle.batch_commands.specs.Together.{HasBytes, IfEnded, IfNotMade, IfWanting, IsEditOf, IsMadeInMemory, IsOnlyRead, StandsAlone, allowed, load_cause, replace_cause};
+ghost use Rattle.batch_commands.specs.Batch.{LineEditMayRefuse, LineSteps, line_uses, way_of, whole_reads};
+ghost use Rattle.batch_commands.specs.Together.{HasBytes, IfEnded, IfNotMade, IfWanting, IsEditOf, IsMadeInMemory, IsOnlyRead, ReadsWhole, StandsAlone, replace_cause};
 
-use crate::batch::edit_all;
+use crate::batch::{EditedLines, edit_all};
 use crate::batch_line::LineEdit;
 use file_in_memory::OneFile;
-use quota_blocks::{LoadFault, OpenFault, QuotaFile, ReplaceFault, Store, load, replace};
+use quota_blocks::{LoadFault, OpenFault, QuotaFile, ReplaceFault, Store, load, name_of_new, replace};
 use quota_map::{AnyFile, open_file};
 use quota_types::{Format, Kind};
 use refusals::{Cause, Refusal, Word};
+use run_steps::load_cause;
 use std::alloc::{AllocError, Global};
 
 /// How many bytes one call of `Store::write` takes.
@@ -56,19 +57,19 @@ pub struct Edited {
     pub bytes: Vec<u8>,
     /// How many calls of `write` the edits made.
     pub writes: u64,
-    /// How they ended.
-    pub ended: Result<(), Refusal>,
+    /// The lines that were edited.
+    pub lines: EditedLines,
 }
 
 /// Sets the limits that lines ask for in the file of this name, up to the first edit that is refused, by one replacement of the file.
 /// So it is done where there are at least two lines, where no file has its name with `.new` added, and where it pays: where the
-/// replacement takes no more than twelve calls of `write` for each line, or, where a line was refused, no more than the edits before
-/// that one made in memory. Where these made none nothing is written.
+/// replacement takes no more than twelve calls of `write` for each line that was edited. Where the edits change nothing nothing is
+/// written.
 ///
 /// # Errors
 ///
-/// In what became of it: a line was refused by its edit, the store failed, or there is not enough memory, with which the file is as it
-/// was.
+/// In what became of it: a line was refused by its edit, the store failed, or there is not enough memory, with which nothing was
+/// written.
 pub fn edit_together<S: Store>(
     alloc: Global,
     kind: Kind,
@@ -80,34 +81,25 @@ pub fn edit_together<S: Store>(
 ) -> Attempt
     ensures carries { (value : QuotaValue) → (IsTrue S.tells → IsView ((S.seen store.old).files file) kind format (Ok value))
         → (input : SourceSeen) (out err : SinkSeen) (link : LinkSeen) (input_tells out_tells err_tells link_tells : Bool)
-        → IfEnded result (CarriesOut (LineSteps file now lines.now value) line_uses (LineEditMayRefuse format file)
+        → IfEnded result (CarriesOut (LineSteps (way_of lines.now) file now lines.now value) line_uses (LineEditMayRefuse format file)
         (tells_of S.tells input_tells out_tells err_tells link_tells)
         (seen_of (S.seen store.old) input out err link) (seen_of (S.seen store.new) input out err link)) }
     ensures back { IfNotMade result (λ name. name ≡ file) }
-    // Where there was not enough memory the file is as it was.
-    ensures wanting { IfEnded result (IfWanting ((S.seen store.new).files file ≡ (S.seen store.old).files file)) }
+    // Where there was not enough memory nothing was written.
+    ensures wanting { IfEnded result (IfWanting (IsUnwritten (S.seen store.old) (S.seen store.new))) }
     ensures reads_only { IfNotMade result (λ _. IsOnlyRead true (S.seen store.old) (S.seen store.new)) }
     ensures others { ReplacesOnly file (S.seen store.old).files (S.seen store.new).files }
     ensures synced { IfEnded result (λ ended. IsTrue S.tells → Syncs (is_ok ended) (S.seen store.old) (S.seen store.new)) }
     ensures reads { IsTrue S.tells → (S.seen store.new).reads
-        ≤ (S.seen store.old).reads + pieces_of (length (file_of (S.seen store.old).files file)) }
+        ≤ (S.seen store.old).reads + whole_reads (length lines.now) (length (file_of (S.seen store.old).files file)) }
 {
+    if lines.len() < 2 {
+        return Attempt::NotMade(file);
+    }
     match read_whole(alloc, format, lines, file.as_str(), store) {
         Ok(Some(bytes)) => edit_bytes(alloc, kind, format, lines, file, bytes, store, now),
         Ok(None) => Attempt::NotMade(file),
         Err(fault) => Attempt::Ended(Err(Refusal::of(load_cause(fault), file))),
-    }
-}
-
-/// What is said where the file is not read whole.
-fn load_cause(fault: LoadFault) -> Cause
-    ensures { result ≡ load_cause fault }
-{
-    match fault {
-        LoadFault::Store => Cause::StoreFault,
-        LoadFault::NoFile => Cause::NoFile,
-        LoadFault::TooLarge => Cause::TooLarge,
-        LoadFault::Memory => Cause::Memory,
     }
 }
 
@@ -125,8 +117,8 @@ fn read_whole<S: Store>(
     ensures refused { IfErr result (IsLoadFault (S.seen store.old).faults (S.seen store.new).faults S.tells
         ((S.seen store.old).files name.now) (length (file_of (S.seen store.old).files name.now))) }
     ensures leaves { IsOnlyRead (is_ok result) (S.seen store.old) (S.seen store.new) }
-    ensures reads { IsTrue S.tells → (S.seen store.new).reads
-        ≤ (S.seen store.old).reads + pieces_of (length (file_of (S.seen store.old).files name.now)) }
+    ensures reads { IsTrue S.tells → ReadsWhole (length lines.now) (length (file_of (S.seen store.old).files name.now))
+        (S.seen store.old).reads (S.seen store.new).reads }
 {
     match size_alone(alloc, name, store)? {
         Some(size) if may_pay(format, lines, size) => Ok(Some(load(alloc, store, name, size)?)),
@@ -152,29 +144,23 @@ fn size_alone<S: Store>(alloc: Global, name: &str, store: &mut S) -> Result<Opti
     }
 }
 
-/// The name under which a new file is written.
-#[tactic(auto, unfolding(outside::specs::Replacement::replacement_name))]
-fn name_of_new(alloc: Global, name: &str) -> Result<String, AllocError>
-    ensures { IfOk result (λ new_name. string_bytes new_name ≡ replacement_name name.now) }
-{
-    let mut new_name = String::from_str(alloc, name)?;
-    new_name.push_str(".new")?;
-    Ok(new_name)
-}
-
 /// Whether edits of these lines may make as many calls of `write` as a replacement of the file, which now has this many bytes.
-fn may_pay(format: Option<Format>, lines: &[LineEdit], size: u64) -> bool {
-    let count = lines.len() as u64;
-    count > 1 && pieces(reach(format, lines, size)) <= count.saturating_mul(MOST_WRITES)
+fn may_pay(format: Option<Format>, lines: &[LineEdit], size: u64) -> bool
+    ensures { result ≡ true → pieces_of size ≤ 12 * length lines.now }
+{
+    pieces(reach(format, lines, size)) <= (lines.len() as u64).saturating_mul(MOST_WRITES)
 }
 
 /// How many bytes the file may have once these lines are edited.
-fn reach(format: Option<Format>, lines: &[LineEdit], size: u64) -> u64 {
+fn reach(format: Option<Format>, lines: &[LineEdit], size: u64) -> u64
+    ensures { size ≤ result }
+{
     match format {
         Some(Format::V1) => lines
             .iter()
             .map(|line| FLAT_RECORD * (u64::from(line.id) + 1))
-            .fold(size, u64::max),
+            .fold(0, u64::max)
+            .max(size),
         _ => size.saturating_add((lines.len() as u64).saturating_mul(MOST_GROWTH)),
     }
 }
@@ -197,21 +183,22 @@ fn edit_bytes<S: Store>(
     store: &mut S,
     now: u64,
 ) -> Attempt
-    ensures carries { (value : QuotaValue) → (IsTrue S.tells → StandsAlone (S.seen store.old).files file bytes.items)
+    ensures carries { (others : ℕ) → length lines.now ≡ 1 + others
+        → (value : QuotaValue) → (IsTrue S.tells → StandsAlone (S.seen store.old).files file bytes.items)
         → (IsTrue S.tells → IsView (Some bytes.items) kind format (Ok value))
         → (input : SourceSeen) (out err : SinkSeen) (link : LinkSeen) (input_tells out_tells err_tells link_tells : Bool)
-        → IfEnded result (CarriesOut (LineSteps file now lines.now value) line_uses (LineEditMayRefuse format file)
+        → IfEnded result (CarriesOut (LineSteps (Together others) file now lines.now value) line_uses (LineEditMayRefuse format file)
         (tells_of S.tells input_tells out_tells err_tells link_tells)
         (seen_of (S.seen store.old) input out err link) (seen_of (S.seen store.new) input out err link)) }
     ensures back { IfNotMade result (λ name. name ≡ file) }
     ensures untouched { IfNotMade result (λ _. S.seen store.new ≡ S.seen store.old) }
-    ensures wanting { IfEnded result (IfWanting ((S.seen store.new).files file ≡ (S.seen store.old).files file)) }
+    ensures wanting { IfEnded result (IfWanting (IsUnwritten (S.seen store.old) (S.seen store.new))) }
     ensures others { ReplacesOnly file (S.seen store.old).files (S.seen store.new).files }
     ensures synced { IfEnded result (λ ended. IsTrue S.tells → Syncs (is_ok ended) (S.seen store.old) (S.seen store.new)) }
     ensures reads { (S.seen store.new).reads ≡ (S.seen store.old).reads }
 {
     match edit_in_memory(alloc, kind, format, lines, file.as_str(), bytes, now) {
-        Ok(Some(edited)) => put_back(alloc, file, lines.len() as u64, edited, store),
+        Ok(Some(edited)) => put_back(alloc, file, edited, store),
         Ok(None) => Attempt::NotMade(file),
         Err(_) => Attempt::Ended(Err(Refusal::of(Cause::Memory, file))),
     }
@@ -231,9 +218,10 @@ fn edit_in_memory(
     bytes: Vec<u8>,
     now: u64,
 ) -> Result<Option<Edited>, AllocError>
-    ensures made { IfOk result (λ found. IfSome found (λ edited. (value : QuotaValue) → IsView (Some bytes.items) kind format (Ok value)
-        → IsMadeInMemory (LineSteps name.now now lines.now value) name.now bytes.items edited)) }
-    ensures edits { IfOk result (λ found. IfSome found (IsEditOf (LineEditMayRefuse format name.now) bytes.items)) }
+    ensures made { IfOk result (λ found. IfSome found (λ edited. (others : ℕ) (value : QuotaValue)
+        → IsView (Some bytes.items) kind format (Ok value)
+        → IsMadeInMemory (LineSteps (Together others) name.now now lines.now value) name.now bytes.items edited)) }
+    ensures edits { IfOk result (λ found. IfSome found (IsEditOf (LineEditMayRefuse format name.now) (length lines.now) bytes.items)) }
 {
     let file = Word::copy_of(alloc, name)?;
     let mut memory = OneFile::new(String::from_str(alloc, name)?, bytes);
@@ -258,15 +246,15 @@ fn edit_opened(
 ) -> Result<Edited, AllocError>
     requires { ⟦<AnyFile as QuotaFile<OneFile>>⟧.seen opened ≡ fresh_seen file (⟦<AnyFile as QuotaFile<OneFile>>⟧.seen opened).format }
     ensures made { IfOk result (λ edited. (bytes : List ℕ) → HasBytes file bytes (⟦<OneFile as Store>⟧.seen memory)
-        → (value : QuotaValue) → ⟦<AnyFile as QuotaFile<OneFile>>⟧.holds opened memory value
-        → IsMadeInMemory (LineSteps file now lines.now value) file bytes edited) }
+        → (others : ℕ) (value : QuotaValue) → ⟦<AnyFile as QuotaFile<OneFile>>⟧.holds opened memory value
+        → IsMadeInMemory (LineSteps (Together others) file now lines.now value) file bytes edited) }
     ensures edits { IfOk result (λ edited. (bytes : List ℕ) → HasBytes file bytes (⟦<OneFile as Store>⟧.seen memory)
         → (asked : Option FormatOf) → IsOpenedAs asked (⟦<AnyFile as QuotaFile<OneFile>>⟧.seen opened).format
         → (value : QuotaValue) → ⟦<AnyFile as QuotaFile<OneFile>>⟧.holds opened memory value
-        → IsEditOf (LineEditMayRefuse asked file) bytes edited) }
+        → IsEditOf (LineEditMayRefuse asked file) (length lines.now) bytes edited) }
 {
-    let ended = edit_all(&mut opened, lines, file, &mut memory, now);
-    if is_fault(&ended) {
+    let edited = edit_all(&mut opened, lines, file, &mut memory, now);
+    if is_fault(&edited.ended) {
         return Err(AllocError);
     }
     let writes = memory.writes();
@@ -274,13 +262,14 @@ fn edit_opened(
     Ok(Edited {
         bytes,
         writes,
-        ended,
+        lines: edited,
     })
 }
 
 /// Whether edits ended since something failed or there was not enough memory.
 fn is_fault(ended: &Result<(), Refusal>) -> bool
-    ensures { result ≡ false → IfErr ended.now (λ refusal. status_of refusal.cause < 4) }
+    ensures own { result ≡ false → IfErr ended.now (λ refusal. status_of refusal.cause < 4) }
+    ensures fault { result ≡ true → IsErrAnd ended.now (λ refusal. 4 ≤ status_of refusal.cause) }
 {
     match ended {
         Ok(()) => false,
@@ -288,38 +277,33 @@ fn is_fault(ended: &Result<(), Refusal>) -> bool
     }
 }
 
-/// Puts a file that was edited in memory in the place of the one of this name, where that pays. Where the edits of its lines, of which
-/// there are `count`, wrote nothing there is nothing to be put.
-fn put_back<S: Store>(
-    alloc: Global,
-    file: Word,
-    count: u64,
-    edited: Edited,
-    store: &mut S,
-) -> Attempt
-    ensures carries { (asked : Option FormatOf) (bytes : List ℕ) → IsEditOf (LineEditMayRefuse asked file) bytes edited
-        → (now : ℕ) (lines : List LineEdit) (value : QuotaValue) → length lines ≡ count
-        → (IsTrue S.tells → StandsAlone (S.seen store.old).files file bytes × IsMadeInMemory (LineSteps file now lines value) file bytes edited)
+/// Puts a file that was edited in memory in the place of the one of this name, where that pays. Where the edits of its lines wrote
+/// nothing there is nothing to be put.
+fn put_back<S: Store>(alloc: Global, file: Word, edited: Edited, store: &mut S) -> Attempt
+    ensures carries { (asked : Option FormatOf) (bytes : List ℕ) (now : ℕ) (lines : List LineEdit) (value : QuotaValue)
+        → IsEditOf (LineEditMayRefuse asked file) (length lines) bytes edited → (others : ℕ) → length lines ≡ 1 + others
+        → (IsTrue S.tells → StandsAlone (S.seen store.old).files file bytes
+        × IsMadeInMemory (LineSteps (Together others) file now lines value) file bytes edited)
         → (input : SourceSeen) (out err : SinkSeen) (link : LinkSeen) (input_tells out_tells err_tells link_tells : Bool)
-        → IfEnded result (CarriesOut (LineSteps file now lines value) line_uses (LineEditMayRefuse asked file)
+        → IfEnded result (CarriesOut (LineSteps (Together others) file now lines value) line_uses (LineEditMayRefuse asked file)
         (tells_of S.tells input_tells out_tells err_tells link_tells)
         (seen_of (S.seen store.old) input out err link) (seen_of (S.seen store.new) input out err link)) }
     ensures back { IfNotMade result (λ name. name ≡ file) }
     ensures untouched { IfNotMade result (λ _. S.seen store.new ≡ S.seen store.old) }
-    ensures wanting { (asked : Option FormatOf) (bytes : List ℕ) → IsEditOf (LineEditMayRefuse asked file) bytes edited
-        → IfEnded result (IfWanting ((S.seen store.new).files file ≡ (S.seen store.old).files file)) }
+    ensures wanting { (asked : Option FormatOf) (count : ℕ) (bytes : List ℕ) → IsEditOf (LineEditMayRefuse asked file) count bytes edited
+        → IfEnded result (IfWanting (IsUnwritten (S.seen store.old) (S.seen store.new))) }
     ensures others { ReplacesOnly file (S.seen store.old).files (S.seen store.new).files }
     ensures synced { IfEnded result (λ ended. IsTrue S.tells → Syncs (is_ok ended) (S.seen store.old) (S.seen store.new)) }
     ensures reads { (S.seen store.new).reads ≡ (S.seen store.old).reads }
 {
     if edited.writes == 0 {
-        return Attempt::Ended(edited.ended);
+        return Attempt::Ended(edited.lines.ended);
     }
-    if !pays(count, &edited) {
+    if !pays(&edited) {
         return Attempt::NotMade(file);
     }
     match replace(alloc, store, file.as_str(), edited.bytes.as_slice()) {
-        Ok(()) => Attempt::Ended(edited.ended),
+        Ok(()) => Attempt::Ended(edited.lines.ended),
         Err(fault) => Attempt::Ended(Err(Refusal::of(replace_cause(fault), file))),
     }
 }
@@ -335,20 +319,10 @@ fn replace_cause(fault: ReplaceFault) -> Cause
 }
 
 /// Whether the replacement by a file that was edited in memory pays, and it may be replaced.
-fn pays(count: u64, edited: &Edited) -> bool
+fn pays(edited: &Edited) -> bool
     ensures within { result ≡ true → length edited.now.bytes.items ≤ 2 ^ 42 }
-    ensures few { result ≡ true → pieces_of (length edited.now.bytes.items) ≤ allowed count edited.now }
+    ensures few { result ≡ true → pieces_of (length edited.now.bytes.items) ≤ 12 * edited.now.lines.made }
 {
     let bytes = edited.bytes.len() as u64;
-    bytes <= MOST_BYTES && pieces(bytes) <= allowed(count, edited)
-}
-
-/// How many calls of `write` the replacement may take.
-fn allowed(count: u64, edited: &Edited) -> u64
-    ensures { result ≤ allowed count edited.now }
-{
-    match edited.ended {
-        Ok(()) => count.saturating_mul(MOST_WRITES),
-        Err(_) => edited.writes,
-    }
+    bytes <= MOST_BYTES && pieces(bytes) <= edited.lines.made.saturating_mul(MOST_WRITES)
 }

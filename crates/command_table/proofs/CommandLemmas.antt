@@ -24,7 +24,7 @@ use Rattle.command_words.specs.Usage.{IsUsageFault, usage_refusal}
 use Rattle.command_words.specs.Asked.{command_of}
 use Rattle.command_words.proofs.KnownLemmas.{IsKnown, is_known}
 use Rattle.command_words.proofs.NameLemmas.{never_new}
-use Rattle.run_steps.specs.Done.{IsWorldTold, RunSeen, RunTells, outside_of}
+use Rattle.run_steps.specs.Done.{IsUnwritten, IsWorldTold, RunSeen, RunTells, outside_of}
 use Rattle.run_steps.specs.Naming.{NamesMayRefuse}
 use Rattle.run_steps.specs.Showing.{ShowingMayRefuse}
 use Rattle.run_steps.specs.Writes.{ReadsWithin}
@@ -154,7 +154,7 @@ read_carried table command asked invocation tells old new result is carried =
       carries = carries_more _ _ _ _ tells old new result (λ cause said may. inr may) carried.carries;
       named = carried.named;
       edited = carried.edited;
-      spared = carried.spared;
+      unwritten = carried.unwritten;
       within = record { alone = carried.within.alone; anew = carried.within.anew; few = carried.within.few };
       reads = carried.reads;
       made = carried.made;
@@ -192,7 +192,7 @@ not_read table (Ok command) invocation tells old NoMemory is = record {
   carries = nothing_carried ((table command).steps invocation) _ _ tells old (usage_refusal NoMemory) (λ is. cc) tt (inl refl) (record { line = λ no. refl; input_line = λ no. refl });
   named = holds_of_one (table command).replaces _ (λ file told. refl);
   edited = holds_of_one (table command).edits _ (λ file told other. inl refl);
-  spared = holds_of_one (table command).spared _ (λ file memory told. refl);
+  unwritten = λ said memory. record { files = refl; writes = refl };
   within = record {
     alone = holds_of_one (table command).alone _ (λ file other differ. refl);
     anew = holds_of_one (table command).anew _ (λ file other differ differs. refl);
@@ -212,7 +212,7 @@ not_read table (Err refusal) invocation tells old (UsageOf kind word) is =
       carries = stop_carried _ (refused (usage_refusal (UsageOf kind word))).may tells old (usage_refusal (UsageOf kind word)) (λ is. cc) (λ stated fact. fact) refl (record { line = λ no. refl; input_line = λ no. refl });
       named = tt;
       edited = tt;
-      spared = tt;
+      unwritten = λ said. absurd (false≢true said);
       within = record { alone = tt; anew = tt; few = tt };
       reads = tt;
       made = tt;
@@ -230,7 +230,7 @@ not_here_carried invocation tells old = record {
   carries = stop_carried not_here.uses not_here.may tells old unknown_command (λ is. cc) (λ stated fact. fact) refl (record { line = λ no. refl; input_line = λ no. refl });
   named = tt;
   edited = tt;
-  spared = tt;
+  unwritten = λ said. absurd (false≢true said);
   within = record { alone = tt; anew = tt; few = tt };
   reads = tt;
   made = tt;
@@ -281,7 +281,7 @@ of_done (Err refusal) holds is = tt
 
 -- a command that uses no link and reads no commands was carried out
 pub carried_alone : (d : Description) (invocation : Invocation) (tells : RunTells) (old new : RunSeen) (result : Result (Unit {0}) Refusal)
-    → IfSome d.spared (λ (file : List ℕ). IfErr result (λ (refusal : Refusal). refusal.cause ≡ Memory → IsTrue tells.store → new.store.files file ≡ old.store.files file))
+    → (IsTrue d.unwritten → IfErr result (λ (refusal : Refusal). refusal.cause ≡ Memory → IsUnwritten old.store new.store))
     → d.unfinished invocation tells old new → d.uses.reads_commands ≡ false → new.link ≡ old.link → CarriesOut (d.steps invocation) d.uses
     d.may tells old new result
     → IfSome d.replaces (λ (file : List ℕ). OnErr result (IsTrue tells.store → new.store.files file ≡ old.store.files file))
@@ -290,11 +290,11 @@ pub carried_alone : (d : Description) (invocation : Invocation) (tells : RunTell
     → ChangesWithin d old.store new.store → OnOk result (IsWorldTold tells → ReadsWithin (d.most_reads (outside_of old)) old.store new.store)
     → OnOk result (IsTrue tells.store → d.made invocation (outside_of old) new.store.files)
     → (IsTrue tells.store → Syncs (is_ok result) old.store new.store) → IsCarriedOut d invocation tells old new result
-carried_alone d invocation tells old new result spared finished one same carries named edited within reads made synced = record {
+carried_alone d invocation tells old new result unwritten finished one same carries named edited within reads made synced = record {
   carries = carries;
   named = named;
   edited = edited;
-  spared = spared;
+  unwritten = unwritten;
   within = within;
   reads = reads;
   made = made;

@@ -19,7 +19,7 @@ use Rattle.run_steps.specs.Numbers.{identifier_of}
 use Rattle.run_steps.specs.Taking.{input_said}
 use Rattle.run_steps.specs.declared.invocation.Invocation.{Invocation}
 use Rattle.edit_commands.specs.Apply.{form_step}
-use Rattle.batch_commands.specs.Batch.{Asked, batch_step}
+use Rattle.batch_commands.specs.Batch.{Asked, batch_step, way_of}
 use Rattle.edit_commands.specs.EditWords.{edit_meant, edit_read, names_wanted}
 use Rattle.batch_commands.specs.Room.{AllFit}
 use Rattle.edit_steps.specs.Room.{Fits}
@@ -60,7 +60,7 @@ CanEditLines common from file invocation old =
     (names : List NameLine) × (value : QuotaValue) × (asked : Asked)
     × (names_seen common.kind common.names old.files ≡ Passed names) × IsView (old.files file) common.kind common.format (Ok value)
     × (input_said from (batch_step names from) old.files old.input ≡ Passed asked) × (asked.refusal ≡ None)
-    × AllFit file invocation.now asked.edits old.files value
+    × AllFit (way_of asked.edits) file invocation.now asked.edits old.files value
 
 -- a check: the file is accepted or new, the listing is of the stated form, and its usage fits and has room
 abbrev pub CanCheck : Common → (fresh : Bool) → (device : Option ℕ) → Option (List ℕ) → List ℕ → Invocation → Outside → Type 0

@@ -11,7 +11,7 @@ use Rattle.refusals.specs.declared.reason.Refusal.{Refusal}
 use Rattle.refusals.specs.Status.{status_of}
 use Rattle.quota_blocks.specs.QuotaValue.{QuotaValue}
 use Rattle.run_steps.specs.Act.{MayBeLeft}
-use Rattle.run_steps.specs.Done.{IsWorldTold, Outside, RunSeen, RunTells, outside_of}
+use Rattle.run_steps.specs.Done.{IsUnwritten, IsWorldTold, Outside, RunSeen, RunTells, outside_of}
 use Rattle.run_steps.specs.Run.{CarriesOut, Uses}
 use Rattle.run_steps.specs.Steps.{Steps}
 use Rattle.run_steps.specs.Writes.{ReadsWithin}
@@ -36,8 +36,8 @@ pub record Description : Type 1 where
   pub replaces : Option (List ℕ)
   -- the file that it edits, which stays as it was where the command was refused, but for what an edit that failed may leave of it
   pub edits : Option (List ℕ)
-  -- a file that stays as it was where there was not enough memory, where neither of these says so
-  pub spared : Option (List ℕ)
+  -- whether nothing was written where there was not enough memory; of one that is all or nothing, or that only reads, its uses say so
+  pub unwritten : Bool
   -- the only file that it changes, and the only one that it writes, however it ends
   pub alone : Option (List ℕ)
   -- the only file that it makes anew, however it ends: no other one changes but the one with `.new` added to its name
@@ -85,8 +85,8 @@ pub record ChangesWithin (command : Description) (old new : StoreSeen) : Type 0 
   pub few : IfSome command.most_writes (λ (most : ℕ). new.writes ≤ old.writes + most)
 
 -- A command was carried out but for its error line. Where it was refused, for whichever cause, a file that it replaces as a whole
--- is as it was, and one that it edits is as an edit leaves it by the status of that cause; one that is spared is as it was where there
--- was not enough memory. What was written has been synced where it was
+-- is as it was, and one that it edits is as an edit leaves it by the status of that cause; and nothing was written where there was not
+-- enough memory, where its description says so. What was written has been synced where it was
 -- done, and where it was refused too, unless a call on the store failed. The link is said to have failed only where not all was done with
 -- it; where memory ran out, a command that reads no commands did nothing with it; and a command that did not come to use it left it as it
 -- was. Where commands were to be read, and what stopped that names no line, nothing was done but that the input was read.
@@ -95,8 +95,7 @@ pub record IsCarriedOut (command : Description) (invocation : Invocation) (tells
   pub named : IfSome command.replaces (λ (file : List ℕ). OnErr result (IsTrue tells.store → new.store.files file ≡ old.store.files file))
   pub edited : IfSome command.edits (λ (file : List ℕ). IfErr result (λ (refusal : Refusal). IsTrue tells.store
       → IsLeftByEdit (status_of refusal.cause) old.store.files new.store.files file))
-  pub spared : IfSome command.spared (λ (file : List ℕ). IfErr result (λ (refusal : Refusal). refusal.cause ≡ Memory → IsTrue tells.store
-      → new.store.files file ≡ old.store.files file))
+  pub unwritten : IsTrue command.unwritten → IfErr result (λ (refusal : Refusal). refusal.cause ≡ Memory → IsUnwritten old.store new.store)
   pub within : ChangesWithin command old.store new.store
   pub reads : OnOk result (IsWorldTold tells → ReadsWithin (command.most_reads (outside_of old)) old.store new.store)
   pub made : OnOk result (IsTrue tells.store → command.made invocation (outside_of old) new.store.files)

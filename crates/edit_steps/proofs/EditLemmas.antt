@@ -9,7 +9,7 @@ use Rattle.quota_blocks.specs.Seen.{StoreSeen}
 use Rattle.quota_map.specs.View.{IsView}
 use Rattle.set_edit.specs.Editing.{Edit}
 use Rattle.refusals.specs.Outcome.{Passed}
-use Rattle.run_steps.specs.Act.{Act, Change, Idle, InPlace, Together, Way}
+use Rattle.run_steps.specs.Act.{Act, Behind, Change, Idle, InPlace, Together, Way}
 use Rattle.run_steps.specs.Changing.{blocks_after, idle_acts, written}
 use Rattle.edit_steps.specs.EditStep.{value_left, changed, edit_step, is_too_large}
 use Rattle.run_steps.proofs.DoingLemmas.{AreWritten, written_none}
@@ -59,7 +59,8 @@ idle_written name old store reads = record {
 change_written : {done : Bool} (way : Way) (name : List ℕ) (new : QuotaValue) (idle : Bool) (old store : StoreSeen) → (IsTrue idle → OnlyReads done name old store)
     → IsView (store.files name) new.kind (Some new.format) (Ok new) → EditsOne name old store → store.writes ≤ old.writes + 12 → AreWritten (change_acts way name new idle) old store
 change_written InPlace name new true old store same view leaves few = written_none name old store (same refl)
-change_written Together name new true old store same view leaves few = idle_written name old store (same refl)
+change_written (Together others) name new true old store same view leaves few = idle_written name old store (same refl)
+change_written Behind name new true old store same view leaves few = idle_written name old store (same refl)
 change_written way name new false old store same view leaves few = record {
   files = (store.files, (view, leaves.files), refl);
   writes = writes_for-edit way name new old.writes store.writes few;

@@ -34,6 +34,7 @@ use Rattle.edit_steps.specs.EditStep.{changed, edit_cause, edit_step, is_too_lar
 use Rattle.run_steps.proofs.ActLemmas.{appends_nothing, leaves_others}
 use Rattle.run_steps.proofs.OpeningLemmas.{file_no_output, with_store}
 use Rattle.run_steps.proofs.PartLemmas.{nothing_begun}
+use Rattle.run_steps.proofs.ReasonLemmas.{reason_but_stated}
 use Rattle.run_steps.proofs.WritesLemmas.{writes_for-edit, writes_in_part}
 
 -- What an edit of a value left that was refused: nothing was written unless the store failed. Where this much is told, nothing was
@@ -164,13 +165,19 @@ pub record HasEditCause (edit : Edit) (file : Option (List ℕ)) (before now : �
 abbrev pub IsStepRefused : Way → List ℕ → Edit → Option (List ℕ) → EditFault → QuotaValue → Type 0
 IsStepRefused way name edit file fault value = (edit_step way name edit file value ≡ Refused (refusal_of (edit_cause fault) name)) × (status_of (edit_cause fault) ≢ 4)
 
-pub edit_reason : (way : Way) (name : List ℕ) (edit : Edit) (file : Option (List ℕ)) (uses : Uses) (old new : RunSeen) (before : ℕ) (holds : QuotaValue → Type 0) (fault : EditFault) → old.store.faults ≤ before
-    → HasEditCause edit file before new.store.faults holds fault → HasReason uses old new ((value : QuotaValue) → holds value → IsStepRefused way name edit file fault value) (edit_cause fault)
-edit_reason way name edit file uses old new before holds (File Store) le cause = let rose = cause.refused in omega (arith, le, rose)
-edit_reason way name edit file uses old new before holds (File (Damage damage)) le cause = λ value held. absurd (cause.refused value held)
-edit_reason way name edit file uses old new before holds (File (Full blocks limit)) le cause = λ value held. (
+-- whichever way it is made
+pub edit_reason_any : (name : List ℕ) (edit : Edit) (file : Option (List ℕ)) (uses : Uses) (old new : RunSeen) (before : ℕ) (holds : QuotaValue → Type 0) (fault : EditFault) → old.store.faults ≤ before
+    → HasEditCause edit file before new.store.faults holds fault → HasReason uses old new ((way : Way) (value : QuotaValue) → holds value → IsStepRefused way name edit file fault value) (edit_cause fault)
+edit_reason_any name edit file uses old new before holds (File Store) le cause = let rose = cause.refused in omega (arith, le, rose)
+edit_reason_any name edit file uses old new before holds (File (Damage damage)) le cause = λ way value held. absurd (cause.refused value held)
+edit_reason_any name edit file uses old new before holds (File (Full blocks limit)) le cause = λ way value held. (
   full_changed way name edit file value (edit.edited value) blocks limit cause.refused.0 (cause.refused.1 value held) (cause.wanted value held),
   λ e. omega (arith, e),
 )
-edit_reason way name edit file uses old new before holds (File Memory) le cause = tt
-edit_reason way name edit file uses old new before holds (Unfit out) le cause = λ value held. (unfit_refused way name edit file value out cause.id (cause.no_room value held), λ e. omega (arith, e))
+edit_reason_any name edit file uses old new before holds (File Memory) le cause = tt
+edit_reason_any name edit file uses old new before holds (Unfit out) le cause = λ way value held. (unfit_refused way name edit file value out cause.id (cause.no_room value held), λ e. omega (arith, e))
+
+pub edit_reason : (way : Way) (name : List ℕ) (edit : Edit) (file : Option (List ℕ)) (uses : Uses) (old new : RunSeen) (before : ℕ) (holds : QuotaValue → Type 0) (fault : EditFault) → old.store.faults ≤ before
+    → HasEditCause edit file before new.store.faults holds fault → HasReason uses old new ((value : QuotaValue) → holds value → IsStepRefused way name edit file fault value) (edit_cause fault)
+edit_reason way name edit file uses old new before holds fault le cause =
+    reason_but_stated uses old new _ _ (edit_cause fault) (λ each value held. each way value held) (edit_reason_any name edit file uses old new before holds fault le cause)

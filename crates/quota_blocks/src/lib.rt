@@ -25,5 +25,5 @@ pub use input_text::{
 pub use memory_objects::{MemLink, MemSink, MemSource, MemStore};
 pub use outside::{Got, Link, LinkFault, Sink, SinkFault, Source, SourceFault, Store, StoreFault};
 pub use quota_file::{FileFault, OpenFault, QuotaFile};
-pub use replacement::{ReplaceFault, replace};
+pub use replacement::{ReplaceFault, name_of_new, replace};
 pub use whole_file::{LoadFault, load};

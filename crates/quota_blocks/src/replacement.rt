@@ -77,8 +77,13 @@ pub fn replace<S: Store>(
     Ok(())
 }
 
+/// The name under which a new file is written, before it takes the place of the one of this name: with `.new` added.
+///
+/// # Errors
+///
+/// There is not enough memory.
 #[tactic(auto, unfolding(outside::specs::Replacement::replacement_name))]
-fn name_of_new(alloc: Global, name: &str) -> Result<String, AllocError>
+pub fn name_of_new(alloc: Global, name: &str) -> Result<String, AllocError>
     ensures { IfOk result (λ new_name. string_bytes new_name ≡ replacement_name name.now) }
 {
     let mut new_name = String::from_str(alloc, name)?;

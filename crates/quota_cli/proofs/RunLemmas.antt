@@ -302,12 +302,11 @@ memory_alone : (cause : Cause) → status_of cause ≡ 5 → cause ≡ Memory
 memory_alone Memory five = refl
 memory_alone _ five = absurd (omega (arith, five))
 
--- a file that is spared stays with status 5
-run_spared : (spared : Option (List ℕ)) (same : List ℕ → Type 0) (result : Result (Unit {0}) Refusal) (status : ℕ) → status ≡ end_status (result_err result)
-    → IfSome spared (λ (file : List ℕ). IfErr result (λ (refusal : Refusal). refusal.cause ≡ Memory → same file)) → IfSome spared (λ (file : List ℕ). status ≡ 5 → same file)
-run_spared None same result status is kept = tt
-run_spared (Some file) same (Ok value) status is kept = λ five. absurd (omega (arith, is, five))
-run_spared (Some file) same (Err refusal) status is kept = λ five. kept (memory_alone refusal.cause (sym is ∙ five))
+-- what holds where there was not enough memory holds with status 5
+run_wanting : (holds : Type 0) (result : Result (Unit {0}) Refusal) (status : ℕ) → status ≡ end_status (result_err result)
+    → IfErr result (λ (refusal : Refusal). refusal.cause ≡ Memory → holds) → status ≡ 5 → holds
+run_wanting holds (Ok value) status is kept five = absurd (omega (arith, is, five))
+run_wanting holds (Err refusal) status is kept five = kept (memory_alone refusal.cause (sym is ∙ five))
 
 -- what holds where it was done holds with status 0
 run_held : (holds : Type 0) (result : Result (Unit {0}) Refusal) (status : ℕ) → status ≡ end_status (result_err result) → OnOk result holds → status ≡ 0 → holds
@@ -321,7 +320,7 @@ run_synced (Ok value) status old new is syncs so = syncs.synced (inl refl)
 run_synced (Err refusal) status old new is syncs (inl zero) = absurd (no_status_0 refusal.cause (sym is ∙ zero))
 run_synced (Err refusal) status old new is syncs (inr none) = syncs.synced (inr none)
 
--- what holds where there was not enough memory holds with status 5
+-- what holds with a refusal of status 5 holds with that status
 run_untaken : (same : Type 0) (result : Result (Unit {0}) Refusal) (status : ℕ) → status ≡ end_status (result_err result)
     → IfErr result (λ (refusal : Refusal). status_of refusal.cause ≡ 5 → same) → status ≡ 5 → same
 run_untaken same (Ok value) status is kept five = absurd (omega (arith, is, five))
@@ -350,7 +349,7 @@ run_keeps setting tells old new said result status carried stands finished usage
   named = run_named (asked setting).replaces (λ (file : List ℕ). IsTrue tells.store → new.store.files file ≡ old.store.files file) result status finished.status_is carried.named;
   edited = run_edited (asked setting).edits (λ (s : ℕ) (file : List ℕ). IsTrue tells.store → IsLeftByEdit s old.store.files new.store.files file) result status finished.status_is
       (λ file told other. absurd (other refl)) carried.edited;
-  spared = run_spared (asked setting).spared (λ (file : List ℕ). IsTrue tells.store → new.store.files file ≡ old.store.files file) result status finished.status_is carried.spared;
+  unwritten = λ said. run_wanting (IsUnwritten old.store new.store) result status finished.status_is (carried.unwritten said);
   within = record { alone = carried.within.alone; anew = carried.within.anew; few = carried.within.few };
   reads = run_held (IsWorldTold tells → ReadsWithin ((asked setting).most_reads (outside_of old)) old.store new.store) result status finished.status_is carried.reads;
   made = run_held (IsTrue tells.store → (asked setting).made setting.invocation (outside_of old) new.store.files) result status finished.status_is carried.made;

@@ -230,7 +230,7 @@ text_carried text invocation tells old new result carried = record {
   carries = carries_more _ _ _ (asked_in_script text).may tells old new result (λ cause name may. inr may) carried.carries;
   named = carried.named;
   edited = carried.edited;
-  spared = carried.spared;
+  unwritten = carried.unwritten;
   within = record { alone = carried.within.alone; anew = carried.within.anew; few = carried.within.few };
   reads = carried.reads;
   made = carried.made;
@@ -258,7 +258,7 @@ text_wanting text invocation tells old =
       carries = nothing_carried (asked.steps invocation) asked.uses asked.may tells old (refusal_of Memory []) (λ is. cc) tt (inl refl) (placed_nowhere asked.uses (refusal_of Memory []) refl);
       named = every_file asked.replaces _ (λ file told. refl);
       edited = every_file asked.edits _ (λ file told other. inl refl);
-      spared = every_file asked.spared _ (λ file memory told. refl);
+      unwritten = λ said memory. record { files = refl; writes = refl };
       within = record {
         alone = every_file asked.alone _ (λ file other differ. refl);
         anew = every_file asked.anew _ (λ file other differ differs. refl);
@@ -326,7 +326,7 @@ script_carried invocation tells old input new result said later is behind ended 
       (script_taken said.refusal old.input.left input.left (behind told.input) (λ none. ended none told.input))) (λ cause name may. may) carried.carries;
   named = tt;
   edited = tt;
-  spared = tt;
+  unwritten = λ said. absurd (false≢true said);
   within = record { alone = tt; anew = tt; few = tt };
   reads = of_done result _ (λ told. tt);
   made = of_done result _ (λ told. tt);
@@ -408,7 +408,7 @@ script_unread invocation tells old input fault later rose = record {
   };
   named = tt;
   edited = tt;
-  spared = tt;
+  unwritten = λ said. absurd (false≢true said);
   within = record { alone = tt; anew = tt; few = tt };
   reads = tt;
   made = tt;

@@ -156,16 +156,19 @@ pub record Keeps (setting : Setting) (tells : RunTells) (old new : RunSeen) (sta
   -- leave it. With status 0 nothing is said here.
   pub edited : IfSome (asked setting).edits (λ (file : List ℕ). IsTrue tells.store
       → IsLeftByEdit status old.store.files new.store.files file)
-  -- With status 5 a file that is spared is as it was: that of `setquota -b`.
-  pub spared : IfSome (asked setting).spared (λ (file : List ℕ). status ≡ 5 → IsTrue tells.store → new.store.files file ≡ old.store.files file)
+  -- With status 5 `setquota -b` has changed no file and made no call of `write`, whatever is told. Of all other commands but `generate`
+  -- and `script` this is said by `writes`.
+  pub unwritten : IsTrue (asked setting).unwritten → status ≡ 5 → IsUnwritten old.store new.store
   -- Whatever is told, and with any status, no other file has changed than the only one that the command changes, or than the only one
   -- that it makes anew and the one with `.new` added to that name. There were no more calls of `write` to the store than it makes: twelve
-  -- at most where it edits a file once. What many edits add up to is said of the acts in `part`: twelve for each one that was done, and
-  -- twelve for the one at hand.
+  -- at most where it edits a file once. What many edits add up to is said of the acts in `part`: twelve for each one that was done,
+  -- twelve for the one at hand, and, where that is the first change of several that may be made together, twelve for each of the
+  -- others.
   pub within : ChangesWithin (asked setting) old.store new.store
   -- With status 0 there were no more calls of `read` to the store than the command makes, where that is said: of `rquotad` those of
   -- opening each file, and five for each datagram; of `setquota -b` without a file of names and out of the standard input those of
-  -- opening the file, and seventeen for each line that asks for an edit.
+  -- opening the file, seventeen for each line that asks for an edit, and those that read the file whole once, where there are at least
+  -- two such lines and the file has at most twelve pieces of 1,024 bytes for each of them.
   pub reads : status ≡ 0 → IsWorldTold tells → ReadsWithin ((asked setting).most_reads (outside_of old)) old.store new.store
   -- With status 0 the files are what a change of such a file makes of them, beside standing for the edited value, where the words ask
   -- for new limits, new times or new grace periods: of a tree file into which a record was put, that it has no more blocks than before

@@ -5,7 +5,7 @@ use Rattle.quota_blocks.specs.Text.{AppendsPrefix}
 use Rattle.quota_blocks.specs.World.{KeepsOthers, World}
 use Rattle.refusals.specs.declared.reason.Refusal.{Refusal}
 use Rattle.refusals.specs.Line.{closing_line, error_line}
-use Rattle.run_steps.specs.Act.{Act, InPlace, LeavesOthers, Together, ToOut, ToErr, Start, Answer, Change, Replace, Way, Follows, FollowsInPart, answers, err_bytes, out_bytes, started_by}
+use Rattle.run_steps.specs.Act.{Act, Behind, InPlace, LeavesOthers, Together, ToOut, ToErr, Start, Answer, Change, Replace, Way, Follows, FollowsInPart, answers, err_bytes, out_bytes, started_by}
 use Rattle.run_steps.specs.Done.{AreDone, AreDoneInPart, RunSeen, RunTells}
 use Rattle.run_steps.specs.Meaning.{closing}
 use Rattle.run_steps.specs.Writes.{WritesInPart}
@@ -61,7 +61,8 @@ started_by-closing (Some refusal) before = refl
 -- files that are as they were follow any acts of which none was begun
 pub none_in_part : (acts : List Act) (old new : World) → new ≡ old → FollowsInPart acts old new
 none_in_part (Change InPlace name value ∷ acts) old new same = (inl (ap (λ (w : World). w name) same), λ other differ. ap (λ (w : World). w other) same)
-none_in_part (Change Together name value ∷ acts) old new same = (inl (ap (λ (w : World). w name) same), λ other differ apart. ap (λ (w : World). w other) same)
+none_in_part (Change (Together others) name value ∷ acts) old new same = (inl (ap (λ (w : World). w name) same), inl (λ other differ. ap (λ (w : World). w other) same))
+none_in_part (Change Behind name value ∷ acts) old new same = (inl (ap (λ (w : World). w name) same), λ other differ. ap (λ (w : World). w other) same)
 none_in_part (Replace name value ∷ acts) old new same = (ap (λ (w : World). w name) same, λ other differ differs. ap (λ (w : World). w other) same)
 none_in_part _ old new same = same
 
@@ -96,12 +97,13 @@ first_writes : (done rest more : List Act) (old new : ℕ) → WritesInPart (tak
 first_writes done [] more old new writes = writes_in_part-next (take 1 more) done old new (subst (λ (acts : List Act). WritesInPart [] acts old new) (append-nil done) writes)
 first_writes done (act ∷ rest) more old new writes = writes
 
--- acts that were done in part are some of more acts
 -- whatever its way, an edit that leaves all other files leaves what its way does
 pub leaves_others : (way : Way) (name : List ℕ) (old new : World) → KeepsOthers name old new → LeavesOthers way name old new
 leaves_others InPlace name old new keeps = keeps
-leaves_others Together name old new keeps = λ other differ apart. keeps other differ
+leaves_others (Together others) name old new keeps = inl keeps
+leaves_others Behind name old new keeps = keeps
 
+-- acts that were done in part are some of more acts
 pub part_of_more : (tells : RunTells) (acts more : List Act) (old new : RunSeen) → AreDoneInPart tells acts old new → AreDoneInPart tells (acts ++ more) old new
 part_of_more tells acts more old new part = record {
   done = part.done;

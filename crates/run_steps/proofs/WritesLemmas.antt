@@ -30,7 +30,7 @@ replaces_none_behind [] more none = none
 replaces_none_behind (Replace name value ∷ acts) more none = absurd none
 replaces_none_behind (_ ∷ acts) more none = replaces_none_behind acts more none
 
-edits_in-append : (acts more : List Act) → edits_in (acts ++ more) ≡ edits_in acts + edits_in more
+pub edits_in-append : (acts more : List Act) → edits_in (acts ++ more) ≡ edits_in acts + edits_in more
 edits_in-append [] more = omega arith
 edits_in-append (Change way name value ∷ acts) more = let rest = edits_in-append acts more in omega (arith, rest)
 edits_in-append (Idle ∷ acts) more = let rest = edits_in-append acts more in omega (arith, rest)
@@ -63,18 +63,18 @@ writes_for-replacement name value acts old new = record { none = λ none. absurd
 
 -- what acts take that were done they take in part
 pub writes_in_part : (hand acts : List Act) (old new : ℕ) → WritesFor acts old new → WritesInPart hand acts old new
-writes_in_part hand acts old new writes = record { none = writes.none; few = λ alone. writes.few }
+writes_in_part hand acts old new writes = record { none = writes.none; few = λ none. omega (arith, writes.few none) }
 
 -- acts, and then others of which one is at hand
 pub writes_in_part-then : (hand acts more : List Act) (old middle new : ℕ) → WritesFor acts old middle → WritesInPart hand more middle new → WritesInPart hand (acts ++ more) old new
 writes_in_part-then hand acts more old middle new one two = record {
   none = λ none. two.none (changes_none_behind acts more none) ∙ one.none (changes_none_before acts more none);
-  few = λ alone none. omega (arith, one.few (replaces_none_before acts more none), two.few alone (replaces_none_behind acts more none), edits_in-append acts more);
+  few = λ none. omega (arith, one.few (replaces_none_before acts more none), two.few (replaces_none_behind acts more none), edits_in-append acts more);
 }
 
 -- nothing is at hand, and any act comes next
 pub writes_in_part-next : (next acts : List Act) (old new : ℕ) → WritesInPart [] acts old new → WritesInPart next (acts ++ next) old new
 writes_in_part-next next acts old new writes = record {
   none = λ none. writes.none (changes_none_before acts next none);
-  few = λ alone none. omega (arith, writes.few tt (replaces_none_before acts next none), edits_in-append acts next);
+  few = λ none. omega (arith, writes.few (replaces_none_before acts next none), edits_in-append acts next);
 }

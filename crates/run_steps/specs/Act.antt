@@ -7,11 +7,12 @@ use Rattle.quota_blocks.specs.QuotaValue.{QuotaValue}
 use Rattle.quota_map.specs.AnyFile.{AnyLeaves}
 use Rattle.quota_map.specs.View.{IsView}
 
--- How an opened file is edited: in its place; or together with others, either in its place or, for all of them, by one replacement of
--- the file.
+-- How an opened file is edited: in its place; as the first change of edits that are made together, with this many others, either in
+-- its place or, for all of them, by one replacement of the file; or behind that first one, which is made where it was made.
 pub data Way : Type 0 where
   InPlace : Way
-  Together : Way
+  Together : (others : ℕ) → Way
+  Behind : Way
 
 -- One act: bytes to the output, bytes to the error output, a link that is started at a port when these datagrams are left, an
 -- answer to a datagram, a file that from then on stands for another value: an opened one that is edited, or one that is replaced as
@@ -79,11 +80,11 @@ MayBeLeft value old left =
     (left ≡ old)
     ⊎ ((after : Option (List ℕ)) × IsView after value.kind (Some value.format) (Ok value) × AnyLeaves value.format old after left)
 
--- what an edit that failed leaves of other files than the named one: all, or, where it may be made by a replacement, all but the one
--- with `.new` added to the name
+-- what an edit that failed leaves of other files than the named one: all; or, where it may be made by a replacement, all but the one
+-- with `.new` added to the name, and then the named file is as it was
 abbrev pub LeavesOthers : Way → List ℕ → World → World → Type 0
-LeavesOthers InPlace name old new = KeepsOthers name old new
-LeavesOthers Together name old new = ReplacesOnly name old new
+LeavesOthers (Together others) name old new = KeepsOthers name old new ⊎ ((new name ≡ old name) × ReplacesOnly name old new)
+LeavesOthers _ name old new = KeepsOthers name old new
 
 -- Files after acts of which at most the first was begun. An edit leaves what an edit that failed may leave of the named file, and
 -- of all other files what its way leaves; a replacement leaves the named file as it was, and all others but the one with `.new` added

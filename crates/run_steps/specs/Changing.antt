@@ -5,7 +5,7 @@ use Rattle.quota_blocks.specs.QuotaValue.{QuotaValue}
 use Rattle.quota_map.specs.View.{most_blocks}
 use Rattle.tree_file.specs.Room.{blocks_wanted}
 use Rattle.refusals.specs.declared.cause.Cause.TheVariants.{Full}
-use Rattle.run_steps.specs.Act.{Act, Change, Idle, InPlace, Together, Way}
+use Rattle.run_steps.specs.Act.{Act, Change, Idle, InPlace, Way}
 use Rattle.refusals.specs.Outcome.{Outcome, Passed, Refused}
 use Rattle.run_steps.specs.Run.{Uses}
 use Rattle.refusals.specs.Refusals.{refusal_of}
@@ -27,7 +27,7 @@ if_room name blocks too_large act =
 -- what an edit does that has nothing to do; together with others it counts as one of them
 abbrev pub idle_acts : Way → List Act
 idle_acts InPlace = []
-idle_acts Together = Idle ∷ []
+idle_acts _ = Idle ∷ []
 
 -- a file of this name is edited and stands for the value from then on, where it has room for this many blocks and something is to
 -- be done

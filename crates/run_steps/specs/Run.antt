@@ -69,9 +69,9 @@ FailsAtHand _ out err = ⊥
 
 -- Steps were done in part: they have begun, and the act that is at hand, if there is one, may have been done in part: bytes by
 -- a prefix of them, an edit as one that failed may leave the file, and a replacement and an answer not at all; a link is never
--- started in part. Nothing else was done, and there were no more calls of `write` to the store than these acts take, the one
--- at hand with them, unless that is an edit that may be made together with others. What is left of the input is not said. Where it is an output that is said to have failed, bytes to it are
--- at hand, and its count of faults rose; this is known where the error output tells.
+-- started in part. Nothing else was done, and there were no more calls of `write` to the store than these acts take, with them the one
+-- at hand and the edits together with which it may be made. What is left of the input is not said. Where it is an output that is said
+-- to have failed, bytes to it are at hand, and its count of faults rose; this is known where the error output tells.
 pub record IsDoneInPart (steps : Steps) (tells : RunTells) (why : Option Cause) (old new : RunSeen) : Type 0 where
   pub done : List Act
   pub hand : List Act

@@ -22,17 +22,17 @@ pub record WritesFor (acts : List Act) (old new : ℕ) : Type 0 where
   pub none : ChangesNone acts → new ≡ old
   pub few : ReplacesNone acts → new ≤ old + 12 * edits_in acts
 
--- what is at hand is no edit that may be made together with others
-abbrev pub IsMadeAlone : List Act → Type 0
-IsMadeAlone (Change Together name value ∷ acts) = ⊥
-IsMadeAlone _ = ⊤
+-- with how many others the edit at hand may be made together
+abbrev pub others_at : List Act → ℕ
+others_at (Change (Together others) name value ∷ acts) = others
+others_at _ = 0
 
--- Acts, of which the one at hand may be done in part, take this many calls of `write`: as many as if it was done whole, where it is no
--- edit that may be made together with others; of a replacement that makes many of them and fails nothing is said but where no act
--- changes a file.
+-- Acts, of which the one at hand may be done in part, take this many calls of `write`: as many as if it was done whole; and where it
+-- is an edit that may be made together with others, as many as if these were done too, since a replacement that makes all of them may
+-- fail.
 pub record WritesInPart (hand acts : List Act) (old new : ℕ) : Type 0 where
   pub none : ChangesNone acts → new ≡ old
-  pub few : IsMadeAlone hand → ReplacesNone acts → new ≤ old + 12 * edits_in acts
+  pub few : ReplacesNone acts → new ≤ old + 12 * (edits_in acts + others_at hand)
 
 -- However an edit of the named file ended, and whatever is told, all other files are as they were, with twelve calls of `write` at
 -- most.

@@ -13,6 +13,6 @@ mod opening;
 
 pub use input_line::says_nothing;
 pub use invocation::Invocation;
-pub use naming::read_names;
+pub use naming::{load_cause, read_names};
 pub use numbers::{read_grace, read_identifier, read_limits, read_time};
 pub use opening::{file_cause, opening_cause};

@@ -74,7 +74,7 @@ fn names_cause(fault: NamesFault) -> Cause
 }
 
 /// What is said where a file could not be read whole.
-fn load_cause(fault: LoadFault) -> Cause
+pub fn load_cause(fault: LoadFault) -> Cause
     ensures { result ≡ load_cause fault }
 {
     match fault {

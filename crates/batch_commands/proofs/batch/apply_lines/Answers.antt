@@ -1,6 +1,6 @@
-use Rattle.quota_blocks.specs.World.{World}
 use Rattle.std.proofs.Common.{inl, inr, ap}
 use Rattle.outside.proofs.FrameLemmas.{keeps_other_two-then, syncs-after_read, syncs-read}
+use Rattle.run_steps.proofs.OpeningLemmas.{unwritten}
 use Rattle.run_steps.proofs.PhaseLemmas.{carries_naming, naming_refused}
 use Rattle.batch_commands.proofs.ReadsLemmas.{named_within}
 use Rattle.batch_commands.proofs.TogetherLemmas.{replaces-read}
@@ -38,7 +38,7 @@ pub returns-in-Err-clause-synced : goal.returns-in-Err-clause-synced
 returns-in-Err-clause-synced g c = λ told. syncs-read _ _ _ c.in-Err.ensures.leaves
 
 pub returns-in-Ok-clause-wanting : goal.returns-in-Ok-clause-wanting
-returns-in-Ok-clause-wanting g c = wanting_since c.apply_named.result _ _ _ (ap (λ (files : World). files c.args.file) c.in-Ok.ensures.leaves.files) c.apply_named.ensures.wanting
+returns-in-Ok-clause-wanting g c = wanting_since c.apply_named.result _ _ _ (unwritten _ _ _ c.in-Ok.ensures.leaves) c.apply_named.ensures.wanting
 
 pub returns-in-Err-clause-wanting : goal.returns-in-Err-clause-wanting
-returns-in-Err-clause-wanting g c = λ is. ap (λ (files : World). files c.args.file) c.in-Err.ensures.leaves.files
+returns-in-Err-clause-wanting g c = λ is. unwritten _ _ _ c.in-Err.ensures.leaves

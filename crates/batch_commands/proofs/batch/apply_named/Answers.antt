@@ -1,12 +1,12 @@
 use Rattle.std.proofs.Common.{◌≡◌, inl, inr, Ok, List, ℕ, sym, subst, ap, length, arith}
 use Rattle.std.proofs.lemmas.Result.{on_ok_weaker}
 use Rattle.quota_blocks.specs.Block.{file_of}
-use Rattle.quota_blocks.specs.Replace.{pieces_of}
 use Rattle.quota_blocks.specs.World.{World}
 use Rattle.quota_map.specs.View.{IsView}
 use Rattle.outside.proofs.FrameLemmas.{keeps_other_two-then, syncs-after_read, syncs-read}
-use Rattle.run_steps.proofs.OpeningLemmas.{not_opened}
+use Rattle.run_steps.proofs.OpeningLemmas.{not_opened, unwritten}
 use Rattle.run_steps.proofs.PhaseLemmas.{carries_opening}
+use Rattle.batch_commands.specs.Batch.{input_edits, line_reads}
 use Rattle.batch_commands.proofs.TogetherLemmas.{replaces-read}
 use Rattle.batch_commands.proofs.WantingLemmas.{wanting_since}
 use Rattle.batch_commands.proofs.batch.apply_named.Goals as goal
@@ -42,14 +42,14 @@ returns-in-Ok-clause-reads g c = λ none.
     let opening = (rw c.as_str.ensures at c.in-Ok.ensures.reads) told in
     let lines = few told input_told in
     let same : (file_of (S.seen c.open_file.new.store).files c.args.file) ≡ (file_of (S.seen c.args.store.now).files c.args.file) = ap (λ (files : World). file_of files c.args.file) c.in-Ok.ensures.leaves.files in
-    let whole = ap (λ (bytes : List ℕ). pieces_of (length bytes)) same in
-    omega (arith, opening, lines, whole)) (c.apply_opened.ensures.reads none)
+    let edits = ap (λ (bytes : List ℕ). line_reads (input_edits c.args.names.now (g.I.Source.seen c.args.input.now).left) (length bytes)) same in
+    omega (arith, opening, lines, edits)) (c.apply_opened.ensures.reads none)
 
 pub returns-in-Err-clause-synced : goal.returns-in-Err-clause-synced
 returns-in-Err-clause-synced g c = λ told. syncs-read _ _ _ c.in-Err.ensures.leaves
 
 pub returns-in-Ok-clause-wanting : goal.returns-in-Ok-clause-wanting
-returns-in-Ok-clause-wanting g c = wanting_since c.apply_opened.result _ _ _ (ap (λ (files : World). files c.args.file) c.in-Ok.ensures.leaves.files) c.apply_opened.ensures.wanting
+returns-in-Ok-clause-wanting g c = wanting_since c.apply_opened.result _ _ _ (unwritten _ _ _ c.in-Ok.ensures.leaves) c.apply_opened.ensures.wanting
 
 pub returns-in-Err-clause-wanting : goal.returns-in-Err-clause-wanting
-returns-in-Err-clause-wanting g c = λ is. ap (λ (files : World). files c.args.file) c.in-Err.ensures.leaves.files
+returns-in-Err-clause-wanting g c = λ is. unwritten _ _ _ c.in-Err.ensures.leaves

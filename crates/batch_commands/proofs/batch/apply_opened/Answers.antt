@@ -1,8 +1,7 @@
-use Rattle.std.proofs.Common.{false, ◌∙◌, ◌≤◌, ◌+◌, ◌*◌, length, Ok, Option, inl, inr, sym, ap, subst}
+use Rattle.std.proofs.Common.{false, ◌≤◌, ◌+◌, length, Ok, Err, Option, inl, inr, sym, ap, subst}
 use Rattle.std.specs.Prelude.{IfSome}
 use Rattle.std.proofs.lemmas.Bool.{false≢true}
 use Rattle.quota_blocks.specs.Block.{file_of}
-use Rattle.quota_blocks.specs.Replace.{pieces_of}
 use Rattle.quota_blocks.specs.Seen.{StoreSeen}
 use Rattle.quota_blocks.specs.World.{World}
 use Rattle.outside.proofs.FrameLemmas.{keeps_other_two-then, syncs-all, syncs-any, syncs-less, syncs-read, syncs-then}
@@ -10,13 +9,14 @@ use Rattle.quota_map.specs.AnyFile.{HoldsAny}
 use Rattle.quota_map.specs.View.{IsView}
 use Rattle.refusals.specs.declared.reason.Refusal.{Refusal}
 use Rattle.run_steps.specs.Taking.{Lines, input_name}
-use Rattle.batch_commands.specs.Batch.{Applying, Asked, IsOfLine, LineEditMayRefuse, is_to_end, line_uses}
+use Rattle.batch_commands.specs.Batch.{Applying, Asked, IsOfLine, LineEditMayRefuse, is_to_end, line_reads, line_uses}
 use Rattle.batch_commands.proofs.BatchLemmas.{ends_none, then_ended, then_refused, then_stopped}
+use Rattle.run_steps.proofs.OpeningLemmas.{unwritten}
 use Rattle.run_steps.proofs.PhaseLemmas.{placed_nowhere}
 use Rattle.run_steps.proofs.TakingLemmas.{carries_taking, fault_more, has_taken, input_refused}
 use Rattle.batch_commands.proofs.TogetherLemmas.{replaces-read}
 use Rattle.batch_commands.proofs.ReadsLemmas.{asked_reads}
-use Rattle.batch_commands.proofs.WantingLemmas.{line_wants}
+use Rattle.batch_commands.proofs.WantingLemmas.{line_wants, wanting_since}
 use Rattle.batch_commands.proofs.batch.apply_opened.Goals as goal
 
 pub returns-in-Some-clause-carries : goal.returns-in-Some-clause-carries
@@ -110,8 +110,8 @@ returns-in-Ok-edit_lines-clause-reads g c = λ none told input_told.
     let asked : Asked = record { edits = c.in-Ok.batch.edits.items; refusal = c.in-Ok.batch.refusal } in
     let unread = ap S.seen (took.unread none) in
     asked_reads c.args.names.now c.args.from (S.seen c.args.store.now).files _ asked (S.seen c.args.store.now).reads (S.seen c.take_batch.new.store).reads _
-    (pieces_of (length (file_of (S.seen c.args.store.now).files c.args.file))) none (took.read told input_told) (ap (λ (s : StoreSeen). s.reads) unread)
-    (subst (λ (s : StoreSeen). (S.seen c.edit_lines.new.store).reads ≤ (S.seen c.take_batch.new.store).reads + (pieces_of (length (file_of s.files c.args.file)) + 17 * length asked.edits)) unread
+    (length (file_of (S.seen c.args.store.now).files c.args.file)) none (took.read told input_told) (ap (λ (s : StoreSeen). s.reads) unread)
+    (subst (λ (s : StoreSeen). (S.seen c.edit_lines.new.store).reads ≤ (S.seen c.take_batch.new.store).reads + line_reads asked.edits (length (file_of s.files c.args.file))) unread
     (rw c.as_slice.ensures.value at (c.in-Ok-edit_lines.ensures.reads told)))
 
 pub returns-in-Some-clause-wanting : goal.returns-in-Some-clause-wanting
@@ -120,7 +120,7 @@ returns-in-Some-clause-wanting g c =
     λ is. absurd (line_wants c.args.names.now (input_name c.args.from) c.in-Some.refusal.cause c.in-Some.refusal.name may.may is)
 
 pub returns-in-Ok-clause-wanting : goal.returns-in-Ok-clause-wanting
-returns-in-Ok-clause-wanting g c = λ is. c.in-Err-edit_lines.ensures.wanting is ∙ ap (λ (files : World). files c.args.file) c.in-Ok.ensures.leaves.files
+returns-in-Ok-clause-wanting g c = wanting_since (Err c.in-Err-edit_lines.refusal) _ _ _ (unwritten _ _ _ c.in-Ok.ensures.leaves) c.in-Err-edit_lines.ensures.wanting
 
 pub returns-clause-wanting : goal.returns-clause-wanting
-returns-clause-wanting g c = λ is. ap (λ (files : World). files c.args.file) c.in-Err.ensures.leaves.files
+returns-clause-wanting g c = λ is. unwritten _ _ _ c.in-Err.ensures.leaves

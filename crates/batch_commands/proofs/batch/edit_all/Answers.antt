@@ -1,4 +1,4 @@
-use Rattle.std.proofs.Common.{◌≡◌, ◌+◌, IsTrue, List, [], drop, refl, ap, subst, ◌∙◌, arith, true}
+use Rattle.std.proofs.Common.{◌≡◌, ◌+◌, IsTrue, List, [], drop, length, refl, ap, subst, ◌∙◌, arith, true}
 use Rattle.std.proofs.lemmas.List.{drop_all, drop_more}
 use Rattle.quota_blocks.specs.EditsOne.{EditsOne}
 use Rattle.quota_blocks.specs.QuotaFile.{FileSeen}
@@ -9,15 +9,17 @@ use Rattle.quota_map.specs.AnyFile.{HoldsAny, any_seen}
 use Rattle.quota_map.specs.View.{fresh_seen}
 use Rattle.batch_commands.specs.declared.batch_line.LineEdit.{LineEdit}
 use Rattle.run_steps.specs.Done.{seen_of, tells_of}
+use Rattle.run_steps.specs.Act.{Together}
 use Rattle.batch_commands.proofs.BatchLemmas.{AreMade, all_carried, line_may_fail, line_refused, made_more, made_none}
+use Rattle.batch_commands.proofs.CountLemmas.{all_made, refused_made}
 use Rattle.edit_steps.proofs.EditFileLemmas.{any_cause, any_made, any_refused, limits_keep_format}
 use Rattle.batch_commands.proofs.ReadsLemmas.{line_few}
 use Rattle.batch_commands.proofs.WantingLemmas.{wants_none}
 use Rattle.batch_commands.proofs.batch.edit_all.Goals as goal
 
-pub loop-line-init : goal.loop-line-init
-loop-line-init g c = record {
-  made = λ told start held. made_none c.args.file c.args.now c.args.lines.now start [] (g.S.Store.seen c.args.store.now) (g.S.Store.seen c.args.store.now) _ (only_reads-none {done = true} _ _) held;
+pub loop-made-init : goal.loop-made-init
+loop-made-init g c = record {
+  made = λ told way start held. made_none way c.args.file c.args.now c.args.lines.now start [] (g.S.Store.seen c.args.store.now) (g.S.Store.seen c.args.store.now) _ (only_reads-none {done = true} _ _) held;
   same = refl;
   leaves = edits_one-none _ _;
   reads = omega arith;
@@ -25,87 +27,124 @@ loop-line-init g c = record {
   synced = λ told. syncs-none _;
 }
 
-pub loop-line-preserved : goal.loop-line-preserved
-loop-line-preserved g c =
+pub loop-made-preserved : goal.loop-made-preserved
+loop-made-preserved g c =
     let S = g.S.Store in
-    let kept = c.loop-line.invariant in
+    let kept = c.loop-made.invariant in
     let edits = c.set_limits.ensures.edits in
     let done = c.in-Ok.ensures.edits.value.done in
     let file = c.args.file in
-    let before = S.seen c.loop-line.store in
+    let before = S.seen c.loop-made.store in
     let after = S.seen c.set_limits.new.store in
     let format = (any_seen c.args.opened.now).format in
-    let was : any_seen c.loop-line.opened ≡ fresh_seen file format = kept.same ∙ c.requires in
-    let named : (any_seen c.loop-line.opened).name ≡ file = ap (λ (s : FileSeen). s.name) was in
+    let was : any_seen c.loop-made.opened ≡ fresh_seen file format = kept.same ∙ c.requires in
+    let named : (any_seen c.loop-made.opened).name ≡ file = ap (λ (s : FileSeen). s.name) was in
     let leaves : EditsOne file before after = rw named at edits.value.leaves in
     record {
-      made = λ told start held.
-          let are = subst (λ (l : List LineEdit). AreMade file c.args.now c.args.lines.now l start (S.seen c.args.store.now) before (HoldsAny S.tells before.files c.loop-line.opened))
-          (drop_more c.args.lines.now c.loop-line.line-index _ c.loop-line-test.true) (kept.made told start held) in
-          made_more file c.args.now c.args.lines.now _ (drop (c.loop-line.line-index + 1) c.args.lines.now) start (S.seen c.args.store.now) before after _ (HoldsAny S.tells after.files c.set_limits.new.file) (IsTrue S.tells) told are
-          (any_made S.tells _ c.loop-line.opened c.set_limits.new.file before after file format are.value tt (limits_keep_format _ _ c.args.now) was (λ is. are.held) c.in-Ok.ensures.edits)
+      made = λ told way start held.
+          let are = subst (λ (l : List LineEdit). AreMade way file c.args.now c.args.lines.now l start c.loop-made.made (S.seen c.args.store.now) before (HoldsAny S.tells before.files c.loop-made.opened))
+          (drop_more c.args.lines.now c.loop-made.made _ c.loop-made-test.true) (kept.made told way start held) in
+          made_more way file c.args.now c.args.lines.now _ (drop (c.loop-made.made + 1) c.args.lines.now) start c.loop-made.made (S.seen c.args.store.now) before after _ (HoldsAny S.tells after.files c.set_limits.new.file) (IsTrue S.tells) told are
+          (any_made S.tells _ c.loop-made.opened c.set_limits.new.file before after file format are.value tt (limits_keep_format _ _ c.args.now) was (λ is. are.held) c.in-Ok.ensures.edits)
           (done.set are.value are.held);
       same = done.same ∙ kept.same;
       leaves = edits_one-then _ _ _ _ kept.leaves leaves;
-      reads = let few = line_few (any_seen c.loop-line.opened) before.reads after.reads c.in-Ok.ensures.reads in omega (arith, kept.reads, few);
-      within = omega (arith, c.loop-line-test.true);
+      reads = let few = line_few (any_seen c.loop-made.opened) before.reads after.reads c.in-Ok.ensures.reads in omega (arith, kept.reads, few);
+      within = omega (arith, c.loop-made-test.true);
       synced = λ told. syncs-then _ _ _ (kept.synced told) (edits-syncs _ _ _ _ _ c.in-Ok.ensures.edits told);
     }
 
 pub returns-clause-carries : goal.returns-clause-carries
-returns-clause-carries g c = λ asked as_asked value held input out err link input_tells out_tells err_tells link_tells.
+returns-clause-carries g c = λ way asked as_asked value held input out err link input_tells out_tells err_tells link_tells.
     let S = g.S.Store in
-    let kept = c.loop-line.invariant in
-    let at_end : drop c.loop-line.line-index c.args.lines.now ≡ [] = drop_all c.loop-line.line-index c.args.lines.now (omega arith) in
-    all_carried c.args.file c.args.now c.args.lines.now value _ (tells_of S.tells input_tells out_tells err_tells link_tells)
-    (seen_of (S.seen c.args.store.now) input out err link) (S.seen c.loop-line.store) (HoldsAny S.tells (S.seen c.loop-line.store).files c.loop-line.opened)
-    (λ told. rw at_end at (kept.made told value (held told))) kept.leaves
+    let kept = c.loop-made.invariant in
+    let at_end : drop c.loop-made.made c.args.lines.now ≡ [] = drop_all c.loop-made.made c.args.lines.now (omega arith) in
+    all_carried way c.args.file c.args.now c.args.lines.now value c.loop-made.made _ (tells_of S.tells input_tells out_tells err_tells link_tells)
+    (seen_of (S.seen c.args.store.now) input out err link) (S.seen c.loop-made.store) (HoldsAny S.tells (S.seen c.loop-made.store).files c.loop-made.opened)
+    (λ told. rw at_end at (kept.made told way value (held told))) kept.leaves
 
 pub returns-in-Err-clause-carries : goal.returns-in-Err-clause-carries
-returns-in-Err-clause-carries g c = λ asked as_asked value held input out err link input_tells out_tells err_tells link_tells.
+returns-in-Err-clause-carries g c = λ way asked as_asked value held input out err link input_tells out_tells err_tells link_tells.
     let S = g.S.Store in
-    let kept = c.loop-line.invariant in
+    let kept = c.loop-made.invariant in
     let edits = c.set_limits.ensures.edits in
     let refused = c.in-Err.ensures.edits in
     let fault = c.in-Err.fault in
     let file = c.args.file in
-    let before = S.seen c.loop-line.store in
+    let before = S.seen c.loop-made.store in
     let after = S.seen c.set_limits.new.store in
     let format = (any_seen c.args.opened.now).format in
-    let was : any_seen c.loop-line.opened ≡ fresh_seen file format = kept.same ∙ c.requires in
-    let named : (any_seen c.loop-line.opened).name ≡ file = ap (λ (s : FileSeen). s.name) was in
+    let was : any_seen c.loop-made.opened ≡ fresh_seen file format = kept.same ∙ c.requires in
+    let named : (any_seen c.loop-made.opened).name ≡ file = ap (λ (s : FileSeen). s.name) was in
     let leaves : EditsOne file before after = rw named at edits.value.leaves in
     let tells = tells_of S.tells input_tells out_tells err_tells link_tells in
     let keeps = limits_keep_format _ _ c.args.now in
-    rw (c.at_line.ensures, c.of.ensures, c.edit_cause.ensures)
-    (line_refused file c.args.now c.args.lines.now _ (drop (c.loop-line.line-index + 1) c.args.lines.now) value _ tells
-    (seen_of (S.seen c.args.store.now) input out err link) before after (HoldsAny S.tells before.files c.loop-line.opened) fault
-    (λ told. subst (λ (l : List LineEdit). AreMade file c.args.now c.args.lines.now l value (S.seen c.args.store.now) before (HoldsAny S.tells before.files c.loop-line.opened))
-    (drop_more c.args.lines.now c.loop-line.line-index _ c.loop-line-test.true) (kept.made told value (held told)))
-    (λ v holds. any_refused file _ S.tells c.loop-line.opened c.set_limits.new.file before after format v fault keeps was (λ is. holds) refused)
-    (any_cause S.tells _ c.loop-line.opened c.set_limits.new.file before after file format fault keeps was refused)
+    rw (c.at_line-refusal.ensures, c.of.ensures, c.edit_cause.ensures)
+    (line_refused way file c.args.now c.args.lines.now _ (drop (c.loop-made.made + 1) c.args.lines.now) value c.loop-made.made _ tells
+    (seen_of (S.seen c.args.store.now) input out err link) before after (HoldsAny S.tells before.files c.loop-made.opened) fault
+    (λ told. subst (λ (l : List LineEdit). AreMade way file c.args.now c.args.lines.now l value c.loop-made.made (S.seen c.args.store.now) before (HoldsAny S.tells before.files c.loop-made.opened))
+    (drop_more c.args.lines.now c.loop-made.made _ c.loop-made-test.true) (kept.made told way value (held told)))
+    (λ v holds. any_refused file _ S.tells c.loop-made.opened c.set_limits.new.file before after format v fault keeps was (λ is. holds) refused)
+    (any_cause S.tells _ c.loop-made.opened c.set_limits.new.file before after file format fault keeps was refused)
     kept.leaves leaves
-    (line_may_fail asked file _ _ c.args.now S.tells c.loop-line.opened c.set_limits.new.file before after format fault was as_asked refused))
+    (line_may_fail asked file _ _ c.args.now S.tells c.loop-made.opened c.set_limits.new.file before after format fault was as_asked refused))
 
 pub returns-clause-leaves : goal.returns-clause-leaves
-returns-clause-leaves g c = c.loop-line.invariant.leaves
+returns-clause-leaves g c = c.loop-made.invariant.leaves
 
 pub returns-in-Err-clause-leaves : goal.returns-in-Err-clause-leaves
 returns-in-Err-clause-leaves g c =
     let S = g.S.Store in
-    let kept = c.loop-line.invariant in
+    let kept = c.loop-made.invariant in
     let edits = c.set_limits.ensures.edits in
-    let named : (any_seen c.loop-line.opened).name ≡ c.args.file = ap (λ (s : FileSeen). s.name) (kept.same ∙ c.requires) in
-    let leaves : EditsOne c.args.file (S.seen c.loop-line.store) (S.seen c.set_limits.new.store) = rw named at edits.value.leaves in
+    let named : (any_seen c.loop-made.opened).name ≡ c.args.file = ap (λ (s : FileSeen). s.name) (kept.same ∙ c.requires) in
+    let leaves : EditsOne c.args.file (S.seen c.loop-made.store) (S.seen c.set_limits.new.store) = rw named at edits.value.leaves in
     edits_one-then _ _ _ _ kept.leaves leaves
 
 pub returns-clause-reads : goal.returns-clause-reads
 returns-clause-reads g c =
-    let kept = c.loop-line.invariant in
+    let kept = c.loop-made.invariant in
     omega (arith, kept.reads, kept.within)
 
 pub returns-in-Err-clause-synced : goal.returns-in-Err-clause-synced
-returns-in-Err-clause-synced g c = λ told. syncs-then _ _ _ (c.loop-line.invariant.synced told) (edits-syncs _ _ _ _ _ c.in-Err.ensures.edits told)
+returns-in-Err-clause-synced g c = λ told. syncs-then _ _ _ (c.loop-made.invariant.synced told) (edits-syncs _ _ _ _ _ c.in-Err.ensures.edits told)
 
 pub returns-in-Err-clause-memory : goal.returns-in-Err-clause-memory
-returns-in-Err-clause-memory g c = rw (c.at_line.ensures, c.of.ensures, c.edit_cause.ensures) (wants_none c.in-Err.fault c.in-Err.ensures.memory)
+returns-in-Err-clause-memory g c = rw (c.at_line-refusal.ensures, c.of.ensures, c.edit_cause.ensures) (wants_none c.in-Err.fault c.in-Err.ensures.memory)
+
+pub returns-clause-counted : goal.returns-clause-counted
+returns-clause-counted g c = λ told others value held input out err link tells.
+    let S = g.S.Store in
+    let kept = c.loop-made.invariant in
+    let count : c.loop-made.made ≡ length c.args.lines.now = omega arith in
+    let at_end : drop c.loop-made.made c.args.lines.now ≡ [] = drop_all c.loop-made.made c.args.lines.now (omega arith) in
+    rw count at
+    (all_made others c.args.file c.args.now c.args.lines.now value c.loop-made.made tells (seen_of (S.seen c.args.store.now) input out err link) (S.seen c.loop-made.store)
+    (HoldsAny S.tells (S.seen c.loop-made.store).files c.loop-made.opened) (rw at_end at (kept.made told (Together others) value held)))
+
+pub returns-in-Err-clause-counted : goal.returns-in-Err-clause-counted
+returns-in-Err-clause-counted g c = λ told others value held input out err link tells.
+    let S = g.S.Store in
+    let kept = c.loop-made.invariant in
+    let refused = c.in-Err.ensures.edits in
+    let fault = c.in-Err.fault in
+    let file = c.args.file in
+    let before = S.seen c.loop-made.store in
+    let after = S.seen c.set_limits.new.store in
+    let format = (any_seen c.args.opened.now).format in
+    let was : any_seen c.loop-made.opened ≡ fresh_seen file format = kept.same ∙ c.requires in
+    let keeps = limits_keep_format _ _ c.args.now in
+    rw (c.at_line-refusal.ensures, c.of.ensures, c.edit_cause.ensures) (λ own.
+    refused_made others file c.args.now c.args.lines.now _ (drop (c.loop-made.made + 1) c.args.lines.now) value c.loop-made.made tells
+    (seen_of (S.seen c.args.store.now) input out err link) before after (HoldsAny S.tells before.files c.loop-made.opened) (IsTrue S.tells) fault
+    (subst (λ (l : List LineEdit). AreMade (Together others) file c.args.now c.args.lines.now l value c.loop-made.made (S.seen c.args.store.now) before (HoldsAny S.tells before.files c.loop-made.opened))
+    (drop_more c.args.lines.now c.loop-made.made _ c.loop-made-test.true) (kept.made told (Together others) value held))
+    (λ v holds. any_refused file _ S.tells c.loop-made.opened c.set_limits.new.file before after format v fault keeps was (λ is. holds) refused)
+    (any_cause S.tells _ c.loop-made.opened c.set_limits.new.file before after file format fault keeps was refused)
+    kept.leaves.later own)
+
+pub returns-clause-few : goal.returns-clause-few
+returns-clause-few g c = omega arith
+
+pub returns-in-Err-clause-few : goal.returns-in-Err-clause-few
+returns-in-Err-clause-few g c = omega (arith, c.loop-made.invariant.within)

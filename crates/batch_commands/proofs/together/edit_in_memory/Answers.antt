@@ -4,12 +4,12 @@ use Rattle.batch_commands.proofs.MemoryLemmas.{opened_bytes, opened_view}
 use Rattle.batch_commands.proofs.together.edit_in_memory.Goals as goal
 
 pub returns-in-Ok-clause-made : goal.returns-in-Ok-clause-made
-returns-in-Ok-clause-made c = λ value view.
+returns-in-Ok-clause-made c = λ others value view.
     let file : c.in_ok-file.file ≡ c.args.name.now = c.in_ok-file.ensures in
     let named = c.in_ok-from_str.ensures.ok in
     let opening = c.in-Ok.ensures in
     let has = opened_bytes _ c.args.name.now c.args.bytes.items (one_file_seen c.new-memory.result) (one_file_seen c.open_file.new.store) named c.new-memory.ensures.seen opening.leaves in
-    rw file at (c.in_ok-edit_opened-in-Ok.ensures.made c.args.bytes.items (rw (sym file) at has) value
+    rw file at (c.in_ok-edit_opened-in-Ok.ensures.made c.args.bytes.items (rw (sym file) at has) others value
     (opening.held refl value (opened_view _ c.args.name.now c.args.bytes.items (one_file_seen c.new-memory.result) c.args.kind c.args.format value named c.new-memory.ensures.seen view)))
 
 pub returns-in-Ok-clause-edits : goal.returns-in-Ok-clause-edits

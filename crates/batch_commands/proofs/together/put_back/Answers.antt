@@ -5,31 +5,34 @@ use Rattle.batch_commands.proofs.TogetherLemmas.{kept_takes, put_carried, refuse
 use Rattle.batch_commands.proofs.together.put_back.Goals as goal
 
 pub returns-then-edited-eq0-clause-carries : goal.returns-then-edited-eq0-clause-carries
-returns-then-edited-eq0-clause-carries g c = λ asked bytes edits now lines value counted made input out err link input_tells out_tells err_tells link_tells.
+returns-then-edited-eq0-clause-carries g c = λ asked bytes now lines value edits others several made input out err link input_tells out_tells err_tells link_tells.
     let S = g.S.Store in
     let store = S.seen c.args.store.now in
-    put_carried c.args.file now lines value bytes c.args.edited c.args.count (LineEditMayRefuse asked c.args.file) (tells_of S.tells input_tells out_tells err_tells link_tells)
-    (seen_of store input out err link) store edits counted made
+    put_carried others c.args.file now lines value bytes c.args.edited (LineEditMayRefuse asked c.args.file) (tells_of S.tells input_tells out_tells err_tells link_tells)
+    (seen_of store input out err link) store edits made
     (λ told alone. kept_takes c.args.file bytes c.args.edited store alone.named (edits.same (omega (arith, c.if-edited-eq0.true)))) (omega arith)
     (record { none = λ is. refl; few = omega arith })
 
 pub returns-in-Ok-clause-carries : goal.returns-in-Ok-clause-carries
-returns-in-Ok-clause-carries g c = λ asked bytes edits now lines value counted made input out err link input_tells out_tells err_tells link_tells.
+returns-in-Ok-clause-carries g c = λ asked bytes now lines value edits others several made input out err link input_tells out_tells err_tells link_tells.
     let S = g.S.Store in
     let old = S.seen c.args.store.now in
     let new = S.seen c.replace.new.store in
     let replaced = rw (c.as_str.ensures, c.as_slice.ensures.value) at c.in-Ok.ensures.replaced in
     let writes = rw c.as_slice.ensures.value at c.in-Ok.ensures.writes in
     let few = c.if-not-pays.ensures.few refl in
-    put_carried c.args.file now lines value bytes c.args.edited c.args.count (LineEditMayRefuse asked c.args.file) (tells_of S.tells input_tells out_tells err_tells link_tells)
-    (seen_of old input out err link) new edits counted made
+    put_carried others c.args.file now lines value bytes c.args.edited (LineEditMayRefuse asked c.args.file) (tells_of S.tells input_tells out_tells err_tells link_tells)
+    (seen_of old input out err link) new edits made
     (λ told alone. replaced_takes c.args.file c.args.edited.bytes.items old new alone.no_other (replaced told)) c.in-Ok.ensures.leaves.later
     (record { none = λ is. absurd (omega (arith, is, c.if-edited-eq0.false)); few = omega (arith, writes, few) })
 
 pub returns-in-Err-clause-carries : goal.returns-in-Err-clause-carries
-returns-in-Err-clause-carries g c = λ asked bytes edits now lines value counted made input out err link input_tells out_tells err_tells link_tells.
+returns-in-Err-clause-carries g c = λ asked bytes now lines value edits others several made input out err link input_tells out_tells err_tells link_tells.
     let S = g.S.Store in
+    let writes = rw c.as_slice.ensures.value at c.in-Err.ensures.writes in
+    let few = c.if-not-pays.ensures.few refl in
     rw (c.of.ensures, c.replace_cause.ensures)
-    (refused_carried c.args.file now lines value bytes c.args.edited asked (tells_of S.tells input_tells out_tells err_tells link_tells)
+    (refused_carried others c.args.file now lines value bytes c.args.edited asked (tells_of S.tells input_tells out_tells err_tells link_tells)
     (seen_of (S.seen c.args.store.now) input out err link) (S.seen c.replace.new.store) c.in-Err.fault
-    (λ is. omega (arith, is, c.if-edited-eq0.false)) made (rw c.as_str.ensures at c.in-Err.ensures.unchanged) (rw c.as_str.ensures at c.in-Err.ensures.leaves) c.in-Err.ensures.refused c.in-Err.ensures.memory)
+    (λ is. omega (arith, is, c.if-edited-eq0.false)) made (rw c.as_str.ensures at c.in-Err.ensures.unchanged) (rw c.as_str.ensures at c.in-Err.ensures.leaves)
+    (omega (arith, writes, few, edits.few, several)) c.in-Err.ensures.refused c.in-Err.ensures.memory)
