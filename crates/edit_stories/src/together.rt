@@ -1,5 +1,5 @@
-//! Lines that are made together, by one replacement of the file, or each where it stands. Where a file has the name of
-//! the new one they are made where they stand, and that file is let be.
+//! Lines that are made together, by one replacement of the file, and the same lines made each where it stands: what is left
+//! is the same. Where a file has the name of the new one they are made where they stand, and that file is let be.
 
 /// Files of each format, lines of which some set limits of one who is known or new, one takes a record away, and one has
 /// nothing to do, and what these make of the files: worked out by hand.
@@ -93,16 +93,48 @@ put 7236 8
 put 8640 5
 keep tree0-made
 
-= what the first lines make
+= what a line makes of the file of vfsv1 that has six blocks
+use six
+put 5144 20
+put 5152 10
+put 5168 200
+put 5176 100
+keep six-made
+
+= what the first line of the flat file makes, and what the first two make
 record btime 604800 itime 604800
 record bhard 30 bsoft 20 blocks 4 ihard 50 isoft 40 inodes 9
 record bhard 8 bsoft 2
+keep flat-first
+use flat-first
 fill 0 80
 record bhard 2 bsoft 1 ihard 4 isoft 3
 keep flat-begun
 text 1 20 30 40 50
+keep first-line
+use first-line
 text 5 1 2 3 4
 keep begun-lines
+
+= a file of vfsv0 that has a header alone, one of six blocks that has limits of identifier 1000, and what a line makes of it
+hex 111fc0d9 00000000 803a0900 803a0900 00000000 02000000 00000000 00000000
+keep empty0
+fill 0 6144
+put 0 3653246737 0 604800 604800
+put 20 6
+put 28 2
+put 1024 3
+put 2056 1
+put 2064 1000 4 3 0 2 1
+put 3072 4
+put 4108 5
+put 6048 2
+keep six0
+text 1000 5 6 7 8
+keep six0-line
+use six0
+put 2064 1000 8 7 0 6 5
+keep six0-made
 ";
 
 /// The same lines together, and each where it stands, in files of each format: what is left is the same. Together there are
@@ -237,8 +269,7 @@ record bhard 4 bsoft 3 ihard 6 isoft 5
 holds q
 ";
 
-/// Lines of which one is refused: those before it are made, together only where that takes no more calls of `write` than
-/// where they stand.
+/// Lines of which one is refused: those before it are made, together or each where it stands, and leave the same bytes.
 pub const REFUSED_BOTH_WAYS: &str = "\
 = a name that is unknown
 file q flat
@@ -357,491 +388,4 @@ status 1
 writes 0
 same q
 absent q.new
-
-= six calls of write for a first record, and six for a file of six blocks
-hex 111fc0d9 00000000 803a0900 803a0900 00000000 02000000 00000000 00000000
-keep old
-fill 0 6144
-put 0 3653246737 0 604800 604800
-put 20 6
-put 28 2
-put 1024 3
-put 2056 1
-put 2064 1000 4 3 0 2 1
-put 3072 4
-put 4108 5
-put 6048 2
-keep first
-file q old
-text 1000 1 2 3 4
-text 8 0 4294967296 0 0
-input
-both setquota -F vfsv0 -b q
-status 1
-! quota: input line 2: q: no room for bhard 4294967296 of 8
-writes 6
-holds q first
-absent q.new
-file q old
-text beside
-file q.new
-text 1000 1 2 3 4
-text 8 0 4294967296 0 0
-input
-both setquota -F vfsv0 -b q
-status 1
-! quota: input line 2: q: no room for bhard 4294967296 of 8
-writes 6
-holds q first
-same q.new
-
-= fewer calls where the lines before the refused one stand
-use first
-put 2064 1000 8 7 0 6 5
-keep second
-file q first
-text 1000 5 6 7 8
-text 8 0 4294967296 0 0
-input
-both setquota -F vfsv0 -b q
-status 1
-! quota: input line 2: q: no room for bhard 4294967296 of 8
-writes 1
-holds q second
-absent q.new
-use flat
-fill 0 7920
-keep long
-file q long
-text 1 20 30 40 50
-text 6 4T 0 0 0
-input
-run setquota -F vfsold -b q
-status 1
-! quota: input line 2: q: no room for bsoft 4294967296 of 6
-calls size q; read q; size q.new; size q; size q; read q; read q; read q; read q; read q; read q; read q; read q; read q; write q; sync q; read q;
-changes q
-absent q.new
-";
-
-/// Which lines are made together: two or more, in a file that can come to no more pieces of 1,024 bytes than twelve for
-/// each line. A flat file may come to the record of the greatest identifier, and a tree file may grow by four blocks with
-/// each line.
-pub const BOUNDS: &str = "\
-= two lines and twenty-four pieces of a flat file, or twenty-five
-file q flat
-text 600 1 2 3 4
-text 613 1 2 3 4
-input
-both setquota -F vfsold -b q
-writes 24
-use flat
-fill 0 23880
-record bhard 2 bsoft 1 ihard 4 isoft 3
-fill 0 480
-record bhard 2 bsoft 1 ihard 4 isoft 3
-holds q
-absent q.new
-file q flat
-text 613 1 2 3 4
-text 600 1 2 3 4
-input
-both setquota -F vfsold -b q
-writes 24
-use flat
-fill 0 23880
-record bhard 2 bsoft 1 ihard 4 isoft 3
-fill 0 480
-record bhard 2 bsoft 1 ihard 4 isoft 3
-holds q
-file q flat
-text 600 1 2 3 4
-text 614 1 2 3 4
-input
-both setquota -F vfsold -b q
-writes 2
-use flat
-fill 0 23880
-record bhard 2 bsoft 1 ihard 4 isoft 3
-fill 0 520
-record bhard 2 bsoft 1 ihard 4 isoft 3
-holds q
-absent q.new
-file q flat
-text 600 1 2 3 4
-text 700 1 2 3 4
-input
-both setquota -F vfsold -b q
-writes 2
-use flat
-fill 0 23880
-record bhard 2 bsoft 1 ihard 4 isoft 3
-fill 0 3960
-record bhard 2 bsoft 1 ihard 4 isoft 3
-holds q
-
-= so it is of one who is not given a record
-file q flat
-text 1 20 30 40 50
-text 613 0 0 0 0
-input
-both setquota -F vfsold -b q
-writes 1
-record btime 604800 itime 604800
-record bhard 30 bsoft 20 blocks 4 ihard 50 isoft 40 inodes 9
-record bhard 8 bsoft 2
-holds q
-file q flat
-text 1 20 30 40 50
-text 614 0 0 0 0
-input
-run setquota -F vfsold -b q
-calls size q; read q; size q.new; size q; read q; write q; sync q;
-record btime 604800 itime 604800
-record bhard 30 bsoft 20 blocks 4 ihard 50 isoft 40 inodes 9
-record bhard 8 bsoft 2
-holds q
-
-= two lines and sixteen blocks of a tree file, or seventeen
-use six
-fill 0 10240
-file q
-text 1000 1 2 3 4
-text 1000 100 200 10 20
-input
-both setquota -b q
-writes 16
-use six
-fill 0 10240
-put 5144 20
-put 5152 10
-put 5168 200
-put 5176 100
-holds q
-absent q.new
-use six
-fill 0 11264
-file q
-text 1000 1 2 3 4
-text 1000 100 200 10 20
-input
-both setquota -b q
-writes 2
-use six
-fill 0 11264
-put 5144 20
-put 5152 10
-put 5168 200
-put 5176 100
-holds q
-absent q.new
-
-= three lines and twenty-four blocks, or twenty-five
-use six
-fill 0 18432
-file q
-text 1000 1 2 3 4
-text 1000 2 2 3 4
-text 1000 100 200 10 20
-input
-both setquota -b q
-writes 24
-changes q
-use six
-fill 0 19456
-file q
-text 1000 1 2 3 4
-text 1000 2 2 3 4
-text 1000 100 200 10 20
-input
-both setquota -b q
-writes 3
-changes q
-
-= a line that is passed over, or refused before its edit, counts for nothing
-use six
-fill 0 11264
-file q
-text 1000 1 2 3 4
-text # 1000 1 2 3 4
-text
-text 1000 100 200 10 20
-text zoe 1 1 1 1
-input
-both setquota -b q
-status 1
-! quota: input line 5: unknown name zoe
-writes 2
-changes q
-absent q.new
-
-= lines that have nothing to do count too
-use six
-fill 0 18432
-file q
-text 1000 100 200 10 20
-text 8 0 0 0 0
-text 9 0 0 0 0
-input
-both setquota -b q
-writes 24
-use six
-fill 0 18432
-put 5144 20
-put 5152 10
-put 5168 200
-put 5176 100
-holds q
-
-= one line is made where the record stands
-use flat
-fill 0 7920
-file q
-text 1 20 30 40 50
-input
-both setquota -F vfsold -b q
-writes 1
-record btime 604800 itime 604800
-record bhard 30 bsoft 20 blocks 4 ihard 50 isoft 40 inodes 9
-record bhard 8 bsoft 2
-fill 0 7920
-holds q
-absent q.new
-use six
-fill 0 1042432
-file q
-text 1000 100 200 10 20
-text #
-input
-both setquota -b q
-writes 1
-changes q
-absent q.new
-
-= so is one line before a refused one
-use flat
-fill 0 7920
-file q
-text 1 20 30 40 50
-text zoe 1 1 1 1
-text 5 1 1 1 1
-input
-both setquota -F vfsold -b q
-status 1
-! quota: input line 2: unknown name zoe
-writes 1
-record btime 604800 itime 604800
-record bhard 30 bsoft 20 blocks 4 ihard 50 isoft 40 inodes 9
-record bhard 8 bsoft 2
-fill 0 7920
-holds q
-absent q.new
-";
-
-/// Calls that fail under lines that are made together: none of the lines is made then, unless all are.
-pub const FAILING: &str = "\
-= each call fails in turn
-file q flat
-input flat-lines
-stays q
-sweep each setquota -F vfsold -b q
-holds q flat-made
-file q flat
-use flat-lines
-file l
-stays q l
-sweep each setquota -F vfsold -b --input l q
-holds q flat-made
-same l
-file q tree
-input tree-lines
-stays q
-sweep each setquota -b q
-holds q tree-made
-file q tree0
-input tree-lines
-stays q
-sweep each setquota -F vfsv0 -b q
-holds q tree0-made
-
-= so it does where a line is refused
-file q flat
-use begun-lines
-text zoe 1 1 1 1
-input
-sweep each setquota -F vfsold -b q
-status 1
-! quota: input line 3: unknown name zoe
-holds q flat-begun
-file q flat
-use begun-lines
-text 6 4T 0 0 0
-input
-sweep each setquota -F vfsold -b q
-status 1
-! quota: input line 3: q: no room for bsoft 4294967296 of 6
-holds q flat-begun
-
-= each call that fails, where they are made where they stand
-record btime 604800 itime 604800
-record bhard 30 bsoft 20 blocks 4 ihard 50 isoft 40 inodes 9
-record bhard 8 bsoft 2
-keep flat-first
-file q flat
-text beside
-file q.new
-input begun-lines
-stays q.new
-may q flat-first
-sweep each setquota -F vfsold -b q
-holds q flat-begun
-
-= a file that cannot be made or renamed is told, and the new one may be left
-file q flat
-input flat-lines
-fails store 7
-run setquota -F vfsold -b q
-status 4
-! quota: store fault
-same q
-absent q.new
-input flat-lines
-fails store 10
-run setquota -F vfsold -b q
-status 4
-! quota: store fault
-same q
-holds q.new flat-made
-input begun-lines
-run setquota -F vfsold -b q
-writes 2
-holds q flat-begun
-same q.new
-
-= lines in a script, and what is changed where it stands behind them
-file q flat
-use flat-lines
-file l
-text setquota -F vfsold -b --input l q
-text setquota -F vfsold 2 0 7 0 0 q
-text setquota -F vfsold -b --input l q
-input
-run script
-writes 3
-holds q flat-made
-record btime 604800 itime 604800
-record bhard 8 bsoft 2 blocks 4 ihard 9 isoft 8 inodes 9 btime 5 itime 6
-record bhard 7
-keep scripted
-file q flat
-text setquota -F vfsold 2 0 7 0 0 q
-text setquota -F vfsold -b --input l q
-text setquota -F vfsold 2 0 7 0 0 q
-input
-may q scripted
-may q flat-made
-sweep each script
-record btime 604800 itime 604800
-record bhard 31 bsoft 21 blocks 4 ihard 51 isoft 41 inodes 9
-record bhard 7
-fill 0 80
-record bhard 2 bsoft 1 ihard 4 isoft 3
-holds q
-
-= a new file that was left behind stays there, and lines are made where they stand
-file q flat
-use flat
-fill 0 40
-file q.new
-input begun-lines
-both setquota -F vfsold -b q
-writes 2
-holds q flat-begun
-same q.new
-";
-
-/// A disk that stops under lines that are made together. The file is the old one or the new one then, and what may be left
-/// besides is a part of the new one under its own name: before that is synced, the greater half of each write.
-pub const STOPPED: &str = "\
-= the disk stops under lines of a flat file
-record btime 604800 itime 604800
-record bhard 31 bsoft 21 blocks 4 ihard 51 isoft 41 inodes 9
-fill 0 40
-keep flat-half
-file q flat
-input flat-lines
-may q.new flat-half
-may q.new flat-made
-stop setquota -F vfsold -b q | repquota -F vfsold -v q
-holds q flat-made
-
-= the disk stops under lines of a tree file
-fill 0 512
-put 0 3653246737 1 604800 604800
-put 20 6
-put 28 2
-keep one
-use one
-fill 0 1024
-put 1024 3
-keep two
-use two
-fill 0 1024
-put 2056 2
-put 2064 1000
-put 2072 4
-put 2080 3
-put 2096 2
-put 2104 1
-put 2136 1001
-put 2144 8
-put 2152 7
-put 2168 6
-put 2176 5
-keep three
-use three
-fill 0 1024
-put 3072 4
-keep four
-use four
-fill 0 1024
-put 4108 5
-keep five
-use five
-fill 0 1024
-keep six-halves
-use six-halves
-fill 0 512
-put 6048 2 2
-keep whole
-file q empty
-text 1000 1 2 3 4
-text 1001 5 6 7 8
-input
-may q.new one
-may q.new two
-may q.new three
-may q.new four
-may q.new five
-may q.new six-halves
-may q.new whole
-stop setquota -b q | repquota -v q
-holds q whole
-
-= the disk stops under lines of a file that is given, of which the last one is refused
-file q flat
-use begun-lines
-text 6 1 1 1
-file l
-record btime 604800 itime 604800
-record bhard 30 bsoft 20 blocks 4 ihard 50 isoft 40 inodes 9
-record bhard 8 bsoft 2
-keep begun-half
-may q.new begun-half
-may q.new flat-begun
-stays l
-stop setquota -F vfsold -b --input l q | repquota -F vfsold -v q
-status 1
-! quota: l: bad line 3
-holds q flat-begun
 ";

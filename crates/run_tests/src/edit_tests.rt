@@ -1,7 +1,7 @@
 use crate::playing::play;
 use edit_stories::{
-    applied, batches, edits, ended_batches, forms, limits, refused_forms, refused_lines, stops,
-    together,
+    applied, batches, edits, ended_batches, failing_together, forms, limits, refused_bounds,
+    refused_forms, refused_lines, stops, together, together_bounds,
 };
 use story_player::FILES;
 
@@ -98,11 +98,24 @@ fn lines_before_a_refused_one_are_made_both_ways(rt: HostRuntime) {
 }
 
 #[test]
+fn lines_before_a_refused_one_are_made_together_where_the_file_is_small(rt: HostRuntime) {
+    play(
+        &rt,
+        rt.alloc(),
+        &[
+            FILES,
+            together::FILES_OF_LINES,
+            refused_bounds::REFUSED_BOUNDS,
+        ],
+    );
+}
+
+#[test]
 fn lines_are_made_together_where_the_file_is_small(rt: HostRuntime) {
     play(
         &rt,
         rt.alloc(),
-        &[FILES, together::FILES_OF_LINES, together::BOUNDS],
+        &[FILES, together::FILES_OF_LINES, together_bounds::BOUNDS],
     );
 }
 
@@ -111,7 +124,7 @@ fn a_failing_call_leaves_none_of_the_lines_or_all(rt: HostRuntime) {
     play(
         &rt,
         rt.alloc(),
-        &[FILES, together::FILES_OF_LINES, together::FAILING],
+        &[FILES, together::FILES_OF_LINES, failing_together::FAILING],
     );
 }
 
@@ -120,7 +133,7 @@ fn a_stop_leaves_none_of_the_lines_or_all(rt: HostRuntime) {
     play(
         &rt,
         rt.alloc(),
-        &[FILES, together::FILES_OF_LINES, together::STOPPED],
+        &[FILES, together::FILES_OF_LINES, failing_together::STOPPED],
     );
 }
 
