@@ -20,11 +20,12 @@ lines() {
     if [ -n "$1" ]; then printf '%s\n' "$1"; fi
 }
 
-# expect WHAT STATUS OUT ERR WORD..: runs the words, and compares the status and what was written.
+# expect WHAT STATUS OUT ERR WORD..: runs the words, for `patience` seconds at most, and compares the status and what was
+# written.
 expect() {
     local what=$1 status=$2 out=$3 err=$4 got=0
     shift 4
-    timeout 10 "${runner[@]}" "$@" >out.txt 2>err.txt || got=$?
+    timeout "$patience" "${runner[@]}" "$@" >out.txt 2>err.txt || got=$?
     lines "$out" >want_out.txt
     lines "$err" >want_err.txt
     if [ "$got" = "$status" ] && cmp -s out.txt want_out.txt && cmp -s err.txt want_err.txt; then
@@ -99,6 +100,7 @@ play() {
     cp "$top/samples/quota.user" quota.user
     printf '\x11\x1f\xc0\xd9\x01\0\0\0\x80\x3a\x09\0\x80\x3a\x09\0\0\0\0\0\x02\0\0\0\0\0\0\0\0\0\0\0' >empty
     runner=("$run")
+    patience=10
     . "$top/tests/real_files/$part.sh"
 }
 

@@ -65,6 +65,8 @@ ROWS = [
     Row("a batch", [LISTED, limits(9)], ["setquota", "-u", "-b", "q"], "7 1 2 3 4\n1000 100 x 10 20\n", 1, "",
         "quota: input line 2: bad number x\n"),
     Row("lines that are made together", [LISTED], ["setquota", "-u", "-b", "q"], "7 1 2 3 4\n1000 100 200 10 20\n"),
+    Row("lines before a refused one", [(["quotacheck", "-c", "-u", "-F", "vfsv0", "q"], LISTING)], ["setquota", "-u", "-b", "q"],
+        "7 1 2 3 4\n1000 0 %d 0 0\n" % 2**32, 1, "", "quota: input line 2: q: no room for bhard 4294967296 of 1000\n"),
     Row("a report", [EMPTY, (["setquota", "1000", "100", "200", "10", "20", "q"], "")], ["repquota", "-u", "-v", "q"], "", 0, REPORT),
     Row("a made file", [], ["generate", "0", "1", "q"], "", 0, "lines 1, inodes 1, identifiers 1, KiB 216, report 351 bytes\n"),
 ]
@@ -171,6 +173,8 @@ class Tried:
         for name in {*whole.files, *left.files, "l"}:
             found = left.files.get(name)
             want(found in (self.start.get(name), whole.files.get(name)), "the file", name, "is neither the old nor the new one")
+            if "-b" in self.row.words and left.status == 5:
+                want(found == self.start.get(name) and "q.new" not in os.listdir("."), "something was written")
         return "status %d, %s" % (left.status, said[0])
 
 

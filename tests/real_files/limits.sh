@@ -84,6 +84,34 @@ expect 'an input that is a folder' 4 '' 'quota: store fault' setquota -F vfsold 
 expect 'a standard input that is a folder' 4 '' 'quota: input fault' setquota -F vfsold -b q <.
 expect 'an input of no bytes' 0 '' '' setquota -F vfsold -b q </dev/null
 same 'they leave the file' "$(cmp q want && echo same)" same
+
+# Lines before one that is refused by its edit are made by a new file, where that has at most twelve pieces of 1,024 bytes for
+# each of them, one that has nothing to do among them, and else where they stand, as a line alone is. What they leave is what
+# a single change leaves.
+for format in vfsold vfsv0; do
+    for row in '1 12' '1 13' '2 24' '2 25'; do
+        read -r made pieces <<<"$row"
+        what="$made lines before a refused one in $pieces pieces of $format"
+        rm -f t t.*
+        "$run" quotacheck -c -F "$format" t <<<'1 100 1 1 8'
+        case $format in
+            vfsold) truncate -s "$((pieces * 1024 / 40 * 40))" t ;;
+            vfsv0) truncate -s "$((pieces * 1024))" t ;;
+        esac
+        same "the pieces of $format" "$((($(stat -c %s t) + 1023) / 1024))" "$pieces"
+        cp t other
+        expect "a single change of $pieces pieces of $format" 0 '' '' setquota -F "$format" 1 9 8 7 6 other
+        first=$(stat -c %i t)
+        expect "$what" 1 '' "quota: input line $((made + 1)): t: no room for bhard 4294967296 of 3" \
+            setquota -F "$format" -b t < <(printf '%s\n' '2 0 0 0 0' '1 9 8 7 6' '3 0 4T 0 0' '3 1 1 1 1' | tail -n "$((made + 2))")
+        same "$what: the old file, and what it has" "$(($(stat -c %i t) == first)) $(cmp t other && echo same)$(echo t.new*)" \
+            "$((pieces > 12 * made)) same"
+    done
+    first=$(stat -c %i t)
+    expect "a line alone of $format" 0 '' '' setquota -F "$format" -b t <<<'1 3 4 5 6'
+    same "a line alone of $format keeps the file" "$(($(stat -c %i t) == first))$(echo t.new*)" 1
+done
+rm -f t t.* other other.*
 : >q
 "$run" edquota --print -F vfsold --names names alice q | sed '3s/.*/  q 0 100 200 0 10 20/' >form
 expect 'a form of the standard input' 0 '' '' edquota --apply -F vfsold --names names alice q <form
