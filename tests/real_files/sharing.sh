@@ -235,8 +235,14 @@ format=vfsv1
 # wake JOB: sends datagrams to the line of a script that waits for one, until the script has ended.
 wake() { while kill -0 "$1" 2>/dev/null; do { echo x >/dev/udp/127.0.0.1/"$port"; } 2>/dev/null || true; sleep 0.02; done; }
 
-# until_lines FILE NUMBER: waits until a file has NUMBER lines.
-until_lines() { until [ "$(wc -l <"$1")" -ge "$2" ]; do sleep 0.01; done; }
+# begin: the script `s` runs beside the test, and sets `script` to its job, once the four lines of the head of its first report
+# are in out.txt, or it has ended. (What another script has written there is taken away before.)
+begin() {
+    rm -f out.txt
+    "${runner[@]}" script <s >out.txt 2>err.txt &
+    script=$!
+    until [ "$(cat out.txt 2>/dev/null | wc -l)" -ge 4 ] || ! kill -0 "$script" 2>/dev/null; do sleep 0.01; done
+}
 
 if command -v python3 >/dev/null; then
     port=$("$top/tests/serve_client.py" free)
@@ -246,9 +252,7 @@ if command -v python3 >/dev/null; then
         if [ "$file" = flat ]; then format=vfsold; fi
         cp "$file" was
         printf '%s\n' "repquota -F $format $file" "rquotad --calls 1 --port $port --export /home user t" "$change" >s
-        "${runner[@]}" script <s >out.txt 2>err.txt &
-        script=$!
-        until_lines out.txt 4
+        begin
         "${runner[@]}" setquota -F "$format" 2 7 7 7 7 "$file"
         cp "$file" changed
         wake "$script"
@@ -262,9 +266,7 @@ if command -v python3 >/dev/null; then
 
     # It keeps the lock of what it changed to its end.
     printf '%s\n' 'setquota 1 1 2 3 4 q' 'repquota q' "rquotad --calls 1 --port $port --export /home user t" >s
-    "${runner[@]}" script <s >out.txt &
-    script=$!
-    until_lines out.txt 4
+    begin
     same 'a script keeps what it changed locked' "$(flock -n -s q echo free || echo locked)" locked
     wake "$script"
     ended "$script"
@@ -298,6 +300,17 @@ for format in vfsold vfsv0 vfsv1; do
     expect "new limits of $format behind a link" 0 '' '' setquota -F "$format" 1 1 2 3 4 near
     expect "more limits of $format behind two links" 0 '' '' setquota -F "$format" 2 5 6 7 8 nearer
     same "they are in the file of $format" "$(limits_of far/one | grep -v '^0 ' | paste -sd ' ')" '1 1 2 3 4 2 5 6 7 8'
+    # Lines that are made together look for a file of the new name where they would make one: beside the file itself.
+    echo keep >far/one.new
+    touch near.new
+    inode=$(stat -c %i far/one)
+    expect "lines of $format beside a file of the new name behind a link" 0 '' '' setquota -F "$format" -b near <<<$'1 1 2 3 5\n2 5 6 7 9'
+    same "they are made in place of $format" "$(stat -c %i far/one) $(cat far/one.new)" "$inode keep"
+    rm far/one.new
+    expect "lines of $format behind a link" 0 '' '' setquota -F "$format" -b near <<<$'1 1 2 3 4\n2 5 6 7 8'
+    same "they are made by a new file of $format" "$([ "$(stat -c %i far/one)" = "$inode" ] || limits_of far/one | grep -v '^0 ' | paste -sd ' ')" \
+        '1 1 2 3 4 2 5 6 7 8'
+    rm near.new
     expect "a listing of $format behind a link" 0 '' '' quotacheck -F "$format" nearer <<<'1 100 1 1 16'
     same "it is in the file of $format" "$("${runner[@]}" repquota -F "$format" -v far/one | awk '$1 == "#1" { print $3, $4, $5 }')" '8 1 2'
     expect "a new file of $format behind a link" 0 '' '' quotacheck -c -F "$format" near <<<'3 100 1 1 8'
