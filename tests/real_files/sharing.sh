@@ -238,10 +238,10 @@ wake() { while kill -0 "$1" 2>/dev/null; do { echo x >/dev/udp/127.0.0.1/"$port"
 # begin: the script `s` runs beside the test, and sets `script` to its job, once the four lines of the head of its first report
 # are in out.txt, or it has ended. (What another script has written there is taken away before.)
 begin() {
-    rm -f out.txt
+    : >out.txt
     "${runner[@]}" script <s >out.txt 2>err.txt &
     script=$!
-    until [ "$(cat out.txt 2>/dev/null | wc -l)" -ge 4 ] || ! kill -0 "$script" 2>/dev/null; do sleep 0.01; done
+    until [ "$(wc -l <out.txt)" -ge 4 ] || ! kill -0 "$script" 2>/dev/null; do sleep 0.01; done
 }
 
 if command -v python3 >/dev/null; then

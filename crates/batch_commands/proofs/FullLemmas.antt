@@ -46,7 +46,7 @@ never_of_line names place (Passed value) only = tt
 never_of_line names place (Refused refusal) only = never_may names place refusal.cause refusal.name only.may
 
 -- a refusal, where there is one, is for another cause
-abbrev IfOther : Option Refusal → Type 0
+abbrev pub IfOther : Option Refusal → Type 0
 IfOther refusal = IfSome refusal (λ (r : Refusal). is_full r.cause ≡ false)
 
 never_then : (outcome : Outcome (Option LineEdit)) (more : Asked) → NeverFull outcome → IfOther more.refusal → IfOther (asks_then outcome more).refusal
@@ -76,7 +76,7 @@ one_more kind asked now line lines file blocks limit one = record {
 }
 
 -- the lines behind one of which the edit left this value end so that one of them has no room
-abbrev RestFull : Way → Kind → Option Format → List ℕ → ℕ → List LineEdit → Option Refusal → Outside → Refusal → (blocks limit : ℕ) → Type 0
+abbrev pub RestFull : Way → Kind → Option Format → List ℕ → ℕ → List LineEdit → Option Refusal → Outside → Refusal → (blocks limit : ℕ) → Type 0
 RestFull way kind asked file now lines more to refusal blocks limit =
     (value : QuotaValue) (old : Outside) (acts : List Act) → IsView (old.files file) kind asked (Ok value) → EndsBy (EditsThen way file now lines value more) old acts to (Some refusal)
     → (refusal.name ≡ file) × IsFullForOne kind asked now lines (to.files file) blocks limit
@@ -125,7 +125,7 @@ other_end : {R : Type 0} (more : Option Refusal) (refusal : Refusal) (blocks lim
 other_end None refusal blocks limit is never same = absurd (none-some refusal (sym same))
 other_end (Some other) refusal blocks limit is never same = other_refusal refusal other blocks limit is same never
 
-applied_full : (way : Way) (kind : Kind) (asked : Option Format) (file : List ℕ) (now : ℕ) (lines : List LineEdit) (more : Option Refusal) (to : Outside) (refusal : Refusal) (blocks limit : ℕ)
+pub applied_full : (way : Way) (kind : Kind) (asked : Option Format) (file : List ℕ) (now : ℕ) (lines : List LineEdit) (more : Option Refusal) (to : Outside) (refusal : Refusal) (blocks limit : ℕ)
     → refusal.cause ≡ Full blocks limit → IfOther more → RestFull way kind asked file now lines more to refusal blocks limit
 applied_full way kind asked file now [] more to refusal blocks limit is never = λ value old acts view ends. other_end more refusal blocks limit is never ends.ends
 applied_full way kind asked file now (line ∷ lines) more to refusal blocks limit is never = λ value old acts view ends.

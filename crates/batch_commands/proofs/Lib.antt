@@ -8,5 +8,6 @@ pub mod MeaningLemmas
 pub mod MemoryLemmas
 pub mod OverLemmas
 pub mod ReadsLemmas
+pub mod RefusedLemmas
 pub mod TogetherLemmas
 pub mod WantingLemmas

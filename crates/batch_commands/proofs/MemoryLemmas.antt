@@ -1,7 +1,11 @@
 -- Edits of lines of a file in memory: what was carried out there is what the lines do, and what is known of it whatever the lines do.
 use Rattle.std.proofs.Common.{◌≡◌, ℕ, Bool, true, false, List, [], Option, None, Some, Ok, Err, Result, inl, inr, sym, ap, subst, ◌∙◌, arith}
 use Rattle.std.specs.Prelude.{◌<◌, ◌≤◌, IfErr}
+use Rattle.std.proofs.lemmas.Bool.{false≢true}
 use Rattle.std.proofs.lemmas.Option.{same_Some}
+use Rattle.quota_blocks.specs.declared.quota_file.OpenFault.{OpenFault}
+use Rattle.quota_blocks.specs.declared.quota_file.OpenFault.TheVariants.{Store as NotRead, Memory as NoMemory}
+use Rattle.quota_map.proofs.SeenLemmas.{IsOfCall}
 use Rattle.file_in_memory.specs.OneFile.{only_file}
 use Rattle.quota_blocks.specs.EditsOne.{EditsOne, StaysUnlessWritten}
 use Rattle.quota_blocks.specs.Frame.{OnlyReads}
@@ -23,7 +27,7 @@ use Rattle.run_steps.specs.Writes.{WritesFor}
 use Rattle.batch_commands.specs.declared.batch.EditedLines.{EditedLines}
 use Rattle.batch_commands.specs.declared.together.Edited.{Edited}
 use Rattle.batch_commands.specs.Batch.{line_uses}
-use Rattle.batch_commands.specs.Together.{HasBytes, HasMade, IfOwn, IsEditOf, IsMadeInMemory, IsOfEdit, memory_seen, refusal_in}
+use Rattle.batch_commands.specs.Together.{HasBytes, HasMade, IfOwn, IsEditOf, IsMadeInMemory, IsOfEdit, is_of_call, memory_seen, refusal_in}
 use Rattle.batch_commands.proofs.CountLemmas.{own_so}
 use Rattle.batch_commands.proofs.TogetherLemmas.{only_file-at, only_name_of}
 
@@ -89,13 +93,13 @@ own_refused steps may tells before after input out err link (Ok passed) own carr
 own_refused steps may tells before after input out err link (Err refusal) own carries = record { allowed = carries.may_refuse; placed = carries.placed; own = own }
 
 -- nothing is seen
-no_source : SourceSeen
+pub no_source : SourceSeen
 no_source = record { left = []; faults = 0 }
 
-no_sink : SinkSeen
+pub no_sink : SinkSeen
 no_sink = record { written = []; faults = 0 }
 
-no_link : LinkSeen
+pub no_link : LinkSeen
 no_link = record { left = []; answers = []; started = record { times = 0; last = None }; faults = 0 }
 
 pub memory_edit : (steps : Steps) (may : Cause → List ℕ → Type 0) (count : ℕ) (file bytes name : List ℕ) (before after : StoreSeen) (edited : Edited) → HasBytes file bytes before → after.files ≡ only_file name edited.bytes.items
@@ -110,6 +114,12 @@ memory_edit steps may count file bytes name before after edited has is writes fe
     }
 
 -- The file in memory, once it was opened.
+
+-- for another refusal than one of its bytes a file is not opened where the store failed, or there is not enough memory
+pub of_call : (fault : OpenFault) → is_of_call fault ≡ false → IsOfCall fault → ⊥
+of_call NotRead other is = false≢true (sym other)
+of_call NoMemory other is = false≢true (sym other)
+of_call _ other is = is
 
 -- a new store of one file
 abbrev pub fresh_file : (name bytes : List ℕ) → StoreSeen

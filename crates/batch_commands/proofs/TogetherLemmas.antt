@@ -1,6 +1,6 @@
 -- Edits of lines that are made together: from what they made in memory of the file to what they did to it.
 use Rattle.std.proofs.Common.{◌≡◌, ◌≢◌, inl, inr, ℕ, ◌+◌, ◌*◌, ◌≤◌, Bool, true, false, IsTrue, List, [], ◌∷◌, ◌++◌, length, Option, None, Some, Ok, Err, Result, refl, sym, ap, subst, ◌∙◌, append-nil, arith}
-use Rattle.std.specs.Prelude.{IfErr, IsSome, unwrap_or}
+use Rattle.std.specs.Prelude.{IfErr, IsSome, OnOk, unwrap_or}
 use Rattle.std.proofs.lemmas.Result.{IfErr-weaker, on_ok_weaker}
 use Rattle.std.specs.Str.{bytes_eq}
 use Rattle.std.proofs.lemmas.Bool.{cases_Bool, false≢true}
@@ -58,7 +58,7 @@ use Rattle.batch_commands.specs.declared.together.Attempt.{Attempt}
 use Rattle.batch_commands.specs.declared.together.Attempt.TheVariants.{Ended, NotMade}
 use Rattle.batch_commands.specs.declared.together.Edited.{Edited}
 use Rattle.batch_commands.specs.Batch.{LineEditMayRefuse, LineSteps, edit_of, line_uses, met_at, way_behind, way_of}
-use Rattle.batch_commands.specs.Together.{IfEnded, IsEditOf, IsMadeInMemory, IsOfEdit, IsOnlyRead, StandsAlone, memory_seen, refusal_in, replace_cause}
+use Rattle.batch_commands.specs.Together.{IfEnded, IfNotMade, IsEditOf, IsMadeInMemory, IsOfEdit, IsOnlyRead, StandsAlone, memory_seen, refusal_in, replace_cause}
 use Rattle.batch_commands.proofs.OverLemmas.{lines_over}
 use Rattle.batch_commands.proofs.WantingLemmas.{unwritten_both}
 
@@ -313,6 +313,26 @@ pub syncs_read : {done one : Bool} (old store new : StoreSeen) → IsOnlyRead do
 syncs_read old store new reads is syncs =
     syncs-then old store new
     (record { later = reads.later; synced = λ so. record { none = reads.synced (inl is); changed = λ other. inr (ap (λ (files : World). files other) reads.files) } }) syncs
+
+-- a fact where lines were not made, by another
+pub not_made_weaker : (attempt : Attempt) (P Q : List ℕ → Type 0) → ((name : List ℕ) → P name → Q name) → IfNotMade attempt P → IfNotMade attempt Q
+not_made_weaker (Ended result) P Q weaker is = tt
+not_made_weaker (NotMade name) P Q weaker is = weaker name is
+
+-- a fact however lines ended that were made
+pub ended_any : (attempt : Attempt) (P : Result (Unit {0}) Refusal → Type 0) → ((result : Result (Unit {0}) Refusal) → P result) → IfEnded attempt P
+ended_any (Ended result) P each = each result
+ended_any (NotMade name) P each = tt
+
+-- a fact where all was done, that rests on what is told
+pub told_first : {T : Type 0} (P : Type 0) (result : Result (Unit {0}) Refusal) → (T → OnOk result P) → OnOk result (T → P)
+told_first P (Ok passed) is = is
+told_first P (Err refusal) is = tt
+
+-- a fact where all was done
+pub on_ok_any : (result : Result (Unit {0}) Refusal) (P : Type 0) → P → OnOk result P
+on_ok_any (Ok passed) P is = is
+on_ok_any (Err refusal) P is = tt
 
 -- it was only read, and nothing was done
 pub none_carried : {done : Bool} (steps : Steps) (uses : Uses) (may : Cause → List ℕ → Type 0) (tells : RunTells) (old : RunSeen) (store : StoreSeen) (refusal : Refusal) → Some refusal.cause ≢ Some SinkFault → IsOnlyRead done old.store store

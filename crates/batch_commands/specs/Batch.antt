@@ -11,7 +11,7 @@ use Rattle.quota_blocks.specs.Words.{words_of}
 use Rattle.quota_blocks.specs.Block.{file_of}
 use Rattle.quota_blocks.specs.Replace.{pieces_of}
 use Rattle.quota_blocks.specs.World.{World}
-use Rattle.quota_map.specs.View.{opening_reads}
+use Rattle.quota_map.specs.View.{most_blocks, opening_reads}
 use Rattle.set_edit.specs.Editing.{Edit}
 use Rattle.set_edit.specs.Edits.{limits_edit}
 use Rattle.set_edit.specs.declared.limits.Limits.{Limits as FourLimits}
@@ -29,7 +29,7 @@ use Rattle.run_steps.specs.declared.invocation.Invocation.{Invocation}
 use Rattle.run_steps.specs.Act.{Act, Behind, InPlace, Together, Way}
 use Rattle.run_steps.specs.InputLine.{says_nothing}
 use Rattle.run_steps.specs.Naming.{MayBeNames, NamesMayRefuse}
-use Rattle.run_steps.specs.Opening.{MayRefuseOpening}
+use Rattle.run_steps.specs.Opening.{MayRefuseOpening, asks_tree}
 use Rattle.refusals.specs.Outcome.{Outcome, Passed, Refused, and_then}
 use Rattle.run_steps.specs.Run.{Uses}
 use Rattle.run_steps.specs.Steps.{DoingAll, Ending, Looking, Naming, Opening, Steps, Then}
@@ -194,14 +194,21 @@ BatchSteps common from file invocation =
 abbrev pub input_edits : List NameLine → (bytes : List ℕ) → List LineEdit
 input_edits names bytes = (input_asks names [] bytes).edits
 
--- how many calls of `read` it takes to read a file of this length whole, where so many lines may be edited together in it: where there
--- are several, and the file has no more pieces than twelve for each of them
-abbrev pub whole_reads : (count length : ℕ) → ℕ
-whole_reads count length = if nat_lt 1 count && nat_le (pieces_of length) (12 * count) then pieces_of length else 0
+-- So many lines may fill a file of this length: a tree file, which with 4,096 bytes for each of them, and for two more, has as many
+-- bytes as the most blocks that it may have.
+abbrev pub may_fill : Option Format → (count length : ℕ) → Bool
+may_fill asked count length = asks_tree asked && nat_le (1024 * most_blocks) (length + 4096 * (2 + count))
 
--- how many calls of `read` edits of a file of this length make at most: seventeen each, and those that read it whole
-abbrev pub line_reads : List LineEdit → (size : ℕ) → ℕ
-line_reads edits size = whole_reads (length edits) size + 17 * length edits
+-- how many calls of `read` it takes to read a file of this length whole, where so many lines may be edited together in it, and may
+-- still be made in place then: where there are several, the file has no more pieces than twelve for each of them, and they may fill it
+abbrev pub whole_reads : Option Format → (count length : ℕ) → ℕ
+whole_reads asked count length =
+    if nat_lt 1 count && (nat_le (pieces_of length) (12 * count) && may_fill asked count length) then pieces_of length else 0
+
+-- how many calls of `read` edits of a file of this length make at most, where all are made: seventeen each, and where they may fill it
+-- those that read it whole
+abbrev pub line_reads : Option Format → List LineEdit → (size : ℕ) → ℕ
+line_reads asked edits size = whole_reads asked (length edits) size + 17 * length edits
 
 -- that many, where there is neither a file of names nor one of lines, which are read besides
 abbrev pub if_neither : (names from : Option (List ℕ)) → ℕ → Option ℕ
@@ -211,7 +218,8 @@ if_neither names from reads = None
 -- how many calls of `read` lines of the standard input make at most, the opening of the file with them, where there are no names
 abbrev pub batch_reads : Common → Option (List ℕ) → List ℕ → World → (bytes : List ℕ) → Option ℕ
 batch_reads common from file files bytes =
-    if_neither common.names from (opening_reads common.format (file_of files file) + line_reads (input_edits [] bytes) (length (file_of files file)))
+    if_neither common.names from
+    (opening_reads common.format (file_of files file) + line_reads common.format (input_edits [] bytes) (length (file_of files file)))
 
 -- edits of lines change the store, and those before a refused one stay
 abbrev pub line_uses : Uses

@@ -1,29 +1,36 @@
 -- Edits of many lines that are made together: in memory, after which the file is replaced once. Source: this project's own.
-use Rattle.std.specs.Prelude.{◌≡◌, ◌⊎◌, ◌+◌, ◌*◌, ◌<◌, ◌≤◌, ℕ, Bool, false, List, Option, Some, None, Result, Ok, Err, IfErr, ⊤}
+use Rattle.std.specs.Prelude.{◌≡◌, ◌⊎◌, ◌+◌, ◌*◌, ◌<◌, ◌≤◌, ◌^◌, ℕ, Bool, IsTrue, true, false, List, Option, Some, None, Result, Ok, Err, IfErr, OnOk, length, ⊤}
 use Rattle.file_in_memory.specs.OneFile.{only_file}
 use Rattle.outside.specs.Frame.{IsUnfailed}
 use Rattle.outside.specs.Replacement.{replacement_name}
 use Rattle.outside.specs.Seen.{StoreSeen}
 use Rattle.outside.specs.Unsynced.{AddsNone}
 use Rattle.outside.specs.World.{World}
+use Rattle.quota_types.specs.declared.file_kind.Format.{Format}
+use Rattle.quota_blocks.specs.QuotaValue.{QuotaValue}
 use Rattle.quota_blocks.specs.Replace.{pieces_of}
 use Rattle.quota_blocks.specs.Seen.{LinkSeen, SinkSeen, SourceSeen}
+use Rattle.quota_blocks.specs.declared.quota_file.OpenFault.{OpenFault}
+use Rattle.quota_blocks.specs.declared.quota_file.OpenFault.TheVariants.{Store as NotRead, Memory as NoMemory}
 use Rattle.quota_blocks.specs.declared.replacement.ReplaceFault.{ReplaceFault}
 use Rattle.quota_blocks.specs.declared.replacement.ReplaceFault.TheVariants.{Store as NotStored, Full, Memory as Wanting}
 use Rattle.refusals.specs.declared.cause.Cause.{Cause}
 use Rattle.refusals.specs.declared.cause.Cause.TheVariants.{StoreFault, Memory as WantOfMemory}
 use Rattle.refusals.specs.declared.reason.Refusal.{Refusal}
 use Rattle.refusals.specs.Status.{status_of}
-use Rattle.run_steps.specs.Act.{Act}
-use Rattle.run_steps.specs.Done.{AreDone, RunSeen, RunTells, outside_of, seen_of}
+use Rattle.run_steps.specs.Act.{Act, Way}
+use Rattle.run_steps.specs.Done.{AreDone, Outside, RunSeen, RunTells, outside_of, seen_of}
 use Rattle.run_steps.specs.Meaning.{EndsBy}
+use Rattle.run_steps.specs.Opening.{asks_tree}
 use Rattle.run_steps.specs.Run.{IsPlacedBy}
 use Rattle.run_steps.specs.Steps.{Steps}
 use Rattle.run_steps.specs.Writes.{edits_in}
-use Rattle.batch_commands.specs.Batch.{line_uses}
+use Rattle.batch_commands.specs.Batch.{LineSteps, line_uses, may_fill}
+use Rattle.batch_commands.specs.declared.batch_line.LineEdit.{LineEdit}
 use Rattle.batch_commands.specs.declared.together.Attempt.{Attempt}
 use Rattle.batch_commands.specs.declared.together.Attempt.TheVariants.{Ended, NotMade}
 use Rattle.batch_commands.specs.declared.together.Edited.{Edited}
+use Rattle.batch_commands.specs.declared.together.Whole.{Whole}
 
 -- a fact of how edits that were to be made together ended, where they were made
 abbrev pub IfEnded : Attempt → (Result (Unit {0}) Refusal → Type 0) → Type 0
@@ -94,6 +101,35 @@ IsMadeInMemory steps name bytes edited =
     (input : SourceSeen) (out err : SinkSeen) (link : LinkSeen) (tells : RunTells)
     → HasMade steps tells (refusal_in edited.lines.ended) edited.lines.made (seen_of (memory_seen name bytes 0) input out err link)
     (seen_of (memory_seen name edited.bytes.items edited.writes) input out err link)
+
+-- So many lines were to be edited in memory, by which a file may come to have this many bytes: it has no more; and where no line was
+-- refused all of them were edited.
+pub record IsWithin (most count : ℕ) (edited : Edited) : Type 0 where
+  pub short : length edited.bytes.items ≤ most
+  pub all : OnOk edited.lines.ended (edited.lines.made ≡ count)
+
+-- So many lines of a file that was read whole may be edited together: the file that they may come to make of it can be replaced, in no
+-- more calls of `write` than twelve for each; and a tree file, which may lack 2,048 bytes of its header and its root, grows by 4,096
+-- bytes for each besides.
+pub record MayPay (asked : Option Format) (count : ℕ) (whole : Whole) : Type 0 where
+  pub few : pieces_of whole.most ≤ 12 * count
+  pub within : whole.most ≤ 2 ^ 42
+  pub grows : IsTrue (asks_tree asked) → whole.most ≤ length whole.bytes.items + 2048 + 4096 * count
+
+-- The edits of lines are not all done, whatever files there are, since one of them is refused.
+abbrev pub AreNeverDone : (file : List ℕ) (now : ℕ) → List LineEdit → QuotaValue → Type 0
+AreNeverDone file now lines value = (way : Way) (old new : Outside) (acts : List Act) → EndsBy (LineSteps way file now lines value) old acts new None → ⊥
+
+-- Why the edits of lines of a file of this length are not made together, though it was read whole: one of them is refused; or they may
+-- fill the file.
+abbrev pub AreNotTogether : Option Format → (file : List ℕ) (now : ℕ) → List LineEdit → QuotaValue → (size : ℕ) → Type 0
+AreNotTogether asked file now lines value size = IsTrue (may_fill asked (length lines) size) ⊎ AreNeverDone file now lines value
+
+-- a file is not opened for a fault of the store, or since there is not enough memory, and not for its bytes
+abbrev pub is_of_call : OpenFault → Bool
+is_of_call NotRead = true
+is_of_call NoMemory = true
+is_of_call _ = false
 
 -- what is said where the file is not replaced
 abbrev pub replace_cause : ReplaceFault → Cause

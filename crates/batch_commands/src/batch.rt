@@ -56,7 +56,7 @@ pub fn apply_lines<S: Store, I: Source>(
     // What was written has been synced where it was done, and where it was not too, unless a call on the store failed.
     ensures synced { IsTrue S.tells → Syncs (is_ok result) (S.seen store.old) (S.seen store.new) }
     // Where it was done without a file of names, and out of the standard input, no more was read than the opening of the file takes,
-    // seventeen blocks for each line that asks for an edit, and the file once more where its lines may be edited together.
+    // seventeen blocks for each line that asks for an edit, and the file once more where lines that may be edited together may fill it.
     ensures reads { OnOk result (IsTrue S.tells → IsTrue I.tells
         → ReadsWithin (batch_reads common from file (S.seen store.old).files (I.seen input.old).left) (S.seen store.old) (S.seen store.new)) }
     ensures untouched { IsSome from → input.new ≡ input.old }
@@ -96,7 +96,7 @@ fn apply_named<S: Store, I: Source>(
     ensures synced { IsTrue S.tells → Syncs (is_ok result) (S.seen store.old) (S.seen store.new) }
     ensures reads { from ≡ None → OnOk result (IsTrue S.tells → IsTrue I.tells → (S.seen store.new).reads ≤ (S.seen store.old).reads
         + (opening_reads format (file_of (S.seen store.old).files file)
-        + line_reads (input_edits names.now (I.seen input.old).left) (length (file_of (S.seen store.old).files file)))) }
+        + line_reads format (input_edits names.now (I.seen input.old).left) (length (file_of (S.seen store.old).files file)))) }
     ensures untouched { IsSome from → input.new ≡ input.old }
     ensures keeps { I.keeps false input.old input.new }
 {
@@ -133,9 +133,12 @@ fn apply_opened<S: Store, I: Source>(
     ensures wanting { IfWanting (IsUnwritten (S.seen store.old) (S.seen store.new)) result }
     ensures others { ReplacesOnly file (S.seen store.old).files (S.seen store.new).files }
     ensures synced { IsTrue S.tells → Syncs (is_ok result) (S.seen store.old) (S.seen store.new) }
-    ensures reads { from ≡ None → OnOk result (IsTrue S.tells → IsTrue I.tells
+    ensures reads { IsOpenedAs format (⟦<AnyFile as QuotaFile<S>>⟧.seen opened).format
+        → (value : QuotaValue) → (IsTrue S.tells → ⟦<AnyFile as QuotaFile<S>>⟧.holds opened store.old value)
+        → (IsTrue S.tells → IsView ((S.seen store.old).files file) kind format (Ok value))
+        → from ≡ None → OnOk result (IsTrue S.tells → IsTrue I.tells
         → (S.seen store.new).reads ≤ (S.seen store.old).reads
-        + line_reads (input_edits names.now (I.seen input.old).left) (length (file_of (S.seen store.old).files file))) }
+        + line_reads format (input_edits names.now (I.seen input.old).left) (length (file_of (S.seen store.old).files file))) }
     ensures untouched { IsSome from → input.new ≡ input.old }
     ensures keeps { I.keeps false input.old input.new }
 {
@@ -187,8 +190,11 @@ fn edit_lines<S: Store>(
     ensures wanting { IfWanting (IsUnwritten (S.seen store.old) (S.seen store.new)) result }
     ensures others { ReplacesOnly file (S.seen store.old).files (S.seen store.new).files }
     ensures synced { IsTrue S.tells → Syncs (is_ok result) (S.seen store.old) (S.seen store.new) }
-    ensures reads { OnOk result (IsTrue S.tells → (S.seen store.new).reads ≤ (S.seen store.old).reads
-        + line_reads lines.now (length (file_of (S.seen store.old).files file))) }
+    ensures reads { IsOpenedAs format (⟦<AnyFile as QuotaFile<S>>⟧.seen opened).format
+        → (value : QuotaValue) → (IsTrue S.tells → ⟦<AnyFile as QuotaFile<S>>⟧.holds opened store.old value)
+        → (IsTrue S.tells → IsView ((S.seen store.old).files file) kind format (Ok value))
+        → OnOk result (IsTrue S.tells → (S.seen store.new).reads ≤ (S.seen store.old).reads
+        + line_reads format lines.now (length (file_of (S.seen store.old).files file))) }
 {
     match edit_together(alloc, kind, format, lines, file, store, now) {
         Attempt::Ended(ended) => ended,
@@ -232,6 +238,7 @@ pub fn edit_all<S: Store>(
         (seen_of (S.seen store.old) input out err link)
         (seen_of (S.seen store.new) input out err link)) }
     ensures few { result.made ≤ length lines.now }
+    ensures all { OnOk result.ended (result.made ≡ length lines.now) }
     ensures memory { IfErr result.ended (λ refusal. refusal.cause ≢ Memory) }
     ensures leaves { EditsOne file (S.seen store.old) (S.seen store.new) }
     ensures synced { IsTrue S.tells → Syncs (is_ok result.ended) (S.seen store.old) (S.seen store.new) }

@@ -1,4 +1,4 @@
-ghost use Rattle.std.specs.Prelude.{◌≡◌, ◌+◌, ◌*◌, ◌<◌, ◌≤◌, ◌^◌, ℕ, Bool, true, Option, None, Some, IfErr, IfOk, IfSome, IsErrAnd, IsTrue, List, Ok, false, length, is_ok};
+ghost use Rattle.std.specs.Prelude.{◌≡◌, ◌⊎◌, ◌+◌, ◌*◌, ◌<◌, ◌≤◌, ◌^◌, ℕ, Bool, true, Option, None, Some, IfErr, IfOk, IfSome, IsErrAnd, IsSome, IsTrue, List, Ok, OnOk, false, length, is_ok};
 ghost use Rattle.std.specs.Option.{option_map};
 ghost use Rattle.outside.specs.Frame.{Syncs};
 ghost use Rattle.outside.specs.Replacement.{ReplacesOnly, replacement_name};
@@ -12,14 +12,17 @@ ghost use Rattle.quota_types.specs.declared.file_kind.Format.{Format as FormatOf
 ghost use Rattle.refusals.specs.Status.{status_of};
 ghost use Rattle.run_steps.specs.Act.{Together};
 ghost use Rattle.run_steps.specs.Done.{IsUnwritten, seen_of, tells_of};
+ghost use Rattle.run_steps.specs.Opening.{asks_tree};
 ghost use Rattle.run_steps.specs.Run.{CarriesOut};
 ghost use Rattle.batch_commands.specs.Batch.{LineEditMayRefuse, LineSteps, line_uses, way_of, whole_reads};
-ghost use Rattle.batch_commands.specs.Together.{HasBytes, IfEnded, IfNotMade, IfWanting, IsEditOf, IsMadeInMemory, IsOnlyRead, ReadsWhole, StandsAlone, replace_cause};
+ghost use Rattle.batch_commands.specs.Together.{AreNeverDone, AreNotTogether, HasBytes, IfEnded, IfNotMade, IfWanting, IsEditOf, IsMadeInMemory, IsOnlyRead, IsWithin, MayPay, ReadsWhole, StandsAlone, is_of_call, refusal_in, replace_cause};
 
 use crate::batch::{EditedLines, edit_all};
 use crate::batch_line::LineEdit;
 use file_in_memory::OneFile;
-use quota_blocks::{LoadFault, OpenFault, QuotaFile, ReplaceFault, Store, load, name_of_new, replace};
+use quota_blocks::{
+    LoadFault, OpenFault, QuotaFile, ReplaceFault, Store, load, name_of_new, replace,
+};
 use quota_map::{AnyFile, open_file};
 use quota_types::{Format, Kind};
 use refusals::{Cause, Refusal, Word};
@@ -35,6 +38,9 @@ const MOST_WRITES: u64 = 12;
 /// By how many bytes a tree file grows at most where a record is put into it that was not there.
 const MOST_GROWTH: u64 = 4096;
 
+/// How many bytes a tree file of no records has: those of its header and its root, the second of which may be missing.
+const EMPTY_TREE: u64 = 2048;
+
 /// How many bytes a record of a flat file has.
 const FLAT_RECORD: u64 = 40;
 
@@ -48,6 +54,15 @@ pub enum Attempt {
     Ended(Result<(), Refusal>),
     /// They were not made, and the store was only read. The name of the file is handed back.
     NotMade(Word),
+}
+
+/// A file that was read whole, for which lines may be edited in memory.
+#[derive(Debug, Drop)]
+pub struct Whole {
+    /// Its bytes.
+    pub bytes: Vec<u8>,
+    /// How many bytes it may have once the lines are edited.
+    pub most: u64,
 }
 
 /// A file in memory, for which lines were edited, up to one that was refused.
@@ -90,39 +105,54 @@ pub fn edit_together<S: Store>(
     ensures reads_only { IfNotMade result (λ _. IsOnlyRead true (S.seen store.old) (S.seen store.new)) }
     ensures others { ReplacesOnly file (S.seen store.old).files (S.seen store.new).files }
     ensures synced { IfEnded result (λ ended. IsTrue S.tells → Syncs (is_ok ended) (S.seen store.old) (S.seen store.new)) }
-    ensures reads { IsTrue S.tells → (S.seen store.new).reads
-        ≤ (S.seen store.old).reads + whole_reads (length lines.now) (length (file_of (S.seen store.old).files file)) }
+    // Where all was done, no more was read than twelve blocks a line.
+    ensures reads { IfEnded result (λ ended. OnOk ended (IsTrue S.tells
+        → (S.seen store.new).reads ≤ (S.seen store.old).reads + 12 * length lines.now)) }
+    // Where they were not made they are never all done, or nothing was read but what is read whole.
+    ensures reads_more { IfNotMade result (λ _. IsTrue S.tells → (value : QuotaValue)
+        → IsView ((S.seen store.old).files file) kind format (Ok value)
+        → ((S.seen store.new).reads ≤ (S.seen store.old).reads
+        + whole_reads format (length lines.now) (length (file_of (S.seen store.old).files file)))
+        ⊎ AreNeverDone file now lines.now value) }
 {
     if lines.len() < 2 {
         return Attempt::NotMade(file);
     }
     match read_whole(alloc, format, lines, file.as_str(), store) {
-        Ok(Some(bytes)) => edit_bytes(alloc, kind, format, lines, file, bytes, store, now),
+        Ok(Some(whole)) => edit_bytes(alloc, kind, format, lines, file, whole, store, now),
         Ok(None) => Attempt::NotMade(file),
         Err(fault) => Attempt::Ended(Err(Refusal::of(load_cause(fault), file))),
     }
 }
 
-/// The bytes of the file of this name, where a replacement of it may take no more calls of `write` than the edits of these lines, and
-/// none has its name with `.new` added.
+/// The file of this name, where a replacement of it may take no more calls of `write` than the edits of these lines, and none has its
+/// name with `.new` added.
 fn read_whole<S: Store>(
     alloc: Global,
     format: Option<Format>,
     lines: &[LineEdit],
     name: &str,
     store: &mut S,
-) -> Result<Option<Vec<u8>>, LoadFault>
-    ensures whole { IfOk result (λ found. IfSome found (λ bytes. IsTrue S.tells
-        → StandsAlone (S.seen store.old).files name.now bytes.items)) }
+) -> Result<Option<Whole>, LoadFault>
+    ensures whole { IfOk result (λ found. IfSome found (λ whole. IsTrue S.tells
+        → StandsAlone (S.seen store.old).files name.now whole.bytes.items)) }
+    ensures pays { IfOk result (λ found. IfSome found (λ whole. IsTrue S.tells → MayPay format (length lines.now) whole)) }
     ensures refused { IfErr result (IsLoadFault (S.seen store.old).faults (S.seen store.new).faults S.tells
         ((S.seen store.old).files name.now) (length (file_of (S.seen store.old).files name.now))) }
     ensures leaves { IsOnlyRead (is_ok result) (S.seen store.old) (S.seen store.new) }
     ensures reads { IsTrue S.tells → ReadsWhole (length lines.now) (length (file_of (S.seen store.old).files name.now))
         (S.seen store.old).reads (S.seen store.new).reads }
+    ensures unread { IfOk result (λ found. found ≡ None → (S.seen store.new).reads ≡ (S.seen store.old).reads) }
 {
     match size_alone(alloc, name, store)? {
-        Some(size) if may_pay(format, lines, size) => Ok(Some(load(alloc, store, name, size)?)),
-        _ => Ok(None),
+        Some(size) => match most_bytes(format, lines, size) {
+            Some(most) => {
+                let bytes = load(alloc, store, name, size)?;
+                Ok(Some(Whole { bytes, most }))
+            }
+            None => Ok(None),
+        },
+        None => Ok(None),
     }
 }
 
@@ -144,16 +174,26 @@ fn size_alone<S: Store>(alloc: Global, name: &str, store: &mut S) -> Result<Opti
     }
 }
 
-/// Whether edits of these lines may make as many calls of `write` as a replacement of the file, which now has this many bytes.
-fn may_pay(format: Option<Format>, lines: &[LineEdit], size: u64) -> bool
-    ensures { result ≡ true → pieces_of size ≤ 12 * length lines.now }
+/// How many bytes the file, which now has this many, may have once these lines are edited, where it may be replaced then, and the edits
+/// may make as many calls of `write` as the replacement.
+fn most_bytes(format: Option<Format>, lines: &[LineEdit], size: u64) -> Option<u64>
+    ensures few { IfSome result (λ most. pieces_of most ≤ 12 * length lines.now) }
+    ensures within { IfSome result (λ most. most ≤ 2 ^ 42) }
+    ensures reaches { IfSome result (λ most. size ≤ most) }
+    ensures grows { IfSome result (λ most. IsTrue (asks_tree format) → most ≤ size + 2048 + 4096 * length lines.now) }
 {
-    pieces(reach(format, lines, size)) <= (lines.len() as u64).saturating_mul(MOST_WRITES)
+    let most = reach(format, lines, size);
+    if most <= MOST_BYTES && pieces(most) <= (lines.len() as u64).saturating_mul(MOST_WRITES) {
+        Some(most)
+    } else {
+        None
+    }
 }
 
 /// How many bytes the file may have once these lines are edited.
 fn reach(format: Option<Format>, lines: &[LineEdit], size: u64) -> u64
-    ensures { size ≤ result }
+    ensures reaches { size ≤ result }
+    ensures grows { IsTrue (asks_tree format) → result ≤ size + 2048 + 4096 * length lines.now }
 {
     match format {
         Some(Format::V1) => lines
@@ -161,7 +201,9 @@ fn reach(format: Option<Format>, lines: &[LineEdit], size: u64) -> u64
             .map(|line| FLAT_RECORD * (u64::from(line.id) + 1))
             .fold(0, u64::max)
             .max(size),
-        _ => size.saturating_add((lines.len() as u64).saturating_mul(MOST_GROWTH)),
+        _ => size
+            .max(EMPTY_TREE)
+            .saturating_add((lines.len() as u64).saturating_mul(MOST_GROWTH)),
     }
 }
 
@@ -172,20 +214,20 @@ fn pieces(bytes: u64) -> u64
     bytes.div_ceil(PIECE)
 }
 
-/// Edits lines of a file of these bytes in memory, and puts the new file in its place where that pays.
+/// Edits lines of a file that was read whole in memory, and puts the new file in its place where that pays.
 fn edit_bytes<S: Store>(
     alloc: Global,
     kind: Kind,
     format: Option<Format>,
     lines: &[LineEdit],
     file: Word,
-    bytes: Vec<u8>,
+    whole: Whole,
     store: &mut S,
     now: u64,
 ) -> Attempt
     ensures carries { (others : ℕ) → length lines.now ≡ 1 + others
-        → (value : QuotaValue) → (IsTrue S.tells → StandsAlone (S.seen store.old).files file bytes.items)
-        → (IsTrue S.tells → IsView (Some bytes.items) kind format (Ok value))
+        → (value : QuotaValue) → (IsTrue S.tells → StandsAlone (S.seen store.old).files file whole.bytes.items)
+        → (IsTrue S.tells → IsView (Some whole.bytes.items) kind format (Ok value))
         → (input : SourceSeen) (out err : SinkSeen) (link : LinkSeen) (input_tells out_tells err_tells link_tells : Bool)
         → IfEnded result (CarriesOut (LineSteps (Together others) file now lines.now value) line_uses (LineEditMayRefuse format file)
         (tells_of S.tells input_tells out_tells err_tells link_tells)
@@ -195,16 +237,19 @@ fn edit_bytes<S: Store>(
     ensures wanting { IfEnded result (IfWanting (IsUnwritten (S.seen store.old) (S.seen store.new))) }
     ensures others { ReplacesOnly file (S.seen store.old).files (S.seen store.new).files }
     ensures synced { IfEnded result (λ ended. IsTrue S.tells → Syncs (is_ok ended) (S.seen store.old) (S.seen store.new)) }
+    // Where it does not pay, one of the lines is refused in every file, or they may fill this one.
+    ensures never { MayPay format (length lines.now) whole → (value : QuotaValue) → IsView (Some whole.bytes.items) kind format (Ok value)
+        → IfNotMade result (λ _. AreNotTogether format file now lines.now value (length whole.bytes.items)) }
     ensures reads { (S.seen store.new).reads ≡ (S.seen store.old).reads }
 {
-    match edit_in_memory(alloc, kind, format, lines, file.as_str(), bytes, now) {
+    match edit_in_memory(alloc, kind, format, lines, file.as_str(), whole, now) {
         Ok(Some(edited)) => put_back(alloc, file, edited, store),
         Ok(None) => Attempt::NotMade(file),
         Err(_) => Attempt::Ended(Err(Refusal::of(Cause::Memory, file))),
     }
 }
 
-/// Edits lines of a file of these bytes in memory, up to the first edit that is refused. It is `None` where the file is not opened.
+/// Edits lines of a file that was read whole in memory, up to the first edit that is refused. It is `None` where the file is not opened.
 ///
 /// # Errors
 ///
@@ -215,33 +260,49 @@ fn edit_in_memory(
     format: Option<Format>,
     lines: &[LineEdit],
     name: &str,
-    bytes: Vec<u8>,
+    whole: Whole,
     now: u64,
 ) -> Result<Option<Edited>, AllocError>
     ensures made { IfOk result (λ found. IfSome found (λ edited. (others : ℕ) (value : QuotaValue)
-        → IsView (Some bytes.items) kind format (Ok value)
-        → IsMadeInMemory (LineSteps (Together others) name.now now lines.now value) name.now bytes.items edited)) }
-    ensures edits { IfOk result (λ found. IfSome found (IsEditOf (LineEditMayRefuse format name.now) (length lines.now) bytes.items)) }
+        → IsView (Some whole.bytes.items) kind format (Ok value)
+        → IsMadeInMemory (LineSteps (Together others) name.now now lines.now value) name.now whole.bytes.items edited)) }
+    ensures edits { IfOk result (λ found. IfSome found (IsEditOf (LineEditMayRefuse format name.now) (length lines.now) whole.bytes.items)) }
+    ensures within { IfOk result (λ found. IfSome found (IsWithin whole.most (length lines.now))) }
+    ensures opens { IfOk result (λ found. found ≡ None → (value : QuotaValue) → IsView (Some whole.bytes.items) kind format (Ok value) → ⊥) }
 {
+    let Whole { bytes, most } = whole;
     let file = Word::copy_of(alloc, name)?;
     let mut memory = OneFile::new(String::from_str(alloc, name)?, bytes);
     match open_file(alloc, &mut memory, name, kind, format) {
-        Ok(opened) => Ok(Some(edit_opened(opened, lines, file, memory, now)?)),
-        Err(OpenFault::Store | OpenFault::Memory) => Err(AllocError),
-        Err(_) => Ok(None),
+        Ok(opened) => Ok(Some(edit_opened(opened, lines, file, memory, most, now)?)),
+        Err(fault) => {
+            if is_of_call(fault) {
+                Err(AllocError)
+            } else {
+                Ok(None)
+            }
+        }
     }
+}
+
+/// Whether a file was not opened for a fault of the store, or since there is not enough memory, and not for its bytes.
+fn is_of_call(fault: OpenFault) -> bool
+    ensures { result ≡ is_of_call fault }
+{
+    matches!(fault, OpenFault::Store | OpenFault::Memory)
 }
 
 /// Edits lines of an opened file in memory, up to the first edit that is refused.
 ///
 /// # Errors
 ///
-/// There is not enough memory.
+/// There is not enough memory, or the file came to have more than `most` bytes, for which none was asked.
 fn edit_opened(
     mut opened: AnyFile,
     lines: &[LineEdit],
     file: Word,
     mut memory: OneFile,
+    most: u64,
     now: u64,
 ) -> Result<Edited, AllocError>
     requires { ⟦<AnyFile as QuotaFile<OneFile>>⟧.seen opened ≡ fresh_seen file (⟦<AnyFile as QuotaFile<OneFile>>⟧.seen opened).format }
@@ -252,6 +313,7 @@ fn edit_opened(
         → (asked : Option FormatOf) → IsOpenedAs asked (⟦<AnyFile as QuotaFile<OneFile>>⟧.seen opened).format
         → (value : QuotaValue) → ⟦<AnyFile as QuotaFile<OneFile>>⟧.holds opened memory value
         → IsEditOf (LineEditMayRefuse asked file) (length lines.now) bytes edited) }
+    ensures within { IfOk result (IsWithin most (length lines.now)) }
 {
     let edited = edit_all(&mut opened, lines, file, &mut memory, now);
     if is_fault(&edited.ended) {
@@ -259,6 +321,9 @@ fn edit_opened(
     }
     let writes = memory.writes();
     let bytes = memory.into_bytes();
+    if bytes.len() as u64 > most {
+        return Err(AllocError);
+    }
     Ok(Edited {
         bytes,
         writes,
@@ -294,6 +359,9 @@ fn put_back<S: Store>(alloc: Global, file: Word, edited: Edited, store: &mut S) 
         → IfEnded result (IfWanting (IsUnwritten (S.seen store.old) (S.seen store.new))) }
     ensures others { ReplacesOnly file (S.seen store.old).files (S.seen store.new).files }
     ensures synced { IfEnded result (λ ended. IsTrue S.tells → Syncs (is_ok ended) (S.seen store.old) (S.seen store.new)) }
+    // Where it does not pay a line was refused.
+    ensures refused { (asked : Option FormatOf) (count : ℕ) (whole : Whole) → MayPay asked count whole → IsWithin whole.most count edited
+        → IfNotMade result (λ _. IsSome (refusal_in edited.lines.ended)) }
     ensures reads { (S.seen store.new).reads ≡ (S.seen store.old).reads }
 {
     if edited.writes == 0 {
@@ -322,6 +390,8 @@ fn replace_cause(fault: ReplaceFault) -> Cause
 fn pays(edited: &Edited) -> bool
     ensures within { result ≡ true → length edited.now.bytes.items ≤ 2 ^ 42 }
     ensures few { result ≡ true → pieces_of (length edited.now.bytes.items) ≤ 12 * edited.now.lines.made }
+    ensures no { result ≡ false → length edited.now.bytes.items ≤ 2 ^ 42
+        → 12 * edited.now.lines.made < pieces_of (length edited.now.bytes.items) }
 {
     let bytes = edited.bytes.len() as u64;
     bytes <= MOST_BYTES && pieces(bytes) <= edited.lines.made.saturating_mul(MOST_WRITES)

@@ -7,7 +7,7 @@ use Rattle.outside.proofs.FrameLemmas.{keeps_other_two-then, syncs-after_read, s
 use Rattle.run_steps.proofs.OpeningLemmas.{not_opened, unwritten}
 use Rattle.run_steps.proofs.PhaseLemmas.{carries_opening}
 use Rattle.batch_commands.specs.Batch.{input_edits, line_reads}
-use Rattle.batch_commands.proofs.TogetherLemmas.{replaces-read}
+use Rattle.batch_commands.proofs.TogetherLemmas.{replaces-read, told_first}
 use Rattle.batch_commands.proofs.WantingLemmas.{wanting_since}
 use Rattle.batch_commands.proofs.batch.apply_named.Goals as goal
 
@@ -38,12 +38,19 @@ returns-in-Err-clause-others g c = replaces-read c.args.file _ _ _ c.in-Err.ensu
 pub returns-in-Ok-clause-reads : goal.returns-in-Ok-clause-reads
 returns-in-Ok-clause-reads g c = λ none.
     let S = g.S.Store in
-    on_ok_weaker c.apply_opened.result (λ few told input_told.
-    let opening = (rw c.as_str.ensures at c.in-Ok.ensures.reads) told in
-    let lines = few told input_told in
+    let opened = c.in-Ok.ensures in
+    let file = c.as_str.ensures in
+    told_first _ c.apply_opened.result (λ told.
+    let view = (rw file at opened.seen) told in
+    let value = view.0 in
+    let few = c.apply_opened.ensures.reads opened.as_asked value (λ is. opened.held is value (rw (sym file) at view.1))
+    (λ is. subst (λ (files : World). IsView (files c.args.file) c.args.kind c.args.format (Ok value)) (sym opened.leaves.files) view.1) none in
+    on_ok_weaker c.apply_opened.result (λ reads input_told.
+    let opening = (rw file at opened.reads) told in
+    let lines = reads told input_told in
     let same : (file_of (S.seen c.open_file.new.store).files c.args.file) ≡ (file_of (S.seen c.args.store.now).files c.args.file) = ap (λ (files : World). file_of files c.args.file) c.in-Ok.ensures.leaves.files in
-    let edits = ap (λ (bytes : List ℕ). line_reads (input_edits c.args.names.now (g.I.Source.seen c.args.input.now).left) (length bytes)) same in
-    omega (arith, opening, lines, edits)) (c.apply_opened.ensures.reads none)
+    let edits = ap (λ (bytes : List ℕ). line_reads c.args.format (input_edits c.args.names.now (g.I.Source.seen c.args.input.now).left) (length bytes)) same in
+    omega (arith, opening, lines, edits)) few)
 
 pub returns-in-Err-clause-synced : goal.returns-in-Err-clause-synced
 returns-in-Err-clause-synced g c = λ told. syncs-read _ _ _ c.in-Err.ensures.leaves

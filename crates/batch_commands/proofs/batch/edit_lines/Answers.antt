@@ -1,9 +1,13 @@
-use Rattle.std.proofs.Common.{sym, subst}
+use Rattle.std.proofs.Common.{true, length, refl, sym, subst, arith}
+use Rattle.std.proofs.lemmas.Result.{on_ok_weaker}
+use Rattle.quota_blocks.specs.Block.{file_of}
 use Rattle.quota_blocks.specs.World.{World}
 use Rattle.quota_map.specs.AnyFile.{HoldsAny}
 use Rattle.run_steps.specs.Done.{seen_of, tells_of}
 use Rattle.batch_commands.specs.Batch.{LineEditMayRefuse, LineSteps, line_uses, way_of}
-use Rattle.batch_commands.proofs.TogetherLemmas.{carries_read}
+use Rattle.batch_commands.proofs.MemoryLemmas.{no_link, no_sink, no_source}
+use Rattle.batch_commands.proofs.ReadsLemmas.{placed_reads}
+use Rattle.batch_commands.proofs.TogetherLemmas.{carries_read, told_first}
 use Rattle.batch_commands.proofs.WantingLemmas.{wanting_never}
 use Rattle.batch_commands.proofs.batch.edit_lines.Goals as goal
 
@@ -22,3 +26,22 @@ returns-clause-carries g c = λ as_asked value held seen input out err link inpu
 
 pub returns-clause-wanting : goal.returns-clause-wanting
 returns-clause-wanting g c = wanting_never c.edit_all.result.ended _ c.edit_all.ensures.memory
+
+pub returns-in-Ended-clause-reads : goal.returns-in-Ended-clause-reads
+returns-in-Ended-clause-reads g c = λ as_asked value held seen.
+    on_ok_weaker c.in-Ended.ended (λ few told. let twelve = few told in omega (arith, twelve)) c.in-Ended.ensures.reads
+
+pub returns-clause-reads : goal.returns-clause-reads
+returns-clause-reads g c = λ as_asked value held seen.
+    let S = g.S.Store in
+    let reads = c.in-NotMade.ensures.reads_only in
+    let old = seen_of (S.seen c.edit_together.new.store) no_source no_sink no_sink no_link in
+    let new = seen_of (S.seen c.edit_all.new.store) no_source no_sink no_sink no_link in
+    let way = way_of c.args.lines.now in
+    let carried = rw c.in-NotMade.ensures.back at (c.edit_all.ensures.carries way c.args.format as_asked value
+    (λ told. subst (λ (files : World). HoldsAny S.tells files c.args.opened value) (sym reads.files) (held told)) no_source no_sink no_sink no_link true true true true) in
+    told_first _ c.edit_all.result.ended (λ told.
+    placed_reads c.args.format c.args.file c.args.now c.args.lines.now value (length (file_of (S.seen c.args.store.now).files c.args.file)) (S.seen c.args.store.now).reads (S.seen c.edit_together.new.store).reads (S.seen c.edit_all.new.store).reads
+    c.edit_all.result.ended way old new (tells_of S.tells true true true true)
+    (on_ok_weaker c.edit_all.result.ended (λ done. done (record { store = told; input = refl; link = refl })) carried.done)
+    c.edit_all.ensures.reads (c.in-NotMade.ensures.reads_more told value (seen told)))

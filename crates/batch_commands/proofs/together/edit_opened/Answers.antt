@@ -1,4 +1,4 @@
-use Rattle.std.proofs.Common.{refl, sym}
+use Rattle.std.proofs.Common.{refl, sym, arith}
 use Rattle.file_in_memory.specs.OneFile.{one_file_name, one_file_seen}
 use Rattle.run_steps.specs.Act.{InPlace, Together}
 use Rattle.batch_commands.specs.Batch.{LineEditMayRefuse, LineSteps}
@@ -18,3 +18,6 @@ returns-clause-edits c = λ bytes has asked as_asked value held.
     memory_edit (LineSteps InPlace c.args.file c.args.now c.args.lines.now value) (LineEditMayRefuse asked c.args.file) _ c.args.file bytes (one_file_name c.edit_all-edited.new.store) (one_file_seen c.args.memory) (one_file_seen c.edit_all-edited.new.store)
     (record { bytes = c.into_bytes-bytes.result; writes = c.writes-writes.result; lines = c.edit_all-edited.result }) has c.into_bytes-bytes.ensures.only (sym c.writes-writes.ensures) all.few all.leaves (c.if-is_fault.ensures.own refl)
     (λ input out err link input_tells out_tells err_tells link_tells. all.carries InPlace asked as_asked value (λ told. held) input out err link input_tells out_tells err_tells link_tells)
+
+pub returns-clause-within : goal.returns-clause-within
+returns-clause-within c = record { short = omega (arith, c.if-len-most.false); all = c.edit_all-edited.ensures.all }

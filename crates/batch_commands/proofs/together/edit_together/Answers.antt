@@ -1,13 +1,17 @@
-use Rattle.std.proofs.Common.{Ok, sym, subst, arith}
+use Rattle.std.proofs.Common.{◌≡◌, ◌⊎◌, ◌+◌, ◌≤◌, Ok, Some, length, sym, ap, subst, arith}
 use Rattle.std.specs.Prelude.{Option, List, ℕ}
+use Rattle.quota_blocks.specs.Block.{bytes_of, file_of}
 use Rattle.quota_blocks.specs.World.{World}
 use Rattle.quota_map.specs.View.{IsView}
 use Rattle.run_steps.specs.Act.{Way}
 use Rattle.run_steps.specs.Done.{seen_of, tells_of}
 use Rattle.run_steps.specs.Run.{CarriesOut}
-use Rattle.batch_commands.specs.Batch.{LineEditMayRefuse, LineSteps, line_uses, way_of}
-use Rattle.batch_commands.specs.Together.{IfEnded, StandsAlone}
-use Rattle.batch_commands.proofs.TogetherLemmas.{ended_read, unread_carried, view_some, way_many}
+use Rattle.batch_commands.specs.Batch.{LineEditMayRefuse, LineSteps, line_uses, way_of, whole_reads}
+use Rattle.batch_commands.specs.Together.{AreNeverDone, AreNotTogether, IfEnded, IfNotMade, StandsAlone}
+use Rattle.batch_commands.specs.declared.together.Attempt.{Attempt}
+use Rattle.batch_commands.specs.declared.together.Attempt.TheVariants.{Ended, NotMade}
+use Rattle.batch_commands.proofs.ReadsLemmas.{whole_or_never, whole_twelve}
+use Rattle.batch_commands.proofs.TogetherLemmas.{ended_any, ended_read, on_ok_any, unread_carried, view_some, way_many}
 use Rattle.batch_commands.proofs.together.edit_together.Goals as goal
 
 pub returns-in-Ok-Some-clause-carries : goal.returns-in-Ok-Some-clause-carries
@@ -21,7 +25,7 @@ returns-in-Ok-Some-clause-carries g c = λ value view input out err link input_t
     (seen_of (S.seen c.args.store.now) input out err link) (seen_of (S.seen c.edit_bytes.new.store) input out err link))) (sym many.2)
     (ended_read c.edit_bytes.result _ _ _ tells
     (seen_of (S.seen c.args.store.now) input out err link) (S.seen c.read_whole.new.store) (seen_of (S.seen c.edit_bytes.new.store) input out err link) reads
-    (c.edit_bytes.ensures.carries many.0 many.1 value (λ told. subst (λ (w : World). StandsAlone w c.args.file c.in-Ok-Some.bytes.items) (sym reads.files) (whole told))
+    (c.edit_bytes.ensures.carries many.0 many.1 value (λ told. subst (λ (w : World). StandsAlone w c.args.file c.in-Ok-Some.whole.bytes.items) (sym reads.files) (whole told))
     (λ told. subst (λ (f : Option (List ℕ)). IsView f c.args.kind c.args.format (Ok value)) (whole told).named (view told))
     input out err link input_tells out_tells err_tells link_tells))
 
@@ -32,3 +36,34 @@ returns-in-Err-clause-carries g c = λ value view input out err link input_tells
     (unread_carried (LineSteps (way_of c.args.lines.now) c.args.file c.args.now c.args.lines.now value) c.args.format c.args.file (tells_of S.tells input_tells out_tells err_tells link_tells)
     (seen_of (S.seen c.args.store.now) input out err link) (S.seen c.read_whole.new.store) c.in-Err.fault c.in-Err.ensures.leaves
     (λ told. view_some _ c.args.kind c.args.format value (view told)) (rw c.as_str.ensures at c.in-Err.ensures.refused))
+
+pub returns-in-Ok-Some-clause-reads : goal.returns-in-Ok-Some-clause-reads
+returns-in-Ok-Some-clause-reads g c =
+    ended_any c.edit_bytes.result _ (λ ended. on_ok_any ended _ (λ told.
+    let read = whole_twelve (length c.args.lines.now) _ _ _ (c.in-Ok-Some.ensures.reads told) in
+    omega (arith, read, c.edit_bytes.ensures.reads)))
+
+pub returns-in-Ok-Some-clause-reads_more : goal.returns-in-Ok-Some-clause-reads_more
+returns-in-Ok-Some-clause-reads_more g c =
+    let S = g.S.Store in
+    let files = (S.seen c.args.store.now).files in
+    let file = c.args.file in
+    let bytes = c.in-Ok-Some.whole.bytes.items in
+    let whole = rw c.as_str.ensures at (rw c.in-Ok-Some.field-0-is at c.in-Ok-Some.ensures.whole) in
+    let pays = rw c.in-Ok-Some.field-0-is at c.in-Ok-Some.ensures.pays in
+    let read = rw c.as_str.ensures at c.in-Ok-Some.ensures.reads in
+    not_made_weaker_all c.edit_bytes.result
+    (λ told value view.
+    let named : files file ≡ Some bytes = (whole told).named in
+    c.edit_bytes.ensures.never (pays told) value (subst (λ (f : Option (List ℕ)). IsView f c.args.kind c.args.format (Ok value)) named view))
+    (λ told value view why.
+    let named : files file ≡ Some bytes = (whole told).named in
+    let size : length (file_of files file) ≡ length bytes = ap (λ (f : Option (List ℕ)). length (bytes_of f)) named in
+    subst (λ (after : ℕ). (after ≤ (S.seen c.args.store.now).reads + whole_reads c.args.format (length c.args.lines.now) (length (file_of files file))) ⊎ AreNeverDone file c.args.now c.args.lines.now value) (sym c.edit_bytes.ensures.reads)
+    (whole_or_never c.args.format file c.args.now c.args.lines.now value (length (file_of files file)) (S.seen c.args.store.now).reads (S.seen c.read_whole.new.store).reads (omega arith) (read told)
+    (subst (λ (n : ℕ). AreNotTogether c.args.format file c.args.now c.args.lines.now value n) (sym size) why)))
+  where
+    not_made_weaker_all : {T V : Type 0} {P : V → Type 0} {A B : V → Type 0} (attempt : Attempt) → (T → (value : V) → P value → IfNotMade attempt (λ name. A value)) → (T → (value : V) → P value → A value → B value)
+        → IfNotMade attempt (λ name. T → (value : V) → P value → B value)
+    not_made_weaker_all (Ended result) is weaker = tt
+    not_made_weaker_all (NotMade name) is weaker = λ told value of. weaker told value of (is told value of)

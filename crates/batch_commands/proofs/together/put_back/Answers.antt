@@ -2,6 +2,7 @@ use Rattle.std.proofs.Common.{refl, arith}
 use Rattle.run_steps.specs.Done.{seen_of, tells_of}
 use Rattle.batch_commands.specs.Batch.{LineEditMayRefuse}
 use Rattle.batch_commands.proofs.TogetherLemmas.{kept_takes, put_carried, refused_carried, replaced_takes}
+use Rattle.batch_commands.proofs.RefusedLemmas.{pays_unless}
 use Rattle.batch_commands.proofs.together.put_back.Goals as goal
 
 pub returns-then-edited-eq0-clause-carries : goal.returns-then-edited-eq0-clause-carries
@@ -36,3 +37,6 @@ returns-in-Err-clause-carries g c = λ asked bytes now lines value edits others 
     (seen_of (S.seen c.args.store.now) input out err link) (S.seen c.replace.new.store) c.in-Err.fault
     (λ is. omega (arith, is, c.if-edited-eq0.false)) made (rw c.as_str.ensures at c.in-Err.ensures.unchanged) (rw c.as_str.ensures at c.in-Err.ensures.leaves)
     (omega (arith, writes, few, edits.few, several)) c.in-Err.ensures.refused c.in-Err.ensures.memory)
+
+pub returns-then-not-pays-clause-refused : goal.returns-then-not-pays-clause-refused
+returns-then-not-pays-clause-refused g c = λ asked count whole may within. pays_unless asked count whole c.args.edited may within (c.if-not-pays.ensures.no refl)

@@ -1,0 +1,218 @@
+-- A line that is refused in memory, though not for lack of room, is refused in every file; and a file that has no room for a line is long.
+use Rattle.std.proofs.Common.{◌≡◌, inl, inr, ◌⊎◌, ℕ, ◌+◌, ◌*◌, ◌<◌, ◌≤◌, Bool, true, false, if◌then◌else◌, List, [], ◌∷◌, length, Option, None, Some, Ok, Err, Result, refl, sym, ap, subst, ◌∙◌, arith}
+use Rattle.std.specs.Prelude.{◌==◌, ◌-◌, ◌&&◌, ◌^◌, find, nat_le, nat_lt, IsSome, IsTrue, OnOk}
+use Rattle.std.proofs.lemmas.Bool.{false≢true}
+use Rattle.std.proofs.lemmas.Option.{none-some, same_Some}
+use Rattle.std.proofs.lemmas.Bool.Decides.{nat_tests}
+use Rattle.entry_codec.specs.Header.{header_of}
+use Rattle.quota_types.specs.declared.field.Field.{Field}
+use Rattle.quota_types.specs.declared.file_kind.Format.{Format}
+use Rattle.quota_types.specs.declared.file_kind.Format.TheVariants.{V1, V2R0, V2R1}
+use Rattle.quota_types.specs.declared.file_kind.Kind.{Kind}
+use Rattle.free_chains.specs.declared.heads.Heads.{Heads}
+use Rattle.quota_radix.specs.Way.{blocks_on_way}
+use Rattle.tree_build.specs.IsTree.{heads_of}
+use Rattle.tree_build.specs.Size.{ids_in}
+use Rattle.tree_build.specs.TreeFile.{TreeStandsFor}
+use Rattle.tree_change.specs.Putting.{blocks_taken}
+use Rattle.tree_file.specs.Room.{blocks_wanted, blocks_with_new, has_no_leaf, tree_blocks_wanted}
+use Rattle.file_in_memory.specs.OneFile.{only_file}
+use Rattle.quota_blocks.specs.QuotaValue.{QuotaValue}
+use Rattle.quota_blocks.specs.Replace.{pieces_of}
+use Rattle.quota_map.specs.View.{IsView, most_blocks}
+use Rattle.refusals.specs.declared.cause.Cause.{Cause}
+use Rattle.refusals.specs.declared.cause.Cause.TheVariants.{Full}
+use Rattle.refusals.specs.declared.reason.Refusal.{Refusal}
+use Rattle.run_steps.specs.Act.{Act, Behind, InPlace, Together, Way}
+use Rattle.run_steps.specs.Changing.{blocks_after, idle_acts, written}
+use Rattle.run_steps.specs.Done.{Outside, outside_of, seen_of, tells_of}
+use Rattle.run_steps.specs.Meaning.{EndsBy}
+use Rattle.run_steps.specs.Opening.{asks_tree}
+use Rattle.run_steps.specs.Steps.{DoingAll, Steps, Then}
+use Rattle.edit_steps.specs.EditStep.{changed, is_too_large, value_left}
+use Rattle.edit_steps.proofs.FullLemmas.{is_full}
+use Rattle.edit_steps.specs.Room.{IsFullFor}
+use Rattle.edit_steps.proofs.LimitsLemmas.{set_format}
+use Rattle.batch_commands.specs.Batch.{EditsThen, LineSteps, edit_of, may_fill, met_at, way_behind}
+use Rattle.batch_commands.specs.Together.{AreNotTogether, IsMadeInMemory, IsWithin, MayPay, memory_seen, refusal_in}
+use Rattle.batch_commands.specs.declared.batch_line.LineEdit.{LineEdit}
+use Rattle.batch_commands.specs.declared.together.Edited.{Edited}
+use Rattle.batch_commands.specs.declared.together.Whole.{Whole}
+use Rattle.batch_commands.proofs.FullLemmas.{applied_full}
+use Rattle.batch_commands.proofs.MemoryLemmas.{no_link, no_sink, no_source}
+use Rattle.batch_commands.proofs.TogetherLemmas.{only_file-at}
+
+-- Lines that are refused.
+
+-- steps end with this refusal, or with none, in some files
+pub record Ends (steps : Steps) (refusal : Option Refusal) : Type 0 where
+  pub old : Outside
+  pub acts : List Act
+  pub new : Outside
+  pub by : EndsBy steps old acts new refusal
+
+past_idle : (way : Way) (steps : Steps) (refusal : Option Refusal) → Ends (DoingAll (idle_acts way) steps) refusal → Ends steps refusal
+past_idle InPlace steps refusal ends = ends
+past_idle (Together others) steps refusal ends = record { old = record (ends.old) { files = ends.by.1 }; acts = ends.by.0; new = ends.new; by = ends.by.4 }
+past_idle Behind steps refusal ends = record { old = record (ends.old) { files = ends.by.1 }; acts = ends.by.0; new = ends.new; by = ends.by.4 }
+
+past_change : (act : Act) (steps : Steps) (refusal : Option Refusal) → Ends (DoingAll (act ∷ []) steps) refusal → Ends steps refusal
+past_change act steps refusal ends = record { old = record (ends.old) { files = ends.by.1 }; acts = ends.by.0; new = ends.new; by = ends.by.4 }
+
+-- where the first steps end so, for another cause than that a file is full, the others do not end well
+abbrev Apart : (one other : Steps) → Type 0
+Apart one other = (refusal : Refusal) → is_full refusal.cause ≡ false → Ends one (Some refusal) → Ends other None → ⊥
+
+step_apart : (way way' after after' : Way) (name : List ℕ) (now : ℕ) (line : LineEdit) (lines : List LineEdit) (value new : QuotaValue) (file file' : Option (List ℕ))
+    → Apart (EditsThen after name now lines new None) (EditsThen after' name now lines new None) → (idle large large' : Bool)
+    → Apart (Then (met_at line.number (written way name (blocks_after file new) new idle large)) (λ (done : List Act). DoingAll done (EditsThen after name now lines new None)))
+    (Then (met_at line.number (written way' name (blocks_after file' new) new idle large')) (λ (done : List Act). DoingAll done (EditsThen after' name now lines new None)))
+step_apart way way' after after' name now line lines value new file file' rest true large large' = λ refusal other one two.
+    rest refusal other (past_idle way _ _ one) (past_idle way' _ _ two)
+step_apart way way' after after' name now line lines value new file file' rest false true large' = λ refusal other one two.
+    false≢true (sym other ∙ ap (λ (r : Refusal). is_full r.cause) (same_Some _ _ one.by.ends))
+step_apart way way' after after' name now line lines value new file file' rest false false true = λ refusal other one two. none-some _ two.by.ends
+step_apart way way' after after' name now line lines value new file file' rest false false false = λ refusal other one two.
+    rest refusal other (past_change _ _ _ one) (past_change _ _ _ two)
+
+edited_apart : (way way' after after' : Way) (name : List ℕ) (now : ℕ) (line : LineEdit) (lines : List LineEdit) (value : QuotaValue) (file file' : Option (List ℕ)) (edited : Result QuotaValue (Field × ℕ))
+    → Apart (EditsThen after name now lines (value_left edited value) None) (EditsThen after' name now lines (value_left edited value) None)
+    → Apart (Then (met_at line.number (changed way name (edit_of line now) file value edited)) (λ (done : List Act). DoingAll done (EditsThen after name now lines (value_left edited value) None)))
+    (Then (met_at line.number (changed way' name (edit_of line now) file' value edited)) (λ (done : List Act). DoingAll done (EditsThen after' name now lines (value_left edited value) None)))
+edited_apart way way' after after' name now line lines value file file' (Ok new) rest =
+    let edit = edit_of line now in
+    step_apart way way' after after' name now line lines value new file file' rest (edit.is_idle value) (is_too_large edit file new) (is_too_large edit file' new)
+edited_apart way way' after after' name now line lines value file file' (Err out) rest = λ refusal other one two. none-some _ two.by.ends
+
+lines_apart : (way way' : Way) (name : List ℕ) (now : ℕ) (lines : List LineEdit) (value : QuotaValue) → Apart (EditsThen way name now lines value None) (EditsThen way' name now lines value None)
+lines_apart way way' name now [] value = λ refusal other one two. none-some refusal (sym one.by.ends)
+lines_apart way way' name now (line ∷ lines) value = λ refusal other one two.
+    let edit = edit_of line now in
+    let idle = edit.is_idle value in
+    let left = value_left (edit.edited value) value in
+    edited_apart way way' (way_behind way idle) (way_behind way' idle) name now line lines value (one.old.files name) (two.old.files name) (edit.edited value)
+    (lines_apart (way_behind way idle) (way_behind way' idle) name now lines left) refusal other
+    (record { old = one.old; acts = one.acts; new = one.new; by = one.by }) (record { old = two.old; acts = two.acts; new = two.new; by = two.by })
+
+-- Lines that end so in some files, for another cause than that a file is full, do not end well in any.
+pub refused_never : (way way' : Way) (name : List ℕ) (now : ℕ) (lines : List LineEdit) (value : QuotaValue) (old old' new new' : Outside) (acts acts' : List Act) (refusal : Refusal) → is_full refusal.cause ≡ false
+    → EndsBy (EditsThen way name now lines value None) old acts new (Some refusal) → EndsBy (EditsThen way' name now lines value None) old' acts' new' None → ⊥
+refused_never way way' name now lines value old old' new new' acts acts' refusal other one two =
+    lines_apart way way' name now lines value refusal other (record { old = old; acts = acts; new = new; by = one }) (record { old = old'; acts = acts'; new = new'; by = two })
+
+-- Files that have no room.
+
+-- where nothing is taken, or no more than five
+few_if : (test : Bool) (count : ℕ) → count ≤ 5 → (if test then 0 else count) ≤ 5
+few_if true count few = omega arith
+few_if false count few = few
+
+one_if : (test : Bool) → (if test then 1 else 0) ≤ 1
+one_if true = omega arith
+one_if false = omega arith
+
+taken_few : (file : List ℕ) (heads : Heads) (id : ℕ) → blocks_taken file heads id ≤ 5
+taken_few file heads id =
+    let way : List ℕ = blocks_on_way file heads.blocks id in
+    let one = one_if (heads.first == 0) in
+    few_if (nat_lt 4 (length way)) ((4 - length way) + (if heads.first == 0 then 1 else 0)) (omega (arith, one))
+
+with_few : (file : List ℕ) (heads : Heads) (id : Option ℕ) → blocks_with_new file heads id ≤ heads.blocks + 5
+with_few file heads None = omega arith
+with_few file heads (Some id) =
+    let few = taken_few file heads id in
+    omega (arith, few)
+
+tree_few : (format : Format) (file ids : List ℕ) → tree_blocks_wanted format (Some file) ids ≤ (header_of file).blocks + 5
+unfolding tree_blocks_wanted
+tree_few format file ids = with_few file (heads_of (header_of file)) (find (has_no_leaf file (header_of file).blocks) ids)
+
+wanted_few : (format : Format) (file ids : List ℕ) → blocks_wanted format (Some file) ids ≤ (header_of file).blocks + 5
+wanted_few V1 file ids = omega arith
+wanted_few V2R0 file ids = tree_few V2R0 file ids
+wanted_few V2R1 file ids = tree_few V2R1 file ids
+
+-- a tree file with so many blocks is long
+tree_long : (file : List ℕ) (value : QuotaValue) (blocks limit wanted : ℕ) → TreeStandsFor file value → wanted ≤ (header_of file).blocks + 5 → blocks ≡ wanted → limit ≡ most_blocks → limit < blocks
+    → 1024 * most_blocks ≤ length file + 4096
+tree_long file value blocks limit wanted stands few needs allowed passes =
+    let many : 2 < (header_of file).blocks = omega (arith, few, needs, allowed, passes) in
+    let long = stands.sound.long many in
+    omega (arith, long, few, needs, allowed, passes)
+
+-- a file that has no room for new limits is a tree file, and long
+pub full_long : (kind : Kind) (asked : Option Format) (line : LineEdit) (now : ℕ) (file : List ℕ) (blocks limit : ℕ) → IsFullFor kind asked (edit_of line now) (Some file) blocks limit
+    → IsTrue (asks_tree asked) × (1024 * most_blocks ≤ length file + 4096)
+full_long kind None line now file blocks limit full =
+    (refl, tree_long file full.value blocks limit _ full.seen.0.1 (wanted_few full.new.format file (ids_in full.new.records)) full.needs full.allowed full.passes)
+full_long kind (Some V2R0) line now file blocks limit full =
+    (refl, tree_long file full.value blocks limit _ full.seen.0.1 (wanted_few full.new.format file (ids_in full.new.records)) full.needs full.allowed full.passes)
+full_long kind (Some V2R1) line now file blocks limit full =
+    (refl, tree_long file full.value blocks limit _ full.seen.0.1 (wanted_few full.new.format file (ids_in full.new.records)) full.needs full.allowed full.passes)
+full_long kind (Some V1) line now file blocks limit full =
+    let flat : full.new.format ≡ V1 = set_format full.value full.new line.id line.limits now full.edited ∙ full.seen.0.1.format in
+    let none : blocks_wanted full.new.format (Some file) (ids_in full.new.records) ≡ 0 = ap (λ (f : Format). blocks_wanted f (Some file) (ids_in full.new.records)) flat in
+    absurd (omega (arith, none, full.needs, full.passes))
+
+-- Lines that are not made together.
+
+full_case : (cause : Cause) → (is_full cause ≡ false) ⊎ ((blocks : ℕ) × (limit : ℕ) × (cause ≡ Full blocks limit))
+full_case (Full blocks limit) = inr (blocks, limit, refl)
+full_case _ = inl refl
+
+-- this many bytes more may fill the file
+fills : (asked : Option Format) (count size most long : ℕ) → IsTrue (asks_tree asked) → (IsTrue (asks_tree asked) → most ≤ size + 2048 + 4096 * count) → long ≤ most → 1024 * most_blocks ≤ long + 4096
+    → IsTrue (may_fill asked count size)
+fills asked count size most long tree grows within full =
+    let few = grows tree in
+    let test : nat_le (1024 * most_blocks) (size + 4096 * (2 + count)) ≡ true = grind (arith, nat_tests, few, within, full) in
+    subst (λ (b : Bool). IsTrue (b && nat_le (1024 * most_blocks) (size + 4096 * (2 + count)))) (sym tree) test
+
+refused_together : (kind : Kind) (asked : Option Format) (file : List ℕ) (now others : ℕ) (lines : List LineEdit) (value : QuotaValue) (whole : Whole) (edited : Edited) (refusal : Refusal)
+    → MayPay asked (length lines) whole → IsWithin whole.most (length lines) edited → IsView (Some whole.bytes.items) kind asked (Ok value)
+    → IsMadeInMemory (LineSteps (Together others) file now lines value) file whole.bytes.items edited → refusal_in edited.lines.ended ≡ Some refusal
+    → AreNotTogether asked file now lines value (length whole.bytes.items)
+refused_together kind asked file now others lines value whole edited refusal may within view made is =
+    let made = made no_source no_sink no_sink no_link (tells_of true true true true true) in
+    let old = outside_of (seen_of (memory_seen file whole.bytes.items 0) no_source no_sink no_sink no_link) in
+    let to = outside_of (seen_of (memory_seen file edited.bytes.items edited.writes) no_source no_sink no_sink no_link) in
+    let ends : EndsBy (LineSteps (Together others) file now lines value) old made.acts to (Some refusal) =
+    subst (λ (r : Option Refusal). EndsBy (LineSteps (Together others) file now lines value) old made.acts to r) is made.by_steps in
+    elim (full_case refusal.cause) [
+      | inl other ↦ inr (λ way old' new' acts by. refused_never (Together others) way file now lines value old old' to new' made.acts acts refusal other ends by)
+      | inr full ↦
+          let seen : IsView (only_file file whole.bytes.items file) kind asked (Ok value) = subst (λ (f : Option (List ℕ)). IsView f kind asked (Ok value)) (sym (only_file-at file whole.bytes.items)) view in
+          let one = (applied_full (Together others) kind asked file now lines None to refusal full.0 full.1 full.2 tt value old made.acts seen ends).1 in
+          let long = full_long kind asked one.line now edited.bytes.items full.0 full.1
+          (subst (λ (f : Option (List ℕ)). IsFullFor kind asked (edit_of one.line now) f full.0 full.1) (only_file-at file edited.bytes.items) one.full) in
+          inl (fills asked (length lines) (length whole.bytes.items) whole.most (length edited.bytes.items) long.0 may.grows within.short long.1)
+    ]
+
+pub not_together : (kind : Kind) (asked : Option Format) (file : List ℕ) (now others : ℕ) (lines : List LineEdit) (value : QuotaValue) (whole : Whole) (edited : Edited)
+    → MayPay asked (length lines) whole → IsWithin whole.most (length lines) edited → IsView (Some whole.bytes.items) kind asked (Ok value)
+    → IsMadeInMemory (LineSteps (Together others) file now lines value) file whole.bytes.items edited → IsSome (refusal_in edited.lines.ended)
+    → AreNotTogether asked file now lines value (length whole.bytes.items)
+not_together kind asked file now others lines value whole edited may within view made some =
+    by_refusal (refusal_in edited.lines.ended) refl some
+  where
+    by_refusal : (found : Option Refusal) → refusal_in edited.lines.ended ≡ found → IsSome found → AreNotTogether asked file now lines value (length whole.bytes.items)
+    by_refusal None is some = absurd (false≢true some)
+    by_refusal (Some refusal) is some = refused_together kind asked file now others lines value whole edited refusal may within view made is
+
+-- Where it does not pay to replace the file by that of lines that were edited in memory, one was refused.
+pub pays_unless : (asked : Option Format) (count : ℕ) (whole : Whole) (edited : Edited) → MayPay asked count whole → IsWithin whole.most count edited
+    → (length edited.bytes.items ≤ 2 ^ 42 → 12 * edited.lines.made < pieces_of (length edited.bytes.items)) → IsSome (refusal_in edited.lines.ended)
+pays_unless asked count whole edited may within more = by_end edited.lines.ended within.all
+  where
+    pieces_few : (size most : ℕ) → size ≤ most → pieces_of size ≤ pieces_of most
+    pieces_few size most few = omega (arith, few)
+
+    by_end : (ended : Result (Unit {0}) Refusal) → OnOk ended (edited.lines.made ≡ count) → IsSome (refusal_in ended)
+    by_end (Err refusal) all = refl
+    by_end (Ok passed) all =
+        let short = within.short in
+        let pieces = pieces_few (length edited.bytes.items) whole.most short in
+        let within_most = may.within in
+        let few = may.few in
+        let least = more (omega (arith, short, within_most)) in
+        absurd (omega (arith, least, pieces, few, all))
