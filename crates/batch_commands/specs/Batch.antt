@@ -194,8 +194,9 @@ BatchSteps common from file invocation =
 abbrev pub input_edits : List NameLine → (bytes : List ℕ) → List LineEdit
 input_edits names bytes = (input_asks names [] bytes).edits
 
--- So many lines may fill a file of this length: a tree file, which with 4,096 bytes for each of them, and for two more, has as many
--- bytes as the most blocks that it may have.
+-- So many lines may fill a file of this length: a tree file, which with 4,096 bytes for each of them, and for two more, has at least as
+-- many bytes as the most blocks that it may have. (What a line needs that is refused counts as one more, and as another one what a file
+-- may lack of its header and its root.)
 abbrev pub may_fill : Option Format → (count length : ℕ) → Bool
 may_fill asked count length = asks_tree asked && nat_le (1024 * most_blocks) (length + 4096 * (2 + count))
 

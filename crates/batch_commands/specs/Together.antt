@@ -108,9 +108,9 @@ pub record IsWithin (most count : ℕ) (edited : Edited) : Type 0 where
   pub short : length edited.bytes.items ≤ most
   pub all : OnOk edited.lines.ended (edited.lines.made ≡ count)
 
--- So many lines of a file that was read whole may be edited together: the file that they may come to make of it can be replaced, in no
--- more calls of `write` than twelve for each; and a tree file, which may lack 2,048 bytes of its header and its root, grows by 4,096
--- bytes for each besides.
+-- So many lines of a file that was read whole may be edited together: what they may come to make of it can replace it, in no more calls
+-- of `write` than twelve for each; and a tree file comes to have no more than 4,096 bytes for each besides, and up to 2,048 of its
+-- header and its root, of which it may lack the end.
 pub record MayPay (asked : Option Format) (count : ℕ) (whole : Whole) : Type 0 where
   pub few : pieces_of whole.most ≤ 12 * count
   pub within : whole.most ≤ 2 ^ 42

@@ -26,8 +26,8 @@ pub fn a_file_that_is_full_is_so_behind_lines()
         → (refusal.name ≡ file) × IsFullForLine common from file invocation.now old new.files blocks limit }
 {}
 
-/// With the opening of their file lines read at most four blocks for each 1,024 bytes of it, four more, and seventeen for each line,
-/// whichever way they are made.
+/// With the opening of their file lines make at most four calls of `read` for each 1,024 bytes of it, or a part of them, four more, and
+/// seventeen for each line, whichever way they are made.
 pub fn lines_read_a_file_four_times_at_most()
     ensures reads { (kind : Kind) (asked : Option Format) (file : List ℕ) (value : QuotaValue) (lines : List LineEdit)
         → IsView (Some file) kind asked (Ok value)

@@ -38,7 +38,7 @@ const MOST_WRITES: u64 = 12;
 /// By how many bytes a tree file grows at most where a record is put into it that was not there.
 const MOST_GROWTH: u64 = 4096;
 
-/// How many bytes a tree file of no records has: those of its header and its root, the second of which may be missing.
+/// How many bytes a tree file of no records has: those of its header and its root, of which a file may lack the end.
 const EMPTY_TREE: u64 = 2048;
 
 /// How many bytes a record of a flat file has.
@@ -174,13 +174,15 @@ fn size_alone<S: Store>(alloc: Global, name: &str, store: &mut S) -> Result<Opti
     }
 }
 
-/// How many bytes the file, which now has this many, may have once these lines are edited, where it may be replaced then, and the edits
-/// may make as many calls of `write` as the replacement.
+/// How many bytes the file, which now has this many, may come to have by the edits of these lines. It is `None` where a replacement by
+/// so many takes more calls of `write` than the edits may make, or cannot be made.
 fn most_bytes(format: Option<Format>, lines: &[LineEdit], size: u64) -> Option<u64>
     ensures few { IfSome result (λ most. pieces_of most ≤ 12 * length lines.now) }
     ensures within { IfSome result (λ most. most ≤ 2 ^ 42) }
     ensures reaches { IfSome result (λ most. size ≤ most) }
     ensures grows { IfSome result (λ most. IsTrue (asks_tree format) → most ≤ size + 2048 + 4096 * length lines.now) }
+    ensures enough { IfSome result (λ most. IsTrue (asks_tree format) → size + 4096 * length lines.now ≤ most) }
+    ensures empty { IfSome result (λ most. IsTrue (asks_tree format) → 2048 + 4096 * length lines.now ≤ most) }
 {
     let most = reach(format, lines, size);
     if most <= MOST_BYTES && pieces(most) <= (lines.len() as u64).saturating_mul(MOST_WRITES) {
@@ -194,6 +196,8 @@ fn most_bytes(format: Option<Format>, lines: &[LineEdit], size: u64) -> Option<u
 fn reach(format: Option<Format>, lines: &[LineEdit], size: u64) -> u64
     ensures reaches { size ≤ result }
     ensures grows { IsTrue (asks_tree format) → result ≤ size + 2048 + 4096 * length lines.now }
+    ensures enough { IsTrue (asks_tree format) → result ≤ 2 ^ 42 → size + 4096 * length lines.now ≤ result }
+    ensures empty { IsTrue (asks_tree format) → result ≤ 2 ^ 42 → 2048 + 4096 * length lines.now ≤ result }
 {
     match format {
         Some(Format::V1) => lines
@@ -296,7 +300,7 @@ fn is_of_call(fault: OpenFault) -> bool
 ///
 /// # Errors
 ///
-/// There is not enough memory, or the file came to have more than `most` bytes, for which none was asked.
+/// There is not enough memory, or the copy has more than `most` bytes, which no edit makes of it.
 fn edit_opened(
     mut opened: AnyFile,
     lines: &[LineEdit],
@@ -359,7 +363,9 @@ fn put_back<S: Store>(alloc: Global, file: Word, edited: Edited, store: &mut S) 
         → IfEnded result (IfWanting (IsUnwritten (S.seen store.old) (S.seen store.new))) }
     ensures others { ReplacesOnly file (S.seen store.old).files (S.seen store.new).files }
     ensures synced { IfEnded result (λ ended. IsTrue S.tells → Syncs (is_ok ended) (S.seen store.old) (S.seen store.new)) }
-    // Where it does not pay a line was refused.
+    // Where it is not put there it does not pay, and a line was refused.
+    ensures unpaid { IfNotMade result (λ _. length edited.bytes.items ≤ 2 ^ 42
+        → 12 * edited.lines.made < pieces_of (length edited.bytes.items)) }
     ensures refused { (asked : Option FormatOf) (count : ℕ) (whole : Whole) → MayPay asked count whole → IsWithin whole.most count edited
         → IfNotMade result (λ _. IsSome (refusal_in edited.lines.ended)) }
     ensures reads { (S.seen store.new).reads ≡ (S.seen store.old).reads }

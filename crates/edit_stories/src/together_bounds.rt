@@ -102,6 +102,42 @@ fill 0 11264
 holds q
 absent q.new
 
+= bytes behind the last block that are no whole block stay, and count where they begin one more
+use six
+fill 0 700
+file q
+text 1000 1 2 3 4
+text 1000 100 200 10 20
+input
+both setquota -b q
+writes 7
+use six-made
+fill 0 700
+holds q
+absent q.new
+use six
+fill 0 10241
+file q
+text 1000 1 2 3 4
+text 1000 100 200 10 20
+input
+both setquota -b q
+writes 2
+use six-made
+fill 0 10241
+holds q
+absent q.new
+
+= two identifiers far apart make nine blocks of a header alone
+file q empty0
+text 1 1 1 1 1
+text 16777216 1 1 1 1
+input
+both setquota -F vfsv0 -b q
+writes 9
+changes q
+absent q.new
+
 = three lines and twenty-four blocks, or twenty-five
 use six
 fill 0 18432
