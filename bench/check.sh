@@ -28,4 +28,4 @@ for case in pairs sort; do
     echo "memory of awk by $case: at most $(held "${command[@]}") KiB"
 done
 echo "memory of quotacheck: at most $(held "$program" "${words[@]}") KiB"
-calls 'pread64|pwrite64|fsync' "${words[@]}"
+calls 'pread64|pwrite64|fsync|fdatasync' "${words[@]}"

@@ -40,4 +40,4 @@ for awk in awk mawk; do
     fi
 done
 echo "memory of generate: at most $(held "$program" "${words[@]}") KiB"
-calls 'pread64|pwrite64|fsync' "${words[@]}"
+calls 'pread64|pwrite64|fsync|fdatasync' "${words[@]}"

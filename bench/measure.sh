@@ -150,7 +150,7 @@ reading_beside() {
     "$top/bin/quota_cli" "$@" >said
     beside "$1" command 'one reading' reading
     memory q "$@"
-    calls 'pread64|pwrite64|fsync' "$@"
+    calls 'pread64|pwrite64|fsync|fdatasync' "$@"
 }
 
 # converted FORMATS SOURCE: converts a file into a new one, `new`.
@@ -176,7 +176,7 @@ conversion_beside_copy() {
     mv new target
     beside convertquota conversion dd copy
     rm new copy
-    calls 'pread64|pwrite64|fsync' convertquota -f "$1" "$2" new
+    calls 'pread64|pwrite64|fsync|fdatasync' convertquota -f "$1" "$2" new
     rm new target
 }
 

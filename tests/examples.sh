@@ -433,7 +433,7 @@ words() {
         return
     fi
     case $text in
-        'quota: '?* | 'quota_cli: '?*) quoted '' ;;
+        'quota: '?* | 'quota_cli: '?* | 'not believed: '* | 'it had an open gate '* | 'touch FILE.undo') quoted '' ;;
         'quota_cli rquotad '*) served ;;
         'quota_cli '* | 'while read '* | 'find '* | 'flock '* | 'mount '* | 'cp '*) carried_out ;;
         'getent '* | 'head '* | 'set -'* | 'sort '* | 'stat '* | 'ulimit '*) carried_out ;;
@@ -541,6 +541,27 @@ said() {
     set -- ./quota_cli repquota "$PWD/home/aquota.user"
     if [ "$(id -u)" = 0 ]; then set -- setpriv --reuid=65534 --regid=65534 --clear-groups "$@"; fi
     "$top/tests/real_files/terminal.py" "$@" 2>&1 | sed "s|$PWD||" >&2
+    # And of undo files with an open gate: one that fits, one that does not, one of an hour ago, one with a further name, one
+    # that others may write, and one of another account, which root alone can make.
+    for it in true 'truncate -s 8' 'touch -d -1hour' 'ln other.undo' 'chmod 666' 'chown 65534'; do
+        rm -f other other.undo
+        cp q other
+        with_open_gate other
+        $it other.undo || ln -f other.undo "other.$RANDOM"
+        "$top/tests/real_files/terminal.py" ./quota_cli repquota other >&2
+    done
+    if [ "$(id -u)" != 0 ]; then echo 'not believed: it has an open gate and belongs to user 0' >&2; fi
+}
+
+# with_open_gate FILE: an undo file with an open gate, which has saved nothing but the length of the file.
+with_open_gate() {
+    local size it
+    size=$(stat -c %s "$1")
+    {
+        printf '\1\0\0\0\0\0\0\0'
+        for it in 0 8 16 24 32 40 48 56; do printf '%b' "\\0$(printf '%o' $((size >> it & 255)))"; done
+        head -c 1008 /dev/zero
+    } >"$1.undo"
 }
 (said) </dev/null >/dev/null 2>>shown || true
 

@@ -60,6 +60,27 @@ differing() {
     rm one.whole other.whole
 }
 
+# gate FILE: byte 0 of its undo file.
+gate() { od -An -tu1 -N1 "$1.undo" | tr -d ' '; }
+
+# open_gate FILE: leaves a file as a change that was stopped leaves it, whose first 600 bytes are overwritten and which has
+# grown by a block, with an open gate.
+open_gate() {
+    python3 - "$1" <<'PY'
+import struct, sys
+with open(sys.argv[1], "r+b") as file:
+    old = file.read()
+    with open(sys.argv[1] + ".undo", "wb") as undo:
+        undo.write(struct.pack("<B7xQI1004x", 1, len(old), 2))
+        undo.write(struct.pack("<QH6x600s424x", 0, 600, old[:600]))
+        undo.write(struct.pack("<QH6x", len(old), 0))
+    file.seek(0)
+    file.write(b"x" * 600)
+    file.seek(len(old))
+    file.write(b"y" * 1024)
+PY
+}
+
 head='*** Report for user quotas on q
 Block grace time: 7days; Inode grace time: 7days
 User                  used       soft       hard  grace    files     soft     hard  grace

@@ -10,27 +10,6 @@ cd "$stopped"
 program=$folder/program
 mkfifo released
 
-# gate FILE: byte 0 of its undo file.
-gate() { od -An -tu1 -N1 "$1.undo" | tr -d ' '; }
-
-# open_gate FILE: leaves a file as a change that was stopped leaves it, whose first 600 bytes are overwritten and which has
-# grown by a block, with an open gate.
-open_gate() {
-    python3 - "$1" <<'PY'
-import struct, sys
-with open(sys.argv[1], "r+b") as file:
-    old = file.read()
-    with open(sys.argv[1] + ".undo", "wb") as undo:
-        undo.write(struct.pack("<B7xQI1004x", 1, len(old), 2))
-        undo.write(struct.pack("<QH6x600s424x", 0, 600, old[:600]))
-        undo.write(struct.pack("<QH6x", len(old), 0))
-    file.seek(0)
-    file.write(b"x" * 600)
-    file.seek(len(old))
-    file.write(b"y" * 1024)
-PY
-}
-
 # hold HOW FILE: another program locks a file, alone (-x) or beside others (-s), until `release`.
 hold() {
     flock "$1" "$2" cat released &
@@ -160,7 +139,12 @@ if command -v python3 >/dev/null && [ "$(uname -m)" = x86_64 ]; then
     printf 'alice:x:1:1::/:/bin/sh\n#%01000d\n' 0 >names
     cp names was
     open_gate names
-    expect 'a file of names is recovered, too' 0 '' '' setquota --names names alice 1 2 3 4 r
+    cp was names
+    cp names.undo undo
+    expect 'a file of names is read as it is' 0 '' '' setquota --names names alice 1 2 3 4 r
+    same 'and its undo file is let be' "$(cmp names was && cmp names.undo undo && gate names)" 1
+    open_gate names
+    expect 'a file that a script names is recovered, one of names, too' 0 '' '' script <<<'setquota --names names alice 1 2 3 4 r'
     same 'before it is read' "$(cmp names was && gate names)" 0
 
     # `rquotad` recovers before it serves, and holds nothing then.

@@ -87,8 +87,8 @@ def begin(words):
     return pid
 
 
-def counted_call(pid):
-    """The name of the call that a process is about to make, where it counts, else none."""
+def entered_call(pid):
+    """The number and the words of the call that a process is about to make; none where it is done with one."""
     info = ctypes.create_string_buffer(88)
     ptrace(GET_SYSCALL_INFO, pid, len(info), ctypes.addressof(info))
     where, arch, number, *words = struct.unpack_from("=B3xI16x7Q", info.raw)
@@ -96,6 +96,11 @@ def counted_call(pid):
         return None
     if arch != X86_64:
         raise CannotRun("this is not x86-64")
+    return number, words
+
+
+def counted_call(number, words):
+    """The name of a call, where it counts, else none."""
     if number in WRITES:
         return WRITES[number] if words[0] not in (1, 2) else None
     if number in OPENS:
@@ -125,12 +130,12 @@ def passed_on(state):
     return 0 if number in (signal.SIGTRAP, signal.SIGSTOP) else number
 
 
-def stop_before(number, words):
-    """Runs the words, and kills them before their call of that number, counted from 1. Answers its name and None, or, where
-    they ended before, None and their status."""
+def trace(words, at_call):
+    """Runs the words, and asks `at_call` before each call of theirs, by the process, the number of the call and its words.
+    Where it answers anything but None they are killed. Answers that and None, or, where they ended before, None and their
+    status."""
     first = begin(words)
     running = {first}
-    left = number
     ptrace(SYSCALL, first)
     try:
         while True:
@@ -143,10 +148,10 @@ def stop_before(number, words):
             running.add(pid)
             given = 0
             if os.WSTOPSIG(state) == signal.SIGTRAP | 0x80:
-                name = counted_call(pid)
-                left -= name is not None
-                if name is not None and left == 0:
-                    return name, None
+                call = entered_call(pid)
+                answer = at_call(pid, *call) if call else None
+                if answer is not None:
+                    return answer, None
             elif state >> 16 not in EVENTS:
                 given = passed_on(state)
             try:
@@ -155,6 +160,20 @@ def stop_before(number, words):
                 pass
     finally:
         end(running)
+
+
+def stop_before(number, words):
+    """Runs the words, and kills them before their call of that number, counted from 1. Answers its name and None, or, where
+    they ended before, None and their status."""
+    left = number
+
+    def at_call(_, call, call_words):
+        nonlocal left
+        name = counted_call(call, call_words)
+        left -= name is not None
+        return name if left == 0 else None
+
+    return trace(words, at_call)
 
 
 def main(words):

@@ -1,5 +1,6 @@
 pub mod CommitLemmas
 pub mod CommitStepLemmas
+pub mod InPlaceLemmas
 pub mod LaidLemmas
 pub mod LayLemmas
 pub mod LoopLemmas

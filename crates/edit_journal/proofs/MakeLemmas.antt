@@ -8,7 +8,9 @@ use Rattle.outside.proofs.WorldLemmas.{with_file-at, with_new_name-others}
 use Rattle.crash_disk.specs.DiskSeen.{ChangesNothing, DiskSeen, Follows, IsKept, Passes, TakesStep}
 use Rattle.crash_disk.specs.Steps.{ChangesFile, IsRenamed, MayBeRenamed}
 use Rattle.crash_disk.proofs.StopLemmas.{passes-nothing, passes-step, passes-then, passes-wider}
+use Rattle.edit_journal.specs.Recovery.{ClosesGate, IsSame}
 use Rattle.edit_journal.specs.Settled.{MakesUndo}
+use Rattle.edit_journal.proofs.ReadLemmas.{looks-wider}
 
 -- bytes that are written into an empty file
 overwritten-empty : (bytes : List ℕ) → overwritten [] 0 bytes ≡ bytes
@@ -83,3 +85,9 @@ module _ (und undo : List ℕ) (apart : und ≢ undo) where
   named-kept a b kept is done made image left =
       let from = done.left image left in
       ap (λ (f : World). f undo) from.2 ∙ new_name-to from.0 und undo (replicate 1024 0) (kept from.0 from.1 ∙ is) ∙ sym made
+
+  -- a new undo file closes the gate of the old one, once that was read
+  pub closes-made : (a b c : DiskSeen) → Passes IsSame a b → Passes (MakesUndo und undo) b c → Passes (ClosesGate und undo) a c
+  closes-made a b c looks makes =
+      passes-wider (MakesUndo und undo) (ClosesGate und undo) a c (λ old new step. inl step)
+      (makes-more a b c (looks-wider (MakesUndo und undo) a b makes-same looks) makes)

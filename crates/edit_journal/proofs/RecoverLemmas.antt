@@ -1,21 +1,24 @@
 -- What a recovery leaves.
 use Rattle.std.proofs.Common.{◌≡◌, ◌≢◌, ◌⊎◌, inl, inr, ⊎_elim, ℕ, Bool, true, false, List, [], length, replicate, Option, Some, None, unwrap_or, refl, sym, ap, ◌∙◌, subst, arith}
 use Rattle.std.proofs.lemmas.Bool.{cond-false, cond-true, false≢true}
-use Rattle.std.proofs.lemmas.List.{get_or-replicate, length-replicate}
+use Rattle.std.proofs.lemmas.List.{get_or-replicate}
 use Rattle.outside.specs.World.{World}
-use Rattle.outside.proofs.FrameLemmas.{keeps_others-then}
+use Rattle.outside.proofs.FrameLemmas.{keeps_other_two-then, keeps_others-then}
 use Rattle.crash_disk.specs.DiskSeen.{DiskSeen, IsKept, OnlyLeaves, Passes}
+use Rattle.crash_disk.specs.Steps.{IsOutside, TearsRange, Torn}
+use Rattle.crash_disk.proofs.StepLemmas.{torn-same, torn-then}
 use Rattle.crash_disk.proofs.StopLemmas.{kept-on, only_leaves-passes, passes-then, passes-wider}
 use Rattle.quota_types.specs.Bytes.{byte_at, number_at}
-use Rattle.edit_journal.specs.Recovery.{BeginsSo, Heads, IsSame, MendsFile, RecoversAsBefore, RecoversSame, Restores, is_mended}
-use Rattle.edit_journal.specs.Settled.{IsRecovered, MakesUndo}
-use Rattle.edit_journal.specs.Undo.{recovered, saved_spans, spans_fit, undone}
+use Rattle.edit_journal.specs.Recovery.{BeginsSo, ClosesGate, Heads, IsSame, MendsFile, RecoversAsBefore, RecoversInPlace, RecoversSame, Restores, is_mended}
+use Rattle.edit_journal.specs.Settled.{IsRecovered}
+use Rattle.edit_journal.specs.Undo.{HoldsItsRanges, recovered, saved_spans, spans_fit, undone}
+use Rattle.edit_journal.proofs.InPlaceLemmas.{recovered-torn}
 use Rattle.edit_journal.proofs.MendLemmas.{recovered-mended, usable-parts}
 use Rattle.edit_journal.proofs.ReadLemmas.{looks-kept}
 use Rattle.edit_journal.proofs.RecoveredLemmas.{recovered-closed}
 
 -- a wider step, where it is taken from each image
-passes-within : (step wider : World → World → Type 0) (a b : DiskSeen) → ((before after : World) → a.images before → step before after → wider before after) → a.images a.files → Passes step a b → Passes wider a b
+pub passes-within : (step wider : World → World → Type 0) (a b : DiskSeen) → ((before after : World) → a.images before → step before after → wider before after) → a.images a.files → Passes step a b → Passes wider a b
 passes-within step wider a b sub is passes = record {
   follows = record {
     left = λ image left. let from = passes.follows.left image left in (from.0, from.1, sub from.0 image from.1 from.2);
@@ -106,36 +109,78 @@ module _ (name undo und : List ℕ) (apart : name ≢ undo) (unmade : name ≢ u
   pub recovers-looks : (a b c : DiskSeen) → Passes IsSame a b → Passes (RecoversSame name undo und) b c → Passes (RecoversSame name undo und) a c
   recovers-looks a b c looks passes = recovers-then a b c (recovers-restores a b (restores-looks name undo a b looks)) passes
 
+  in_place-then : (a b c : DiskSeen) → Passes (RecoversInPlace name undo) a b → Passes (RecoversInPlace name undo) b c → Passes (RecoversInPlace name undo) a c
+  in_place-then a b c first second =
+      passes-then (RecoversInPlace name undo) a b c
+      (λ x y z one two. (two.0 ∙ one.0, torn-then (IsOutside 0 1) (x undo) (y undo) (z undo) one.1 two.1, keeps_other_two-then name undo x y z one.2 two.2)) first second
+
+  pub in_place-restores : (a b : DiskSeen) → Passes (Restores name undo) a b → Passes (RecoversInPlace name undo) a b
+  in_place-restores a b passes =
+      passes-wider (Restores name undo) (RecoversInPlace name undo) a b
+      (λ x y step. (
+        step.0,
+        subst (λ (u : Option (List ℕ)). Torn (IsOutside 0 1) (x undo) u) (sym (step.1 undo (λ same. apart (sym same)))) (torn-same (IsOutside 0 1) (x undo)),
+        λ other differ two_differs. step.1 other differ,
+      ))
+      passes
+
   -- a file that recovers to itself does so beside a new undo file
   remade : (file old new : Option (List ℕ)) → recovered file old ≡ file → (new ≡ old) ⊎ (new ≡ Some (replicate 1024 0)) → recovered file new ≡ recovered file old
   remade file old new itself (inl same) = ap (λ (u : Option (List ℕ)). recovered file u) same
   remade file old new itself (inr made) =
       ap (λ (u : Option (List ℕ)). recovered file u) made ∙ recovered-unopened file (Some (replicate 1024 0)) closed-made ∙ sym itself
 
-  -- so a new undo file takes its name
-  pub recovers-made : (a b c : DiskSeen) → a.images a.files → b.images b.files → IsKept name b → IsKept undo a → b.files name ≡ recovered (a.files name) (a.files undo) → Passes (Restores name undo) a b → Passes (MakesUndo und undo) b c → Passes (RecoversSame name undo und) a c
-  recovers-made a b c start is kept saved done restores makes =
-      recovers-then a b c (recovers-restores a b restores)
-      (passes-within (MakesUndo und undo) (RecoversSame name undo und) b c
-      (λ before after left step.
-      let stays : after name ≡ before name = step.0 name unmade apart in
-      let still : IsKept undo b = kept-on undo (Restores name undo) a b (λ x y one. one.1 undo (λ same. apart (sym same))) saved restores.follows in
-      let itself : recovered (before name) (before undo) ≡ before name =
-      ap (λ (f : Option (List ℕ)). recovered f (before undo)) (kept before left)
-      ∙ ap (λ (u : Option (List ℕ)). recovered (b.files name) u) (still before left)
-      ∙ restores.follows.read.0 ∙ sym done ∙ sym (kept before left) in (
-        ap (λ (f : Option (List ℕ)). recovered f (after undo)) stays ∙ remade (before name) (before undo) (after undo) itself step.1,
-        λ other one_differs two_differs three_differs. step.0 other three_differs two_differs,
-      ))
-      is makes)
+  -- so does one whose gate is being closed
+  closing : (before after : World) → byte_at (unwrap_or (before undo) []) 0 ≡ 1 → recovered (before name) (before undo) ≡ before name → ClosesGate und undo before after → RecoversSame name undo und before after
+  closing before after opened itself (inl makes) = (
+    ap (λ (f : Option (List ℕ)). recovered f (after undo)) (makes.0 name unmade apart) ∙ remade (before name) (before undo) (after undo) itself makes.1,
+    λ other one_differs two_differs three_differs. makes.0 other three_differs two_differs,
+  )
+  closing before after opened itself (inr in_place) = (
+    ap (λ (f : Option (List ℕ)). recovered f (after undo)) (in_place.1.1 name apart)
+        ∙ recovered-torn (before name) (before undo) (after undo) opened in_place.0 in_place.1.0 itself
+        ∙ sym itself,
+    λ other one_differs two_differs three_differs. in_place.1.1 other two_differs,
+  )
 
-  -- and the file is recovered then
-  pub is_recovered-made : (file : Option (List ℕ)) (b c : DiskSeen) → IsKept name b → b.files name ≡ file → Passes (MakesUndo und undo) b c → IsKept undo c → c.files undo ≡ Some (replicate 1024 0) → IsRecovered name undo file c
-  is_recovered-made file b c kept is makes saved made = record {
-    whole = λ image left. let from = makes.follows.left image left in from.2.0 name unmade apart ∙ kept from.0 from.1 ∙ is;
-    closed = λ image left opened. closed-made (ap (λ (u : Option (List ℕ)). byte_at (unwrap_or u []) 0) (sym (saved image left ∙ made)) ∙ opened);
-    room = λ read image left. omega (arith, ap (λ (u : Option (List ℕ)). length (unwrap_or u [])) (saved image left ∙ made), length-replicate {A = ℕ} 1024 0);
-  }
+  -- a file is mended, and its undo file still names as many ranges, and has an open gate
+  module _ (a b c : DiskSeen) (count : ℕ) (start : a.images a.files) (is : b.images b.files) (kept : IsKept name b) (saved : IsKept undo a) (done : b.files name ≡ recovered (a.files name) (a.files undo))
+      (opened : byte_at (unwrap_or (a.files undo) []) 0 ≡ 1) (many : count ≡ number_at 4 (unwrap_or (a.files undo) []) 16) (restores : Passes (Restores name undo) a b) where
+    undo_there : b.files undo ≡ a.files undo
+    undo_there = restores.follows.read.1 undo (λ same. apart (sym same))
+
+    undo_kept : IsKept undo b
+    undo_kept = kept-on undo (Restores name undo) a b (λ x y step. step.1 undo (λ same. apart (sym same))) saved restores.follows
+
+    many_there : count ≡ number_at 4 (unwrap_or (b.files undo) []) 16
+    many_there = many ∙ ap (λ (u : Option (List ℕ)). number_at 4 (unwrap_or u []) 16) (sym undo_there)
+
+    open_still : (before : World) → b.images before → byte_at (unwrap_or (before undo) []) 0 ≡ 1
+    open_still before left = ap (λ (u : Option (List ℕ)). byte_at (unwrap_or u []) 0) (undo_kept before left ∙ undo_there) ∙ opened
+
+    recovers_itself : (before : World) → b.images before → recovered (before name) (before undo) ≡ before name
+    recovers_itself before left =
+        ap (λ (f : Option (List ℕ)). recovered f (before undo)) (kept before left)
+        ∙ ap (λ (u : Option (List ℕ)). recovered (b.files name) u) (undo_kept before left)
+        ∙ restores.follows.read.0 ∙ sym done ∙ sym (kept before left)
+
+    -- then the gate is closed
+    pub recovers-closed : (count ≡ number_at 4 (unwrap_or (b.files undo) []) 16 → IsKept undo b → Passes (ClosesGate und undo) b c) → Passes (RecoversSame name undo und) a c
+    recovers-closed closes =
+        recovers-then a b c (recovers-restores a b restores)
+        (passes-within (ClosesGate und undo) (RecoversSame name undo und) b c (λ before after left step. closing before after (open_still before left) (recovers_itself before left) step) is (closes many_there undo_kept))
+
+    -- in place, where the undo file holds its ranges
+    pub recovers-in_place : HoldsItsRanges (unwrap_or (a.files undo) []) → (count ≡ number_at 4 (unwrap_or (b.files undo) []) 16 → HoldsItsRanges (unwrap_or (b.files undo) []) → Passes (TearsRange undo 0 1) b c) → Passes (RecoversInPlace name undo) a c
+    recovers-in_place holds tears =
+        let there : HoldsItsRanges (unwrap_or (b.files undo) []) = subst (λ (u : Option (List ℕ)). HoldsItsRanges (unwrap_or u [])) (sym undo_there) holds in
+        in_place-then a b c (in_place-restores a b restores)
+        (passes-within (TearsRange undo 0 1) (RecoversInPlace name undo) b c
+        (λ before after left step.
+        let holds_still : HoldsItsRanges (unwrap_or (before undo) []) = subst (λ (u : Option (List ℕ)). HoldsItsRanges (unwrap_or u [])) (sym (undo_kept before left)) there in
+        let same = closing before after (open_still before left) (recovers_itself before left) (inr (holds_still, step)) in
+        (same.0, step.0, λ other differs two_differs. step.1 other two_differs))
+        is (tears many_there there))
 
 -- a file whose gate is closed is recovered where it and its undo file are kept
 pub is_recovered-closed : (name undo : List ℕ) (file : Option (List ℕ)) (disk : DiskSeen) → IsKept name disk → IsKept undo disk → disk.files name ≡ file → byte_at (unwrap_or (disk.files undo) []) 0 ≢ 1 → IsRecovered name undo file disk

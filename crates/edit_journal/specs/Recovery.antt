@@ -1,12 +1,12 @@
 -- What a recovery makes of a file, call by call.
-use Rattle.std.specs.Prelude.{◌≡◌, ◌<◌, ◌≤◌, ℕ, Bool, true, false, min, List, [], length, Option, None, Some, IsSome, slice_index, unwrap_or}
-use Rattle.outside.specs.World.{KeepsOthers, World}
+use Rattle.std.specs.Prelude.{◌≡◌, ◌<◌, ◌≤◌, ◌⊎◌, ℕ, Bool, true, false, min, List, [], length, Option, None, Some, IsSome, slice_index, unwrap_or}
+use Rattle.outside.specs.World.{KeepsOtherTwo, KeepsOthers, World}
 use Rattle.crash_disk.specs.DiskSeen.{DiskSeen}
-use Rattle.crash_disk.specs.Steps.{ChangesFile}
+use Rattle.crash_disk.specs.Steps.{ChangesFile, IsOutside, TearsRange, Torn}
 use Rattle.quota_types.specs.Bytes.{byte_at, number_at}
-use Rattle.edit_journal.specs.Settled.{KeepsOtherThree}
+use Rattle.edit_journal.specs.Settled.{KeepsOtherThree, MakesUndo}
 use Rattle.edit_journal.specs.Spans.{IsOutsideAll, Span}
-use Rattle.edit_journal.specs.Undo.{is_usable, recovered, saved_spans, spans_fit}
+use Rattle.edit_journal.specs.Undo.{HoldsItsRanges, is_usable, recovered, saved_spans, spans_fit}
 
 -- no file changes
 abbrev pub IsSame : World → World → Type 0
@@ -41,6 +41,18 @@ Restores name undo old new = (recovered (new name) (new undo) ≡ recovered (old
 -- undo file, under both its names, stay.
 abbrev pub RecoversSame : (name undo und : List ℕ) → World → World → Type 0
 RecoversSame name undo und old new = (recovered (new name) (new undo) ≡ recovered (old name) (old undo)) × KeepsOtherThree name undo und old new
+
+-- A file is recovered in place: a recovery of the new files makes of it what a recovery of the old files makes of it, its
+-- undo file is no shorter, and the same behind its first byte, within its old end; and all other files stay, so there is
+-- no new undo file, nor a file under the first name of one.
+abbrev pub RecoversInPlace : (name undo : List ℕ) → World → World → Type 0
+RecoversInPlace name undo old new =
+    (recovered (new name) (new undo) ≡ recovered (old name) (old undo)) × Torn (IsOutside 0 1) (old undo) (new undo) × KeepsOtherTwo name undo old new
+
+-- The gate of an undo file is being closed: a new undo file takes its name, or does not, or the first byte of the undo file
+-- is torn, which is done where it holds its ranges alone.
+abbrev pub ClosesGate : (und undo : List ℕ) → World → World → Type 0
+ClosesGate und undo old new = MakesUndo und undo old new ⊎ (HoldsItsRanges (unwrap_or (old undo) []) × TearsRange undo 0 1 old new)
 
 -- an undo file begins with this gate, this length of the old file and this number of saved ranges
 pub record BeginsSo (gate old_length count : ℕ) (undo : List ℕ) : Type 0 where

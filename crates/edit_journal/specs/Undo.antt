@@ -5,7 +5,7 @@
 -- byte 8 stands the length of the old file in eight bytes, and at byte 16 the number of saved ranges in four. Range k,
 -- counted from 0, stands at byte 1,024 + 1,040 k: its place in eight bytes, the number of its saved bytes in two, six
 -- bytes 0, and the saved bytes.
-use Rattle.std.specs.Prelude.{◌≡◌, ◌≢◌, ℕ, zero, suc, ◌+◌, ◌*◌, ◌^◌, ◌≤◌, Bool, ◌&&◌, ◌||◌, true, nat_eq, nat_le, if◌then◌else◌, List, [], ◌∷◌, length, take, Option, None, Some, unwrap_or}
+use Rattle.std.specs.Prelude.{◌≡◌, ◌≢◌, ℕ, zero, suc, ◌+◌, ◌*◌, ◌^◌, ◌<◌, ◌≤◌, Bool, ◌&&◌, ◌||◌, true, nat_eq, nat_le, if◌then◌else◌, List, [], ◌∷◌, length, take, Option, None, Some, unwrap_or}
 use Rattle.quota_types.specs.Bytes.{byte_at, number_at}
 use Rattle.edit_journal.specs.Spans.{Span, laid, saved_bytes}
 
@@ -59,6 +59,12 @@ abbrev pub recovered : Option (List ℕ) → Option (List ℕ) → Option (List 
 recovered None undo = None
 recovered (Some file) None = Some file
 recovered (Some file) (Some undo) = Some (if is_usable file undo then undone file undo else file)
+
+-- An undo file holds its ranges: it has room for its head, and each saved range that the head names ends within it. Where
+-- the head names more than 12, a recovery reads none of them.
+pub record HoldsItsRanges (undo : List ℕ) : Type 0 where
+  pub room : 1024 ≤ length undo
+  pub within : number_at 4 undo 16 ≤ 12 → (k : ℕ) → k < number_at 4 undo 16 → range_at k + 16 + number_at 2 undo (range_at k + 8) ≤ length undo
 
 -- an undo file with room for its head, and a gate that is closed
 abbrev pub IsClosed : Option (List ℕ) → Type 0

@@ -1,19 +1,21 @@
 //! The recovery of a file.
 
-ghost use Rattle.std.specs.Prelude.{◌≡◌, ◌≢◌, ◌<◌, ◌≤◌, ◌^◌, ◌+◌, [], List, ℕ, Some, length, true, unwrap_or, IfOk, IsTrue, OnOk, OnErr, false};
+ghost use Rattle.std.specs.Prelude.{◌≡◌, ◌≢◌, ◌<◌, ◌≤◌, ◌^◌, ◌+◌, [], List, ℕ, Some, drop, length, true, unwrap_or, IfOk, IsTrue, OnOk, OnErr, false};
 ghost use Rattle.crash_disk.specs.DiskSeen.{IsKept, OnlyLeaves, Passes};
 ghost use Rattle.crash_disk.specs.Steps.{TearsRange};
-ghost use Rattle.edit_journal.specs.Recovery.{BeginsSo, Heads, IsSame, MendsFile, RecoversAsBefore, RecoversSame, Restores, is_mended};
+ghost use Rattle.edit_journal.specs.Recovery.{BeginsSo, ClosesGate, Heads, IsSame, MendsFile, RecoversAsBefore, RecoversInPlace, RecoversSame, Restores, is_mended};
 ghost use Rattle.edit_journal.specs.Settled.{IsRecovered, KeepsOtherThree};
 ghost use Rattle.edit_journal.specs.Spans.{laid, with_laid};
-ghost use Rattle.edit_journal.specs.Undo.{bytes_at, recovered, saved_span, saved_spans, span_fits, spans_fit, undone};
+ghost use Rattle.edit_journal.specs.Undo.{HoldsItsRanges, bytes_at, recovered, saved_span, saved_spans, span_fits, spans_fit, undone};
 ghost use Rattle.outside.specs.Count.{Rose};
 ghost use Rattle.quota_types.specs.Bytes.{byte_at, number_at};
 ghost use Rattle.outside.specs.World.{KeepsOtherTwo, KeepsOthers};
 
 use crate::make_undo;
-use crate::undo_file::{OPEN, write_some};
-use crate::undo_reads::{SpanHead, UndoHead, all_fit, read_head, read_padded, read_span};
+use crate::undo_file::{CLOSED, OPEN, set_gate, write_some};
+use crate::undo_reads::{
+    SpanHead, UndoHead, all_fit, holds_ranges, read_head, read_padded, read_span,
+};
 use crash_disk::{Disk, DiskFault};
 
 /// Writes bytes of an undo file into its file, as many as a buffer has room for.
@@ -208,8 +210,43 @@ fn restore<D: Disk>(disk: &mut D, name: &str, undo: &str, head: UndoHead) -> Res
     Ok(())
 }
 
-/// Recovers a file that is kept, as its undo file is, whose gate is open: mends it, and puts a new undo file in the
-/// place of that one.
+/// Closes the gate of an undo file that names this many ranges: in place where it holds them, so that this needs no room
+/// and no new file, and else by a new undo file. A write may leave any bytes past the old end of a file, which must not be
+/// taken for a saved range.
+///
+/// # Errors
+///
+/// The disk failed. A stop may leave any byte as the gate where the undo file holds its ranges, and else the undo file as
+/// it was, or the new one.
+fn close_gate<D: Disk>(disk: &mut D, undo: &str, und: &str, count: u32) -> Result<(), DiskFault>
+    requires apart { und.now ≢ undo.now }
+    ensures closed { OnOk result (IsTrue D.tells → byte_at (unwrap_or ((D.seen disk.new).files undo.now) []) 0 ≢ 1) }
+    ensures kept { OnOk result (IsTrue D.tells → IsKept undo.now (D.seen disk.new)) }
+    ensures passes { IsTrue D.tells → count ≡ number_at 4 (unwrap_or ((D.seen disk.old).files undo.now) []) 16
+        → IsKept undo.now (D.seen disk.old) → Passes (ClosesGate und.now undo.now) (D.seen disk.old) (D.seen disk.new) }
+    ensures in_place { IsTrue D.tells → count ≡ number_at 4 (unwrap_or ((D.seen disk.old).files undo.now) []) 16
+        → HoldsItsRanges (unwrap_or ((D.seen disk.old).files undo.now) [])
+        → Passes (TearsRange undo.now 0 1) (D.seen disk.old) (D.seen disk.new) }
+    ensures in_place_names { IsTrue D.tells → count ≡ number_at 4 (unwrap_or ((D.seen disk.old).files undo.now) []) 16
+        → HoldsItsRanges (unwrap_or ((D.seen disk.old).files undo.now) [])
+        → KeepsOthers undo.now (D.seen disk.old).unsynced (D.seen disk.new).unsynced }
+    ensures in_place_rest { OnOk result (IsTrue D.tells
+        → count ≡ number_at 4 (unwrap_or ((D.seen disk.old).files undo.now) []) 16
+        → HoldsItsRanges (unwrap_or ((D.seen disk.old).files undo.now) [])
+        → drop 1 (unwrap_or ((D.seen disk.new).files undo.now) []) ≡ drop 1 (unwrap_or ((D.seen disk.old).files undo.now) [])) }
+    ensures names { KeepsOtherTwo und.now undo.now (D.seen disk.old).unsynced (D.seen disk.new).unsynced }
+    ensures cause { OnErr result (Rose (D.seen disk.old).faults (D.seen disk.new).faults) }
+    ensures counted { (D.seen disk.old).faults ≤ (D.seen disk.new).faults }
+{
+    if holds_ranges(disk, undo, count)? {
+        set_gate(disk, undo, CLOSED)?;
+        return Ok(());
+    }
+    make_undo(disk, undo, und)?;
+    Ok(())
+}
+
+/// Recovers a file that is kept, as its undo file is, whose gate is open: mends it, and closes the gate.
 ///
 /// # Errors
 ///
@@ -224,6 +261,7 @@ fn recover_kept<D: Disk>(
     requires apart { name.now ≢ undo.now }
     requires unmade { name.now ≢ und.now }
     requires first { und.now ≢ undo.now }
+    requires open { head.gate ≡ 1 }
     ensures done { OnOk result (IsTrue D.tells
         → BeginsSo head.gate head.old_length head.count (unwrap_or ((D.seen disk.old).files undo.now) [])
         → IsKept name.now (D.seen disk.old) → IsKept undo.now (D.seen disk.old)
@@ -232,19 +270,37 @@ fn recover_kept<D: Disk>(
         → BeginsSo head.gate head.old_length head.count (unwrap_or ((D.seen disk.old).files undo.now) [])
         → IsKept name.now (D.seen disk.old) → IsKept undo.now (D.seen disk.old)
         → Passes (RecoversSame name.now undo.now und.now) (D.seen disk.old) (D.seen disk.new) }
+    ensures in_place { IsTrue D.tells
+        → BeginsSo head.gate head.old_length head.count (unwrap_or ((D.seen disk.old).files undo.now) [])
+        → IsKept name.now (D.seen disk.old) → IsKept undo.now (D.seen disk.old)
+        → HoldsItsRanges (unwrap_or ((D.seen disk.old).files undo.now) [])
+        → Passes (RecoversInPlace name.now undo.now) (D.seen disk.old) (D.seen disk.new) }
+    ensures in_place_names { IsTrue D.tells
+        → BeginsSo head.gate head.old_length head.count (unwrap_or ((D.seen disk.old).files undo.now) [])
+        → IsKept name.now (D.seen disk.old) → IsKept undo.now (D.seen disk.old)
+        → HoldsItsRanges (unwrap_or ((D.seen disk.old).files undo.now) [])
+        → KeepsOtherTwo name.now undo.now (D.seen disk.old).unsynced (D.seen disk.new).unsynced }
+    ensures in_place_rest { OnOk result (IsTrue D.tells
+        → BeginsSo head.gate head.old_length head.count (unwrap_or ((D.seen disk.old).files undo.now) [])
+        → IsKept name.now (D.seen disk.old) → IsKept undo.now (D.seen disk.old)
+        → HoldsItsRanges (unwrap_or ((D.seen disk.old).files undo.now) [])
+        → drop 1 (unwrap_or ((D.seen disk.new).files undo.now) []) ≡ drop 1 (unwrap_or ((D.seen disk.old).files undo.now) [])) }
     ensures names { KeepsOtherThree name.now undo.now und.now (D.seen disk.old).unsynced (D.seen disk.new).unsynced }
     ensures synced { OnOk result (IsTrue D.tells → (D.seen disk.old).unsynced name.now ≡ false → (D.seen disk.new).unsynced name.now ≡ false) }
     ensures cause { OnErr result (Rose (D.seen disk.old).faults (D.seen disk.new).faults) }
     ensures counted { (D.seen disk.old).faults ≤ (D.seen disk.new).faults }
 {
     restore(disk, name, undo, head)?;
-    make_undo(disk, undo, und)?;
+    close_gate(disk, undo, und, head.count)?;
     Ok(())
 }
 
 /// Recovers a file: it is, in whatever a stop may leave then, what its undo file says that it was, or as it was where
 /// the undo file says nothing, and the gate of its undo file is closed. A stop at any moment leaves files of which a
 /// recovery makes the same. All other files but the undo file, under both its names, stay.
+///
+/// Where the undo file holds its ranges its first byte alone changes, so that this needs no room and makes no file. Else
+/// an open gate is closed by a new undo file.
 ///
 /// # Errors
 ///
@@ -263,6 +319,12 @@ pub fn recover_file<D: Disk>(
     ensures leaves { IsTrue D.tells
         → OnlyLeaves (RecoversAsBefore name.now undo.now (D.seen disk.old)) (D.seen disk.old) (D.seen disk.new) }
     ensures passes { IsTrue D.tells → Passes (RecoversSame name.now undo.now und.now) (D.seen disk.old) (D.seen disk.new) }
+    ensures in_place { IsTrue D.tells → HoldsItsRanges (unwrap_or ((D.seen disk.old).files undo.now) [])
+        → Passes (RecoversInPlace name.now undo.now) (D.seen disk.old) (D.seen disk.new) }
+    ensures in_place_names { IsTrue D.tells → HoldsItsRanges (unwrap_or ((D.seen disk.old).files undo.now) [])
+        → KeepsOtherTwo name.now undo.now (D.seen disk.old).unsynced (D.seen disk.new).unsynced }
+    ensures in_place_rest { OnOk result (IsTrue D.tells → HoldsItsRanges (unwrap_or ((D.seen disk.old).files undo.now) [])
+        → drop 1 (unwrap_or ((D.seen disk.new).files undo.now) []) ≡ drop 1 (unwrap_or ((D.seen disk.old).files undo.now) [])) }
     ensures names { KeepsOtherThree name.now undo.now und.now (D.seen disk.old).unsynced (D.seen disk.new).unsynced }
     ensures synced { OnOk result (IsTrue D.tells → (D.seen disk.new).unsynced name.now ≡ false) }
     ensures cause { OnErr result (Rose (D.seen disk.old).faults (D.seen disk.new).faults) }

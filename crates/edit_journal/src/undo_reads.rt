@@ -1,9 +1,9 @@
 //! What is read of an undo file.
 
-ghost use Rattle.std.specs.Prelude.{◌≡◌, ◌<◌, ◌≤◌, ◌+◌, ◌^◌, ◌&&◌, ◌||◌, [], ℕ, length, nat_eq, nat_le, slice_index, unwrap_or, IfOk, IsTrue, OnOk, OnErr};
+ghost use Rattle.std.specs.Prelude.{◌≡◌, ◌↔◌, ◌<◌, ◌≤◌, ◌+◌, ◌^◌, ◌&&◌, ◌||◌, [], ℕ, length, nat_eq, nat_le, slice_index, unwrap_or, IfOk, IsTrue, OnOk, OnErr};
 ghost use Rattle.crash_disk.specs.DiskSeen.{Passes};
 ghost use Rattle.edit_journal.specs.Recovery.{IsSame};
-ghost use Rattle.edit_journal.specs.Undo.{range_at, saved_spans, spans_fit};
+ghost use Rattle.edit_journal.specs.Undo.{HoldsItsRanges, range_at, saved_spans, spans_fit};
 ghost use Rattle.outside.specs.Count.{Rose};
 ghost use Rattle.quota_types.specs.Bytes.{byte_at, number_at};
 
@@ -125,4 +125,46 @@ pub(crate) fn all_fit<D: Disk>(
         }
     }
     Ok(true)
+}
+
+/// Whether the first saved ranges of an undo file end within a length.
+fn end_within<D: Disk>(disk: &mut D, undo: &str, length: u64, count: u32) -> Result<bool, DiskFault>
+    requires { count ≤ 12 }
+    ensures within { IfOk result (λ within. IsTrue D.tells → (IsTrue within ↔ ((k : ℕ) → k < count
+        → range_at k + 16 + number_at 2 (unwrap_or ((D.seen disk.old).files undo.now) []) (range_at k + 8) ≤ length))) }
+    ensures names { (D.seen disk.new).unsynced ≡ (D.seen disk.old).unsynced }
+    ensures cause { OnErr result (Rose (D.seen disk.old).faults (D.seen disk.new).faults) }
+    ensures counted { (D.seen disk.old).faults ≤ (D.seen disk.new).faults }
+    ensures looks { Passes IsSame (D.seen disk.old) (D.seen disk.new) }
+{
+    for k in 0..count {
+        let span = read_span(disk, undo, k)?;
+        let end = 1040 + 1040 * u64::from(k) + u64::from(span.saved);
+        if end > length {
+            return Ok(false);
+        }
+    }
+    Ok(true)
+}
+
+/// Whether an undo file that names this many ranges holds them: it has room for its head, and each of them ends within it.
+/// Of more than 12 a recovery reads none.
+pub(crate) fn holds_ranges<D: Disk>(disk: &mut D, undo: &str, count: u32) -> Result<bool, DiskFault>
+    ensures holds { IfOk result (λ holds. IsTrue D.tells
+        → count ≡ number_at 4 (unwrap_or ((D.seen disk.old).files undo.now) []) 16
+        → (IsTrue holds ↔ HoldsItsRanges (unwrap_or ((D.seen disk.old).files undo.now) []))) }
+    ensures names { (D.seen disk.new).unsynced ≡ (D.seen disk.old).unsynced }
+    ensures cause { OnErr result (Rose (D.seen disk.old).faults (D.seen disk.new).faults) }
+    ensures counted { (D.seen disk.old).faults ≤ (D.seen disk.new).faults }
+    ensures looks { Passes IsSame (D.seen disk.old) (D.seen disk.new) }
+{
+    let length = disk.size(undo)?.unwrap_or(0);
+    if length < 1024 {
+        return Ok(false);
+    }
+    if count > 12 {
+        return Ok(true);
+    }
+    let within = end_within(disk, undo, length, count)?;
+    Ok(within)
 }

@@ -1,5 +1,5 @@
-//! Files of the system by their names: which file a name stands for, where undo files stand, and what is remembered of names
-//! and of files.
+//! Files of the system by their names: which file a name stands for, the two that were used last, and what is remembered of
+//! names and of files.
 //!
 //! No clause says anything of them.
 #![tactic(auto)]
@@ -7,6 +7,6 @@
 pub mod looks;
 pub mod names;
 pub mod new_names;
+pub mod slots;
 pub mod stamp;
 pub mod synced;
-pub mod undo;

@@ -4,18 +4,15 @@ use file_windows::{Access, no_regular_file};
 use std::alloc::Global;
 use std::fs::{File, Files, Metadata, OpenOptions, TryLockError};
 use std::io::ErrorKind;
-use std::os::unix::fs::{MetadataExt, OpenOptionsExt, PermissionsExt, chown};
+use std::os::unix::fs::OpenOptionsExt;
 use std::{fs, io};
-
-/// What a file's group may do, in its mode.
-const GROUP: u32 = 0o070;
 
 /// What is put behind the name of a file that is written anew, until it takes that name.
 pub const NEW: &str = ".new";
 
-/// What the system says of what a name stands for; none where that is nothing.
-fn metadata_at<R: Files>(files: &R, path: &str) -> io::Result<Option<Metadata>> {
-    match fs::metadata(files, path) {
+/// What the system says of a name; none where nothing stands there.
+fn present(said: io::Result<Metadata>) -> io::Result<Option<Metadata>> {
+    match said {
         Ok(metadata) => Ok(Some(metadata)),
         Err(error) => match error.kind() {
             ErrorKind::NotFound | ErrorKind::NotADirectory => Ok(None),
@@ -24,7 +21,17 @@ fn metadata_at<R: Files>(files: &R, path: &str) -> io::Result<Option<Metadata>> 
     }
 }
 
-/// What a name stands for; none where there is no file. What is no regular file, such as a folder or a pipe, is an error:
+/// What the system says of what a name stands for, behind a link, too; none where that is nothing. Source: stat(2).
+pub fn metadata_at<R: Files>(files: &R, path: &str) -> io::Result<Option<Metadata>> {
+    present(fs::metadata(files, path))
+}
+
+/// What stands under a name itself, where a link is not followed; none where nothing does. Source: lstat(2).
+pub fn itself_at<R: Files>(files: &R, path: &str) -> io::Result<Option<Metadata>> {
+    present(fs::symlink_metadata(files, path))
+}
+
+/// What a name stands for, behind a link, too; none where there is no file. What is no regular file, such as a folder or a pipe, is an error:
 /// opening a pipe would wait for whoever writes to it.
 pub fn stamp_at<R: Files>(files: &R, path: &str) -> io::Result<Option<Stamp>> {
     match metadata_at(files, path)? {
@@ -42,10 +49,16 @@ pub fn replaced_at<R: Files>(files: &R, path: &str) -> io::Result<Option<Stamp>>
     }
 }
 
-/// Whether a name stands for this file.
+/// Whether a name stands for this file, behind a link, too.
 pub fn stands_for<R: Files>(files: &R, path: &str, node: Node) -> io::Result<bool> {
     let found = stamp_at(files, path)?;
     Ok(found.is_some_and(|stamp| stamp.node() == node))
+}
+
+/// Whether a name is that of this file itself.
+pub fn is_itself<R: Files>(files: &R, path: &str, node: Node) -> io::Result<bool> {
+    let found = itself_at(files, path)?;
+    Ok(found.is_some_and(|metadata| Node::of(&metadata) == node))
 }
 
 /// Where a name leads: to the file behind it where it is a link, else nowhere but to itself. A link that leads to no file is
@@ -67,21 +80,12 @@ pub fn open_file<R: Files<File = File>>(files: &R, path: &str, access: Access) -
         .open(files, path)
 }
 
-/// Makes a file where there is none, or opens the one that somebody else made meanwhile. Only its owner may read and write
-/// one that is made. Where a link leads to it, its name is on the disk then.
-pub fn make_absent<R: Files<File = File>>(
-    alloc: Global,
-    files: &R,
-    path: &str,
-) -> io::Result<File> {
+/// Makes a file where there is none. Only its owner may read and write it. What somebody else made meanwhile, a link to no
+/// file too, is an error.
+pub fn make_absent<R: Files<File = File>>(files: &R, path: &str) -> io::Result<File> {
     let mut options = OpenOptions::new();
-    options.read(true).write(true).create(true).mode(0o600);
-    let file = options.open(files, path)?;
-    let place = behind_link(alloc, files, path)?;
-    if place.as_str() != path {
-        sync_folder(files, place.as_str())?;
-    }
-    Ok(file)
+    options.read(true).write(true).create_new(true).mode(0o600);
+    options.open(files, path)
 }
 
 /// Makes an empty file in place of one that was left behind under its name, which is taken away: what it stood for stays
@@ -91,9 +95,15 @@ pub fn make_anew<R: Files<File = File>>(files: &R, path: &str) -> io::Result<Fil
         Err(error) if error.kind() != ErrorKind::NotFound => return Err(error),
         _ => {}
     }
-    let mut options = OpenOptions::new();
-    options.read(true).write(true).create_new(true).mode(0o600);
-    options.open(files, path)
+    make_absent(files, path)
+}
+
+/// That another program made something else of a file meanwhile.
+pub fn changed_meanwhile() -> io::Error {
+    io::Error::new(
+        ErrorKind::ResourceBusy,
+        "Changed by another program meanwhile",
+    )
 }
 
 /// Locks a file alone, unless another program has locked it.
@@ -106,26 +116,6 @@ pub fn lock_at_once(file: &File) -> io::Result<()> {
             "Locked by another program",
         )),
     }
-}
-
-/// Refuses a name that stands for a file which another program has locked. What may not be read is passed over.
-pub fn refuse_locked<R: Files<File = File>>(files: &R, path: &str) -> io::Result<()> {
-    if let Ok(file) = open_file(files, path, Access::Reading) {
-        lock_at_once(&file)?;
-    }
-    Ok(())
-}
-
-/// Gives a file the owner, the group and the permissions that another one has, as far as the system lets us. Where it does
-/// not get the group, its own one may do nothing.
-pub fn take_owner<R: Files>(files: &R, path: &str, of: &Metadata) {
-    let has_group = chown(files, path, None, Some(of.gid())).is_ok();
-    let _ = chown(files, path, Some(of.uid()), None);
-    let mut permissions = of.permissions();
-    if !has_group {
-        permissions.set_mode(permissions.mode() & !GROUP);
-    }
-    let _ = fs::set_permissions(files, path, permissions);
 }
 
 /// Gives a file another name, and answers whether it was there.

@@ -12,5 +12,5 @@ mod span;
 mod whole;
 mod window;
 
-pub use opened::{Access, Opened, no_regular_file};
+pub use opened::{Access, Opened, Waiting, no_regular_file};
 pub use whole::WholeFiles;

@@ -30,6 +30,32 @@ impl Access {
     }
 }
 
+/// What a sync waits for.
+#[derive(Clone, Copy, Debug, PartialEq, Eq)]
+pub enum Waiting {
+    /// The bytes of a file, and its length. Source: fdatasync(2).
+    Bytes,
+    /// The times of a file, too. Source: fsync(2).
+    Times,
+}
+
+/// Waits until a file is on the disk.
+fn wait(file: &File, waiting: Waiting) -> io::Result<()> {
+    match waiting {
+        Waiting::Bytes => file.sync_data(),
+        Waiting::Times => file.sync_all(),
+    }
+}
+
+/// Whether the system refuses a sync since there is nothing that it could wait for: the file is on a file system that is
+/// never written, or one without a disk. Source: fsync(2), on EINVAL and EROFS.
+fn has_no_disk(error: io::Error) -> bool {
+    matches!(
+        error.kind(),
+        ErrorKind::InvalidInput | ErrorKind::ReadOnlyFilesystem
+    )
+}
+
 /// An open file, with the name that it was opened by, what was read ahead of it, and what is to be written to it.
 ///
 /// Where a call fails, what was gathered before may be lost, and the file may have any part of it.
@@ -42,10 +68,12 @@ pub struct Opened {
     gathered: Gathered,
 }
 
-/// Why what is no regular file, such as a folder or a pipe, is refused.
+/// Why what is no regular file, such as a folder or a pipe, is refused. A link is, where it is not followed.
 pub fn no_regular_file(metadata: &Metadata) -> io::Error {
     if metadata.is_dir() {
         io::Error::new(ErrorKind::IsADirectory, "Is a directory")
+    } else if metadata.is_symlink() {
+        io::Error::new(ErrorKind::InvalidInput, "Is a symbolic link")
     } else {
         io::Error::new(ErrorKind::InvalidInput, "Not a regular file")
     }
@@ -132,15 +160,27 @@ impl Opened {
         self.gathered.flush(&self.file)
     }
 
-    /// Writes what is to be written, waits until the file's bytes are on the disk, and answers what the system says of it then.
-    /// Source: fdatasync(2).
+    /// What the system says of it.
+    ///
+    /// # Errors
+    ///
+    /// The system failed.
+    pub fn metadata(&self) -> io::Result<Metadata> {
+        self.file.metadata()
+    }
+
+    /// Writes what is to be written, waits until the file is on the disk, and answers what the system says of it then. A file
+    /// that was opened to be read, and that the system can't wait for, is there already.
     ///
     /// # Errors
     ///
     /// The system failed. It is not known which bytes are on the disk.
-    pub fn sync(&mut self) -> io::Result<Metadata> {
+    pub fn sync(&mut self, waiting: Waiting) -> io::Result<Metadata> {
         self.flush()?;
-        self.file.sync_data()?;
+        match wait(&self.file, waiting) {
+            Err(error) if self.access == Access::Reading && has_no_disk(error) => {}
+            done => done?,
+        }
         self.file.metadata()
     }
 }

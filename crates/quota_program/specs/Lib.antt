@@ -1,3 +1,4 @@
 pub mod About
+pub mod QuotaFiles
 pub mod Sharing
 pub mod Starting

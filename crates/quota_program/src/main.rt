@@ -14,10 +14,12 @@ use help::{About, tell};
 use journal_store::JournalStore;
 use quota_blocks::Sink;
 use quota_cli::run::{UsageFault, read_words, refuse, run};
-use reasons::{Reasons, add_reason};
+use quota_files::{QuotaFiles, quota_files_of};
+use reasons::{Reasons, add_reason, name_in};
+use recoveries::tell_undo_files;
 use refusals::{Cause, Refusal, UsageKind, Word};
 use sharing::sharing_of;
-use std::alloc::Global;
+use std::alloc::{AllocError, Global};
 use std::fs::{File, Files};
 use std::io::{BufReader, ErrorKind, IsTerminal};
 use std::process::ExitCode;
@@ -27,7 +29,9 @@ use system_streams::{StreamSink, StreamSource, UdpLink, moment};
 
 mod closed;
 mod help;
+mod quota_files;
 mod reasons;
+mod recoveries;
 mod sharing;
 
 /// The most bytes that are taken from the standard input with one call of the system.
@@ -76,18 +80,42 @@ fn stop<E: Sink>(err: &mut E, cause: Cause, alloc: Global) -> u8
     refuse(err, &Refusal::of(cause, Word::empty(alloc)))
 }
 
-/// Tells a disk how the files of the command are shared with other programs. Words that ask for no command use none, and
-/// are refused when they are carried out.
+/// Tells a disk beside which files undo files stand.
+fn name_files<R: Files<File = File>>(
+    disk: &mut FileDisk<'_, R>,
+    files: QuotaFiles<'_>,
+) -> Result<(), AllocError> {
+    match files {
+        QuotaFiles::One(file) => disk.undo_beside(file),
+        QuotaFiles::Two(one, other) => {
+            disk.undo_beside(one)?;
+            disk.undo_beside(other)
+        }
+        QuotaFiles::Exported(exports) => {
+            for export in exports.as_slice() {
+                disk.undo_beside(export.file.as_str())?;
+            }
+            Ok(())
+        }
+        QuotaFiles::Any => Ok(()),
+    }
+}
+
+/// Tells a disk which files of the command are quota files, and how they are shared with other programs. Words that ask for
+/// no command use none, and are refused when they are carried out.
 fn share_files<R: Files<File = File>>(
     disk: &mut FileDisk<'_, R>,
     words: &[String],
     alloc: Global,
 ) -> Result<(), Cause> {
     match read_words(alloc, words, false) {
-        Ok(command) => match disk.share(sharing_of(&command)) {
-            Ok(()) => Ok(()),
-            Err(_) => Err(Cause::Memory),
-        },
+        Ok(command) => {
+            let named = name_files(disk, quota_files_of(&command));
+            match named.and_then(|()| disk.share(sharing_of(&command))) {
+                Ok(()) => Ok(()),
+                Err(_) => Err(Cause::Memory),
+            }
+        }
         Err(UsageFault::Memory) => Err(Cause::Memory),
         Err(UsageFault::Usage { .. }) => Ok(()),
     }
@@ -149,6 +177,14 @@ fn main(rt: HostRuntime) -> ExitCode {
                 status,
                 called.as_str(),
                 &reasons,
+                rt.alloc(),
+            );
+            tell_undo_files(
+                &mut err,
+                is_terminal,
+                name_in(called.as_str()),
+                disk.failure(),
+                disk.gates(),
                 rt.alloc(),
             );
             status

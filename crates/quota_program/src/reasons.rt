@@ -30,7 +30,8 @@ impl Reasons<'_> {
         }
     }
 
-    /// What the system refused, and why; none where that is not known.
+    /// What the system refused, and why; none where that is not known, or where it refused nothing, but an undo file is not
+    /// believed.
     fn text(&self, alloc: Global) -> Result<Option<String>, AllocError> {
         if let Some(error) = self.input {
             return told(alloc, "standard input", error);
@@ -43,8 +44,10 @@ impl Reasons<'_> {
             return told(alloc, port.as_str(), failure.error);
         }
         match self.disk {
-            Some(failure) => told(alloc, failure.name.as_str(), failure.error),
-            None => Ok(None),
+            Some(failure) if failure.distrust.is_none() => {
+                told(alloc, failure.name.as_str(), failure.error)
+            }
+            _ => Ok(None),
         }
     }
 }
@@ -65,7 +68,7 @@ fn without_number(words: &str) -> &str {
 }
 
 /// The last part of the path that a program was called by.
-fn name_in(path: &str) -> &str {
+pub fn name_in(path: &str) -> &str {
     match path.rsplit_once('/') {
         Some((_, name)) => name,
         None => path,

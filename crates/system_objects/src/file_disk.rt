@@ -4,10 +4,12 @@ ghost use Rattle.outside.specs.Count.{Rose};
 use crate::open_files::{FailedAt, OpenFiles};
 use crate::sharing::Sharing;
 use crash_disk::{Disk, DiskFault};
-use file_names::undo::{UNDO, plain_name};
 use std::alloc::{AllocError, Global};
 use std::fs::{File, Files};
 use std::io;
+use undo_trust::gates::Gate;
+use undo_trust::trust::Distrust;
+use undo_trust::undo::{UNDO, plain_name, undo_path, undone_file};
 
 /// A call on a disk that the system refused.
 #[derive(Drop)]
@@ -16,25 +18,24 @@ pub struct Failure {
     pub name: String,
     /// Why it was refused.
     pub error: io::Error,
+    /// Why an undo file was not believed, where that is what it was refused for.
+    pub distrust: Option<Distrust>,
 }
 
-/// The name of the file at which a call by a name failed.
-fn failed_name(alloc: Global, name: &str, at: FailedAt) -> Result<String, AllocError> {
-    match at {
-        FailedAt::Name => String::from_str(alloc, name),
-        FailedAt::Plain => String::from_str(alloc, plain_name(name)),
-        FailedAt::Undo => {
-            let mut undo = String::from_str(alloc, plain_name(name))?;
-            undo.push_str(UNDO)?;
-            Ok(undo)
-        }
+/// The name of the file at which a call by a name failed: of an undo file, which may stand beside the file behind a link, the
+/// place.
+fn failed_name<R: Files<File = File>>(
+    alloc: Global,
+    files: &R,
+    name: &str,
+    at: FailedAt,
+) -> io::Result<String> {
+    match (at, undone_file(name)) {
+        (FailedAt::Name, Some((file, ending))) => undo_path(alloc, files, file, ending),
+        (FailedAt::Name, None) => Ok(String::from_str(alloc, name)?),
+        (FailedAt::Plain, _) => Ok(String::from_str(alloc, plain_name(name))?),
+        (FailedAt::Undo, _) => undo_path(alloc, files, plain_name(name), UNDO),
     }
-}
-
-/// What is noted of a call that failed, where there is memory for the name.
-fn failure_of(alloc: Global, name: &str, at: FailedAt, error: io::Error) -> Option<Failure> {
-    let name = failed_name(alloc, name, at).ok()?;
-    Some(Failure { name, error })
 }
 
 /// The files of the system as a disk, by paths that count from the current folder. It tells nothing of them.
@@ -50,13 +51,21 @@ fn failure_of(alloc: Global, name: &str, at: FailedAt, error: io::Error) -> Opti
 /// file that is made under a name with `.new` behind that of a link stands beside the file behind the link, and takes its
 /// place there.
 ///
-/// A name that ends in `.undo` or `.und` is that of an undo file of the file whose name stands before. It stands beside the
-/// file behind a link, too, is never locked itself, and is changed only where the lock that its file is due is held, and the
-/// file may be written to. It gets the owner and the permissions of its file with a rename.
+/// A name that ends in `.undo` or `.und` is that of an undo file of the file whose name stands before, where that has one
+/// (`undo_beside`); else nothing stands there. It stands beside the file behind a link, too, is never locked itself, and is
+/// changed only where the lock that its file is due is held, and the file may be written to. It is made with the owner, the
+/// group and the permissions of its file, and follows them when it is changed, as a file in `.new` has those of the one that
+/// it is to replace.
 ///
-/// To sync a file is fdatasync(2) of it, unless this object did that and did not change the file since, and where its name
-/// was made by this object since then fsync(2) of its folder, too; a rename ends with fsync(2) of the folder. A name that was
-/// there before is taken for one that a stop leaves.
+/// Another account may have made what stands under such a name. So it is looked at before it is opened and behind that, no
+/// link is followed, and what is made is made where nothing stands. An undo file counts where it is a regular file of one
+/// name, belongs to the owner of its file, to root or to the caller, and is writable for nobody who may not write its file.
+/// Another one with a closed gate counts for nothing, and one with an open gate is a fault. So is an open gate where the file
+/// was changed by something else since it was opened, as far as the times of both files tell.
+///
+/// To sync a file is fdatasync(2) of it, of an undo file fsync(2), unless this object did that and did not change the file
+/// since, and where its name was made by this object since then fsync(2) of its folder, too; a rename ends with fsync(2) of the
+/// folder. A name that was there before is taken for one that a stop leaves.
 #[derive(Drop)]
 pub struct FileDisk<'a, R> {
     open: OpenFiles<'a, R>,
@@ -81,6 +90,23 @@ impl<'a, R: Files<File = File>> FileDisk<'a, R> {
         self.failure.as_ref()
     }
 
+    /// The gates of undo files that were open, with what came of them.
+    pub fn gates(&self) -> &[Gate] {
+        self.open.gates.as_slice()
+    }
+
+    /// Says that a file has an undo file. From the first one on only those have one of which it was said, and what stands
+    /// beside any other file is not looked at.
+    ///
+    /// # Errors
+    ///
+    /// There is not enough memory for the name.
+    pub fn undo_beside(&mut self, name: &str) -> Result<(), AllocError>
+        ensures faults { self.new.faults ≡ self.old.faults }
+    {
+        self.open.undone.add(name)
+    }
+
     /// Says what is done from now on so that no other program comes between.
     ///
     /// # Errors
@@ -92,6 +118,21 @@ impl<'a, R: Files<File = File>> FileDisk<'a, R> {
         self.open.share(sharing)
     }
 
+    /// Notes a call that failed, where there is memory for the name.
+    fn note_failure(&mut self, name: &str, error: io::Error)
+        ensures faults { self.new.faults ≡ self.old.faults }
+    {
+        let distrust = self.open.distrust.take();
+        let at = self.open.failed_at;
+        self.open.failed_at = FailedAt::Name;
+        let found = failed_name(self.open.alloc, self.open.files, name, at);
+        self.failure = found.ok().map(|name| Failure {
+            name,
+            error,
+            distrust,
+        });
+    }
+
     /// Turns an error of the system, at a call on the file of a name, into a fault, which is counted and noted.
     fn counting<T>(&mut self, name: &str, answer: io::Result<T>) -> Result<T, DiskFault>
         ensures ok { IfOk result (λ value. answer ≡ Ok value) }
@@ -101,8 +142,7 @@ impl<'a, R: Files<File = File>> FileDisk<'a, R> {
         match answer {
             Ok(value) => Ok(value),
             Err(error) => {
-                self.failure = failure_of(self.open.alloc, name, self.open.failed_at, error);
-                self.open.failed_at = FailedAt::Name;
+                self.note_failure(name, error);
                 self.faults = self.faults.saturating_add(1);
                 Err(DiskFault)
             }

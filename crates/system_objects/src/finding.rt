@@ -1,19 +1,19 @@
 //! How a file is found, locked and opened.
 
-use crate::locks::{
-    LockedFile, changed_meanwhile, lock_made, lock_to_read, lock_unchanged, lock_waiting,
-};
+use crate::locks::{LockedFile, lock_made, lock_to_read, lock_unchanged, lock_waiting};
 use crate::open_files::{FailedAt, OpenFiles, Shared};
 use crate::sharing::Lock;
 use file_names::names::{
-    NEW, behind_link, make_absent, open_file, replaced_at, stamp_at, stands_for,
+    NEW, behind_link, changed_meanwhile, is_itself, itself_at, make_absent, open_file, replaced_at,
+    stamp_at,
 };
 use file_names::stamp::{Node, Stamp};
-use file_names::undo::{is_to_recover, undo_path, undone_file};
-use file_windows::Access;
+use file_windows::{Access, no_regular_file};
 use std::fs::{File, Files};
 use std::io;
 use std::io::ErrorKind;
+use undo_trust::beside::{Beside, open_beside};
+use undo_trust::undo::{is_to_recover, undo_path, undone_file};
 
 impl<'a, R: Files<File = File>> OpenFiles<'a, R> {
     /// Opens a file where none that is open serves, and answers whether one is open then. It stands apart, so that a use of
@@ -23,6 +23,7 @@ impl<'a, R: Files<File = File>> OpenFiles<'a, R> {
         let path = self.path_of(name)?;
         let opened = match undone_file(name) {
             Some((file, _)) => self.find_undo(file, path.as_str(), access)?,
+            None if self.is_replacement(name) => self.find_new(path.as_str(), access)?,
             None => self.find_plain(path.as_str(), access)?,
         };
         let Some((file, access)) = opened else {
@@ -34,42 +35,6 @@ impl<'a, R: Files<File = File>> OpenFiles<'a, R> {
         Ok(true)
     }
 
-    /// An undo file, which is opened; none where it is not there. It is never locked: whoever may change it holds its file.
-    fn find_undo(
-        &mut self,
-        file: &str,
-        path: &str,
-        access: Access,
-    ) -> io::Result<Option<(File, Access)>> {
-        if access != Access::Reading {
-            self.before_undo(file)?;
-        }
-        if stamp_at(self.files, path)?.is_none() {
-            return Ok(None);
-        }
-        Ok(Some((open_file(self.files, path, access)?, access)))
-    }
-
-    /// Sees to it that an undo file may be changed: its file, where it is there, is locked before that where that is due, and
-    /// may be written to where it is locked. One that is not there is to have been absent at the first look, too.
-    pub fn before_undo(&mut self, file: &str) -> io::Result<()> {
-        let done = self.hold_for_undo(file);
-        self.at(FailedAt::Plain, done)
-    }
-
-    /// Sees to the same, but does not note where it failed.
-    fn hold_for_undo(&mut self, file: &str) -> io::Result<()> {
-        let Some(stamp) = stamp_at(self.files, file)? else {
-            return self.stay_absent(file);
-        };
-        let mut node = stamp.node();
-        if self.is_guarded() && !self.held.has(node) {
-            node = self.guard(file)?;
-        }
-        self.held.may_use(node, Access::Writing)?;
-        Ok(())
-    }
-
     /// A file that is no undo file, which is opened or held, and is locked before where that is due; none where it is not
     /// there and is to be read.
     fn find_plain(&mut self, path: &str, access: Access) -> io::Result<Option<(File, Access)>> {
@@ -79,13 +44,39 @@ impl<'a, R: Files<File = File>> OpenFiles<'a, R> {
         self.find(path, found, access)
     }
 
+    /// Whether a name is that of a file which is to replace another one, and so may be taken by another account.
+    fn is_replacement(&self, name: &str) -> bool {
+        match name.strip_suffix(NEW) {
+            Some(replaced) if !self.undone.names(name) => {
+                self.undone.names(replaced) || self.looks.first(replaced).is_some()
+            }
+            _ => false,
+        }
+    }
+
+    /// A file that is to replace another one, which is opened or held; none where it is not there and is to be read. No link is
+    /// followed.
+    fn find_new(&mut self, path: &str, access: Access) -> io::Result<Option<(File, Access)>> {
+        let Some(seen) = itself_at(self.files, path)? else {
+            return self.find_absent(path, access);
+        };
+        if let Some(held) = self.held.again(Node::of(&seen), access)? {
+            return Ok(Some(held));
+        }
+        match open_beside(self.files, path, access)? {
+            Beside::Opened(found) => Ok(Some((found.file, access))),
+            Beside::NoFile(metadata) => Err(no_regular_file(&metadata)),
+            Beside::Nothing => Ok(None),
+        }
+    }
+
     /// Locks a file alone at the first look at it, where it has to be recovered and files are shared. That waits for those who
     /// have it, unless a file is locked already.
     fn lock_to_recover(&mut self, path: &str, found: Option<Stamp>) -> io::Result<Option<Stamp>> {
         let Some(stamp) = found else {
             return Ok(None);
         };
-        if !self.is_first_look(path, stamp.node()) {
+        if !self.undone.has(path) || !self.is_first_look(path, stamp.node()) {
             return Ok(found);
         }
         let is_due = is_to_recover(self.alloc, self.files, path);
@@ -145,13 +136,13 @@ impl<'a, R: Files<File = File>> OpenFiles<'a, R> {
         self.stay_absent(path)?;
         self.new_names.note(path)?;
         self.synced.clear();
-        let file = make_absent(self.alloc, self.files, path)?;
+        let file = make_absent(self.files, path)?;
         let node = self.held.add(lock_made(file, access)?)?;
         self.held.again(node, access)
     }
 
     /// Whether each file is locked with its first change.
-    fn is_guarded(&self) -> bool {
+    pub fn is_guarded(&self) -> bool {
         matches!(self.shared, Shared::Guarded)
     }
 
@@ -193,7 +184,7 @@ impl<'a, R: Files<File = File>> OpenFiles<'a, R> {
     }
 
     /// Locks a file before its first change, where it is as it was at the first look at it.
-    fn guard(&mut self, path: &str) -> io::Result<Node> {
+    pub fn guard(&mut self, path: &str) -> io::Result<Node> {
         let locked = lock_unchanged(self.files, path, self.looks.first(path))?;
         Ok(self.held.add(locked)?)
     }
@@ -237,7 +228,7 @@ impl<'a, R: Files<File = File>> OpenFiles<'a, R> {
     }
 
     /// Refuses a file that is not there where there was one at the first look.
-    fn stay_absent(&self, path: &str) -> io::Result<()> {
+    pub fn stay_absent(&self, path: &str) -> io::Result<()> {
         match self.looks.first(path) {
             Some(Some(_)) => Err(changed_meanwhile()),
             _ => Ok(()),
@@ -282,7 +273,7 @@ impl<'a, R: Files<File = File>> OpenFiles<'a, R> {
     pub fn path_to_replace(&mut self, from: &str, to: &str, source: &str) -> io::Result<String> {
         if let Some(made) = &self.made {
             if made.name.as_str() == from {
-                if !stands_for(self.files, source, made.node)? {
+                if !is_itself(self.files, source, made.node)? {
                     return Err(changed_meanwhile());
                 }
                 if from.strip_suffix(NEW) == Some(to) {

@@ -2,9 +2,10 @@ use crate::locks::LockedFile;
 use file_names::stamp::Node;
 use file_windows::Access;
 use std::alloc::{AllocError, Global};
-use std::fs::File;
+use std::fs::{File, Metadata};
 use std::io;
 use std::io::ErrorKind;
+use undo_trust::owner::follow_owner;
 
 /// The files that are locked, whatever their names. Each is let go with the last of its open files.
 #[derive(Drop)]
@@ -58,6 +59,22 @@ impl HeldFiles {
             Some(held) => Ok(Some((held.file.try_clone()?, held.access))),
             None => Ok(None),
         }
+    }
+
+    /// What the system says of a file, where it is held.
+    pub fn metadata(&self, node: Node) -> io::Result<Option<Metadata>> {
+        match self.named(node) {
+            Some(held) => Ok(Some(held.file.metadata()?)),
+            None => Ok(None),
+        }
+    }
+
+    /// Gives a held file, which this program has made, the owner, the group and the permissions of another one.
+    pub fn follow_owner(&self, node: Node, of: &Metadata) -> io::Result<()> {
+        if let Some(held) = self.named(node) {
+            follow_owner(&held.file, &held.file.metadata()?, of);
+        }
+        Ok(())
     }
 
     /// The held file, where it is.

@@ -9,7 +9,7 @@ mod held;
 mod locks;
 mod open_files;
 mod sharing;
-mod slots;
+mod undo_files;
 
 pub use file_disk::{Failure, FileDisk};
 pub use sharing::{Lock, Sharing};

@@ -1,13 +1,13 @@
 use crate::open_files::FailedAt;
 use crate::sharing::Lock;
-use file_names::names::{lock_at_once, open_file, stamp_at, stands_for};
+use file_names::names::{changed_meanwhile, lock_at_once, open_file, stamp_at, stands_for};
 use file_names::stamp::{Node, Stamp};
-use file_names::undo::is_to_recover;
 use file_windows::Access;
 use std::alloc::Global;
 use std::fs::{File, Files};
 use std::io;
 use std::io::ErrorKind;
+use undo_trust::undo::is_to_recover;
 
 /// A file that was locked.
 #[derive(Drop)]
@@ -63,14 +63,6 @@ fn open_to_lock<R: Files<File = File>>(files: &R, path: &str, lock: Lock) -> io:
         access: Access::Reading,
         denied,
     })
-}
-
-/// That another program made something else of a file meanwhile.
-pub(crate) fn changed_meanwhile() -> io::Error {
-    io::Error::new(
-        ErrorKind::ResourceBusy,
-        "Changed by another program meanwhile",
-    )
 }
 
 /// Waits until a file is locked.

@@ -3,20 +3,23 @@ ghost use Rattle.std.specs.Prelude.{◌≡◌, ◌≤◌, length, IfOk};
 use crate::held::HeldFiles;
 use crate::locks::lock_made;
 use crate::sharing::{Lock, Sharing};
-use crate::slots::{Slot, Slots};
 use file_names::looks::Looks;
-use file_names::names::{
-    make_anew, refuse_locked, rename_present, stamp_at, sync_folder, take_owner,
-};
+use file_names::names::{NEW, itself_at, make_anew, metadata_at, rename_present, sync_folder};
 use file_names::new_names::NewNames;
+use file_names::slots::{Slot, Slots};
 use file_names::stamp::{Node, Stamp};
 use file_names::synced::SyncedFiles;
-use file_names::undo::{is_to_recover, undone_file};
-use file_windows::{Access, Opened, WholeFiles};
+use file_windows::{Access, Opened, Waiting, WholeFiles};
 use std::alloc::{AllocError, Global};
 use std::fs::{File, Files, Metadata};
+use std::io;
 use std::io::ErrorKind;
-use std::{fs, io};
+use undo_trust::beside::refuse_locked;
+use undo_trust::gates::Gates;
+use undo_trust::owner::give_owner;
+use undo_trust::trust::Distrust;
+use undo_trust::undo::{is_to_recover, undone_file};
+use undo_trust::undone::Undone;
 
 /// A file that was made, by the name that it was made under, and where that is. They differ behind a link.
 #[derive(Drop)]
@@ -71,8 +74,16 @@ pub(crate) struct OpenFiles<'a, R> {
     pub new_names: NewNames,
     pub synced: SyncedFiles,
     pub whole: WholeFiles,
+    /// Which files have an undo file.
+    pub undone: Undone,
+    /// The gates of undo files that were open.
+    pub gates: Gates,
+    /// The undo file that was made, and does not have its name yet.
+    pub made_undo: Option<Node>,
     /// At which file the call at hand failed, where it did.
     pub failed_at: FailedAt,
+    /// Why the call at hand did not believe an undo file, where it did not.
+    pub distrust: Option<Distrust>,
 }
 
 impl<'a, R: Files<File = File>> OpenFiles<'a, R> {
@@ -90,7 +101,11 @@ impl<'a, R: Files<File = File>> OpenFiles<'a, R> {
             new_names: NewNames::new(alloc),
             synced: SyncedFiles::new(alloc),
             whole: WholeFiles::new(alloc),
+            undone: Undone::each(alloc),
+            gates: Gates::new(alloc),
+            made_undo: None,
             failed_at: FailedAt::Name,
+            distrust: None,
         }
     }
 
@@ -140,8 +155,16 @@ impl<'a, R: Files<File = File>> OpenFiles<'a, R> {
         self.closing(count)
     }
 
-    /// Writes bytes to a place of a file.
+    /// Writes bytes to a place of a file. Where that begins to mend it, its undo file is stamped before.
     pub fn write(&mut self, name: &str, at: u64, bytes: &[u8]) -> io::Result<()> {
+        if self.gates.is_unmended(name) {
+            self.stamp_undo(name)?;
+        }
+        self.write_to(name, at, bytes)
+    }
+
+    /// Writes bytes to a place of a file.
+    pub fn write_to(&mut self, name: &str, at: u64, bytes: &[u8]) -> io::Result<()> {
         if !self.open(name, Access::Writing)? {
             return Err(io::Error::from(ErrorKind::NotFound));
         }
@@ -152,12 +175,21 @@ impl<'a, R: Files<File = File>> OpenFiles<'a, R> {
             file.is_synced = false;
             self.synced.forget(file.node);
         }
+        let node = file.node;
         let done = file.opened.write(at, bytes);
-        self.closing(done)
+        self.closing(done)?;
+        if at == 0 {
+            self.note_gate(name, node, bytes)?;
+        }
+        Ok(())
     }
 
-    /// Shortens a file to this many bytes. One that is not longer stays, and one that is not there is not made.
+    /// Shortens a file to this many bytes. One that is not longer stays, and one that is not there is not made. Where that
+    /// begins to mend it, its undo file is stamped before.
     pub fn cut(&mut self, name: &str, len: u64) -> io::Result<()> {
+        if self.gates.is_unmended(name) {
+            self.stamp_undo(name)?;
+        }
         if !self.open(name, Access::Reading)? {
             return Ok(());
         }
@@ -188,16 +220,16 @@ impl<'a, R: Files<File = File>> OpenFiles<'a, R> {
         self.sync_names(path.as_str())
     }
 
-    /// Waits until the bytes of the file that was used last are on the disk, unless that was done and it was not changed
-    /// since.
-    fn sync_last(&mut self) -> io::Result<()> {
+    /// Waits until the bytes of the file that was used last are on the disk, of an undo file its times, too, unless that was
+    /// done and it was not changed since.
+    pub fn sync_last(&mut self) -> io::Result<()> {
         let Some(file) = self.slots.last() else {
             return Ok(());
         };
         if file.is_synced {
             return Ok(());
         }
-        let done = file.opened.sync();
+        let done = file.opened.sync(file.waiting);
         let metadata = self.closing(done)?;
         self.synced.note(Stamp::of(&metadata))?;
         if let Some(file) = self.slots.last() {
@@ -217,22 +249,22 @@ impl<'a, R: Files<File = File>> OpenFiles<'a, R> {
     }
 
     /// Makes an empty file and locks it, but for undo files. One whose name ends in `.new` is made beside the file that it is
-    /// to replace, which is locked before, and which may stand behind a link.
+    /// to replace, which is locked before, and which may stand behind a link; it gets the owner, the group and the permissions
+    /// of that.
     pub fn make(&mut self, name: &str) -> io::Result<()> {
         self.slots.close_all()?;
         self.synced.clear();
         if let Some((file, _)) = undone_file(name) {
-            self.before_undo(file)?;
-            return self.make_undo(name);
+            return self.make_undo(name, file);
         }
         let path = self.path_to_make(name)?;
-        if let Ok(Some(old)) = stamp_at(self.files, path.as_str()) {
-            if !self.held.has(old.node()) {
-                refuse_locked(self.files, path.as_str())?;
-            }
-        }
+        self.refuse_taken(path.as_str())?;
+        let replaced = self.before_replaced(name, path.as_str())?;
         self.new_names.note(path.as_str())?;
         let file = make_anew(self.files, path.as_str())?;
+        if let Some(replaced) = &replaced {
+            give_owner(&file, replaced);
+        }
         let node = self.held.add(lock_made(file, Access::Making)?)?;
         if let Some((file, access)) = self.held.again(node, Access::Reading)? {
             self.put(name, file, access, node, false)?;
@@ -242,33 +274,40 @@ impl<'a, R: Files<File = File>> OpenFiles<'a, R> {
         Ok(())
     }
 
-    /// Makes an empty undo file, which is not locked.
-    fn make_undo(&mut self, name: &str) -> io::Result<()> {
-        let path = self.path_of(name)?;
-        self.new_names.note(path.as_str())?;
-        let file = make_anew(self.files, path.as_str())?;
-        let node = Node::of(&file.metadata()?);
-        self.put(name, file, Access::Making, node, false)
+    /// Refuses a name for a new file under which stands one that another program has locked.
+    fn refuse_taken(&self, path: &str) -> io::Result<()> {
+        match itself_at(self.files, path) {
+            Ok(Some(old)) if !self.held.has(Node::of(&old)) => refuse_locked(self.files, path),
+            _ => Ok(()),
+        }
+    }
+
+    /// What the system says of the file that a new one of this name and at this place is to replace; none where there is none.
+    /// Its undo file is judged before.
+    fn before_replaced(&mut self, name: &str, path: &str) -> io::Result<Option<Metadata>> {
+        let (Some(file), Some(place)) = (name.strip_suffix(NEW), path.strip_suffix(NEW)) else {
+            return Ok(None);
+        };
+        self.judge_undo(file)?;
+        metadata_at(self.files, place)
     }
 
     /// Renames a file, which takes the owner and the permissions of the one that had the name, and waits until that is done on
-    /// the disk. Where it was made to replace that one, it takes its place behind a link, and the link stays. An undo file
-    /// takes the owner and the permissions of its file.
+    /// the disk. Where it was made to replace that one, it takes its place behind a link, and the link stays.
     pub fn rename(&mut self, from: &str, to: &str) -> io::Result<()> {
         self.slots.close_all()?;
         self.synced.clear();
         let source = self.path_of(from)?;
         if let Some((file, _)) = undone_file(to) {
-            self.before_undo(file)?;
-            let target = self.path_of(to)?;
-            let model = fs::metadata(self.files, file);
-            self.rename_as(source.as_str(), target.as_str(), &model)?;
-            return Ok(());
+            return self.rename_undo(source.as_str(), to, file);
         }
         let target = self.path_to_replace(from, to, source.as_str())?;
-        let old = fs::metadata(self.files, target.as_str());
-        if self.rename_as(source.as_str(), target.as_str(), &old)? {
-            if let Ok(old) = &old {
+        let old = metadata_at(self.files, target.as_str()).unwrap_or(None);
+        if let Some(old) = &old {
+            self.follow_replaced(from, old)?;
+        }
+        if self.rename_as(source.as_str(), target.as_str())? {
+            if let Some(old) = &old {
                 self.held.release(Node::of(old));
             }
             self.made = None;
@@ -278,17 +317,17 @@ impl<'a, R: Files<File = File>> OpenFiles<'a, R> {
         Ok(())
     }
 
-    /// Renames a file, which takes the owner and the permissions of another one where that is there, and waits until that is
-    /// done on the disk. Answers whether it was there.
-    fn rename_as(
-        &mut self,
-        source: &str,
-        target: &str,
-        model: &io::Result<Metadata>,
-    ) -> io::Result<bool> {
-        if let Ok(model) = model {
-            take_owner(self.files, source, model);
+    /// Gives a file that was made under a name the owner, the group and the permissions of the one that it is to replace, unless
+    /// it has them.
+    fn follow_replaced(&self, from: &str, of: &Metadata) -> io::Result<()> {
+        match &self.made {
+            Some(made) if made.name.as_str() == from => self.held.follow_owner(made.node, of),
+            _ => Ok(()),
         }
+    }
+
+    /// Renames a file, and waits until that is done on the disk. Answers whether it was there.
+    pub fn rename_as(&mut self, source: &str, target: &str) -> io::Result<bool> {
         self.new_names.note(source)?;
         self.new_names.note(target)?;
         let was_there = rename_present(self.files, source, target)?;
@@ -322,8 +361,7 @@ impl<'a, R: Files<File = File>> OpenFiles<'a, R> {
         if undone_file(name).is_some() || !self.open(name, Access::Reading)? {
             return Ok(false);
         }
-        let is_due = is_to_recover(self.alloc, self.files, name);
-        if self.at(FailedAt::Undo, is_due)? {
+        if self.is_due(name)? {
             return Ok(false);
         }
         let Some(file) = self.slots.last() else {
@@ -336,6 +374,19 @@ impl<'a, R: Files<File = File>> OpenFiles<'a, R> {
         self.slots.close_all()?;
         self.held.release(node);
         Ok(self.whole.has(name))
+    }
+
+    /// Whether a file has to be recovered. An open gate that is not believed is an error.
+    fn is_due(&mut self, name: &str) -> io::Result<bool> {
+        if !self.undone.has(name) {
+            return Ok(false);
+        }
+        let is_due = is_to_recover(self.alloc, self.files, name);
+        let is_due = self.at(FailedAt::Undo, is_due)?;
+        if is_due {
+            self.judge_undo(name)?;
+        }
+        Ok(is_due)
     }
 
     /// Opens a file, unless it is open, and answers whether one is then: where it is to be read and is not there, none is.
@@ -362,9 +413,14 @@ impl<'a, R: Files<File = File>> OpenFiles<'a, R> {
             file,
             access,
         );
+        let waiting = match undone_file(name) {
+            Some(_) => Waiting::Times,
+            None => Waiting::Bytes,
+        };
         let slot = Slot {
             opened,
             node,
+            waiting,
             is_synced,
         };
         self.slots.put(name, slot)

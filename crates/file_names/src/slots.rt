@@ -1,14 +1,17 @@
-use file_names::stamp::Node;
-use file_windows::{Access, Opened};
+use crate::stamp::Node;
+use file_windows::{Access, Opened, Waiting};
+use std::fs::Metadata;
 use std::io;
 
 /// An open file.
 #[derive(Drop)]
-pub(crate) struct Slot {
+pub struct Slot {
     /// The file with its windows.
     pub opened: Opened,
     /// Which file it is.
     pub node: Node,
+    /// What is waited for with a sync of it.
+    pub waiting: Waiting,
     /// Whether it was synced and has not been changed since.
     pub is_synced: bool,
 }
@@ -40,7 +43,7 @@ fn close(slot: Option<Slot>) -> io::Result<()> {
 /// The two files that were used last, which stay open: a change in place goes to and fro between a file and its undo file.
 /// No file is open twice.
 #[derive(Drop)]
-pub(crate) struct Slots {
+pub struct Slots {
     last: Option<Slot>,
     other: Option<Slot>,
 }
@@ -80,6 +83,18 @@ impl Slots {
     #[inline(always)]
     pub fn last(&mut self) -> Option<&mut Slot> {
         self.last.as_mut()
+    }
+
+    /// What the system says of the file of this name, where it is open.
+    pub fn metadata(&self, name: &str) -> io::Result<Option<Metadata>> {
+        for slot in [&self.last, &self.other] {
+            if let Some(slot) = slot {
+                if slot.opened.is_named(name) {
+                    return Ok(Some(slot.opened.metadata()?));
+                }
+            }
+        }
+        Ok(None)
     }
 
     /// Takes a file that was just opened, and closes the one that was used longer ago, or what is the same one.
