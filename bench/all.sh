@@ -38,7 +38,9 @@ sources() {
 # about SCRIPT: the comment with which it begins.
 about() { awk 'NR > 1 { if (!/^#/) exit; sub(/^# ?/, ""); print }' "$1"; }
 
-bin/build
+programs=$(bin/programs)
+mapfile -t names < <(cut -d ' ' -f 2 <<<"$programs")
+bin/build "${names[@]}"
 {
     echo '# What was measured'
     echo

@@ -7,7 +7,7 @@
 # What cannot be run as it stands is run with these changes:
 # - /home, /root, /etc/passwd and /etc/group are folders and files of this test. In /home are a quota file of users and one of
 #   groups, in which alice has limits. A display of COMMANDS is run for groups, and with flat files, too, as that page says.
-# - quotaoff, quotaon, mount and `editor` are stand-ins, which look at their words.
+# - quotaoff, quotaon, mount and `editor` are stand-ins, which look at their words, and mail is one that keeps them.
 # - 8750 is a port that is free, and --calls says 2, or 1 in a loop, which ends once its file is taken away.
 # - `...` behind find stands for the words of the find of COMMANDS, and words in capitals for a file, a user, a number or `true`.
 set -Eeuo pipefail
@@ -15,6 +15,7 @@ shopt -s inherit_errexit
 trap 'echo "examples: line $LINENO failed at ${document-}:${line-}: $BASH_COMMAND" >&2' ERR
 top=$(cd "$(dirname "${BASH_SOURCE[0]}")/.." && pwd)
 client=$top/tests/serve_client.py
+list=$("$top/bin/programs")
 folder=$(mktemp -d)
 trap 'rm -rf "$folder"' EXIT
 cd "$folder"
@@ -50,7 +51,7 @@ same() {
 # is, the column of a table in which it stands, and the heading above it.
 units() {
     rm -f unit.*
-    if [[ $1 == *.8 ]]; then
+    if [[ $1 == *.[1-9] ]]; then
         sed -e 's/\\e/\\/g' -e 's/\\&//g' "$top/$1" | awk "$unit"'
             /^\.Bd / { inside = 1; from = NR + 1; text = ""; next }
             /^\.Ed/ { unit(from, "display", text); inside = 0; next }
@@ -106,16 +107,20 @@ unit='function unit(line, kind, text) {
 
 # ---- Where commands are carried out
 
-mkdir tools ready ready/home
-"$top/bin/quota_cli" --help >help
-cat >tools/quota_cli <<'TOOL'
+mkdir tools built ready ready/home
+while read -r crate name _; do
+    "$top/bin/build" "$name"
+    ln -s "$top/crates/$crate/out/$crate" "built/$name"
+    cat >"tools/$name" <<'TOOL'
 #!/usr/bin/env bash
-# The built program, for 20 seconds at most. A status but 0 is noted.
+# The built program of this name, for 20 seconds at most. A status but 0 is noted.
 status=0
-timeout 20 "$FOLDER/tools/built" "$@" || status=$?
-if [ "$status" != 0 ]; then echo "status $status of: quota_cli $*" >>"$FOLDER/ended_badly"; fi
+timeout 20 "$FOLDER/built/${0##*/}" "$@" || status=$?
+if [ "$status" != 0 ]; then echo "status $status of: ${0##*/} $*" >>"$FOLDER/ended_badly"; fi
 exit "$status"
 TOOL
+done <<<"$list"
+built/quota_cli --help >help
 cat >tools/quotaoff <<'TOOL'
 #!/usr/bin/env bash
 [ $# = 2 ] && [[ $1 == -[ug] ]] && [ -d "$2" ]
@@ -128,9 +133,12 @@ cat >tools/editor <<'TOOL'
 #!/usr/bin/env bash
 sed -i '3s/ 1024 2048 / 100M 200M /; 3s/ 3 4$/ 1k 2k/' "$1"
 TOOL
+cat >tools/mail <<'TOOL'
+#!/usr/bin/env bash
+{ echo "$*"; cat; } >>"$FOLDER/mails"
+TOOL
 cp tools/quotaoff tools/quotaon
 chmod +x tools/*
-ln -s "$top/crates/quota_program/out/quota_program" tools/built
 export FOLDER=$folder PATH=$folder/tools:$PATH
 
 # Alice, number 1000, has some limits; those that the documents set are the ones of 1001, and of her in the lines of an input.
@@ -309,6 +317,45 @@ unit_of_systemd() {
     looped
 }
 
+# mailed: alice, who exceeds her soft limit, gets a mail, and nobody else does; where no server runs, nobody, and it ends.
+mailed() {
+    local ended
+    prepare user
+    quota_cli setquota -u 1000 1 2M 3 4 "$place/home/aquota.user"
+    quota_cli setquota -u -T 1000 3600 unset "$place/home/aquota.user"
+    sed -i '1i bob:x:1001:1001::/home/bob:/bin/sh' "$place/passwd"
+    placed user | sed 's|"$gid" [^)]*)|"$gid" /home)|' >"$place/words"
+    : >mails
+    quota_cli rquotad --calls 2 --port "$port" --export /home user "$place/home/aquota.user" >said 2>&1 &
+    ended=$!
+    (cd "$place" && timeout 30 sh -u words) </dev/null >got 2>&1 || true
+    wait "$ended" || true
+    cat said mails >>got
+    printf '%s\n' '-s disk quota alice' '/home: over block limit by 3 KiB, grace 01:00' >wanted
+    same "$line" 'something else is mailed'
+    : >mails
+    (cd "$place" && timeout 30 sh -u words && echo well) </dev/null >got 2>&1 || true
+    cat mails >>got
+    echo 'bob: /home: no reply' >wanted
+    same "$line" 'without a server it does something else'
+}
+
+# scheduled: five fields of a time, and the script of the page.
+scheduled() {
+    echo '0 18 * * * /usr/local/bin/quota_mail' >wanted
+    echo "$text" >got
+    same "$line" 'this is no line of cron for the script'
+}
+
+# unit_of_mail: systemd has nothing to say about it, where it is there.
+unit_of_mail() {
+    echo "${text//'/usr/local/bin/quota_mail'/$folder/tools/mail}" >quota_mail.service
+    : >wanted
+    : >got
+    if command -v systemd-analyze >/dev/null; then systemd-analyze verify ./quota_mail.service >got 2>&1 || true; fi
+    same "$line" 'systemd does not take it'
+}
+
 # wrong_body: it can be applied in a copy of the crate, in which the line of the text stands behind that of T.
 wrong_body() {
     local body
@@ -405,7 +452,10 @@ display() {
     fi
     case $text in
         '$ '*) session ;;
+        '[Unit]'*quota_mail*) unit_of_mail ;;
         '[Unit]'*) unit_of_systemd ;;
+        '#!/bin/sh'*quota_client*) mailed ;;
+        '0 18 * * * '*) scheduled ;;
         'while quota_cli rquotad '*) looped ;;
         'quota_cli rquotad '*) served ;;
         'quota_cli '* | 'quotaoff '* | 'find '* | 'flock '*) carried_out ;;
@@ -416,7 +466,7 @@ display() {
                 # what a script of bench/ printed
                 docs/MEASURED.md/bench/*.sh) in_repository "$heading" ;;
                 docs/quota_cli.8/'EXIT STATUS') quoted 'quota: ' ;;
-                *.8/*) quoted '' ;;
+                *.[1-9]/*) quoted '' ;;
                 *) wrong "$line" 'no rule of tests/examples.sh knows this display' ;;
             esac
             ;;
@@ -452,7 +502,7 @@ words() {
         *)
             if grep -qx "  ${them[0]}" <<<"$commands"; then
                 options_of "${them[0]}"
-            elif [[ $document == *.8 ]]; then
+            elif [[ $document == *.[1-9] ]]; then
                 quoted ''
             else
                 wrong "$line" "no rule of tests/examples.sh knows these words: $text"
@@ -509,6 +559,8 @@ said() {
     quota_cli setquota bob 0 0 0 0 q
     quota_cli setquota 1000 x 0 0 0 q
     quota_cli $'\377'
+    quota_client quota 875
+    quota_client quota x 1 1 /home
     quota_cli repquota large
     quota_cli repquota -g q
     quota_cli repquota -F vfsv0 q
@@ -525,7 +577,7 @@ said() {
     quota_cli setquota -b q <.
     quota_cli repquota q >/dev/full
     "$client" hold "$port" quota_cli rquotad --calls 1 --port "$port" --export /home user q
-    yes x | head -n 1000000 | (ulimit -v 40000 && exec "$folder/tools/built" script)
+    yes x | head -n 1000000 | (ulimit -v 40000 && exec "$folder/built/quota_cli" script)
     printf '\n\nx\n' | quota_cli setquota -b q
     printf '\n\n7 x 0 0 0\n' | quota_cli setquota -b q
     printf '\ncarol 0 0 0 0\n' >lines
@@ -537,7 +589,7 @@ said() {
     mkdir home
     chmod 755 "$folder" . home
     install -m 000 q home/aquota.user
-    cp "$folder/tools/built" quota_cli
+    cp "$folder/built/quota_cli" quota_cli
     set -- ./quota_cli repquota "$PWD/home/aquota.user"
     if [ "$(id -u)" = 0 ]; then set -- setpriv --reuid=65534 --regid=65534 --clear-groups "$@"; fi
     "$top/tests/real_files/terminal.py" "$@" 2>&1 | sed "s|$PWD||" >&2

@@ -1,10 +1,12 @@
 #!/usr/bin/env bash
-# Looks at how the first run proves and builds the program (bin/build, bin/prove_crate), in a repository of four small
-# crates and with a stand-in for `rt`, so it takes seconds and proves nothing. Ends with status 1 where it does otherwise.
+# Looks at how the first run proves and builds a program (bin/build, bin/prove_crate, and the script in bin/ of each program of
+# programs.txt), in a repository of four small crates and with a stand-in for `rt`, so it takes seconds and proves nothing.
+# Ends with status 1 where it does otherwise.
 set -Eeuo pipefail
 shopt -s inherit_errexit
 trap 'echo "first_run: line $LINENO failed: $BASH_COMMAND" >&2' ERR
 top=$(cd "$(dirname "${BASH_SOURCE[0]}")/.." && pwd)
+list=$("$top/bin/programs")
 folder=$(mktemp -d)
 trap 'rm -rf "$folder"' EXIT
 failed=0
@@ -18,19 +20,28 @@ same() {
 }
 
 # repository: one, in a folder whose name has a space, in which nothing is proved: `low`, `middle` and `high` stand on
-# nothing, `over` on `low` and `high`, and the program on all of them.
+# nothing, `over` on `low` and `high`, and each program on all of them. One program more, `further`, stands on `other` too.
 repository() {
+    local it crate name
     rm -rf "$folder/the repository"
     mkdir -p "$folder/the repository/bin"
     cd "$folder/the repository"
-    cp "$top/bin/build" "$top/bin/prove_crate" "$top/bin/quota_cli" bin/
+    cp "$top/bin/build" "$top/bin/prove_crate" bin/
     printf '%s\n' '# The crates.' low: middle: high: 'over: low high arrayvec' other: \
-        'quota_program: over low middle high' >crates.txt
-    for it in low middle high over other quota_program; do
+        'further_program: low other over high middle' >crates.txt
+    for it in low middle high over other further_program; do
         mkdir -p "crates/$it/src"
         echo 'fn nothing() {}' >"crates/$it/src/lib.rt"
     done
-    mv crates/quota_program/src/lib.rt crates/quota_program/src/main.rt
+    cp "$top/programs.txt" .
+    echo 'further_program: further bin further.1' >>programs.txt
+    while read -r crate name _; do
+        echo "$crate: over low middle high" >>crates.txt
+        mkdir -p "crates/$crate/src"
+        echo 'fn main() {}' >"crates/$crate/src/main.rt"
+        cp "$top/bin/$name" bin/
+    done <<<"$list"
+    mv crates/further_program/src/lib.rt crates/further_program/src/main.rt
     : >"$folder/said"
     rm -f "$folder"/begun.* "$folder/slow" "$folder/faulty"
 }
@@ -82,11 +93,12 @@ fi
 RT
 chmod +x "$folder/tools/rt"
 export FOLDER=$folder PATH=$folder/tools:$PATH OMP_NUM_THREADS=4 MEMORY_MB=100000
-asked='lib high
+libraries='lib high
 lib low
 lib middle
-lib over
-run quota_program'
+lib over'
+asked="$libraries
+run quota_program"
 
 # Crates whose proofs end at the same moment: none is lost, whatever the turn in which they end.
 for round in 1 2 3 4 5; do
@@ -152,6 +164,35 @@ rm "$folder/slow"
 same 'a call behind an edit of a crate that was at hand' "$(bin/quota_cli x 2>/dev/null)" 'ran x'
 same 'it proves that one and those above it' "$(tr '\n' ' ' <"$folder/said")" 'lib low lib over run quota_program '
 
+# Each program has a script of its own, which builds no other.
+while read -r crate name _; do
+    repository
+    same "a call of $name" "$("bin/$name" a 'b c' 2>"$folder/err")" 'ran a b c'
+    same "what it proved" "$(sort "$folder/said")" "$libraries
+run $crate"
+    same "what it says first" "$(head -n 1 "$folder/err" | grep -c "^$name: building: 5 of 5 crates")" 1
+done <<<"$list"
+
+# Programs that are named, one and two, of which nothing is proved twice.
+repository
+bin/build further 2>"$folder/err"
+same 'a program that is named' "$(sort "$folder/said" | tr '\n' ' ')" \
+    'lib high lib low lib middle lib other lib over run further_program '
+same 'what is said of it first' "$(head -n 1 "$folder/err" | grep -c '^further: building: 6 of 6 crates')" 1
+same 'it is built' "$(bin/build --look further && crates/further_program/out/further_program x)" 'ran x'
+same 'another one is not' "$(bin/build --look || echo stale)" stale
+: >"$folder/said"
+bin/build further quota_cli 2>"$folder/err"
+same 'of two programs the one that is not built' "$(tr '\n' ' ' <"$folder/said")" 'run quota_program '
+touch crates/low/src/lib.rt
+: >"$folder/said"
+bin/build further quota_cli 2>"$folder/err"
+same 'both behind an edit' "$(sort "$folder/said" | tr '\n' ' ')" 'lib low lib over run further_program run quota_program '
+same 'what is said of both' "$(head -n 1 "$folder/err" | grep -c '^further quota_cli: building: 4 of 7 crates')" 1
+got=0
+bin/build none 2>"$folder/err" || got=$?
+same 'a program that is not there' "$got $(cat "$folder/err")" '2 build: programs.txt has no program none'
+
 # Two calls at once.
 repository
 bin/quota_cli one >one.txt 2>/dev/null &
@@ -188,6 +229,11 @@ ln -s "$folder/tools/rt" "$folder/few/rt"
 same 'a call where make is not there' "$(PATH=$folder/few bin/quota_cli x 2>"$folder/err")" 'ran x'
 same 'it asks rt once' "$(cat "$folder/said")" 'run quota_program'
 same 'and says so' "$(grep -c 'make is not there' "$folder/err")" 1
+repository
+: >"$folder/said"
+PATH=$folder/few bin/build further quota_cli 2>"$folder/err"
+same 'two programs where make is not there' "$(cat "$folder/said")" 'run further_program
+run quota_program'
 
 if [ "$failed" = 0 ]; then echo 'first_run: crates are proved side by side, each once'; fi
 exit $((failed > 0))

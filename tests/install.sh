@@ -1,7 +1,7 @@
 #!/usr/bin/env bash
-# Looks at what bin/install and bin/package put in place: into a folder of this test's own, where the installed program then
-# sets limits and reports them, and what is left when it is removed; what is in the package; and whether the completions for
-# bash and zsh have the commands and options of the manual pages. Ends with status 1 where something differs.
+# Looks at what bin/install and bin/package put in place, for each program of programs.txt: into a folder of this test's own,
+# where the installed programs are then run, and what is left when it is removed; what is in the package; and whether the
+# completions for bash and zsh have the commands and options of the manual pages. Ends with status 1 where something differs.
 set -Eeuo pipefail
 shopt -s inherit_errexit
 trap 'echo "install: line $LINENO failed: $BASH_COMMAND" >&2' ERR
@@ -22,7 +22,7 @@ same() {
 # tree FOLDER: all that is below a folder, with the permissions of files.
 tree() { (cd "$1" && { find . -type d -printf '%p/\n'; find . ! -type d -printf '%m %p\n'; } | LC_ALL=C sort); }
 
-# works PROGRAM: whether the program sets limits in a copy of a sample, and reports them.
+# works PROGRAM: whether quota_cli sets limits in a copy of a sample, and reports them.
 works() {
     cp "$top/samples/aquota.user" q
     "$1" setquota -u 1000 6G 7G 160k 200k q &&
@@ -30,31 +30,52 @@ works() {
 }
 line='#1000 -- 3145728 6291456 7340032 - 84213 160000 200000 -'
 
-# The first call builds the program where it is stale, and shows how.
-"$top/bin/quota_cli" --version >/dev/null
+# The programs, and what the list has of each, by its name. This builds those that are stale, and shows how.
+list=$("$top/bin/programs")
+names=()
+pages=()
+declare -A folder_of=() pages_of=()
+while read -r _ name it rest; do
+    names+=("$name")
+    folder_of[$name]=$it
+    pages_of[$name]=$rest
+    read -ra them <<<"$rest"
+    pages+=("${them[@]}")
+done <<<"$list"
+"$top/bin/build" "${names[@]}"
+
+# installed FOLDER: what is installed of all programs, each with its mode. FOLDER has the functions of zsh.
+installed() {
+    local name it
+    for name in "${names[@]}"; do
+        echo "755 ./${folder_of[$name]}/$name"
+        for it in ${pages_of[$name]}; do echo "644 ./share/man/man${it##*.}/$it.gz"; done
+        echo "644 ./share/bash-completion/completions/$name"
+        echo "644 ./share/zsh/$1/_$name"
+    done
+}
+
+# starts FOLDER: whether each program says its name and a version.
+starts() {
+    local name
+    for name in "${names[@]}"; do "$1/${folder_of[$name]}/$name" --version | cut -d ' ' -f 1; done
+}
 
 # Into an empty folder, and out of it.
 unset DESTDIR
 "$top/bin/install" "$folder/a place" >said
-same 'what was installed' "$(tree 'a place' | grep -v '/$')" '644 ./share/bash-completion/completions/quota_cli
-644 ./share/man/man8/quota_cli-convertquota.8.gz
-644 ./share/man/man8/quota_cli-edquota.8.gz
-644 ./share/man/man8/quota_cli-quotacheck.8.gz
-644 ./share/man/man8/quota_cli-repquota.8.gz
-644 ./share/man/man8/quota_cli-rquotad.8.gz
-644 ./share/man/man8/quota_cli-setquota.8.gz
-644 ./share/man/man8/quota_cli.8.gz
-644 ./share/quota_cli/installed
-644 ./share/zsh/site-functions/_quota_cli
-755 ./sbin/quota_cli'
+same 'what was installed' "$(tree 'a place' | grep -v '/$')" \
+    "$({ installed site-functions && echo '644 ./share/quota_cli/installed'; } | LC_ALL=C sort)"
 same 'it says what it installed' "$(sed 's/^installed //' said | sort)" "$(find "$folder/a place" -type f | sort)"
-same 'the installed program' "$(works "$folder/a place/sbin/quota_cli")" "$line"
-for page in "$top"/docs/*.8; do
-    name=${page##*/}
-    same "the installed $name" "$(gzip -dc "a place/share/man/man8/$name.gz" | cmp - "$page" && echo same)" same
-    same "$name is compressed alike each time" "$(gzip -9n <"$page" | cmp - "a place/share/man/man8/$name.gz" && echo same)" same
+same 'the installed quota_cli' "$(works "$folder/a place/sbin/quota_cli")" "$line"
+same 'the installed programs' "$(starts "$folder/a place")" "$(printf '%s\n' "${names[@]}")"
+for name in "${pages[@]}"; do
+    page=$top/docs/$name
+    place=share/man/man${name##*.}/$name.gz
+    same "the installed $name" "$(gzip -dc "a place/$place" | cmp - "$page" && echo same)" same
+    same "$name is compressed alike each time" "$(gzip -9n <"$page" | cmp - "a place/$place" && echo same)" same
     if command -v man >/dev/null; then
-        same "$name is found" "$(man -M 'a place/share/man' -w 8 "${name%.8}" 2>/dev/null)" "$folder/a place/share/man/man8/$name.gz"
+        same "$name is found" "$(man -M 'a place/share/man' -w "${name##*.}" "${name%.*}" 2>/dev/null)" "$folder/a place/$place"
     fi
 done
 "$top/bin/install" --remove "$folder/a place" >said
@@ -85,12 +106,15 @@ same 'what is left there' "$(find root -type f)" ''
 got=0
 "$top/bin/install" --all >said 2>err || got=$?
 same 'an unknown option' "$got $(cat err)" '2 install: usage: bin/install [--remove] [PREFIX]'
-mkdir -p copy/bin copy/docs copy/crates/quota_program/out
-cp "$top/bin/install" "$top/bin/build" copy/bin/
-cp "$top/crates.txt" copy/
+mkdir copy
+cp -r "$top"/{bin,docs,crates.txt,programs.txt} copy/
+while read -r crate _; do
+    mkdir -p "copy/crates/$crate/src"
+    touch "copy/crates/$crate/src/main.rt"
+done <<<"$list"
 got=0
 copy/bin/install "$folder/none" >said 2>err || got=$?
-same 'a program that is not built' "$got $(grep -c 'bin/build builds it, and the first time proves every crate' err)" '1 1'
+same 'a program that is not built' "$got $(grep -c "^install: ${names[0]} is not built; bin/build ${names[0]} builds it, and" err)" '1 1'
 same 'nothing is made then' "$(ls -d none 2>/dev/null || true)" ''
 if [ "$(id -u)" != 0 ]; then
     got=0
@@ -107,26 +131,14 @@ if command -v dpkg-deb >/dev/null; then
     same 'its version' "$(dpkg-deb -f "$package" Version | grep -cE '^[0-9.]+\+[0-9]{8}\.[0-9]{4}$')" 1
     same 'what it needs' "$(dpkg-deb -f "$package" Depends | sed -E 's/>= 2\.[0-9.]+/>= 2/; s/, libgcc-s1$//')" 'libc6 (>= 2)'
     same 'what is in it' "$(dpkg-deb -c "$package" | awk '$1 !~ /^d/ { print $1, $2, $6 }' | LC_ALL=C sort -k 3)" \
-        '-rwxr-xr-x root/root ./usr/sbin/quota_cli
--rw-r--r-- root/root ./usr/share/bash-completion/completions/quota_cli
--rw-r--r-- root/root ./usr/share/doc/quota-cli/CHANGELOG.md.gz
--rw-r--r-- root/root ./usr/share/doc/quota-cli/COMING_FROM_QUOTA_TOOLS.md.gz
--rw-r--r-- root/root ./usr/share/doc/quota-cli/COMMANDS.md.gz
--rw-r--r-- root/root ./usr/share/doc/quota-cli/FORMATS.md.gz
--rw-r--r-- root/root ./usr/share/doc/quota-cli/PROMISES.md.gz
--rw-r--r-- root/root ./usr/share/doc/quota-cli/README.md.gz
--rw-r--r-- root/root ./usr/share/doc/quota-cli/changelog.gz
--rw-r--r-- root/root ./usr/share/doc/quota-cli/copyright
--rw-r--r-- root/root ./usr/share/man/man8/quota_cli-convertquota.8.gz
--rw-r--r-- root/root ./usr/share/man/man8/quota_cli-edquota.8.gz
--rw-r--r-- root/root ./usr/share/man/man8/quota_cli-quotacheck.8.gz
--rw-r--r-- root/root ./usr/share/man/man8/quota_cli-repquota.8.gz
--rw-r--r-- root/root ./usr/share/man/man8/quota_cli-rquotad.8.gz
--rw-r--r-- root/root ./usr/share/man/man8/quota_cli-setquota.8.gz
--rw-r--r-- root/root ./usr/share/man/man8/quota_cli.8.gz
--rw-r--r-- root/root ./usr/share/zsh/vendor-completions/_quota_cli'
+        "$({
+            installed vendor-completions | sed -E 's|^644 \.|-rw-r--r-- root/root ./usr|; s|^755 \.|-rwxr-xr-x root/root ./usr|'
+            printf -- '-rw-r--r-- root/root ./usr/share/doc/quota-cli/%s\n' \
+                {CHANGELOG,COMING_FROM_QUOTA_TOOLS,COMMANDS,FORMATS,PROMISES,README}.md.gz changelog.gz copyright
+        } | LC_ALL=C sort -k 3)"
     dpkg-deb -x "$package" unpacked
-    same 'the packed program' "$(works unpacked/usr/sbin/quota_cli)" "$line"
+    same 'the packed programs' "$(starts unpacked/usr)" "$(printf '%s\n' "${names[@]}")"
+    same 'the packed quota_cli' "$(works unpacked/usr/sbin/quota_cli)" "$line"
     dpkg-deb -e "$package" control
     same 'its sums' "$(cd unpacked && md5sum --quiet -c ../control/md5sums && echo right)" right
     mkdir again
@@ -142,60 +154,93 @@ else
 fi
 
 # Commands and options as the manual pages have them.
+
+# commands_of PROGRAM: those that its first page names, where it has some.
+commands_of() {
+    awk '/^\.Sh / { on = /DESCRIPTION/ } on && /^\.It Cm / { print $3 }' "$top/docs/${pages_of[$1]%% *}" | sort
+}
+
+# section PROGRAM [COMMAND]: the page of a command, or its section of the first page; all pages where none is named.
 section() {
-    if [ -e "$top/docs/quota_cli-$1.8" ]; then
-        cat "$top/docs/quota_cli-$1.8"
-    else
-        awk -v name="$1" '/^\.S[sh] / { on = $0 == ".Ss " name } on' "$top/docs/quota_cli.8"
+    local pages it
+    read -ra pages <<<"${pages_of[$1]}"
+    if [ $# = 1 ]; then
+        cat "${pages[@]/#/$top/docs/}"
+        return
     fi
+    for it in "${pages[@]}"; do
+        if [[ $it == "$1-$2".* ]]; then
+            cat "$top/docs/$it"
+            return
+        fi
+    done
+    awk -v name="$2" '/^\.S[sh] / { on = $0 == ".Ss " name } on' "$top/docs/${pages[0]}"
 }
 in_page() {
-    section "$1" | sed -nE '/^\.It /{ s/\<Fl /-/gp }' | tr -c '[:alnum:]-' '\n' |
+    section "$@" | sed -nE '/^\.It /{ s/\<Fl /-/gp }' | tr -c '[:alnum:]-' '\n' |
         sed -nE '/^(-[[:alpha:]]|--[[:alpha:]]+)$/p' | sort -u
 }
-commands=$(awk '/^\.Sh / { on = /DESCRIPTION/ } on && /^\.It Cm / { print $3 }' "$top/docs/quota_cli.8" | sort)
-formats=$("$top/bin/quota_cli" --version | sed 's/.*(//; s/).*//; s/,//g')
 
-# completed WORD..: what bash completes the last of these words to.
+# completed PROGRAM WORD..: what bash completes the last of these words to.
 completed() {
-    COMP_WORDS=(quota_cli "$@")
-    COMP_CWORD=$#
+    COMP_WORDS=("$@")
+    COMP_CWORD=$(($# - 1))
     COMPREPLY=()
-    _quota_cli
+    "_$1"
     printf '%s\n' ${COMPREPLY[@]+"${COMPREPLY[@]}"} | sed '/^$/d' | sort -u
 }
-set +E # (compgen fails where nothing fits)
-. "$top/docs/completions/quota_cli.bash"
-same 'the commands for bash' "$(completed '' | grep -v '^-')" "$commands"
-same 'the words for bash that are no command' "$(completed --)" '--help
---version'
-for name in $commands; do
-    same "the options of $name for bash" "$(completed "$name" -)" "$(in_page "$name")"
-done
-same 'the formats for bash' "$(completed repquota -F '' | tr '\n' ' ')" "$formats "
-same 'the formats for bash behind =' "$(completed rquotad --format = vfsv | tr '\n' ' ')" 'vfsv0 vfsv1 '
-same 'pairs of formats for bash' "$(completed convertquota -f vfsv0, | tr '\n' ' ')" 'vfsv0,vfsold vfsv0,vfsv0 vfsv0,vfsv1 '
-same 'the kinds for bash' "$(completed rquotad --export /home '' | tr '\n' ' ')" 'group user '
-mkdir files
-touch files/aquota.user files/aquota.group
-same 'names of files for bash' "$(completed repquota -u files/aquota.u)" files/aquota.user
-same 'a name of a file for bash behind an option' "$(completed repquota --names files/aquota.g)" files/aquota.group
 
-# for_zsh COMMAND: the options that the completion for zsh has for a command.
+# for_zsh PROGRAM [COMMAND]: the options that the completion for zsh has for a command, or in all.
 for_zsh() {
-    awk -v name="$1)" '$1 == name { on = 1 } on { print } on && /;;/ { exit }' "$top/docs/completions/_quota_cli" |
+    awk -v name="${2-}" 'name == "" || $1 == name ")" { on = 1 } on { print } on && name != "" && /;;/ { exit }' \
+        "$top/docs/completions/_$1" |
         grep -oE -- '(-[[:alpha:]]|--[[:alpha:]]+)=?\[' | tr -d '=[' | sort -u
 }
-same 'the commands for zsh' "$(sed -nE "s/^ +'([a-z]+):.*'\$/\1/p" "$top/docs/completions/_quota_cli" | sort)" "$commands"
-for name in $commands; do
-    same "the options of $name for zsh" "$(for_zsh "$name" || true)" "$(in_page "$name")"
+
+# compare PROGRAM: compares the completions of a program with its pages. One without commands has options alone.
+compare() {
+    local name=$1 commands it
+    commands=$(commands_of "$name")
+    same "what completes $name for bash" "$(complete -p "$name")" "complete -F _$name $name"
+    same "what completes $name for zsh" "$(head -n 1 "$top/docs/completions/_$name")" "#compdef $name"
+    if [ -z "$commands" ]; then
+        it=$({ in_page "$name" && printf '%s\n' --help --version; } | sort -u)
+        same "the options of $name for bash" "$(completed "$name" -)" "$it"
+        same "the options of $name for zsh" "$(for_zsh "$name" || true)" "$it"
+        return
+    fi
+    same "the commands of $name for bash" "$(completed "$name" '' | grep -v '^-')" "$commands"
+    same "the words for bash that are no command of $name" "$(completed "$name" --)" '--help
+--version'
+    same "the commands of $name for zsh" "$(sed -nE "s/^ +'([a-z]+):.*'\$/\1/p" "$top/docs/completions/_$name" | sort)" "$commands"
+    for it in $commands; do
+        same "the options of $name $it for bash" "$(completed "$name" "$it" -)" "$(in_page "$name" "$it")"
+        same "the options of $name $it for zsh" "$(for_zsh "$name" "$it" || true)" "$(in_page "$name" "$it")"
+    done
+}
+
+set +E # (compgen fails where nothing fits)
+for name in "${names[@]}"; do
+    # shellcheck source=/dev/null
+    . "$top/docs/completions/$name.bash"
+    compare "$name"
+    if command -v zsh >/dev/null; then zsh -f -n "$top/docs/completions/_$name" || failed=1; fi
 done
-same 'the formats for zsh' "$(grep -c "formats='($formats)'" "$top/docs/completions/_quota_cli")" 1
-if command -v zsh >/dev/null; then
-    zsh -f -n "$top/docs/completions/_quota_cli" || failed=1
-else
-    echo 'install: zsh is not there: whether it can read its completion is not looked at' >&2
+if ! command -v zsh >/dev/null; then
+    echo 'install: zsh is not there: whether it can read the completions is not looked at' >&2
 fi
 
+# The values that quota_cli takes.
+formats=$("$top/bin/quota_cli" --version | sed 's/.*(//; s/).*//; s/,//g')
+same 'the formats for bash' "$(completed quota_cli repquota -F '' | tr '\n' ' ')" "$formats "
+same 'the formats for bash behind =' "$(completed quota_cli rquotad --format = vfsv | tr '\n' ' ')" 'vfsv0 vfsv1 '
+same 'pairs of formats for bash' "$(completed quota_cli convertquota -f vfsv0, | tr '\n' ' ')" 'vfsv0,vfsold vfsv0,vfsv0 vfsv0,vfsv1 '
+same 'the kinds for bash' "$(completed quota_cli rquotad --export /home '' | tr '\n' ' ')" 'group user '
+mkdir files
+touch files/aquota.user files/aquota.group
+same 'names of files for bash' "$(completed quota_cli repquota -u files/aquota.u)" files/aquota.user
+same 'a name of a file for bash behind an option' "$(completed quota_cli repquota --names files/aquota.g)" files/aquota.group
+
+same 'the formats for zsh' "$(grep -c "formats='($formats)'" "$top/docs/completions/_quota_cli")" 1
 if [ "$failed" = 0 ]; then echo 'install: what is installed works, and is taken away whole'; fi
 exit "$failed"

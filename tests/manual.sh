@@ -1,13 +1,12 @@
 #!/usr/bin/env bash
-# Looks at the manual pages, docs/quota_cli.8 and docs/quota_cli-COMMAND.8: their form; the commands, their forms and options in
-# them beside those that the help has; and what they and all other documents show (tests/examples.sh). Ends with status 1 where
-# something differs.
+# Looks at the manual pages of each program of programs.txt: their form; the commands, their forms and options in them beside
+# those that the help of the program has; and what they and all other documents show (tests/examples.sh). Ends with status 1
+# where something differs.
 set -Eeuo pipefail
 shopt -s inherit_errexit
 trap 'echo "manual: line $LINENO failed: $BASH_COMMAND" >&2' ERR
 top=$(cd "$(dirname "${BASH_SOURCE[0]}")/.." && pwd)
-pages=("$top"/docs/quota_cli*.8)
-run=$top/bin/quota_cli
+list=$("$top/bin/programs")
 folder=$(mktemp -d)
 trap 'rm -rf "$folder"' EXIT
 cd "$folder"
@@ -21,8 +20,9 @@ same() {
     fi
 }
 
-# Their form, by the tools that are there. (Which other pages this machine has is no fault of a page.)
-for page in "${pages[@]}"; do
+# form PAGE: its form, by the tools that are there. (Which other pages this machine has is no fault of a page.)
+form() {
+    local page=$1
     : >got
     if command -v mandoc >/dev/null; then
         mandoc -T lint "$page" 2>&1 | grep -vE ': referenced manual not found: |: outdated mandoc.db ' >>got || true
@@ -34,7 +34,7 @@ for page in "${pages[@]}"; do
         failed=1
         echo "FAILED: blanks at the ends of lines of ${page##*/}" >&2
     fi
-done
+}
 for tool in mandoc groff; do
     if ! command -v "$tool" >/dev/null; then echo "manual: $tool is not there: what it says of the pages is not shown" >&2; fi
 done
@@ -44,71 +44,99 @@ options() {
     tr -c '[:alnum:]-' '\n' | sed -nE '/^(-[[:alpha:]]|--[[:alpha:]]+)$/p' | sort -u
 }
 
-# in_help COMMAND, in_page COMMAND: the options that the help names for a command, and those that its page, or its section of
-# quota_cli.8, has. offered COMMAND: those among the latter that are said to be options of this command.
+# in_help COMMAND, in_page COMMAND: the options that the help of the program at hand names for a command, and those that its
+# page, or its section of the first page, has; of all together where no command is named. offered COMMAND: those among the
+# latter that are said to be options of it.
 in_help() {
-    awk -v name="$1" '/^  [a-z]/ { on = $1 == name } !/^  / { on = 0 } on' help | options
+    awk -v name="${1-}" 'name == "" { print; next } /^  [a-z]/ { on = $1 == name } !/^  / { on = 0 } on' help | options
 }
 section() {
-    if [ -e "$top/docs/quota_cli-$1.8" ]; then
-        cat "$top/docs/quota_cli-$1.8"
-    else
-        awk -v name="$1" '/^\.S[sh] / { on = $0 == ".Ss " name } on' "$top/docs/quota_cli.8"
+    local it
+    if [ $# = 0 ]; then
+        cat "${pages[@]}"
+        return
     fi
+    for it in "${pages[@]}"; do
+        if [[ ${it##*/} == "$program-$1".* ]]; then
+            cat "$it"
+            return
+        fi
+    done
+    awk -v name="$1" '/^\.S[sh] / { on = $0 == ".Ss " name } on' "${pages[0]}"
 }
 in_page() {
-    section "$1" | sed -E 's/\<Fl /-/g' | options
+    section "$@" | sed -E 's/\<Fl /-/g' | options
 }
 offered() {
-    section "$1" | sed -nE '/^\.It /{ s/\<Fl /-/gp }' | options
+    section "$@" | sed -nE '/^\.It /{ s/\<Fl /-/gp }' | options
 }
 
-"$run" --help >help
-grep -oE '^  [a-z]+' help | tr -d ' ' | sort -u >wanted
-awk '/^\.Sh / { on = /DESCRIPTION/ } on && /^\.It Cm / { print $3 }' "$top/docs/quota_cli.8" | sort -u >got
-same 'the commands that quota_cli.8 names'
-commands=$(cat wanted)
-for name in $commands; do
-    section "$name" >said
-    if [ ! -s said ]; then
-        failed=1
-        echo "FAILED: $name has no page, and no section of quota_cli.8" >&2
-    fi
-done
-for name in $commands; do
+# compare_options [COMMAND]: the options in the help and in the page.
+compare_options() {
     : >wanted
-    comm -23 <(in_help "$name") <(in_page "$name") >got
-    same "what the page lacks of the options of $name"
-    comm -13 <(in_help "$name") <(offered "$name") >got
-    same "what the help lacks of the options of $name"
-done
+    comm -23 <(in_help "$@") <(in_page "$@") >got
+    same "what the page lacks of the options of $program $*"
+    comm -13 <(in_help "$@") <(offered "$@") >got
+    same "what the help lacks of the options of $program $*"
+}
 
-# The forms of the commands, and of the whole, which the pages have as a synopsis.
-{
+# forms: the forms of the commands, and of the whole, as the help has them; and as the pages have them for a synopsis.
+forms_in_help() {
     sed -n 's/^Usage: //p' help
-    awk '/^(  )?[^ ]/ { if (form) print form; form = /^  / ? "quota_cli" : "" }
+    awk -v program="$program" '/^(  )?[^ ]/ { if (form) print form; form = /^  / ? program : "" }
         form && match($0, /[^ ]/) && RSTART < 25 { sub(/   +[a-z].*/, ""); $1 = $1; form = form " " $0 }' help
-    printf '%s\n' 'quota_cli --help' 'quota_cli --version'
-} | sort >wanted
-sed -nE '/^\.Sh SYNOPSIS/,/^\.Sh DESCRIPTION/{
-    /^\.Sh/d
-    s/^\.//; s/^Nm.*/@quota_cli/
-    s/ , Ns Ar /,/; s/(^| )(Cm|Ar) /\1/g; s/(^| )Fl /\1-/g; s/ \| /|/g
-    s/^Op (.*) \.\.\.$/[\1].../; s/^Op (.*)/[\1]/; s/^(.*[^]]) \.\.\.$/(\1).../
-    p
-}' "${pages[@]}" | tr '\n' ' ' | tr '@' '\n' | sed 's/ *$//; /^$/d' | sort >got
-same 'the forms of the commands in the pages'
+    printf '%s\n' "$program --help" "$program --version"
+}
+forms_in_pages() {
+    sed -nE '/^\.Sh SYNOPSIS/,/^\.Sh DESCRIPTION/{
+        /^\.Sh/d
+        s/^\.//; s/^Nm.*/@'"$program"'/
+        s/ , Ns Ar /,/; s/(^| )(Cm|Ar) /\1/g; s/(^| )Fl /\1-/g; s/ \| /|/g
+        s/^Op (.*) \.\.\.$/[\1].../; s/^Op (.*)/[\1]/; s/^([^] ]+) \.\.\.$/\1.../; s/^(.*[^]]) \.\.\.$/(\1).../
+        p
+    }' "${pages[@]}" | tr '\n' ' ' | tr '@' '\n' | sed 's/ *$//; /^$/d'
+}
 
-# What the help shows: the words of a find, which the page of quotacheck has, and names of pages.
+# look PROGRAM PAGE..: the pages of a program beside its help.
+look() {
+    local program=$1 pages=("${@:2}") it commands
+    pages=("${pages[@]/#/$top/docs/}")
+    for it in "${pages[@]}"; do form "$it"; done
+    "$top/bin/$program" --help >help
+    { grep -oE '^  [a-z]+' help || true; } | tr -d ' ' | sort -u >wanted
+    awk '/^\.Sh / { on = /DESCRIPTION/ } on && /^\.It Cm / { print $3 }' "${pages[0]}" | sort -u >got
+    same "the commands that ${pages[0]##*/} names"
+    commands=$(cat wanted)
+    for it in $commands; do
+        section "$it" >said
+        if [ ! -s said ]; then
+            failed=1
+            echo "FAILED: $it has no page, and no section of ${pages[0]##*/}" >&2
+        fi
+        compare_options "$it"
+    done
+    if [ -z "$commands" ]; then compare_options; fi
+    forms_in_help | sort >wanted
+    forms_in_pages | sort >got
+    same "the forms of $program in its pages"
+    # The pages that the help names.
+    for it in $({ grep -oE "\<man $program[-a-z_]*" help || true; } | cut -d ' ' -f 2); do
+        if ! compgen -G "$top/docs/$it.[1-9]" >/dev/null; then
+            failed=1
+            echo "FAILED: the help of $program names $it, which is no page" >&2
+        fi
+    done
+}
+while read -r _ program _ pages; do
+    read -ra them <<<"$pages"
+    look "$program" "${them[@]}"
+done <<<"$list"
+
+# The words of a find in the help of quota_cli, which the page of quotacheck has.
+"$top/bin/quota_cli" --help >help
 grep -oE "[-]printf '[^']+'" help >wanted
 sed 's/\\e/\\/g' "$top/docs/quota_cli-quotacheck.8" | grep -oE "[-]printf '[^']+'" | sort -u >got
 same 'the find of the help'
-for name in $(grep -oE '\<man quota_cli[-a-z]*' help | cut -d ' ' -f 2 || true); do
-    if [ ! -e "$top/docs/$name.8" ]; then
-        failed=1
-        echo "FAILED: the help names $name, which is no page" >&2
-    fi
-done
 
 # The error lines of quota_cli.8 are those of COMMANDS, but that the latter has one row for a damage with and without an
 # identifier.

@@ -44,7 +44,8 @@ use Rattle.file_commands.specs.Check.{CheckMayRefuse, UsageMayRefuse, new_value}
 use Rattle.file_commands.specs.Conversion.{ConvertMayRefuse}
 use Rattle.file_commands.specs.Report.{ReportMayRefuse}
 use Rattle.option_words.specs.declared.export.Export.{Export}
-use Rattle.serve_command.specs.Serve.{ExportingMayRefuse, ServeMayRefuse}
+use Rattle.serve_command.specs.Serve.{ServeMayRefuse}
+use Rattle.serve_steps.specs.Exporting.{ExportingMayRefuse}
 use Rattle.serve_command.specs.Words.{CanServe}
 use Rattle.serve_command.proofs.WordLemmas.{asked_serves}
 use Rattle.command_table.specs.Description.{ChangesWithin, Description, IsCarriedOut, IsLeftByEdit}

@@ -30,7 +30,8 @@ use Rattle.edit_commands.specs.declared.edit.FileEdit.TheVariants.{Limits as Lim
 use Rattle.edit_commands.proofs.WordLemmas.{IsOfWord, edit_refusal, identifier_refusal, word_status}
 use Rattle.file_commands.specs.Check.{CheckMayRefuse, UsageMayRefuse, new_value}
 use Rattle.file_commands.specs.Report.{ReportMayRefuse}
-use Rattle.serve_command.specs.Serve.{ExportingMayRefuse, ServeMayRefuse}
+use Rattle.serve_command.specs.Serve.{ServeMayRefuse}
+use Rattle.serve_steps.specs.Exporting.{ExportingMayRefuse}
 use Rattle.command_table.specs.Table.{asked_by, described}
 
 -- What a command uses.

@@ -36,7 +36,8 @@ use Rattle.file_commands.specs.Report.{ReportMayRefuse, ReportSteps}
 use Rattle.option_words.specs.declared.export.Export.{Export}
 use Rattle.rquota_serve.specs.Exported.{Exported, nothing_exported}
 use Rattle.rquota_serve.specs.Serving.{Stopped}
-use Rattle.serve_command.specs.Serve.{AreExported, MayExport, ServeMayRefuse, ServeSteps, serve_uses, serving_reads}
+use Rattle.serve_command.specs.Serve.{ServeMayRefuse, ServeSteps, serving_reads}
+use Rattle.serve_steps.specs.Exporting.{AreExported, MayExport, serve_uses}
 use Rattle.command_table.specs.Conditions.{CanApply, CanCheck, CanConvert, CanEdit, CanEditLines, CanPrint, CanReport}
 use Rattle.command_table.specs.Description.{Description, links_as}
 

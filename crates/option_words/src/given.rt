@@ -1,14 +1,11 @@
-ghost use Rattle.std.specs.Prelude.{◌≡◌, false, Ok, Err, IsTrue, MatchResult};
-ghost use Rattle.refusals.specs.declared.cause.UsageKind.TheVariants.{BadFileName};
-ghost use Rattle.option_words.specs.Fault.{fault};
-ghost use Rattle.option_words.specs.FileName.{is_file_name};
+ghost use Rattle.std.specs.Prelude.{◌≡◌, Ok, Err, MatchResult};
 ghost use Rattle.option_words.specs.Given.{exports_told, has, is_exported, kind_word, nothing_told, put, told, with_item};
 ghost use Rattle.option_words.specs.Items.{Raised, Set, Exported};
 
 use crate::values::{
     checked, conversion_of, is_export_path, read_calls, read_format, read_kind, read_port,
 };
-use crate::{Fault, Flag, Flags, Setting, is_file_name};
+use crate::{Fault, Flag, Flags, Setting, is_file_name, read_file_name};
 use arrayvec::ArrayVec;
 use quota_blocks::read_number;
 use quota_types::{Format, Kind};
@@ -124,7 +121,7 @@ impl<'a> Given<'a> {
                 Ok(())
             }
             Setting::Names => {
-                self.names = Some(file_name(value, word)?);
+                self.names = Some(read_file_name(value, word)?);
                 Ok(())
             }
             Setting::Proto => {
@@ -132,7 +129,7 @@ impl<'a> Given<'a> {
                 Ok(())
             }
             Setting::Input => {
-                self.input = Some(file_name(value, word)?);
+                self.input = Some(read_file_name(value, word)?);
                 Ok(())
             }
             Setting::Device => {
@@ -200,18 +197,6 @@ impl<'a> Given<'a> {
             Setting::Calls => self.calls.is_some(),
             Setting::Port => self.port.is_some(),
         }
-    }
-}
-
-/// The value, where it is the name of a file.
-fn file_name(value: &str, word: usize) -> Result<&str, Fault>
-    ensures { MatchResult result (λ name. (name.now ≡ value.now) × IsTrue (is_file_name value.now))
-        (λ met. (met ≡ fault BadFileName word) × (is_file_name value.now ≡ false)) }
-{
-    if is_file_name(value) {
-        Ok(value)
-    } else {
-        Err(Fault::at(UsageKind::BadFileName, word))
     }
 }
 

@@ -15,9 +15,11 @@ mod values;
 
 pub use export::{Export, ExportList};
 pub use fault::Fault;
-pub use file_name::is_file_name;
+pub use file_name::{is_file_name, read_file_name};
 pub use given::{Conversion, ExportWords, Given};
 pub use scan::{OperandWord, Scan, scan_words};
 pub use switch::{Flag, Flags, Setting, Switch};
 pub use tool::Tool;
-pub use values::{lines_of, read_calls, read_format, read_kind, read_port};
+pub use values::{
+    checked, is_export_path, lines_of, number_within, read_calls, read_format, read_kind, read_port,
+};

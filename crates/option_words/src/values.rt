@@ -53,8 +53,12 @@ pub fn read_port(value: &str, word: usize) -> Result<u16, Fault>
     checked(port_of(value), word)
 }
 
-/// The value, or the fault of a value that is not of its form or range.
-pub(crate) fn checked<V: Copy>(value: Option<V>, word: usize) -> Result<V, Fault>
+/// The value that was read of a word.
+///
+/// # Errors
+///
+/// `BadValue` at `word`, the number of the word in its command, where none was: it is not of its form or range.
+pub fn checked<V: Copy>(value: Option<V>, word: usize) -> Result<V, Fault>
     ensures { result ≡ with_value value (fault BadValue word) (λ v. Ok v) }
 {
     match value {
@@ -136,8 +140,8 @@ pub fn lines_of(word: &str) -> Option<u32>
     }
 }
 
-/// The number that a word spells, where it is from one number to another.
-fn number_within(low: u64, high: u64, word: &str) -> Option<u64>
+/// The number that a word spells in decimal digits, where it is from `low` to `high`.
+pub fn number_within(low: u64, high: u64, word: &str) -> Option<u64>
     ensures number { result ≡ number_within low high word.now }
     ensures high { IfSome result (λ number. number ≤ high) }
 {
@@ -149,7 +153,8 @@ fn number_within(low: u64, high: u64, word: &str) -> Option<u64>
     }
 }
 
-/// Whether files can be exported under a path.
+/// Whether a quota file can be exported under a path, or asked for by it: the path has 1 to 1,024 bytes. Source: the
+/// protocol of rquotad (rquota.x), `RQ_PATHLEN`.
 pub fn is_export_path(path: &str) -> bool
     ensures { result ≡ is_export_path path.now }
 {

@@ -11,10 +11,11 @@ use Rattle.refusals.specs.declared.cause.Cause.{Cause}
 use Rattle.refusals.specs.declared.cause.Cause.TheVariants.{StoreFault, SourceFault, SinkFault, LinkFault, Memory}
 use Rattle.refusals.specs.declared.reason.Refusal.{Refusal}
 use Rattle.refusals.specs.Line.{closing_line, error_line}
+use Rattle.refusals.specs.Said.{AppendsUnless}
 use Rattle.refusals.specs.Status.{end_status, group_of, status_of}
 use Rattle.refusals.proofs.GroupLemmas.{ByFault, ByMemory, ByStep, GroupCase, by_group_of, group_case, status_in-some}
 use Rattle.run_steps.specs.Act.{err_bytes}
-use Rattle.run_steps.specs.Done.{AppendsUnless, IsAllTold, IsLater, IsUnwritten, IsWorldTold, NoFault, RunSeen, RunTells, outside_of}
+use Rattle.run_steps.specs.Done.{IsAllTold, IsLater, IsUnwritten, IsWorldTold, NoFault, RunSeen, RunTells, outside_of}
 use Rattle.run_steps.specs.Meaning.{EndsBy, IsSure, closing}
 use Rattle.run_steps.specs.OneCommand.{AreReceived, ReadsToEnd, Receives}
 use Rattle.run_steps.specs.Run.{CarriesOut, HasFailed, HasReason, HasSteps, IsDoneInPart, Uses}

@@ -6,9 +6,10 @@ use Rattle.quota_blocks.specs.Seen.{SinkSeen}
 use Rattle.refusals.specs.declared.cause.Cause.TheVariants.{Full, LinkFault}
 use Rattle.refusals.specs.declared.reason.Refusal.{Refusal}
 use Rattle.refusals.specs.Line.{closing_line, error_line}
+use Rattle.refusals.specs.Said.{AppendsUnless}
 use Rattle.refusals.specs.Status.{end_status, status_of}
 use Rattle.run_steps.specs.Act.{Act}
-use Rattle.run_steps.specs.Done.{AppendsUnless, AreDone, IsLater, IsUnwritten, IsWorldTold, NoFault, Outside, RunSeen, RunTells, outside_of}
+use Rattle.run_steps.specs.Done.{AreDone, IsLater, IsUnwritten, IsWorldTold, NoFault, Outside, RunSeen, RunTells, outside_of}
 use Rattle.run_steps.specs.Meaning.{HasEffectOf, IsSure}
 use Rattle.run_steps.specs.OneCommand.{AreReceived, Receives}
 use Rattle.run_steps.specs.Run.{HasReason, HasSteps, IsDoneInPart, IsPlacedBy, Uses}

@@ -1,14 +1,15 @@
 ghost use Rattle.std.specs.Prelude.{◌≡◌, ◌≢◌, ◌≤◌, ◌⊎◌, ◌↔◌, false, None, Some, Err, Ok, IsTrue, IsErr, IsErrAnd, IfErr, IfOk, if◌then◌else◌, MatchResult};
 ghost use Rattle.std.specs.Result.{result_err};
 ghost use Rattle.quota_blocks.specs.Count.{Rose};
-ghost use Rattle.run_steps.specs.Done.{AppendsUnless, IsAllTold, NoFault, seen_of, tells_of};
+ghost use Rattle.run_steps.specs.Done.{IsAllTold, NoFault, seen_of, tells_of};
 ghost use Rattle.quota_cli.specs.Headline.{HasEffect, Keeps, asked, setting_of, uses_asked};
 ghost use Rattle.command_words.specs.Asked.{command_of};
 ghost use Rattle.command_table.specs.Description.{IsCarriedOut};
 ghost use Rattle.quota_cli.specs.Script.{StandsInScript, commanded, is_script};
 ghost use Rattle.refusals.specs.declared.cause.Cause.TheVariants.{Memory};
 ghost use Rattle.refusals.specs.declared.reason.Refusal.{Refusal};
-ghost use Rattle.refusals.specs.Line.{closing_line, error_line};
+ghost use Rattle.refusals.specs.Line.{closing_line};
+ghost use Rattle.refusals.specs.Said.{AppendsUnless};
 ghost use Rattle.refusals.specs.Status.{end_status, status_of};
 ghost use Rattle.option_words.specs.Items.{texts_of};
 
@@ -17,7 +18,7 @@ use command_table::{carry_out, usage_refusal};
 use command_words::Command;
 pub use command_words::{UsageFault, read_words};
 use quota_blocks::{Link, Sink, Source, Store};
-use refusals::{Refusal, write_error_line};
+use refusals::{Refusal, refuse};
 use run_steps::Invocation;
 use std::alloc::Global;
 
@@ -154,15 +155,4 @@ fn finish<E: Sink>(err: &mut E, done: Result<(), Refusal>) -> u8
         Ok(()) => 0,
         Err(refusal) => refuse(err, &refusal),
     }
-}
-
-/// Writes the error line of a refusal, and answers its status, which stays where the error output fails.
-pub fn refuse<E: Sink>(err: &mut E, refusal: &Refusal) -> u8
-    ensures status { result ≡ status_of refusal.now.cause }
-    ensures line { IsTrue E.tells → AppendsUnless (Rose (E.seen err.old).faults (E.seen err.new).faults)
-        (E.seen err.old).written (E.seen err.new).written (error_line refusal.now) }
-    ensures later { (E.seen err.old).faults ≤ (E.seen err.new).faults }
-{
-    let _ = write_error_line(err, refusal);
-    refusal.cause.status()
 }

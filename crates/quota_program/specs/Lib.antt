@@ -1,4 +1,2 @@
-pub mod About
 pub mod QuotaFiles
 pub mod Sharing
-pub mod Starting

@@ -1,18 +1,7 @@
-ghost use Rattle.std.specs.Prelude.{◌≡◌, ◌≤◌, ◌++◌, ◌⊎◌, [], codes, IsTrue};
-ghost use Rattle.option_words.specs.Items.{texts_of};
-ghost use Rattle.quota_blocks.specs.Count.{Rose};
-ghost use Rattle.quota_blocks.specs.Text.{AppendsPrefix};
-ghost use Rattle.quota_program.specs.About.{about_asked, about_of};
-ghost use Rattle.quota_program.specs.declared.help.About.TheVariants.{Version};
-ghost use Rattle.refusals.specs.Line.{error_line};
-ghost use Rattle.refusals.specs.Refusals.{refusal_of};
-ghost use Rattle.refusals.specs.declared.cause.Cause.TheVariants.{SinkFault as OutputFault};
-ghost use Rattle.run_steps.specs.Done.{AppendsUnless};
+ghost use Rattle.std.specs.Prelude.{◌≡◌, codes};
+ghost use Rattle.program_start.specs.declared.about.About.TheVariants.{Version};
 
-use quota_blocks::Sink;
-use quota_cli::run::refuse;
-use refusals::{Cause, Refusal, Word};
-use std::alloc::Global;
+use program_start::About;
 
 /// What `--help` writes.
 const HELP: &str = "Usage: quota_cli COMMAND [OPTION]... [OPERAND]...
@@ -71,66 +60,9 @@ files, and PROMISES.md, which has what is proved.
 const VERSION: &str = "quota_cli 0.1.0 (vfsold, vfsv0, vfsv1)
 ";
 
-/// What the program says about itself.
-#[derive(Clone, Copy, Debug, PartialEq, Eq)]
-pub enum About {
-    /// Its commands, their words and the statuses.
-    Help,
-    /// Its name and its version.
-    Version,
-}
-
-impl About {
-    /// What words ask for: the one word `--help` or `--version`.
-    pub fn asked(words: &[String]) -> Option<Self>
-        ensures { result ≡ about_asked (texts_of words.now) }
-    {
-        match words {
-            [word] => About::of(word.as_str()),
-            _ => None,
-        }
-    }
-
-    /// What a word asks for.
-    fn of(word: &str) -> Option<Self>
-        ensures { result ≡ about_of word.now }
-    {
-        if word == "--help" {
-            Some(About::Help)
-        } else if word == "--version" {
-            Some(About::Version)
-        } else {
-            None
-        }
-    }
-
-    /// The text.
-    pub fn text(self) -> &'static str
-        ensures version { self ≡ Version → result.now ≡ codes "quota_cli 0.1.0 (vfsold, vfsv0, vfsv1)\n" }
-    {
-        match self {
-            About::Help => HELP,
-            About::Version => VERSION,
-        }
-    }
-}
-
-/// Writes a text to the output, and answers the status with which the program ends: 0, or that of a fault of the output, of
-/// which the error output gets the line.
-pub fn tell<O: Sink, E: Sink>(out: &mut O, err: &mut E, text: &str, alloc: Global) -> u8
-    ensures told { result ≡ 0 → IsTrue O.tells
-        → (O.seen out.new).written ≡ (O.seen out.old).written ++ text.now }
-    ensures part { result ≡ 4 → IsTrue O.tells → AppendsPrefix (O.seen out.old).written (O.seen out.new).written text.now }
-    ensures fault { (result ≡ 0) ⊎ ((result ≡ 4) × Rose (O.seen out.old).faults (O.seen out.new).faults) }
-    // The error output gets nothing, or the line of a fault of the output.
-    ensures quiet { result ≡ 0 → err.new ≡ err.old }
-    ensures line { result ≡ 4 → IsTrue E.tells → AppendsUnless (Rose (E.seen err.old).faults (E.seen err.new).faults)
-        (E.seen err.old).written (E.seen err.new).written (error_line (refusal_of OutputFault [])) }
-    ensures later_out { (O.seen out.old).faults ≤ (O.seen out.new).faults }
-    ensures later_err { (E.seen err.old).faults ≤ (E.seen err.new).faults }
+/// What the program says about itself, where this is asked for.
+pub fn text_about(about: About) -> &'static str
+    ensures version { about ≡ Version → result.now ≡ codes "quota_cli 0.1.0 (vfsold, vfsv0, vfsv1)\n" }
 {
-    match out.write(text.as_bytes()) {
-        Ok(()) => 0,
-        Err(_) => refuse(err, &Refusal::of(Cause::SinkFault, Word::empty(alloc))),
-    }
+    about.text(HELP, VERSION)
 }

@@ -1,33 +1,25 @@
 //! The Linux disk quota tools as one program: [`quota_cli::run::run`] over the words, files and streams of the system.
 #![tactic(auto)]
 
-ghost use Rattle.std.specs.Prelude.{◌≡◌, ◌≤◌, [], IsTrue};
-ghost use Rattle.quota_blocks.specs.Count.{Rose};
-ghost use Rattle.quota_program.specs.Starting.{starting_cause, words_cause};
-ghost use Rattle.refusals.specs.Line.{error_line};
-ghost use Rattle.refusals.specs.Refusals.{refusal_of};
-ghost use Rattle.refusals.specs.Status.{status_of};
-ghost use Rattle.run_steps.specs.Done.{AppendsUnless};
-
-use closed::hold_closed_streams;
-use help::{About, tell};
+use help::text_about;
 use journal_store::JournalStore;
-use quota_blocks::Sink;
-use quota_cli::run::{UsageFault, read_words, refuse, run};
+use program_start::{
+    About, add_reason, given_words, hold_closed_streams, name_in, starting_cause, stop, tell,
+    words_cause,
+};
+use quota_cli::run::{UsageFault, read_words, run};
 use quota_files::{QuotaFiles, quota_files_of};
-use reasons::{Reasons, add_reason, name_in};
+use reasons::Reasons;
 use recoveries::tell_undo_files;
-use refusals::{Cause, Refusal, UsageKind, Word};
+use refusals::{Cause, UsageKind};
 use sharing::sharing_of;
 use std::alloc::{AllocError, Global};
 use std::fs::{File, Files};
-use std::io::{BufReader, ErrorKind, IsTerminal};
+use std::io::{BufReader, IsTerminal};
 use std::process::ExitCode;
-use std::{env, io};
 use system_objects::FileDisk;
 use system_streams::{StreamSink, StreamSource, UdpLink, moment};
 
-mod closed;
 mod help;
 mod quota_files;
 mod reasons;
@@ -36,49 +28,6 @@ mod sharing;
 
 /// The most bytes that are taken from the standard input with one call of the system.
 const READ_AHEAD: usize = 65_536;
-
-/// What the program was called as, and the other words of the command line.
-fn given_words<R: env::Env + AllocGlobal>(rt: &R) -> io::Result<(String, Vec<String>)> {
-    let mut words = env::args(rt)?;
-    let called = match words.next() {
-        Some(called) => called,
-        None => String::from_str(rt.alloc(), "quota_cli")?,
-    };
-    Ok((called, words.collect(rt.alloc())?))
-}
-
-/// Why the program stops where the system does not give it its words. Words that are not all UTF-8 are no command.
-fn words_cause(kind: ErrorKind) -> Cause
-    ensures { result ≡ words_cause kind }
-{
-    match kind {
-        ErrorKind::InvalidData => Cause::Usage {
-            kind: UsageKind::UnknownCommand,
-            word: 0,
-        },
-        kind => starting_cause(kind),
-    }
-}
-
-/// Why the program stops where the system fails to give it its words or the moment.
-fn starting_cause(kind: ErrorKind) -> Cause
-    ensures { result ≡ starting_cause kind }
-{
-    match kind {
-        ErrorKind::OutOfMemory => Cause::Memory,
-        _ => Cause::StoreFault,
-    }
-}
-
-/// Says why the program stops before it has begun, and answers its status.
-fn stop<E: Sink>(err: &mut E, cause: Cause, alloc: Global) -> u8
-    ensures status { result ≡ status_of cause }
-    ensures line { IsTrue E.tells → AppendsUnless (Rose (E.seen err.old).faults (E.seen err.new).faults)
-        (E.seen err.old).written (E.seen err.new).written (error_line (refusal_of cause [])) }
-    ensures later { (E.seen err.old).faults ≤ (E.seen err.new).faults }
-{
-    refuse(err, &Refusal::of(cause, Word::empty(alloc)))
-}
 
 /// Tells a disk beside which files undo files stand.
 fn name_files<R: Files<File = File>>(
@@ -128,18 +77,18 @@ fn main(rt: HostRuntime) -> ExitCode {
         return ExitCode::from(stop(&mut err, starting_cause(error.kind()), rt.alloc()));
     }
     let is_terminal = rt.stderr().is_terminal();
-    let status = match (given_words(&rt), moment(&rt)) {
+    let status = match (given_words(&rt, "quota_cli"), moment(&rt)) {
         (Ok((called, words)), Ok(now)) => {
             let mut out = StreamSink::new(rt.stdout());
             if let Some(about) = About::asked(&words) {
-                let status = tell(&mut out, &mut err, about.text(), rt.alloc());
+                let status = tell(&mut out, &mut err, text_about(about), rt.alloc());
                 let reasons = Reasons::of_output(out.failure());
                 add_reason(
                     &mut err,
                     is_terminal,
                     status,
                     called.as_str(),
-                    &reasons,
+                    reasons.first(),
                     rt.alloc(),
                 );
                 return ExitCode::from(status);
@@ -176,7 +125,7 @@ fn main(rt: HostRuntime) -> ExitCode {
                 is_terminal,
                 status,
                 called.as_str(),
-                &reasons,
+                reasons.first(),
                 rt.alloc(),
             );
             tell_undo_files(
@@ -189,7 +138,11 @@ fn main(rt: HostRuntime) -> ExitCode {
             );
             status
         }
-        (Err(error), _) => stop(&mut err, words_cause(error.kind()), rt.alloc()),
+        (Err(error), _) => stop(
+            &mut err,
+            words_cause(UsageKind::UnknownCommand, error.kind()),
+            rt.alloc(),
+        ),
         (_, Err(error)) => stop(&mut err, starting_cause(error.kind()), rt.alloc()),
     };
     ExitCode::from(status)

@@ -2,6 +2,7 @@ pub mod Line
 pub mod Outcome
 pub mod Piece
 pub mod Refusals
+pub mod Said
 pub mod Status
 pub use Rattle.quota_blocks.specs.Count
 pub use Rattle.quota_blocks.specs.Text

@@ -5,11 +5,24 @@ ghost use Rattle.quota_blocks.specs.Text.{AppendsPrefix};
 ghost use Rattle.refusals.specs.declared.cause.Cause.TheVariants.{Damaged, NoRoom as Unfit};
 ghost use Rattle.refusals.specs.Line.{error_line, identifier_text, input_called, place_text};
 ghost use Rattle.refusals.specs.Piece.{joined};
+ghost use Rattle.refusals.specs.Said.{AppendsUnless};
+ghost use Rattle.refusals.specs.Status.{status_of};
 
 use crate::Piece::{self, Number, Text};
 use crate::{Cause, Place, Refusal, write_line};
 use quota_blocks::{Sink, SinkFault};
 use quota_types::{Damage, DamageKind, NoRoom};
+
+/// Writes the error line of a refusal, and answers its status, which stays where the error output fails.
+pub fn refuse<E: Sink>(err: &mut E, refusal: &Refusal) -> u8
+    ensures status { result ≡ status_of refusal.now.cause }
+    ensures line { IsTrue E.tells → AppendsUnless (Rose (E.seen err.old).faults (E.seen err.new).faults)
+        (E.seen err.old).written (E.seen err.new).written (error_line refusal.now) }
+    ensures later { (E.seen err.old).faults ≤ (E.seen err.new).faults }
+{
+    let _ = write_error_line(err, refusal);
+    refusal.cause.status()
+}
 
 /// Writes the error line of a refusal.
 ///
@@ -29,8 +42,13 @@ pub fn write_error_line<O: Sink>(sink: &mut O, refusal: &Refusal) -> Result<(), 
 }
 
 #[tactic(auto, unfolding(crate::specs::Line::error_line))]
-/// Writes the line on a cause and the name that it is about.
-fn write_cause<O: Sink>(
+/// Writes the error line on a cause, and on the file or the word that it is about, by its bytes: the same line as that of a
+/// refusal, for who has no memory for one. `name` is empty where the cause is about none.
+///
+/// # Errors
+///
+/// The sink failed. It then has a prefix of the line.
+pub fn write_cause<O: Sink>(
     sink: &mut O,
     place: Place,
     cause: Cause,

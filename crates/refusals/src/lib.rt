@@ -11,7 +11,7 @@ mod reason;
 mod word;
 
 pub use cause::{Cause, CauseGroup, UsageKind};
-pub use error_line::write_error_line;
-pub use piece::{Piece, write_line};
+pub use error_line::{refuse, write_cause, write_error_line};
+pub use piece::{Piece, put_pieces, write_line};
 pub use reason::{Place, Refusal};
 pub use word::Word;

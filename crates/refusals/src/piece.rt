@@ -88,8 +88,12 @@ fn put_line<O: Sink>(
     }
 }
 
-/// Puts pieces, one after another.
-fn put_pieces<'a, O: Sink>(
+/// Puts pieces behind what is gathered, one after another.
+///
+/// # Errors
+///
+/// The sink failed. It then has a prefix of what was gathered and of the pieces.
+pub fn put_pieces<'a, O: Sink>(
     text: &mut TextBuffer,
     sink: &mut O,
     pieces: &[Piece<'a>],

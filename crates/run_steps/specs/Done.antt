@@ -92,11 +92,6 @@ pub record AreDoneInPart (tells : RunTells) (acts : List Act) (old new : RunSeen
   pub started : new.link.started ≡ started_by done old.link.started
   pub writes : WritesInPart (take 1 rest) (done ++ take 1 rest) old.store.writes new.store.writes
 
--- the bytes are appended, or, where the sink failed, a prefix of them
-pub record AppendsUnless (rose : Type 0) (old new bytes : List ℕ) : Type 0 where
-  pub prefix : AppendsPrefix old new bytes
-  pub whole : ¬ rose → new ≡ old ++ bytes
-
 -- no file was changed, and nothing was written
 pub record IsUnwritten (old new : StoreSeen) : Type 0 where
   pub files : new.files ≡ old.files

@@ -34,7 +34,8 @@ use Rattle.run_steps.proofs.ActLemmas.{appends_nothing, none_in_part}
 use Rattle.run_steps.proofs.PartLemmas.{nothing_begun, whole_begun}
 use Rattle.run_steps.proofs.ShowingLemmas.{damage_may}
 use Rattle.run_steps.proofs.WritesLemmas.{writes_for-same, writes_in_part}
-use Rattle.serve_command.specs.Serve.{AnsweringMayRefuse, AnsweringSteps, IsAsAsked, Replying, serve_cause, serve_uses}
+use Rattle.serve_command.specs.Serve.{AnsweringSteps, Replying}
+use Rattle.serve_steps.specs.Exporting.{AnsweringMayRefuse, IsAsAsked, serve_cause, serve_uses}
 
 -- what is seen once the store and the link were used
 abbrev pub with_link : RunSeen → StoreSeen → LinkSeen → RunSeen

@@ -14,7 +14,8 @@ use Rattle.run_steps.specs.SameViews.{FileAsked, LooksAlike, Opens}
 use Rattle.run_steps.specs.Steps.{Starting, Steps}
 use Rattle.run_steps.specs.declared.invocation.Invocation.{Invocation}
 use Rattle.run_steps.proofs.LookLemmas.{opens_opening}
-use Rattle.serve_command.specs.Serve.{AnsweringSteps, OpeningAll, Replying, ServeSteps}
+use Rattle.serve_command.specs.Serve.{AnsweringSteps, Replying, ServeSteps}
+use Rattle.serve_steps.specs.Exporting.{OpeningAll}
 
 -- It looks at no file but by opening it.
 

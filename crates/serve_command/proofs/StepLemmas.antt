@@ -11,7 +11,8 @@ use Rattle.run_steps.specs.Meaning.{IsSure}
 use Rattle.run_steps.specs.OneCommand.{LooksFirst, Receives}
 use Rattle.run_steps.specs.Steps.{Steps}
 use Rattle.run_steps.proofs.OneCommandLemmas.{sure_opening}
-use Rattle.serve_command.specs.Serve.{AnsweringSteps, AreExported, OpeningAll, Replying}
+use Rattle.serve_command.specs.Serve.{AnsweringSteps, Replying}
+use Rattle.serve_steps.specs.Exporting.{AreExported, OpeningAll}
 
 -- They look first.
 

@@ -34,7 +34,7 @@ use Rattle.command_words.specs.declared.command.Command.{Command}
 use Rattle.command_words.specs.declared.mode.Mode.{Mode}
 use Rattle.command_words.specs.declared.mode.Mode.TheVariants.{Reporting, Limiting, Copying, Batching, SettingGrace, SettingTimes, Printing, Applying, Checking, Converting, Serving, Scripting, Generating}
 use Rattle.command_words.proofs.FormedLemmas.{HoldsOfFormed, holds_of_asked, then_ok, unless_ok, with_value_ok}
-use Rattle.serve_command.specs.Serve.{MayExport}
+use Rattle.serve_steps.specs.Exporting.{MayExport}
 use Rattle.serve_command.specs.Words.{CanServe}
 
 -- Exports behind exports.

@@ -2,7 +2,7 @@
 use Rattle.std.specs.Prelude.{◌<◌, [], ⊤}
 use Rattle.command_words.specs.declared.command.Command.{Command}
 use Rattle.command_words.specs.declared.command.Command.TheVariants.{Serve}
-use Rattle.serve_command.specs.Serve.{MayExport}
+use Rattle.serve_steps.specs.Exporting.{MayExport}
 
 -- A command that answers calls answers one at least, and its files may be exported one after another. No words ask for another one.
 abbrev pub CanServe : Command → Type 0

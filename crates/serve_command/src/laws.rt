@@ -14,7 +14,8 @@ ghost use Rattle.std.specs.Prelude.{None, ◌≡◌};
 ghost use Rattle.command_words.specs.Asked.{command_of};
 ghost use Rattle.command_words.specs.declared.command.Command.{Command};
 ghost use Rattle.serve_command.specs.Words.{CanServe};
-ghost use Rattle.serve_command.specs.Serve.{AreExported, ServeSteps};
+ghost use Rattle.serve_command.specs.Serve.{ServeSteps};
+ghost use Rattle.serve_steps.specs.Exporting.{AreExported};
 
 /// The steps look at files first, and take nothing of the standard input.
 pub fn serving_looks_first()

@@ -3,7 +3,6 @@
 //! The one promise: it carries out its steps. No memory is taken from the first datagram on.
 #![tactic(auto)]
 
-mod exporting;
 pub mod laws;
 mod serve;
 

@@ -1,10 +1,9 @@
-ghost use Rattle.std.specs.Prelude.{ℕ, Option, ◌≡◌, ◌<◌, ◌≤◌, ◌+◌, ◌*◌, [], Bool, List, IsTrue, IfOk, IfErr, OnOk, OnErr, is_ok};
+ghost use Rattle.std.specs.Prelude.{◌≡◌, ◌<◌, ◌≤◌, ◌+◌, ◌*◌, [], Bool, IsTrue, IfErr, OnOk, OnErr, is_ok};
 ghost use Rattle.std.specs.List.{All};
 ghost use Rattle.quota_blocks.specs.Seen.{LinkSeen, SinkSeen, SourceSeen};
 ghost use Rattle.quota_blocks.specs.Frame.{Syncs};
-ghost use Rattle.refusals.specs.Refusals.{refusal_of};
 ghost use Rattle.refusals.specs.Status.{status_of};
-ghost use Rattle.refusals.specs.declared.cause.Cause.TheVariants.{LinkFault, Memory};
+ghost use Rattle.refusals.specs.declared.cause.Cause.TheVariants.{LinkFault};
 ghost use Rattle.run_steps.specs.Done.{seen_of, tells_of};
 ghost use Rattle.run_steps.specs.OneCommand.{AreReceived};
 ghost use Rattle.run_steps.specs.Run.{CarriesOut};
@@ -13,15 +12,15 @@ ghost use Rattle.run_steps.specs.declared.invocation.Invocation.{Invocation};
 ghost use Rattle.rquota_serve.specs.Exported.{Exported, nothing_exported};
 ghost use Rattle.rquota_serve.specs.Exports.{Serves, exports_seen};
 ghost use Rattle.rquota_serve.specs.Serving.{Stopped};
-ghost use Rattle.serve_command.specs.Serve.{AnsweringMayRefuse, AnsweringSteps, AreExported, IsAsAsked, MayExport, ServeMayRefuse, ServeSteps, first_file, serve_cause, serve_uses, serving_reads};
+ghost use Rattle.serve_command.specs.Serve.{AnsweringSteps, ServeMayRefuse, ServeSteps, serving_reads};
+ghost use Rattle.serve_steps.specs.Exporting.{AnsweringMayRefuse, AreExported, IsAsAsked, MayExport, serve_uses};
 
-use crate::exporting::add_all;
-use option_words::{Export, ExportList};
+use option_words::ExportList;
 use quota_blocks::{Link, Store};
 use quota_types::Format;
 use refusals::{Cause, Refusal, Word};
-use rquota_serve::{Exports, ServeFault, serve};
-use run_steps::file_cause;
+use rquota_serve::{Exports, serve};
+use serve_steps::{add_all, first_file, serve_cause};
 use std::alloc::Global;
 
 /// Exports quota files under paths, starts the link at a port, once, takes exactly `calls` datagrams that are sent to it, those
@@ -69,20 +68,6 @@ pub fn serve_files<S: Store, L: Link>(
     }
 }
 
-/// A copy of the name of the first file, which is named where a file is found damaged while calls are answered.
-fn first_file(alloc: Global, exports: &[Export]) -> Result<Word, Refusal>
-    ensures copied { IfOk result (λ file. file ≡ first_file exports.now) }
-    ensures wanting { IfErr result (λ refusal. refusal ≡ refusal_of Memory []) }
-{
-    let Some(export) = exports.first() else {
-        return Ok(Word::empty(alloc));
-    };
-    match Word::copy_of(alloc, export.file.as_str()) {
-        Ok(file) => Ok(file),
-        Err(_) => Err(Refusal::of(Cause::Memory, Word::empty(alloc))),
-    }
-}
-
 /// Starts the link at a port, takes this many datagrams that are sent to it, and answers them. It takes no memory. Where a file
 /// is found damaged, the refusal gives this name.
 fn answer_calls<S: Store, L: Link>(
@@ -115,15 +100,5 @@ fn answer_calls<S: Store, L: Link>(
     match serve(opened, store, link, calls) {
         Ok(()) => Ok(()),
         Err(fault) => Err(Refusal::of(serve_cause(fault), file)),
-    }
-}
-
-/// What is said where calls were not answered.
-fn serve_cause(fault: ServeFault) -> Cause
-    ensures { result ≡ serve_cause fault }
-{
-    match fault {
-        ServeFault::Link => Cause::LinkFault,
-        ServeFault::File(fault) => file_cause(fault),
     }
 }

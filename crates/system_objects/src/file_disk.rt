@@ -9,7 +9,7 @@ use std::fs::{File, Files};
 use std::io;
 use undo_trust::gates::Gate;
 use undo_trust::trust::Distrust;
-use undo_trust::undo::{UNDO, plain_name, undo_path, undone_file};
+use undo_trust::undo::{UNDO, plain_name, shown_undo, undone_file};
 
 /// A call on a disk that the system refused.
 #[derive(Drop)]
@@ -31,10 +31,10 @@ fn failed_name<R: Files<File = File>>(
     at: FailedAt,
 ) -> io::Result<String> {
     match (at, undone_file(name)) {
-        (FailedAt::Name, Some((file, ending))) => undo_path(alloc, files, file, ending),
+        (FailedAt::Name, Some((file, ending))) => shown_undo(alloc, files, file, ending),
         (FailedAt::Name, None) => Ok(String::from_str(alloc, name)?),
         (FailedAt::Plain, _) => Ok(String::from_str(alloc, plain_name(name))?),
-        (FailedAt::Undo, _) => undo_path(alloc, files, plain_name(name), UNDO),
+        (FailedAt::Undo, _) => shown_undo(alloc, files, plain_name(name), UNDO),
     }
 }
 

@@ -11,7 +11,7 @@ use std::io::ErrorKind;
 use undo_trust::beside::{Beside, OpenBeside, open_beside};
 use undo_trust::owner::give_owner;
 use undo_trust::trust::{Distrust, change_of, distrust_of, serves};
-use undo_trust::undo::{OPEN, UNDO, UNREAD, is_open, undone_file};
+use undo_trust::undo::{OPEN, UNDO, UNREAD, is_open, shown_undo, undone_file};
 
 /// An undo file that was just opened, and whether it was opened to be written to.
 #[derive(Drop)]
@@ -126,7 +126,7 @@ impl<'a, R: Files<File = File>> OpenFiles<'a, R> {
         let distrust = distrust_of(undo, of);
         if is_open(&found.undo.file)? {
             self.stand_beside(path, of)?;
-            self.believe(file, path, undo, of, distrust)?;
+            self.believe(file, undo, of, distrust)?;
             return Ok(true);
         }
         let is_ours = self.gates.has_made(file, Node::of(undo)) || serves(undo, of);
@@ -139,7 +139,6 @@ impl<'a, R: Files<File = File>> OpenFiles<'a, R> {
     fn believe(
         &mut self,
         file: &str,
-        path: &str,
         undo: &Metadata,
         of: Option<&Metadata>,
         distrust: Option<Distrust>,
@@ -156,7 +155,8 @@ impl<'a, R: Files<File = File>> OpenFiles<'a, R> {
             return self.at(FailedAt::Undo, Err(refused));
         }
         if !is_known {
-            self.gates.note_found(file, path, node)?;
+            let shown = shown_undo(self.alloc, self.files, file, UNDO)?;
+            self.gates.note_found(file, shown.as_str(), node)?;
         }
         Ok(())
     }

@@ -38,7 +38,7 @@ impl Gate {
         self.file.as_str()
     }
 
-    /// Where the undo file is.
+    /// Where the undo file is, as it may be shown.
     pub fn undo(&self) -> &str {
         self.undo.as_str()
     }
@@ -98,7 +98,7 @@ impl Gates {
         known.is_some_and(|gate| gate.made == Some(undo))
     }
 
-    /// Notes a gate that was found open, in the undo file at a place.
+    /// Notes a gate that was found open, in the undo file that is shown so.
     pub fn note_found(&mut self, file: &str, place: &str, undo: Node) -> Result<(), AllocError> {
         let place = String::from_str(self.alloc, place)?;
         let gate = self.of(file)?;

@@ -47,6 +47,23 @@ pub fn undo_path<R: Files<File = File>>(
     Ok(path)
 }
 
+/// Where an undo file of a file is, as it may be shown on a terminal: a place behind a link may have any characters, which its
+/// owner chose. Where one is not from `!` to `~` the undo file is called by the name of its file.
+pub fn shown_undo<R: Files<File = File>>(
+    alloc: Global,
+    files: &R,
+    file: &str,
+    ending: &str,
+) -> io::Result<String> {
+    let place = undo_path(alloc, files, file, ending)?;
+    if place.as_bytes().iter().all(|byte| byte.is_ascii_graphic()) {
+        return Ok(place);
+    }
+    let mut name = String::from_str(alloc, file)?;
+    name.push_str(ending)?;
+    Ok(name)
+}
+
 /// The most times that an undo file is looked at which another command exchanges meanwhile.
 const MOST_LOOKS: u32 = 8;
 

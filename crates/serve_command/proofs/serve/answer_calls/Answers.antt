@@ -6,7 +6,8 @@ use Rattle.run_steps.specs.Done.{seen_of, tells_of}
 use Rattle.run_steps.proofs.StartingLemmas.{carries_starting, with_start}
 use Rattle.rquota_serve.specs.Exports.{Serves, exports_seen}
 use Rattle.rquota_serve.proofs.LookingLemmas.{on_file, serve_fault}
-use Rattle.serve_command.specs.Serve.{AnsweringSteps, serve_uses}
+use Rattle.serve_command.specs.Serve.{AnsweringSteps}
+use Rattle.serve_steps.specs.Exporting.{serve_uses}
 use Rattle.serve_command.proofs.AnsweringLemmas.{nothing_stopped, of_passed, of_refused, served_carried, stopped_carried, unstarted_carried, with_link}
 use Rattle.serve_command.proofs.serve.answer_calls.Goals as goal
 

@@ -9,9 +9,10 @@ use Rattle.run_steps.proofs.PhaseLemmas.{carries_more, memory_no_output, nothing
 use Rattle.rquota_serve.specs.Exported.{Exported, nothing_exported}
 use Rattle.rquota_serve.specs.Exports.{Serves}
 use Rattle.rquota_serve.proofs.ServingLemmas.{stopped-before}
-use Rattle.serve_command.specs.Serve.{AnsweringMayRefuse, AnsweringSteps, AreExported, ExportingMayRefuse, ServeMayRefuse, ServeSteps, first_file, serve_uses}
+use Rattle.serve_command.specs.Serve.{AnsweringSteps, ServeMayRefuse, ServeSteps}
+use Rattle.serve_steps.specs.Exporting.{AnsweringMayRefuse, AreExported, ExportingMayRefuse, first_file, serve_uses}
 use Rattle.serve_command.proofs.AnsweringLemmas.{nothing_stopped}
-use Rattle.serve_command.proofs.ExportingLemmas.{exported_once, if_refused, serves_nothing}
+use Rattle.serve_steps.proofs.ExportingLemmas.{exported_once, if_refused, serves_nothing}
 use Rattle.serve_command.proofs.serve.serve_files.Goals as goal
 
 pub returns-in-Ok-first_file-clause-carries : goal.returns-in-Ok-first_file-clause-carries

@@ -1,0 +1,3 @@
+pub mod Connections
+pub mod Events
+pub use Rattle.outside.specs.Count

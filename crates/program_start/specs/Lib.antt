@@ -1,0 +1,3 @@
+pub mod About
+pub mod Reason
+pub mod Starting

@@ -1,0 +1,10 @@
+pub mod Asking
+pub mod Exchange
+pub mod Receiving
+pub mod Line
+pub mod Writing
+pub mod Words
+pub mod Paths
+pub mod Served
+pub mod Run
+pub mod Steps

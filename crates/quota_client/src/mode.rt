@@ -1,0 +1,8 @@
+/// What a client prints of each path.
+#[derive(Clone, Copy, Debug, PartialEq, Eq)]
+pub enum Mode {
+    /// Usage, limits and grace periods.
+    Quota,
+    /// Soft limits that are exceeded, and nothing else of a quota.
+    Warn,
+}

@@ -1,0 +1,81 @@
+-- Quota files that are named together with the paths under which they are told of, and out of which calls are answered. Source: the
+-- manual page of rpc.rquotad; that quota files are named with their paths is this project's own.
+use Rattle.std.specs.Prelude.{◌≡◌, ◌⊎◌, ℕ, true, false, List, [], ◌∷◌, map, Option, ⊤}
+use Rattle.quota_types.specs.declared.file_kind.Format.{Format}
+use Rattle.quota_blocks.specs.QuotaValue.{QuotaValue}
+use Rattle.quota_blocks.specs.World.{World}
+use Rattle.quota_map.specs.View.{IsOpenedAs}
+use Rattle.rquota_serve.specs.Adding.{AreToldOf, MayAddAll, NewSeen}
+use Rattle.rquota_serve.specs.Exported.{Exported, with_export}
+use Rattle.rquota_serve.specs.Exports.{ExportSeen}
+use Rattle.rquota_serve.specs.declared.fault.ServeFault.{ServeFault}
+use Rattle.rquota_serve.specs.declared.fault.ServeFault.TheVariants.{Link as LinkFailed, File as FileFailed}
+use Rattle.option_words.specs.declared.export.Export.{Export}
+use Rattle.refusals.specs.declared.cause.Cause.{Cause}
+use Rattle.refusals.specs.declared.cause.Cause.TheVariants.{StoreFault, LinkFault, Memory, Damaged}
+use Rattle.run_steps.specs.Opening.{IsDamageAs, MayRefuseOpening, file_cause}
+use Rattle.run_steps.specs.Run.{Uses}
+use Rattle.run_steps.specs.Steps.{Opening, Steps}
+
+-- The steps.
+
+-- quota files are opened in order, each value is exported under its path for its kind, and then comes what the next steps say of all
+-- that is exported
+abbrev pub OpeningAll : Option Format → List Export → Exported → (Exported → Steps) → Steps
+OpeningAll format [] exported next = next exported
+OpeningAll format (export ∷ exports) exported next =
+    Opening export.kind format export.file (λ (value : QuotaValue).
+    OpeningAll format exports (with_export exported export.path export.kind value) next)
+
+-- the link is started, datagrams are taken from it and answered, and the store is only read
+abbrev pub serve_uses : Uses
+serve_uses = record { input = false; out = false; link = true; changes = false; all_or_nothing = true; warns = false; reads_commands = false; reads_edits = false }
+
+-- What is exported.
+
+-- a file that words name, as it is seen by whoever exports it
+abbrev pub new_of : Export → NewSeen
+new_of export = record { path = export.path; kind = export.kind; file = export.file }
+
+-- all of them
+abbrev pub news_of : List Export → List NewSeen
+news_of exports = map new_of exports
+
+-- These files are exported beside what is exported before: each is seen as a value, which is exported under its path for its kind.
+abbrev pub AreExported : Option Format → World → List Export → (before exported : Exported) → Type 0
+AreExported format files exports before exported = AreToldOf format files (news_of exports) before exported
+
+-- These files may be exported one after another behind those that are exported before: there are 16 at most, and no two have the same
+-- path and kind.
+abbrev pub MayExport : (before : List ExportSeen) → List Export → Type 0
+MayExport before exports = MayAddAll before (news_of exports)
+
+-- the file of an export is opened in the format that is asked for, or as one that needs no asking
+abbrev pub IsAsAsked : Option Format → ExportSeen → Type 0
+IsAsAsked format export = IsOpenedAs format export.file.format
+
+-- What is said.
+
+-- what is said where calls were not answered
+abbrev pub serve_cause : ServeFault → Cause
+serve_cause LinkFailed = LinkFault
+serve_cause (FileFailed fault) = file_cause fault
+
+-- the name of the first file
+abbrev pub first_file : List Export → List ℕ
+first_file [] = []
+first_file (export ∷ exports) = export.file
+
+-- the causes for which one of the files may not be exported, whatever is told, with the name that is said
+abbrev pub ExportingMayRefuse : Option Format → List Export → Cause → List ℕ → Type 0
+ExportingMayRefuse format [] cause name = ⊥
+ExportingMayRefuse format (export ∷ exports) cause name =
+    MayRefuseOpening format export.file cause name ⊎ ExportingMayRefuse format exports cause name
+
+-- The causes for which calls may not be answered, whatever is told. A damage is said to be one of the file of this name.
+abbrev pub AnsweringMayRefuse : Option Format → List ℕ → Cause → List ℕ → Type 0
+AnsweringMayRefuse format file StoreFault name = ⊤
+AnsweringMayRefuse format file LinkFault name = ⊤
+AnsweringMayRefuse format file Memory name = ⊤
+AnsweringMayRefuse format file (Damaged damage) name = IsDamageAs format damage × (name ≡ file)
+AnsweringMayRefuse format file _ name = ⊥
