@@ -1,6 +1,6 @@
 -- The step of an edit that is met at a line, of one value in two files: it is the same, unless one of the files is full.
 use Rattle.std.proofs.Common.{inl, inr, ℕ, true, List, Option, ap}
-use Rattle.quota_blocks.specs.QuotaValue.{QuotaValue}
+use Rattle.quota_value.specs.QuotaValue.{QuotaValue}
 use Rattle.set_edit.specs.Editing.{Edit}
 use Rattle.refusals.specs.Outcome.{Outcome, Passed, Refused}
 use Rattle.run_steps.specs.Act.{Act, Way}

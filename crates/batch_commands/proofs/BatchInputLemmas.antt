@@ -4,10 +4,10 @@ use Rattle.std.specs.Prelude.{⊤, ◌&&◌, IfOk, IfSome, MatchResult}
 use Rattle.std.specs.Str.{all_ascii_digits}
 use Rattle.id_names.specs.FirstMatch.{first_id}
 use Rattle.id_names.specs.NamesFile.{NameLine}
-use Rattle.quota_blocks.specs.InputLines.{InputLines, NoLine, LineThen, LongNext, PastNext, lines_left}
-use Rattle.quota_blocks.specs.Lines.{LinesSeen}
-use Rattle.quota_blocks.specs.Numeral.{value_of}
-use Rattle.quota_blocks.specs.Words.{words_of}
+use Rattle.input_text.specs.InputLines.{InputLines, NoLine, LineThen, LongNext, PastNext, lines_left}
+use Rattle.input_text.specs.Lines.{LinesSeen}
+use Rattle.input_text.specs.Numeral.{value_of}
+use Rattle.input_text.specs.Words.{words_of}
 use Rattle.set_edit.specs.Number.{limit_of}
 use Rattle.batch_commands.specs.declared.batch_input.InputFault.{InputFault}
 use Rattle.batch_commands.specs.declared.batch_input.InputFault.TheVariants.{Memory as NoMemory}

@@ -6,10 +6,10 @@ use Rattle.id_names.specs.NamesFile.{NameLine}
 use Rattle.quota_types.specs.declared.field.Field.{Field}
 use Rattle.quota_types.specs.declared.file_kind.Format.{Format}
 use Rattle.quota_types.specs.declared.file_kind.Kind.{Kind}
-use Rattle.quota_blocks.specs.InputLines.{InputLines, NoLine, LineThen, LongNext, PastNext, input_lines}
-use Rattle.quota_blocks.specs.QuotaValue.{QuotaValue}
-use Rattle.quota_blocks.specs.StoreInput.{left_from}
-use Rattle.quota_blocks.specs.World.{World}
+use Rattle.input_text.specs.InputLines.{InputLines, NoLine, LineThen, LongNext, PastNext, input_lines}
+use Rattle.quota_value.specs.QuotaValue.{QuotaValue}
+use Rattle.input_text.specs.StoreInput.{left_from}
+use Rattle.outside.specs.World.{World}
 use Rattle.quota_map.specs.View.{IsView}
 use Rattle.command_words.specs.declared.command.Common.{Common}
 use Rattle.refusals.specs.declared.cause.Cause.{Cause}

@@ -1,7 +1,7 @@
 -- What a batch looks at: that its looks at the files are alike in two worlds, and which file it comes to open.
 use Rattle.std.proofs.Common.{◌≡◌, ℕ, true, List, [], ◌∷◌, Option}
-use Rattle.quota_blocks.specs.QuotaValue.{QuotaValue}
-use Rattle.quota_blocks.specs.World.{World}
+use Rattle.quota_value.specs.QuotaValue.{QuotaValue}
+use Rattle.outside.specs.World.{World}
 use Rattle.id_names.specs.NamesFile.{NameLine}
 use Rattle.command_words.specs.declared.command.Common.{Common}
 use Rattle.run_steps.specs.Act.{Act, Way}

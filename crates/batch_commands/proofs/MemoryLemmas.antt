@@ -3,18 +3,18 @@ use Rattle.std.proofs.Common.{◌≡◌, ℕ, Bool, true, false, List, [], Optio
 use Rattle.std.specs.Prelude.{◌<◌, ◌≤◌, IfErr}
 use Rattle.std.proofs.lemmas.Bool.{false≢true}
 use Rattle.std.proofs.lemmas.Option.{same_Some}
-use Rattle.quota_blocks.specs.declared.quota_file.OpenFault.{OpenFault}
-use Rattle.quota_blocks.specs.declared.quota_file.OpenFault.TheVariants.{Store as NotRead, Memory as NoMemory}
+use Rattle.opened_file.specs.declared.quota_file.OpenFault.{OpenFault}
+use Rattle.opened_file.specs.declared.quota_file.OpenFault.TheVariants.{Store as NotRead, Memory as NoMemory}
 use Rattle.quota_map.proofs.SeenLemmas.{IsOfCall}
 use Rattle.file_in_memory.specs.OneFile.{only_file}
-use Rattle.quota_blocks.specs.EditsOne.{EditsOne, StaysUnlessWritten}
-use Rattle.quota_blocks.specs.Frame.{OnlyReads}
-use Rattle.quota_blocks.specs.QuotaValue.{QuotaValue}
+use Rattle.opened_file.specs.EditsOne.{EditsOne, StaysUnlessWritten}
+use Rattle.outside.specs.Frame.{OnlyReads}
+use Rattle.quota_value.specs.QuotaValue.{QuotaValue}
 use Rattle.quota_map.specs.View.{IsView}
 use Rattle.quota_types.specs.declared.file_kind.Format.{Format}
 use Rattle.quota_types.specs.declared.file_kind.Kind.{Kind}
-use Rattle.quota_blocks.specs.Seen.{LinkSeen, SinkSeen, SourceSeen, StoreSeen}
-use Rattle.quota_blocks.specs.World.{KeepsOthers, World}
+use Rattle.outside.specs.Seen.{LinkSeen, SinkSeen, SourceSeen, StoreSeen}
+use Rattle.outside.specs.World.{KeepsOthers, World}
 use Rattle.refusals.specs.declared.cause.Cause.{Cause}
 use Rattle.refusals.specs.declared.reason.Refusal.{Refusal}
 use Rattle.refusals.specs.Status.{status_of}

@@ -1,8 +1,8 @@
 -- What lines do rests on the file that they edit alone: as they end in one world, they end in any other that has the same file.
 use Rattle.std.proofs.Common.{◌≡◌, ℕ, Bool, true, false, List, [], ◌∷◌, Option, None, Some, Ok, Err, Result, refl, sym, ap, subst, ◌∙◌}
 use Rattle.quota_types.specs.declared.field.Field.{Field}
-use Rattle.quota_blocks.specs.QuotaValue.{QuotaValue}
-use Rattle.quota_blocks.specs.World.{World, with_file}
+use Rattle.quota_value.specs.QuotaValue.{QuotaValue}
+use Rattle.outside.specs.World.{World, with_file}
 use Rattle.outside.proofs.WorldLemmas.{KeepsOthers-with_file, with_file-again, with_file-at, with_file-same}
 use Rattle.quota_map.specs.View.{IsView}
 use Rattle.set_edit.specs.Editing.{Edit}

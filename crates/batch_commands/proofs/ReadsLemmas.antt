@@ -10,13 +10,13 @@ use Rattle.quota_types.specs.declared.file_kind.Kind.TheVariants.{User, Group}
 use Rattle.entry_codec.specs.Header.{header_of, magic_of}
 use Rattle.tree_build.specs.TreeFile.{TreeStandsFor}
 use Rattle.id_names.specs.NamesFile.{NameLine}
-use Rattle.quota_blocks.specs.Block.{file_of}
+use Rattle.file_blocks.specs.Block.{file_of}
 use Rattle.quota_types.specs.declared.file_kind.Format.{Format}
-use Rattle.quota_blocks.specs.QuotaFile.{FileSeen}
-use Rattle.quota_blocks.specs.QuotaValue.{QuotaValue}
-use Rattle.quota_blocks.specs.Replace.{pieces_of}
-use Rattle.quota_blocks.specs.Seen.{StoreSeen}
-use Rattle.quota_blocks.specs.World.{World}
+use Rattle.opened_file.specs.QuotaFile.{FileSeen}
+use Rattle.quota_value.specs.QuotaValue.{QuotaValue}
+use Rattle.opened_file.specs.Replace.{pieces_of}
+use Rattle.outside.specs.Seen.{StoreSeen}
+use Rattle.outside.specs.World.{World}
 use Rattle.quota_map.specs.AnyFile.{any_change_reads, reads_of_get}
 use Rattle.quota_map.specs.View.{IsView, opening_reads}
 use Rattle.quota_map.proofs.AnyLemmas.{any_few_gets, any_few_reads, get_few}

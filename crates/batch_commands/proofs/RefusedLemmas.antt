@@ -17,8 +17,8 @@ use Rattle.tree_build.specs.TreeFile.{TreeStandsFor}
 use Rattle.tree_change.specs.Putting.{blocks_taken}
 use Rattle.tree_file.specs.Room.{blocks_wanted, blocks_with_new, has_no_leaf, tree_blocks_wanted}
 use Rattle.file_in_memory.specs.OneFile.{only_file}
-use Rattle.quota_blocks.specs.QuotaValue.{QuotaValue}
-use Rattle.quota_blocks.specs.Replace.{pieces_of}
+use Rattle.quota_value.specs.QuotaValue.{QuotaValue}
+use Rattle.opened_file.specs.Replace.{pieces_of}
 use Rattle.quota_map.specs.View.{IsView, most_blocks}
 use Rattle.refusals.specs.declared.cause.Cause.{Cause}
 use Rattle.refusals.specs.declared.cause.Cause.TheVariants.{Full}

@@ -7,12 +7,12 @@ use Rattle.std.proofs.lemmas.Bool.{cases_Bool, false≢true}
 use Rattle.std.proofs.lemmas.Option.{none-some, same_Some}
 use Rattle.file_in_memory.specs.OneFile.{only_file}
 use Rattle.quota_types.specs.declared.field.Field.{Field}
-use Rattle.quota_blocks.specs.Count.{Rose}
-use Rattle.quota_blocks.specs.Block.{file_of}
-use Rattle.quota_blocks.specs.Frame.{OnlyReads, ReplacesOne, Syncs}
-use Rattle.quota_blocks.specs.Load.{IsLoadFault}
-use Rattle.quota_blocks.specs.declared.whole_file.LoadFault.{LoadFault}
-use Rattle.quota_blocks.specs.declared.whole_file.LoadFault.TheVariants.{Store as NotRead, NoFile, TooLarge, Memory as Wanting}
+use Rattle.outside.specs.Count.{Rose}
+use Rattle.file_blocks.specs.Block.{file_of}
+use Rattle.outside.specs.Frame.{OnlyReads, ReplacesOne, Syncs}
+use Rattle.opened_file.specs.Load.{IsLoadFault}
+use Rattle.opened_file.specs.declared.whole_file.LoadFault.{LoadFault}
+use Rattle.opened_file.specs.declared.whole_file.LoadFault.TheVariants.{Store as NotRead, NoFile, TooLarge, Memory as Wanting}
 use Rattle.outside.proofs.FrameLemmas.{syncs-then}
 use Rattle.quota_map.specs.View.{IsView}
 use Rattle.quota_types.specs.declared.file_kind.Format.{Format}
@@ -21,14 +21,14 @@ use Rattle.quota_types.specs.declared.file_kind.Kind.{Kind}
 use Rattle.run_steps.specs.Naming.{load_cause}
 use Rattle.run_steps.specs.Opening.{MayRefuseOpening}
 use Rattle.run_steps.proofs.ReasonLemmas.{reason_since}
-use Rattle.quota_blocks.specs.QuotaValue.{QuotaValue}
-use Rattle.quota_blocks.specs.Replace.{IsReplaceFault, OnNoMemory}
-use Rattle.quota_blocks.specs.declared.replacement.ReplaceFault.{ReplaceFault}
-use Rattle.quota_blocks.specs.declared.replacement.ReplaceFault.TheVariants.{Store as NotStored, Full, Memory as NoMemory}
-use Rattle.quota_blocks.proofs.ReplaceLemmas.{replacement_name-ne}
-use Rattle.quota_blocks.specs.Replacement.{ReplacesOnly, replaced_files, replacement_name}
-use Rattle.quota_blocks.specs.Seen.{StoreSeen}
-use Rattle.quota_blocks.specs.World.{KeepsOthers, World, with_file}
+use Rattle.quota_value.specs.QuotaValue.{QuotaValue}
+use Rattle.opened_file.specs.Replace.{IsReplaceFault, OnNoMemory}
+use Rattle.opened_file.specs.declared.replacement.ReplaceFault.{ReplaceFault}
+use Rattle.opened_file.specs.declared.replacement.ReplaceFault.TheVariants.{Store as NotStored, Full, Memory as NoMemory}
+use Rattle.opened_file.proofs.ReplaceLemmas.{replacement_name-ne}
+use Rattle.outside.specs.Replacement.{ReplacesOnly, replaced_files, replacement_name}
+use Rattle.outside.specs.Seen.{StoreSeen}
+use Rattle.outside.specs.World.{KeepsOthers, World, with_file}
 use Rattle.outside.proofs.WorldLemmas.{KeepsOthers-with_file, bytes_eq-same, bytes_eq-true, with_file-at, with_file-same}
 use Rattle.set_edit.specs.Editing.{Edit}
 use Rattle.refusals.specs.declared.cause.Cause.{Cause}

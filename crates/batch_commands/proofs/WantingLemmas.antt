@@ -2,9 +2,9 @@
 use Rattle.std.proofs.Common.{◌≢◌, ℕ, List, Ok, Err, Result, subst, ◌∙◌}
 use Rattle.std.specs.Prelude.{IfErr, IfSome}
 use Rattle.id_names.specs.NamesFile.{NameLine}
-use Rattle.quota_blocks.specs.QuotaFile.{WantsNoMemory}
-use Rattle.quota_blocks.specs.Seen.{StoreSeen}
-use Rattle.quota_blocks.specs.declared.quota_file.FileFault.TheVariants.{Store, Damage, Full, Memory as NoMemory}
+use Rattle.opened_file.specs.QuotaFile.{WantsNoMemory}
+use Rattle.outside.specs.Seen.{StoreSeen}
+use Rattle.opened_file.specs.declared.quota_file.FileFault.TheVariants.{Store, Damage, Full, Memory as NoMemory}
 use Rattle.set_edit.specs.EditFault.{file_fault}
 use Rattle.set_edit.specs.declared.fault.EditFault.{EditFault}
 use Rattle.set_edit.specs.declared.fault.EditFault.TheVariants.{File, NoRoom as Unfit}

@@ -5,12 +5,12 @@ use Rattle.std.specs.List.{list_all}
 use Rattle.std.specs.Str.{is_utf8}
 use Rattle.id_names.specs.NamesFile.{NameLine}
 use Rattle.quota_types.specs.declared.file_kind.Format.{Format}
-use Rattle.quota_blocks.specs.InputLines.{InputLines, NoLine, LineThen, LongNext, PastNext, input_lines}
-use Rattle.quota_blocks.specs.QuotaValue.{QuotaValue}
-use Rattle.quota_blocks.specs.Words.{words_of}
-use Rattle.quota_blocks.specs.Block.{file_of}
-use Rattle.quota_blocks.specs.Replace.{pieces_of}
-use Rattle.quota_blocks.specs.World.{World}
+use Rattle.input_text.specs.InputLines.{InputLines, NoLine, LineThen, LongNext, PastNext, input_lines}
+use Rattle.quota_value.specs.QuotaValue.{QuotaValue}
+use Rattle.input_text.specs.Words.{words_of}
+use Rattle.file_blocks.specs.Block.{file_of}
+use Rattle.opened_file.specs.Replace.{pieces_of}
+use Rattle.outside.specs.World.{World}
 use Rattle.quota_map.specs.View.{most_blocks, opening_reads}
 use Rattle.set_edit.specs.Editing.{Edit}
 use Rattle.set_edit.specs.Edits.{limits_edit}

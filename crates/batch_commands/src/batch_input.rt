@@ -1,10 +1,10 @@
 ghost use Rattle.std.specs.Prelude.{◌≡◌, ◌≤◌, ◌<◌, ◌-◌, [], true, false, IfErr, IfOk, IfSome, IsSome, IsTrue, MatchResult, None, Ok, Some, unwrap_or};
-ghost use Rattle.quota_blocks.specs.Behind.{IsBehind};
-ghost use Rattle.quota_blocks.specs.Count.{Rose};
-ghost use Rattle.quota_blocks.specs.Frame.{OnlyReads};
-ghost use Rattle.quota_blocks.specs.InputLines.{lines_left};
-ghost use Rattle.quota_blocks.specs.StoreInput.{left_from};
-ghost use Rattle.quota_blocks.specs.Unsynced.{AddsNone};
+ghost use Rattle.outside.specs.Behind.{IsBehind};
+ghost use Rattle.outside.specs.Count.{Rose};
+ghost use Rattle.outside.specs.Frame.{OnlyReads};
+ghost use Rattle.input_text.specs.InputLines.{lines_left};
+ghost use Rattle.input_text.specs.StoreInput.{left_from};
+ghost use Rattle.outside.specs.Unsynced.{AddsNone};
 ghost use Rattle.refusals.specs.Outcome.{Passed};
 ghost use Rattle.run_steps.specs.Taking.{InputMayRefuse, IsInputFault, Lines, file_said, input_name, input_said};
 ghost use Rattle.batch_commands.specs.Batch.{IsOfLine, batch_step, input_asks, input_cause, lines_ask, read_then, refusal_read};
@@ -15,7 +15,8 @@ ghost use Rattle.refusals.specs.Refusals.{nowhere, refusal_of};
 use crate::batch_line::{LineEdit, LineRead, read_edit_line};
 use arrayvec::ArrayVec;
 use id_names::Names;
-use quota_blocks::{LineFault, LineReader, Source, Store, StoreInput, StoreSource};
+use input_text::{LineFault, LineReader, StoreInput, StoreSource};
+use outside::{Source, Store};
 use refusals::{Cause, Refusal, Word};
 use std::alloc::Global;
 

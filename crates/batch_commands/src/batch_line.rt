@@ -1,11 +1,11 @@
 ghost use Rattle.std.specs.Prelude.{◌≡◌, map, true, false, IfOk, MatchOption, MatchResult};
 ghost use Rattle.std.specs.Str.{is_utf8};
-ghost use Rattle.quota_blocks.specs.Words.{words_of};
+ghost use Rattle.input_text.specs.Words.{words_of};
 ghost use Rattle.batch_commands.specs.Batch.{at_line, five_of, limits_asked, line_asks, line_named, line_outcome, read_at};
 ghost use Rattle.refusals.specs.Outcome.{Passed, Refused};
 
 use id_names::Names;
-use quota_blocks::words;
+use input_text::words;
 use refusals::{Cause, Place, Refusal, Word};
 use run_steps::{read_identifier, read_limits, says_nothing};
 use set_edit::Limits;

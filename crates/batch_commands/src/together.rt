@@ -2,11 +2,11 @@ ghost use Rattle.std.specs.Prelude.{◌≡◌, ◌⊎◌, ◌+◌, ◌*◌, ◌<
 ghost use Rattle.std.specs.Option.{option_map};
 ghost use Rattle.outside.specs.Frame.{Syncs};
 ghost use Rattle.outside.specs.Replacement.{ReplacesOnly, replacement_name};
-ghost use Rattle.quota_blocks.specs.Block.{file_of};
-ghost use Rattle.quota_blocks.specs.Load.{IsLoadFault};
-ghost use Rattle.quota_blocks.specs.QuotaValue.{QuotaValue};
-ghost use Rattle.quota_blocks.specs.Replace.{pieces_of};
-ghost use Rattle.quota_blocks.specs.Seen.{LinkSeen, SinkSeen, SourceSeen};
+ghost use Rattle.file_blocks.specs.Block.{file_of};
+ghost use Rattle.opened_file.specs.Load.{IsLoadFault};
+ghost use Rattle.quota_value.specs.QuotaValue.{QuotaValue};
+ghost use Rattle.opened_file.specs.Replace.{pieces_of};
+ghost use Rattle.outside.specs.Seen.{LinkSeen, SinkSeen, SourceSeen};
 ghost use Rattle.quota_map.specs.View.{IsOpenedAs, IsView, fresh_seen};
 ghost use Rattle.quota_types.specs.declared.file_kind.Format.{Format as FormatOf};
 ghost use Rattle.refusals.specs.Status.{status_of};
@@ -20,9 +20,8 @@ ghost use Rattle.batch_commands.specs.Together.{AreNeverDone, AreNotTogether, Ha
 use crate::batch::{EditedLines, edit_all};
 use crate::batch_line::LineEdit;
 use file_in_memory::OneFile;
-use quota_blocks::{
-    LoadFault, OpenFault, QuotaFile, ReplaceFault, Store, load, name_of_new, replace,
-};
+use opened_file::{LoadFault, OpenFault, QuotaFile, ReplaceFault, load, name_of_new, replace};
+use outside::Store;
 use quota_map::{AnyFile, open_file};
 use quota_types::{Format, Kind};
 use refusals::{Cause, Refusal, Word};

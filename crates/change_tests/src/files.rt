@@ -1,6 +1,7 @@
 //! Small tree files of users as data.
 
-use quota_blocks::{MemStore, OpenFault};
+use memory_objects::MemStore;
+use opened_file::OpenFault;
 use quota_types::{Entry, Kind, Rec};
 use row_files::next_after;
 use std::alloc::{AllocError, Global};

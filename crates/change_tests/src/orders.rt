@@ -1,6 +1,6 @@
 use crate::files::*;
 use crate::plain::list_with;
-use quota_blocks::MemStore;
+use memory_objects::MemStore;
 use quota_types::Entry;
 use row_files::{Act, make, store_of};
 use std::alloc::{AllocError, Global};

@@ -1,6 +1,8 @@
 use crate::files::*;
 use crate::rows::{FOURTEENTH, THIRTEEN};
-use quota_blocks::{FileFault, MemStore, QuotaFile, Store};
+use memory_objects::MemStore;
+use opened_file::{FileFault, QuotaFile};
+use outside::Store;
 use row_files::{Act, get, make, store_of};
 use std::alloc::{AllocError, Global};
 use std::process::Abort;

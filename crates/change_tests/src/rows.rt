@@ -1,5 +1,6 @@
 use crate::files::*;
-use quota_blocks::{MemStore, Store};
+use memory_objects::MemStore;
+use outside::Store;
 use row_files::{Act, make, store_of};
 use std::alloc::Global;
 use std::process::Abort;

@@ -1,6 +1,7 @@
 use crate::files::*;
 use crate::plain::Plain;
-use quota_blocks::{MemStore, Store};
+use memory_objects::MemStore;
+use outside::Store;
 use quota_types::Rec;
 use row_files::{Act, get, make, store_of};
 use std::alloc::Global;

@@ -1,6 +1,7 @@
 use crate::files::*;
 use crate::rows::{CHANGES, ChangeRow};
-use quota_blocks::{FileFault, MemStore, OpenFault, QuotaFile};
+use memory_objects::MemStore;
+use opened_file::{FileFault, OpenFault, QuotaFile};
 use row_files::{Act, make};
 use std::alloc::Global;
 use std::process::Abort;

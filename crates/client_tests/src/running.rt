@@ -1,6 +1,6 @@
 use crate::parts::bytes_of;
 use memory_network::MemPeer;
-use quota_blocks::MemSink;
+use memory_objects::MemSink;
 use quota_client::run_client;
 use std::alloc::{AllocError, Global};
 

@@ -1,15 +1,15 @@
 -- What is said of a command, and what all that carry one out keep to.
 use Rattle.std.specs.Prelude.{◌≡◌, ◌≢◌, ◌≤◌, ◌⊎◌, ◌+◌, ℕ, Bool, false, None, IsTrue, IfErr, IfSome, OnErr, OnOk, List, Option, Result, is_ok}
 use Rattle.std.specs.Result.{result_err}
-use Rattle.quota_blocks.specs.Frame.{Syncs}
-use Rattle.quota_blocks.specs.Replacement.{ReplacesOnly}
-use Rattle.quota_blocks.specs.Seen.{StoreSeen}
-use Rattle.quota_blocks.specs.World.{KeepsOthers, World}
+use Rattle.outside.specs.Frame.{Syncs}
+use Rattle.outside.specs.Replacement.{ReplacesOnly}
+use Rattle.outside.specs.Seen.{StoreSeen}
+use Rattle.outside.specs.World.{KeepsOthers, World}
 use Rattle.refusals.specs.declared.cause.Cause.{Cause}
 use Rattle.refusals.specs.declared.cause.Cause.TheVariants.{LinkFault, Memory}
 use Rattle.refusals.specs.declared.reason.Refusal.{Refusal}
 use Rattle.refusals.specs.Status.{status_of}
-use Rattle.quota_blocks.specs.QuotaValue.{QuotaValue}
+use Rattle.quota_value.specs.QuotaValue.{QuotaValue}
 use Rattle.run_steps.specs.Act.{MayBeLeft}
 use Rattle.run_steps.specs.Done.{IsUnwritten, IsWorldTold, Outside, RunSeen, RunTells, outside_of}
 use Rattle.run_steps.specs.Run.{CarriesOut, Uses}

@@ -10,7 +10,7 @@ use batch_commands::apply_lines;
 use command_words::Command;
 use edit_commands::{EditWords, apply_by_word, edit_by_words, print_by_word};
 use file_commands::{check_file, convert_file, generate_file, report_file};
-use quota_blocks::{Link, Sink, Source, Store};
+use outside::{Link, Sink, Source, Store};
 use refusals::Refusal;
 use run_steps::Invocation;
 use serve_command::serve_files;

@@ -5,7 +5,7 @@ use Rattle.std.specs.List.{list_all}
 use Rattle.std.specs.Str.{bytes_eq}
 use Rattle.std.proofs.Math.Seq.{drop-append_seam}
 use Rattle.outside.proofs.WorldLemmas.{bytes_eq-same}
-use Rattle.quota_blocks.specs.Replacement.{replacement_name}
+use Rattle.outside.specs.Replacement.{replacement_name}
 use Rattle.option_words.specs.FileName.{ends_so, is_file_name, is_graphic}
 
 -- of some tests that all hold the fourth one holds

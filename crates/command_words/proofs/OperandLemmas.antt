@@ -10,10 +10,9 @@ use Rattle.option_words.specs.declared.tool.Tool.{Tool}
 use Rattle.command_words.specs.Asked.{asked_of, settled}
 use Rattle.option_words.specs.Fault.{fault, unless, ◌>>=◌}
 use Rattle.option_words.specs.FileName.{is_file_name}
-use Rattle.option_words.specs.Items.{Operand, operands_in}
+use Rattle.option_words.specs.Items.{AnyWord, Operand, items_of, operands_in}
 use Rattle.command_words.specs.Modes.{common_of, excludes, mode_of, formed, lacks}
 use Rattle.option_words.specs.Given.{Told, nothing_told, with_items}
-use Rattle.option_words.specs.Items.{AnyWord, items_of}
 use Rattle.option_words.specs.Reads.{operands_seen}
 
 -- seven operands are too many for each mode

@@ -9,9 +9,8 @@ use Rattle.option_words.specs.declared.tool.Tool.{Tool}
 use Rattle.option_words.specs.declared.tool.Tool.TheVariants.{Script}
 use Rattle.option_words.specs.Fault.{fault, unless, with_value, ◌>>=◌}
 use Rattle.command_words.specs.Modes.{excludes, mode_of, formed, lacks}
-use Rattle.option_words.specs.Items.{operands_in}
+use Rattle.option_words.specs.Items.{AnyWord, Item, items_of, operands_in}
 use Rattle.option_words.specs.Given.{Told, nothing_told, with_items}
-use Rattle.option_words.specs.Items.{AnyWord, Item, items_of}
 use Rattle.option_words.specs.Tools.{tool_of}
 use Rattle.refusals.specs.Refusals.{refusal_of}
 

@@ -4,8 +4,8 @@ use Rattle.std.specs.Prelude.{ℕ, Bool, false, not, ◌&&◌, ◌||◌, nat_lt,
 use Rattle.std.specs.Str.{bytes_eq}
 use Rattle.quota_types.specs.declared.file_kind.Kind.{Kind}
 use Rattle.quota_types.specs.declared.file_kind.Kind.TheVariants.{User, Group}
-use Rattle.report_text.specs.declared.options.Options.{Options}
-use Rattle.quota_blocks.specs.Numeral.{number_of}
+use Rattle.report_options.specs.declared.options.Options.{Options}
+use Rattle.input_text.specs.Numeral.{number_of}
 use Rattle.refusals.specs.declared.cause.UsageKind.TheVariants.{MissingOption, WrongOperands, BadValue, BadFileName}
 use Rattle.command_words.specs.declared.command.Command.{Command}
 use Rattle.command_words.specs.declared.command.Command.TheVariants.{Report, SetLimits, CopyLimits, Batch, SetGrace, SetTimes, PrintForm, ApplyForm, Check, Convert, Serve, Script, Generate}

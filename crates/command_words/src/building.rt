@@ -9,8 +9,8 @@ ghost use Rattle.command_words.specs.Usage.{IsFaultOf};
 use crate::copies::{common_of, copy_given, exports_of, word_of};
 use crate::mode::{Mode, kind_asked, options_of};
 use crate::{Command, UsageFault};
+use input_text::read_number;
 use option_words::{Fault, Given, OperandWord, is_file_name, lines_of};
-use quota_blocks::read_number;
 use refusals::{UsageKind, Word};
 use std::alloc::Global;
 

@@ -1,7 +1,7 @@
 use option_words::ExportList;
 use quota_types::{Format, Kind};
 use refusals::Word;
-use report_text::Options;
+use report_options::Options;
 
 /// What the options of a command say that opens a quota file.
 #[derive(Debug, Drop)]

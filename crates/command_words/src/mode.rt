@@ -4,7 +4,7 @@ ghost use Rattle.option_words.specs.Given.{told};
 
 use option_words::{Flags, Given, Tool};
 use quota_types::Kind;
-use report_text::Options;
+use report_options::Options;
 
 /// A mode of a command: what its options choose, with its own operands.
 #[derive(Clone, Copy, Debug, PartialEq, Eq)]

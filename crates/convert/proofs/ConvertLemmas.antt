@@ -10,17 +10,17 @@ use Rattle.quota_types.specs.declared.file_kind.Format.TheVariants.{V1, V2R0, V2
 use Rattle.quota_types.specs.declared.file_kind.Kind.{Kind}
 use Rattle.quota_types.specs.declared.record.Entry.{Entry}
 use Rattle.quota_types.specs.declared.record.Grace.{Grace}
-use Rattle.quota_blocks.specs.Count.{Rose}
-use Rattle.quota_blocks.specs.Listed.{ids_of, value_of}
-use Rattle.quota_blocks.specs.QuotaValue.{QuotaValue}
-use Rattle.quota_blocks.specs.Seen.{StoreSeen}
-use Rattle.quota_blocks.specs.World.{World}
-use Rattle.quota_blocks.specs.declared.quota_file.FileFault.{FileFault}
-use Rattle.quota_blocks.specs.declared.quota_file.FileFault.TheVariants.{Store as CallFailed, Damage as Damaged, Full, Memory as NoMemory}
-use Rattle.quota_blocks.specs.declared.quota_file.OpenFault.{OpenFault}
-use Rattle.quota_blocks.specs.declared.quota_file.OpenFault.TheVariants.{Store, NoFile, TooLarge, Memory, NotQuota, WrongKind, UnknownVersion, BadBlockCount, FormatMismatch, Damage}
-use Rattle.quota_blocks.specs.declared.replacement.ReplaceFault.{ReplaceFault}
-use Rattle.quota_blocks.specs.declared.replacement.ReplaceFault.TheVariants.{Store as MakingFailed, Full as NoBlocks, Memory as NoMemoryToMake}
+use Rattle.outside.specs.Count.{Rose}
+use Rattle.quota_value.specs.Listed.{ids_of, value_of}
+use Rattle.quota_value.specs.QuotaValue.{QuotaValue}
+use Rattle.outside.specs.Seen.{StoreSeen}
+use Rattle.outside.specs.World.{World}
+use Rattle.opened_file.specs.declared.quota_file.FileFault.{FileFault}
+use Rattle.opened_file.specs.declared.quota_file.FileFault.TheVariants.{Store as CallFailed, Damage as Damaged, Full, Memory as NoMemory}
+use Rattle.opened_file.specs.declared.quota_file.OpenFault.{OpenFault}
+use Rattle.opened_file.specs.declared.quota_file.OpenFault.TheVariants.{Store, NoFile, TooLarge, Memory, NotQuota, WrongKind, UnknownVersion, BadBlockCount, FormatMismatch, Damage}
+use Rattle.opened_file.specs.declared.replacement.ReplaceFault.{ReplaceFault}
+use Rattle.opened_file.specs.declared.replacement.ReplaceFault.TheVariants.{Store as MakingFailed, Full as NoBlocks, Memory as NoMemoryToMake}
 use Rattle.outside.proofs.CountLemmas.{Rose-since}
 use Rattle.tree_build.specs.Size.{blocks_needed, ids_in}
 use Rattle.tree_file.specs.View.{IsTreeFault}

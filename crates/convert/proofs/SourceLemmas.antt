@@ -8,8 +8,8 @@ use Rattle.quota_types.specs.declared.record.Entry.{Entry}
 use Rattle.quota_types.specs.declared.record.Grace.{Grace}
 use Rattle.quota_types.specs.Kept.{IsKept}
 use Rattle.quota_types.specs.Range.{grace_unfit}
-use Rattle.quota_blocks.specs.Listed.{records_of, value_of}
-use Rattle.quota_blocks.specs.QuotaValue.{QuotaValue, Records}
+use Rattle.quota_value.specs.Listed.{records_of, value_of}
+use Rattle.quota_value.specs.QuotaValue.{QuotaValue, Records}
 use Rattle.quota_map.specs.View.{IsView}
 use Rattle.quota_map.proofs.SeenLemmas.{view_kind}
 use Rattle.convert.specs.Source.{HasRead}

@@ -19,8 +19,8 @@ use Rattle.quota_types.specs.declared.record.Rec.{Rec}
 use Rattle.quota_types.specs.Kept.{IsKept, kept_of}
 use Rattle.quota_types.specs.Rec.{is_null_of}
 use Rattle.quota_types.proofs.AscendsLemmas.{Ascends, Ascends-of, Ascends-fewer, IsStrictlyIncreasing-of}
-use Rattle.quota_blocks.specs.Listed.{ids_of, records_of, value_of}
-use Rattle.quota_blocks.proofs.ListedLemmas.{map-pairs_of, pairs_of}
+use Rattle.quota_value.specs.Listed.{ids_of, records_of, value_of}
+use Rattle.quota_value.proofs.ListedLemmas.{map-pairs_of, pairs_of}
 use Rattle.convert.specs.Conversion.{all_without_room, converted, converted_value, grace_no_room, lasting, lasting_kept, record_no_room, unless}
 use Rattle.convert.specs.Listing.{kept_entry, kept_list, lasting_entries, list_without_room}
 

@@ -13,7 +13,7 @@ use Rattle.quota_types.specs.declared.record.Rec.{Rec}
 use Rattle.quota_types.specs.Kept.{kept_of}
 use Rattle.quota_types.specs.Range.{grace_unfit, unfit}
 use Rattle.quota_types.specs.Rec.{is_null_of}
-use Rattle.quota_blocks.specs.QuotaValue.{QuotaValue, Records}
+use Rattle.quota_value.specs.QuotaValue.{QuotaValue, Records}
 
 -- the value, unless it is refused
 abbrev pub unless : {A E : Type 0} → Option E → A → Result A E

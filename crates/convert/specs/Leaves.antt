@@ -1,9 +1,9 @@
 -- What a conversion leaves of a store.
 use Rattle.std.specs.Prelude.{◌≡◌, ◌≢◌, ◌≤◌, ◌⊎◌, ℕ, false, List}
-use Rattle.quota_blocks.specs.Replacement.{ReplacesOnly, replacement_name}
-use Rattle.quota_blocks.specs.Seen.{StoreSeen}
-use Rattle.quota_blocks.specs.Unsynced.{AddsNone}
-use Rattle.quota_blocks.specs.World.{KeepsOtherTwo}
+use Rattle.outside.specs.Replacement.{ReplacesOnly, replacement_name}
+use Rattle.outside.specs.Seen.{StoreSeen}
+use Rattle.outside.specs.Unsynced.{AddsNone}
+use Rattle.outside.specs.World.{KeepsOtherTwo}
 
 -- Two names were only looked at: all files are as before, no call of `write` was made, and all other names are as unsynced as they
 -- were.

@@ -3,16 +3,3 @@ pub mod Convert
 pub mod Leaves
 pub mod Listing
 pub mod Source
-pub use Rattle.quota_types.specs.Kept
-pub use Rattle.quota_types.specs.Range
-pub use Rattle.quota_types.specs.Rec
-pub use Rattle.quota_blocks.specs.Count
-pub use Rattle.quota_blocks.specs.Listed
-pub use Rattle.quota_blocks.specs.QuotaValue
-pub use Rattle.quota_blocks.specs.Replace
-pub use Rattle.quota_blocks.specs.Replacement
-pub use Rattle.quota_blocks.specs.Seen
-pub use Rattle.quota_blocks.specs.Unsynced
-pub use Rattle.quota_blocks.specs.World
-pub use Rattle.quota_map.specs.Replacing
-pub use Rattle.quota_map.specs.View

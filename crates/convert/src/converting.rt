@@ -1,14 +1,15 @@
 ghost use Rattle.std.specs.Prelude.{◌≡◌, ◌≢◌, IfErr, IsTrue, OnErr, OnOk, false};
-ghost use Rattle.quota_blocks.specs.Frame.{Syncs};
-ghost use Rattle.quota_blocks.specs.Replacement.{replacement_name};
-ghost use Rattle.quota_blocks.specs.World.{KeepsOthers};
+ghost use Rattle.outside.specs.Frame.{Syncs};
+ghost use Rattle.outside.specs.Replacement.{replacement_name};
+ghost use Rattle.outside.specs.World.{KeepsOthers};
 ghost use Rattle.convert.specs.Convert.{IsConvertFault, IsMade, UnlessMaking, asked_for};
 ghost use Rattle.convert.specs.Leaves.{IsKeptSafe, LeavesOthers, OnlyLooks};
 
 use crate::ConvertFault;
 use crate::keeping::keep_entries;
 use crate::source::{Carried, read_source};
-use quota_blocks::{OpenFault, Store};
+use opened_file::OpenFault;
+use outside::Store;
 use quota_map::replace_file;
 use quota_types::{Format, Kind};
 use std::alloc::Global;

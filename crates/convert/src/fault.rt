@@ -1,4 +1,4 @@
-use quota_blocks::{FileFault, OpenFault, ReplaceFault};
+use opened_file::{FileFault, OpenFault, ReplaceFault};
 use quota_types::NoRoom;
 use thiserror::Error;
 

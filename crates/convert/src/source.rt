@@ -1,11 +1,12 @@
 ghost use Rattle.std.specs.Prelude.{ℕ, IfErr, IfOk, is_ok};
 ghost use Rattle.std.specs.List.Sorted.{IsStrictlyIncreasing};
-ghost use Rattle.quota_blocks.specs.Frame.{OnlyReads};
-ghost use Rattle.quota_blocks.specs.Listed.{ids_of, value_of};
+ghost use Rattle.outside.specs.Frame.{OnlyReads};
+ghost use Rattle.quota_value.specs.Listed.{ids_of, value_of};
 ghost use Rattle.convert.specs.Source.{HasRead, IsSourceFault};
 
 use crate::ConvertFault;
-use quota_blocks::{QuotaFile, Store};
+use opened_file::QuotaFile;
+use outside::Store;
 use quota_map::{open_file, read_all};
 use quota_types::{Entry, Format, Grace, Kind};
 use std::alloc::Global;

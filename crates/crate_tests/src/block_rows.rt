@@ -1,4 +1,4 @@
-use quota_blocks::{le16, le32, le64, set_le16, set_le32, set_le64};
+use file_blocks::{le16, le32, le64, set_le16, set_le32, set_le64};
 use std::process::Abort;
 
 /// Bytes that stand from a place of a block on.

@@ -1,6 +1,6 @@
 use crate::made_files::{LIMITS, Made};
 use crate::opened_steps::{Part, Step, Story, are_parts, expect_stories};
-use quota_blocks::FileFault;
+use opened_file::FileFault;
 use quota_types::{Damage, DamageKind, Entry, Format, Grace, Kind, Rec};
 use quota_v1::build_v1;
 use std::alloc::{AllocError, Global};

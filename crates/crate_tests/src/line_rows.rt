@@ -1,7 +1,7 @@
 use arrayvec::ArrayVec;
-use quota_blocks::{
-    LineFault, LineReader, MemSource, MemStore, Source, SourceFault, Store, StoreInput, StoreSource,
-};
+use input_text::{LineFault, LineReader, StoreInput, StoreSource};
+use memory_objects::{MemSource, MemStore};
+use outside::{Source, SourceFault, Store};
 use std::alloc::{AllocError, Global};
 use std::process::Abort;
 
@@ -15,7 +15,7 @@ struct Pieces {
 impl Source for Pieces {
     ghost use Rattle.std.specs.Prelude.{false, ⊤};
     ghost use Rattle.std.proofs.lemmas.Bool.{false≢true};
-    ghost use Rattle.quota_blocks.specs.InMemory.{mem_source_seen};
+    ghost use Rattle.memory_objects.specs.InMemory.{mem_source_seen};
 
     ghost tells = { false };
 

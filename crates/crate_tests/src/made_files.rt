@@ -1,4 +1,6 @@
-use quota_blocks::{MemStore, ReplaceFault, Store};
+use memory_objects::MemStore;
+use opened_file::ReplaceFault;
+use outside::Store;
 use quota_map::replace_file;
 use quota_types::{Entry, Format, Grace, Kind, Rec};
 use std::alloc::Global;

@@ -1,6 +1,7 @@
 use crate::made_files::{DOUBLED, LAST, LIMITS, LIST, Made, NULLS, PERIODS, USED, make};
 use crate::opened_steps::{Step, Story, expect_stories};
-use quota_blocks::{FileFault, MemStore, OpenFault, QuotaFile, ReplaceFault};
+use memory_objects::MemStore;
+use opened_file::{FileFault, OpenFault, QuotaFile, ReplaceFault};
 use quota_map::open_file;
 use quota_types::{Damage, DamageKind, Format, Kind};
 use std::alloc::Global;

@@ -1,7 +1,9 @@
 //! Steps of opened files of all formats, and the stories that are made of them.
 
 use crate::made_files::{Made, make};
-use quota_blocks::{FileFault, MemStore, QuotaFile, Store};
+use memory_objects::MemStore;
+use opened_file::{FileFault, QuotaFile};
+use outside::Store;
 use quota_map::{AnyFile, open_file, read_all};
 use quota_types::{Entry, Format, Grace, Kind, Rec};
 use row_files::{Act, get, next_after};

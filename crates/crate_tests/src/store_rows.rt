@@ -1,4 +1,6 @@
-use quota_blocks::{LoadFault, MemStore, ReplaceFault, Store, StoreFault, load, replace};
+use memory_objects::MemStore;
+use opened_file::{LoadFault, ReplaceFault, load, replace};
+use outside::{Store, StoreFault};
 use std::alloc::Global;
 use std::process::Abort;
 

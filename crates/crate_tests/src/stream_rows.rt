@@ -1,4 +1,6 @@
-use quota_blocks::{Got, Link, MemLink, MemSink, MemSource, Sink, SinkFault, Source, TextBuffer};
+use input_text::TextBuffer;
+use memory_objects::{MemLink, MemSink, MemSource};
+use outside::{Got, Link, Sink, SinkFault, Source};
 use std::alloc::{AllocError, Global};
 use std::process::Abort;
 

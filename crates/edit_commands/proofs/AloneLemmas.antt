@@ -1,9 +1,9 @@
 -- That no file but the named one changes, and by how few calls of `write`.
 use Rattle.std.proofs.Common.{◌≡◌, ℕ, Bool, List, Result, refl, ap, arith}
-use Rattle.quota_blocks.specs.Frame.{OnlyReads}
-use Rattle.quota_blocks.specs.QuotaFile.{FileSeen}
-use Rattle.quota_blocks.specs.Seen.{StoreSeen}
-use Rattle.quota_blocks.specs.World.{KeepsOthers}
+use Rattle.outside.specs.Frame.{OnlyReads}
+use Rattle.opened_file.specs.QuotaFile.{FileSeen}
+use Rattle.outside.specs.Seen.{StoreSeen}
+use Rattle.outside.specs.World.{KeepsOthers}
 use Rattle.outside.proofs.FrameLemmas.{keeps_others-then}
 use Rattle.quota_types.specs.declared.file_kind.Format.{Format}
 use Rattle.quota_map.specs.AnyFile.{any_seen}

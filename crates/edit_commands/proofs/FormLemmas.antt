@@ -1,6 +1,6 @@
 -- Forms: why one was not read, and which limits it asks for.
 use Rattle.std.proofs.Common.{◌≡◌, ℕ, Bool, IsTrue, List, [], None, Some, Result, refl, sym, ap, subst}
-use Rattle.quota_blocks.specs.Count.{Rose}
+use Rattle.outside.specs.Count.{Rose}
 use Rattle.input_text.specs.declared.line_reader.LineFault.TheVariants.{Source}
 use Rattle.set_edit.specs.FormReading.{IsFormFault}
 use Rattle.set_edit.specs.declared.form_reading.FormFault.{FormFault}

@@ -5,7 +5,7 @@ use Rattle.id_names.specs.NamesFile.{NameLine}
 use Rattle.quota_types.specs.declared.field.Field.{Field}
 use Rattle.quota_types.specs.declared.file_kind.Format.{Format}
 use Rattle.quota_types.specs.declared.file_kind.Kind.{Kind}
-use Rattle.quota_blocks.specs.QuotaValue.{QuotaValue}
+use Rattle.quota_value.specs.QuotaValue.{QuotaValue}
 use Rattle.input_text.specs.declared.line_reader.LineFault.TheVariants.{Source}
 use Rattle.quota_map.specs.View.{IsView}
 use Rattle.set_edit.specs.Editing.{Edit}

@@ -2,8 +2,8 @@
 use Rattle.std.proofs.Common.{◌≡◌, inl, refl, ℕ, Bool, true, false, List, ◌++◌, Option, None, ap}
 use Rattle.quota_types.specs.declared.file_kind.Kind.{Kind}
 use Rattle.quota_types.specs.declared.file_kind.Format.{Format}
-use Rattle.quota_blocks.specs.QuotaValue.{QuotaValue}
-use Rattle.quota_blocks.specs.World.{World}
+use Rattle.quota_value.specs.QuotaValue.{QuotaValue}
+use Rattle.outside.specs.World.{World}
 use Rattle.quota_types.specs.declared.record.Grace.{Grace as GracePeriods}
 use Rattle.id_names.specs.NamesFile.{NameLine}
 use Rattle.command_words.specs.declared.command.Common.{Common}

@@ -1,7 +1,7 @@
 -- Lines that were said up to one of them.
 use Rattle.std.proofs.Common.{◌≡◌, ℕ, List, [], ◌∷◌, ◌++◌, refl, sym, ap, subst, ◌∙◌, append-nil, append_assoc}
 use Rattle.std.specs.List.{concat}
-use Rattle.quota_blocks.specs.Text.{AppendsPrefix}
+use Rattle.outside.specs.Text.{AppendsPrefix}
 use Rattle.edit_commands.specs.Edits.{IsSaidInPart}
 
 pub concat_append : (lines more : List (List ℕ)) → concat (lines ++ more) ≡ concat lines ++ concat more

@@ -5,7 +5,7 @@ use Rattle.std.proofs.lemmas.Option.{none-some}
 use Rattle.std.specs.Str.{all_ascii_digits, bytes_eq}
 use Rattle.id_names.specs.FirstMatch.{first_id}
 use Rattle.id_names.specs.NamesFile.{NameLine}
-use Rattle.quota_blocks.specs.Numeral.{number_of, value_of}
+use Rattle.input_text.specs.Numeral.{number_of, value_of}
 use Rattle.set_edit.specs.Number.{limit_of}
 use Rattle.set_edit.specs.declared.time_word.TimeWord.TheVariants.{Seconds, Unset}
 use Rattle.refusals.specs.declared.cause.Cause.{Cause}

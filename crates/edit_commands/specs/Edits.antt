@@ -3,9 +3,9 @@
 use Rattle.std.specs.Prelude.{◌≡◌, ◌⊎◌, ℕ, IsTrue, Bool, if◌then◌else◌, List, [], ◌∷◌, ◌++◌, map, codes, Option, None, is_none, Result, Ok, Err}
 use Rattle.std.specs.List.{concat}
 use Rattle.id_names.specs.NamesFile.{NameLine}
-use Rattle.quota_blocks.specs.QuotaValue.{QuotaValue}
-use Rattle.quota_blocks.specs.Text.{AppendsPrefix}
-use Rattle.quota_blocks.specs.World.{World}
+use Rattle.quota_value.specs.QuotaValue.{QuotaValue}
+use Rattle.outside.specs.Text.{AppendsPrefix}
+use Rattle.outside.specs.World.{World}
 use Rattle.set_edit.specs.declared.fault.EditFault.{EditFault}
 use Rattle.set_edit.specs.declared.skipped.Skipped.{Skipped}
 use Rattle.quota_types.specs.declared.file_kind.Format.{Format}

@@ -4,10 +4,3 @@ pub mod Edits
 pub mod Made
 pub mod Print
 pub mod Room
-pub use Rattle.quota_blocks.specs.Frame
-pub use Rattle.quota_blocks.specs.Seen
-pub use Rattle.quota_blocks.specs.Unsynced
-pub use Rattle.run_steps.specs.Changing
-pub use Rattle.run_steps.specs.Done
-pub use Rattle.run_steps.specs.Run
-pub use Rattle.run_steps.specs.Showing

@@ -4,7 +4,7 @@ use Rattle.id_names.specs.FirstMatch.{first_name}
 use Rattle.id_names.specs.NamesFile.{NameLine}
 use Rattle.quota_types.specs.declared.file_kind.Format.{Format}
 use Rattle.quota_types.specs.declared.file_kind.Kind.{Kind}
-use Rattle.quota_blocks.specs.QuotaValue.{QuotaValue}
+use Rattle.quota_value.specs.QuotaValue.{QuotaValue}
 use Rattle.report_text.specs.Report.{shown_name}
 use Rattle.set_edit.specs.Form.{form_of}
 use Rattle.set_edit.specs.Times.{record_in}

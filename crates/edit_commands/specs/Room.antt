@@ -1,7 +1,7 @@
 -- What is seen at the end of a file for which an edit was refused since it would need too many blocks. Source: this project's own.
 use Rattle.std.specs.Prelude.{◌≡◌, ℕ, List, Option}
 use Rattle.id_names.specs.NamesFile.{NameLine}
-use Rattle.quota_blocks.specs.World.{World}
+use Rattle.outside.specs.World.{World}
 use Rattle.set_edit.specs.Edits.{limits_edit}
 use Rattle.set_edit.specs.declared.limits.Limits.{Limits as FourLimits}
 use Rattle.refusals.specs.Outcome.{Passed}

@@ -1,6 +1,6 @@
 ghost use Rattle.std.specs.Prelude.{ℕ, Option, ◌≡◌, Bool, false, Err, IfErr, IsSome, IsTrue, Some, is_ok};
-ghost use Rattle.quota_blocks.specs.Frame.{Syncs};
-ghost use Rattle.quota_blocks.specs.Seen.{LinkSeen, SinkSeen};
+ghost use Rattle.outside.specs.Frame.{Syncs};
+ghost use Rattle.outside.specs.Seen.{LinkSeen, SinkSeen};
 ghost use Rattle.refusals.specs.declared.reason.Refusal.{Refusal};
 ghost use Rattle.run_steps.specs.Done.{seen_of, tells_of};
 ghost use Rattle.refusals.specs.Outcome.{refusal_in};
@@ -17,7 +17,7 @@ use crate::edits::edit_file;
 use crate::form_input::take_form;
 use command_words::Common;
 use id_names::Names;
-use quota_blocks::{Sink, Source, Store};
+use outside::{Sink, Source, Store};
 use quota_types::{Format, Kind};
 use refusals::{Refusal, Word};
 use run_steps::{Invocation, read_identifier, read_names};

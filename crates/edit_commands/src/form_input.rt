@@ -1,9 +1,9 @@
 ghost use Rattle.std.specs.Prelude.{◌≡◌, ◌≤◌, [], false, is_ok, IfErr, IfOk, IsSome, IsTrue, None, OnOk, Some, unwrap_or};
 ghost use Rattle.id_names.specs.FirstMatch.{first_name};
-ghost use Rattle.quota_blocks.specs.Behind.{IsBehind};
-ghost use Rattle.quota_blocks.specs.Count.{Rose};
-ghost use Rattle.quota_blocks.specs.Frame.{OnlyReads};
-ghost use Rattle.quota_blocks.specs.StoreInput.{left_from};
+ghost use Rattle.outside.specs.Behind.{IsBehind};
+ghost use Rattle.outside.specs.Count.{Rose};
+ghost use Rattle.outside.specs.Frame.{OnlyReads};
+ghost use Rattle.input_text.specs.StoreInput.{left_from};
 ghost use Rattle.report_text.specs.Report.{shown_name};
 ghost use Rattle.set_edit.specs.FormReading.{IsFormFault, form_read};
 ghost use Rattle.refusals.specs.Outcome.{Passed};
@@ -14,7 +14,8 @@ ghost use Rattle.refusals.specs.Refusals.{nowhere, refusal_of};
 
 use crate::print::numbered;
 use id_names::Names;
-use quota_blocks::{LineFault, Source, Store, StoreInput, StoreSource};
+use input_text::{LineFault, StoreInput, StoreSource};
+use outside::{Source, Store};
 use quota_types::Kind;
 use refusals::{Cause, Refusal, Word};
 use set_edit::{FormFault, Limits, read_form};

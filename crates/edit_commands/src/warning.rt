@@ -1,11 +1,11 @@
 ghost use Rattle.std.specs.Prelude.{◌≡◌, ◌≢◌, ◌≤◌, ◌++◌, IsTrue, OnErr, OnOk, false};
 ghost use Rattle.std.specs.List.{concat};
-ghost use Rattle.quota_blocks.specs.Count.{Rose};
-ghost use Rattle.quota_blocks.specs.Text.{AppendsPrefix};
+ghost use Rattle.outside.specs.Count.{Rose};
+ghost use Rattle.outside.specs.Text.{AppendsPrefix};
 ghost use Rattle.edit_commands.specs.Edits.{IsSaidInPart, warning_if, warning_line, warnings};
 ghost use Rattle.edit_commands.specs.EditWords.{skips_none};
 
-use quota_blocks::{Sink, SinkFault};
+use outside::{Sink, SinkFault};
 use refusals::{Piece, Place, write_line};
 use set_edit::Skipped;
 

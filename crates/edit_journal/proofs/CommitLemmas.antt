@@ -2,9 +2,9 @@
 use Rattle.std.proofs.Common.{◌≡◌, ◌≢◌, ◌⊎◌, inl, inr, ⊎_elim, ℕ, ◌<◌, ◌≤◌, List, [], ◌∷◌, Option, Some, None, unwrap_or, refl, sym, ap, ◌∙◌, subst, arith}
 use Rattle.std.proofs.lemmas.Bool.{cases_eq, false≢true}
 use Rattle.outside.specs.World.{World, with_bytes}
-use Rattle.crash_disk.specs.DiskSeen.{DiskSeen, EachImage, IsKept, OnlyLeaves, Passes}
-use Rattle.crash_disk.specs.Steps.{IsOutside, TearsRange, Torn}
-use Rattle.crash_disk.proofs.StopLemmas.{only_leaves-passes, only_leaves-then, only_leaves-wider}
+use Rattle.disk.specs.DiskSeen.{DiskSeen, EachImage, IsKept, OnlyLeaves, Passes}
+use Rattle.disk.specs.Steps.{IsOutside, TearsRange, Torn}
+use Rattle.disk.proofs.StopLemmas.{only_leaves-passes, only_leaves-then, only_leaves-wider}
 use Rattle.quota_types.specs.Bytes.{byte_at}
 use Rattle.edit_journal.specs.Settled.{IsSettled, RecoversTo, RecoversToEither, TearsFrom, TearsRanges}
 use Rattle.edit_journal.specs.Spans.{IsOutsideAll, Span}

@@ -1,9 +1,9 @@
 -- The steps of a commit, one after the other.
 use Rattle.std.proofs.Common.{inl, ◌≡◌, ◌≢◌, ℕ, ◌≤◌, List, [], ◌∷◌, length, Option, Some, unwrap_or, subst}
 use Rattle.outside.specs.World.{with_bytes}
-use Rattle.crash_disk.specs.DiskSeen.{DiskSeen, EachImage, IsKept, OnlyLeaves, Passes}
-use Rattle.crash_disk.specs.Steps.{TearsRange}
-use Rattle.crash_disk.proofs.StopLemmas.{only_leaves-wider}
+use Rattle.disk.specs.DiskSeen.{DiskSeen, EachImage, IsKept, OnlyLeaves, Passes}
+use Rattle.disk.specs.Steps.{TearsRange}
+use Rattle.disk.proofs.StopLemmas.{only_leaves-wider}
 use Rattle.edit_journal.specs.Settled.{IsSettled, RecoversTo, RecoversToEither, TearsFrom, TearsRanges}
 use Rattle.edit_journal.specs.Spans.{Span, laid}
 use Rattle.edit_journal.specs.Undo.{Saves}

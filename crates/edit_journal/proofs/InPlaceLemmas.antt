@@ -3,7 +3,7 @@ use Rattle.std.proofs.Common.{◌≡◌, ◌↔◌, IsTrue, inl, inr, ℕ, zero,
 use Rattle.std.specs.Prelude.{nat_eq, nat_le}
 use Rattle.std.proofs.lemmas.Bool.{cases_eq, cases_lt, cond-false, false_from_ne_true, false≢true, leb-true}
 use Rattle.outside.specs.World.{World}
-use Rattle.crash_disk.specs.Steps.{IsOutside, Torn}
+use Rattle.disk.specs.Steps.{IsOutside, Torn}
 use Rattle.quota_types.specs.Bytes.{byte_at, number_at}
 use Rattle.quota_types.proofs.BytesLemmas.{number_same}
 use Rattle.edit_journal.specs.Spans.{Span, laid}

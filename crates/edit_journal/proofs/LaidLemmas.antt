@@ -3,8 +3,8 @@ use Rattle.std.proofs.Common.{◌≡◌, ℕ, ◌+◌, ◌-◌, ◌<◌, ◌≤�
 use Rattle.std.proofs.lemmas.Bool.{cases_lt}
 use Rattle.std.proofs.lemmas.List.{get_or-append_right, get_or_append_left, get_or-take, get_or-drop, length-replicate}
 use Rattle.outside.specs.World.{overwritten}
-use Rattle.crash_disk.specs.Steps.{IsOutside}
-use Rattle.memory_objects.proofs.OverwriteLemmas.{get_or-overwritten_before, get_or-overwritten_behind, length-overwritten}
+use Rattle.disk.specs.Steps.{IsOutside}
+use Rattle.outside.proofs.OverwriteLemmas.{get_or-overwritten_before, get_or-overwritten_behind, length-overwritten}
 use Rattle.edit_journal.specs.Spans.{Span, laid, saved_bytes, with_laid}
 
 -- the bytes that were written

@@ -4,8 +4,8 @@ use Rattle.std.specs.Prelude.{nat_eq, nat_le}
 use Rattle.std.proofs.lemmas.Bool.{false≢true, leb-true}
 use Rattle.outside.proofs.WorldLemmas.{with_file-at}
 use Rattle.outside.specs.World.{World}
-use Rattle.crash_disk.specs.DiskSeen.{DiskSeen, Passes}
-use Rattle.crash_disk.specs.Steps.{IsOutside, TearsRange, with_cut}
+use Rattle.disk.specs.DiskSeen.{DiskSeen, Passes}
+use Rattle.disk.specs.Steps.{IsOutside, TearsRange, with_cut}
 use Rattle.quota_types.specs.Bytes.{number_at}
 use Rattle.edit_journal.specs.Recovery.{IsSame, MendsFile}
 use Rattle.edit_journal.specs.Spans.{Span, laid, with_laid}

@@ -1,7 +1,7 @@
 -- One range more, as the loops over kept ranges come to it.
 use Rattle.std.proofs.Common.{◌≡◌, ℕ, ◌+◌, ◌<◌, ◌≤◌, inl, List, [], ◌∷◌, ◌++◌, length, take, Option, Some, unwrap_or, sym, ap, ◌∙◌, subst, get_or, arith, length-take}
 use Rattle.std.proofs.lemmas.List.{length-map, map_more, take_all}
-use Rattle.crash_disk.specs.Steps.{IsOutside, Torn}
+use Rattle.disk.specs.Steps.{IsOutside, Torn}
 use Rattle.edit_journal.specs.Spans.{Span, laid, span_of, spans_of, with_laid}
 use Rattle.edit_journal.specs.Undo.{SavesFrom, SavesOne, range_at}
 use Rattle.edit_journal.specs.declared.kept.KeptRange.{KeptRange}

@@ -5,9 +5,9 @@ use Rattle.std.proofs.lemmas.List.{drop_all}
 use Rattle.outside.specs.World.{World, overwritten, with_bytes, with_file, with_new_name}
 use Rattle.outside.proofs.FrameLemmas.{keeps_other_two-then}
 use Rattle.outside.proofs.WorldLemmas.{with_file-at, with_new_name-others}
-use Rattle.crash_disk.specs.DiskSeen.{ChangesNothing, DiskSeen, Follows, IsKept, Passes, TakesStep}
-use Rattle.crash_disk.specs.Steps.{ChangesFile, IsRenamed, MayBeRenamed}
-use Rattle.crash_disk.proofs.StopLemmas.{passes-nothing, passes-step, passes-then, passes-wider}
+use Rattle.disk.specs.DiskSeen.{ChangesNothing, DiskSeen, Follows, IsKept, Passes, TakesStep}
+use Rattle.disk.specs.Steps.{ChangesFile, IsRenamed, MayBeRenamed}
+use Rattle.disk.proofs.StopLemmas.{passes-nothing, passes-step, passes-then, passes-wider}
 use Rattle.edit_journal.specs.Recovery.{ClosesGate, IsSame}
 use Rattle.edit_journal.specs.Settled.{MakesUndo}
 use Rattle.edit_journal.proofs.ReadLemmas.{looks-wider}

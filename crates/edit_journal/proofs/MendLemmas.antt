@@ -5,9 +5,9 @@ use Rattle.std.proofs.lemmas.Bool.{cases_lt, cond-true, eq-eqb, eqb-true, falseâ
 use Rattle.std.proofs.lemmas.List.{ext_get_or, get_or-take}
 use Rattle.outside.proofs.FrameLemmas.{keeps_others-then}
 use Rattle.outside.specs.World.{World}
-use Rattle.crash_disk.specs.DiskSeen.{DiskSeen, Passes}
-use Rattle.crash_disk.specs.Steps.{ChangesFile, CutShort, IsOutside, TearsRange}
-use Rattle.crash_disk.proofs.StopLemmas.{passes-then, passes-wider}
+use Rattle.disk.specs.DiskSeen.{DiskSeen, Passes}
+use Rattle.disk.specs.Steps.{ChangesFile, CutShort, IsOutside, TearsRange}
+use Rattle.disk.proofs.StopLemmas.{passes-then, passes-wider}
 use Rattle.quota_types.specs.Bytes.{byte_at, number_at}
 use Rattle.edit_journal.specs.Recovery.{Mends, MendsFile, is_mended}
 use Rattle.edit_journal.specs.Spans.{IsOutsideAll, Span, laid, with_laid}

@@ -4,8 +4,8 @@ use Rattle.std.specs.Prelude.{nat_eq, nat_le}
 use Rattle.std.proofs.lemmas.Bool.{false≢true}
 use Rattle.std.proofs.lemmas.List.{get_or-drop, get_or-take, get_or_past}
 use Rattle.outside.specs.World.{World}
-use Rattle.crash_disk.specs.DiskSeen.{ChangesNothing, DiskSeen, IsKept, Passes}
-use Rattle.crash_disk.proofs.StopLemmas.{passes-nothing, passes-then, passes-wider}
+use Rattle.disk.specs.DiskSeen.{ChangesNothing, DiskSeen, IsKept, Passes}
+use Rattle.disk.proofs.StopLemmas.{passes-nothing, passes-then, passes-wider}
 use Rattle.quota_types.specs.Bytes.{byte_at, number_at}
 use Rattle.quota_types.proofs.BytesLemmas.{number_at-drop, number_same}
 use Rattle.edit_journal.specs.Recovery.{IsSame}

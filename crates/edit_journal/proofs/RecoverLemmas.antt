@@ -4,10 +4,10 @@ use Rattle.std.proofs.lemmas.Bool.{cond-false, cond-true, false≢true}
 use Rattle.std.proofs.lemmas.List.{get_or-replicate}
 use Rattle.outside.specs.World.{World}
 use Rattle.outside.proofs.FrameLemmas.{keeps_other_two-then, keeps_others-then}
-use Rattle.crash_disk.specs.DiskSeen.{DiskSeen, IsKept, OnlyLeaves, Passes}
-use Rattle.crash_disk.specs.Steps.{IsOutside, TearsRange, Torn}
-use Rattle.crash_disk.proofs.StepLemmas.{torn-same, torn-then}
-use Rattle.crash_disk.proofs.StopLemmas.{kept-on, only_leaves-passes, passes-then, passes-wider}
+use Rattle.disk.specs.DiskSeen.{DiskSeen, IsKept, OnlyLeaves, Passes}
+use Rattle.disk.specs.Steps.{IsOutside, TearsRange, Torn}
+use Rattle.disk.proofs.StepLemmas.{torn-same, torn-then}
+use Rattle.disk.proofs.StopLemmas.{kept-on, only_leaves-passes, passes-then, passes-wider}
 use Rattle.quota_types.specs.Bytes.{byte_at, number_at}
 use Rattle.edit_journal.specs.Recovery.{BeginsSo, ClosesGate, Heads, IsSame, MendsFile, RecoversAsBefore, RecoversInPlace, RecoversSame, Restores, is_mended}
 use Rattle.edit_journal.specs.Settled.{IsRecovered}

@@ -1,9 +1,9 @@
 -- Files that are torn within ranges.
 use Rattle.std.proofs.Common.{◌≡◌, ℕ, zero, suc, ◌<◌, get_or, List, [], ◌∷◌, length, sym, subst, arith}
-use Rattle.crash_disk.specs.DiskSeen.{DiskSeen, Passes}
-use Rattle.crash_disk.specs.Steps.{ChangesFile, IsOutside, Torn}
-use Rattle.crash_disk.proofs.StepLemmas.{changes_file-then, torn-less, torn-then}
-use Rattle.crash_disk.proofs.StopLemmas.{passes-then, passes-wider}
+use Rattle.disk.specs.DiskSeen.{DiskSeen, Passes}
+use Rattle.disk.specs.Steps.{ChangesFile, IsOutside, Torn}
+use Rattle.disk.proofs.StepLemmas.{changes_file-then, torn-less, torn-then}
+use Rattle.disk.proofs.StopLemmas.{passes-then, passes-wider}
 use Rattle.edit_journal.specs.Spans.{IsOutsideAll, spans_of}
 use Rattle.edit_journal.specs.declared.kept.KeptRange.{KeptRange}
 

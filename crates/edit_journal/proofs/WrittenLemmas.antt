@@ -4,7 +4,7 @@ use Rattle.std.specs.Option.{option_map}
 use Rattle.std.proofs.lemmas.List.{ext_get_or, get_or-drop}
 use Rattle.outside.specs.World.{World, overwritten, with_bytes}
 use Rattle.outside.proofs.WorldLemmas.{with_file-at}
-use Rattle.memory_objects.proofs.OverwriteLemmas.{get_or-overwritten_behind, length-overwritten}
+use Rattle.outside.proofs.OverwriteLemmas.{get_or-overwritten_behind, length-overwritten}
 use Rattle.quota_types.specs.Bytes.{byte_at, number_at}
 use Rattle.quota_types.proofs.BytesLemmas.{number_at-drop, number_same}
 use Rattle.edit_journal.specs.Spans.{Span, saved_bytes, with_laid}

@@ -3,8 +3,3 @@ pub mod Settled
 pub mod Spans
 pub mod Undo
 pub mod UndoName
-pub use Rattle.crash_disk.specs.DiskSeen
-pub use Rattle.crash_disk.specs.Steps
-pub use Rattle.outside.specs.Count
-pub use Rattle.outside.specs.World
-pub use Rattle.quota_types.specs.Bytes

@@ -1,8 +1,8 @@
 -- What a recovery makes of a file, call by call.
 use Rattle.std.specs.Prelude.{◌≡◌, ◌<◌, ◌≤◌, ◌⊎◌, ℕ, Bool, true, false, min, List, [], length, Option, None, Some, IsSome, slice_index, unwrap_or}
 use Rattle.outside.specs.World.{KeepsOtherTwo, KeepsOthers, World}
-use Rattle.crash_disk.specs.DiskSeen.{DiskSeen}
-use Rattle.crash_disk.specs.Steps.{ChangesFile, IsOutside, TearsRange, Torn}
+use Rattle.disk.specs.DiskSeen.{DiskSeen}
+use Rattle.disk.specs.Steps.{ChangesFile, IsOutside, TearsRange, Torn}
 use Rattle.quota_types.specs.Bytes.{byte_at, number_at}
 use Rattle.edit_journal.specs.Settled.{KeepsOtherThree, MakesUndo}
 use Rattle.edit_journal.specs.Spans.{IsOutsideAll, Span}

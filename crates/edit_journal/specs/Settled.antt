@@ -1,8 +1,8 @@
 -- What a change in place leaves of a file and its undo file.
 use Rattle.std.specs.Prelude.{◌≡◌, ◌≢◌, ◌<◌, ◌≤◌, ◌⊎◌, ℕ, List, [], length, Option, Some, replicate, unwrap_or}
 use Rattle.outside.specs.World.{KeepsOtherTwo, World}
-use Rattle.crash_disk.specs.DiskSeen.{DiskSeen, EachImage}
-use Rattle.crash_disk.specs.Steps.{ChangesFile, Torn}
+use Rattle.disk.specs.DiskSeen.{DiskSeen, EachImage}
+use Rattle.disk.specs.Steps.{ChangesFile, Torn}
 use Rattle.quota_types.specs.Bytes.{byte_at}
 use Rattle.edit_journal.specs.Spans.{IsOutsideAll, Span}
 use Rattle.edit_journal.specs.Undo.{IsClosed, recovered}

@@ -1,7 +1,7 @@
 -- Ranges of bytes at places of a file, and a file over which they are laid.
 use Rattle.std.specs.Prelude.{ℕ, List, [], ◌∷◌, length, map, take, drop}
 use Rattle.outside.specs.World.{overwritten}
-use Rattle.crash_disk.specs.Steps.{IsOutside}
+use Rattle.disk.specs.Steps.{IsOutside}
 use Rattle.edit_journal.specs.declared.kept.KeptRange.{KeptRange}
 
 -- bytes, and the place of a file at which the first of them stands

@@ -1,15 +1,15 @@
 //! The ranges that are written into the file itself.
 
 ghost use Rattle.std.specs.Prelude.{◌≡◌, ◌≤◌, [], List, ℕ, Some, length, unwrap_or, IsTrue, OnOk, OnErr, false};
-ghost use Rattle.crash_disk.specs.DiskSeen.{IsKept, Passes};
-ghost use Rattle.crash_disk.specs.Steps.{TearsRange};
+ghost use Rattle.disk.specs.DiskSeen.{IsKept, Passes};
+ghost use Rattle.disk.specs.Steps.{TearsRange};
 ghost use Rattle.edit_journal.specs.Settled.{TearsRanges};
 ghost use Rattle.edit_journal.specs.Spans.{laid, spans_of, with_laid};
 ghost use Rattle.outside.specs.Count.{Rose};
 ghost use Rattle.outside.specs.World.{KeepsOthers, with_bytes};
 
 use crate::KeptRange;
-use crash_disk::{Disk, DiskFault};
+use disk::{Disk, DiskFault};
 
 /// Writes a range into a file.
 ///

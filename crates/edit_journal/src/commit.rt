@@ -1,7 +1,7 @@
 //! A commit of ranges to a file.
 
 ghost use Rattle.std.specs.Prelude.{◌≡◌, ◌≢◌, ◌≤◌, List, ℕ, length, IsTrue, OnOk, OnErr, false};
-ghost use Rattle.crash_disk.specs.DiskSeen.{OnlyLeaves, Passes};
+ghost use Rattle.disk.specs.DiskSeen.{OnlyLeaves, Passes};
 ghost use Rattle.edit_journal.specs.Settled.{CanCommit, IsSettled, KeepsOtherThree, RecoversToEither};
 ghost use Rattle.edit_journal.specs.Spans.{laid, spans_of};
 ghost use Rattle.outside.specs.Count.{Rose};
@@ -9,7 +9,7 @@ ghost use Rattle.outside.specs.World.{KeepsOtherTwo};
 
 use crate::undo_file::{CLOSED, OPEN, save_ranges, set_gate};
 use crate::{KeptRange, ready_undo, write_ranges};
-use crash_disk::{Disk, DiskFault};
+use disk::{Disk, DiskFault};
 
 /// Writes ranges into a file in place. Where the file is settled, a stop of the machine at any moment leaves files of
 /// which a recovery makes the old file or the new one, and the new file is settled then.

@@ -1,12 +1,12 @@
 //! Laws of recoveries, for those who build on them.
 
 ghost use Rattle.std.specs.Prelude.{List, ℕ};
-ghost use Rattle.crash_disk.specs.DiskSeen.{EachImage, IsFresh, Passes};
+ghost use Rattle.disk.specs.DiskSeen.{EachImage, IsFresh, Passes};
 ghost use Rattle.edit_journal.specs.Recovery.{RecoversSame};
 ghost use Rattle.edit_journal.specs.Settled.{RecoversToEither};
 ghost use Rattle.outside.specs.World.{World};
 
-use crash_disk::Disk;
+use disk::Disk;
 
 /// Where whatever a stop may leave recovers to one of two files, so does what a stop at any moment of a recovery leaves;
 /// and what a stop then may leave of a disk that has those files alone, so that a stop in the recovery of them leaves

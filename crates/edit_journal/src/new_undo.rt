@@ -1,12 +1,12 @@
 //! The making of a new undo file.
 
 ghost use Rattle.std.specs.Prelude.{◌≡◌, ◌≢◌, ◌↔◌, ◌≤◌, [], List, ℕ, Some, length, replicate, unwrap_or, IfOk, IsTrue, OnOk, OnErr};
-ghost use Rattle.crash_disk.specs.DiskSeen.{ChangesNothing, IsKept, OnlyLeaves, Passes};
+ghost use Rattle.disk.specs.DiskSeen.{ChangesNothing, IsKept, OnlyLeaves, Passes};
 ghost use Rattle.edit_journal.specs.Settled.{CanCommit, IsSettled, MakesUndo, RecoversTo};
 ghost use Rattle.outside.specs.Count.{Rose};
 ghost use Rattle.outside.specs.World.{KeepsOtherTwo};
 
-use crash_disk::{Disk, DiskFault};
+use disk::{Disk, DiskFault};
 
 /// Makes a new undo file of 1,024 bytes 0, whose gate is closed, in place of the one that was there. It is written under
 /// a first name, and takes its own once it is kept.

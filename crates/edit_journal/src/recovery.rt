@@ -1,8 +1,8 @@
 //! The recovery of a file.
 
 ghost use Rattle.std.specs.Prelude.{◌≡◌, ◌≢◌, ◌<◌, ◌≤◌, ◌^◌, ◌+◌, [], List, ℕ, Some, drop, length, true, unwrap_or, IfOk, IsTrue, OnOk, OnErr, false};
-ghost use Rattle.crash_disk.specs.DiskSeen.{IsKept, OnlyLeaves, Passes};
-ghost use Rattle.crash_disk.specs.Steps.{TearsRange};
+ghost use Rattle.disk.specs.DiskSeen.{IsKept, OnlyLeaves, Passes};
+ghost use Rattle.disk.specs.Steps.{TearsRange};
 ghost use Rattle.edit_journal.specs.Recovery.{BeginsSo, ClosesGate, Heads, IsSame, MendsFile, RecoversAsBefore, RecoversInPlace, RecoversSame, Restores, is_mended};
 ghost use Rattle.edit_journal.specs.Settled.{IsRecovered, KeepsOtherThree};
 ghost use Rattle.edit_journal.specs.Spans.{laid, with_laid};
@@ -16,7 +16,7 @@ use crate::undo_file::{CLOSED, OPEN, set_gate, write_some};
 use crate::undo_reads::{
     SpanHead, UndoHead, all_fit, holds_ranges, read_head, read_padded, read_span,
 };
-use crash_disk::{Disk, DiskFault};
+use disk::{Disk, DiskFault};
 
 /// Writes bytes of an undo file into its file, as many as a buffer has room for.
 fn lay_through<D: Disk>(

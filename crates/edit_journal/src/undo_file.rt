@@ -1,8 +1,8 @@
 //! The parts of an undo file.
 
 ghost use Rattle.std.specs.Prelude.{◌≡◌, ◌≢◌, ◌+◌, ◌<◌, ◌≤◌, ◌^◌, [], ◌∷◌, length, unwrap_or, IsTrue, OnOk, OnErr};
-ghost use Rattle.crash_disk.specs.DiskSeen.{IsKept, Passes};
-ghost use Rattle.crash_disk.specs.Steps.{TearsRange};
+ghost use Rattle.disk.specs.DiskSeen.{IsKept, Passes};
+ghost use Rattle.disk.specs.Steps.{TearsRange};
 ghost use Rattle.edit_journal.specs.Settled.{TearsFrom};
 ghost use Rattle.edit_journal.specs.Spans.{spans_of, with_laid};
 ghost use Rattle.edit_journal.specs.Undo.{Saves, SavesOne, range_at};
@@ -11,7 +11,7 @@ ghost use Rattle.outside.specs.World.{KeepsOthers, with_bytes};
 ghost use Rattle.quota_types.specs.Bytes.{number_at};
 
 use crate::KeptRange;
-use crash_disk::{Disk, DiskFault};
+use disk::{Disk, DiskFault};
 use quota_types::{set_le16_at, set_le32_at, set_le64_at};
 
 /// The gate of an undo file that a recovery lays back.

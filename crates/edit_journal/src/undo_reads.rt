@@ -1,13 +1,13 @@
 //! What is read of an undo file.
 
 ghost use Rattle.std.specs.Prelude.{◌≡◌, ◌↔◌, ◌<◌, ◌≤◌, ◌+◌, ◌^◌, ◌&&◌, ◌||◌, [], ℕ, length, nat_eq, nat_le, slice_index, unwrap_or, IfOk, IsTrue, OnOk, OnErr};
-ghost use Rattle.crash_disk.specs.DiskSeen.{Passes};
+ghost use Rattle.disk.specs.DiskSeen.{Passes};
 ghost use Rattle.edit_journal.specs.Recovery.{IsSame};
 ghost use Rattle.edit_journal.specs.Undo.{HoldsItsRanges, range_at, saved_spans, spans_fit};
 ghost use Rattle.outside.specs.Count.{Rose};
 ghost use Rattle.quota_types.specs.Bytes.{byte_at, number_at};
 
-use crash_disk::{Disk, DiskFault};
+use disk::{Disk, DiskFault};
 use quota_types::{le16_at, le32_at, le64_at};
 
 /// The gate of an undo file, the length of the old file, and the number of saved ranges.

@@ -1,8 +1,8 @@
 -- That calls which only read leave all files.
 use Rattle.std.proofs.Common.{ℕ, Bool, List}
-use Rattle.quota_blocks.specs.Frame.{OnlyReads}
-use Rattle.quota_blocks.specs.Seen.{StoreSeen}
-use Rattle.quota_blocks.specs.World.{KeepsOthers}
+use Rattle.outside.specs.Frame.{OnlyReads}
+use Rattle.outside.specs.Seen.{StoreSeen}
+use Rattle.outside.specs.World.{KeepsOthers}
 use Rattle.outside.proofs.FrameLemmas.{keeps_others-same}
 
 -- calls that only read leave all files

@@ -7,15 +7,15 @@ use Rattle.quota_types.specs.declared.field.Field.{Field}
 use Rattle.quota_types.specs.Format.{is_flat}
 use Rattle.quota_types.specs.declared.file_kind.Format.{Format}
 use Rattle.quota_types.specs.declared.file_kind.Format.TheVariants.{V1}
-use Rattle.quota_blocks.specs.FileChange.{IsLeft}
-use Rattle.quota_blocks.specs.Frame.{OnlyReads}
-use Rattle.quota_blocks.specs.QuotaFile.{FileSeen, is_store_fault}
-use Rattle.quota_blocks.specs.QuotaValue.{QuotaValue}
-use Rattle.quota_blocks.specs.Seen.{StoreSeen}
-use Rattle.quota_blocks.specs.World.{World}
-use Rattle.quota_blocks.specs.declared.quota_file.FileFault.{FileFault}
-use Rattle.quota_blocks.specs.declared.quota_file.FileFault.TheVariants.{Store, Damage, Full, Memory}
-use Rattle.quota_blocks.proofs.LookupLemmas.{change_fault-after}
+use Rattle.opened_file.specs.FileChange.{IsLeft}
+use Rattle.outside.specs.Frame.{OnlyReads}
+use Rattle.opened_file.specs.QuotaFile.{FileSeen, is_store_fault}
+use Rattle.quota_value.specs.QuotaValue.{QuotaValue}
+use Rattle.outside.specs.Seen.{StoreSeen}
+use Rattle.outside.specs.World.{World}
+use Rattle.opened_file.specs.declared.quota_file.FileFault.{FileFault}
+use Rattle.opened_file.specs.declared.quota_file.FileFault.TheVariants.{Store, Damage, Full, Memory}
+use Rattle.opened_file.proofs.LookupLemmas.{change_fault-after}
 use Rattle.tree_file.specs.Opened.{LacksRoom}
 use Rattle.tree_file.specs.Room.{blocks_wanted}
 use Rattle.tree_build.specs.Size.{ids_in}

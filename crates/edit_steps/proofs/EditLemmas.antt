@@ -2,10 +2,10 @@
 use Rattle.std.proofs.Common.{◌≡◌, ℕ, ◌+◌, ◌≤◌, Bool, true, false, IsTrue, List, [], ◌∷◌, Option, Some, Ok, Err, Result, if◌then◌else◌, refl, ap, ◌∙◌}
 use Rattle.std.specs.Prelude.{IsOkAnd}
 use Rattle.quota_types.specs.declared.field.Field.{Field}
-use Rattle.quota_blocks.specs.EditsOne.{EditsOne}
-use Rattle.quota_blocks.specs.Frame.{OnlyReads}
-use Rattle.quota_blocks.specs.QuotaValue.{QuotaValue}
-use Rattle.quota_blocks.specs.Seen.{StoreSeen}
+use Rattle.opened_file.specs.EditsOne.{EditsOne}
+use Rattle.outside.specs.Frame.{OnlyReads}
+use Rattle.quota_value.specs.QuotaValue.{QuotaValue}
+use Rattle.outside.specs.Seen.{StoreSeen}
 use Rattle.quota_map.specs.View.{IsView}
 use Rattle.set_edit.specs.Editing.{Edit}
 use Rattle.refusals.specs.Outcome.{Passed}

@@ -5,11 +5,11 @@ use Rattle.std.proofs.lemmas.Bool.{false≢true}
 use Rattle.id_names.specs.NamesFile.{NameLine, bad_line, names_in}
 use Rattle.quota_types.specs.declared.file_kind.Format.{Format}
 use Rattle.quota_types.specs.declared.file_kind.Kind.{Kind}
-use Rattle.quota_blocks.specs.QuotaValue.{QuotaValue}
-use Rattle.quota_blocks.specs.StoreInput.{left_from}
-use Rattle.quota_blocks.specs.World.{World}
-use Rattle.quota_blocks.specs.declared.quota_file.OpenFault.{OpenFault}
-use Rattle.quota_blocks.specs.declared.quota_file.OpenFault.TheVariants.{Store}
+use Rattle.quota_value.specs.QuotaValue.{QuotaValue}
+use Rattle.input_text.specs.StoreInput.{left_from}
+use Rattle.outside.specs.World.{World}
+use Rattle.opened_file.specs.declared.quota_file.OpenFault.{OpenFault}
+use Rattle.opened_file.specs.declared.quota_file.OpenFault.TheVariants.{Store}
 use Rattle.quota_map.specs.View.{IsView, most_blocks}
 use Rattle.set_edit.specs.Editing.{Edit}
 use Rattle.refusals.specs.declared.cause.Cause.{Cause}

@@ -10,8 +10,8 @@ use Rattle.quota_types.specs.Range.{unfit}
 use Rattle.quota_types.specs.Rec.{is_null_of}
 use Rattle.quota_types.specs.declared.field.Field.{Field}
 use Rattle.quota_types.specs.declared.record.Rec.{Rec}
-use Rattle.quota_blocks.specs.FileChange.{Put, Remove, changed_value}
-use Rattle.quota_blocks.specs.QuotaValue.{QuotaValue, Records}
+use Rattle.opened_file.specs.FileChange.{Put, Remove, changed_value}
+use Rattle.quota_value.specs.QuotaValue.{QuotaValue, Records}
 use Rattle.set_edit.specs.Edited.{limits_set, unless_unfit, wanted_limits}
 use Rattle.set_edit.specs.Edits.{limits_idle}
 use Rattle.set_edit.specs.declared.limits.Limits.{Limits}

@@ -5,15 +5,15 @@ use Rattle.std.proofs.lemmas.Bool.{false≢true}
 use Rattle.std.proofs.lemmas.Bool.Decides.{nat_tests}
 use Rattle.quota_types.specs.declared.field.Field.{Field}
 use Rattle.quota_types.specs.declared.field.NoRoom.{NoRoom}
-use Rattle.quota_blocks.specs.EditsOne.{EditsOne}
-use Rattle.quota_blocks.specs.Frame.{OnlyReads}
-use Rattle.quota_blocks.specs.QuotaFile.{IsChangeFault, UnlessStoreFailed}
-use Rattle.quota_blocks.specs.QuotaValue.{QuotaValue}
-use Rattle.quota_blocks.specs.Seen.{StoreSeen}
-use Rattle.quota_blocks.specs.World.{World}
-use Rattle.quota_blocks.specs.declared.quota_file.FileFault.{FileFault}
-use Rattle.quota_blocks.specs.declared.quota_file.FileFault.TheVariants.{Store, Damage, Full, Memory}
-use Rattle.quota_blocks.proofs.EditsOneLemmas.{edits_one-read}
+use Rattle.opened_file.specs.EditsOne.{EditsOne}
+use Rattle.outside.specs.Frame.{OnlyReads}
+use Rattle.opened_file.specs.QuotaFile.{IsChangeFault, UnlessStoreFailed}
+use Rattle.quota_value.specs.QuotaValue.{QuotaValue}
+use Rattle.outside.specs.Seen.{StoreSeen}
+use Rattle.outside.specs.World.{World}
+use Rattle.opened_file.specs.declared.quota_file.FileFault.{FileFault}
+use Rattle.opened_file.specs.declared.quota_file.FileFault.TheVariants.{Store, Damage, Full, Memory}
+use Rattle.opened_file.proofs.EditsOneLemmas.{edits_one-read}
 use Rattle.quota_map.specs.View.{most_blocks}
 use Rattle.set_edit.specs.EditFault.{IfNoRoom, file_fault}
 use Rattle.set_edit.specs.Editing.{Edit}

@@ -2,7 +2,7 @@
 -- Source: this project's own.
 use Rattle.std.specs.Prelude.{◌≡◌, ◌<◌, ℕ, IsTrue, Bool, nat_lt, ◌&&◌, List, Option, Result, Ok, Err}
 use Rattle.quota_types.specs.declared.field.Field.{Field}
-use Rattle.quota_blocks.specs.QuotaValue.{QuotaValue}
+use Rattle.quota_value.specs.QuotaValue.{QuotaValue}
 use Rattle.quota_map.specs.View.{IsOpenedAs, most_blocks}
 use Rattle.set_edit.specs.Editing.{Edit}
 use Rattle.set_edit.specs.declared.fault.EditFault.{EditFault}

@@ -1,5 +1,5 @@
 use inode_scan::{ApplyFault, apply, scan};
-use quota_blocks::MemSource;
+use memory_objects::MemSource;
 use quota_types::{Entry, Field, Format, Grace, Kind, NoRoom, Rec};
 use row_files::ordered;
 use std::alloc::{AllocError, Global};

@@ -1,6 +1,7 @@
 //! Edits of opened files, and what is expected of them.
 
-use quota_blocks::{MemStore, QuotaFile};
+use memory_objects::MemStore;
+use opened_file::QuotaFile;
 use quota_map::AnyFile;
 use quota_types::{Entry, Format, Grace, Kind, NoRoom, Rec};
 use row_files::{holds_entries, listed, opened};

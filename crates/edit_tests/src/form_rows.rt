@@ -1,4 +1,5 @@
-use quota_blocks::{LineFault, MemSink, MemSource};
+use input_text::LineFault;
+use memory_objects::{MemSink, MemSource};
 use quota_types::{Kind, Rec};
 use set_edit::FormFault::{self, BadForm};
 use set_edit::{Limits, print_form, read_form};

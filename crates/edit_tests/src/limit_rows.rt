@@ -1,4 +1,4 @@
-use quota_blocks::read_number;
+use input_text::read_number;
 use set_edit::read_limit;
 use std::process::Abort;
 

@@ -1,6 +1,6 @@
 use crate::reports::*;
 use quota_types::{Entry, Kind, Rec};
-use report_text::Options;
+use report_options::Options;
 use std::alloc::Global;
 use std::process::Abort;
 

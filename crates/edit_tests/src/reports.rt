@@ -1,9 +1,11 @@
 //! Reports of files with one entry, and what is expected of them.
 
 use id_names::Names;
-use quota_blocks::{MemSink, MemStore, QuotaFile};
+use memory_objects::{MemSink, MemStore};
+use opened_file::QuotaFile;
 use quota_types::{Entry, Format, Grace, Kind, Rec};
-use report_text::{Options, ReportFault, report};
+use report_options::Options;
+use report_text::{ReportFault, report};
 use row_files::{listed, opened};
 use std::alloc::{AllocError, Global};
 use std::process::Abort;

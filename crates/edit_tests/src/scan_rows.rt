@@ -1,5 +1,6 @@
 use inode_scan::{ScanFault, Usage, Used, scan};
-use quota_blocks::{MemSource, Source};
+use memory_objects::MemSource;
+use outside::Source;
 use quota_types::Kind;
 use std::alloc::{AllocError, Global};
 use std::process::Abort;

@@ -4,7 +4,6 @@ use Rattle.std.proofs.lemmas.Bool.{cases_lt}
 use Rattle.std.proofs.lemmas.List.{get_or_past, get_or-drop, get_or-take, get_or-replicate, length-replicate}
 use Rattle.quota_types.specs.Bytes.{byte_at, number_at}
 use Rattle.file_blocks.specs.Block.{block_of}
-pub use Rattle.quota_types.proofs.BytesLemmas.{number_same}
 use Rattle.std.proofs.lemmas.Grind.{same_number_lists}
 
 -- a part of two lists in which they are the same

@@ -1,9 +1,8 @@
 -- The blocks of a tree file. Source: the kernel's `fs/quota/quotaio_v2.h` (`V2_DQBLKSIZE_BITS`: blocks of 1,024 bytes) and
 -- `struct qt_disk_dqdbheader` of `fs/quota/quota_tree.h`.
-use Rattle.std.specs.Prelude.{ℕ, ◌*◌, List, ◌++◌, take, drop, replicate, [], Option, unwrap_or}
+use Rattle.std.specs.Prelude.{ℕ, ◌*◌, List, ◌++◌, take, drop, replicate, [], Option, unwrap_or, Bool, not, ◌&&◌, ◌==◌, nat_lt}
 use Rattle.quota_types.specs.Bytes.{number_at}
 use Rattle.outside.specs.World.{World}
-use Rattle.std.specs.Prelude.{Bool, not, ◌&&◌, ◌==◌, nat_lt}
 
 -- the 1,024 bytes of a block; bytes past the end of the file count as 0
 unfoldable pub block_of : List ℕ → ℕ → List ℕ

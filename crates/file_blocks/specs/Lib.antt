@@ -1,12 +1,3 @@
 pub mod Block
 pub mod BlockSet
 pub mod CheckFault
-pub use Rattle.quota_types.specs.Bytes
-pub use Rattle.quota_types.specs.Damage
-pub use Rattle.quota_types.specs.Span
-pub use Rattle.quota_types.specs.Times
-pub use Rattle.outside.specs.Count
-pub use Rattle.outside.specs.Frame
-pub use Rattle.outside.specs.Seen
-pub use Rattle.outside.specs.Unsynced
-pub use Rattle.outside.specs.World

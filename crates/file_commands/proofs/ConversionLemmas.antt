@@ -7,16 +7,16 @@ use Rattle.quota_types.specs.declared.field.NoRoom.{NoRoom as NoRoomFor}
 use Rattle.quota_types.specs.Format.{is_flat}
 use Rattle.quota_types.specs.declared.file_kind.Format.{Format}
 use Rattle.quota_types.specs.declared.file_kind.Kind.{Kind}
-use Rattle.quota_blocks.specs.Count.{Rose}
-use Rattle.quota_blocks.specs.QuotaValue.{QuotaValue}
-use Rattle.quota_blocks.specs.Seen.{StoreSeen}
-use Rattle.quota_blocks.specs.World.{World}
-use Rattle.quota_blocks.specs.declared.quota_file.FileFault.{FileFault}
-use Rattle.quota_blocks.specs.declared.quota_file.FileFault.TheVariants.{Store as CallFailed, Damage as FileDamaged, Full as NoBlocks, Memory as NoMemory}
-use Rattle.quota_blocks.specs.declared.quota_file.OpenFault.{OpenFault}
-use Rattle.quota_blocks.specs.declared.quota_file.OpenFault.TheVariants.{Store as OpenFailed, Memory as WantsMemory}
-use Rattle.quota_blocks.specs.declared.replacement.ReplaceFault.{ReplaceFault}
-use Rattle.quota_blocks.specs.declared.replacement.ReplaceFault.TheVariants.{Store as MakingFailed, Full as TooManyBlocks, Memory as NoMemoryToMake}
+use Rattle.outside.specs.Count.{Rose}
+use Rattle.quota_value.specs.QuotaValue.{QuotaValue}
+use Rattle.outside.specs.Seen.{StoreSeen}
+use Rattle.outside.specs.World.{World}
+use Rattle.opened_file.specs.declared.quota_file.FileFault.{FileFault}
+use Rattle.opened_file.specs.declared.quota_file.FileFault.TheVariants.{Store as CallFailed, Damage as FileDamaged, Full as NoBlocks, Memory as NoMemory}
+use Rattle.opened_file.specs.declared.quota_file.OpenFault.{OpenFault}
+use Rattle.opened_file.specs.declared.quota_file.OpenFault.TheVariants.{Store as OpenFailed, Memory as WantsMemory}
+use Rattle.opened_file.specs.declared.replacement.ReplaceFault.{ReplaceFault}
+use Rattle.opened_file.specs.declared.replacement.ReplaceFault.TheVariants.{Store as MakingFailed, Full as TooManyBlocks, Memory as NoMemoryToMake}
 use Rattle.outside.proofs.FrameLemmas.{only_reads-none}
 use Rattle.outside.proofs.WorldLemmas.{bytes_eq-ne, bytes_eq-same}
 use Rattle.tree_build.specs.Size.{ids_in}

@@ -6,14 +6,14 @@ use Rattle.quota_types.specs.declared.file_kind.Format.{Format}
 use Rattle.quota_types.specs.declared.file_kind.Format.TheVariants.{V2R1}
 use Rattle.quota_types.specs.declared.file_kind.Kind.{Kind}
 use Rattle.quota_types.specs.declared.file_kind.Kind.TheVariants.{User}
-use Rattle.quota_blocks.specs.Count.{Rose}
-use Rattle.quota_blocks.specs.QuotaValue.{QuotaValue}
-use Rattle.quota_blocks.specs.Replacement.{ReplacesOnly}
-use Rattle.quota_blocks.specs.Seen.{SinkSeen, StoreSeen}
-use Rattle.quota_blocks.specs.Text.{AppendsPrefix}
-use Rattle.quota_blocks.specs.Frame.{ReplacesOne}
-use Rattle.quota_blocks.specs.declared.replacement.ReplaceFault.{ReplaceFault}
-use Rattle.quota_blocks.specs.declared.replacement.ReplaceFault.TheVariants.{Store as PutFailed, Full as NoBlocks, Memory as NoMemory}
+use Rattle.outside.specs.Count.{Rose}
+use Rattle.quota_value.specs.QuotaValue.{QuotaValue}
+use Rattle.outside.specs.Replacement.{ReplacesOnly}
+use Rattle.outside.specs.Seen.{SinkSeen, StoreSeen}
+use Rattle.outside.specs.Text.{AppendsPrefix}
+use Rattle.outside.specs.Frame.{ReplacesOne}
+use Rattle.opened_file.specs.declared.replacement.ReplaceFault.{ReplaceFault}
+use Rattle.opened_file.specs.declared.replacement.ReplaceFault.TheVariants.{Store as PutFailed, Full as NoBlocks, Memory as NoMemory}
 use Rattle.quota_map.specs.Replacing.{IsReplaceFileFault, UnlessStore}
 use Rattle.quota_map.specs.View.{IsView, most_blocks}
 use Rattle.quota_map.proofs.SeenLemmas.{view_or_refused}

@@ -4,7 +4,7 @@ use Rattle.std.specs.Prelude.{◌&&◌}
 use Rattle.quota_types.specs.declared.field.NoRoom.{NoRoom as NoRoomFor}
 use Rattle.quota_types.specs.declared.file_kind.Format.TheVariants.{V2R1}
 use Rattle.quota_types.specs.declared.file_kind.Kind.TheVariants.{User}
-use Rattle.quota_blocks.specs.QuotaValue.{QuotaValue, Records}
+use Rattle.quota_value.specs.QuotaValue.{QuotaValue, Records}
 use Rattle.inode_scan.specs.Apply.{IsApplyFault, applied}
 use Rattle.inode_scan.specs.Generated.{generated}
 use Rattle.inode_scan.specs.Scan.{IsScanFault, scanned}

@@ -6,14 +6,14 @@ use Rattle.quota_types.specs.declared.file_kind.Format.{Format}
 use Rattle.quota_types.specs.declared.file_kind.Format.TheVariants.{V2R1}
 use Rattle.quota_types.specs.declared.file_kind.Kind.{Kind}
 use Rattle.quota_types.specs.declared.file_kind.Kind.TheVariants.{User}
-use Rattle.quota_blocks.specs.QuotaValue.{QuotaValue}
-use Rattle.quota_blocks.specs.World.{World}
+use Rattle.quota_value.specs.QuotaValue.{QuotaValue}
+use Rattle.outside.specs.World.{World}
 use Rattle.convert.specs.Conversion.{converted}
 use Rattle.id_names.specs.NamesFile.{NameLine}
 use Rattle.inode_scan.specs.Generated.{generated}
 use Rattle.inode_scan.specs.Scan.{scanned}
 use Rattle.inode_scan.specs.Usage.{UsageMap}
-use Rattle.report_text.specs.declared.options.Options.{Options}
+use Rattle.report_options.specs.declared.options.Options.{Options}
 use Rattle.refusals.specs.Outcome.{Outcome, and_then}
 use Rattle.command_words.specs.declared.command.Common.{Common}
 use Rattle.run_steps.specs.Act.{Act, ToOut}

@@ -5,16 +5,16 @@ use Rattle.quota_types.specs.declared.field.NoRoom.{NoRoom}
 use Rattle.quota_types.specs.Format.{IsTreeFormat}
 use Rattle.quota_types.specs.declared.file_kind.Format.{Format}
 use Rattle.quota_types.specs.declared.file_kind.Format.TheVariants.{V1, V2R0, V2R1}
-use Rattle.quota_blocks.specs.Count.{Rose}
-use Rattle.quota_blocks.specs.Frame.{ReplacesOne}
-use Rattle.quota_blocks.specs.Listed.{ids_of}
-use Rattle.quota_blocks.specs.QuotaValue.{QuotaValue}
-use Rattle.quota_blocks.specs.Replacement.{ReplacesOnly}
-use Rattle.quota_blocks.specs.Seen.{StoreSeen}
+use Rattle.outside.specs.Count.{Rose}
+use Rattle.outside.specs.Frame.{ReplacesOne}
+use Rattle.quota_value.specs.Listed.{ids_of}
+use Rattle.quota_value.specs.QuotaValue.{QuotaValue}
+use Rattle.outside.specs.Replacement.{ReplacesOnly}
+use Rattle.outside.specs.Seen.{StoreSeen}
 use Rattle.tree_build.specs.Size.{blocks_needed}
-use Rattle.quota_blocks.specs.declared.replacement.ReplaceFault.{ReplaceFault}
-use Rattle.quota_blocks.specs.declared.replacement.ReplaceFault.TheVariants.{Store, Full as NoBlocks, Memory as NoMemory}
-use Rattle.quota_blocks.specs.World.{World}
+use Rattle.opened_file.specs.declared.replacement.ReplaceFault.{ReplaceFault}
+use Rattle.opened_file.specs.declared.replacement.ReplaceFault.TheVariants.{Store, Full as NoBlocks, Memory as NoMemory}
+use Rattle.outside.specs.World.{World}
 use Rattle.quota_map.specs.Replacing.{IsReplaceFileFault, IsReplacedBy, UnlessStore, built_size}
 use Rattle.quota_map.specs.View.{IsView, most_blocks}
 use Rattle.convert.proofs.ValueLemmas.{ids_listed}

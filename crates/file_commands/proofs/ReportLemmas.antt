@@ -2,10 +2,10 @@
 use Rattle.std.proofs.Common.{ℕ, ◌≤◌, inl, inr, IsTrue, List, Option, refl}
 use Rattle.std.specs.Prelude.{IfSome}
 use Rattle.quota_types.specs.declared.file_kind.Format.{Format}
-use Rattle.quota_blocks.specs.Count.{Rose}
-use Rattle.quota_blocks.specs.QuotaFile.{IsLookupFault}
-use Rattle.quota_blocks.specs.QuotaValue.{QuotaValue}
-use Rattle.quota_blocks.specs.Seen.{SinkSeen, StoreSeen}
+use Rattle.outside.specs.Count.{Rose}
+use Rattle.opened_file.specs.QuotaFile.{IsLookupFault}
+use Rattle.quota_value.specs.QuotaValue.{QuotaValue}
+use Rattle.outside.specs.Seen.{SinkSeen, StoreSeen}
 use Rattle.quota_map.specs.AnyFile.{MayRefuse}
 use Rattle.quota_map.specs.View.{IsOpenedAs}
 use Rattle.report_text.specs.Fault.{OnSink, file_fault}

@@ -2,12 +2,12 @@
 use Rattle.std.proofs.Common.{◌≡◌, ◌≢◌, ℕ, ◌≤◌, Bool, true, false, List, [], ◌∷◌, Option, None, Some, Ok, inl, refl, sym, ap, ◌∙◌}
 use Rattle.quota_types.specs.declared.file_kind.Format.{Format}
 use Rattle.quota_types.specs.declared.file_kind.Kind.{Kind}
-use Rattle.quota_blocks.specs.QuotaValue.{QuotaValue}
+use Rattle.quota_value.specs.QuotaValue.{QuotaValue}
 use Rattle.quota_map.specs.View.{IsView, most_blocks}
 use Rattle.convert.specs.Conversion.{converted}
 use Rattle.id_names.specs.NamesFile.{NameLine}
 use Rattle.inode_scan.specs.Usage.{UsageMap}
-use Rattle.report_text.specs.declared.options.Options.{Options}
+use Rattle.report_options.specs.declared.options.Options.{Options}
 use Rattle.refusals.specs.Outcome.{Outcome, Passed}
 use Rattle.command_words.specs.declared.command.Common.{Common}
 use Rattle.run_steps.specs.Act.{Act, Replace, ToOut}

@@ -6,8 +6,8 @@ use Rattle.std.proofs.lemmas.List.{length-map}
 use Rattle.std.proofs.lemmas.List.Sums.{sum_by-cons}
 use Rattle.quota_types.specs.declared.record.Entry.{Entry}
 use Rattle.quota_types.specs.declared.record.Rec.{Rec}
-use Rattle.quota_blocks.specs.Listed.{ids_of, records_of}
-use Rattle.quota_blocks.proofs.ListedLemmas.{pairs_of}
+use Rattle.quota_value.specs.Listed.{ids_of, records_of}
+use Rattle.quota_value.proofs.ListedLemmas.{pairs_of}
 use Rattle.convert.proofs.ValueLemmas.{pairs_listed}
 use Rattle.file_commands.specs.Generate.{sum_over}
 

@@ -8,8 +8,8 @@ use Rattle.quota_types.specs.declared.field.NoRoom.{NoRoom as NoRoomFor}
 use Rattle.quota_types.specs.declared.file_kind.Format.{Format}
 use Rattle.quota_types.specs.declared.file_kind.Format.TheVariants.{V2R1}
 use Rattle.quota_types.specs.declared.file_kind.Kind.{Kind}
-use Rattle.quota_blocks.specs.QuotaValue.{QuotaValue, Records}
-use Rattle.quota_blocks.specs.World.{World}
+use Rattle.quota_value.specs.QuotaValue.{QuotaValue, Records}
+use Rattle.outside.specs.World.{World}
 use Rattle.quota_map.specs.View.{IsOpenedAs, IsView, most_blocks}
 use Rattle.inode_scan.specs.Apply.{applied, wanted_record}
 use Rattle.inode_scan.specs.Scan.{scanned}

@@ -8,8 +8,8 @@ use Rattle.quota_types.specs.Range.{grace_unfit}
 use Rattle.quota_types.specs.declared.field.NoRoom.{NoRoom as NoRoomFor}
 use Rattle.quota_types.specs.declared.file_kind.Format.{Format}
 use Rattle.quota_types.specs.declared.file_kind.Kind.{Kind}
-use Rattle.quota_blocks.specs.QuotaValue.{QuotaValue}
-use Rattle.quota_blocks.specs.World.{World}
+use Rattle.quota_value.specs.QuotaValue.{QuotaValue}
+use Rattle.outside.specs.World.{World}
 use Rattle.quota_map.specs.View.{most_blocks}
 use Rattle.convert.specs.Conversion.{converted}
 use Rattle.convert.specs.declared.fault.ConvertFault.{ConvertFault}

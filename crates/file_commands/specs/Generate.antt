@@ -6,11 +6,11 @@ use Rattle.quota_types.specs.declared.field.NoRoom.{NoRoom as NoRoomFor}
 use Rattle.quota_types.specs.declared.file_kind.Format.TheVariants.{V2R1}
 use Rattle.quota_types.specs.declared.file_kind.Kind.TheVariants.{User}
 use Rattle.quota_types.specs.declared.record.Rec.{Rec}
-use Rattle.quota_blocks.specs.QuotaValue.{QuotaValue, Records}
+use Rattle.quota_value.specs.QuotaValue.{QuotaValue, Records}
 use Rattle.inode_scan.specs.Generated.{generated}
 use Rattle.inode_scan.specs.Scan.{scanned}
 use Rattle.inode_scan.specs.Usage.{UsageMap}
-use Rattle.report_text.specs.declared.options.Options.{Options}
+use Rattle.report_options.specs.declared.options.Options.{Options}
 use Rattle.refusals.specs.declared.cause.Cause.{Cause}
 use Rattle.refusals.specs.declared.cause.Cause.TheVariants.{StoreFault, SourceFault, SinkFault, LinkFault, Memory, NoRoom}
 use Rattle.refusals.specs.Refusals.{refusal_of}

@@ -1,7 +1,7 @@
 ghost use Rattle.std.specs.Prelude.{◌≡◌, ◌≢◌, Bool, IsTrue, OnErr, OnOk, false, is_ok};
-ghost use Rattle.quota_blocks.specs.Frame.{Syncs};
-ghost use Rattle.quota_blocks.specs.Replacement.{ReplacesOnly, replacement_name};
-ghost use Rattle.quota_blocks.specs.Seen.{LinkSeen, SinkSeen, SourceSeen};
+ghost use Rattle.outside.specs.Frame.{Syncs};
+ghost use Rattle.outside.specs.Replacement.{ReplacesOnly, replacement_name};
+ghost use Rattle.outside.specs.Seen.{LinkSeen, SinkSeen, SourceSeen};
 ghost use Rattle.run_steps.specs.Changing.{edit_uses};
 ghost use Rattle.run_steps.specs.Done.{seen_of, tells_of};
 ghost use Rattle.run_steps.specs.Run.{CarriesOut};
@@ -11,7 +11,7 @@ ghost use Rattle.file_commands.specs.FileValue.{IsMadeAnew};
 
 use crate::file_value::replace_cause;
 use convert::{ConvertFault, convert};
-use quota_blocks::Store;
+use outside::Store;
 use quota_map::MOST_BLOCKS;
 use quota_types::{Format, Kind};
 use refusals::{Cause, Refusal, Word};

@@ -1,9 +1,9 @@
 ghost use Rattle.std.specs.Prelude.{◌≡◌, Bool, IfErr, IfOk, IfSome, IsTrue, Ok, OnErr, OnOk, false, is_ok};
-ghost use Rattle.quota_blocks.specs.Frame.{OnlyReads, Syncs};
-ghost use Rattle.quota_blocks.specs.QuotaValue.{QuotaValue};
-ghost use Rattle.quota_blocks.specs.Replacement.{ReplacesOnly};
-ghost use Rattle.quota_blocks.specs.Seen.{LinkSeen, SinkSeen, SourceSeen};
-ghost use Rattle.quota_blocks.specs.QuotaFile.{IsLookupFault};
+ghost use Rattle.outside.specs.Frame.{OnlyReads, Syncs};
+ghost use Rattle.quota_value.specs.QuotaValue.{QuotaValue};
+ghost use Rattle.outside.specs.Replacement.{ReplacesOnly};
+ghost use Rattle.outside.specs.Seen.{LinkSeen, SinkSeen, SourceSeen};
+ghost use Rattle.opened_file.specs.QuotaFile.{IsLookupFault};
 ghost use Rattle.quota_map.specs.Reading.{file_refusal};
 ghost use Rattle.run_steps.specs.Done.{seen_of, tells_of};
 ghost use Rattle.run_steps.specs.Run.{CarriesOut};
@@ -11,7 +11,8 @@ ghost use Rattle.file_commands.specs.Check.{HasKept, ReplaceSteps, new_format, n
 ghost use Rattle.run_steps.specs.Changing.{edit_uses};
 ghost use Rattle.file_commands.specs.FileValue.{IsInOrder, IsMadeAnew, IsWritable, WritingMayRefuse, replace_cause, value_in};
 
-use quota_blocks::{FileFault, QuotaFile, ReplaceFault, Store};
+use opened_file::{FileFault, QuotaFile, ReplaceFault};
+use outside::Store;
 use quota_map::{AnyFile, MOST_BLOCKS, read_all, replace_file};
 use quota_types::{Entry, Format, Grace, Kind};
 use refusals::{Cause, Refusal, Word};

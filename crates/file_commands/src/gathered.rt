@@ -2,7 +2,7 @@ ghost use Rattle.std.specs.Prelude.{◌≡◌, ◌≤◌, ◌++◌, [], OnOk, On
 ghost use Rattle.outside.specs.Count.{Rose};
 ghost use Rattle.file_commands.specs.Gathered.{gathered_seen};
 
-use quota_blocks::{Sink, SinkFault};
+use outside::{Sink, SinkFault};
 use std::alloc::Global;
 
 /// Text that is gathered in memory to know how long it is. A call fails only where there is not enough memory.

@@ -1,8 +1,8 @@
 ghost use Rattle.std.specs.Prelude.{◌≡◌, ◌≤◌, [], false, IfErr, IfOk, IsSome, IsTrue, None, OnOk, Some, unwrap_or, is_ok};
-ghost use Rattle.quota_blocks.specs.Behind.{IsBehind};
-ghost use Rattle.quota_blocks.specs.Count.{Rose};
-ghost use Rattle.quota_blocks.specs.Frame.{OnlyReads};
-ghost use Rattle.quota_blocks.specs.StoreInput.{left_from};
+ghost use Rattle.outside.specs.Behind.{IsBehind};
+ghost use Rattle.outside.specs.Count.{Rose};
+ghost use Rattle.outside.specs.Frame.{OnlyReads};
+ghost use Rattle.input_text.specs.StoreInput.{left_from};
 ghost use Rattle.refusals.specs.Outcome.{Passed};
 ghost use Rattle.run_steps.specs.Taking.{AListing, InputMayRefuse, IsInputFault, file_said, input_said};
 ghost use Rattle.file_commands.specs.Check.{scan_cause, scan_step};
@@ -10,7 +10,8 @@ ghost use Rattle.refusals.specs.declared.cause.Cause.TheVariants.{StoreFault as 
 ghost use Rattle.refusals.specs.Refusals.{nowhere, refusal_of};
 
 use inode_scan::{ScanFault, Usage, scan};
-use quota_blocks::{Source, Store, StoreInput, StoreSource};
+use input_text::{StoreInput, StoreSource};
+use outside::{Source, Store};
 use quota_types::Kind;
 use refusals::{Cause, Refusal, Word};
 use std::alloc::Global;

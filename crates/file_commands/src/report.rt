@@ -1,7 +1,7 @@
 ghost use Rattle.std.specs.Prelude.{ℕ, Option, ◌≡◌, Bool, is_ok};
 ghost use Rattle.id_names.specs.NamesFile.{NameLine};
-ghost use Rattle.quota_blocks.specs.Seen.{LinkSeen, SinkSeen, SourceSeen};
-ghost use Rattle.quota_blocks.specs.Frame.{Syncs};
+ghost use Rattle.outside.specs.Seen.{LinkSeen, SinkSeen, SourceSeen};
+ghost use Rattle.outside.specs.Frame.{Syncs};
 ghost use Rattle.run_steps.specs.Done.{seen_of, tells_of};
 ghost use Rattle.run_steps.specs.Run.{CarriesOut};
 ghost use Rattle.file_commands.specs.Report.{ReportMayRefuse, ReportSteps, report_cause, report_on};
@@ -9,11 +9,12 @@ ghost use Rattle.run_steps.specs.Showing.{ShowingMayRefuse, ShowingSteps, showin
 
 use command_words::Common;
 use id_names::Names;
-use quota_blocks::{Sink, Store};
+use outside::{Sink, Store};
 use quota_map::open_file;
 use quota_types::{Format, Kind};
 use refusals::{Cause, Refusal, Word};
-use report_text::{Options, ReportFault, report};
+use report_options::Options;
+use report_text::{ReportFault, report};
 use run_steps::{file_cause, opening_cause, read_names};
 use std::alloc::Global;
 

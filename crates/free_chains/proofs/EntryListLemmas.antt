@@ -8,7 +8,7 @@ use Rattle.quota_types.proofs.TimesLemmas.{stands_right, times-cons-other, times
 use Rattle.file_blocks.specs.Block.{block_of, leads, next_of, previous_of}
 use Rattle.quota_types.specs.Span.{KeepsOutside}
 use Rattle.file_blocks.proofs.LeadsLemmas.{leads_within}
-use Rattle.file_blocks.proofs.WordLemmas.{number_same}
+use Rattle.quota_types.proofs.BytesLemmas.{number_same}
 use Rattle.quota_pages.specs.Used.{HasWord, KeepsBlocksBut}
 use Rattle.free_chains.specs.Chain.{IsChain}
 use Rattle.free_chains.specs.Links.{HasLinks, led_to}

@@ -7,7 +7,7 @@ use Rattle.quota_types.proofs.TimesLemmas.{stands_either, stands_left, stands_ri
 use Rattle.file_blocks.specs.Block.{block_of}
 use Rattle.outside.specs.Seen.{StoreSeen}
 use Rattle.quota_types.specs.Span.{KeepsOutside}
-use Rattle.file_blocks.proofs.WordLemmas.{number_same}
+use Rattle.quota_types.proofs.BytesLemmas.{number_same}
 use Rattle.quota_pages.specs.Page.{Page, is_buffered}
 use Rattle.quota_pages.specs.Pages.{pages_of}
 use Rattle.quota_pages.specs.Used.{HasWord, KeepsBlocksBut, LendsSome, LooksAtSome, missing}

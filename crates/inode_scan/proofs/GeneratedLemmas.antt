@@ -12,10 +12,10 @@ use Rattle.std.proofs.lemmas.List.Elements.{All-from_recursion}
 use Rattle.std.proofs.lemmas.List.Folds.{list_any-append}
 use Rattle.std.proofs.lemmas.List.Splits.{slice_split_none}
 use Rattle.std.proofs.lemmas.Str.Parse.{IsNumeralModel, digit_from_value, numerals_by_value, tells_digits}
-use Rattle.quota_blocks.specs.InputLines.{InputLines, NoLine, LineThen, input_lines, lines_from}
-use Rattle.quota_blocks.specs.Lines.{NextLine, Line, is_newline, next_line_of}
-use Rattle.quota_blocks.specs.Numeral.{number_of, value_of}
-use Rattle.quota_blocks.specs.Words.{is_blank, is_word, words_of}
+use Rattle.input_text.specs.InputLines.{InputLines, NoLine, LineThen, input_lines, lines_from}
+use Rattle.input_text.specs.Lines.{NextLine, Line, is_newline, next_line_of}
+use Rattle.input_text.specs.Numeral.{number_of, value_of}
+use Rattle.input_text.specs.Words.{is_blank, is_word, words_of}
 use Rattle.input_text.proofs.InputLinesLemmas.{input_lines-step}
 use Rattle.input_text.proofs.LinesLemmas.{next-end, next-line}
 use Rattle.input_text.proofs.WordsLemmas.{words_of-append}

@@ -1,8 +1,7 @@
 -- That nothing is wrong with a listing that is made, and how much its lines add up to at most.
 use Rattle.std.proofs.Common.{◌≡◌, ℕ, zero, suc, ◌+◌, ◌-◌, ◌*◌, ◌^◌, ◌<◌, ◌≤◌, Bool, true, false, cond, List, [], ◌∷◌, ◌++◌, length, codes, Option, Some, None, Ok, refl, sym, ap, subst, ◌∙◌, arith, length-append}
 use Rattle.std.specs.Prelude.{if◌then◌else◌, IfSome, slice_get}
-use Rattle.std.specs.List.{AllByRecursion, cons_option, enumerate_from, filter_map}
-use Rattle.std.specs.List.{find as first_that}
+use Rattle.std.specs.List.{AllByRecursion, cons_option, enumerate_from, filter_map, find as first_that}
 use Rattle.std.specs.Option.{option_and_then, option_map, option_to_list}
 use Rattle.std.proofs.lemmas.Bool.Decides.{nat_tests}
 use Rattle.quota_types.specs.declared.file_kind.Kind.TheVariants.{User}

@@ -14,8 +14,9 @@ use Rattle.quota_types.specs.declared.record.Grace.{Grace}
 use Rattle.quota_types.specs.declared.record.Rec.{Rec}
 use Rattle.quota_types.specs.Kept.{kept_of}
 use Rattle.quota_types.specs.Rec.{is_null_of}
-use Rattle.quota_blocks.specs.Listed.{ids_of, records_of}
-use Rattle.quota_blocks.specs.QuotaValue.{IsAfter, IsNextAfter}
+use Rattle.quota_value.specs.Listed.{ids_of, records_of}
+use Rattle.quota_types.specs.Ids.{IsAfter}
+use Rattle.quota_value.specs.QuotaValue.{IsNextAfter}
 use Rattle.inode_scan.specs.declared.used.Used.{Used}
 use Rattle.inode_scan.specs.Apply.{IsKeptEntry, applied, no_room, wanted, wanted_record}
 use Rattle.inode_scan.specs.Merge.{first_id, least_id, record_at, records_behind}

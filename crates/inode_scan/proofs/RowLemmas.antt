@@ -1,8 +1,8 @@
 -- The words of a line.
 use Rattle.std.proofs.Common.{◌≡◌, ◌^◌, ℕ, true, false, List, [], ◌∷◌, Option, Some, None, refl, ap, ◌∙◌}
 use Rattle.std.specs.Option.{option_and_then}
-use Rattle.quota_blocks.specs.Numeral.{number_of}
-use Rattle.quota_blocks.specs.Words.{words_eq, words_of}
+use Rattle.input_text.specs.Numeral.{number_of}
+use Rattle.input_text.specs.Words.{words_eq, words_of}
 use Rattle.inode_scan.specs.Line.{below, number_below, row_from, row_in, row_of}
 
 -- more than five words say nothing

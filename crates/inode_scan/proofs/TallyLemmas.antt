@@ -7,7 +7,7 @@ use Rattle.std.specs.List.{cons_option}
 use Rattle.std.specs.Ordering.{nat_cmp}
 use Rattle.std.specs.Option.{option_and_then, option_map, option_or, option_to_list}
 use Rattle.std.proofs.lemmas.Bool.Decides.{nat_tests}
-use Rattle.quota_blocks.specs.Words.{words_eq, words_of}
+use Rattle.input_text.specs.Words.{words_eq, words_of}
 use Rattle.inode_scan.specs.declared.fault.ScanFault.{ScanFault}
 use Rattle.inode_scan.specs.declared.fault.ScanFault.TheVariants.{Source, TooLarge, BadLine, LongLine, Conflict, Memory}
 use Rattle.inode_scan.specs.declared.inode.Inode.{Inode}

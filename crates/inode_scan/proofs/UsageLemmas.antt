@@ -12,7 +12,7 @@ use Rattle.std.specs.Ordering.{eq_by_cmp, is_gt, nat_cmp}
 use Rattle.std.specs.declared.cmp.Ordering.TheVariants.{Less, Greater}
 use Rattle.std.proofs.lemmas.Bool.{true≢false}
 use Rattle.std.proofs.lemmas.Bool.Decides.{nat_tests}
-use Rattle.quota_blocks.specs.QuotaValue.{IsAfter}
+use Rattle.quota_types.specs.Ids.{IsAfter}
 use Rattle.inode_scan.specs.declared.used.Used.{Used}
 use Rattle.inode_scan.specs.Usage.{IsNextUser, bound_above}
 

@@ -2,7 +2,7 @@
 -- generator of 64 bits, as in MMIX; what the lines have is this project's own.
 use Rattle.std.specs.Prelude.{ℕ, zero, suc, ◌+◌, ◌-◌, ◌*◌, ◌/◌, ◌%◌, ◌^◌, ◌==◌, Bool, if◌then◌else◌, List, [], ◌∷◌, ◌++◌, drop, codes, decimal}
 use Rattle.std.specs.List.{flat_map}
-use Rattle.quota_blocks.specs.Seen.{SourceSeen}
+use Rattle.outside.specs.Seen.{SourceSeen}
 use Rattle.inode_scan.specs.declared.generated.Generated.{Generated}
 use Rattle.inode_scan.specs.declared.row.Row.{Row}
 

@@ -8,8 +8,3 @@ pub mod Merge
 pub mod Scan
 pub mod Tally
 pub mod Usage
-pub use Rattle.quota_blocks.specs.InputLines
-pub use Rattle.quota_blocks.specs.Listed
-pub use Rattle.quota_blocks.specs.QuotaValue
-pub use Rattle.quota_types.specs.Kept
-pub use Rattle.quota_types.specs.Range

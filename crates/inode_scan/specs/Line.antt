@@ -2,8 +2,8 @@
 -- them with `-printf '%U %G %D %i %b\n'`. That words may be blank-separated otherwise, and the bounds, are this project's own.
 use Rattle.std.specs.Prelude.{ℕ, ◌^◌, Bool, ◌&&◌, not, nat_lt, is_none, if◌then◌else◌, List, [], ◌∷◌, Option, Some, None}
 use Rattle.std.specs.Option.{option_and_then}
-use Rattle.quota_blocks.specs.Numeral.{number_of}
-use Rattle.quota_blocks.specs.Words.{words_eq, words_of}
+use Rattle.input_text.specs.Numeral.{number_of}
+use Rattle.input_text.specs.Words.{words_eq, words_of}
 use Rattle.inode_scan.specs.declared.row.Row.{Row}
 
 -- the number, where it is below the bound

@@ -3,9 +3,9 @@
 use Rattle.std.specs.Prelude.{◌≡◌, ℕ, ◌+◌, Bool, IsTrue, List, [], ◌∷◌, ◌++◌, Option, Some, None, Result, Err, slice_get, ⊤}
 use Rattle.std.specs.Option.{option_to_list}
 use Rattle.quota_types.specs.declared.file_kind.Kind.{Kind}
-use Rattle.quota_blocks.specs.Count.{Rose}
-use Rattle.quota_blocks.specs.InputLines.{InputLines, NoLine, LineThen, LongNext, PastNext, input_lines, lines_left}
-use Rattle.quota_blocks.specs.Lines.{LinesSeen}
+use Rattle.outside.specs.Count.{Rose}
+use Rattle.input_text.specs.InputLines.{InputLines, NoLine, LineThen, LongNext, PastNext, input_lines, lines_left}
+use Rattle.input_text.specs.Lines.{LinesSeen}
 use Rattle.input_text.specs.declared.line_reader.LineFault.{LineFault}
 use Rattle.input_text.specs.declared.line_reader.LineFault.TheVariants.{Source as SourceFailed, Long, TooLarge as PastTotal}
 use Rattle.inode_scan.specs.declared.fault.ScanFault.{ScanFault}

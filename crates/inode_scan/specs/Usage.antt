@@ -5,7 +5,7 @@ use Rattle.std.specs.declared.ops.Bound.TheVariants.{Excluded, Unbounded}
 use Rattle.std.specs.Coded.{Coded, code_by, coded×, coded_ℕ}
 use Rattle.std.specs.FinMap.{FinMap, get}
 use Rattle.std.specs.Ordering.{nat_cmp}
-use Rattle.quota_blocks.specs.QuotaValue.{IsAfter}
+use Rattle.quota_types.specs.Ids.{IsAfter}
 use Rattle.inode_scan.specs.declared.used.Used.{Used}
 
 -- usages by their identifiers

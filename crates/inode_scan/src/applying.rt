@@ -3,7 +3,7 @@ ghost use Rattle.std.specs.List.Sorted.{IsStrictlyIncreasing};
 ghost use Rattle.std.specs.Option.{option_map, option_to_list};
 ghost use Rattle.quota_types.specs.Kept.{IsKept};
 ghost use Rattle.quota_types.specs.Rec.{is_null_of};
-ghost use Rattle.quota_blocks.specs.Listed.{ids_of, records_of};
+ghost use Rattle.quota_value.specs.Listed.{ids_of, records_of};
 ghost use Rattle.inode_scan.specs.Apply.{IsApplyFault, applied};
 ghost use Rattle.inode_scan.specs.Merge.{first_id, least_id, record_at, records_behind};
 

@@ -3,7 +3,7 @@ ghost use Rattle.inode_scan.specs.declared.fault.ScanFault.TheVariants.{Memory};
 ghost use Rattle.inode_scan.specs.declared.fault.ApplyFault.TheVariants.{Memory as NoMemory, NoRoom as Unfit};
 ghost use Rattle.inode_scan.specs.Scan.{line_fault};
 
-use quota_blocks::LineFault;
+use input_text::LineFault;
 use quota_types::NoRoom;
 use std::alloc::{AllocError, AllocFailed};
 

@@ -1,11 +1,11 @@
 ghost use Rattle.std.specs.Prelude.{◌≡◌, ◌+◌, ◌-◌, ◌≤◌, ◌++◌, ◌∷◌, ◌⊎◌, [], codes, decimal, take, length, IfOk, OnErr};
-ghost use Rattle.quota_blocks.specs.Count.{Rose};
+ghost use Rattle.outside.specs.Count.{Rose};
 ghost use Rattle.inode_scan.specs.Generated.{first_alike, generated, generated_left, generated_seen, next_number, number_behind, row_made, row_text};
 
 use crate::row::Row;
 use arrayvec::ArrayVec;
 use itoa::Buffer;
-use quota_blocks::{Source, SourceFault};
+use outside::{Source, SourceFault};
 
 /// How many bytes a line has at most: five numbers, and a byte behind each.
 const LINE: usize = 5 * 21;
@@ -74,7 +74,7 @@ impl Generated {
 
 impl Source for Generated {
     ghost use Rattle.std.specs.Prelude.{true};
-    ghost use Rattle.quota_blocks.specs.Behind.{IsBehind, behind_nothing, behind_on};
+    ghost use Rattle.outside.specs.Behind.{IsBehind, behind_nothing, behind_on};
 
     ghost tells = { true };
 

@@ -1,9 +1,9 @@
 ghost use Rattle.std.specs.Prelude.{◌≡◌, ◌^◌};
-ghost use Rattle.quota_blocks.specs.Numeral.{number_of};
+ghost use Rattle.input_text.specs.Numeral.{number_of};
 ghost use Rattle.inode_scan.specs.Line.{number_below, row_from, row_in};
 
 use crate::narrow::in_32_bits;
-use quota_blocks::{has_no_word, next_word, number_in};
+use input_text::{has_no_word, next_word, number_in};
 
 /// What a line of a listing says.
 #[derive(Clone, Copy)]

@@ -1,11 +1,12 @@
 ghost use Rattle.std.specs.Prelude.{◌≡◌, ◌+◌, ◌-◌, ◌<◌, ◌≤◌, [], true, false, is_ok, IsTrue, IfOk, IfErr, OnOk, Ok, if◌then◌else◌};
-ghost use Rattle.quota_blocks.specs.InputLines.{line_then};
+ghost use Rattle.input_text.specs.InputLines.{line_then};
 ghost use Rattle.inode_scan.specs.Scan.{IsEndFault, IsScanFault, listing_left, scanned};
 
 use crate::tally::Tally;
 use crate::{ScanFault, Usage};
 use arrayvec::ArrayVec;
-use quota_blocks::{LineFault, LineReader, Source};
+use input_text::{LineFault, LineReader};
+use outside::Source;
 use quota_types::Kind;
 use std::alloc::Global;
 

@@ -7,7 +7,7 @@ use crate::inode::{FirstLine, Inode};
 use crate::row::{Row, read_row};
 use crate::sums::Sums;
 use crate::{ScanFault, Usage};
-use quota_blocks::has_no_word;
+use input_text::has_no_word;
 use quota_types::Kind;
 use std::alloc::{AllocError, Global};
 

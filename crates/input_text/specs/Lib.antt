@@ -4,10 +4,3 @@ pub mod Lines
 pub mod Numeral
 pub mod StoreInput
 pub mod Words
-pub use Rattle.outside.specs.Behind
-pub use Rattle.outside.specs.Count
-pub use Rattle.outside.specs.Frame
-pub use Rattle.outside.specs.Seen
-pub use Rattle.outside.specs.Text
-pub use Rattle.outside.specs.Unsynced
-pub use Rattle.outside.specs.World

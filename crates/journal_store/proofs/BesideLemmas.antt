@@ -2,8 +2,8 @@
 use Rattle.std.proofs.Common.{◌≡◌, ℕ, Bool, List, Option, sym, ap, ◌∙◌}
 use Rattle.outside.specs.Unsynced.{Names, with_name}
 use Rattle.outside.specs.World.{KeepsOthers, World, with_bytes, with_file}
-use Rattle.crash_disk.specs.DiskSeen.{DiskSeen, Follows}
-use Rattle.crash_disk.specs.Steps.{ChangesFile}
+use Rattle.disk.specs.DiskSeen.{DiskSeen, Follows}
+use Rattle.disk.specs.Steps.{ChangesFile}
 use Rattle.edit_journal.specs.Settled.{IsRecovered}
 use Rattle.edit_journal.specs.Spans.{Span}
 use Rattle.edit_journal.specs.UndoName.{undo_name}

@@ -4,8 +4,8 @@ use Rattle.std.specs.Str.{bytes_eq}
 use Rattle.std.proofs.lemmas.Bool.{cases_Bool, cond-false, cond-true}
 use Rattle.outside.specs.Unsynced.{Names, with_handed, with_name}
 use Rattle.outside.specs.World.{KeepsOthers, World}
-use Rattle.crash_disk.specs.DiskSeen.{DiskSeen, OnlyLeaves, Passes}
-use Rattle.crash_disk.proofs.StopLemmas.{only_leaves-wider, passes-then, passes-wider}
+use Rattle.disk.specs.DiskSeen.{DiskSeen, OnlyLeaves, Passes}
+use Rattle.disk.proofs.StopLemmas.{only_leaves-wider, passes-then, passes-wider}
 use Rattle.edit_journal.specs.Recovery.{IsSame, RecoversSame}
 use Rattle.edit_journal.specs.Settled.{KeepsOtherThree}
 use Rattle.edit_journal.proofs.CommitLemmas.{only-then}

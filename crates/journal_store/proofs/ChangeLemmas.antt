@@ -5,7 +5,7 @@ use Rattle.std.specs.Str.{bytes_eq}
 use Rattle.std.proofs.lemmas.Bool.{cases_Bool, cond-false, cond-true, false≢true}
 use Rattle.outside.specs.World.{KeepsOthers, World, overwritten, with_bytes, with_file, with_new_name}
 use Rattle.outside.proofs.WorldLemmas.{KeepsOthers-with_file, bytes_eq-true, with_file-at}
-use Rattle.crash_disk.specs.DiskSeen.{DiskSeen}
+use Rattle.disk.specs.DiskSeen.{DiskSeen}
 use Rattle.quota_types.specs.Bytes.{byte_at}
 use Rattle.edit_journal.specs.Settled.{IsRecovered}
 use Rattle.edit_journal.specs.Spans.{Span, laid}

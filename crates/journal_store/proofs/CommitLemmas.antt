@@ -5,8 +5,8 @@ use Rattle.std.proofs.lemmas.Bool.{cases_Bool, false≢true}
 use Rattle.outside.specs.Unsynced.{AddsNone, Names}
 use Rattle.outside.specs.World.{KeepsOthers}
 use Rattle.outside.proofs.WorldLemmas.{bytes_eq-true}
-use Rattle.crash_disk.specs.DiskSeen.{DiskSeen, OnlyLeaves, Passes}
-use Rattle.crash_disk.proofs.StopLemmas.{only_leaves-wider}
+use Rattle.disk.specs.DiskSeen.{DiskSeen, OnlyLeaves, Passes}
+use Rattle.disk.proofs.StopLemmas.{only_leaves-wider}
 use Rattle.edit_journal.specs.Settled.{IsRecovered, IsSettled, KeepsOtherThree, RecoversToEither}
 use Rattle.edit_journal.specs.Spans.{Span, laid}
 use Rattle.edit_journal.specs.Undo.{recovered}

@@ -3,7 +3,7 @@ use Rattle.std.proofs.Common.{◌≡◌, ⊎_elim, ℕ, true, false, IsSome, ref
 use Rattle.std.proofs.lemmas.Bool.{false≢true}
 use Rattle.outside.specs.Unsynced.{with_name}
 use Rattle.outside.specs.World.{KeepsOthers}
-use Rattle.crash_disk.specs.DiskSeen.{DiskSeen, OnlyLeaves, Passes}
+use Rattle.disk.specs.DiskSeen.{DiskSeen, OnlyLeaves, Passes}
 use Rattle.edit_journal.specs.Settled.{CanCommit, IsRecovered, IsSettled, KeepsOtherThree, RecoversToEither}
 use Rattle.edit_journal.specs.Spans.{Span, laid}
 use Rattle.edit_journal.specs.UndoName.{und_name, undo_name}

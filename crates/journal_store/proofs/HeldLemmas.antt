@@ -4,7 +4,7 @@ use Rattle.std.proofs.lemmas.Bool.{false≢true}
 use Rattle.std.proofs.lemmas.List.{map-append}
 use Rattle.outside.specs.Unsynced.{Names, with_handed, with_name}
 use Rattle.outside.specs.World.{World, with_bytes, with_file, with_new_name}
-use Rattle.crash_disk.specs.DiskSeen.{DiskSeen}
+use Rattle.disk.specs.DiskSeen.{DiskSeen}
 use Rattle.quota_types.specs.Bytes.{byte_at}
 use Rattle.edit_journal.specs.Settled.{IsRecovered}
 use Rattle.edit_journal.specs.Spans.{Span, laid, span_of, spans_of}

@@ -6,7 +6,7 @@ use Rattle.outside.specs.Unsynced.{Names}
 use Rattle.outside.specs.World.{World}
 use Rattle.outside.proofs.WorldLemmas.{bytes_eq-true}
 use Rattle.outside.proofs.FrameLemmas.{adds_none-then, keeps_others-then}
-use Rattle.crash_disk.specs.DiskSeen.{DiskSeen}
+use Rattle.disk.specs.DiskSeen.{DiskSeen}
 use Rattle.edit_journal.specs.Recovery.{RecoversSame}
 use Rattle.edit_journal.specs.Settled.{IsRecovered, KeepsOtherThree}
 use Rattle.edit_journal.specs.Spans.{Span, laid}

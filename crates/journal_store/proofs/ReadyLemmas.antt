@@ -1,7 +1,7 @@
 -- A recovered file stays so, and a file that is there stays there.
 use Rattle.std.proofs.Common.{◌≡◌, ℕ, List, [], length, Option, Some, None, IsSome, unwrap_or, refl, sym, ap, ◌∙◌, subst, arith}
 use Rattle.outside.specs.World.{World}
-use Rattle.crash_disk.specs.DiskSeen.{ChangesNothing, DiskSeen, Follows}
+use Rattle.disk.specs.DiskSeen.{ChangesNothing, DiskSeen, Follows}
 use Rattle.quota_types.specs.Bytes.{byte_at}
 use Rattle.edit_journal.specs.Recovery.{IsSame}
 use Rattle.edit_journal.specs.Settled.{IsRecovered}

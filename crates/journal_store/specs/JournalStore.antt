@@ -2,8 +2,8 @@
 use Rattle.std.specs.Prelude.{◌≡◌, ◌≢◌, ◌≤◌, ◌⊎◌, ℕ, Bool, false, IsTrue, List, length, None, Option, if◌then◌else◌}
 use Rattle.outside.specs.Seen.{StoreSeen}
 use Rattle.outside.specs.World.{World}
-use Rattle.crash_disk.specs.DiskSeen.{DiskSeen}
-use Rattle.crash_disk.specs.declared.disk.Disk.{Ghosts}
+use Rattle.disk.specs.DiskSeen.{DiskSeen}
+use Rattle.disk.specs.declared.disk.Disk.{Ghosts}
 use Rattle.edit_journal.specs.Recovery.{RecoversAsBefore}
 use Rattle.edit_journal.specs.Spans.{Span, spans_of}
 use Rattle.edit_journal.specs.Undo.{recovered}

@@ -2,15 +2,3 @@ pub mod JournalStore
 pub mod Kinds
 pub mod Overlay
 pub mod Told
-pub use Rattle.crash_disk.specs.DiskSeen
-pub use Rattle.crash_disk.specs.Steps
-pub use Rattle.edit_journal.specs.Recovery
-pub use Rattle.edit_journal.specs.Settled
-pub use Rattle.edit_journal.specs.Spans
-pub use Rattle.edit_journal.specs.Undo
-pub use Rattle.edit_journal.specs.UndoName
-pub use Rattle.outside.specs.Count
-pub use Rattle.outside.specs.Frame
-pub use Rattle.outside.specs.Seen
-pub use Rattle.outside.specs.Unsynced
-pub use Rattle.outside.specs.World

@@ -3,7 +3,7 @@ use Rattle.std.specs.Prelude.{◌≡◌, ℕ, Bool, ◌||◌, ◌&&◌, not, fal
 use Rattle.std.specs.Str.{bytes_eq}
 use Rattle.outside.specs.Unsynced.{AddsNone, Names}
 use Rattle.outside.specs.World.{KeepsOthers, World}
-use Rattle.crash_disk.specs.DiskSeen.{DiskSeen}
+use Rattle.disk.specs.DiskSeen.{DiskSeen}
 use Rattle.edit_journal.specs.Spans.{Span, laid}
 use Rattle.edit_journal.specs.Undo.{recovered}
 use Rattle.edit_journal.specs.UndoName.{undo_name}

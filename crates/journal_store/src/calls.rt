@@ -2,12 +2,12 @@
 
 use crate::journal::Journal;
 use crate::kinds::{NameKind, kind_of};
-use crash_disk::Disk;
+use disk::Disk;
 use outside::StoreFault;
 
 impl<D: Disk> Journal<D> {
     ghost use Rattle.std.specs.Prelude.{◌≡◌, ◌≢◌, ◌⊎◌, ◌↔◌, ◌^◌, ◌≤◌, ℕ, List, [], None, Some, length, option_map, take, false, true, IfOk, IsErr, IsSome, IsTrue, OnErr, OnOk, is_ok};
-    ghost use Rattle.crash_disk.specs.DiskSeen.{ChangesNothing, OnlyLeaves, Passes};
+    ghost use Rattle.disk.specs.DiskSeen.{ChangesNothing, OnlyLeaves, Passes};
     ghost use Rattle.edit_journal.specs.Recovery.{IsSame, RecoversSame};
     ghost use Rattle.edit_journal.specs.Settled.{IsRecovered, KeepsOtherThree};
     ghost use Rattle.edit_journal.specs.Undo.{recovered};

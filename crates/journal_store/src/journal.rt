@@ -10,7 +10,7 @@ ghost use Rattle.journal_store.specs.declared.kinds.NameKind.TheVariants.{Plain}
 use crate::kinds::NameKind;
 use crate::overlay::{laid_read, laid_size, meets_any};
 use arrayvec::{ArrayString, ArrayVec};
-use crash_disk::{Disk, DiskFault};
+use disk::{Disk, DiskFault};
 use edit_journal::names::{und_name, undo_name};
 use edit_journal::{KeptRange, commit_file, recover_file};
 use outside::StoreFault;
@@ -35,7 +35,7 @@ pub(crate) struct Journal<D: Disk> {
 impl<D: Disk> Journal<D> {
     ghost use Rattle.std.specs.Prelude.{◌≢◌, ◌⊎◌, ◌^◌, ℕ, List, [], None, Some, option_map, take, false, true, IfOk, IsErr, OnErr, OnOk, is_ok};
     ghost use Rattle.std.specs.Str.{bytes_eq};
-    ghost use Rattle.crash_disk.specs.DiskSeen.{ChangesNothing, OnlyLeaves, Passes};
+    ghost use Rattle.disk.specs.DiskSeen.{ChangesNothing, OnlyLeaves, Passes};
     ghost use Rattle.edit_journal.specs.Recovery.{IsSame, RecoversSame};
     ghost use Rattle.edit_journal.specs.Settled.{KeepsOtherThree};
     ghost use Rattle.edit_journal.specs.Undo.{recovered};

@@ -1,7 +1,7 @@
 //! A store over a disk.
 
 ghost use Rattle.std.specs.Prelude.{List, ℕ, ◌≡◌, ◌≢◌, ◌⊎◌, ◌↔◌, ◌^◌, ◌≤◌, [], None, Some, length, option_map, take, false, true, if◌then◌else◌, IfOk, IsErr, IsSome, IsTrue, OnErr, OnOk, is_ok};
-ghost use Rattle.crash_disk.specs.DiskSeen.{OnlyLeaves, Passes};
+ghost use Rattle.disk.specs.DiskSeen.{OnlyLeaves, Passes};
 ghost use Rattle.edit_journal.specs.Recovery.{RecoversSame};
 ghost use Rattle.edit_journal.specs.Settled.{IsRecovered, KeepsOtherThree};
 ghost use Rattle.edit_journal.specs.Undo.{recovered};
@@ -15,7 +15,7 @@ ghost use Rattle.outside.specs.World.{bytes_from, with_bytes, with_file, with_ne
 
 use crate::NameKind;
 use crate::journal::Journal;
-use crash_disk::Disk;
+use disk::Disk;
 use outside::{Store, StoreFault};
 
 /// Named files over a disk, of which one at a time is changed in place through a journal.

@@ -1,7 +1,7 @@
 //! What is read of a file over which kept ranges are laid.
 
 ghost use Rattle.std.specs.Prelude.{◌≡◌, ◌<◌, ◌≤◌, ◌+◌, ◌-◌, ◌^◌, List, ℕ, length, min, option_map, slice_index, take, unwrap_or, IfOk, IsTrue, OnErr};
-ghost use Rattle.crash_disk.specs.DiskSeen.{Passes};
+ghost use Rattle.disk.specs.DiskSeen.{Passes};
 ghost use Rattle.edit_journal.specs.Recovery.{IsSame};
 ghost use Rattle.edit_journal.specs.Spans.{laid, span_of, spans_of, with_laid};
 ghost use Rattle.journal_store.specs.Overlay.{meets, meets_any};
@@ -9,7 +9,7 @@ ghost use Rattle.outside.specs.Count.{Rose};
 ghost use Rattle.outside.specs.World.{bytes_from};
 ghost use Rattle.quota_types.specs.Bytes.{byte_at};
 
-use crash_disk::{Disk, DiskFault};
+use disk::{Disk, DiskFault};
 use edit_journal::{KeptRange, read_padded};
 
 /// The place behind a range.

@@ -1,4 +1,5 @@
-use crash_disk::{Disk, MemDisk};
+use disk::Disk;
+use disk_in_memory::MemDisk;
 use journal_store::JournalStore;
 use outside::Store;
 use std::alloc::{AllocError, Global};

@@ -1,4 +1,5 @@
-use quota_blocks::{MemLink, MemSink, MemSource, MemStore, Store};
+use memory_objects::{MemLink, MemSink, MemSource, MemStore};
+use outside::Store;
 use quota_cli::run::run;
 use std::alloc::{AllocError, Global};
 

@@ -1,8 +1,9 @@
-use quota_blocks::MemStore;
+use memory_objects::MemStore;
 use quota_types::{Entry, Format, Grace, Kind, Rec};
 use row_files::{ordered, store_of};
 use std::alloc::{AllocError, Global};
-use tree_file::{TreeFile, build, open_tree};
+use tree_build::build;
+use tree_file::{TreeFile, open_tree};
 
 /// A file of users that is built: this many identifiers from 0 on, each this far above the one before it.
 #[derive(Clone, Copy, Debug)]

@@ -1,5 +1,5 @@
 use crate::built_files::{Built, entries_of, file_of, opened_users, store_with};
-use quota_blocks::MemStore;
+use memory_objects::MemStore;
 use quota_types::{Entry, Format, Grace, Rec};
 use row_files::{Act, make, next_after};
 use std::alloc::Global;

@@ -1,5 +1,7 @@
 use crate::built_files::{Built, entry_at, file_of, opened_users, store_with};
-use quota_blocks::{FileFault, MemStore, Store};
+use memory_objects::MemStore;
+use opened_file::FileFault;
+use outside::Store;
 use quota_types::DamageKind::{self, *};
 use quota_types::{Damage, Entry, Format};
 use row_files::{get, next_after};

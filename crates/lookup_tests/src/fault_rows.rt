@@ -1,5 +1,6 @@
 use crate::built_files::{Built, entries_of, file_of, opened_users};
-use quota_blocks::{FileFault, MemStore};
+use memory_objects::MemStore;
+use opened_file::FileFault;
 use quota_types::{Entry, Format, Rec};
 use row_files::{get, next_after, store_of};
 use std::alloc::Global;

@@ -1,6 +1,6 @@
 use crate::built_files::{Built, entries_of, file_of, opened_users, store_with};
 use crate::moved_blocks::{with_dealt_entries, with_moved_blocks};
-use quota_blocks::MemStore;
+use memory_objects::MemStore;
 use quota_types::{Entry, Format};
 use row_files::{get, holds_entries};
 use std::alloc::Global;

@@ -1,4 +1,3 @@
 pub mod NameSetLemmas
 pub mod NamedFilesLemmas
-pub mod OverwriteLemmas
 pub mod TakenLemmas

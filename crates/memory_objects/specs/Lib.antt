@@ -1,9 +1,3 @@
 pub mod InMemory
 pub mod MemStore
 pub mod NameSet
-pub use Rattle.outside.specs.Behind
-pub use Rattle.outside.specs.Count
-pub use Rattle.outside.specs.Frame
-pub use Rattle.outside.specs.Seen
-pub use Rattle.outside.specs.Unsynced
-pub use Rattle.outside.specs.World

@@ -1,3 +1,2 @@
 pub mod Connections
 pub mod Events
-pub use Rattle.outside.specs.Count

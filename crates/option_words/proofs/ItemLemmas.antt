@@ -8,13 +8,11 @@ use Rattle.option_words.specs.declared.scan.Wanted.{Wanted}
 use Rattle.option_words.specs.declared.tool.Tool.{Tool}
 use Rattle.option_words.specs.declared.switch.Switch.{Switch}
 use Rattle.option_words.specs.declared.switch.Switch.TheVariants.{Flagged, Setting, Export}
-use Rattle.option_words.specs.Items.{texts_of}
+use Rattle.option_words.specs.Items.{AnyWord, Item, Next, Operand, Plain, Said, end_says, items_of, letter_says, letters_say, long_says, long_word_says, operands_in, options_say, texts_of, word_says}
 use Rattle.option_words.specs.Fault.{◌>>=◌}
 use Rattle.option_words.specs.Parts.{parted}
 use Rattle.option_words.specs.Switches.{letter_switch, long_switch}
-use Rattle.option_words.specs.Items.{Operand, operands_in}
 use Rattle.option_words.specs.Given.{Told, nothing_told, with_item, with_items}
-use Rattle.option_words.specs.Items.{AnyWord, Item, Next, Plain, Said, end_says, items_of, letter_says, letters_say, long_says, long_word_says, options_say, word_says}
 use Rattle.option_words.specs.Reads.{KeepsOperands, Reads, next_of}
 
 -- items in two parts say, behind one item, what both parts say one after the other

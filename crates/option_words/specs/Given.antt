@@ -6,7 +6,7 @@ use Rattle.std.specs.Str.{bytes_eq}
 use Rattle.quota_types.specs.declared.file_kind.Format.{Format}
 use Rattle.quota_types.specs.declared.file_kind.Kind.{Kind}
 use Rattle.quota_types.specs.declared.file_kind.Kind.TheVariants.{User, Group}
-use Rattle.quota_blocks.specs.Numeral.{number_of}
+use Rattle.input_text.specs.Numeral.{number_of}
 use Rattle.refusals.specs.declared.cause.UsageKind.TheVariants.{UnknownOption, MissingValue, Repeated, BadValue, BadFileName}
 use Rattle.option_words.specs.declared.export.Export.{Export}
 use Rattle.option_words.specs.declared.fault.Fault.{Fault}

@@ -4,9 +4,8 @@ use Rattle.option_words.specs.declared.fault.Fault.{Fault}
 use Rattle.option_words.specs.declared.scan.OperandWord.{OperandWord}
 use Rattle.option_words.specs.declared.scan.Wanted.{Wanted}
 use Rattle.option_words.specs.declared.scan.Wanted.TheVariants.{AnyWord as WantsAny, Operand as WantsOperand, Value, Path, KindWord, File}
-use Rattle.option_words.specs.Items.{Operand, operands_in}
+use Rattle.option_words.specs.Items.{AnyWord, FileOf, Item, KindOf, Next, Operand, Operands, PathOf, Said, ValueOf, operands_in}
 use Rattle.option_words.specs.Given.{Told, with_items}
-use Rattle.option_words.specs.Items.{AnyWord, FileOf, Item, KindOf, Next, Operands, PathOf, Said, ValueOf}
 
 -- what the next word is, without where texts stand
 abbrev pub next_of : Wanted → Next

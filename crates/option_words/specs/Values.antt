@@ -6,7 +6,7 @@ use Rattle.quota_types.specs.declared.file_kind.Format.{Format}
 use Rattle.quota_types.specs.declared.file_kind.Format.TheVariants.{V1, V2R0, V2R1}
 use Rattle.quota_types.specs.declared.file_kind.Kind.{Kind}
 use Rattle.quota_types.specs.declared.file_kind.Kind.TheVariants.{User, Group}
-use Rattle.quota_blocks.specs.Numeral.{number_of}
+use Rattle.input_text.specs.Numeral.{number_of}
 use Rattle.option_words.specs.declared.given.Conversion.{Conversion}
 use Rattle.option_words.specs.Parts.{parted}
 use Rattle.option_words.specs.Tools.{look_up}

@@ -7,7 +7,7 @@ use crate::values::{
 };
 use crate::{Fault, Flag, Flags, Setting, is_file_name, read_file_name};
 use arrayvec::ArrayVec;
-use quota_blocks::read_number;
+use input_text::read_number;
 use quota_types::{Format, Kind};
 use refusals::UsageKind;
 

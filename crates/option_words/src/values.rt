@@ -5,7 +5,7 @@ ghost use Rattle.option_words.specs.Values.{conversion, conversion_of, format_of
 
 use crate::parts::parted;
 use crate::{Conversion, Fault};
-use quota_blocks::read_number;
+use input_text::read_number;
 use quota_types::{Format, Kind};
 use refusals::UsageKind;
 

@@ -14,6 +14,5 @@ mod words;
 pub use about::{About, tell};
 pub use closed::hold_closed_streams;
 pub use reason::{Failed, Reason, add_reason, name_in};
-pub use refusals::refuse;
 pub use starting::{starting_cause, stop, words_cause};
 pub use words::given_words;

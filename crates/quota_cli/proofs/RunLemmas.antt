@@ -3,9 +3,9 @@ use Rattle.std.proofs.Common.{◌≡◌, ◌≢◌, ℕ, ◌≤◌, Bool, false,
 use Rattle.std.specs.Prelude.{⊤, ◌↔◌, IfErr, IfSome, IsErr, IsErrAnd, OnErr, OnOk, is_ok}
 use Rattle.std.specs.Result.{result_err}
 use Rattle.std.proofs.lemmas.Option.{none-some}
-use Rattle.quota_blocks.specs.Count.{Rose}
-use Rattle.quota_blocks.specs.Frame.{AreSynced, Syncs}
-use Rattle.quota_blocks.specs.Seen.{SinkSeen, StoreSeen}
+use Rattle.outside.specs.Count.{Rose}
+use Rattle.outside.specs.Frame.{AreSynced, Syncs}
+use Rattle.outside.specs.Seen.{SinkSeen, StoreSeen}
 use Rattle.outside.proofs.CountLemmas.{Rose-since}
 use Rattle.refusals.specs.declared.cause.Cause.{Cause}
 use Rattle.refusals.specs.declared.cause.Cause.TheVariants.{StoreFault, SourceFault, SinkFault, LinkFault, Memory}

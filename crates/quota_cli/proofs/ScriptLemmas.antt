@@ -6,12 +6,12 @@ use Rattle.std.specs.Str.{is_utf8}
 use Rattle.std.proofs.lemmas.Bool.{false≢true, le-leb, or_parts}
 use Rattle.std.proofs.lemmas.Option.{none-some}
 use Rattle.std.proofs.lemmas.Result.{IfErr-weaker}
-use Rattle.quota_blocks.specs.Behind.{IsBehind}
-use Rattle.quota_blocks.specs.Count.{Rose}
-use Rattle.quota_blocks.specs.Frame.{Syncs}
-use Rattle.quota_blocks.specs.InputLines.{InputLines, NoLine, LineThen, LongNext, PastNext, input_lines}
-use Rattle.quota_blocks.specs.Seen.{SourceSeen}
-use Rattle.quota_blocks.specs.Words.{words_of}
+use Rattle.outside.specs.Behind.{IsBehind}
+use Rattle.outside.specs.Count.{Rose}
+use Rattle.outside.specs.Frame.{Syncs}
+use Rattle.input_text.specs.InputLines.{InputLines, NoLine, LineThen, LongNext, PastNext, input_lines}
+use Rattle.outside.specs.Seen.{SourceSeen}
+use Rattle.input_text.specs.Words.{words_of}
 use Rattle.outside.proofs.FrameLemmas.{only_reads-none, syncs-none, syncs-then}
 use Rattle.refusals.specs.declared.cause.Cause.{Cause}
 use Rattle.refusals.specs.declared.cause.Cause.TheVariants.{LinkFault, SourceFault, TooLarge, LongLine, BadLine, Memory, SinkFault}

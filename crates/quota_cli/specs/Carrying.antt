@@ -1,7 +1,7 @@
 -- Lines of a script that were carried out, but for an error line.
 use Rattle.std.specs.Prelude.{◌≡◌, ◌<◌, ℕ, ⊤, false, IfErr, IsSome, IsTrue, List, [], ◌∷◌, Option, None, Result, is_ok}
 use Rattle.std.specs.Result.{result_err}
-use Rattle.quota_blocks.specs.Frame.{Syncs}
+use Rattle.outside.specs.Frame.{Syncs}
 use Rattle.refusals.specs.declared.cause.Cause.{Cause}
 use Rattle.refusals.specs.declared.cause.Cause.TheVariants.{Memory, SourceFault}
 use Rattle.refusals.specs.declared.reason.Refusal.{Refusal}

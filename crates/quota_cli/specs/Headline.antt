@@ -1,8 +1,8 @@
 -- What a run of the program does to what is outside.
 use Rattle.std.specs.Prelude.{◌≡◌, ◌≢◌, ◌≤◌, ◌⊎◌, ◌↔◌, ℕ, false, IsTrue, IfSome, IsErr, List, [], Option, Some, None, ⊤}
-use Rattle.quota_blocks.specs.Count.{Rose}
-use Rattle.quota_blocks.specs.Frame.{AreSynced}
-use Rattle.quota_blocks.specs.Seen.{SinkSeen}
+use Rattle.outside.specs.Count.{Rose}
+use Rattle.outside.specs.Frame.{AreSynced}
+use Rattle.outside.specs.Seen.{SinkSeen}
 use Rattle.refusals.specs.declared.cause.Cause.TheVariants.{Full, LinkFault}
 use Rattle.refusals.specs.declared.reason.Refusal.{Refusal}
 use Rattle.refusals.specs.Line.{closing_line, error_line}

@@ -1,10 +1,10 @@
 -- A script: the commands that the lines of the standard input ask for, one after another. Source: this project's own.
 use Rattle.std.specs.Prelude.{◌≡◌, ◌⊎◌, ℕ, ⊤, Bool, true, false, ◌&&◌, nat_le, IsSome, IsTrue, List, [], ◌∷◌, Option, Some, None, is_none}
 use Rattle.std.specs.List.{list_any}
-use Rattle.quota_blocks.specs.Frame.{AreSynced}
-use Rattle.quota_blocks.specs.Seen.{SourceSeen}
-use Rattle.quota_blocks.specs.Words.{words_of}
-use Rattle.quota_blocks.specs.World.{World}
+use Rattle.outside.specs.Frame.{AreSynced}
+use Rattle.outside.specs.Seen.{SourceSeen}
+use Rattle.input_text.specs.Words.{words_of}
+use Rattle.outside.specs.World.{World}
 use Rattle.refusals.specs.declared.cause.Cause.{Cause}
 use Rattle.refusals.specs.declared.cause.Cause.TheVariants.{LinkFault, Memory, SourceFault}
 use Rattle.refusals.specs.declared.reason.Refusal.{Refusal}

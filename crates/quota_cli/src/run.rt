@@ -1,6 +1,6 @@
 ghost use Rattle.std.specs.Prelude.{◌≡◌, ◌≢◌, ◌≤◌, ◌⊎◌, ◌↔◌, false, None, Some, Err, Ok, IsTrue, IsErr, IsErrAnd, IfErr, IfOk, if◌then◌else◌, MatchResult};
 ghost use Rattle.std.specs.Result.{result_err};
-ghost use Rattle.quota_blocks.specs.Count.{Rose};
+ghost use Rattle.outside.specs.Count.{Rose};
 ghost use Rattle.run_steps.specs.Done.{IsAllTold, NoFault, seen_of, tells_of};
 ghost use Rattle.quota_cli.specs.Headline.{HasEffect, Keeps, asked, setting_of, uses_asked};
 ghost use Rattle.command_words.specs.Asked.{command_of};
@@ -16,11 +16,13 @@ ghost use Rattle.option_words.specs.Items.{texts_of};
 use crate::script::run_script;
 use command_table::{carry_out, usage_refusal};
 use command_words::Command;
-pub use command_words::{UsageFault, read_words};
-use quota_blocks::{Link, Sink, Source, Store};
+use outside::{Link, Sink, Source, Store};
 use refusals::{Refusal, refuse};
 use run_steps::Invocation;
 use std::alloc::Global;
+
+// Words are read by a call of this crate, too, though it stands below it.
+pub use command_words::{UsageFault, read_words};
 
 /// Carries out the command that the words ask for, and answers the status with which the program ends: 0 done,
 /// 1 refused by the command, 2 the words are outside the grammar, 3 the file is no quota file of the kind and format, or

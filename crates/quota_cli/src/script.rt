@@ -14,7 +14,7 @@ ghost use Rattle.script_lines.specs.Script.{IsOfScript, line_read};
 
 use command_table::{carry_out, usage_refusal};
 use command_words::read_words;
-use quota_blocks::{Link, Sink, Source, Store};
+use outside::{Link, Sink, Source, Store};
 use refusals::{Cause, Place, Refusal, Word};
 use run_steps::Invocation;
 use script_lines::{Script, ScriptFault, ScriptLine, read_script, words_of_line};

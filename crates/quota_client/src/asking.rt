@@ -11,7 +11,7 @@ use crate::fault::ClientFault;
 use crate::line::{is_answered, write_lines};
 use crate::{ask, write_call};
 use network::Peer;
-use quota_blocks::Sink;
+use outside::Sink;
 
 /// Starts the peer, and then asks for one path after another and prints what is said of each. Answers whether each path
 /// was answered. Path k, counted from 0, is asked for with `xid` + k modulo 2^32.

@@ -1,5 +1,5 @@
 ghost use Rattle.std.specs.Prelude.{◌≡◌, ◌≤◌, length, None, IsTrue, IfNone, IfOk, IfSome, OnErr};
-ghost use Rattle.network.specs.Count.{Rose};
+ghost use Rattle.outside.specs.Count.{Rose};
 ghost use Rattle.network.specs.Events.{KeepsStart};
 ghost use Rattle.rquota_xdr.specs.declared.reply.Reply.{Reply};
 ghost use Rattle.quota_client.specs.Exchange.{Begins, Exchanges, IsReplyTo, reply_xid};

@@ -1,7 +1,7 @@
 ghost use Rattle.std.specs.Prelude.{◌≡◌};
 
 use network::PeerFault;
-use quota_blocks::SinkFault;
+use outside::SinkFault;
 
 /// Why not all paths were asked for and printed.
 #[derive(Clone, Copy)]

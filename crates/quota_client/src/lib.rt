@@ -24,5 +24,7 @@ mod words;
 pub use call_writer::write_call;
 pub use exchange::ask;
 pub use mode::Mode;
-pub use network::{Peer, PeerFault};
 pub use run::run_client;
+
+// What the calls of this crate ask is a peer, which is found here with them.
+pub use network::{Peer, PeerFault};

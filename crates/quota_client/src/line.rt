@@ -5,7 +5,8 @@ ghost use Rattle.quota_client.specs.Writing.{Writes};
 
 use crate::Mode;
 use crate::usage::Usage;
-use quota_blocks::{Sink, SinkFault, TextBuffer};
+use input_text::TextBuffer;
+use outside::{Sink, SinkFault};
 use refusals::Piece::{self, Number, Text};
 use refusals::put_pieces;
 use rquota_xdr::{Quota, Reply};

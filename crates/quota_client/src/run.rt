@@ -10,7 +10,7 @@ use crate::client::Client;
 use crate::fault::ClientFault;
 use crate::words::read_words;
 use network::Peer;
-use quota_blocks::Sink;
+use outside::Sink;
 use refusals::{Cause, Place, write_cause};
 
 /// Asks a server for the limits of a user, path by path, and answers the status with which the program ends: 0 each path

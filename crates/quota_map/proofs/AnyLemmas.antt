@@ -4,15 +4,15 @@ use Rattle.quota_types.specs.Format.{IsTreeFormat}
 use Rattle.quota_types.specs.declared.file_kind.Format.{Format}
 use Rattle.quota_types.specs.declared.file_kind.Format.TheVariants.{V1 as Flat, V2R0, V2R1}
 use Rattle.std.proofs.lemmas.Result.{IfErr-weaker}
-use Rattle.quota_blocks.specs.Changes.{Changes}
-use Rattle.quota_blocks.specs.LooksUp.{LooksUp}
-use Rattle.quota_blocks.specs.FileChange.{FileChange, Put, Remove, SetGrace, changed_value}
-use Rattle.quota_blocks.specs.QuotaFile.{FileSeen, StaysInPlace}
-use Rattle.quota_blocks.specs.QuotaValue.{QuotaValue}
-use Rattle.quota_blocks.specs.Seen.{StoreSeen}
-use Rattle.quota_blocks.specs.World.{World}
-use Rattle.quota_blocks.specs.declared.quota_file.FileFault.{FileFault}
-use Rattle.quota_blocks.proofs.ChangesLemmas.{changes-wider}
+use Rattle.opened_file.specs.Changes.{Changes}
+use Rattle.opened_file.specs.LooksUp.{LooksUp}
+use Rattle.opened_file.specs.FileChange.{FileChange, Put, Remove, SetGrace, changed_value}
+use Rattle.opened_file.specs.QuotaFile.{FileSeen, StaysInPlace}
+use Rattle.quota_value.specs.QuotaValue.{QuotaValue}
+use Rattle.outside.specs.Seen.{StoreSeen}
+use Rattle.outside.specs.World.{World}
+use Rattle.opened_file.specs.declared.quota_file.FileFault.{FileFault}
+use Rattle.opened_file.proofs.ChangesLemmas.{changes-wider}
 use Rattle.tree_build.specs.Size.{ids_in}
 use Rattle.tree_build.specs.TreeFile.{TreeStandsFor}
 use Rattle.quota_pages.specs.Pages.{name_of}

@@ -4,9 +4,9 @@ use Rattle.std.specs.Prelude.{IsSomeAnd}
 use Rattle.quota_types.specs.Format.{IsTreeFormat}
 use Rattle.quota_types.specs.declared.file_kind.Format.{Format}
 use Rattle.quota_types.specs.declared.file_kind.Format.TheVariants.{V1, V2R0, V2R1}
-use Rattle.quota_blocks.specs.FileChange.{FileChange, IsLeft}
-use Rattle.quota_blocks.specs.QuotaValue.{QuotaValue}
-use Rattle.quota_blocks.specs.World.{World}
+use Rattle.opened_file.specs.FileChange.{FileChange, IsLeft}
+use Rattle.quota_value.specs.QuotaValue.{QuotaValue}
+use Rattle.outside.specs.World.{World}
 use Rattle.entry_codec.specs.Header.{header_of}
 use Rattle.tree_build.specs.TreeFile.{TreeStandsFor}
 use Rattle.tree_build.proofs.MeaningLemmas.{header_format}

@@ -1,10 +1,10 @@
 -- How many calls of `read` pass identifiers in a file of any format.
 use Rattle.std.proofs.Common.{◌≡◌, ℕ, ◌+◌, ◌≤◌, List, Option, sym, subst, arith, true≢false}
-use Rattle.quota_blocks.specs.Block.{bytes_of}
+use Rattle.file_blocks.specs.Block.{bytes_of}
 use Rattle.quota_types.specs.Format.{IsTreeFormat}
 use Rattle.quota_types.specs.declared.file_kind.Format.{Format}
 use Rattle.quota_types.specs.declared.file_kind.Format.TheVariants.{V1 as Flat, V2R0, V2R1}
-use Rattle.quota_blocks.specs.QuotaFile.{FileSeen}
+use Rattle.opened_file.specs.QuotaFile.{FileSeen}
 use Rattle.quota_v1.specs.Window.{passing_reads}
 use Rattle.quota_map.specs.AnyFile.{any_passing_reads, reads_of_passing}
 

@@ -9,10 +9,11 @@ use Rattle.std.specs.List.Sorted.{IsStrictlyIncreasing}
 use Rattle.std.specs.Ordering.{nat_cmp}
 use Rattle.quota_types.specs.declared.record.Entry.{Entry}
 use Rattle.quota_types.specs.declared.record.Rec.{Rec}
-use Rattle.quota_blocks.specs.Listed.{records_of}
-use Rattle.quota_blocks.specs.QuotaValue.{IsAfter, IsNextAfter, Records}
-use Rattle.quota_blocks.proofs.EntriesLemmas.{entries_after, entries_after-all, entries_after-end, entries_after-next, ids_after}
-use Rattle.quota_blocks.proofs.ListedLemmas.{pairs_of}
+use Rattle.quota_value.specs.Listed.{records_of}
+use Rattle.quota_types.specs.Ids.{IsAfter}
+use Rattle.quota_value.specs.QuotaValue.{IsNextAfter, Records}
+use Rattle.quota_value.proofs.EntriesLemmas.{entries_after, entries_after-all, entries_after-end, entries_after-next, ids_after}
+use Rattle.quota_value.proofs.ListedLemmas.{pairs_of}
 
 -- the entries that were read, and those that come after, are all
 pub record IsReadUpTo (records : Records) (after : Option ℕ) (list : List Entry) : Type 0 where

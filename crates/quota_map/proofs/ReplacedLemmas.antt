@@ -1,9 +1,9 @@
 -- What a file that was replaced leaves of a store.
 use Rattle.std.proofs.Common.{◌≡◌, ◌≤◌, ℕ, false, List, sym, subst}
-use Rattle.quota_blocks.specs.Frame.{AreSynced, ReplacesOne, Syncs, replaced_names}
-use Rattle.quota_blocks.specs.Seen.{StoreSeen}
-use Rattle.quota_blocks.specs.declared.replacement.ReplaceFault.{ReplaceFault}
-use Rattle.quota_blocks.specs.declared.replacement.ReplaceFault.TheVariants.{Store, Full, Memory}
+use Rattle.outside.specs.Frame.{AreSynced, ReplacesOne, Syncs, replaced_names}
+use Rattle.outside.specs.Seen.{StoreSeen}
+use Rattle.opened_file.specs.declared.replacement.ReplaceFault.{ReplaceFault}
+use Rattle.opened_file.specs.declared.replacement.ReplaceFault.TheVariants.{Store, Full, Memory}
 use Rattle.outside.proofs.FrameLemmas.{syncs-failed, syncs-none}
 use Rattle.outside.proofs.UnsyncedLemmas.{replaced-adds_none, replaced-changed}
 use Rattle.quota_map.specs.Replacing.{IsReplaceFileFault, UnlessStore}

@@ -4,8 +4,8 @@ use Rattle.quota_types.specs.Format.{IsTreeFormat}
 use Rattle.quota_types.specs.declared.file_kind.Format.{Format}
 use Rattle.quota_types.specs.declared.file_kind.Format.TheVariants.{V1, V2R0, V2R1}
 use Rattle.quota_types.specs.declared.file_kind.Kind.{Kind}
-use Rattle.quota_blocks.specs.QuotaValue.{QuotaValue}
-use Rattle.quota_blocks.specs.declared.quota_file.OpenFault.{OpenFault}
+use Rattle.quota_value.specs.QuotaValue.{QuotaValue}
+use Rattle.opened_file.specs.declared.quota_file.OpenFault.{OpenFault}
 use Rattle.tree_file.specs.View.{IsTreeView}
 use Rattle.quota_v1.specs.View.{IsFlatView}
 use Rattle.quota_map.specs.View.{IsView, asks_flat, most_blocks}

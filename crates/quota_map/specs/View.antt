@@ -6,9 +6,9 @@ use Rattle.quota_types.specs.declared.file_kind.Format.{Format}
 use Rattle.quota_types.specs.declared.file_kind.Format.TheVariants.{V1, V2R0, V2R1}
 use Rattle.quota_types.specs.declared.file_kind.Kind.{Kind}
 use Rattle.entry_codec.specs.Header.{header_of}
-use Rattle.quota_blocks.specs.QuotaFile.{FileSeen}
-use Rattle.quota_blocks.specs.QuotaValue.{QuotaValue}
-use Rattle.quota_blocks.specs.declared.quota_file.OpenFault.{OpenFault}
+use Rattle.opened_file.specs.QuotaFile.{FileSeen}
+use Rattle.quota_value.specs.QuotaValue.{QuotaValue}
+use Rattle.opened_file.specs.declared.quota_file.OpenFault.{OpenFault}
 use Rattle.tree_file.specs.View.{IsTreeFault, IsTreeView}
 use Rattle.quota_v1.specs.View.{IsFlatFault, IsFlatView}
 

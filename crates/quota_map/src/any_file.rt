@@ -1,8 +1,9 @@
 ghost use Rattle.std.specs.Prelude.{◌≡◌, Bool};
-ghost use Rattle.quota_blocks.specs.QuotaValue.{QuotaValue};
-ghost use Rattle.quota_blocks.specs.World.{World};
+ghost use Rattle.quota_value.specs.QuotaValue.{QuotaValue};
+ghost use Rattle.outside.specs.World.{World};
 
-use quota_blocks::{FileFault, QuotaFile, Store};
+use opened_file::{FileFault, QuotaFile};
+use outside::Store;
 use quota_types::{Entry, Format, Grace, Rec};
 use quota_v1::V1File;
 use tree_file::TreeFile;

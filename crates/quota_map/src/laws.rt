@@ -3,7 +3,7 @@
 ghost use Rattle.std.specs.Prelude.{◌≡◌, ◌≤◌, ℕ, List};
 ghost use Rattle.quota_types.specs.declared.file_kind.Format.{Format};
 ghost use Rattle.quota_types.specs.declared.file_kind.Format.TheVariants.{V1};
-ghost use Rattle.quota_blocks.specs.QuotaValue.{QuotaValue};
+ghost use Rattle.quota_value.specs.QuotaValue.{QuotaValue};
 ghost use Rattle.quota_map.specs.AnyFile.{reads_of_get};
 ghost use Rattle.quota_map.specs.StandsFor.{StandsFor};
 
@@ -12,7 +12,7 @@ pub fn a_file_has_one_meaning_of_a_kind_and_format()
     ensures { (file : List ℕ) (value other : QuotaValue) → StandsFor file value → StandsFor file other
         → value.kind ≡ other.kind → value.format ≡ other.format → value ≡ other }
 {
-    tree_file::laws::a_file_has_one_meaning();
+    tree_build::laws::a_file_has_one_meaning();
     quota_v1::laws::a_file_has_one_meaning_of_a_kind();
 }
 

@@ -1,11 +1,12 @@
 ghost use Rattle.std.specs.Prelude.{◌≡◌, ◌+◌, ◌≤◌, Ok, IsTrue, IfOk, IfErr, OnOk, is_ok};
-ghost use Rattle.quota_blocks.specs.Frame.{OnlyReads};
-ghost use Rattle.quota_blocks.specs.QuotaValue.{QuotaValue};
-ghost use Rattle.quota_blocks.specs.Block.{file_of};
+ghost use Rattle.outside.specs.Frame.{OnlyReads};
+ghost use Rattle.quota_value.specs.QuotaValue.{QuotaValue};
+ghost use Rattle.file_blocks.specs.Block.{file_of};
 ghost use Rattle.quota_map.specs.View.{IsOpenFault, IsOpenedAs, IsView, asks_flat, fresh_seen, opening_reads};
 
 use crate::AnyFile;
-use quota_blocks::{OpenFault, QuotaFile, Store};
+use opened_file::{OpenFault, QuotaFile};
+use outside::Store;
 use quota_types::{Format, Kind};
 use quota_v1::open_v1;
 use std::alloc::Global;

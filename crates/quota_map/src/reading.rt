@@ -2,15 +2,16 @@ ghost use Rattle.std.specs.Prelude.{◌≡◌, ◌+◌, ◌*◌, ◌^◌, ◌<�
 ghost use Rattle.std.specs.FinMap.{entries};
 ghost use Rattle.std.specs.List.Sorted.{IsStrictlyIncreasing};
 ghost use Rattle.quota_types.specs.Kept.{IsKept};
-ghost use Rattle.quota_blocks.specs.Listed.{ids_of, records_of};
-ghost use Rattle.quota_blocks.specs.QuotaValue.{QuotaValue};
-ghost use Rattle.quota_blocks.specs.LooksUp.{LooksUp};
-ghost use Rattle.quota_blocks.specs.Passing.{reads_over};
+ghost use Rattle.quota_value.specs.Listed.{ids_of, records_of};
+ghost use Rattle.quota_value.specs.QuotaValue.{QuotaValue};
+ghost use Rattle.opened_file.specs.LooksUp.{LooksUp};
+ghost use Rattle.opened_file.specs.Passing.{reads_over};
 ghost use Rattle.quota_map.specs.AnyFile.{HoldsAny, any_at, any_laws, any_next_reads, any_passing_reads, any_seen};
 ghost use Rattle.quota_map.specs.Reading.{file_refusal};
 
 use crate::AnyFile;
-use quota_blocks::{FileFault, QuotaFile, Store};
+use opened_file::{FileFault, QuotaFile};
+use outside::Store;
 use quota_types::Entry;
 use std::alloc::Global;
 

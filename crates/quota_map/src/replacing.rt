@@ -4,21 +4,22 @@ ghost use Rattle.quota_types.specs.Format.{is_flat};
 ghost use Rattle.quota_types.specs.Kept.{kept_of};
 ghost use Rattle.quota_types.specs.Range.{grace_unfit, unfit};
 ghost use Rattle.quota_types.specs.Rec.{is_zeros};
-ghost use Rattle.quota_blocks.specs.Frame.{ReplacesOne, replaced_names};
-ghost use Rattle.quota_blocks.specs.Listed.{ids_of, value_of};
-ghost use Rattle.quota_blocks.specs.Replacement.{replacement_name};
-ghost use Rattle.quota_blocks.specs.World.{KeepsOthers};
+ghost use Rattle.outside.specs.Frame.{ReplacesOne, replaced_names};
+ghost use Rattle.quota_value.specs.Listed.{ids_of, value_of};
+ghost use Rattle.outside.specs.Replacement.{replacement_name};
+ghost use Rattle.outside.specs.World.{KeepsOthers};
 ghost use Rattle.tree_build.specs.Build.{IsBuildFault};
 ghost use Rattle.tree_build.specs.Size.{blocks_needed};
 ghost use Rattle.quota_map.specs.Replacing.{IsPlain, IsReplaceFileFault, IsReplacedBy, UnlessStore, built_size, flags_in};
 ghost use Rattle.quota_map.specs.StandsFor.{StandsFor};
 ghost use Rattle.quota_map.specs.View.{IsView, most_blocks};
 
-use quota_blocks::{ReplaceFault, Store, replace};
+use opened_file::{ReplaceFault, replace};
+use outside::Store;
 use quota_types::{Entry, Format, Grace, Kind};
 use quota_v1::build_v1;
 use std::alloc::Global;
-use tree_file::{BuildFault, build};
+use tree_build::{BuildFault, build};
 
 /// Builds a file of the format from its grace periods, in seconds, its flags and its entries, and puts it in the place of the
 /// one of this name, or makes it. A flat file has no flags. Nothing is written before the file is built.

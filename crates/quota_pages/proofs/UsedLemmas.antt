@@ -14,7 +14,8 @@ use Rattle.outside.specs.Seen.{StoreSeen}
 use Rattle.quota_types.specs.Span.{KeepsOutside}
 use Rattle.outside.specs.World.{World}
 use Rattle.outside.proofs.FrameLemmas.{only_reads-none, only_reads-any, only_reads-less, only_reads-then}
-use Rattle.file_blocks.proofs.WordLemmas.{number_same, length-block_of}
+use Rattle.quota_types.proofs.BytesLemmas.{number_same}
+use Rattle.file_blocks.proofs.WordLemmas.{length-block_of}
 use Rattle.quota_pages.specs.Overlay.{whole_block, with_block}
 use Rattle.quota_pages.specs.Page.{HasRoomFor, IsClean, Page, is_buffered, is_lent, lent_count, shown}
 use Rattle.quota_pages.specs.Pages.{Brings, HoldsAsBuffered, Lent, LooksAt, StaysAsItWas, name_of, pages_of}

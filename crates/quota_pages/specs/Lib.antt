@@ -4,12 +4,3 @@ pub mod Held
 pub mod Pages
 pub mod Flushed
 pub mod Used
-pub use Rattle.quota_types.specs.Times
-pub use Rattle.quota_types.specs.Bytes
-pub use Rattle.file_blocks.specs.Block
-pub use Rattle.outside.specs.Count
-pub use Rattle.outside.specs.Frame
-pub use Rattle.outside.specs.Seen
-pub use Rattle.quota_types.specs.Span
-pub use Rattle.outside.specs.Unsynced
-pub use Rattle.outside.specs.World

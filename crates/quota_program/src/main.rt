@@ -1,13 +1,14 @@
 //! The Linux disk quota tools as one program: [`quota_cli::run::run`] over the words, files and streams of the system.
 #![tactic(auto)]
 
+use command_words::{UsageFault, read_words};
 use help::text_about;
 use journal_store::JournalStore;
 use program_start::{
     About, add_reason, given_words, hold_closed_streams, name_in, starting_cause, stop, tell,
     words_cause,
 };
-use quota_cli::run::{UsageFault, read_words, run};
+use quota_cli::run::run;
 use quota_files::{QuotaFiles, quota_files_of};
 use reasons::Reasons;
 use recoveries::tell_undo_files;

@@ -3,7 +3,7 @@
 ghost use Rattle.std.specs.Prelude.{◌≡◌, ◌≤◌, false};
 
 use jiff::Timestamp;
-use quota_blocks::Sink;
+use outside::Sink;
 use std::alloc::{AllocError, Global};
 use system_objects::Failure;
 use undo_trust::gates::{Gate, Outcome};

@@ -14,8 +14,7 @@ use Rattle.quota_radix.specs.Descent.{block_led_to, led_by}
 use Rattle.quota_radix.specs.Link.{GainsBlocks, HasWay, path_along}
 use Rattle.quota_radix.specs.Tree.{blocks_of, level, paths, steps, tree_blocks}
 use Rattle.quota_types.proofs.TimesLemmas.{times-append, times-cons-same}
-use Rattle.quota_types.proofs.BytesLemmas.{number_at-zeros}
-use Rattle.file_blocks.proofs.WordLemmas.{number_same}
+use Rattle.quota_types.proofs.BytesLemmas.{number_at-zeros, number_same}
 use Rattle.quota_radix.proofs.PathLemmas.{Rises, Rises-paths}
 use Rattle.quota_radix.proofs.DescentLemmas.{path_led_to}
 use Rattle.quota_radix.proofs.DownLemmas.{blocks_above, times_above, times_in_tree}

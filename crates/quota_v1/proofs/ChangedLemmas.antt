@@ -6,7 +6,7 @@ use Rattle.outside.specs.Frame.{ChangesOne, IsSynced, OnlyReads}
 use Rattle.outside.specs.Seen.{StoreSeen}
 use Rattle.outside.specs.World.{World, overwritten, with_bytes}
 use Rattle.outside.proofs.FrameLemmas.{is_synced-read, is_synced-then}
-use Rattle.quota_blocks.proofs.EditsOneLemmas.{edits_one-after_read, edits_one-changed, edits_one-read}
+use Rattle.opened_file.proofs.EditsOneLemmas.{edits_one-after_read, edits_one-changed, edits_one-read}
 use Rattle.quota_types.specs.Bytes.{byte_at, number_at}
 use Rattle.quota_types.specs.Kept.{IsKept, without_timers_of_zero}
 use Rattle.quota_types.specs.Rec.{kib_of}

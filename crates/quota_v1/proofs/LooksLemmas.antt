@@ -7,16 +7,16 @@ use Rattle.outside.specs.World.{World}
 use Rattle.quota_types.specs.declared.file_kind.Format.{Format}
 use Rattle.quota_types.specs.declared.file_kind.Format.TheVariants.{V1}
 use Rattle.quota_types.specs.declared.record.Grace.{Grace}
-use Rattle.quota_blocks.specs.Changes.{Changes}
-use Rattle.quota_blocks.specs.FileChange.{Remove}
-use Rattle.quota_blocks.specs.FileUse.{seen_in}
-use Rattle.quota_blocks.specs.LooksUp.{LooksUp}
-use Rattle.quota_blocks.specs.QuotaFile.{CountsRefusal, IfDamage, IsLookupFault, WantsNoMemory, is_store_fault}
-use Rattle.quota_blocks.specs.QuotaValue.{QuotaValue}
-use Rattle.quota_blocks.specs.declared.file_use.FileUse.{FileUse}
-use Rattle.quota_blocks.specs.declared.quota_file.FileFault.{FileFault}
-use Rattle.quota_blocks.specs.declared.quota_file.FileFault.TheVariants.{Store, Damage, Full, Memory}
-use Rattle.quota_blocks.proofs.ChangesLemmas.{changes-idle, changes-refused, changes-unwritten}
+use Rattle.opened_file.specs.Changes.{Changes}
+use Rattle.opened_file.specs.FileChange.{Remove}
+use Rattle.opened_file.specs.FileUse.{seen_in}
+use Rattle.opened_file.specs.LooksUp.{LooksUp}
+use Rattle.opened_file.specs.QuotaFile.{CountsRefusal, IfDamage, IsLookupFault, WantsNoMemory, is_store_fault}
+use Rattle.quota_value.specs.QuotaValue.{QuotaValue}
+use Rattle.opened_file.specs.declared.file_use.FileUse.{FileUse}
+use Rattle.opened_file.specs.declared.quota_file.FileFault.{FileFault}
+use Rattle.opened_file.specs.declared.quota_file.FileFault.TheVariants.{Store, Damage, Full, Memory}
+use Rattle.opened_file.proofs.ChangesLemmas.{changes-idle, changes-refused, changes-unwritten}
 use Rattle.quota_v1.specs.Change.{MayRefuse}
 use Rattle.quota_v1.specs.FlatFile.{flat_record}
 use Rattle.quota_v1.specs.Opened.{HoldsFlat, IsNamedDefect, flat_at, flat_laws}

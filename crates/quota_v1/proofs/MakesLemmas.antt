@@ -8,8 +8,8 @@ use Rattle.quota_types.specs.declared.file_kind.Format.TheVariants.{V1}
 use Rattle.quota_types.specs.declared.record.Grace.{Grace}
 use Rattle.quota_types.specs.declared.record.Rec.{Rec}
 use Rattle.quota_types.specs.Rec.{IsNull}
-use Rattle.quota_blocks.specs.FileChange.{Put, Remove, SetGrace}
-use Rattle.quota_blocks.specs.QuotaValue.{QuotaValue}
+use Rattle.opened_file.specs.FileChange.{Put, Remove, SetGrace}
+use Rattle.quota_value.specs.QuotaValue.{QuotaValue}
 use Rattle.quota_v1.specs.Change.{FlatGraced, IsFlatChange}
 use Rattle.quota_v1.specs.FlatFile.{FlatStandsFor, flat_record, unless_zeros}
 use Rattle.quota_v1.specs.Slot.{PutsRecord}

@@ -5,7 +5,7 @@ use Rattle.file_blocks.specs.Block.{bytes_of}
 use Rattle.quota_types.specs.Bytes.{number_at}
 use Rattle.quota_types.specs.declared.file_kind.Kind.{Kind}
 use Rattle.quota_types.specs.declared.record.Grace.{Grace}
-use Rattle.quota_blocks.specs.QuotaValue.{QuotaValue}
+use Rattle.quota_value.specs.QuotaValue.{QuotaValue}
 use Rattle.quota_v1.specs.Opened.{HoldsFlat}
 use Rattle.quota_v1.specs.Slot.{AreFrom}
 use Rattle.quota_v1.specs.View.{IsFlatView, flat_limit}

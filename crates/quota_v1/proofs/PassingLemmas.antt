@@ -4,9 +4,9 @@ use Rattle.std.proofs.lemmas.Bool.{cases_lt}
 use Rattle.file_blocks.specs.Block.{bytes_of}
 use Rattle.quota_types.specs.Ids.{IsAfter}
 use Rattle.quota_types.specs.declared.record.Entry.{Entry}
-use Rattle.quota_blocks.specs.Passing.{first_after, passed_up_to}
-use Rattle.quota_blocks.specs.declared.quota_file.FileFault.{FileFault}
-use Rattle.quota_blocks.proofs.PassingLemmas.{first_at_most}
+use Rattle.opened_file.specs.Passing.{first_after, passed_up_to}
+use Rattle.opened_file.specs.declared.quota_file.FileFault.{FileFault}
+use Rattle.opened_file.proofs.PassingLemmas.{first_at_most}
 use Rattle.quota_v1.specs.Window.{passing_reads, window_reads}
 
 -- all records from one on were passed

@@ -11,12 +11,11 @@ use Rattle.quota_types.specs.Bytes.{byte_at, number_at}
 use Rattle.quota_types.specs.Kept.{kept_of}
 use Rattle.quota_types.specs.Range.{grace_unfit}
 use Rattle.quota_types.specs.Rec.{IsNull, is_zeros, kib_of}
-use Rattle.quota_types.proofs.BytesLemmas.{number_at-past}
-use Rattle.quota_blocks.specs.QuotaValue.{QuotaValue, with_record, without_record, with_grace}
-use Rattle.quota_blocks.specs.Span.{KeepsOutside}
+use Rattle.quota_types.proofs.BytesLemmas.{number_at-past, number_same}
+use Rattle.quota_value.specs.QuotaValue.{QuotaValue, with_record, without_record, with_grace}
+use Rattle.quota_types.specs.Span.{KeepsOutside}
 use Rattle.quota_v1.specs.FlatFile.{FlatStandsFor, flat_record, flat_grace, or_week, stored_record, timed_record, unless_zeros}
 use Rattle.quota_v1.specs.Place.{block_time_start, inode_time_start, record_start}
-use Rattle.quota_types.proofs.BytesLemmas.{number_same}
 use Rattle.quota_types.proofs.NumberLemmas.{number_before, number_behind}
 
 -- an identifier above 0 has timers

@@ -6,14 +6,14 @@ use Rattle.std.proofs.lemmas.Grind.{same_number_lists}
 use borrow.Rule.Slice.PartMut.{mid_of, post_of, put_mid}
 use Rattle.file_blocks.specs.Block.{block_of, bytes_of}
 use Rattle.file_blocks.proofs.WordLemmas.{byte_at-block_of, length-block_of, number_shifted}
-use Rattle.memory_objects.proofs.OverwriteLemmas.{get_or-overwritten_before, get_or-overwritten_behind}
+use Rattle.outside.proofs.OverwriteLemmas.{get_or-overwritten_before, get_or-overwritten_behind}
 use Rattle.outside.specs.World.{World, overwritten, with_bytes}
 use Rattle.quota_types.specs.Bytes.{byte_at, number_at}
 use Rattle.quota_types.specs.Span.{KeepsOutside}
 use Rattle.quota_types.specs.Times.{StandsIn, times}
 use Rattle.quota_types.proofs.TimesLemmas.{times-cons-same, times_cases}
 use Rattle.quota_types.specs.declared.record.Rec.{Rec}
-use Rattle.quota_blocks.specs.QuotaFile.{ChangesBlocks}
+use Rattle.opened_file.specs.QuotaFile.{ChangesBlocks}
 use Rattle.quota_types.specs.Kept.{without_timers_of_zero}
 use Rattle.quota_v1.specs.FlatFile.{flat_record, stored_at, timed_at, timed_record, unless_zeros}
 use Rattle.quota_v1.proofs.RecordLemmas.{flat_record-read}

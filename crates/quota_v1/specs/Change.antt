@@ -4,12 +4,12 @@ use Rattle.quota_types.specs.declared.damage.DamageKind.TheVariants.{PartialReco
 use Rattle.quota_types.specs.declared.record.Grace.{Grace}
 use Rattle.quota_types.specs.declared.record.Rec.{Rec}
 use Rattle.quota_types.specs.Bytes.{number_at}
-use Rattle.quota_blocks.specs.FileChange.{FileChange, Put, Remove, SetGrace, changed_value}
-use Rattle.quota_blocks.specs.QuotaValue.{QuotaValue}
-use Rattle.quota_blocks.specs.Span.{KeepsOutside}
-use Rattle.quota_blocks.specs.World.{KeepsOthers, World}
-use Rattle.quota_blocks.specs.declared.quota_file.FileFault.{FileFault}
-use Rattle.quota_blocks.specs.declared.quota_file.FileFault.TheVariants.{Store, Damage, Full, Memory}
+use Rattle.opened_file.specs.FileChange.{FileChange, Put, Remove, SetGrace, changed_value}
+use Rattle.quota_value.specs.QuotaValue.{QuotaValue}
+use Rattle.quota_types.specs.Span.{KeepsOutside}
+use Rattle.outside.specs.World.{KeepsOthers, World}
+use Rattle.opened_file.specs.declared.quota_file.FileFault.{FileFault}
+use Rattle.opened_file.specs.declared.quota_file.FileFault.TheVariants.{Store, Damage, Full, Memory}
 use Rattle.quota_v1.specs.FlatFile.{FlatStandsFor, flat_record}
 use Rattle.quota_v1.specs.Place.{block_time_start, inode_time_start, record_size, record_start}
 use Rattle.quota_v1.specs.View.{flat_limit}

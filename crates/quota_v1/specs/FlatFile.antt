@@ -8,7 +8,7 @@ use Rattle.quota_types.specs.declared.record.Grace.{Grace}
 use Rattle.quota_types.specs.Bytes.{number_at}
 use Rattle.quota_types.specs.Kept.{without_timers_of_zero}
 use Rattle.quota_types.specs.Rec.{is_zeros}
-use Rattle.quota_blocks.specs.QuotaValue.{QuotaValue}
+use Rattle.quota_value.specs.QuotaValue.{QuotaValue}
 use Rattle.quota_v1.specs.Place.{block_time_at, block_time_start, inode_time_at, inode_time_start, record_size, record_start}
 
 -- the 40 bytes from a place on, as a record; the space is in KiB on disk

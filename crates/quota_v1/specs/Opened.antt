@@ -5,12 +5,12 @@ use Rattle.quota_types.specs.Bytes.{number_at}
 use Rattle.quota_types.specs.declared.damage.Damage.{Damage}
 use Rattle.quota_types.specs.declared.file_kind.Format.TheVariants.{V1}
 use Rattle.quota_types.specs.declared.record.Grace.{Grace}
-use Rattle.quota_blocks.specs.Changes.{FileAt, FileLaws, file_at, laws_of}
-use Rattle.quota_blocks.specs.FileUse.{seen_in}
-use Rattle.quota_blocks.specs.QuotaFile.{FileSeen}
-use Rattle.quota_blocks.specs.QuotaValue.{QuotaValue}
-use Rattle.quota_blocks.specs.Seen.{StoreSeen}
-use Rattle.quota_blocks.specs.declared.file_use.FileUse.{FileUse}
+use Rattle.opened_file.specs.Changes.{FileAt, FileLaws, file_at, laws_of}
+use Rattle.opened_file.specs.FileUse.{seen_in}
+use Rattle.opened_file.specs.QuotaFile.{FileSeen}
+use Rattle.quota_value.specs.QuotaValue.{QuotaValue}
+use Rattle.outside.specs.Seen.{StoreSeen}
+use Rattle.opened_file.specs.declared.file_use.FileUse.{FileUse}
 use Rattle.quota_v1.specs.Change.{FlatLeaves, FlatMakes, MayRefuse}
 use Rattle.quota_v1.specs.FlatFile.{FlatStandsFor}
 use Rattle.quota_v1.specs.Place.{block_time_start, inode_time_start}

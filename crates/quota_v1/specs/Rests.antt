@@ -2,7 +2,7 @@
 use Rattle.std.specs.Prelude.{◌≡◌, Bool, ℕ, List, Option, IsSomeAnd}
 use Rattle.std.proofs.Common.{sym, subst, ◌∙◌}
 use Rattle.quota_types.specs.declared.record.Grace.{Grace}
-use Rattle.quota_blocks.specs.QuotaValue.{QuotaValue}
+use Rattle.quota_value.specs.QuotaValue.{QuotaValue}
 use Rattle.quota_v1.specs.FlatFile.{FlatStandsFor}
 use Rattle.quota_v1.specs.Opened.{HoldsFlat}
 use Rattle.quota_v1.specs.declared.window.Window.{Window}

@@ -3,7 +3,7 @@ use Rattle.std.specs.Prelude.{◌≡◌, ◌⊎◌, ℕ, ◌+◌, ◌<◌, ◌�
 use Rattle.file_blocks.specs.Block.{file_of}
 use Rattle.outside.specs.Count.{Rose}
 use Rattle.outside.specs.Frame.{IsSynced}
-use Rattle.quota_blocks.specs.EditsOne.{EditsOne}
+use Rattle.opened_file.specs.EditsOne.{EditsOne}
 use Rattle.outside.specs.Seen.{StoreSeen}
 use Rattle.outside.specs.World.{KeepsOthers, World, with_file}
 use Rattle.quota_types.specs.Bytes.{byte_at, number_at}
@@ -12,9 +12,9 @@ use Rattle.quota_types.specs.declared.damage.Damage.{Damage}
 use Rattle.quota_types.specs.declared.record.Entry.{Entry}
 use Rattle.quota_types.specs.declared.record.Grace.{Grace}
 use Rattle.quota_types.specs.declared.record.Rec.{Rec}
-use Rattle.quota_blocks.specs.QuotaFile.{ChangesBlocks}
-use Rattle.quota_blocks.specs.declared.quota_file.FileFault.{FileFault}
-use Rattle.quota_blocks.specs.declared.quota_file.FileFault.TheVariants.{Store, Damage as Damaged, Full, Memory}
+use Rattle.opened_file.specs.QuotaFile.{ChangesBlocks}
+use Rattle.opened_file.specs.declared.quota_file.FileFault.{FileFault}
+use Rattle.opened_file.specs.declared.quota_file.FileFault.TheVariants.{Store, Damage as Damaged, Full, Memory}
 use Rattle.quota_v1.specs.FlatFile.{flat_record, timed_record}
 use Rattle.quota_v1.specs.Place.{block_time_start, inode_time_start, record_size, record_start}
 

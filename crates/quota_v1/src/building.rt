@@ -6,7 +6,7 @@ ghost use Rattle.quota_types.specs.Range.{grace_unfit, unfit};
 ghost use Rattle.quota_types.specs.Rec.{is_zeros};
 ghost use Rattle.quota_types.specs.declared.file_kind.Format.TheVariants.{V1};
 ghost use Rattle.quota_types.specs.declared.file_kind.Kind.{Kind};
-ghost use Rattle.quota_blocks.specs.Listed.{ids_of, value_of};
+ghost use Rattle.quota_value.specs.Listed.{ids_of, value_of};
 ghost use Rattle.quota_v1.specs.Build.{IsZeroElsewhere, records_needed};
 ghost use Rattle.quota_v1.specs.FlatFile.{FlatStandsFor};
 ghost use Rattle.quota_v1.specs.Place.{block_time_start, inode_time_start, record_start};

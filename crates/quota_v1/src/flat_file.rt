@@ -5,7 +5,8 @@ ghost use Rattle.quota_v1.specs.View.{flat_limit};
 use crate::flat_record::{RECORD, first_after, or_week};
 use crate::slot_file::{read_record, write_grace, write_record};
 use crate::window::Window;
-use quota_blocks::{FileFault, FileUse, QuotaFile, Store};
+use opened_file::{FileFault, FileUse, QuotaFile};
+use outside::Store;
 use quota_types::{Entry, Format, Grace, Rec};
 
 /// An opened flat file, which keeps its name, its length, the times of record 0 as they are stored, and the records that come next.

@@ -1,7 +1,7 @@
 ghost use Rattle.std.specs.Prelude.{◌≡◌, ℕ, ◌+◌, ◌^◌, ◌<◌, ◌≤◌, length};
 ghost use Rattle.quota_types.specs.Bytes.{number_at};
 ghost use Rattle.quota_types.specs.Rec.{is_zeros};
-ghost use Rattle.quota_blocks.specs.QuotaValue.{IsAfter};
+ghost use Rattle.quota_types.specs.Ids.{IsAfter};
 ghost use Rattle.quota_v1.specs.FlatFile.{or_week};
 
 use quota_types::{Rec, le32_at};

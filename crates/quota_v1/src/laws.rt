@@ -1,7 +1,7 @@
 //! Laws of flat files: what they mean, and where their records stand.
 
 ghost use Rattle.std.specs.Prelude.{◌≡◌, ◌+◌, ◌*◌, ◌<◌, ◌≤◌, ℕ, List};
-ghost use Rattle.quota_blocks.specs.QuotaValue.{QuotaValue};
+ghost use Rattle.quota_value.specs.QuotaValue.{QuotaValue};
 ghost use Rattle.quota_v1.specs.FlatFile.{FlatStandsFor};
 ghost use Rattle.quota_v1.specs.Place.{block_time_start, inode_time_start, record_size, record_start};
 ghost use Rattle.quota_v1.specs.View.{flat_limit};

@@ -1,8 +1,8 @@
 ghost use Rattle.std.specs.Prelude.{◌≡◌, ◌+◌, ◌%◌, ◌≤◌, true, Ok, IsTrue, IfOk, IfErr, IsSomeAnd, length, is_ok};
 ghost use Rattle.quota_types.specs.declared.file_kind.Kind.{Kind};
 ghost use Rattle.quota_types.specs.declared.file_kind.Format.TheVariants.{V1};
-ghost use Rattle.quota_blocks.specs.Frame.{OnlyReads};
-ghost use Rattle.quota_blocks.specs.QuotaValue.{QuotaValue};
+ghost use Rattle.outside.specs.Frame.{OnlyReads};
+ghost use Rattle.quota_value.specs.QuotaValue.{QuotaValue};
 ghost use Rattle.quota_v1.specs.Place.{record_size};
 ghost use Rattle.quota_v1.specs.View.{IsFlatView, IsFlatFault, flat_limit};
 
@@ -11,7 +11,8 @@ use crate::flat_change::TIMES;
 use crate::flat_record::RECORD;
 use crate::slot_file::read_from;
 use crate::window::Window;
-use quota_blocks::{FileUse, OpenFault, QuotaFile, Store};
+use opened_file::{FileUse, OpenFault, QuotaFile};
+use outside::Store;
 use quota_types::{Damage, DamageKind, Grace, le64_at};
 use std::alloc::Global;
 

@@ -14,7 +14,8 @@ ghost use Rattle.quota_v1.specs.View.{IsFlatDefect, flat_limit};
 use crate::flat_change::{TIMES, write_times};
 use crate::flat_record::RECORD;
 use crate::slot::{record_at, record_bytes};
-use quota_blocks::{FileFault, Store, StoreFault};
+use opened_file::FileFault;
+use outside::{Store, StoreFault};
 use quota_types::{Damage, DamageKind, Grace, Rec};
 
 /// Reads the bytes of a file from a place on, as many as `buf` holds, and answers how many there were. Past the end of the file

@@ -11,7 +11,7 @@ ghost use Rattle.quota_v1.specs.Window.{HoldsWindow, window_reads};
 use crate::flat_record::RECORD;
 use crate::slot::first_record;
 use crate::slot_file::read_from;
-use quota_blocks::{Store, StoreFault};
+use outside::{Store, StoreFault};
 use quota_types::Entry;
 
 /// How many records are read at once: as many whole ones as one call of `read` gives.

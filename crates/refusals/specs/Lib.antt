@@ -4,5 +4,3 @@ pub mod Piece
 pub mod Refusals
 pub mod Said
 pub mod Status
-pub use Rattle.quota_blocks.specs.Count
-pub use Rattle.quota_blocks.specs.Text

@@ -1,7 +1,7 @@
 ghost use Rattle.std.specs.Prelude.{◌≡◌, ◌≤◌, ◌∷◌, ◌++◌, [], IsTrue, OnOk, OnErr};
 ghost use Rattle.std.specs.List.{concat};
-ghost use Rattle.quota_blocks.specs.Count.{Rose};
-ghost use Rattle.quota_blocks.specs.Text.{AppendsPrefix};
+ghost use Rattle.outside.specs.Count.{Rose};
+ghost use Rattle.outside.specs.Text.{AppendsPrefix};
 ghost use Rattle.refusals.specs.declared.cause.Cause.TheVariants.{Damaged, NoRoom as Unfit};
 ghost use Rattle.refusals.specs.Line.{error_line, identifier_text, input_called, place_text};
 ghost use Rattle.refusals.specs.Piece.{joined};
@@ -10,7 +10,7 @@ ghost use Rattle.refusals.specs.Status.{status_of};
 
 use crate::Piece::{self, Number, Text};
 use crate::{Cause, Place, Refusal, write_line};
-use quota_blocks::{Sink, SinkFault};
+use outside::{Sink, SinkFault};
 use quota_types::{Damage, DamageKind, NoRoom};
 
 /// Writes the error line of a refusal, and answers its status, which stays where the error output fails.

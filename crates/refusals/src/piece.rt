@@ -1,13 +1,14 @@
 ghost use Rattle.std.specs.Prelude.{◌≡◌, ◌≤◌, ◌++◌, ◌∷◌, [], List, ℕ, codes, IsTrue, OnOk, OnErr};
 ghost use Rattle.std.specs.List.{concat};
-ghost use Rattle.quota_blocks.specs.Count.{Rose};
-ghost use Rattle.quota_blocks.specs.Text.{AppendsPrefix, IsGathered};
+ghost use Rattle.outside.specs.Count.{Rose};
+ghost use Rattle.outside.specs.Text.{AppendsPrefix, IsGathered};
 ghost use Rattle.refusals.specs.Line.{front_of, line_text};
 ghost use Rattle.refusals.specs.Piece.{joined, piece_bytes};
 
 use crate::Place;
+use input_text::TextBuffer;
 use itoa::Buffer;
-use quota_blocks::{Sink, SinkFault, TextBuffer};
+use outside::{Sink, SinkFault};
 
 /// A piece of a line: a text, or a number in decimal.
 #[derive(Clone, Copy)]

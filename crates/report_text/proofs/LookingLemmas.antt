@@ -1,14 +1,14 @@
 -- How many look-ups a report makes, one after each identifier at most.
 use Rattle.std.proofs.Common.{◌≡◌, ℕ, ◌+◌, ◌*◌, ◌-◌, ◌^◌, ◌<◌, ◌≤◌, List, Option, Some, None, Result, Ok, Err, refl, arith}
 use Rattle.std.proofs.Math.Nat.{mul-le-mul_left}
-use Rattle.quota_blocks.specs.Changes.{FileAt, FileLaws, file_in}
-use Rattle.quota_blocks.specs.LooksUp.{LooksUp}
-use Rattle.quota_blocks.specs.QuotaFile.{FileSeen}
-use Rattle.quota_blocks.specs.QuotaValue.{IsAfter}
-use Rattle.quota_blocks.specs.declared.quota_file.FileFault.{FileFault}
-use Rattle.quota_blocks.proofs.EntriesLemmas.{ids_after}
-use Rattle.quota_blocks.proofs.LookupLemmas.{IsAnswer}
-use Rattle.quota_blocks.proofs.LooksUpLemmas.{looks_up-answer, looks_up-more, looks_up-stopped, looks_up-within}
+use Rattle.opened_file.specs.Changes.{FileAt, FileLaws, file_in}
+use Rattle.opened_file.specs.LooksUp.{LooksUp}
+use Rattle.opened_file.specs.QuotaFile.{FileSeen}
+use Rattle.quota_types.specs.Ids.{IsAfter}
+use Rattle.opened_file.specs.declared.quota_file.FileFault.{FileFault}
+use Rattle.quota_value.proofs.EntriesLemmas.{ids_after}
+use Rattle.opened_file.proofs.LookupLemmas.{IsAnswer}
+use Rattle.opened_file.proofs.LooksUpLemmas.{looks_up-answer, looks_up-more, looks_up-stopped, looks_up-within}
 use Rattle.report_text.specs.Fault.{file_fault}
 use Rattle.report_text.specs.declared.fault.ReportFault.{ReportFault}
 use Rattle.report_text.specs.declared.fault.ReportFault.TheVariants.{Sink, File}

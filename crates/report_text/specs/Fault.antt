@@ -1,6 +1,6 @@
 -- Why a report was refused.
 use Rattle.std.specs.Prelude.{Option, None, Some, ⊤}
-use Rattle.quota_blocks.specs.declared.quota_file.FileFault.{FileFault}
+use Rattle.opened_file.specs.declared.quota_file.FileFault.{FileFault}
 use Rattle.report_text.specs.declared.fault.ReportFault.{ReportFault}
 use Rattle.report_text.specs.declared.fault.ReportFault.TheVariants.{Sink, File}
 

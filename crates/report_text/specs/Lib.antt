@@ -1,14 +1,3 @@
 pub mod Period
 pub mod Fault
 pub mod Report
-pub use Rattle.id_names.specs.FirstMatch
-pub use Rattle.id_names.specs.NamesFile
-pub use Rattle.quota_blocks.specs.Changes
-pub use Rattle.quota_blocks.specs.Frame
-pub use Rattle.quota_blocks.specs.LooksUp
-pub use Rattle.quota_blocks.specs.Passing
-pub use Rattle.quota_blocks.specs.QuotaFile
-pub use Rattle.quota_blocks.specs.QuotaValue
-pub use Rattle.quota_blocks.specs.Seen
-pub use Rattle.quota_blocks.specs.Text
-pub use Rattle.quota_blocks.specs.Unsynced

@@ -9,8 +9,8 @@ use Rattle.quota_types.specs.declared.record.Rec.{Rec}
 use Rattle.quota_types.specs.declared.record.Grace.{Grace}
 use Rattle.quota_types.specs.Rec.{kib_of}
 use Rattle.quota_types.specs.Timers.{is_exceeded}
-use Rattle.quota_blocks.specs.QuotaValue.{QuotaValue}
-use Rattle.report_text.specs.declared.options.Options.{Options}
+use Rattle.quota_value.specs.QuotaValue.{QuotaValue}
+use Rattle.report_options.specs.declared.options.Options.{Options}
 use Rattle.report_text.specs.declared.usage.Usage.{Usage}
 use Rattle.report_text.specs.Period.{period_of}
 

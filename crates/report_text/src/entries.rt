@@ -1,16 +1,17 @@
 ghost use Rattle.std.specs.Prelude.{◌≡◌, ◌+◌, ◌≤◌, ◌++◌, length, OnOk, OnErr};
 ghost use Rattle.id_names.specs.FirstMatch.{first_name};
-ghost use Rattle.quota_blocks.specs.Count.{Rose};
-ghost use Rattle.quota_blocks.specs.Text.{Gathers, WritesPrefix};
+ghost use Rattle.outside.specs.Count.{Rose};
+ghost use Rattle.outside.specs.Text.{Gathers, WritesPrefix};
 ghost use Rattle.report_text.specs.Report.{left_in, name_of, numbered, shown_name, column, columns_in, columns_of, entry_line, grace_end, grace_left, is_shown, shown_line};
 
 use crate::page::{CAPACITY, Page};
+use crate::period_text;
 use crate::usage::Usage;
-use crate::{Options, period_text};
 use arrayvec::ArrayVec;
 use id_names::Names;
-use quota_blocks::{Sink, SinkFault};
+use outside::{Sink, SinkFault};
 use quota_types::Entry;
+use report_options::Options;
 
 /// How many places a name has. A longer one widens its column.
 const NAME_PLACES: usize = 12;

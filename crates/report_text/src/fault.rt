@@ -1,7 +1,8 @@
 ghost use Rattle.std.specs.Prelude.{◌≡◌};
 ghost use Rattle.report_text.specs.declared.fault.ReportFault.TheVariants.{Sink as SinkFailed, File};
 
-use quota_blocks::{FileFault, SinkFault};
+use opened_file::FileFault;
+use outside::SinkFault;
 
 /// Why a report was refused.
 #[derive(Clone, Copy, Debug, PartialEq, Eq)]

@@ -1,22 +1,24 @@
 ghost use Rattle.std.specs.Prelude.{◌≡◌, ◌+◌, ◌*◌, ◌^◌, ◌≤◌, ◌++◌, length, IsTrue, OnOk, OnErr, IfErr};
 ghost use Rattle.std.specs.FinMap.{entries};
 ghost use Rattle.id_names.specs.FirstMatch.{first_name};
-ghost use Rattle.quota_blocks.specs.Changes.{file_at, laws_of};
-ghost use Rattle.quota_blocks.specs.Count.{Rose};
-ghost use Rattle.quota_blocks.specs.LooksUp.{LooksUp};
-ghost use Rattle.quota_blocks.specs.Passing.{reads_over};
-ghost use Rattle.quota_blocks.specs.QuotaValue.{QuotaValue};
-ghost use Rattle.quota_blocks.specs.Text.{AppendsPrefix, Gathers, WritesPrefix};
+ghost use Rattle.opened_file.specs.Changes.{file_at, laws_of};
+ghost use Rattle.outside.specs.Count.{Rose};
+ghost use Rattle.opened_file.specs.LooksUp.{LooksUp};
+ghost use Rattle.opened_file.specs.Passing.{reads_over};
+ghost use Rattle.quota_value.specs.QuotaValue.{QuotaValue};
+ghost use Rattle.outside.specs.Text.{AppendsPrefix, Gathers, WritesPrefix};
 ghost use Rattle.report_text.specs.Fault.{OnSink, file_fault};
 ghost use Rattle.report_text.specs.Report.{report_of, lines_of};
 
+use crate::ReportFault;
 use crate::entries::put_entry;
 use crate::head::put_head;
 use crate::page::Page;
-use crate::{Options, ReportFault};
 use id_names::Names;
-use quota_blocks::{QuotaFile, Sink, Store};
+use opened_file::QuotaFile;
+use outside::{Sink, Store};
 use quota_types::Kind;
+use report_options::Options;
 
 /// Writes the report of an opened quota file: a head with `title`, which is usually the file's name, and a line for
 /// each identifier that is shown, ascending. A name is that of the first of `names` with the identifier; where there is

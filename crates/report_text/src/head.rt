@@ -1,13 +1,13 @@
 ghost use Rattle.std.specs.Prelude.{◌≡◌, ◌+◌, ◌≤◌, ◌++◌, length, OnOk, OnErr};
-ghost use Rattle.quota_blocks.specs.Count.{Rose};
-ghost use Rattle.quota_blocks.specs.Text.{Gathers, WritesPrefix};
+ghost use Rattle.outside.specs.Count.{Rose};
+ghost use Rattle.outside.specs.Text.{Gathers, WritesPrefix};
 ghost use Rattle.report_text.specs.Period.{period_of};
 ghost use Rattle.report_text.specs.Report.{head_of, title_front, title_line, grace_line, heading_line, hyphen_line};
 
 use crate::page::{CAPACITY, Page};
 use crate::period_text;
 use arrayvec::ArrayVec;
-use quota_blocks::{Sink, SinkFault};
+use outside::{Sink, SinkFault};
 use quota_types::{Grace, Kind};
 
 /// How many bytes the three lines below the title have at most.

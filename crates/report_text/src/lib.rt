@@ -7,12 +7,13 @@ mod entries;
 mod fault;
 mod file_report;
 mod head;
-mod options;
 mod page;
 mod period;
 mod usage;
 
 pub use fault::ReportFault;
 pub use file_report::report;
-pub use options::Options;
 pub use period::period_text;
+
+// The options of a report are named with `report`, though words are read without this crate.
+pub use report_options::Options;

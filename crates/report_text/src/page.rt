@@ -1,10 +1,10 @@
 ghost use Rattle.std.specs.Prelude.{◌≡◌, ℕ, ◌+◌, ◌<◌, ◌≤◌, ◌++◌, [], length, max, take, drop, replicate, decimal, IsTrue, OnOk, OnErr};
-ghost use Rattle.quota_blocks.specs.Count.{Rose};
-ghost use Rattle.quota_blocks.specs.Text.{AppendsPrefix, Gathers, WritesPrefix};
+ghost use Rattle.outside.specs.Count.{Rose};
+ghost use Rattle.outside.specs.Text.{AppendsPrefix, Gathers, WritesPrefix};
 ghost use Rattle.report_text.specs.Report.{left_in, column};
 
 use itoa::{Buffer, write_digits};
-use quota_blocks::{Sink, SinkFault};
+use outside::{Sink, SinkFault};
 use std::marker::Model;
 
 /// How many bytes are gathered at most.

@@ -2,10 +2,11 @@ ghost use Rattle.std.specs.Prelude.{◌≡◌, None, All, IfOk, IfSome, IsTrue};
 ghost use Rattle.std.specs.List.Sorted.{IsStrictlyIncreasing};
 ghost use Rattle.quota_types.specs.Kept.{IsKept, kept_of};
 ghost use Rattle.quota_types.specs.Range.{unfit};
-ghost use Rattle.quota_blocks.specs.Listed.{ids_of};
-ghost use Rattle.quota_blocks.specs.QuotaValue.{IsAfter};
+ghost use Rattle.quota_value.specs.Listed.{ids_of};
+ghost use Rattle.quota_types.specs.Ids.{IsAfter};
 
-use quota_blocks::{FileFault, MemStore, QuotaFile};
+use memory_objects::MemStore;
+use opened_file::{FileFault, QuotaFile};
 use quota_map::{AnyFile, open_file};
 use quota_types::{Entry, Format, Grace, Kind, Rec, check_grace, check_record, kept};
 use std::alloc::{AllocError, Global};

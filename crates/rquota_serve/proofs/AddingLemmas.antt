@@ -8,12 +8,12 @@ use Rattle.std.proofs.lemmas.List.{length-map}
 use Rattle.std.proofs.lemmas.List.Elements.{All-push}
 use Rattle.quota_types.specs.declared.file_kind.Format.{Format}
 use Rattle.quota_types.specs.declared.file_kind.Format.TheVariants.{V1}
-use Rattle.quota_blocks.specs.Block.{bytes_of}
-use Rattle.quota_blocks.specs.Frame.{OnlyReads, Syncs}
-use Rattle.quota_blocks.specs.QuotaValue.{QuotaValue}
-use Rattle.quota_blocks.specs.Seen.{StoreSeen}
-use Rattle.quota_blocks.specs.World.{World}
-use Rattle.quota_blocks.specs.declared.quota_file.OpenFault.{OpenFault}
+use Rattle.file_blocks.specs.Block.{bytes_of}
+use Rattle.outside.specs.Frame.{OnlyReads, Syncs}
+use Rattle.quota_value.specs.QuotaValue.{QuotaValue}
+use Rattle.outside.specs.Seen.{StoreSeen}
+use Rattle.outside.specs.World.{World}
+use Rattle.opened_file.specs.declared.quota_file.OpenFault.{OpenFault}
 use Rattle.outside.proofs.FrameLemmas.{syncs-after_read, syncs-none, syncs-read}
 use Rattle.quota_map.specs.View.{IsOpenFault, IsOpenedAs, IsView, opening_reads, fresh_seen}
 use Rattle.rquota_serve.specs.Adding.{AreAdded, AreToldOf, IsRefusedAt, MayAddAll, NewSeen, ReadsEach, added_of, new_seen, news_seen, one_later, reads_of, tried_of}

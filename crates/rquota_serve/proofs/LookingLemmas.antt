@@ -2,10 +2,10 @@
 use Rattle.std.proofs.Common.{ℕ, ◌+◌, ◌*◌, ◌≤◌, IfSome, List, Option, Result, Ok, Err, refl, subst, arith}
 use Rattle.std.proofs.Math.Nat.{mul-le-mul_left}
 use Rattle.std.proofs.lemmas.Option.{IfSome_then}
-use Rattle.quota_blocks.specs.Count.{Rose}
-use Rattle.quota_blocks.specs.Seen.{StoreSeen}
-use Rattle.quota_blocks.specs.declared.quota_file.FileFault.{FileFault}
-use Rattle.quota_blocks.specs.declared.quota_file.FileFault.TheVariants.{Store as CallFailed, Damage as Damaged, Full, Memory as NoMemory}
+use Rattle.outside.specs.Count.{Rose}
+use Rattle.outside.specs.Seen.{StoreSeen}
+use Rattle.opened_file.specs.declared.quota_file.FileFault.{FileFault}
+use Rattle.opened_file.specs.declared.quota_file.FileFault.TheVariants.{Store as CallFailed, Damage as Damaged, Full, Memory as NoMemory}
 use Rattle.outside.proofs.FrameLemmas.{syncs-none, syncs-then}
 use Rattle.rquota_serve.specs.Exported.{Exported}
 use Rattle.rquota_serve.specs.Exports.{ExportSeen}

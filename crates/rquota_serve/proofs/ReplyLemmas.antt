@@ -10,7 +10,7 @@ use Rattle.quota_types.specs.declared.file_kind.Kind.TheVariants.{User}
 use Rattle.quota_types.specs.declared.file_kind.Format.TheVariants.{V1}
 use Rattle.quota_types.specs.declared.record.Rec.{Rec}
 use Rattle.quota_types.specs.Rec.{zero_record}
-use Rattle.quota_blocks.specs.QuotaValue.{QuotaValue, Records}
+use Rattle.quota_value.specs.QuotaValue.{QuotaValue, Records}
 use Rattle.rquota_xdr.specs.declared.call.Call.{Call}
 use Rattle.rquota_xdr.specs.declared.call.Call.TheVariants.{Silent, OldRpc, NoProgram, NoVersion, NoProcedure, Auth, Garbage, Null, Get, Set}
 use Rattle.rquota_xdr.specs.declared.caller.Caller.{Caller}

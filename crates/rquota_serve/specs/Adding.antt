@@ -2,13 +2,13 @@
 use Rattle.std.specs.Prelude.{◌≡◌, ◌+◌, ℕ, zero, suc, Bool, true, false, IsTrue, List, [], ◌∷◌, ◌++◌, map, take, Option, Result, Ok, Err, ⊤}
 use Rattle.quota_types.specs.declared.file_kind.Format.{Format}
 use Rattle.quota_types.specs.declared.file_kind.Kind.{Kind}
-use Rattle.quota_blocks.specs.Block.{file_of}
-use Rattle.quota_blocks.specs.Frame.{OnlyReads}
-use Rattle.quota_blocks.specs.QuotaFile.{FileSeen}
-use Rattle.quota_blocks.specs.QuotaValue.{QuotaValue}
-use Rattle.quota_blocks.specs.Seen.{StoreSeen}
-use Rattle.quota_blocks.specs.World.{World}
-use Rattle.quota_blocks.specs.declared.quota_file.OpenFault.{OpenFault}
+use Rattle.file_blocks.specs.Block.{file_of}
+use Rattle.outside.specs.Frame.{OnlyReads}
+use Rattle.opened_file.specs.QuotaFile.{FileSeen}
+use Rattle.quota_value.specs.QuotaValue.{QuotaValue}
+use Rattle.outside.specs.Seen.{StoreSeen}
+use Rattle.outside.specs.World.{World}
+use Rattle.opened_file.specs.declared.quota_file.OpenFault.{OpenFault}
 use Rattle.quota_map.specs.View.{IsOpenFault, IsOpenedAs, IsView, opening_reads}
 use Rattle.rquota_serve.specs.Exported.{Exported, with_export}
 use Rattle.rquota_serve.specs.Exports.{ExportSeen, fresh_export, may_add}

@@ -3,7 +3,7 @@ use Rattle.std.specs.Prelude.{ℕ, Bool, ◌&&◌, if◌then◌else◌, List, Op
 use Rattle.std.specs.Str.{bytes_eq}
 use Rattle.quota_types.specs.Kind.{kinds_eq}
 use Rattle.quota_types.specs.declared.file_kind.Kind.{Kind}
-use Rattle.quota_blocks.specs.QuotaValue.{QuotaValue}
+use Rattle.quota_value.specs.QuotaValue.{QuotaValue}
 
 -- the quota value that is exported under a path, which is its bytes, for users or for groups; or none
 abbrev pub Exported : Type 0

@@ -4,10 +4,10 @@ use Rattle.std.specs.List.{All, list_any}
 use Rattle.std.specs.String.{string_bytes}
 use Rattle.quota_types.specs.declared.file_kind.Format.{Format}
 use Rattle.quota_types.specs.declared.file_kind.Kind.{Kind}
-use Rattle.quota_blocks.specs.QuotaFile.{CountsRefusal, FileSeen}
-use Rattle.quota_blocks.specs.QuotaValue.{QuotaValue}
-use Rattle.quota_blocks.specs.Seen.{StoreSeen}
-use Rattle.quota_blocks.specs.World.{World}
+use Rattle.opened_file.specs.QuotaFile.{CountsRefusal, FileSeen}
+use Rattle.quota_value.specs.QuotaValue.{QuotaValue}
+use Rattle.outside.specs.Seen.{StoreSeen}
+use Rattle.outside.specs.World.{World}
 use Rattle.quota_map.specs.AnyFile.{HoldsAny, any_seen}
 use Rattle.quota_map.specs.View.{fresh_seen}
 use Rattle.rquota_serve.specs.Exported.{Exported, names_eq}

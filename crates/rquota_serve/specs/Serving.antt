@@ -1,7 +1,7 @@
 -- Datagrams that are taken from a link, and the answers to them.
 use Rattle.std.specs.Prelude.{◌≡◌, ℕ, ◌+◌, ◌*◌, ◌<◌, ◌≤◌, List, ◌++◌, length, map, take, filter_map, Option, IfSome}
 use Rattle.std.specs.Option.{option_to_list}
-use Rattle.quota_blocks.specs.Seen.{Datagram, LinkSeen}
+use Rattle.outside.specs.Seen.{Datagram, LinkSeen}
 use Rattle.rquota_xdr.specs.Call.{call_of}
 use Rattle.rquota_xdr.specs.Reply.{spelling_of}
 use Rattle.rquota_xdr.specs.declared.call.Call.TheVariants.{Silent}

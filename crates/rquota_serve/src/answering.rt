@@ -10,7 +10,8 @@ ghost use Rattle.rquota_serve.specs.Reply.{plain_reply, reply_of, reply_to, repl
 
 use crate::asking::{kind_named, may_ask};
 use crate::{Exports, quota_of};
-use quota_blocks::{FileFault, Store};
+use opened_file::FileFault;
+use outside::Store;
 use quota_types::Rec;
 use rquota_xdr::{Call, Reply, read_call};
 

@@ -1,7 +1,8 @@
 ghost use Rattle.std.specs.Prelude.{IsTrue, is_ok};
 ghost use Rattle.quota_map.specs.AnyFile.{any_seen};
 
-use quota_blocks::{FileFault, OpenFault, QuotaFile, Store};
+use opened_file::{FileFault, OpenFault, QuotaFile};
+use outside::Store;
 use quota_map::{AnyFile, open_file};
 use quota_types::{Format, Kind, Rec};
 use std::alloc::Global;
@@ -20,12 +21,12 @@ impl Export {
     ghost use Rattle.std.specs.FinMap.{get};
     ghost use Rattle.std.specs.String.{string_bytes};
     ghost use Rattle.quota_types.specs.declared.file_kind.Format.{Format};
-    ghost use Rattle.quota_blocks.specs.Frame.{OnlyReads};
-    ghost use Rattle.quota_blocks.specs.LooksUp.{LooksUp};
-    ghost use Rattle.quota_blocks.specs.QuotaValue.{QuotaValue};
+    ghost use Rattle.outside.specs.Frame.{OnlyReads};
+    ghost use Rattle.opened_file.specs.LooksUp.{LooksUp};
+    ghost use Rattle.quota_value.specs.QuotaValue.{QuotaValue};
     ghost use Rattle.quota_map.specs.AnyFile.{HoldsAny, any_at, any_get_reads, any_laws};
     ghost use Rattle.quota_map.specs.View.{IsOpenFault, IsOpenedAs, IsView, opening_reads};
-    ghost use Rattle.quota_blocks.specs.Block.{bytes_of, file_of};
+    ghost use Rattle.file_blocks.specs.Block.{bytes_of, file_of};
     ghost use Rattle.rquota_serve.specs.Exports.{export_seen, fresh_export, is_named};
     ghost use Rattle.rquota_serve.specs.Reply.{record_of};
 

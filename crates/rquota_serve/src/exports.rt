@@ -1,7 +1,8 @@
 use crate::export::Export;
 use crate::new_export::one_later;
 use crate::{AddFault, NewExport};
-use quota_blocks::{FileFault, OpenFault, Store};
+use opened_file::{FileFault, OpenFault};
+use outside::Store;
 use quota_types::{Format, Kind, Rec};
 use std::alloc::Global;
 
@@ -17,12 +18,12 @@ pub struct Exports {
 impl Exports {
     ghost use Rattle.std.specs.Prelude.{Bool, ◌≡◌, ◌+◌, ◌<◌, ◌≤◌, ◌∷◌, ◌++◌, [], Ok, Option, None, Some, IsTrue, IfOk, IfErr, IfSome, IfNone, OnErr, OnOk, is_some, position, slice_get, is_ok, length};
     ghost use Rattle.quota_types.specs.declared.file_kind.Format.{Format};
-    ghost use Rattle.quota_blocks.specs.Frame.{OnlyReads};
-    ghost use Rattle.quota_blocks.specs.QuotaValue.{QuotaValue};
-    ghost use Rattle.quota_blocks.specs.World.{World};
+    ghost use Rattle.outside.specs.Frame.{OnlyReads};
+    ghost use Rattle.quota_value.specs.QuotaValue.{QuotaValue};
+    ghost use Rattle.outside.specs.World.{World};
     ghost use Rattle.quota_map.specs.AnyFile.{any_get_reads};
     ghost use Rattle.quota_map.specs.View.{IsOpenFault, IsOpenedAs, IsView, opening_reads};
-    ghost use Rattle.quota_blocks.specs.Block.{bytes_of, file_of};
+    ghost use Rattle.file_blocks.specs.Block.{bytes_of, file_of};
     ghost use Rattle.rquota_serve.specs.Adding.{AreAdded, AreToldOf, IsRefusedAt, MayAddAll, ReadsEach, added_of, news_seen, reads_of, tried_of};
     ghost use Rattle.rquota_serve.specs.Exported.{Exported, nothing_exported, with_export};
     ghost use Rattle.rquota_serve.specs.Exports.{ExportSeen, Serves, export_seen, exports_seen, fresh_export, is_exported, is_named, kept_in, may_add};

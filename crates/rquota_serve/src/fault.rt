@@ -1,6 +1,7 @@
 ghost use Rattle.std.specs.Prelude.{◌≡◌};
 
-use quota_blocks::{FileFault, LinkFault};
+use opened_file::FileFault;
+use outside::LinkFault;
 use thiserror::Error;
 
 /// Why serving ended before its time.

@@ -1,7 +1,7 @@
 ghost use Rattle.std.specs.Prelude.{◌≡◌, ◌+◌, ◌<◌, ◌^◌, IfErr};
 ghost use Rattle.rquota_serve.specs.Adding.{one_later};
 
-use quota_blocks::OpenFault;
+use opened_file::OpenFault;
 use quota_types::Kind;
 use thiserror::Error;
 

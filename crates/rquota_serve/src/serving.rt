@@ -1,6 +1,6 @@
 ghost use Rattle.std.specs.Prelude.{◌≡◌, ◌*◌, ◌≤◌, ◌∷◌, ◌++◌, [], map, IsSome, IsTrue, IfErr, OnErr, OnOk};
 ghost use Rattle.std.specs.Option.{option_to_list};
-ghost use Rattle.quota_blocks.specs.Count.{Rose};
+ghost use Rattle.outside.specs.Count.{Rose};
 ghost use Rattle.quota_map.specs.AnyFile.{any_get_reads};
 ghost use Rattle.rquota_xdr.specs.Reply.{spelling_of};
 ghost use Rattle.rquota_serve.specs.Exports.{Serves};
@@ -9,7 +9,7 @@ ghost use Rattle.rquota_serve.specs.Refusal.{OnLink, file_in};
 ghost use Rattle.rquota_serve.specs.Serving.{ReadsForTaken, Served, Stopped};
 
 use crate::{Exports, ServeFault, answer};
-use quota_blocks::{Link, LinkFault, Store};
+use outside::{Link, LinkFault, Store};
 use rquota_xdr::{Reply, write_reply};
 
 /// Takes exactly `calls` datagrams from a link, those without a reply counted too, and sends the reply to each, at its own

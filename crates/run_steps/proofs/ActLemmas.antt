@@ -1,8 +1,8 @@
 -- Acts in a row, and acts that were done in part.
 use Rattle.std.proofs.Common.{◌≡◌, ℕ, Bool, IsTrue, List, [], ◌∷◌, ◌++◌, take, Option, None, Some, inl, refl, sym, ap, subst, ◌∙◌, append_assoc, append-nil}
-use Rattle.quota_blocks.specs.Seen.{SinkSeen, Started, started_at}
-use Rattle.quota_blocks.specs.Text.{AppendsPrefix}
-use Rattle.quota_blocks.specs.World.{KeepsOthers, World}
+use Rattle.outside.specs.Seen.{SinkSeen, Started, started_at}
+use Rattle.outside.specs.Text.{AppendsPrefix}
+use Rattle.outside.specs.World.{KeepsOthers, World}
 use Rattle.refusals.specs.declared.reason.Refusal.{Refusal}
 use Rattle.refusals.specs.Line.{closing_line, error_line}
 use Rattle.run_steps.specs.Act.{Act, Behind, InPlace, LeavesOthers, Together, ToOut, ToErr, Start, Answer, Change, Replace, Way, Follows, FollowsInPart, answers, err_bytes, out_bytes, started_by}

@@ -8,7 +8,7 @@ use Rattle.std.proofs.lemmas.Bool.Decides.{nat_tests}
 use Rattle.std.proofs.lemmas.List.{take_all}
 use Rattle.std.proofs.lemmas.Int.Digits.{digits_value_more, digits_more}
 use Rattle.quota_types.proofs.DigitsLemmas.{all_ascii_digits-spoilt}
-use Rattle.quota_blocks.specs.Numeral.{value_of}
+use Rattle.input_text.specs.Numeral.{value_of}
 use Rattle.input_text.proofs.NumeralLemmas.{IsNumeralModel-value_of}
 use Rattle.refusals.specs.declared.cause.Cause.TheVariants.{BadNumber}
 use Rattle.id_names.specs.FirstMatch.{first_id}

@@ -1,7 +1,7 @@
 -- A look at the files, and acts that are done before other steps.
 use Rattle.std.proofs.Common.{inl, inr, ℕ, Bool, true, List, [], ◌∷◌, ◌++◌, Option, None, Some, Result, refl, ap, subst}
 use Rattle.std.specs.Prelude.{◌&&◌}
-use Rattle.quota_blocks.specs.World.{World}
+use Rattle.outside.specs.World.{World}
 use Rattle.outside.proofs.FrameLemmas.{only_reads-none}
 use Rattle.refusals.specs.declared.cause.Cause.{Cause}
 use Rattle.refusals.specs.declared.reason.Refusal.{Refusal}

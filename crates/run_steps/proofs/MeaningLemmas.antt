@@ -5,9 +5,9 @@ use Rattle.std.proofs.lemmas.Bool.{false≢true}
 use Rattle.std.proofs.lemmas.Option.{none-some}
 use Rattle.quota_types.specs.declared.file_kind.Kind.{Kind}
 use Rattle.quota_types.specs.declared.file_kind.Format.{Format}
-use Rattle.quota_blocks.specs.Seen.{Datagram}
-use Rattle.quota_blocks.specs.World.{World}
-use Rattle.quota_blocks.specs.QuotaValue.{QuotaValue}
+use Rattle.outside.specs.Seen.{Datagram}
+use Rattle.outside.specs.World.{World}
+use Rattle.quota_value.specs.QuotaValue.{QuotaValue}
 use Rattle.quota_map.specs.View.{IsView}
 use Rattle.quota_map.proofs.SeenLemmas.{view_or_refused}
 use Rattle.refusals.specs.declared.reason.Refusal.{Refusal}

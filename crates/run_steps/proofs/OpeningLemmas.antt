@@ -6,14 +6,14 @@ use Rattle.quota_types.specs.declared.damage.Damage.{Damage as Damaged}
 use Rattle.quota_types.specs.declared.file_kind.Kind.{Kind}
 use Rattle.quota_types.specs.declared.file_kind.Format.{Format}
 use Rattle.quota_types.specs.declared.file_kind.Format.TheVariants.{V1, V2R0, V2R1}
-use Rattle.quota_blocks.specs.Frame.{OnlyReads}
-use Rattle.quota_blocks.specs.QuotaValue.{QuotaValue}
-use Rattle.quota_blocks.specs.Seen.{SinkSeen, SourceSeen, StoreSeen}
-use Rattle.quota_blocks.specs.World.{World}
-use Rattle.quota_blocks.specs.declared.quota_file.OpenFault.{OpenFault}
-use Rattle.quota_blocks.specs.declared.quota_file.OpenFault.TheVariants.{Store, NoFile, TooLarge, Memory, FormatMismatch, Damage}
-use Rattle.quota_blocks.specs.declared.quota_file.FileFault.{FileFault}
-use Rattle.quota_blocks.specs.declared.quota_file.FileFault.TheVariants.{Store as CallFailed, Damage as FileDamaged, Full as NoBlocks, Memory as NoMemory}
+use Rattle.outside.specs.Frame.{OnlyReads}
+use Rattle.quota_value.specs.QuotaValue.{QuotaValue}
+use Rattle.outside.specs.Seen.{SinkSeen, SourceSeen, StoreSeen}
+use Rattle.outside.specs.World.{World}
+use Rattle.opened_file.specs.declared.quota_file.OpenFault.{OpenFault}
+use Rattle.opened_file.specs.declared.quota_file.OpenFault.TheVariants.{Store, NoFile, TooLarge, Memory, FormatMismatch, Damage}
+use Rattle.opened_file.specs.declared.quota_file.FileFault.{FileFault}
+use Rattle.opened_file.specs.declared.quota_file.FileFault.TheVariants.{Store as CallFailed, Damage as FileDamaged, Full as NoBlocks, Memory as NoMemory}
 use Rattle.quota_v1.specs.View.{IsFlatFault}
 use Rattle.quota_types.specs.Damage.{NamesItsId}
 use Rattle.tree_file.specs.View.{IsTreeFault}

@@ -2,10 +2,10 @@
 use Rattle.std.proofs.Common.{◌≡◌, ◌≢◌, ◌⊎◌, ℕ, Bool, true, false, IsTrue, List, [], ◌∷◌, ◌++◌, take, Option, None, Some, Ok, inl, inr, refl, sym, ap, subst, ◌∙◌, append-nil}
 use Rattle.std.proofs.lemmas.Bool.{false≢true}
 use Rattle.std.proofs.lemmas.Option.{none-some}
-use Rattle.quota_blocks.specs.Count.{Rose}
-use Rattle.quota_blocks.specs.Seen.{SinkSeen, SourceSeen, StoreSeen}
-use Rattle.quota_blocks.specs.Text.{AppendsPrefix}
-use Rattle.quota_blocks.specs.World.{World}
+use Rattle.outside.specs.Count.{Rose}
+use Rattle.outside.specs.Seen.{SinkSeen, SourceSeen, StoreSeen}
+use Rattle.outside.specs.Text.{AppendsPrefix}
+use Rattle.outside.specs.World.{World}
 use Rattle.refusals.specs.declared.cause.Cause.{Cause}
 use Rattle.refusals.specs.declared.cause.Cause.TheVariants.{SinkFault}
 use Rattle.refusals.specs.declared.reason.Refusal.{Refusal}

@@ -1,7 +1,7 @@
 -- Reasons for which a command is refused.
 use Rattle.std.proofs.Common.{◌⊎◌, ◌≤◌, Bool, IsTrue, inl, inr, arith}
-use Rattle.quota_blocks.specs.Count.{Rose}
-use Rattle.quota_blocks.specs.Seen.{SourceSeen, StoreSeen}
+use Rattle.outside.specs.Count.{Rose}
+use Rattle.outside.specs.Seen.{SourceSeen, StoreSeen}
 use Rattle.refusals.specs.declared.cause.Cause.{Cause}
 use Rattle.refusals.specs.declared.cause.Cause.TheVariants.{StoreFault, SourceFault, SinkFault, LinkFault}
 use Rattle.refusals.specs.Status.{group_of}

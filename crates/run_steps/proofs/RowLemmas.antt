@@ -1,7 +1,7 @@
 -- Commands one after another, and commands in a line of a script: what was carried out.
 use Rattle.std.proofs.Common.{◌≡◌, ◌≤◌, ℕ, List, ◌++◌, Option, None, Some, inl, inr, refl, sym, ap, subst, ◌∙◌, arith, append_assoc}
-use Rattle.quota_blocks.specs.Seen.{Started}
-use Rattle.quota_blocks.specs.Text.{AppendsPrefix}
+use Rattle.outside.specs.Seen.{Started}
+use Rattle.outside.specs.Text.{AppendsPrefix}
 use Rattle.refusals.specs.declared.cause.Cause.{Cause}
 use Rattle.refusals.specs.declared.reason.Refusal.{Refusal}
 use Rattle.refusals.specs.Refusals.{in_line}

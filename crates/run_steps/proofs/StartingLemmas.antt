@@ -1,7 +1,7 @@
 -- A link that was started, and other steps behind that.
 use Rattle.std.proofs.Common.{◌≡◌, ℕ, ◌≤◌, IsTrue, List, [], ◌∷◌, Option, None, Some, Result, inr, refl, sym, ap, subst, ◌∙◌, arith, append-nil}
 use Rattle.std.proofs.lemmas.Result.{IfErr-weaker, on_ok_weaker}
-use Rattle.quota_blocks.specs.Seen.{Datagram, LinkSeen, started_at}
+use Rattle.outside.specs.Seen.{Datagram, LinkSeen, started_at}
 use Rattle.refusals.specs.declared.cause.Cause.{Cause}
 use Rattle.refusals.specs.declared.reason.Refusal.{Refusal}
 use Rattle.run_steps.specs.Act.{Start}

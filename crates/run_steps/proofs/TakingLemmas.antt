@@ -2,10 +2,10 @@
 -- out.
 use Rattle.std.proofs.Common.{◌≡◌, ◌≢◌, ℕ, ◌≤◌, Bool, false, IsTrue, List, [], Option, None, Some, Err, Result, refl, sym, ap, subst, arith}
 use Rattle.std.specs.Prelude.{IsSome}
-use Rattle.quota_blocks.specs.Behind.{IsBehind}
-use Rattle.quota_blocks.specs.Count.{Rose}
-use Rattle.quota_blocks.specs.Frame.{OnlyReads}
-use Rattle.quota_blocks.specs.Seen.{SourceSeen, StoreSeen}
+use Rattle.outside.specs.Behind.{IsBehind}
+use Rattle.outside.specs.Count.{Rose}
+use Rattle.outside.specs.Frame.{OnlyReads}
+use Rattle.outside.specs.Seen.{SourceSeen, StoreSeen}
 use Rattle.refusals.specs.declared.cause.Cause.{Cause}
 use Rattle.refusals.specs.declared.cause.Cause.TheVariants.{StoreFault, SourceFault, SinkFault, LinkFault, Memory}
 use Rattle.refusals.specs.declared.reason.Refusal.{Refusal}

@@ -1,6 +1,6 @@
 -- How many calls of `write` acts take, one after another.
 use Rattle.std.proofs.Common.{◌≡◌, ℕ, ◌+◌, ◌≤◌, List, [], ◌∷◌, ◌++◌, refl, ◌∙◌, arith}
-use Rattle.quota_blocks.specs.QuotaValue.{QuotaValue}
+use Rattle.quota_value.specs.QuotaValue.{QuotaValue}
 use Rattle.run_steps.specs.Act.{Act, Change, ChangesNone, Idle, Replace, Way}
 use Rattle.run_steps.specs.Writes.{ReplacesNone, WritesFor, WritesInPart, edits_in}
 

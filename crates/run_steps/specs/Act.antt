@@ -1,9 +1,9 @@
 -- What a command does to what is outside, act by act, and how the files follow.
 use Rattle.std.specs.Prelude.{◌≡◌, ◌⊎◌, ℕ, List, [], ◌∷◌, ◌++◌, Option, Some, Ok, ⊤}
-use Rattle.quota_blocks.specs.Replacement.{ReplacesOnly}
-use Rattle.quota_blocks.specs.Seen.{Datagram, Started, started_at}
-use Rattle.quota_blocks.specs.World.{KeepsOthers, World}
-use Rattle.quota_blocks.specs.QuotaValue.{QuotaValue}
+use Rattle.outside.specs.Replacement.{ReplacesOnly}
+use Rattle.outside.specs.Seen.{Datagram, Started, started_at}
+use Rattle.outside.specs.World.{KeepsOthers, World}
+use Rattle.quota_value.specs.QuotaValue.{QuotaValue}
 use Rattle.quota_map.specs.AnyFile.{AnyLeaves}
 use Rattle.quota_map.specs.View.{IsView}
 

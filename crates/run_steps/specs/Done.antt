@@ -1,9 +1,9 @@
 -- What a run of the program has done to what is outside, as far as it is told.
 use Rattle.std.specs.Prelude.{◌≡◌, ◌≤◌, ℕ, Bool, IsTrue, List, ◌++◌, take}
-use Rattle.quota_blocks.specs.Count.{Rose}
-use Rattle.quota_blocks.specs.Seen.{Datagram, LinkSeen, SinkSeen, SourceSeen, StoreSeen}
-use Rattle.quota_blocks.specs.Text.{AppendsPrefix}
-use Rattle.quota_blocks.specs.World.{World}
+use Rattle.outside.specs.Count.{Rose}
+use Rattle.outside.specs.Seen.{Datagram, LinkSeen, SinkSeen, SourceSeen, StoreSeen}
+use Rattle.outside.specs.Text.{AppendsPrefix}
+use Rattle.outside.specs.World.{World}
 use Rattle.run_steps.specs.Act.{Act, Follows, FollowsInPart, answers, err_bytes, out_bytes, started_by}
 use Rattle.run_steps.specs.Writes.{WritesFor, WritesInPart}
 

@@ -1,6 +1,6 @@
 -- Lines of an input that say nothing. Source: this project's own.
 use Rattle.std.specs.Prelude.{ℕ, ◌==◌, Bool, false, ◌||◌, List, [], ◌∷◌}
-use Rattle.quota_blocks.specs.Words.{words_eq, words_of}
+use Rattle.input_text.specs.Words.{words_eq, words_of}
 
 -- the first byte of a comment is `#`
 abbrev pub is_comment : List ℕ → Bool

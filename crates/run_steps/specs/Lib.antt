@@ -14,7 +14,3 @@ pub mod Showing
 pub mod Steps
 pub mod Taking
 pub mod Writes
-pub use Rattle.quota_blocks.specs.Frame
-pub use Rattle.quota_blocks.specs.Unsynced
-pub use Rattle.refusals.specs.Outcome
-pub use Rattle.refusals.specs.Refusals

@@ -1,10 +1,10 @@
 -- What the steps of a command mean: how they end, how far they have begun, and that they are sure to succeed. They are
 -- relations, since a damage of a file that is named, and the bytes of a file that stands for a changed value, are choices.
 use Rattle.std.specs.Prelude.{◌≡◌, ◌⊎◌, ℕ, Bool, IsTrue, List, [], ◌∷◌, ◌++◌, Option, Some, None, Ok, Err}
-use Rattle.quota_blocks.specs.Seen.{Datagram}
-use Rattle.quota_blocks.specs.World.{World}
-use Rattle.quota_blocks.specs.QuotaValue.{QuotaValue}
-use Rattle.quota_blocks.specs.declared.quota_file.OpenFault.{OpenFault}
+use Rattle.outside.specs.Seen.{Datagram}
+use Rattle.outside.specs.World.{World}
+use Rattle.quota_value.specs.QuotaValue.{QuotaValue}
+use Rattle.opened_file.specs.declared.quota_file.OpenFault.{OpenFault}
 use Rattle.quota_map.specs.View.{IsView}
 use Rattle.refusals.specs.declared.reason.Refusal.{Refusal}
 use Rattle.refusals.specs.Line.{error_line}

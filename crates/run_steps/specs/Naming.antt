@@ -2,10 +2,10 @@
 -- and how large it may be, is this project's own.
 use Rattle.std.specs.Prelude.{◌≡◌, ℕ, IsTrue, Bool, nat_lt, if◌then◌else◌, List, [], length, Option, Some, None, ⊤}
 use Rattle.quota_types.specs.declared.file_kind.Kind.{Kind}
-use Rattle.quota_blocks.specs.Count.{Rose}
-use Rattle.quota_blocks.specs.World.{World}
-use Rattle.quota_blocks.specs.declared.whole_file.LoadFault.{LoadFault}
-use Rattle.quota_blocks.specs.declared.whole_file.LoadFault.TheVariants.{Store as StoreFailed, NoFile as Absent, TooLarge as Larger, Memory as NoMemory}
+use Rattle.outside.specs.Count.{Rose}
+use Rattle.outside.specs.World.{World}
+use Rattle.opened_file.specs.declared.whole_file.LoadFault.{LoadFault}
+use Rattle.opened_file.specs.declared.whole_file.LoadFault.TheVariants.{Store as StoreFailed, NoFile as Absent, TooLarge as Larger, Memory as NoMemory}
 use Rattle.id_names.specs.declared.fault.NamesFault.{NamesFault}
 use Rattle.id_names.specs.declared.fault.NamesFault.TheVariants.{BadLine as WrongLine, Memory as NamesWantMemory}
 use Rattle.id_names.specs.NamesFile.{NameLine, bad_line, names_in}

@@ -1,9 +1,9 @@
 -- Steps of single commands, as far as they are alike: that they look at files before they change one, that they read the input to
 -- its end, and how many datagrams they receive.
 use Rattle.std.specs.Prelude.{◌≡◌, ◌⊎◌, ℕ, suc, ◌+◌, Bool, true, false, ◌&&◌, IsTrue, List, [], ◌++◌, length, take, Option, Some, None, ⊤}
-use Rattle.quota_blocks.specs.QuotaValue.{QuotaValue}
-use Rattle.quota_blocks.specs.Seen.{Datagram}
-use Rattle.quota_blocks.specs.World.{World}
+use Rattle.quota_value.specs.QuotaValue.{QuotaValue}
+use Rattle.outside.specs.Seen.{Datagram}
+use Rattle.outside.specs.World.{World}
 use Rattle.refusals.specs.declared.cause.Cause.{Cause}
 use Rattle.refusals.specs.declared.cause.Cause.TheVariants.{Full}
 use Rattle.refusals.specs.declared.reason.Refusal.{Refusal}

@@ -1,7 +1,7 @@
 -- How a command is carried out, whichever it is.
 use Rattle.std.specs.Prelude.{◌≡◌, ◌≢◌, ◌⊎◌, ◌&&◌, ℕ, Bool, false, IsTrue, List, ◌∷◌, ◌++◌, Option, Some, None, Result, Ok, Err, OnOk, IfErr}
-use Rattle.quota_blocks.specs.Count.{Rose}
-use Rattle.quota_blocks.specs.Text.{AppendsPrefix}
+use Rattle.outside.specs.Count.{Rose}
+use Rattle.outside.specs.Text.{AppendsPrefix}
 use Rattle.refusals.specs.declared.cause.Cause.{Cause}
 use Rattle.refusals.specs.declared.cause.Cause.TheVariants.{StoreFault, SourceFault, SinkFault, LinkFault}
 use Rattle.refusals.specs.declared.reason.Refusal.{Refusal}

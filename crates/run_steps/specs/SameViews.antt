@@ -3,11 +3,11 @@
 use Rattle.std.specs.Prelude.{◌≡◌, ◌⊎◌, ℕ, Bool, false, IsTrue, List, ◌∷◌, Option, IfSome, is_some, Result, Ok, Err, ⊤}
 use Rattle.quota_types.specs.declared.file_kind.Format.{Format}
 use Rattle.quota_types.specs.declared.file_kind.Kind.{Kind}
-use Rattle.quota_blocks.specs.QuotaValue.{QuotaValue}
-use Rattle.quota_blocks.specs.Seen.{Datagram}
-use Rattle.quota_blocks.specs.World.{World}
-use Rattle.quota_blocks.specs.declared.quota_file.OpenFault.{OpenFault}
-use Rattle.quota_blocks.specs.declared.quota_file.OpenFault.TheVariants.{Damage as Damaged}
+use Rattle.quota_value.specs.QuotaValue.{QuotaValue}
+use Rattle.outside.specs.Seen.{Datagram}
+use Rattle.outside.specs.World.{World}
+use Rattle.opened_file.specs.declared.quota_file.OpenFault.{OpenFault}
+use Rattle.opened_file.specs.declared.quota_file.OpenFault.TheVariants.{Damage as Damaged}
 use Rattle.quota_map.specs.View.{IsView}
 use Rattle.refusals.specs.declared.reason.Refusal.{Refusal}
 use Rattle.run_steps.specs.Act.{Act}

@@ -4,9 +4,9 @@
 use Rattle.std.specs.Prelude.{ℕ, Bool, List, [], ◌∷◌, Option, Some, None}
 use Rattle.quota_types.specs.declared.file_kind.Kind.{Kind}
 use Rattle.quota_types.specs.declared.file_kind.Format.{Format}
-use Rattle.quota_blocks.specs.Seen.{Datagram}
-use Rattle.quota_blocks.specs.World.{World}
-use Rattle.quota_blocks.specs.QuotaValue.{QuotaValue}
+use Rattle.outside.specs.Seen.{Datagram}
+use Rattle.outside.specs.World.{World}
+use Rattle.quota_value.specs.QuotaValue.{QuotaValue}
 use Rattle.id_names.specs.NamesFile.{NameLine}
 use Rattle.refusals.specs.declared.reason.Refusal.{Refusal}
 use Rattle.refusals.specs.Outcome.{Outcome, Passed, Refused}

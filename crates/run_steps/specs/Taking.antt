@@ -1,8 +1,8 @@
 -- What a command takes from an input: the file of `--input`, or the standard input where there is none. Source: this
 -- project's own.
 use Rattle.std.specs.Prelude.{◌≡◌, ℕ, Bool, true, false, ◌||◌, IsTrue, List, [], Option, Some, None, IsSome, is_none, ⊤}
-use Rattle.quota_blocks.specs.StoreInput.{left_from}
-use Rattle.quota_blocks.specs.World.{World}
+use Rattle.input_text.specs.StoreInput.{left_from}
+use Rattle.outside.specs.World.{World}
 use Rattle.refusals.specs.declared.cause.Cause.{Cause}
 use Rattle.refusals.specs.declared.cause.Cause.TheVariants.{NoFile, StoreFault, SourceFault, Memory, TooLarge, LongLine, BadForm, BadLine, Conflict}
 use Rattle.refusals.specs.declared.reason.Refusal.{Refusal}

@@ -1,7 +1,7 @@
 -- How many calls of `write` to the store acts take, and what bounds those of a command.
 use Rattle.std.specs.Prelude.{◌≡◌, ◌≤◌, ◌+◌, ◌*◌, ℕ, List, [], ◌∷◌, Option, IfSome, ⊤}
-use Rattle.quota_blocks.specs.Seen.{StoreSeen}
-use Rattle.quota_blocks.specs.World.{KeepsOthers}
+use Rattle.outside.specs.Seen.{StoreSeen}
+use Rattle.outside.specs.World.{KeepsOthers}
 use Rattle.run_steps.specs.Act.{Act, Change, ChangesNone, Idle, Replace, Together}
 
 -- no file is replaced as a whole

@@ -1,7 +1,7 @@
 ghost use Rattle.std.specs.Prelude.{◌≡◌};
 ghost use Rattle.run_steps.specs.InputLine.{is_comment, says_nothing};
 
-use quota_blocks::has_no_word;
+use input_text::has_no_word;
 
 /// Whether a line of an input is passed over: it is a comment, or has no words. A comment need not be UTF-8.
 pub fn says_nothing(line: &[u8]) -> bool

@@ -1,11 +1,12 @@
 ghost use Rattle.std.specs.Prelude.{◌≡◌, [], IfErr, IfOk, IsTrue, None, unwrap_or, is_ok};
-ghost use Rattle.quota_blocks.specs.Frame.{OnlyReads};
+ghost use Rattle.outside.specs.Frame.{OnlyReads};
 ghost use Rattle.run_steps.specs.Naming.{FileOfNamesMayRefuse, IsNamesFault, MayBeNames, NamesMayRefuse, load_cause, names_cause, names_of_file, names_seen};
 ghost use Rattle.refusals.specs.Outcome.{Passed};
 ghost use Rattle.refusals.specs.Refusals.{nowhere};
 
 use id_names::{Names, NamesFault};
-use quota_blocks::{LoadFault, Store, load};
+use opened_file::{LoadFault, load};
+use outside::Store;
 use quota_types::Kind;
 use refusals::{Cause, Refusal, Word};
 use std::alloc::Global;

@@ -6,7 +6,7 @@ ghost use Rattle.refusals.specs.declared.cause.Cause.TheVariants.{BadNumber};
 ghost use Rattle.refusals.specs.Refusals.{refusal_of};
 
 use id_names::Names;
-use quota_blocks::read_number;
+use input_text::read_number;
 use quota_types::Grace;
 use refusals::{Cause, Refusal, Word};
 use set_edit::{Limits, TimeWord, read_limit};

@@ -1,7 +1,7 @@
 ghost use Rattle.std.specs.Prelude.{◌≡◌};
 ghost use Rattle.run_steps.specs.Opening.{file_cause, opening_cause};
 
-use quota_blocks::{FileFault, OpenFault};
+use opened_file::{FileFault, OpenFault};
 use refusals::Cause;
 
 /// What is said where a call on an opened file was refused.

@@ -1,8 +1,9 @@
 use crate::playing::QuotaCli;
-use quota_blocks::{MemStore, Store};
+use memory_objects::MemStore;
+use outside::Store;
 use std::alloc::{AllocError, Global};
 use std::process::Abort;
-use story_player::{Object, Program, Setting, Streams, words_of};
+use story_stage::{Object, Program, Setting, Streams, words_of};
 
 /// With which status a run ends, how often it starts the link, and at which port the last time.
 type Started = (u8, u64, Option<u16>);

@@ -1,8 +1,9 @@
-use quota_blocks::Store;
+use outside::Store;
 use quota_cli::run::run;
 use std::alloc::Global;
 use std::process::Abort;
-use story_player::{Program, Streams, failure_of};
+use story_player::failure_of;
+use story_stage::{Program, Streams};
 
 /// This program, as stories run it. They look at what is left, and rest on no promise of it.
 pub(crate) struct QuotaCli;

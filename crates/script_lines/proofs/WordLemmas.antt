@@ -11,7 +11,7 @@ use Rattle.std.proofs.lemmas.List.Splits.{slice_split_first, slice_split_none}
 use Rattle.std.proofs.lemmas.List.Sums.{fails_before_first, passes_at_first}
 use Rattle.std.proofs.lemmas.Str.{IsCharBoundary-after_ascii, IsCharBoundary-before_ascii, IsUtf8-drop, IsUtf8-take}
 use Rattle.option_words.specs.Items.{texts_of}
-use Rattle.quota_blocks.specs.Words.{is_blank, is_word, words_of}
+use Rattle.input_text.specs.Words.{is_blank, is_word, words_of}
 
 -- a blank is ASCII
 blank_ascii : (byte : ℕ) → is_blank byte ≡ true → byte < 128

@@ -2,7 +2,7 @@
 -- this project's own.
 use Rattle.std.specs.Prelude.{◌≡◌, ℕ, ◌+◌, List, [], ◌∷◌, map, codes, string_bytes, Option, Some, None, if◌then◌else◌}
 use Rattle.std.specs.Str.{is_utf8}
-use Rattle.quota_blocks.specs.InputLines.{InputLines, NoLine, LineThen, LongNext, PastNext, input_lines}
+use Rattle.input_text.specs.InputLines.{InputLines, NoLine, LineThen, LongNext, PastNext, input_lines}
 use Rattle.refusals.specs.declared.cause.Cause.{Cause}
 use Rattle.refusals.specs.declared.cause.Cause.TheVariants.{TooLarge, LongLine, BadLine}
 use Rattle.refusals.specs.declared.reason.Refusal.{Refusal}

@@ -1,9 +1,9 @@
 ghost use Rattle.std.specs.Prelude.{◌≡◌, IfOk, string_bytes};
 ghost use Rattle.std.specs.Str.{IsUtf8};
 ghost use Rattle.option_words.specs.Items.{texts_of};
-ghost use Rattle.quota_blocks.specs.Words.{words_of};
+ghost use Rattle.input_text.specs.Words.{words_of};
 
-use quota_blocks::next_word;
+use input_text::next_word;
 use std::alloc::{AllocError, Global};
 
 /// The words of a line, in order: its longest parts without a space and without a tab.

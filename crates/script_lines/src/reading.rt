@@ -1,7 +1,7 @@
 ghost use Rattle.std.specs.Prelude.{◌≡◌, ◌≤◌, ◌<◌, ◌-◌, [], IfErr, IfOk, IfSome, IsSome, IsTrue, MatchResult, None, Some, false, true};
-ghost use Rattle.quota_blocks.specs.Behind.{IsBehind};
-ghost use Rattle.quota_blocks.specs.Count.{Rose};
-ghost use Rattle.quota_blocks.specs.InputLines.{lines_left};
+ghost use Rattle.outside.specs.Behind.{IsBehind};
+ghost use Rattle.outside.specs.Count.{Rose};
+ghost use Rattle.input_text.specs.InputLines.{lines_left};
 ghost use Rattle.script_lines.specs.Script.{IsOfScript, lines_say, read_then, refusal_read, script_read, script_refusal, script_said};
 ghost use Rattle.script_lines.specs.declared.line.LineRead.TheVariants.{Refused as Faulty};
 ghost use Rattle.script_lines.specs.declared.script.ScriptFault.TheVariants.{Source as SourceFailed, Memory as NoMemory};
@@ -9,7 +9,8 @@ ghost use Rattle.script_lines.specs.declared.script.ScriptFault.TheVariants.{Sou
 use crate::line::{LineRead, read_line, refused_script};
 use crate::{Script, ScriptFault};
 use arrayvec::ArrayVec;
-use quota_blocks::{LineFault, LineReader, Source};
+use input_text::{LineFault, LineReader};
+use outside::Source;
 use refusals::Cause;
 use std::alloc::Global;
 

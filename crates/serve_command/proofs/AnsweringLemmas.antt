@@ -6,10 +6,10 @@ use Rattle.std.specs.Result.{is_err}
 use Rattle.std.proofs.lemmas.List.Elements.{All-get_or}
 use Rattle.std.proofs.lemmas.Option.{get_or_from_slice_get, slice_get_within}
 use Rattle.quota_types.specs.declared.file_kind.Format.{Format}
-use Rattle.quota_blocks.specs.Count.{Rose}
-use Rattle.quota_blocks.specs.Seen.{Datagram, LinkSeen, Started, StoreSeen}
-use Rattle.quota_blocks.specs.World.{World}
-use Rattle.quota_blocks.specs.declared.quota_file.FileFault.TheVariants.{Store as CallFailed, Damage as FileDamaged, Full as NoBlocks, Memory as NoMemory}
+use Rattle.outside.specs.Count.{Rose}
+use Rattle.outside.specs.Seen.{Datagram, LinkSeen, Started, StoreSeen}
+use Rattle.outside.specs.World.{World}
+use Rattle.opened_file.specs.declared.quota_file.FileFault.TheVariants.{Store as CallFailed, Damage as FileDamaged, Full as NoBlocks, Memory as NoMemory}
 use Rattle.rquota_xdr.specs.Call.{call_of}
 use Rattle.rquota_xdr.specs.Reply.{spelling_of}
 use Rattle.rquota_xdr.specs.declared.call.Call.{Call}

@@ -1,7 +1,7 @@
 -- The steps of the command, form by form: that they look first, how many datagrams they receive, and that they are sure.
 use Rattle.std.proofs.Common.{Bool, ℕ, zero, suc, true, List, [], ◌∷◌, Option, None, Some, refl, subst}
 use Rattle.quota_types.specs.declared.file_kind.Format.{Format}
-use Rattle.quota_blocks.specs.QuotaValue.{QuotaValue}
+use Rattle.quota_value.specs.QuotaValue.{QuotaValue}
 use Rattle.option_words.specs.declared.export.Export.{Export}
 use Rattle.rquota_xdr.specs.declared.reply.Reply.{Reply}
 use Rattle.rquota_serve.specs.Exported.{Exported, with_export}

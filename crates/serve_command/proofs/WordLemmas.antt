@@ -13,8 +13,8 @@ use Rattle.quota_types.specs.Kind.{kinds_eq}
 use Rattle.quota_types.proofs.KindLemmas.{kinds_eq-same, kinds_eq-true}
 use Rattle.quota_types.specs.declared.file_kind.Kind.{Kind}
 use Rattle.quota_types.specs.declared.file_kind.Kind.TheVariants.{User, Group}
-use Rattle.quota_blocks.specs.Numeral.{number_of}
-use Rattle.quota_blocks.specs.QuotaFile.{FileSeen}
+use Rattle.input_text.specs.Numeral.{number_of}
+use Rattle.opened_file.specs.QuotaFile.{FileSeen}
 use Rattle.outside.proofs.WorldLemmas.{bytes_eq-true}
 use Rattle.rquota_serve.specs.Exported.{names_eq}
 use Rattle.rquota_serve.specs.Exports.{ExportSeen, is_exported as is_served, is_named}

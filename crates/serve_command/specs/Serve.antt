@@ -2,8 +2,8 @@
 -- together with the paths under which they are told of, is this project's own.
 use Rattle.std.specs.Prelude.{◌⊎◌, ◌+◌, ◌*◌, ℕ, zero, suc, List, Option, Some, None}
 use Rattle.quota_types.specs.declared.file_kind.Format.{Format}
-use Rattle.quota_blocks.specs.Seen.{Datagram}
-use Rattle.quota_blocks.specs.World.{World}
+use Rattle.outside.specs.Seen.{Datagram}
+use Rattle.outside.specs.World.{World}
 use Rattle.rquota_xdr.specs.Reply.{spelling_of}
 use Rattle.rquota_xdr.specs.declared.reply.Reply.{Reply}
 use Rattle.rquota_serve.specs.Adding.{reads_of}

@@ -1,7 +1,7 @@
 ghost use Rattle.std.specs.Prelude.{◌≡◌, ◌<◌, ◌≤◌, ◌+◌, ◌*◌, [], Bool, IsTrue, IfErr, OnOk, OnErr, is_ok};
 ghost use Rattle.std.specs.List.{All};
-ghost use Rattle.quota_blocks.specs.Seen.{LinkSeen, SinkSeen, SourceSeen};
-ghost use Rattle.quota_blocks.specs.Frame.{Syncs};
+ghost use Rattle.outside.specs.Seen.{LinkSeen, SinkSeen, SourceSeen};
+ghost use Rattle.outside.specs.Frame.{Syncs};
 ghost use Rattle.refusals.specs.Status.{status_of};
 ghost use Rattle.refusals.specs.declared.cause.Cause.TheVariants.{LinkFault};
 ghost use Rattle.run_steps.specs.Done.{seen_of, tells_of};
@@ -16,7 +16,7 @@ ghost use Rattle.serve_command.specs.Serve.{AnsweringSteps, ServeMayRefuse, Serv
 ghost use Rattle.serve_steps.specs.Exporting.{AnsweringMayRefuse, AreExported, IsAsAsked, MayExport, serve_uses};
 
 use option_words::ExportList;
-use quota_blocks::{Link, Store};
+use outside::{Link, Store};
 use quota_types::Format;
 use refusals::{Cause, Refusal, Word};
 use rquota_serve::{Exports, serve};

@@ -2,8 +2,8 @@
 -- manual page of rpc.rquotad; that quota files are named with their paths is this project's own.
 use Rattle.std.specs.Prelude.{◌≡◌, ◌⊎◌, ℕ, true, false, List, [], ◌∷◌, map, Option, ⊤}
 use Rattle.quota_types.specs.declared.file_kind.Format.{Format}
-use Rattle.quota_blocks.specs.QuotaValue.{QuotaValue}
-use Rattle.quota_blocks.specs.World.{World}
+use Rattle.quota_value.specs.QuotaValue.{QuotaValue}
+use Rattle.outside.specs.World.{World}
 use Rattle.quota_map.specs.View.{IsOpenedAs}
 use Rattle.rquota_serve.specs.Adding.{AreToldOf, MayAddAll, NewSeen}
 use Rattle.rquota_serve.specs.Exported.{Exported, with_export}

@@ -1,7 +1,7 @@
 ghost use Rattle.std.specs.Prelude.{ℕ, Option, [], ◌≡◌, ◌≤◌, ◌+◌, ◌⊎◌, Bool, List, Result, IsTrue, IfOk, OnOk, OnErr, length, is_ok};
 ghost use Rattle.std.specs.List.{All};
-ghost use Rattle.quota_blocks.specs.Seen.{LinkSeen, SinkSeen, SourceSeen};
-ghost use Rattle.quota_blocks.specs.Frame.{Syncs};
+ghost use Rattle.outside.specs.Seen.{LinkSeen, SinkSeen, SourceSeen};
+ghost use Rattle.outside.specs.Frame.{Syncs};
 ghost use Rattle.refusals.specs.Refusals.{refusal_of};
 ghost use Rattle.refusals.specs.declared.cause.Cause.TheVariants.{Memory};
 ghost use Rattle.refusals.specs.declared.reason.Refusal.{Refusal};
@@ -15,7 +15,7 @@ ghost use Rattle.serve_steps.specs.Exporting.{AnsweringMayRefuse, AreExported, E
 
 use arrayvec::ArrayVec;
 use option_words::Export;
-use quota_blocks::Store;
+use outside::Store;
 use quota_types::Format;
 use refusals::{Cause, Refusal, Word};
 use rquota_serve::{Exports, MOST_EXPORTS, NewExport};

@@ -1,6 +1,6 @@
 use crate::exported::{Told, exports_of, store_with};
 use crate::parts::bytes_of;
-use quota_blocks::FileFault;
+use opened_file::FileFault;
 use quota_types::{Format, Kind};
 use rquota_serve::answer;
 use rquota_xdr::{Reply, write_reply};

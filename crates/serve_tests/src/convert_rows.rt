@@ -1,5 +1,5 @@
 use convert::{ConvertFault, convert};
-use quota_blocks::{FileFault, OpenFault, ReplaceFault};
+use opened_file::{FileFault, OpenFault, ReplaceFault};
 use quota_types::{Format, Kind};
 use row_files::store_of;
 use std::alloc::Global;

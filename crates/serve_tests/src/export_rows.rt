@@ -1,7 +1,8 @@
 use crate::answer_rows::is_wanted;
 use crate::exported::{Told, add, store_with};
 use crate::parts::{ASKED, TOLD, bytes_of};
-use quota_blocks::{MemStore, OpenFault};
+use memory_objects::MemStore;
+use opened_file::OpenFault;
 use quota_types::{Format, Kind};
 use rquota_serve::{Exports, MOST_EXPORTS, answer};
 use std::alloc::Global;

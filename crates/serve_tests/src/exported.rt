@@ -1,4 +1,4 @@
-use quota_blocks::MemStore;
+use memory_objects::MemStore;
 use quota_types::{Entry, Format, Grace, Kind, Rec};
 use row_files::listed;
 use rquota_serve::Exports;

@@ -1,6 +1,6 @@
 use crate::exported::{Told, exports_of, store_with};
 use crate::parts::{ASKED, TOLD, bytes_of};
-use quota_blocks::MemLink;
+use memory_objects::MemLink;
 use quota_types::{Format, Kind};
 use rquota_serve::{ServeFault, serve};
 use std::alloc::{AllocError, Global};

@@ -4,19 +4,19 @@ use Rattle.std.proofs.lemmas.Bool.{false≢true}
 use Rattle.std.proofs.lemmas.Result.{IfErr-weaker}
 use Rattle.quota_types.specs.declared.field.Field.{Field}
 use Rattle.quota_types.specs.declared.field.NoRoom.{NoRoom}
-use Rattle.quota_blocks.specs.Changes.{Changes, FileAt, FileLaws, IsDone, LacksRoomFor}
-use Rattle.quota_blocks.specs.FileChange.{FileChange, Remove, edit_by}
-use Rattle.quota_blocks.specs.Frame.{OnlyReads, Syncs}
-use Rattle.quota_blocks.specs.LooksUp.{LooksUp}
-use Rattle.quota_blocks.specs.QuotaFile.{CountsRefusal, FileSeen, IfFull, IsChangeFault, IsLookupFault, UnlessStoreFailed, WantsNoMemory}
-use Rattle.quota_blocks.specs.QuotaValue.{QuotaValue}
-use Rattle.quota_blocks.specs.World.{World}
-use Rattle.quota_blocks.specs.declared.quota_file.FileFault.{FileFault}
-use Rattle.quota_blocks.specs.declared.quota_file.FileFault.TheVariants.{Store, Damage, Full, Memory}
+use Rattle.opened_file.specs.Changes.{Changes, FileAt, FileLaws, IsDone, LacksRoomFor}
+use Rattle.opened_file.specs.FileChange.{FileChange, Remove, edit_by}
+use Rattle.outside.specs.Frame.{OnlyReads, Syncs}
+use Rattle.opened_file.specs.LooksUp.{LooksUp}
+use Rattle.opened_file.specs.QuotaFile.{CountsRefusal, FileSeen, IfFull, IsChangeFault, IsLookupFault, UnlessStoreFailed, WantsNoMemory}
+use Rattle.quota_value.specs.QuotaValue.{QuotaValue}
+use Rattle.outside.specs.World.{World}
+use Rattle.opened_file.specs.declared.quota_file.FileFault.{FileFault}
+use Rattle.opened_file.specs.declared.quota_file.FileFault.TheVariants.{Store, Damage, Full, Memory}
 use Rattle.outside.proofs.FrameLemmas.{are_synced, only_reads-then, syncs-all, syncs-read}
-use Rattle.quota_blocks.proofs.EditsOneLemmas.{edits_one-read}
-use Rattle.quota_blocks.proofs.SyncedLemmas.{syncs-refused}
-use Rattle.quota_blocks.proofs.LookupLemmas.{IsLookedUp, IsSameAt, edits_value-after, is_answer-itself}
+use Rattle.opened_file.proofs.EditsOneLemmas.{edits_one-read}
+use Rattle.opened_file.proofs.SyncedLemmas.{syncs-refused}
+use Rattle.opened_file.proofs.LookupLemmas.{IsLookedUp, IsSameAt, edits_value-after, is_answer-itself}
 use Rattle.set_edit.specs.declared.fault.EditFault.{EditFault}
 use Rattle.set_edit.specs.declared.fault.EditFault.TheVariants.{File, NoRoom as Unfit}
 use Rattle.set_edit.specs.EditFault.{IfNoRoom, file_fault}

@@ -11,12 +11,12 @@ use Rattle.quota_types.specs.declared.file_kind.Format.{Format}
 use Rattle.quota_types.specs.declared.record.Grace.{Grace}
 use Rattle.quota_types.specs.declared.record.Rec.{Rec}
 use Rattle.quota_types.proofs.KeptLemmas.{kept_null}
-use Rattle.quota_blocks.specs.Changes.{Changes, FileAt, FileLaws}
-use Rattle.quota_blocks.specs.FileChange.{FileChange, Put, Remove, SetGrace, changed_value, edit_by, has_nothing_to_do, may_lack_room}
-use Rattle.quota_blocks.specs.QuotaValue.{QuotaValue, with_grace}
-use Rattle.quota_blocks.specs.declared.quota_file.FileFault.{FileFault}
+use Rattle.opened_file.specs.Changes.{Changes, FileAt, FileLaws}
+use Rattle.opened_file.specs.FileChange.{FileChange, Put, Remove, SetGrace, changed_value, edit_by, has_nothing_to_do, may_lack_room}
+use Rattle.quota_value.specs.QuotaValue.{QuotaValue, with_grace}
+use Rattle.opened_file.specs.declared.quota_file.FileFault.{FileFault}
 use Rattle.outside.proofs.FrameLemmas.{only_reads-none}
-use Rattle.quota_blocks.proofs.LookupLemmas.{IsLookedUp, IsSameAt}
+use Rattle.opened_file.proofs.LookupLemmas.{IsLookedUp, IsSameAt}
 use Rattle.set_edit.specs.declared.limits.Limits.{Limits}
 use Rattle.set_edit.specs.declared.skipped.Skipped.{Skipped}
 use Rattle.set_edit.specs.declared.time_word.TimeWord.{TimeWord}

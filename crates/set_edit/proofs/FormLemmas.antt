@@ -6,7 +6,7 @@ use Rattle.std.proofs.lemmas.Grind.{flat_map-append}
 use Rattle.std.proofs.lemmas.List.{take-append-drop}
 use Rattle.quota_types.specs.declared.file_kind.Kind.{Kind}
 use Rattle.quota_types.specs.declared.record.Rec.{Rec}
-use Rattle.quota_blocks.specs.Text.{AppendsPrefix}
+use Rattle.outside.specs.Text.{AppendsPrefix}
 use Rattle.set_edit.specs.Form.{form_columns, form_heading, form_of, id_front, name_front}
 use Rattle.outside.proofs.TextLemmas.{appends_more}
 

@@ -4,10 +4,10 @@ use Rattle.std.specs.Prelude.{◌&&◌, is_some, IfOk, IfErr, OnOk}
 use Rattle.std.specs.Str.{bytes_eq}
 use Rattle.quota_types.specs.declared.file_kind.Kind.{Kind}
 use Rattle.quota_types.specs.declared.file_kind.Kind.TheVariants.{User, Group}
-use Rattle.quota_blocks.specs.InputLines.{line_then}
-use Rattle.quota_blocks.specs.Lines.{IsLineFault, LinesSeen, NamesLine, line_given, next_line_of}
-use Rattle.quota_blocks.specs.Numeral.{number_of}
-use Rattle.quota_blocks.specs.Words.{words_behind, words_eq, words_of}
+use Rattle.input_text.specs.InputLines.{line_then}
+use Rattle.input_text.specs.Lines.{IsLineFault, LinesSeen, NamesLine, line_given, next_line_of}
+use Rattle.input_text.specs.Numeral.{number_of}
+use Rattle.input_text.specs.Words.{words_behind, words_eq, words_of}
 use Rattle.input_text.specs.declared.line_reader.LineFault.{LineFault}
 use Rattle.input_text.specs.declared.line_reader.LineFault.TheVariants.{Source, Long, TooLarge}
 use Rattle.input_text.proofs.InputLinesLemmas.{input_lines-long, input_lines-past, lines_left-next}

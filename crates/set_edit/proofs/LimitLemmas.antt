@@ -6,7 +6,7 @@ use Rattle.std.specs.Str.{all_ascii_digits}
 use Rattle.std.proofs.lemmas.Bool.{false≢true, and_parts, and_from, and_left, and_right, false_from_ne_true}
 use Rattle.std.proofs.lemmas.Bool.Decides.{nat_tests}
 use Rattle.std.proofs.Math.Seq.{take-append_seam, drop-append_seam}
-use Rattle.quota_blocks.specs.Numeral.{number_of}
+use Rattle.input_text.specs.Numeral.{number_of}
 use Rattle.set_edit.specs.Number.{limit_of, factor_of, product_of}
 
 -- the limit of a number and what stands behind it

@@ -10,8 +10,8 @@ use Rattle.quota_types.specs.declared.field.Field.{Field}
 use Rattle.quota_types.specs.declared.file_kind.Format.{Format}
 use Rattle.quota_types.specs.declared.record.Grace.{Grace}
 use Rattle.quota_types.specs.declared.record.Rec.{Rec}
-use Rattle.quota_blocks.specs.FileChange.{FileChange, Put, Remove, changed_value}
-use Rattle.quota_blocks.specs.QuotaValue.{QuotaValue}
+use Rattle.opened_file.specs.FileChange.{FileChange, Put, Remove, changed_value}
+use Rattle.quota_value.specs.QuotaValue.{QuotaValue}
 use Rattle.set_edit.specs.declared.limits.Limits.{Limits}
 
 -- the record with these four limits

@@ -3,10 +3,10 @@ use Rattle.std.specs.Prelude.{◌≡◌, ◌≤◌, ◌+◌, ℕ, Bool, false, I
 use Rattle.quota_types.specs.declared.field.Field.{Field}
 use Rattle.quota_types.specs.declared.field.NoRoom.{NoRoom}
 use Rattle.quota_types.specs.declared.file_kind.Format.{Format}
-use Rattle.quota_blocks.specs.Changes.{EditsValue, FileAt, FileLaws}
-use Rattle.quota_blocks.specs.FileChange.{FileChange, ValueEdit}
-use Rattle.quota_blocks.specs.Frame.{OnlyReads}
-use Rattle.quota_blocks.specs.QuotaValue.{QuotaValue}
+use Rattle.opened_file.specs.Changes.{EditsValue, FileAt, FileLaws}
+use Rattle.opened_file.specs.FileChange.{FileChange, ValueEdit}
+use Rattle.outside.specs.Frame.{OnlyReads}
+use Rattle.quota_value.specs.QuotaValue.{QuotaValue}
 use Rattle.set_edit.specs.declared.fault.EditFault.{EditFault}
 use Rattle.set_edit.specs.EditFault.{IfNoRoom, file_fault}
 

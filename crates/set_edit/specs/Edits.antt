@@ -9,8 +9,8 @@ use Rattle.quota_types.specs.declared.field.Field.{Field}
 use Rattle.quota_types.specs.declared.file_kind.Format.{Format}
 use Rattle.quota_types.specs.declared.record.Grace.{Grace}
 use Rattle.quota_types.specs.declared.record.Rec.{Rec}
-use Rattle.quota_blocks.specs.FileChange.{SetGrace}
-use Rattle.quota_blocks.specs.QuotaValue.{QuotaValue, with_grace}
+use Rattle.opened_file.specs.FileChange.{SetGrace}
+use Rattle.quota_value.specs.QuotaValue.{QuotaValue, with_grace}
 use Rattle.set_edit.specs.Edited.{limits_change, limits_set, unless_unfit, wanted_limits}
 use Rattle.set_edit.specs.Editing.{Edit}
 use Rattle.set_edit.specs.Times.{found_or_zeros, skips_both_of, times_change, times_set, with_times}

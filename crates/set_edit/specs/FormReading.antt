@@ -3,11 +3,11 @@
 use Rattle.std.specs.Prelude.{◌≡◌, ℕ, ◌+◌, Bool, true, false, ◌&&◌, is_some, IsTrue, if◌then◌else◌, List, [], ◌∷◌, Option, Some, None, Result, Ok, Err}
 use Rattle.std.specs.Str.{bytes_eq}
 use Rattle.quota_types.specs.declared.file_kind.Kind.{Kind}
-use Rattle.quota_blocks.specs.Count.{Rose}
-use Rattle.quota_blocks.specs.InputLines.{InputLines, NoLine, LineThen, LongNext, PastNext, input_lines, lines_left}
-use Rattle.quota_blocks.specs.Lines.{LinesSeen}
-use Rattle.quota_blocks.specs.Numeral.{number_of}
-use Rattle.quota_blocks.specs.Words.{words_eq, words_of}
+use Rattle.outside.specs.Count.{Rose}
+use Rattle.input_text.specs.InputLines.{InputLines, NoLine, LineThen, LongNext, PastNext, input_lines, lines_left}
+use Rattle.input_text.specs.Lines.{LinesSeen}
+use Rattle.input_text.specs.Numeral.{number_of}
+use Rattle.input_text.specs.Words.{words_eq, words_of}
 use Rattle.input_text.specs.declared.line_reader.LineFault.{LineFault}
 use Rattle.input_text.specs.declared.line_reader.LineFault.TheVariants.{Source, Long, TooLarge}
 use Rattle.set_edit.specs.declared.form_reading.FormFault.{FormFault}

@@ -6,16 +6,3 @@ pub mod Form
 pub mod FormReading
 pub mod Number
 pub mod Times
-pub use Rattle.quota_blocks.specs.Changes
-pub use Rattle.quota_blocks.specs.FileChange
-pub use Rattle.quota_blocks.specs.FileUse
-pub use Rattle.quota_blocks.specs.Frame
-pub use Rattle.quota_blocks.specs.Numeral
-pub use Rattle.quota_blocks.specs.QuotaFile
-pub use Rattle.quota_blocks.specs.QuotaValue
-pub use Rattle.quota_blocks.specs.Replace
-pub use Rattle.quota_blocks.specs.Replacement
-pub use Rattle.quota_blocks.specs.Seen
-pub use Rattle.quota_blocks.specs.Unsynced
-pub use Rattle.quota_types.specs.Kept
-pub use Rattle.quota_types.specs.Rec

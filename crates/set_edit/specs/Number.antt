@@ -5,7 +5,7 @@ use Rattle.std.specs.Char.{is_ascii_digit}
 use Rattle.std.specs.List.{prefix_len}
 use Rattle.std.specs.Option.{option_map}
 use Rattle.std.specs.Str.{bytes_eq}
-use Rattle.quota_blocks.specs.Numeral.{number_of, within_64_bits}
+use Rattle.input_text.specs.Numeral.{number_of, within_64_bits}
 
 -- what may stand behind the digits of a limit of blocks, with how many KiB it stands for
 abbrev pub block_suffixes : List (List ℕ × ℕ)

@@ -7,8 +7,8 @@ use Rattle.quota_types.specs.Rec.{kib_of, zero_record}
 use Rattle.quota_types.specs.Timers.{is_exceeded}
 use Rattle.quota_types.specs.declared.field.Field.{Field}
 use Rattle.quota_types.specs.declared.record.Rec.{Rec}
-use Rattle.quota_blocks.specs.FileChange.{FileChange}
-use Rattle.quota_blocks.specs.QuotaValue.{QuotaValue}
+use Rattle.opened_file.specs.FileChange.{FileChange}
+use Rattle.quota_value.specs.QuotaValue.{QuotaValue}
 use Rattle.set_edit.specs.Edited.{kept_change, unless_unfit, with_kept}
 use Rattle.set_edit.specs.declared.skipped.Skipped.{Skipped}
 use Rattle.set_edit.specs.declared.time_word.TimeWord.{TimeWord}

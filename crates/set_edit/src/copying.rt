@@ -1,10 +1,11 @@
 ghost use Rattle.std.specs.Prelude.{◌≡◌, IsTrue};
-ghost use Rattle.quota_blocks.specs.Changes.{file_at, laws_of};
+ghost use Rattle.opened_file.specs.Changes.{file_at, laws_of};
 ghost use Rattle.set_edit.specs.Editing.{Edits};
 ghost use Rattle.set_edit.specs.Edits.{copy_edit, limits_of};
 
 use crate::{EditFault, Limits, set_limits};
-use quota_blocks::{QuotaFile, Store};
+use opened_file::QuotaFile;
+use outside::Store;
 use quota_types::Rec;
 
 /// Sets the four limits of the identifier `to` to those of `from`, which are 0 where `from` has no record, and then its

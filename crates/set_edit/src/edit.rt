@@ -1,15 +1,16 @@
 ghost use Rattle.std.specs.Prelude.{◌≡◌, IfErr, IfSome, IsTrue, unwrap_or};
 ghost use Rattle.quota_types.specs.Kept.{IsKept};
 ghost use Rattle.quota_types.specs.Rec.{zero_record};
-ghost use Rattle.quota_blocks.specs.Changes.{Changes, file_at, laws_of};
-ghost use Rattle.quota_blocks.specs.QuotaFile.{WantsNoMemory};
+ghost use Rattle.opened_file.specs.Changes.{Changes, file_at, laws_of};
+ghost use Rattle.opened_file.specs.QuotaFile.{WantsNoMemory};
 ghost use Rattle.set_edit.specs.EditFault.{file_fault};
 ghost use Rattle.set_edit.specs.Edited.{change_to, with_limits};
 ghost use Rattle.set_edit.specs.Editing.{Edits, ReadsOnce};
 ghost use Rattle.set_edit.specs.Edits.{limits_edit};
 
 use crate::{EditFault, Limits};
-use quota_blocks::{FileFault, QuotaFile, Store};
+use opened_file::{FileFault, QuotaFile};
+use outside::Store;
 use quota_types::{Rec, next_kept};
 
 /// Sets the four limits of an identifier's record, or of a record of zeros where it has none, and then its timers at the

@@ -1,7 +1,7 @@
 ghost use Rattle.std.specs.Prelude.{◌≡◌};
 ghost use Rattle.set_edit.specs.declared.fault.EditFault.TheVariants.{File, NoRoom as Unfit};
 
-use quota_blocks::FileFault;
+use opened_file::FileFault;
 use quota_types::NoRoom;
 
 /// Why an edit of a quota file was refused.

@@ -1,12 +1,13 @@
 ghost use Rattle.std.specs.Prelude.{◌≡◌, ◌+◌, ◌≤◌, ◌++◌, length, codes, decimal, IsTrue, OnOk, OnErr};
 ghost use Rattle.std.specs.List.{flat_map};
-ghost use Rattle.quota_blocks.specs.Count.{Rose};
-ghost use Rattle.quota_blocks.specs.Text.{AppendsPrefix};
+ghost use Rattle.outside.specs.Count.{Rose};
+ghost use Rattle.outside.specs.Text.{AppendsPrefix};
 ghost use Rattle.set_edit.specs.Form.{form_columns, form_heading, form_of, id_front, name_front, number_column};
 
 use arrayvec::ArrayVec;
+use input_text::TextBuffer;
 use itoa::Buffer;
-use quota_blocks::{Sink, SinkFault, TextBuffer};
+use outside::{Sink, SinkFault};
 use quota_types::{Kind, Rec};
 
 /// How many bytes a part of the form has at most.

@@ -1,8 +1,8 @@
 ghost use Rattle.std.specs.Prelude.{◌≡◌, ◌+◌, ◌-◌, ◌<◌, ◌≤◌, ◌++◌, ◌&&◌, [], true, false, decimal, codes, map, is_some, is_ok, IsTrue, IfOk, IfErr, OnOk, Ok, if◌then◌else◌};
 ghost use Rattle.std.specs.Str.{bytes_eq};
-ghost use Rattle.quota_blocks.specs.InputLines.{line_then};
-ghost use Rattle.quota_blocks.specs.Numeral.{number_of};
-ghost use Rattle.quota_blocks.specs.Words.{words_eq, words_of};
+ghost use Rattle.input_text.specs.InputLines.{line_then};
+ghost use Rattle.input_text.specs.Numeral.{number_of};
+ghost use Rattle.input_text.specs.Words.{words_eq, words_of};
 ghost use Rattle.set_edit.specs.Form.{form_heading, form_title};
 ghost use Rattle.set_edit.specs.FormReading.{IsFormFault, IsLinesFault, all_limits, behind_text, form_lines, form_read, if_good, limits_at, limits_in, limits_then_end, line_at, no_more_words};
 ghost use Rattle.set_edit.specs.Number.{limit_of};
@@ -12,9 +12,8 @@ use crate::Limits;
 use crate::form::{heading, name_front, title_end};
 use crate::number::limit_from;
 use arrayvec::ArrayVec;
-use quota_blocks::{
-    LineFault, LineReader, Source, after_words, has_no_word, has_words, number_in, words,
-};
+use input_text::{LineFault, LineReader, after_words, has_no_word, has_words, number_in, words};
+use outside::Source;
 use quota_types::Kind;
 
 /// How many bytes a line of a form has at most.

@@ -1,10 +1,11 @@
 ghost use Rattle.std.specs.Prelude.{IsTrue};
-ghost use Rattle.quota_blocks.specs.Changes.{file_at, laws_of};
+ghost use Rattle.opened_file.specs.Changes.{file_at, laws_of};
 ghost use Rattle.set_edit.specs.Editing.{Edits};
 ghost use Rattle.set_edit.specs.Edits.{grace_edit};
 
 use crate::EditFault;
-use quota_blocks::{QuotaFile, Store};
+use opened_file::QuotaFile;
+use outside::Store;
 use quota_types::{Grace, check_grace};
 
 /// Sets both grace periods of the file, in seconds. All records stay as they are.

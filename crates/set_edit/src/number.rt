@@ -1,8 +1,8 @@
 ghost use Rattle.std.specs.Prelude.{◌≡◌, ◌∷◌, [], Some};
-ghost use Rattle.quota_blocks.specs.Numeral.{number_of};
+ghost use Rattle.input_text.specs.Numeral.{number_of};
 ghost use Rattle.set_edit.specs.Number.{factor_of, limit_of, product_of};
 
-use quota_blocks::number_in;
+use input_text::number_in;
 
 /// Reads a limit: a number, and behind it nothing or one suffix, with a product below 2^64.
 ///

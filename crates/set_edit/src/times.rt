@@ -3,16 +3,17 @@ ghost use Rattle.std.specs.FinMap.{get};
 ghost use Rattle.quota_types.specs.Kept.{IsKept, kept_of};
 ghost use Rattle.quota_types.specs.Range.{unfit};
 ghost use Rattle.quota_types.specs.declared.record.Rec.{Rec};
-ghost use Rattle.quota_blocks.specs.Frame.{OnlyReads};
-ghost use Rattle.quota_blocks.specs.QuotaValue.{QuotaValue};
-ghost use Rattle.quota_blocks.specs.Changes.{file_at, laws_of};
+ghost use Rattle.outside.specs.Frame.{OnlyReads};
+ghost use Rattle.quota_value.specs.QuotaValue.{QuotaValue};
+ghost use Rattle.opened_file.specs.Changes.{file_at, laws_of};
 ghost use Rattle.set_edit.specs.Editing.{Edits};
 ghost use Rattle.set_edit.specs.Edits.{times_edit};
 ghost use Rattle.set_edit.specs.Times.{found_or_zeros, record_in, skips_both, time_of, times_skipped, with_times};
 
 use crate::edit::put_or_remove;
 use crate::{EditFault, Skipped, TimeWord};
-use quota_blocks::{QuotaFile, Store};
+use opened_file::QuotaFile;
+use outside::Store;
 use quota_types::{Field, Format, NoRoom, Rec, check_record, is_exceeded, kept};
 
 /// Sets the ends of an identifier's grace periods. Where a soft limit is not 0 and the usage exceeds it, that timer becomes

@@ -59,4 +59,3 @@ mod play;
 
 pub use files::FILES;
 pub use play::failure_of;
-pub use story_stage::{Object, Program, Setting, Streams, words_of};

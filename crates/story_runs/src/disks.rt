@@ -1,6 +1,7 @@
 //! Disks in memory that are made of files.
 
-use crash_disk::{Disk, MemDisk};
+use disk::Disk;
+use disk_in_memory::MemDisk;
 use std::alloc::{AllocError, Global};
 use story_stage::{NamedBytes, find, making_calls};
 

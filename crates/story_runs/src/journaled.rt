@@ -2,7 +2,7 @@
 
 use crate::comparing::{But, about, are_same};
 use crate::disks::{NEVER, disk_calls_made, disk_of, files_in};
-use crash_disk::MemDisk;
+use disk_in_memory::MemDisk;
 use journal_store::JournalStore;
 use std::alloc::Global;
 use story_stage::{

@@ -1,4 +1,5 @@
-use quota_blocks::{Link, MemLink, MemSink, MemSource, Sink, Source};
+use memory_objects::{MemLink, MemSink, MemSource};
+use outside::{Link, Sink, Source};
 use story_stage::{Object, Ran};
 
 /// The number of a call that no run of a story makes of an object, so that it is known how many it made.

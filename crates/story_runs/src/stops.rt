@@ -5,7 +5,7 @@ use crate::disks::{disk_of, files_in};
 use crate::faults::{fault_line, is_fault_line, last_line};
 use crate::journaled::{Journaled, calls_over_disk, run_journaled, run_over_disk};
 use crate::leaving::{Course, CutOff, is_between, may_be_left};
-use crash_disk::MemDisk;
+use disk_in_memory::MemDisk;
 use std::alloc::{AllocError, Global};
 use story_stage::{
     NamedBytes, Object, Program, Ran, Setting, Stage, Told, Wrong, holds_if, instead, is_number,

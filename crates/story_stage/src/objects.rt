@@ -1,5 +1,6 @@
 use crate::setting::{Object, Setting};
-use quota_blocks::{Link, MemLink, MemSink, MemSource, Source};
+use memory_objects::{MemLink, MemSink, MemSource};
+use outside::{Link, Source};
 use std::alloc::{AllocError, Global};
 
 /// What is in an input that a run must not read.

@@ -1,5 +1,5 @@
 use crate::objects::Streams;
-use quota_blocks::Store;
+use outside::Store;
 use std::alloc::Global;
 
 /// The program that a story is about.

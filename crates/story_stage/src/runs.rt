@@ -6,7 +6,7 @@ use crate::setting::Setting;
 use crate::stage::Stage;
 use crate::watched::Watched;
 use crate::wrong::{Wrong, holds_if};
-use quota_blocks::MemStore;
+use memory_objects::MemStore;
 use std::alloc::{AllocError, Global};
 
 /// The endings of names under which a run leaves files, besides those of the words.

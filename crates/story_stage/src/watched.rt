@@ -1,8 +1,9 @@
-ghost use Rattle.quota_blocks.specs.InMemory.{mem_store_seen};
+ghost use Rattle.memory_objects.specs.InMemory.{mem_store_seen};
 
 use crate::files::NamedBytes;
 use crate::setting::{Object, Setting};
-use quota_blocks::{MemStore, Store, StoreFault};
+use memory_objects::MemStore;
+use outside::{Store, StoreFault};
 use std::alloc::{AllocError, Global};
 
 /// The calls of a store that were made.

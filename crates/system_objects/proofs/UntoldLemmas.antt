@@ -1,8 +1,8 @@
 -- A disk that tells nothing takes each step by changing nothing.
 use Rattle.std.proofs.Common.{◌≤◌, ℕ, List, inl, refl, arith}
-use Rattle.crash_disk.specs.DiskSeen.{ChangesNothing, TakesStep}
-use Rattle.crash_disk.specs.Steps.{CutsShort, MayBeRenamed, TearsRange}
-use Rattle.crash_disk.proofs.ToldLemmas.{cuts_nothing, renames_nothing, tears_nothing}
+use Rattle.disk.specs.DiskSeen.{ChangesNothing, TakesStep}
+use Rattle.disk.specs.Steps.{CutsShort, MayBeRenamed, TearsRange}
+use Rattle.disk.proofs.TakesStepLemmas.{cuts_nothing, renames_nothing, tears_nothing}
 use Rattle.system_objects.specs.Untold.{untold}
 
 untold_stays : (failed later : ℕ) → failed ≤ later → ChangesNothing (untold failed) (untold later)

@@ -1,6 +1,6 @@
 -- What is seen of a disk that tells nothing of its files.
 use Rattle.std.specs.Prelude.{ℕ, None, false, ⊤}
-use Rattle.crash_disk.specs.DiskSeen.{DiskSeen}
+use Rattle.disk.specs.DiskSeen.{DiskSeen}
 
 -- this many calls have failed; no file is read, and a stop may leave anything
 abbrev pub untold : ℕ → DiskSeen

@@ -3,7 +3,7 @@ ghost use Rattle.outside.specs.Count.{Rose};
 
 use crate::open_files::{FailedAt, OpenFiles};
 use crate::sharing::Sharing;
-use crash_disk::{Disk, DiskFault};
+use disk::{Disk, DiskFault};
 use std::alloc::{AllocError, Global};
 use std::fs::{File, Files};
 use std::io;

@@ -1,4 +1,4 @@
-use crash_disk::Disk;
+use disk::Disk;
 use std::alloc::Global;
 use std::fs::{File, Files, OpenOptions};
 use std::os::unix::fs::FileExt;

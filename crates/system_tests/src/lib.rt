@@ -5,13 +5,13 @@
 #![tactic(auto)]
 
 #[cfg(test)]
-mod disk;
-#[cfg(test)]
 mod exchange;
 #[cfg(test)]
 mod files;
 #[cfg(test)]
 mod memory;
+#[cfg(test)]
+mod real_disk;
 #[cfg(test)]
 mod tcp;
 #[cfg(test)]

@@ -1,4 +1,4 @@
-use quota_blocks::{Link, LinkFault};
+use outside::{Link, LinkFault};
 use std::io;
 use std::net::{Ipv4Addr, Net, UdpSocket};
 use std::process::Abort;

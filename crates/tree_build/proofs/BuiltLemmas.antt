@@ -11,8 +11,8 @@ use Rattle.quota_types.specs.declared.file_kind.Format.TheVariants.{V1, V2R0, V2
 use Rattle.quota_types.specs.declared.record.Entry.{Entry}
 use Rattle.entry_codec.specs.Entry.{entries_per_block, padding_of}
 use Rattle.quota_radix.specs.declared.tree_path.TreePath.{TreePath}
-use Rattle.quota_blocks.specs.Block.{block_of, word_at, leads}
-use Rattle.quota_blocks.specs.Listed.{ids_of}
+use Rattle.file_blocks.specs.Block.{block_of, word_at, leads}
+use Rattle.quota_value.specs.Listed.{ids_of}
 use Rattle.file_blocks.proofs.LeadsLemmas.{leads_from}
 use Rattle.tree_build.specs.Build.{HasNoPadding, HasOneRoom}
 use Rattle.quota_types.specs.Times.{StandsIn, times}

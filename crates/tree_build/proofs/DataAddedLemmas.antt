@@ -10,7 +10,7 @@ use Rattle.quota_types.specs.declared.file_kind.Format.TheVariants.{V1, V2R0, V2
 use Rattle.quota_types.specs.declared.record.Entry.{Entry}
 use Rattle.entry_codec.specs.Entry.{entries_per_block}
 use Rattle.quota_radix.specs.declared.tree_path.TreePath.{TreePath}
-use Rattle.quota_blocks.specs.Block.{block_of}
+use Rattle.file_blocks.specs.Block.{block_of}
 use Rattle.tree_build.specs.NewFile.{AreDataBlocks, IsDataBlock, KeepsBlocks, Part, leaves_in, part_of, parts_needed, parts_of}
 use Rattle.tree_build.specs.Size.{filled_blocks}
 use Rattle.tree_build.proofs.EntryLemmas.{range-suc}

@@ -6,7 +6,7 @@ use Rattle.std.proofs.lemmas.List.{append-nil, get_or_past, get_or-drop, get_or-
 use Rattle.std.proofs.lemmas.List.Elements.{filter_map-append}
 use Rattle.std.proofs.lemmas.List.Folds.{list_any-append}
 use Rattle.std.specs.List.{cons_option, filter_map, flat_map, list_any, range_with_len}
-use Rattle.quota_blocks.specs.Span.{KeepsOutside}
+use Rattle.quota_types.specs.Span.{KeepsOutside}
 use Rattle.quota_types.specs.Bytes.{byte_at, number_at}
 use Rattle.quota_types.specs.Format.{record_size}
 use Rattle.quota_types.specs.Kept.{without_marker}
@@ -14,12 +14,12 @@ use Rattle.quota_types.specs.declared.file_kind.Format.{Format}
 use Rattle.quota_types.specs.declared.file_kind.Format.TheVariants.{V1, V2R0, V2R1}
 use Rattle.quota_types.specs.declared.record.Entry.{Entry}
 use Rattle.quota_types.proofs.TimesLemmas.{range_with_len-add}
-use Rattle.quota_types.proofs.BytesLemmas.{number_at-zeros}
+use Rattle.quota_types.proofs.BytesLemmas.{number_at-zeros, number_same}
 use Rattle.entry_codec.specs.Entry.{IsEntry, entries_per_block, is_unused, padding_of, stored_id}
 use Rattle.entry_codec.proofs.SpellingLemmas.{is_unused-zeros}
 use Rattle.tree_build.specs.Entries.{entry_bytes, entry_of, has_unused, id_in, stored_record, used_entries, used_ids}
 use Rattle.tree_build.specs.NewFile.{IsDataBlock}
-use Rattle.file_blocks.proofs.WordLemmas.{number_same, same_part}
+use Rattle.file_blocks.proofs.WordLemmas.{same_part}
 use Rattle.tree_build.proofs.EntryLemmas.{no_test, unused_none}
 use Rattle.tree_build.proofs.RecordLemmas.{used_is}
 

@@ -10,7 +10,7 @@ use Rattle.quota_types.specs.declared.file_kind.Format.{Format}
 use Rattle.quota_types.specs.declared.record.Entry.{Entry}
 use Rattle.quota_types.specs.Times.{StandsIn, times}
 use Rattle.quota_types.proofs.TimesLemmas.{range_with_len-add, stands_cons, stands_right, times-cons-same, times-filter-no}
-use Rattle.quota_blocks.specs.Block.{block_of, leads, word_at}
+use Rattle.file_blocks.specs.Block.{block_of, leads, word_at}
 use Rattle.file_blocks.proofs.LeadsLemmas.{leads_within}
 use Rattle.entry_codec.specs.Entry.{entries_per_block, is_unused}
 use Rattle.quota_radix.specs.declared.tree_path.TreePath.{TreePath}

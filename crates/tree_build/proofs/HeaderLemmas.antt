@@ -2,7 +2,7 @@
 use Rattle.std.proofs.Common.{◌≡◌, ℕ, ◌+◌, ◌*◌, ◌≤◌, List, ap, ◌∙◌, arith}
 use Rattle.quota_types.specs.Bytes.{number_at}
 use Rattle.entry_codec.specs.Header.{header_of}
-use Rattle.quota_blocks.specs.Block.{block_of}
+use Rattle.file_blocks.specs.Block.{block_of}
 use Rattle.file_blocks.proofs.WordLemmas.{number_in_block}
 
 -- the header of a file is that of its first block

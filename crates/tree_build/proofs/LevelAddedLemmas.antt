@@ -8,7 +8,7 @@ use Rattle.std.specs.List.Sorted.{IsStrictlyIncreasing}
 use Rattle.quota_types.proofs.AscendsLemmas.{Ascends, Ascends-left, Ascends-right, IsStrictlyIncreasing-of}
 use Rattle.quota_types.proofs.ListLemmas.{AllByRecursion-weaker}
 use Rattle.quota_radix.specs.declared.tree_path.TreePath.{TreePath}
-use Rattle.quota_blocks.specs.Block.{block_of, leads}
+use Rattle.file_blocks.specs.Block.{block_of, leads}
 use Rattle.quota_radix.specs.Tree.{blocks_of, numbers_of, steps}
 use Rattle.tree_build.specs.NewFile.{AllLead, AreSiblings, IsFullTreeBlock, IsLevel, KeepsBlocks, parents_of}
 use Rattle.quota_radix.specs.TreeDefect.{IsEmpty}

@@ -8,10 +8,10 @@ use Rattle.quota_types.specs.Bytes.{number_at}
 use Rattle.quota_types.specs.declared.file_kind.Format.{Format}
 use Rattle.quota_types.specs.Times.{StandsIn, times}
 use Rattle.quota_types.proofs.TimesLemmas.{stands_cons, stands_right, times-append, times-cons-same}
-use Rattle.quota_blocks.specs.Block.{block_of, leads, word_at}
-use Rattle.quota_blocks.specs.QuotaValue.{Records}
+use Rattle.file_blocks.specs.Block.{block_of, leads, word_at}
+use Rattle.quota_value.specs.QuotaValue.{Records}
 use Rattle.file_blocks.proofs.LeadsLemmas.{leads_from, leads_within}
-use Rattle.file_blocks.proofs.WordLemmas.{number_same}
+use Rattle.quota_types.proofs.BytesLemmas.{number_at-zeros, number_same}
 use Rattle.quota_pages.specs.Used.{HasWord, KeepsBlocksBut}
 use Rattle.free_chains.specs.declared.heads.Heads.{Heads}
 use Rattle.free_chains.proofs.SpliceLemmas.{chain-stays, names-stay}
@@ -21,7 +21,6 @@ use Rattle.quota_radix.specs.Tree.{blocks_of, ids_at, leaves, level, lower_block
 use Rattle.quota_radix.specs.TreeDefect.{IsEmpty}
 use Rattle.quota_radix.specs.Way.{blocks_on_way, digit_on_way}
 use Rattle.quota_radix.proofs.LinkPathLemmas.{last_in_tree}
-use Rattle.quota_types.proofs.BytesLemmas.{number_at-zeros}
 use Rattle.quota_radix.proofs.LinkWayLemmas.{changed_are, length-stretch, length_way, stretch, stretch_at, way_found, way_in_fresh, way_last, way_leaf}
 use Rattle.quota_radix.proofs.PathLemmas.{Rises-paths}
 use Rattle.tree_build.specs.Entries.{has_unused, used_ids}

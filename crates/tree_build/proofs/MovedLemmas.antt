@@ -8,11 +8,12 @@ use Rattle.quota_types.specs.Format.{record_size}
 use Rattle.quota_types.specs.declared.file_kind.Format.{Format}
 use Rattle.quota_types.specs.Times.{StandsIn, times}
 use Rattle.quota_types.proofs.TimesLemmas.{only_one, times-append, times-filter-no, times-filter-yes, times-range-within}
-use Rattle.quota_blocks.specs.Block.{block_of}
-use Rattle.quota_blocks.specs.QuotaValue.{Records}
-use Rattle.quota_blocks.specs.Span.{KeepsOutside}
+use Rattle.file_blocks.specs.Block.{block_of}
+use Rattle.quota_value.specs.QuotaValue.{Records}
+use Rattle.quota_types.specs.Span.{KeepsOutside}
 use Rattle.file_blocks.proofs.LeadsLemmas.{leads_from, leads_within}
-use Rattle.file_blocks.proofs.WordLemmas.{length-block_of, number_same, same_part}
+use Rattle.file_blocks.proofs.WordLemmas.{length-block_of, same_part}
+use Rattle.quota_types.proofs.BytesLemmas.{number_same}
 use Rattle.quota_pages.specs.Used.{KeepsBlocksBut}
 use Rattle.free_chains.specs.Chain.{IsChain}
 use Rattle.free_chains.specs.EntryList.{NamesPrevious}

@@ -8,8 +8,8 @@ use Rattle.std.proofs.lemmas.Nat.{le-div}
 use Rattle.std.specs.List.{AllByRecursion}
 use Rattle.std.specs.List.Sorted.{IsStrictlyIncreasing}
 use Rattle.quota_types.specs.declared.record.Entry.{Entry}
-use Rattle.quota_blocks.specs.Listed.{ids_of}
-use Rattle.quota_blocks.specs.QuotaValue.{IsAfter}
+use Rattle.quota_value.specs.Listed.{ids_of}
+use Rattle.quota_types.specs.Ids.{IsAfter}
 use Rattle.tree_build.specs.declared.needed.Needed.{Needed}
 use Rattle.tree_build.specs.Beginnings.{IsLastOf, new_beginnings}
 use Rattle.quota_types.specs.Times.{StandsIn}

@@ -3,7 +3,7 @@ use Rattle.std.proofs.Common.{◌≡◌, ℕ, ◌+◌, ◌-◌, ◌*◌, ◌<◌
 use Rattle.std.proofs.lemmas.List.{append-nil, take-append-le, drop-append-le, drop-drop, drop_all, take_all, take_at, drop_at, length-take-le, get_or-drop, get_or-replicate}
 use borrow.Rule.Slice.PartMut.{post_of}
 use Rattle.quota_types.specs.Bytes.{byte_at}
-use Rattle.quota_blocks.specs.Block.{block_of}
+use Rattle.file_blocks.specs.Block.{block_of}
 use Rattle.tree_build.specs.NewFile.{KeepsBlocks}
 
 -- a block that the file has whole is as many of its bytes

@@ -17,8 +17,8 @@ use Rattle.quota_types.specs.declared.record.Entry.{Entry}
 use Rattle.quota_types.specs.declared.record.Rec.{Rec}
 use Rattle.entry_codec.specs.Entry.{entries_per_block}
 use Rattle.quota_radix.specs.declared.tree_path.TreePath.{TreePath}
-use Rattle.quota_blocks.specs.Block.{block_of}
-use Rattle.quota_blocks.specs.Listed.{ids_of, records_of}
+use Rattle.file_blocks.specs.Block.{block_of}
+use Rattle.quota_value.specs.Listed.{ids_of, records_of}
 use Rattle.tree_build.specs.Entries.{used_entries}
 use Rattle.tree_build.specs.NewFile.{Part, leaves_in, part_of, parts_needed, parts_of}
 use Rattle.quota_radix.specs.Tree.{numbers_of, ids_at}

@@ -7,7 +7,7 @@ use Rattle.quota_types.specs.declared.damage.DamageKind.{DamageKind}
 use Rattle.quota_types.specs.declared.damage.DamageKind.TheVariants.{Short, RefOut, TwoRoles, NoRole, EmptyTree, ChainOut, ChainLoop, ForeignInChain, MissingInChain, BadPrev, BadCount, MissingEntry, StrayEntry, DoubleEntry}
 use Rattle.quota_types.specs.declared.file_kind.Format.{Format}
 use Rattle.entry_codec.specs.Header.{HeaderNumbers}
-use Rattle.quota_blocks.specs.Block.{block_of, previous_of, word_at, leads}
+use Rattle.file_blocks.specs.Block.{block_of, previous_of, word_at, leads}
 use Rattle.free_chains.specs.Chain.{IsChain}
 use Rattle.quota_types.specs.Times.{StandsIn, times}
 use Rattle.tree_build.specs.Defect.{IsDefectOf, IsTreeDefect}

@@ -4,14 +4,14 @@ use Rattle.std.proofs.lemmas.Bool.{cases_eq, cases_lt}
 use Rattle.quota_types.specs.declared.file_kind.Format.{Format}
 use Rattle.quota_types.specs.Times.{times}
 use Rattle.quota_types.proofs.TimesLemmas.{times-append, times-cons-other, times-cons-same}
-use Rattle.quota_blocks.specs.QuotaValue.{Records}
+use Rattle.quota_value.specs.QuotaValue.{Records}
 use Rattle.file_blocks.proofs.LeadsLemmas.{leads_from, leads_within}
 use Rattle.quota_pages.specs.Used.{KeepsBlocksBut}
 use Rattle.free_chains.specs.Chain.{IsChain}
 use Rattle.free_chains.specs.FreeList.{GivesBlock, TakesBlock, TakesHead, TakesListed, TakesNew}
 use Rattle.free_chains.specs.declared.heads.Heads.{Heads}
 use Rattle.free_chains.proofs.SpliceLemmas.{first_is_head, goes_linked}
-use Rattle.quota_blocks.specs.Block.{next_of}
+use Rattle.file_blocks.specs.Block.{next_of}
 use Rattle.quota_radix.specs.declared.tree_path.TreePath.{TreePath}
 use Rattle.tree_build.specs.IsTree.{IsTree}
 use Rattle.tree_build.specs.Loose.{loose_of}

@@ -6,13 +6,12 @@ use Rattle.std.specs.List.{AllByRecursion, cons_option}
 use Rattle.std.specs.List.Sorted.{IsStrictlyIncreasing}
 use Rattle.quota_types.proofs.AscendsLemmas.{Ascends, Ascends-apart, Ascends-of}
 use Rattle.quota_types.proofs.ListLemmas.{AllByRecursion-weaker}
-use Rattle.quota_types.proofs.BytesLemmas.{number_at-zeros}
-use Rattle.quota_blocks.specs.Span.{KeepsOutside}
+use Rattle.quota_types.proofs.BytesLemmas.{number_at-zeros, number_same}
+use Rattle.quota_types.specs.Span.{KeepsOutside}
 use Rattle.quota_radix.specs.declared.tree_path.TreePath.{TreePath}
-use Rattle.quota_blocks.specs.Block.{block_of, leads}
+use Rattle.file_blocks.specs.Block.{block_of, leads}
 use Rattle.tree_build.specs.NewFile.{AllLead, AreSiblings}
 use Rattle.quota_radix.specs.Tree.{numbers_of, steps}
-use Rattle.file_blocks.proofs.WordLemmas.{number_same}
 use Rattle.tree_build.proofs.DataBlockLemmas.{zero_bytes}
 use Rattle.file_blocks.proofs.LeadsLemmas.{leads_below, leads_within}
 use Rattle.quota_radix.proofs.OrderLemmas.{each_at, each_both, each_of_places, length_numbers, number_at_place, rises_bound, rises_of}

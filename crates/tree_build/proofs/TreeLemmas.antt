@@ -1,7 +1,7 @@
 -- A file that stands for a value is a tree of which nothing is loose, and the other way round.
 use Rattle.std.proofs.Common.{ℕ, List, length, sym, ap, subst, ◌∙◌}
-use Rattle.quota_blocks.specs.Block.{block_of}
-use Rattle.quota_blocks.specs.QuotaValue.{QuotaValue}
+use Rattle.file_blocks.specs.Block.{block_of}
+use Rattle.quota_value.specs.QuotaValue.{QuotaValue}
 use Rattle.entry_codec.specs.Header.{AreOf, HeaderNumbers, header_of}
 use Rattle.free_chains.specs.declared.heads.Heads.{Heads}
 use Rattle.tree_build.specs.IsTree.{IsTree, header_with, heads_of}

@@ -15,8 +15,8 @@ use Rattle.quota_types.proofs.ListLemmas.{AllByRecursion-weaker}
 use Rattle.entry_codec.specs.Header.{AreOf, format_of, header_of}
 use Rattle.entry_codec.specs.declared.header.Header.{Header}
 use Rattle.quota_radix.specs.declared.tree_path.TreePath.{TreePath}
-use Rattle.quota_blocks.specs.Block.{block_of, leads}
-use Rattle.quota_blocks.specs.Listed.{ids_of, records_of, value_of}
+use Rattle.file_blocks.specs.Block.{block_of, leads}
+use Rattle.quota_value.specs.Listed.{ids_of, records_of, value_of}
 use Rattle.file_blocks.proofs.LeadsLemmas.{leads_from}
 use Rattle.tree_build.specs.Build.{HasNoPadding, HasOneRoom}
 use Rattle.tree_build.specs.Entries.{used_entries}

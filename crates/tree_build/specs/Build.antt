@@ -5,7 +5,7 @@ use Rattle.quota_types.specs.declared.file_kind.Format.{Format}
 use Rattle.entry_codec.specs.Entry.{entries_per_block, padding_of}
 use Rattle.tree_build.specs.declared.build_fault.BuildFault.{BuildFault}
 use Rattle.tree_build.specs.declared.build_fault.BuildFault.TheVariants.{Full, Memory}
-use Rattle.quota_blocks.specs.Block.{block_of}
+use Rattle.file_blocks.specs.Block.{block_of}
 use Rattle.quota_types.specs.Times.{StandsIn}
 use Rattle.tree_build.specs.Entries.{entry_bytes}
 use Rattle.tree_build.specs.Loose.{nothing_loose}

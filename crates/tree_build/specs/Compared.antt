@@ -5,7 +5,7 @@ use Rattle.quota_types.specs.declared.damage.Damage.{Damage}
 use Rattle.quota_types.specs.declared.damage.DamageKind.{DamageKind}
 use Rattle.quota_types.specs.declared.damage.DamageKind.TheVariants.{BadCount, MissingEntry, StrayEntry, DoubleEntry}
 use Rattle.quota_types.specs.declared.file_kind.Format.{Format}
-use Rattle.quota_blocks.specs.Block.{block_of}
+use Rattle.file_blocks.specs.Block.{block_of}
 use Rattle.quota_types.specs.Times.{StandsIn, StandsTwiceIn, times}
 use Rattle.tree_build.specs.Entries.{has_unused, stated_count, used_ids}
 

@@ -4,8 +4,8 @@ use Rattle.std.specs.Prelude.{◌≡◌, ℕ, ◌*◌, ◌^◌, ◌<◌, ◌≤�
 use Rattle.std.specs.FinMap.{get}
 use Rattle.quota_types.specs.declared.file_kind.Format.{Format}
 use Rattle.quota_types.specs.Times.{times}
-use Rattle.quota_blocks.specs.Block.{leads}
-use Rattle.quota_blocks.specs.QuotaValue.{QuotaValue, Records}
+use Rattle.file_blocks.specs.Block.{leads}
+use Rattle.quota_value.specs.QuotaValue.{QuotaValue, Records}
 use Rattle.entry_codec.specs.Header.{HeaderNumbers}
 use Rattle.entry_codec.specs.declared.header.Header.{Header}
 use Rattle.quota_radix.specs.declared.tree_path.TreePath.{TreePath}

@@ -2,7 +2,7 @@
 use Rattle.std.specs.Prelude.{◌≡◌, ℕ, ◌<◌, ◌≤◌, List}
 use Rattle.quota_types.specs.declared.file_kind.Format.{Format}
 use Rattle.quota_types.specs.Times.{StandsIn}
-use Rattle.quota_blocks.specs.Block.{block_of, word_at}
+use Rattle.file_blocks.specs.Block.{block_of, word_at}
 use Rattle.quota_radix.specs.Tree.{blocks_of, tree_blocks}
 use Rattle.tree_build.specs.Entries.{stated_count}
 use Rattle.tree_build.specs.EntryPlaces.{HasSameEntries}

@@ -5,7 +5,7 @@ use Rattle.std.specs.List.{filter}
 use Rattle.quota_types.specs.declared.file_kind.Format.{Format}
 use Rattle.quota_types.specs.declared.file_kind.Format.TheVariants.{V1, V2R0, V2R1}
 use Rattle.std.specs.FinMap.{entries}
-use Rattle.quota_blocks.specs.QuotaValue.{Records}
+use Rattle.quota_value.specs.QuotaValue.{Records}
 
 -- the numbers of a list, each once
 abbrev pub each_once : List ℕ → List ℕ

@@ -6,10 +6,10 @@ use Rattle.std.specs.Option.{option_and_then, option_map}
 use Rattle.quota_types.specs.declared.file_kind.Format.{Format}
 use Rattle.quota_types.specs.declared.record.Entry.{Entry}
 use Rattle.quota_types.specs.declared.record.Rec.{Rec}
-use Rattle.quota_blocks.specs.QuotaValue.{QuotaValue}
+use Rattle.quota_value.specs.QuotaValue.{QuotaValue}
 use Rattle.entry_codec.specs.Header.{HeaderNumbers, format_of, header_of, magic_of}
 use Rattle.quota_radix.specs.declared.tree_path.TreePath.{TreePath}
-use Rattle.quota_blocks.specs.Block.{block_of}
+use Rattle.file_blocks.specs.Block.{block_of}
 use Rattle.tree_build.specs.Entries.{used_entries}
 use Rattle.tree_build.specs.Loose.{nothing_loose}
 use Rattle.tree_build.specs.Roles.{Chained, Filled, OneRole}

@@ -5,7 +5,7 @@ ghost use Rattle.quota_types.specs.Kept.{kept_of};
 ghost use Rattle.quota_types.specs.Range.{grace_unfit, unfit};
 ghost use Rattle.entry_codec.specs.Entry.{entries_per_block};
 ghost use Rattle.entry_codec.specs.Header.{header_of};
-ghost use Rattle.quota_blocks.specs.Listed.{ids_of, value_of};
+ghost use Rattle.quota_value.specs.Listed.{ids_of, value_of};
 ghost use Rattle.tree_build.specs.Build.{HasNoPadding, HasOneRoom, IsBuildFault};
 ghost use Rattle.tree_build.specs.Size.{blocks_needed};
 ghost use Rattle.tree_build.specs.TreeFile.{TreeStandsFor};

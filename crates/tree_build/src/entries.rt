@@ -14,7 +14,7 @@ ghost use Rattle.tree_build.specs.TreeFile.{record_in};
 
 use arrayvec::ArrayVec;
 use entry_codec::{entries_per_block, read_entry, read_id};
-use quota_blocks::{le16, le32};
+use file_blocks::{le16, le32};
 use quota_types::{Damage, DamageKind, Format, Rec, damage_at};
 
 /// What the entries of a data block are used for.

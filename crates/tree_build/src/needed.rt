@@ -1,8 +1,8 @@
 ghost use Rattle.std.specs.Prelude.{◌≡◌, ◌≢◌, ◌+◌, ◌/◌, ◌%◌, ◌<◌, ◌≤◌, ◌^◌, ◌==◌, ◌++◌, ◌∷◌, [], List, ℕ, None, Some, length, if◌then◌else◌};
 ghost use Rattle.std.specs.List.Sorted.{IsStrictlyIncreasing};
 ghost use Rattle.entry_codec.specs.Entry.{entries_per_block};
-ghost use Rattle.quota_blocks.specs.Listed.{ids_of};
-ghost use Rattle.quota_blocks.specs.QuotaValue.{IsAfter};
+ghost use Rattle.quota_value.specs.Listed.{ids_of};
+ghost use Rattle.quota_types.specs.Ids.{IsAfter};
 ghost use Rattle.tree_build.specs.Beginnings.{new_beginnings, room_up_to};
 ghost use Rattle.tree_build.specs.Size.{blocks_needed};
 ghost use Rattle.quota_types.specs.Format.{IsTreeFormat};

@@ -9,7 +9,7 @@ ghost use Rattle.tree_build.specs.NewFile.{AreBelow, AreDataBlocks, IsDataBlock,
 use crate::entry_places::put_entry;
 use crate::new_file::NewFile;
 use entry_codec::entries_per_block;
-use quota_blocks::set_le16;
+use file_blocks::set_le16;
 use quota_radix::TreePath;
 use quota_types::{Entry, Format};
 use std::alloc::{AllocError, Global};

@@ -3,12 +3,12 @@ ghost use Rattle.std.specs.List.{range_with_len, slice_index_or};
 ghost use Rattle.std.specs.List.Sorted.{IsStrictlyIncreasing};
 ghost use Rattle.quota_types.specs.Bytes.{number_at};
 ghost use Rattle.quota_radix.specs.declared.tree_path.TreePath.{TreePath};
-ghost use Rattle.quota_blocks.specs.Block.{block_of};
+ghost use Rattle.file_blocks.specs.Block.{block_of};
 ghost use Rattle.quota_radix.specs.Tree.{blocks_of, numbers_of, steps};
 ghost use Rattle.tree_build.specs.NewFile.{AllLead, AreSiblings, IsLevel, KeepsBlocks, parents_of};
 
 use crate::new_file::NewFile;
-use quota_blocks::set_le32;
+use file_blocks::set_le32;
 use quota_radix::TreePath;
 use std::alloc::{AllocError, Global};
 

@@ -3,9 +3,9 @@
 ghost use Rattle.std.specs.Prelude.{◌≡◌, ℕ, ◌+◌, ◌-◌, ◌*◌, ◌≤◌, true, false, List, [], ◌∷◌, ◌++◌, length, replicate, Option, Some, None};
 ghost use Rattle.quota_types.specs.Times.{StandsIn, times};
 ghost use Rattle.quota_types.specs.declared.file_kind.Format.{Format};
-ghost use Rattle.quota_blocks.specs.Block.{block_of, next_of, previous_of};
-ghost use Rattle.quota_blocks.specs.QuotaValue.{Records};
-ghost use Rattle.quota_blocks.specs.Span.{KeepsOutside};
+ghost use Rattle.file_blocks.specs.Block.{block_of, next_of, previous_of};
+ghost use Rattle.quota_value.specs.QuotaValue.{Records};
+ghost use Rattle.quota_types.specs.Span.{KeepsOutside};
 ghost use Rattle.quota_pages.specs.Used.{KeepsBlocksBut};
 ghost use Rattle.quota_radix.specs.Link.{GainsBlocks, IsLinkable, LeadsAlong, changed_blocks, whole_way, with_path};
 ghost use Rattle.quota_radix.specs.Tree.{leaves, tree_blocks};

@@ -10,7 +10,7 @@ use Rattle.quota_types.proofs.TimesLemmas.{only_one, stands_cons, stands_left, s
 use Rattle.entry_codec.specs.Entry.{is_unused}
 use Rattle.file_blocks.specs.Block.{block_of}
 use Rattle.file_blocks.proofs.LeadsLemmas.{leads_within}
-use Rattle.quota_blocks.specs.QuotaValue.{Records}
+use Rattle.quota_value.specs.QuotaValue.{Records}
 use Rattle.quota_pages.specs.Used.{KeepsBlocksBut}
 use Rattle.quota_radix.specs.declared.tree_path.TreePath.{TreePath}
 use Rattle.free_chains.specs.ChainFault.{IsChainFault}

@@ -8,7 +8,7 @@ use Rattle.quota_types.specs.declared.record.Rec.{Rec}
 use Rattle.quota_types.specs.Times.{StandsIn, times}
 use Rattle.quota_types.proofs.TimesLemmas.{times-cons-same, times_cases}
 use Rattle.file_blocks.specs.Block.{block_of}
-use Rattle.quota_blocks.specs.QuotaValue.{Records}
+use Rattle.quota_value.specs.QuotaValue.{Records}
 use Rattle.quota_radix.specs.Tree.{blocks_of, ids_at, leaves, numbers_of}
 use Rattle.quota_radix.specs.declared.tree_path.TreePath.{TreePath}
 use Rattle.quota_radix.proofs.DescentLemmas.{leaf_led_to}

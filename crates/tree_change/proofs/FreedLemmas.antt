@@ -10,7 +10,7 @@ use Rattle.quota_types.specs.Times.{StandsIn, times}
 use Rattle.quota_types.proofs.TimesLemmas.{only_one, stands_either, stands_left, stands_right, times-append, times-cons-same}
 use Rattle.file_blocks.specs.Block.{block_of, leads}
 use Rattle.file_blocks.proofs.LeadsLemmas.{leads_from, leads_within}
-use Rattle.quota_blocks.specs.QuotaValue.{Records}
+use Rattle.quota_value.specs.QuotaValue.{Records}
 use Rattle.quota_pages.specs.Used.{KeepsBlocksBut}
 use Rattle.quota_radix.specs.Tree.{blocks_of, data_blocks, leaves, tree_blocks}
 use Rattle.quota_radix.specs.Way.{blocks_on_way}

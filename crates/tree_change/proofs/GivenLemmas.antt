@@ -4,7 +4,7 @@ use Rattle.std.proofs.lemmas.List.{drop_all, drop_more, reverse-append, take_all
 use Rattle.quota_types.specs.declared.file_kind.Format.{Format}
 use Rattle.quota_types.specs.Times.{times}
 use Rattle.quota_types.proofs.TimesLemmas.{StandsIn-get_or, only_one, times-append, times-cons-same}
-use Rattle.quota_blocks.specs.QuotaValue.{Records}
+use Rattle.quota_value.specs.QuotaValue.{Records}
 use Rattle.outside.specs.Seen.{StoreSeen}
 use Rattle.quota_pages.specs.Page.{is_buffered}
 use Rattle.quota_pages.specs.Pages.{pages_of}

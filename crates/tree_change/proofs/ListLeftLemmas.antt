@@ -8,7 +8,7 @@ use Rattle.quota_types.specs.declared.file_kind.Format.{Format}
 use Rattle.quota_types.proofs.TimesLemmas.{only_one, stands_cons, stands_either, stands_left, stands_right, times-cons-same}
 use Rattle.file_blocks.specs.Block.{next_of, previous_of}
 use Rattle.file_blocks.proofs.LeadsLemmas.{leads_within}
-use Rattle.quota_blocks.specs.QuotaValue.{Records}
+use Rattle.quota_value.specs.QuotaValue.{Records}
 use Rattle.outside.specs.Seen.{StoreSeen}
 use Rattle.quota_pages.specs.Used.{IsKnown, KeepsBlocksBut, shown_over}
 use Rattle.quota_pages.specs.declared.page_buffer.Pages.{Pages}

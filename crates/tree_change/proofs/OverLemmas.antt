@@ -8,7 +8,7 @@ use Rattle.quota_types.specs.declared.record.Rec.{Rec}
 use Rattle.quota_types.specs.Times.{StandsIn, times}
 use Rattle.quota_types.proofs.TimesLemmas.{only_one, stands_right, times-cons-same}
 use Rattle.file_blocks.specs.Block.{block_of}
-use Rattle.quota_blocks.specs.QuotaValue.{Records}
+use Rattle.quota_value.specs.QuotaValue.{Records}
 use Rattle.quota_radix.specs.Descent.{leaf_block}
 use Rattle.quota_radix.specs.Tree.{blocks_of, ids_at, leaves}
 use Rattle.quota_radix.specs.declared.tree_path.TreePath.{TreePath}

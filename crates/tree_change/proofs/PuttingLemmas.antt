@@ -10,7 +10,7 @@ use Rattle.quota_types.specs.declared.damage.DamageKind.TheVariants.{RefOut}
 use Rattle.quota_types.specs.declared.file_kind.Format.{Format}
 use Rattle.quota_types.specs.declared.record.Rec.{Rec}
 use Rattle.file_blocks.specs.Block.{block_of}
-use Rattle.quota_blocks.specs.QuotaValue.{Records}
+use Rattle.quota_value.specs.QuotaValue.{Records}
 use Rattle.quota_radix.specs.Descent.{leaf_block}
 use Rattle.quota_radix.specs.Lookup.{IsWayFault, IsWayFaultOf}
 use Rattle.quota_radix.specs.TreeDefect.{IsRefOut}

@@ -12,7 +12,7 @@ use Rattle.file_blocks.specs.Block.{block_of}
 use Rattle.file_blocks.proofs.LeadsLemmas.{leads_within}
 use Rattle.entry_codec.specs.Header.{AreOf, HeaderNumbers, header_of}
 use Rattle.entry_codec.specs.declared.header.Header.{Header}
-use Rattle.quota_blocks.specs.QuotaValue.{QuotaValue, Records}
+use Rattle.quota_value.specs.QuotaValue.{QuotaValue, Records}
 use Rattle.quota_pages.specs.Used.{KeepsBlocksBut}
 use Rattle.quota_radix.specs.Tree.{blocks_of, data_blocks, tree_blocks}
 use Rattle.free_chains.specs.Chain.{IsChain}

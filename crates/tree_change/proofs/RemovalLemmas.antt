@@ -8,7 +8,7 @@ use Rattle.quota_types.specs.Span.{KeepsOutside}
 use Rattle.file_blocks.specs.Block.{block_of}
 use Rattle.entry_codec.specs.Header.{AreOf, HeaderNumbers, header_of}
 use Rattle.entry_codec.specs.declared.header.Header.{Header}
-use Rattle.quota_blocks.specs.QuotaValue.{QuotaValue, Records}
+use Rattle.quota_value.specs.QuotaValue.{QuotaValue, Records}
 use Rattle.quota_pages.specs.Used.{KeepsBlocksBut}
 use Rattle.quota_radix.specs.Tree.{data_blocks, tree_blocks}
 use Rattle.quota_radix.specs.Way.{blocks_on_way}

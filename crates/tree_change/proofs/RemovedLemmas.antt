@@ -5,7 +5,7 @@ use Rattle.quota_types.specs.Times.{StandsIn, times}
 use Rattle.quota_types.specs.declared.file_kind.Format.{Format}
 use Rattle.quota_types.proofs.TimesLemmas.{only_one, stands_right, times-append, times-cons-same}
 use Rattle.file_blocks.proofs.LeadsLemmas.{leads_within}
-use Rattle.quota_blocks.specs.QuotaValue.{Records}
+use Rattle.quota_value.specs.QuotaValue.{Records}
 use Rattle.quota_pages.specs.Used.{KeepsBlocksBut}
 use Rattle.quota_radix.specs.Tree.{data_blocks}
 use Rattle.free_chains.specs.EntryList.{EntersList}

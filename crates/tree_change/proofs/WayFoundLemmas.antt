@@ -6,7 +6,7 @@ use Rattle.quota_types.specs.declared.file_kind.Format.{Format}
 use Rattle.quota_types.specs.declared.record.Rec.{Rec}
 use Rattle.entry_codec.specs.Header.{AreOf, header_of}
 use Rattle.entry_codec.specs.declared.header.Header.{Header}
-use Rattle.quota_blocks.specs.QuotaValue.{QuotaValue, Records}
+use Rattle.quota_value.specs.QuotaValue.{QuotaValue, Records}
 use Rattle.quota_radix.specs.Way.{IsOutOnWay, block_on_way, blocks_on_way, digit_on_way}
 use Rattle.quota_radix.proofs.LinkPathLemmas.{last_in_tree}
 use Rattle.free_chains.specs.declared.heads.Heads.{Heads}

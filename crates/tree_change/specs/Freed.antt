@@ -5,7 +5,7 @@ use Rattle.quota_types.specs.Bytes.{byte_at}
 use Rattle.quota_types.specs.Times.{StandsIn, times}
 use Rattle.quota_types.specs.declared.file_kind.Format.{Format}
 use Rattle.file_blocks.specs.Block.{block_of}
-use Rattle.quota_blocks.specs.QuotaValue.{Records}
+use Rattle.quota_value.specs.QuotaValue.{Records}
 use Rattle.quota_radix.specs.Tree.{data_blocks}
 use Rattle.quota_radix.specs.Way.{blocks_on_way}
 use Rattle.free_chains.specs.Chain.{chain_from}

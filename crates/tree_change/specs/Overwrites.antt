@@ -5,7 +5,7 @@ use Rattle.quota_types.specs.Times.{times}
 use Rattle.quota_types.specs.declared.file_kind.Format.{Format}
 use Rattle.quota_types.specs.declared.record.Rec.{Rec}
 use Rattle.file_blocks.specs.Block.{block_of}
-use Rattle.quota_blocks.specs.QuotaValue.{Records}
+use Rattle.quota_value.specs.QuotaValue.{Records}
 use Rattle.quota_radix.specs.Descent.{leaf_block}
 use Rattle.free_chains.specs.declared.heads.Heads.{Heads}
 use Rattle.tree_build.specs.Loose.{loose_of}

@@ -6,7 +6,7 @@ use Rattle.quota_types.specs.Times.{StandsIn, times}
 use Rattle.quota_types.specs.declared.record.Rec.{Rec}
 use Rattle.quota_types.specs.declared.file_kind.Format.{Format}
 use Rattle.file_blocks.specs.Block.{block_of}
-use Rattle.quota_blocks.specs.QuotaValue.{QuotaValue, Records, with_record}
+use Rattle.quota_value.specs.QuotaValue.{QuotaValue, Records, with_record}
 use Rattle.entry_codec.specs.Header.{header_of}
 use Rattle.quota_pages.specs.Page.{Page, is_lent, lent_count}
 use Rattle.quota_pages.specs.Pages.{pages_of}

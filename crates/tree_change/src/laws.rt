@@ -3,7 +3,7 @@
 ghost use Rattle.std.specs.Prelude.{◌≡◌, ◌<◌, ◌≤◌, ◌^◌, ℕ, List, [], length, slice_index, Option, None, Some, IsSome};
 ghost use Rattle.std.specs.FinMap.{get};
 ghost use Rattle.quota_types.specs.declared.file_kind.Format.{Format};
-ghost use Rattle.quota_blocks.specs.QuotaValue.{Records};
+ghost use Rattle.quota_value.specs.QuotaValue.{Records};
 ghost use Rattle.quota_radix.specs.Way.{blocks_on_way};
 ghost use Rattle.quota_radix.specs.declared.tree_path.TreePath.{TreePath};
 ghost use Rattle.free_chains.specs.declared.heads.Heads.{Heads};

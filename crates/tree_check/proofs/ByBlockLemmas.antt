@@ -15,7 +15,7 @@ use Rattle.quota_radix.specs.Tree.{ids_at, numbers_of}
 use Rattle.tree_build.specs.Compared.{IsDataDefect, leading_ids}
 use Rattle.quota_types.specs.declared.damage.Damage.{Damage}
 use Rattle.quota_types.specs.declared.file_kind.Format.{Format}
-use Rattle.quota_blocks.specs.CheckFault.{IsCheckFault}
+use Rattle.file_blocks.specs.CheckFault.{IsCheckFault}
 use Rattle.file_blocks.specs.declared.check_fault.CheckFault.{CheckFault}
 use Rattle.file_blocks.specs.declared.check_fault.CheckFault.TheVariants.{Store, Damage as Damaged, Memory}
 use Rattle.tree_check.specs.Groups.{AreByBlock, AreGroupsOf, AreLeftFrom, groups_of}

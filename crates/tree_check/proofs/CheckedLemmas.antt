@@ -4,14 +4,14 @@ use Rattle.std.specs.Prelude.{IfErr, IsSome}
 use Rattle.std.specs.Option.{option_map}
 use Rattle.entry_codec.specs.Header.{AreOf, header_of}
 use Rattle.entry_codec.specs.declared.header.Header.{Header}
-use Rattle.quota_blocks.specs.QuotaValue.{QuotaValue}
+use Rattle.quota_value.specs.QuotaValue.{QuotaValue}
 use Rattle.quota_types.specs.declared.damage.Damage.{Damage}
 use Rattle.quota_types.specs.declared.file_kind.Format.{Format}
 use Rattle.file_blocks.specs.declared.check_fault.CheckFault.{CheckFault}
 use Rattle.file_blocks.specs.declared.check_fault.CheckFault.TheVariants.{Store, Damage as Damaged, Memory}
 use Rattle.tree_check.specs.declared.roles.Roles.{Roles}
 use Rattle.free_chains.specs.Chain.{IsChain}
-use Rattle.quota_blocks.specs.CheckFault.{IsCheckFault}
+use Rattle.file_blocks.specs.CheckFault.{IsCheckFault}
 use Rattle.tree_check.specs.Check.{IsChecked}
 use Rattle.tree_build.specs.Defect.{IsTreeDefect}
 use Rattle.tree_check.specs.Found.{AreRoles, IsLengthDefect, IsListedDefect, IsRoleDefect}

@@ -7,8 +7,8 @@ use Rattle.std.proofs.lemmas.List.Elements.{filter-append}
 use Rattle.std.specs.List.{last_or, range_with_len}
 use Rattle.quota_types.specs.declared.file_kind.Format.{Format}
 use Rattle.free_chains.specs.declared.link.Link.{Link}
-use Rattle.quota_blocks.specs.Block.{block_of}
-use Rattle.quota_blocks.specs.BlockSet.{AreFlagsOf}
+use Rattle.file_blocks.specs.Block.{block_of}
+use Rattle.file_blocks.specs.BlockSet.{AreFlagsOf}
 use Rattle.tree_build.specs.Compared.{HasEntriesOf, leading_ids, is_room, rooms}
 use Rattle.tree_build.specs.Entries.{has_unused}
 use Rattle.quota_types.specs.Times.{StandsIn, times}

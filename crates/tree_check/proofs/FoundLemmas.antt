@@ -13,9 +13,9 @@ use Rattle.file_blocks.specs.declared.check_fault.CheckFault.{CheckFault}
 use Rattle.file_blocks.specs.declared.check_fault.CheckFault.TheVariants.{Store, Damage as Damaged, Memory}
 use Rattle.free_chains.specs.declared.link.Link.{Link}
 use Rattle.quota_radix.specs.declared.tree_path.TreePath.{TreePath}
-use Rattle.quota_blocks.specs.Block.{block_of, previous_of, bytes_of, leads}
+use Rattle.file_blocks.specs.Block.{block_of, previous_of, bytes_of, leads}
 use Rattle.free_chains.specs.Chain.{IsChain}
-use Rattle.quota_blocks.specs.CheckFault.{IsCheckFault}
+use Rattle.file_blocks.specs.CheckFault.{IsCheckFault}
 use Rattle.tree_build.specs.Compared.{AreEntriesOf, HasEntriesOf, IsDataDefect, IsEntryDefect, leading_ids, is_room, rooms}
 use Rattle.quota_types.specs.Times.{StandsIn, times}
 use Rattle.tree_build.specs.Defect.{IsDefectOf, IsTreeDefect}

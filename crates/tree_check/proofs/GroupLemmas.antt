@@ -7,7 +7,7 @@ use Rattle.std.proofs.lemmas.List.Elements.{filter-append}
 use Rattle.std.proofs.lemmas.Bool.{eqb-false, eqb-true, le-leb, lt-leb}
 use Rattle.std.proofs.lemmas.Bool.Decides.{eqb_tells}
 use Rattle.quota_radix.specs.declared.tree_path.TreePath.{TreePath}
-use Rattle.quota_blocks.specs.BlockSet.{AreFlagsOf}
+use Rattle.file_blocks.specs.BlockSet.{AreFlagsOf}
 use Rattle.quota_types.specs.Times.{StandsIn, StandsTwiceIn, times}
 use Rattle.tree_check.specs.Groups.{named_blocks}
 use Rattle.quota_radix.specs.Tree.{blocks_of, ids_at}

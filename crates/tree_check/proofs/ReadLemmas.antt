@@ -6,7 +6,7 @@ use Rattle.std.proofs.lemmas.List.Filters.{length-filter_more}
 use Rattle.std.specs.List.{count_by, range_with_len}
 use Rattle.free_chains.specs.declared.link.Link.{Link}
 use Rattle.quota_radix.specs.declared.tree_path.TreePath.{TreePath}
-use Rattle.quota_blocks.specs.BlockSet.{AreFlagsOf}
+use Rattle.file_blocks.specs.BlockSet.{AreFlagsOf}
 use Rattle.quota_types.specs.Times.{times}
 use Rattle.tree_check.specs.Groups.{AreGroupsOf, named_blocks}
 use Rattle.quota_radix.specs.Tree.{blocks_of, ids_at}

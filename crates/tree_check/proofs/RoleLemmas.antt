@@ -10,9 +10,9 @@ use Rattle.file_blocks.specs.declared.check_fault.CheckFault.{CheckFault}
 use Rattle.file_blocks.specs.declared.check_fault.CheckFault.TheVariants.{Store, Damage as Damaged, Memory}
 use Rattle.free_chains.specs.declared.link.Link.{Link}
 use Rattle.quota_radix.specs.declared.tree_path.TreePath.{TreePath}
-use Rattle.quota_blocks.specs.BlockSet.{AreFlagsOf}
+use Rattle.file_blocks.specs.BlockSet.{AreFlagsOf}
 use Rattle.free_chains.specs.Chain.{IsChain}
-use Rattle.quota_blocks.specs.CheckFault.{IsCheckFault}
+use Rattle.file_blocks.specs.CheckFault.{IsCheckFault}
 use Rattle.quota_types.specs.Times.{StandsIn, times}
 use Rattle.tree_build.specs.Defect.{IsDefectOf, IsTreeDefect}
 use Rattle.quota_types.specs.Damage.{NamesItsId}
@@ -25,7 +25,7 @@ use Rattle.quota_radix.specs.Levels.{AreTreeBlocksWhole, IsSecondRole, IsTreeFau
 use Rattle.tree_build.specs.Loose.{nothing_loose}
 use Rattle.tree_build.specs.Roles.{OneRole, roles}
 use Rattle.quota_radix.specs.Tree.{data_blocks, ids_at, leaves, lower_blocks, tree_blocks}
-use Rattle.quota_blocks.specs.Block.{leads, bytes_of}
+use Rattle.file_blocks.specs.Block.{leads, bytes_of}
 use Rattle.free_chains.specs.Walk.{linked_blocks, AreLinksTo, IsWalk}
 use Rattle.file_blocks.proofs.LeadsLemmas.{leads_within}
 use Rattle.free_chains.proofs.ChainLemmas.{some_chain}

@@ -1,7 +1,7 @@
 -- What a check of a tree file answers.
 use Rattle.std.specs.Prelude.{◌≡◌, ℕ, List, length}
 use Rattle.std.specs.FinMap.{len}
-use Rattle.quota_blocks.specs.QuotaValue.{QuotaValue}
+use Rattle.quota_value.specs.QuotaValue.{QuotaValue}
 use Rattle.entry_codec.specs.Header.{header_of}
 use Rattle.tree_check.specs.declared.checked.Checked.{Checked}
 use Rattle.free_chains.specs.Chain.{IsChain}

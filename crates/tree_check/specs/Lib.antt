@@ -3,17 +3,3 @@ pub mod EntryList
 pub mod Found
 pub mod Groups
 pub mod Reads
-pub use Rattle.quota_types.specs.Damage
-pub use Rattle.quota_types.specs.Format
-pub use Rattle.quota_types.specs.Times
-pub use Rattle.quota_blocks.specs.Block
-pub use Rattle.quota_blocks.specs.CheckFault
-pub use Rattle.quota_blocks.specs.Frame
-pub use Rattle.quota_blocks.specs.QuotaValue
-pub use Rattle.quota_blocks.specs.Seen
-pub use Rattle.quota_blocks.specs.World
-pub use Rattle.entry_codec.specs.Header
-pub use Rattle.quota_radix.specs.Tree
-pub use Rattle.free_chains.specs.Chain
-pub use Rattle.tree_build.specs.Defect
-pub use Rattle.tree_build.specs.TreeFile

@@ -1,12 +1,13 @@
 ghost use Rattle.std.specs.Prelude.{◌≡◌, ◌≢◌, ◌+◌, ◌≤◌, IsTrue, OnOk, IfOk, IfErr, is_ok};
-ghost use Rattle.quota_blocks.specs.Block.{block_of, file_of};
-ghost use Rattle.quota_blocks.specs.CheckFault.{IsCheckFault};
-ghost use Rattle.quota_blocks.specs.Frame.{OnlyReads};
+ghost use Rattle.file_blocks.specs.Block.{block_of, file_of};
+ghost use Rattle.file_blocks.specs.CheckFault.{IsCheckFault};
+ghost use Rattle.outside.specs.Frame.{OnlyReads};
 ghost use Rattle.quota_types.specs.Format.{IsTreeFormat};
 ghost use Rattle.tree_build.specs.Compared.{AreEntriesOf, IsEntryDefectAt};
 ghost use Rattle.tree_build.specs.Entries.{has_unused, stated_count, used_ids};
 
-use quota_blocks::{BLOCK, CheckFault, Store, read_block};
+use file_blocks::{BLOCK, CheckFault, read_block};
+use outside::Store;
 use quota_types::Format;
 use tree_build::compare_entries;
 

@@ -1,8 +1,8 @@
 ghost use Rattle.std.specs.Prelude.{◌≡◌, ◌≢◌, ℕ, List, ◌+◌, ◌<◌, ◌≤◌, ◌++◌, ◌∷◌, [], ◌&&◌, nat_le, if◌then◌else◌, map, take, length, IsTrue, IfOk, OnOk, IfErr, MatchOption, is_ok};
-ghost use Rattle.quota_blocks.specs.Frame.{OnlyReads};
-ghost use Rattle.quota_blocks.specs.Block.{block_of, file_of};
-ghost use Rattle.quota_blocks.specs.BlockSet.{AreFlagsOf};
-ghost use Rattle.quota_blocks.specs.CheckFault.{IsCheckFault};
+ghost use Rattle.outside.specs.Frame.{OnlyReads};
+ghost use Rattle.file_blocks.specs.Block.{block_of, file_of};
+ghost use Rattle.file_blocks.specs.BlockSet.{AreFlagsOf};
+ghost use Rattle.file_blocks.specs.CheckFault.{IsCheckFault};
 ghost use Rattle.tree_build.specs.Compared.{AreEntriesOf, HasEntriesOf, IsDataDefect, IsEntryDefectAt, leading_ids, rooms};
 ghost use Rattle.quota_types.specs.Format.{IsTreeFormat};
 ghost use Rattle.quota_types.specs.Times.{StandsIn, times};
@@ -15,8 +15,9 @@ ghost use Rattle.free_chains.specs.Walk.{IsWalk, linked_blocks, previous_in};
 
 use crate::block_check::check_block;
 use crate::groups::{list_numbers, part};
+use file_blocks::{BLOCK, BlockSet, CheckFault};
 use free_chains::{Link, Walk};
-use quota_blocks::{BLOCK, BlockSet, CheckFault, Store};
+use outside::Store;
 use quota_radix::TreePath;
 use quota_types::{Damage, DamageKind, Format, damage_at};
 use std::alloc::Global;

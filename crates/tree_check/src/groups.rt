@@ -1,12 +1,12 @@
 ghost use Rattle.std.specs.Prelude.{◌≡◌, ◌≢◌, ◌+◌, ◌<◌, ◌≤◌, ◌++◌, ℕ, All, List, length, slice_index_or, take, OnOk, IfErr};
 ghost use Rattle.quota_radix.specs.declared.tree_path.TreePath.{TreePath};
-ghost use Rattle.quota_blocks.specs.BlockSet.{AreFlagsOf};
+ghost use Rattle.file_blocks.specs.BlockSet.{AreFlagsOf};
 ghost use Rattle.tree_check.specs.Groups.{AreByBlock, AreGroupsOf, AreLeftFrom, groups_of, named_blocks};
 ghost use Rattle.quota_radix.specs.Levels.{IsSecondRole};
 ghost use Rattle.quota_radix.specs.Tree.{ids_at, numbers_of};
 ghost use Rattle.quota_types.specs.Damage.{NamesItsId};
 
-use quota_blocks::BlockSet;
+use file_blocks::BlockSet;
 use quota_radix::TreePath;
 use quota_types::{Damage, DamageKind, damage_at};
 use std::alloc::AllocError;

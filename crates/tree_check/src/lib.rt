@@ -15,4 +15,3 @@ mod roles;
 
 pub use checked::Checked;
 pub use checking::{check, check_length};
-pub use quota_blocks::CheckFault;

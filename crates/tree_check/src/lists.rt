@@ -1,9 +1,9 @@
 ghost use Rattle.std.specs.Prelude.{◌≡◌, ◌≢◌, ◌+◌, ◌≤◌, length, IsTrue, OnOk, IfErr, is_ok};
 ghost use Rattle.quota_types.specs.Format.{IsTreeFormat};
 ghost use Rattle.quota_types.specs.declared.file_kind.Format.TheVariants.{V1};
-ghost use Rattle.quota_blocks.specs.Frame.{OnlyReads};
-ghost use Rattle.quota_blocks.specs.CheckFault.{IsCheckFault};
-ghost use Rattle.quota_blocks.specs.Block.{file_of};
+ghost use Rattle.outside.specs.Frame.{OnlyReads};
+ghost use Rattle.file_blocks.specs.CheckFault.{IsCheckFault};
+ghost use Rattle.file_blocks.specs.Block.{file_of};
 ghost use Rattle.tree_check.specs.Found.{HasNoEmptyBlock, IsListedDefect};
 ghost use Rattle.tree_check.specs.Groups.{AreByBlock, AreGroupsOf, groups_of};
 ghost use Rattle.tree_check.specs.Reads.{led_blocks};
@@ -13,8 +13,9 @@ ghost use Rattle.quota_radix.specs.Tree.{leaves};
 
 use crate::data::{check_data, check_listed};
 use entry_codec::Header;
+use file_blocks::CheckFault;
 use free_chains::walk_chain;
-use quota_blocks::{CheckFault, Store};
+use outside::Store;
 use quota_radix::TreePath;
 use std::alloc::Global;
 

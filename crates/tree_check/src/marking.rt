@@ -1,12 +1,12 @@
 ghost use Rattle.std.specs.Prelude.{◌≡◌, ℕ, List, ◌+◌, ◌<◌, ◌++◌, OnOk, IfErr, MatchOption};
-ghost use Rattle.quota_blocks.specs.BlockSet.{AreFlagsOf};
+ghost use Rattle.file_blocks.specs.BlockSet.{AreFlagsOf};
 ghost use Rattle.quota_types.specs.Times.{StandsIn, times};
 ghost use Rattle.quota_types.specs.Damage.{NamesItsId};
 ghost use Rattle.quota_radix.specs.Levels.{IsSecondRole};
 ghost use Rattle.free_chains.specs.Walk.{linked_blocks};
 
+use file_blocks::BlockSet;
 use free_chains::Link;
-use quota_blocks::BlockSet;
 use quota_types::{Damage, DamageKind, damage_at};
 
 /// Adds the blocks of a list to a set, each of which is to be new.

@@ -1,15 +1,16 @@
 ghost use Rattle.std.specs.Prelude.{◌≡◌, ◌+◌, ◌*◌, ◌≤◌, map, IsTrue, IfOk, IfErr, vec_len, is_ok};
-ghost use Rattle.quota_blocks.specs.Frame.{OnlyReads};
-ghost use Rattle.quota_blocks.specs.CheckFault.{IsCheckFault};
-ghost use Rattle.quota_blocks.specs.Block.{file_of};
+ghost use Rattle.outside.specs.Frame.{OnlyReads};
+ghost use Rattle.file_blocks.specs.CheckFault.{IsCheckFault};
+ghost use Rattle.file_blocks.specs.Block.{file_of};
 ghost use Rattle.tree_check.specs.Found.{AreRoles, IsRoleDefect};
 ghost use Rattle.tree_check.specs.Groups.{AreByBlock, groups_of};
 ghost use Rattle.tree_check.specs.Reads.{led_blocks};
 
 use crate::groups::{mark_data, sort_by_block};
 use crate::marking::{first_without, mark_links};
+use file_blocks::{BlockSet, CheckFault};
 use free_chains::walk_chain;
-use quota_blocks::{BlockSet, CheckFault, Store};
+use outside::Store;
 use quota_radix::{TreePath, find_leaves};
 use quota_types::{DamageKind, damage_at};
 use std::alloc::Global;

@@ -5,8 +5,8 @@ use Rattle.std.specs.FinMap.{get}
 use Rattle.quota_types.specs.Span.{KeepsOutside}
 use Rattle.quota_types.specs.Times.{StandsIn}
 use Rattle.quota_types.specs.declared.record.Rec.{Rec}
-use Rattle.quota_blocks.specs.FileChange.{Put, Remove}
-use Rattle.quota_blocks.specs.QuotaValue.{QuotaValue}
+use Rattle.opened_file.specs.FileChange.{Put, Remove}
+use Rattle.quota_value.specs.QuotaValue.{QuotaValue}
 use Rattle.entry_codec.specs.Header.{AreOf, header_of}
 use Rattle.entry_codec.specs.declared.header.Header.{Header}
 use Rattle.free_chains.specs.declared.heads.Heads.{Heads}

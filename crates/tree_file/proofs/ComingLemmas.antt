@@ -5,8 +5,8 @@ use Rattle.quota_types.specs.Bytes.{number_at}
 use Rattle.quota_types.specs.Kept.{IsKept}
 use Rattle.quota_types.specs.declared.file_kind.Format.{Format}
 use Rattle.quota_types.specs.declared.record.Rec.{Rec}
-use Rattle.quota_blocks.specs.Block.{block_of, leads, word_at}
-use Rattle.quota_blocks.specs.QuotaValue.{IsNextAfter, QuotaValue, Records}
+use Rattle.file_blocks.specs.Block.{block_of, leads, word_at}
+use Rattle.quota_value.specs.QuotaValue.{IsNextAfter, QuotaValue, Records}
 use Rattle.quota_radix.specs.Descent.{block_led_to, leaf_block, leaf_from, led_by}
 use Rattle.quota_radix.specs.LeafAfter.{first_after, leaf_after}
 use Rattle.quota_radix.specs.declared.tree_path.TreePath.{TreePath}

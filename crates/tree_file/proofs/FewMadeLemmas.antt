@@ -1,7 +1,7 @@
 -- What a change of a tree file makes of it has no more blocks than the file may have.
 use Rattle.std.specs.Prelude.{ℕ, ◌≤◌, IsSomeAnd, List, Option, None, Some}
-use Rattle.quota_blocks.specs.FileChange.{FileChange}
-use Rattle.quota_blocks.specs.World.{World}
+use Rattle.opened_file.specs.FileChange.{FileChange}
+use Rattle.outside.specs.World.{World}
 use Rattle.entry_codec.specs.Header.{header_of}
 use Rattle.tree_file.specs.TreeChange.{MakesFew, TreeChanged, TreeMakes}
 

@@ -10,13 +10,12 @@ use Rattle.outside.proofs.WorldLemmas.{KeepsOthers-with_file, with_file-at}
 use Rattle.quota_pages.specs.Flushed.{IsPartlyFlushed, flushed_files}
 use Rattle.quota_pages.specs.Page.{Page, is_some_lent, shown}
 use Rattle.quota_pages.specs.Pages.{name_of, pages_of}
-use Rattle.quota_pages.specs.Used.{Uses, shown_over}
+use Rattle.quota_pages.specs.Used.{IsKnown, Uses, shown_over}
 use Rattle.quota_pages.specs.declared.page_buffer.Pages.{Pages}
 use Rattle.quota_pages.proofs.FlushLemmas.{bytes_flushed}
 use Rattle.entry_codec.specs.Header.{AreOf, header_of}
 use Rattle.entry_codec.specs.declared.header.Header.{Header}
-use Rattle.quota_blocks.specs.QuotaValue.{QuotaValue}
-use Rattle.quota_pages.specs.Used.{IsKnown}
+use Rattle.quota_value.specs.QuotaValue.{QuotaValue}
 use Rattle.tree_build.specs.IsTree.{heads_of}
 use Rattle.tree_build.specs.TreeFile.{TreeStandsFor}
 use Rattle.tree_change.specs.ChangeFault.{IsChangeFault}

@@ -5,23 +5,22 @@ use Rattle.std.proofs.lemmas.Bool.{false≢true}
 use Rattle.file_blocks.specs.Block.{bytes_of}
 use Rattle.outside.specs.Count.{Rose}
 use Rattle.outside.specs.Frame.{IsSynced}
-use Rattle.quota_blocks.specs.EditsOne.{EditsOne}
+use Rattle.opened_file.specs.EditsOne.{EditsOne}
 use Rattle.outside.specs.Seen.{StoreSeen}
-use Rattle.outside.specs.World.{World}
+use Rattle.outside.specs.World.{KeepsOthers, World}
 use Rattle.outside.proofs.WorldLemmas.{KeepsOthers-with_file, with_file-at}
 use Rattle.entry_codec.specs.Header.{header_of}
 use Rattle.entry_codec.specs.declared.header.Header.{Header}
 use Rattle.quota_types.specs.declared.record.Grace.{Grace}
-use Rattle.quota_blocks.specs.Changes.{Changes, FileAt}
-use Rattle.quota_blocks.specs.FileChange.{IsLeft, SetGrace}
-use Rattle.quota_blocks.specs.FileUse.{seen_in}
-use Rattle.quota_blocks.specs.QuotaFile.{CountsRefusal}
-use Rattle.quota_blocks.specs.QuotaValue.{QuotaValue, Records, with_grace}
-use Rattle.quota_blocks.specs.World.{KeepsOthers}
-use Rattle.quota_blocks.specs.declared.file_use.FileUse.{FileUse}
-use Rattle.quota_blocks.specs.declared.quota_file.FileFault.{FileFault}
-use Rattle.quota_blocks.specs.declared.quota_file.FileFault.TheVariants.{Store}
-use Rattle.quota_blocks.proofs.ChangesLemmas.{IsWanted, changes-done, changes-torn}
+use Rattle.opened_file.specs.Changes.{Changes, FileAt}
+use Rattle.opened_file.specs.FileChange.{IsLeft, SetGrace}
+use Rattle.opened_file.specs.FileUse.{seen_in}
+use Rattle.opened_file.specs.QuotaFile.{CountsRefusal}
+use Rattle.quota_value.specs.QuotaValue.{QuotaValue, Records, with_grace}
+use Rattle.opened_file.specs.declared.file_use.FileUse.{FileUse}
+use Rattle.opened_file.specs.declared.quota_file.FileFault.{FileFault}
+use Rattle.opened_file.specs.declared.quota_file.FileFault.TheVariants.{Store}
+use Rattle.opened_file.proofs.ChangesLemmas.{IsWanted, changes-done, changes-torn}
 use Rattle.quota_pages.specs.Flushed.{IsPartlyFlushed, flushed_files}
 use Rattle.quota_pages.specs.Page.{IsClean, Page, is_lent, shown}
 use Rattle.quota_pages.specs.Pages.{name_of, pages_of}

@@ -5,16 +5,17 @@ use Rattle.std.proofs.lemmas.List.{ext_get_or, get_or-drop, get_or-take, get_or_
 use Rattle.std.proofs.Math.Seq.{get_or-append_right}
 use Rattle.quota_types.specs.Bytes.{byte_at, number_at}
 use Rattle.quota_types.specs.declared.record.Grace.{Grace}
-use Rattle.quota_blocks.specs.QuotaValue.{QuotaValue, with_grace}
-use Rattle.quota_blocks.specs.Span.{KeepsOutside}
+use Rattle.quota_value.specs.QuotaValue.{QuotaValue, with_grace}
+use Rattle.quota_types.specs.Span.{KeepsOutside}
 use Rattle.entry_codec.specs.declared.header.Header.{Header}
 use Rattle.entry_codec.specs.Header.{AreOf, format_of, header_of}
-use Rattle.quota_blocks.specs.Block.{block_of}
+use Rattle.file_blocks.specs.Block.{block_of}
 use Rattle.tree_file.specs.TreeChange.{IsGraced}
 use Rattle.tree_build.specs.TreeFile.{TreeStandsFor}
 use Rattle.quota_pages.specs.Overlay.{with_block}
 use Rattle.quota_pages.proofs.BlockLemmas.{byte_at-with_block_behind, byte_at-with_block_inside, length-with_block}
-use Rattle.file_blocks.proofs.WordLemmas.{byte_at-block_of, length-block_of, number_same}
+use Rattle.file_blocks.proofs.WordLemmas.{byte_at-block_of, length-block_of}
+use Rattle.quota_types.proofs.BytesLemmas.{number_same}
 use Rattle.tree_file.proofs.HeaderKeptLemmas.{KeepsHeader, stands_kept}
 
 before : (old new : List ℕ) (at : ℕ) → KeepsOutside 8 16 old new → at + 4 ≤ 8 → number_at 4 new at ≡ number_at 4 old at

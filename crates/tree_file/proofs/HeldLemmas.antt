@@ -1,7 +1,7 @@
 -- What an opened tree file holds is what the named file stands for, which has the header that is kept.
 use Rattle.std.proofs.Common.{◌≡◌, ℕ, Bool, List, Option, Some, sym, ap, subst}
 use Rattle.file_blocks.specs.Block.{bytes_of}
-use Rattle.quota_blocks.specs.QuotaValue.{QuotaValue}
+use Rattle.quota_value.specs.QuotaValue.{QuotaValue}
 use Rattle.entry_codec.specs.Header.{AreOf, header_of}
 use Rattle.entry_codec.specs.declared.header.Header.{Header}
 use Rattle.tree_build.specs.TreeFile.{TreeStandsFor}

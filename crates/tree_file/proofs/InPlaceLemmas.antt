@@ -5,21 +5,21 @@ use Rattle.std.proofs.lemmas.Bool.{false≢true}
 use Rattle.quota_types.specs.declared.file_kind.Format.{Format}
 use Rattle.quota_types.specs.declared.record.Grace.{Grace}
 use Rattle.outside.specs.Frame.{IsSynced}
-use Rattle.quota_blocks.specs.EditsOne.{EditsOne}
+use Rattle.opened_file.specs.EditsOne.{EditsOne}
 use Rattle.outside.specs.Seen.{StoreSeen}
 use Rattle.outside.specs.World.{World}
 use Rattle.file_blocks.specs.Block.{bytes_of}
 use Rattle.free_chains.specs.declared.heads.Heads.{Heads}
 use Rattle.entry_codec.specs.Header.{AreOf, header_of, magic_of}
 use Rattle.entry_codec.specs.declared.header.Header.{Header}
-use Rattle.quota_blocks.specs.Changes.{Changes, FileAt, LacksRoomFor}
-use Rattle.quota_blocks.specs.FileChange.{FileChange, changed_value, edit_by, has_nothing_to_do}
-use Rattle.quota_blocks.specs.FileUse.{seen_in}
-use Rattle.quota_blocks.specs.QuotaFile.{CountsRefusal, is_store_fault}
-use Rattle.quota_blocks.specs.QuotaValue.{QuotaValue, Records}
-use Rattle.quota_blocks.specs.declared.file_use.FileUse.{FileUse}
-use Rattle.quota_blocks.specs.declared.quota_file.FileFault.{FileFault}
-use Rattle.quota_blocks.proofs.ChangesLemmas.{IsBounded, IsWanted, changes-done, changes-refused, changes-torn, changes-unwritten}
+use Rattle.opened_file.specs.Changes.{Changes, FileAt, LacksRoomFor}
+use Rattle.opened_file.specs.FileChange.{FileChange, changed_value, edit_by, has_nothing_to_do}
+use Rattle.opened_file.specs.FileUse.{seen_in}
+use Rattle.opened_file.specs.QuotaFile.{CountsRefusal, is_store_fault}
+use Rattle.quota_value.specs.QuotaValue.{QuotaValue, Records}
+use Rattle.opened_file.specs.declared.file_use.FileUse.{FileUse}
+use Rattle.opened_file.specs.declared.quota_file.FileFault.{FileFault}
+use Rattle.opened_file.proofs.ChangesLemmas.{IsBounded, IsWanted, changes-done, changes-refused, changes-torn, changes-unwritten}
 use Rattle.tree_build.specs.IsTree.{heads_of}
 use Rattle.tree_build.specs.Size.{ids_in}
 use Rattle.tree_build.specs.TreeFile.{TreeStandsFor}

@@ -5,12 +5,12 @@ use Rattle.quota_types.specs.declared.file_kind.Format.{Format}
 use Rattle.outside.specs.Frame.{OnlyReads}
 use Rattle.outside.specs.Seen.{StoreSeen}
 use Rattle.outside.specs.World.{World}
-use Rattle.quota_blocks.specs.Changes.{FileAt}
-use Rattle.quota_blocks.specs.FileUse.{seen_in}
-use Rattle.quota_blocks.specs.LooksUp.{LooksUp}
-use Rattle.quota_blocks.specs.QuotaFile.{CountsRefusal, IfDamage, IsLookupFault}
-use Rattle.quota_blocks.specs.QuotaValue.{QuotaValue}
-use Rattle.quota_blocks.specs.declared.file_use.FileUse.{FileUse}
+use Rattle.opened_file.specs.Changes.{FileAt}
+use Rattle.opened_file.specs.FileUse.{seen_in}
+use Rattle.opened_file.specs.LooksUp.{LooksUp}
+use Rattle.opened_file.specs.QuotaFile.{CountsRefusal, IfDamage, IsLookupFault}
+use Rattle.quota_value.specs.QuotaValue.{QuotaValue}
+use Rattle.opened_file.specs.declared.file_use.FileUse.{FileUse}
 use Rattle.entry_codec.specs.Header.{AreOf, header_of}
 use Rattle.entry_codec.specs.declared.header.Header.{Header}
 use Rattle.file_blocks.specs.Block.{bytes_of}

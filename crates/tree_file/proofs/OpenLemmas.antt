@@ -6,16 +6,16 @@ use Rattle.std.specs.Option.{IsSomeAnd}
 use Rattle.quota_types.specs.declared.damage.Damage.{Damage}
 use Rattle.quota_types.specs.declared.file_kind.Format.{Format}
 use Rattle.quota_types.specs.declared.file_kind.Kind.{Kind}
-use Rattle.quota_blocks.specs.QuotaValue.{QuotaValue, Records}
-use Rattle.quota_blocks.specs.declared.quota_file.OpenFault.{OpenFault}
-use Rattle.quota_blocks.specs.declared.quota_file.OpenFault.TheVariants.{Store, NoFile, TooLarge, Memory, NotQuota, WrongKind, UnknownVersion, BadBlockCount, FormatMismatch, Damage as Damaged}
+use Rattle.quota_value.specs.QuotaValue.{QuotaValue, Records}
+use Rattle.opened_file.specs.declared.quota_file.OpenFault.{OpenFault}
+use Rattle.opened_file.specs.declared.quota_file.OpenFault.TheVariants.{Store, NoFile, TooLarge, Memory, NotQuota, WrongKind, UnknownVersion, BadBlockCount, FormatMismatch, Damage as Damaged}
 use Rattle.entry_codec.specs.Header.{AreOf, HeaderNumbers, header_of}
 use Rattle.entry_codec.specs.declared.header.Header.{Header}
 use Rattle.file_blocks.specs.declared.check_fault.CheckFault.{CheckFault}
 use Rattle.file_blocks.specs.declared.check_fault.CheckFault.TheVariants.{Store as CheckStore, Damage as CheckDamage, Memory as CheckMemory}
-use Rattle.quota_blocks.specs.CheckFault.{IsCheckFault}
-use Rattle.quota_blocks.specs.Opening.{open_fault}
-use Rattle.quota_blocks.specs.Block.{block_of, bytes_of}
+use Rattle.file_blocks.specs.CheckFault.{IsCheckFault}
+use Rattle.opened_file.specs.Opening.{open_fault}
+use Rattle.file_blocks.specs.Block.{block_of, bytes_of}
 use Rattle.tree_build.specs.Defect.{IsTreeDefect}
 use Rattle.tree_check.specs.Check.{IsChecked}
 use Rattle.tree_check.specs.declared.checked.Checked.{Checked}

@@ -7,10 +7,10 @@ use Rattle.outside.specs.Seen.{StoreSeen}
 use Rattle.file_blocks.specs.Block.{bytes_of}
 use Rattle.entry_codec.specs.Header.{AreOf, header_of}
 use Rattle.entry_codec.specs.declared.header.Header.{Header}
-use Rattle.quota_blocks.specs.Changes.{LacksRoomFor}
-use Rattle.quota_blocks.specs.FileChange.{Put, changed_value, edit_by}
-use Rattle.quota_blocks.specs.QuotaValue.{QuotaValue}
-use Rattle.quota_blocks.specs.declared.file_use.FileUse.{FileUse}
+use Rattle.opened_file.specs.Changes.{LacksRoomFor}
+use Rattle.opened_file.specs.FileChange.{Put, changed_value, edit_by}
+use Rattle.quota_value.specs.QuotaValue.{QuotaValue}
+use Rattle.opened_file.specs.declared.file_use.FileUse.{FileUse}
 use Rattle.tree_build.specs.IsTree.{heads_of}
 use Rattle.tree_build.specs.Size.{ids_in}
 use Rattle.tree_build.specs.TreeFile.{TreeStandsFor}

@@ -13,13 +13,13 @@ use Rattle.file_blocks.specs.Block.{bytes_of}
 use Rattle.free_chains.specs.declared.heads.Heads.{Heads}
 use Rattle.entry_codec.specs.Header.{AreOf, header_of}
 use Rattle.entry_codec.specs.declared.header.Header.{Header}
-use Rattle.quota_blocks.specs.Changes.{Changes}
-use Rattle.quota_blocks.specs.FileChange.{Remove}
-use Rattle.quota_blocks.specs.FileUse.{seen_in}
-use Rattle.quota_blocks.specs.QuotaFile.{IfFull}
-use Rattle.quota_blocks.specs.QuotaValue.{QuotaValue, Records, without_record}
-use Rattle.quota_blocks.specs.declared.file_use.FileUse.{FileUse}
-use Rattle.quota_blocks.proofs.ChangesLemmas.{changes-idle}
+use Rattle.opened_file.specs.Changes.{Changes}
+use Rattle.opened_file.specs.FileChange.{Remove}
+use Rattle.opened_file.specs.FileUse.{seen_in}
+use Rattle.opened_file.specs.QuotaFile.{IfFull}
+use Rattle.quota_value.specs.QuotaValue.{QuotaValue, Records, without_record}
+use Rattle.opened_file.specs.declared.file_use.FileUse.{FileUse}
+use Rattle.opened_file.proofs.ChangesLemmas.{changes-idle}
 use Rattle.tree_build.specs.TreeFile.{TreeStandsFor}
 use Rattle.tree_change.specs.ChangeFault.{IsChangeFault}
 use Rattle.tree_change.specs.declared.change_fault.ChangeFault.{ChangeFault}

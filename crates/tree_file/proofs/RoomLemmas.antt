@@ -12,8 +12,8 @@ use Rattle.quota_types.specs.declared.file_kind.Format.{Format}
 use Rattle.quota_types.specs.declared.file_kind.Format.TheVariants.{V1, V2R0, V2R1}
 use Rattle.quota_types.specs.declared.record.Rec.{Rec}
 use Rattle.quota_types.proofs.TimesLemmas.{stands_right, times-cons-same, times_cases}
-use Rattle.quota_blocks.specs.Block.{block_of}
-use Rattle.quota_blocks.specs.QuotaValue.{QuotaValue, Records}
+use Rattle.file_blocks.specs.Block.{block_of}
+use Rattle.quota_value.specs.QuotaValue.{QuotaValue, Records}
 use Rattle.entry_codec.specs.Header.{format_of, header_of}
 use Rattle.quota_radix.specs.declared.tree_path.TreePath.{TreePath}
 use Rattle.quota_radix.specs.Tree.{leaves, numbers_of}

@@ -6,7 +6,7 @@ use Rattle.std.specs.List.{AllByRecursion, filter, flat_map, range_with_len}
 use Rattle.quota_types.specs.Bytes.{number_at}
 use Rattle.quota_types.specs.declared.file_kind.Format.{Format}
 use Rattle.quota_radix.specs.declared.tree_path.TreePath.{TreePath}
-use Rattle.quota_blocks.specs.Block.{block_of, next_of, previous_of, leads}
+use Rattle.file_blocks.specs.Block.{block_of, next_of, previous_of, leads}
 use Rattle.free_chains.specs.Chain.{IsChain}
 use Rattle.quota_types.specs.Times.{StandsIn, times}
 use Rattle.tree_build.specs.Entries.{has_unused, stated_count, used_ids}

@@ -11,9 +11,9 @@ use Rattle.outside.specs.Frame.{ChangesOne, OnlyReads}
 use Rattle.outside.specs.Seen.{StoreSeen}
 use Rattle.outside.specs.World.{World, with_file}
 use Rattle.outside.proofs.WorldLemmas.{with_file-at}
-use Rattle.quota_blocks.specs.EditsOne.{EditsOne, StaysUnlessWritten}
-use Rattle.quota_blocks.specs.QuotaFile.{ChangesBlocks}
-use Rattle.quota_blocks.proofs.EditsOneLemmas.{edits_one-after_read, edits_one-changed}
+use Rattle.opened_file.specs.EditsOne.{EditsOne, StaysUnlessWritten}
+use Rattle.opened_file.specs.QuotaFile.{ChangesBlocks}
+use Rattle.opened_file.proofs.EditsOneLemmas.{edits_one-after_read, edits_one-changed}
 use Rattle.quota_pages.specs.Flushed.{IsPartlyFlushed, flushed_files}
 use Rattle.quota_pages.specs.Page.{Page, is_lent, is_some_lent, lent_numbers, shown, with_page}
 use Rattle.quota_pages.specs.Pages.{name_of, pages_of}

@@ -5,8 +5,8 @@ use Rattle.quota_types.specs.Kept.{IsKept}
 use Rattle.quota_types.specs.declared.file_kind.Format.{Format}
 use Rattle.quota_types.specs.declared.record.Entry.{Entry}
 use Rattle.quota_types.specs.declared.record.Rec.{Rec}
-use Rattle.quota_blocks.specs.Block.{block_of, leads}
-use Rattle.quota_blocks.specs.QuotaValue.{IsNextAfter, QuotaValue, Records}
+use Rattle.file_blocks.specs.Block.{block_of, leads}
+use Rattle.quota_value.specs.QuotaValue.{IsNextAfter, QuotaValue, Records}
 use Rattle.entry_codec.specs.Header.{AreOf, header_of}
 use Rattle.entry_codec.specs.declared.header.Header.{Header}
 use Rattle.quota_radix.specs.Descent.{block_led_to}

@@ -1,6 +1,6 @@
 -- The faults of what an opened tree file stands on, as its own.
-use Rattle.quota_blocks.specs.declared.quota_file.FileFault.{FileFault}
-use Rattle.quota_blocks.specs.declared.quota_file.FileFault.TheVariants.{Store, Damage, Full}
+use Rattle.opened_file.specs.declared.quota_file.FileFault.{FileFault}
+use Rattle.opened_file.specs.declared.quota_file.FileFault.TheVariants.{Store, Damage, Full}
 use Rattle.tree_change.specs.declared.change_fault.ChangeFault.{ChangeFault}
 use Rattle.tree_change.specs.declared.change_fault.ChangeFault.TheVariants.{Store as NotChanged, Damage as ChangeDamaged, Full as IsFull}
 use Rattle.quota_radix.specs.declared.walk_fault.WalkFault.{WalkFault}

@@ -7,8 +7,8 @@ use Rattle.free_chains.specs.declared.heads.Heads.{Heads}
 use Rattle.outside.specs.Frame.{OnlyReads}
 use Rattle.outside.specs.Seen.{StoreSeen}
 use Rattle.outside.specs.World.{KeepsOthers, World}
-use Rattle.quota_blocks.specs.FileChange.{FileChange, changed_value, has_nothing_to_do}
-use Rattle.quota_blocks.specs.QuotaValue.{QuotaValue}
+use Rattle.opened_file.specs.FileChange.{FileChange, changed_value, has_nothing_to_do}
+use Rattle.quota_value.specs.QuotaValue.{QuotaValue}
 use Rattle.tree_build.specs.IsTree.{heads_of}
 use Rattle.tree_build.specs.Size.{ids_in}
 use Rattle.tree_build.specs.TreeFile.{TreeStandsFor}

@@ -10,7 +10,7 @@ use Rattle.quota_types.specs.declared.record.Rec.{Rec}
 use Rattle.quota_radix.specs.Descent.{leaf_block}
 use Rattle.quota_radix.specs.LeafAfter.{leaf_after}
 use Rattle.quota_radix.specs.declared.tree_path.TreePath.{TreePath}
-use Rattle.quota_blocks.specs.Block.{block_of}
+use Rattle.file_blocks.specs.Block.{block_of}
 use Rattle.tree_build.specs.TreeFile.{record_in}
 
 -- a damage is that the block of a leaf has no entry of its identifier

@@ -5,15 +5,15 @@ use Rattle.quota_types.specs.declared.record.Grace.{Grace}
 use Rattle.quota_types.specs.declared.record.Rec.{Rec}
 use Rattle.quota_types.specs.Bytes.{number_at}
 use Rattle.quota_types.specs.Times.{StandsIn, times}
-use Rattle.quota_blocks.specs.Changes.{FileAt, FileLaws, file_at, laws_of}
-use Rattle.quota_blocks.specs.FileChange.{FileChange, Put, Remove, SetGrace}
-use Rattle.quota_blocks.specs.FileUse.{seen_in}
-use Rattle.quota_blocks.specs.QuotaFile.{FileSeen}
-use Rattle.quota_blocks.specs.QuotaValue.{QuotaValue}
-use Rattle.quota_blocks.specs.Seen.{StoreSeen}
-use Rattle.quota_blocks.specs.Span.{KeepsOutside}
-use Rattle.quota_blocks.specs.World.{KeepsOthers, World}
-use Rattle.quota_blocks.specs.declared.file_use.FileUse.{FileUse}
+use Rattle.opened_file.specs.Changes.{FileAt, FileLaws, file_at, laws_of}
+use Rattle.opened_file.specs.FileChange.{FileChange, Put, Remove, SetGrace}
+use Rattle.opened_file.specs.FileUse.{seen_in}
+use Rattle.opened_file.specs.QuotaFile.{FileSeen}
+use Rattle.quota_value.specs.QuotaValue.{QuotaValue}
+use Rattle.outside.specs.Seen.{StoreSeen}
+use Rattle.quota_types.specs.Span.{KeepsOutside}
+use Rattle.outside.specs.World.{KeepsOthers, World}
+use Rattle.opened_file.specs.declared.file_use.FileUse.{FileUse}
 use Rattle.file_blocks.specs.Block.{block_of, bytes_of}
 use Rattle.entry_codec.specs.Header.{header_of}
 use Rattle.entry_codec.specs.declared.header.Header.{Header}

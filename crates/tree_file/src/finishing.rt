@@ -2,13 +2,13 @@ ghost use Rattle.std.specs.Prelude.{◌≡◌, ◌+◌, ◌≤◌, [], IsTrue, O
 ghost use Rattle.outside.specs.Count.{Rose};
 ghost use Rattle.outside.specs.Frame.{ChangesOne, IsSynced};
 ghost use Rattle.file_blocks.specs.Block.{file_of};
-ghost use Rattle.quota_blocks.specs.EditsOne.{StaysUnlessWritten};
-ghost use Rattle.quota_blocks.specs.QuotaFile.{ChangesBlocks};
+ghost use Rattle.opened_file.specs.EditsOne.{StaysUnlessWritten};
+ghost use Rattle.opened_file.specs.QuotaFile.{ChangesBlocks};
 ghost use Rattle.quota_pages.specs.Flushed.{IsPartlyFlushed, flushed_files};
 ghost use Rattle.quota_pages.specs.Page.{lent_count};
 ghost use Rattle.quota_pages.specs.Pages.{name_of, pages_of};
 
-use quota_blocks::{Store, StoreFault};
+use outside::{Store, StoreFault};
 use quota_pages::Pages;
 
 /// Writes each block that was lent for writing, and then syncs the file. The buffer is empty then, even where that fails.

@@ -1,11 +1,11 @@
 ghost use Rattle.std.specs.Prelude.{◌≡◌, ◌+◌, ◌∷◌, ◌^◌, ◌<◌, ◌≤◌, [], length, true, false, IsTrue, OnErr, OnOk};
 ghost use Rattle.outside.specs.Count.{Rose};
 ghost use Rattle.outside.specs.Frame.{IsSynced};
-ghost use Rattle.quota_blocks.specs.EditsOne.{EditsOne};
+ghost use Rattle.opened_file.specs.EditsOne.{EditsOne};
 ghost use Rattle.outside.specs.World.{KeepsOthers};
 ghost use Rattle.file_blocks.specs.Block.{file_of};
-ghost use Rattle.quota_blocks.specs.QuotaFile.{ChangesBlocks};
-ghost use Rattle.quota_blocks.specs.Span.{KeepsOutside};
+ghost use Rattle.opened_file.specs.QuotaFile.{ChangesBlocks};
+ghost use Rattle.quota_types.specs.Span.{KeepsOutside};
 ghost use Rattle.quota_pages.specs.Page.{is_lent};
 ghost use Rattle.quota_pages.specs.Pages.{name_of, pages_of};
 ghost use Rattle.quota_pages.specs.Used.{IsKnown, LendsSome, LooksAtSome, shown_over};
@@ -14,7 +14,8 @@ ghost use Rattle.tree_file.specs.GraceChange.{GracesFile, IsGraceLeft};
 ghost use Rattle.tree_file.specs.TreeChange.{IsGraced};
 
 use crate::finishing::finish;
-use quota_blocks::{Store, StoreFault, set_le32};
+use file_blocks::set_le32;
+use outside::{Store, StoreFault};
 use quota_pages::Pages;
 use quota_types::Grace;
 

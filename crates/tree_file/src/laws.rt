@@ -5,17 +5,12 @@ ghost use Rattle.quota_types.specs.Span.{KeepsOutside};
 ghost use Rattle.quota_types.specs.declared.record.Grace.{Grace};
 ghost use Rattle.entry_codec.specs.Header.{header_of};
 ghost use Rattle.entry_codec.specs.declared.header.Header.{Header};
-ghost use Rattle.quota_blocks.specs.QuotaFile.{FileSeen};
-ghost use Rattle.quota_blocks.specs.QuotaValue.{QuotaValue};
+ghost use Rattle.opened_file.specs.QuotaFile.{FileSeen};
+ghost use Rattle.quota_value.specs.QuotaValue.{QuotaValue};
 ghost use Rattle.tree_change.specs.Behind.{KeepsBehind};
 ghost use Rattle.tree_file.specs.Opened.{HoldsTree, LacksRoom};
 ghost use Rattle.tree_file.specs.TreeChange.{IsGraced, IsTorn, PutsInPlace, RemovesInPlace};
 ghost use Rattle.tree_file.specs.declared.coming.Coming.{Coming};
-
-pub use tree_build::laws::{
-    a_file_has_a_meaning_where_nothing_is_wrong, a_file_has_one_meaning,
-    an_entry_is_what_its_bytes_spell, some_sizes,
-};
 
 /// A file that holds a value never lacks room for that value.
 pub fn a_file_has_room_for_its_value()

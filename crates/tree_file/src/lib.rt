@@ -15,7 +15,8 @@ mod opening;
 
 pub use opened_tree::TreeFile;
 pub use opening::open_tree;
-pub use quota_blocks::CheckFault;
-pub use quota_radix::TreePath;
+
+// The check and the building of a tree file are calls of this crate, though they stand below it.
+pub use file_blocks::CheckFault;
 pub use tree_build::{BuildFault, build};
 pub use tree_check::{Checked, check};

@@ -2,7 +2,8 @@ ghost use Rattle.std.specs.Prelude.{◌≡◌, ◌+◌, ◌^◌, ◌<◌, ◌≤
 ghost use Rattle.std.specs.FinMap.{get};
 ghost use Rattle.entry_codec.specs.Header.{AreOf, header_of};
 ghost use Rattle.file_blocks.specs.Block.{block_of};
-ghost use Rattle.quota_blocks.specs.QuotaValue.{IsAfter, IsNextAfter, QuotaValue};
+ghost use Rattle.quota_types.specs.Ids.{IsAfter};
+ghost use Rattle.quota_value.specs.QuotaValue.{IsNextAfter, QuotaValue};
 ghost use Rattle.quota_pages.specs.Page.{is_buffered};
 ghost use Rattle.quota_pages.specs.Pages.{HoldsAsBuffered, pages_of};
 ghost use Rattle.quota_pages.specs.Used.{IsKnown, LooksAtSome, shown_over};
@@ -16,7 +17,7 @@ ghost use Rattle.tree_file.specs.Leaf.{IsLeafFault, entry_led_to, record_led_to}
 
 use crate::coming::Coming;
 use entry_codec::Header;
-use quota_blocks::Store;
+use outside::Store;
 use quota_pages::Pages;
 use quota_radix::{TreePath, WalkFault, leaf, next_leaf};
 use quota_types::{Damage, DamageKind, Entry, Format, Rec};

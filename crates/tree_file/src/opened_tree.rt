@@ -1,7 +1,7 @@
 ghost use Rattle.std.specs.Prelude.{◌≡◌, ◌^◌, ◌<◌, ◌≤◌, Bool, List, ℕ, Option, [], None};
 ghost use Rattle.quota_types.specs.Format.{IsTreeFormat};
 ghost use Rattle.quota_types.specs.Range.{grace_unfit};
-ghost use Rattle.quota_blocks.specs.QuotaValue.{QuotaValue, Records};
+ghost use Rattle.quota_value.specs.QuotaValue.{QuotaValue, Records};
 ghost use Rattle.quota_pages.specs.Pages.{name_of, pages_of};
 ghost use Rattle.tree_file.specs.Coming.{FitsComing, HoldsComing, fits_is_a_fact};
 ghost use Rattle.tree_file.specs.Faults.{file_fault, look_up_fault};
@@ -14,7 +14,8 @@ use crate::in_place::{put_in, remove_in};
 use crate::lookup::{next_record, record_of};
 use entry_codec::Header;
 use free_chains::Heads;
-use quota_blocks::{FileFault, FileUse, QuotaFile, Store};
+use opened_file::{FileFault, FileUse, QuotaFile};
+use outside::Store;
 use quota_pages::Pages;
 use quota_radix::WalkFault;
 use quota_types::{Entry, Format, Grace, Rec};
@@ -90,7 +91,7 @@ fn file_fault(fault: ChangeFault) -> FileFault
 
 impl<S: Store> QuotaFile<S> for TreeFile {
     ghost use Rattle.std.proofs.Common.{le_refl};
-    ghost use Rattle.quota_blocks.specs.FileUse.{seen_in};
+    ghost use Rattle.opened_file.specs.FileUse.{seen_in};
     ghost use Rattle.tree_file.specs.Opened.{HoldsTree, IsNamedDefect, LacksRoom, MayRefuse};
     ghost use Rattle.tree_file.specs.Rests.{held_stands, rests_on_named};
     ghost use Rattle.tree_file.specs.TreeChange.{TreeLeaves, TreeMakes, tree_change_reads, tree_change_writes, tree_done_writes};

@@ -9,8 +9,8 @@ use Rattle.quota_types.specs.declared.record.Entry.{Entry}
 use Rattle.quota_types.specs.declared.record.Rec.{Rec}
 use Rattle.quota_types.specs.Times.{StandsIn, times}
 use Rattle.quota_types.proofs.TimesLemmas.{stands_cons, times-cons-other, times-cons-same, times_cases}
-use Rattle.quota_blocks.specs.Block.{block_of, leads}
-use Rattle.quota_blocks.specs.QuotaValue.{Records}
+use Rattle.file_blocks.specs.Block.{block_of, leads}
+use Rattle.quota_value.specs.QuotaValue.{Records}
 use Rattle.file_blocks.proofs.LeadsLemmas.{leads_from}
 use Rattle.entry_codec.specs.Entry.{entries_per_block}
 use Rattle.free_chains.specs.declared.heads.Heads.{Heads}

@@ -7,10 +7,10 @@ use Rattle.quota_types.specs.Bytes.{number_at}
 use Rattle.quota_types.specs.declared.file_kind.Format.{Format}
 use Rattle.quota_types.specs.Times.{StandsIn, times}
 use Rattle.quota_types.proofs.TimesLemmas.{stands_right}
-use Rattle.quota_blocks.specs.Block.{block_of, previous_of, word_at}
-use Rattle.quota_blocks.specs.QuotaValue.{Records}
-use Rattle.quota_blocks.specs.Span.{KeepsOutside}
-use Rattle.file_blocks.proofs.WordLemmas.{number_same}
+use Rattle.file_blocks.specs.Block.{block_of, previous_of, word_at}
+use Rattle.quota_value.specs.QuotaValue.{Records}
+use Rattle.quota_types.specs.Span.{KeepsOutside}
+use Rattle.quota_types.proofs.BytesLemmas.{number_same}
 use Rattle.quota_pages.specs.Used.{KeepsBlocksBut}
 use Rattle.free_chains.specs.declared.heads.Heads.{Heads}
 use Rattle.free_chains.proofs.SpliceLemmas.{chain-same, named-names, names_named, names_same, none_of_one}

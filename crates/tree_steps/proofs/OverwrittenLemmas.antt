@@ -7,9 +7,9 @@ use Rattle.quota_types.specs.declared.file_kind.Format.{Format}
 use Rattle.quota_types.specs.declared.record.Entry.{Entry}
 use Rattle.quota_types.specs.declared.record.Rec.{Rec}
 use Rattle.quota_types.specs.Times.{StandsIn, times}
-use Rattle.quota_blocks.specs.Block.{block_of}
-use Rattle.quota_blocks.specs.QuotaValue.{Records}
-use Rattle.file_blocks.proofs.WordLemmas.{number_same}
+use Rattle.file_blocks.specs.Block.{block_of}
+use Rattle.quota_value.specs.QuotaValue.{Records}
+use Rattle.quota_types.proofs.BytesLemmas.{number_same}
 use Rattle.free_chains.specs.declared.heads.Heads.{Heads}
 use Rattle.quota_radix.specs.declared.tree_path.TreePath.{TreePath}
 use Rattle.quota_radix.specs.Tree.{blocks_of, ids_at, leaves, tree_blocks}

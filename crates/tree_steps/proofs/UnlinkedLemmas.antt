@@ -7,8 +7,8 @@ use Rattle.quota_types.specs.Bytes.{number_at}
 use Rattle.quota_types.specs.declared.file_kind.Format.{Format}
 use Rattle.quota_types.specs.Times.{StandsIn, times}
 use Rattle.quota_types.proofs.TimesLemmas.{only_one, stands_either, times-append, times-cons-other}
-use Rattle.quota_blocks.specs.Block.{block_of, word_at}
-use Rattle.quota_blocks.specs.QuotaValue.{Records}
+use Rattle.file_blocks.specs.Block.{block_of, word_at}
+use Rattle.quota_value.specs.QuotaValue.{Records}
 use Rattle.quota_pages.specs.Used.{HasWord, KeepsBlocksBut}
 use Rattle.free_chains.specs.declared.heads.Heads.{Heads}
 use Rattle.free_chains.proofs.SpliceLemmas.{chain-stays, names-stay}

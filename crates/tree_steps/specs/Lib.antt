@@ -1,14 +1,1 @@
 pub mod EntrySteps
-pub use Rattle.quota_types.specs.Span
-pub use Rattle.quota_types.specs.Times
-pub use Rattle.file_blocks.specs.Block
-pub use Rattle.quota_blocks.specs.QuotaValue
-pub use Rattle.quota_pages.specs.Used
-pub use Rattle.quota_radix.specs.Tree
-pub use Rattle.quota_radix.specs.Unlink
-pub use Rattle.quota_radix.specs.Way
-pub use Rattle.tree_build.specs.Entries
-pub use Rattle.tree_build.specs.EntryPlaces
-pub use Rattle.tree_build.specs.IsTree
-pub use Rattle.tree_build.specs.Loose
-pub use Rattle.tree_build.specs.Roles

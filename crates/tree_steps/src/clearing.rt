@@ -4,7 +4,7 @@ ghost use Rattle.std.specs.Prelude.{◌≡◌, ℕ, ◌≤◌, ◌≢◌, true, 
 ghost use Rattle.std.specs.FinMap.{remove};
 ghost use Rattle.quota_types.specs.declared.file_kind.Format.{Format};
 ghost use Rattle.file_blocks.specs.Block.{block_of};
-ghost use Rattle.quota_blocks.specs.QuotaValue.{Records};
+ghost use Rattle.quota_value.specs.QuotaValue.{Records};
 ghost use Rattle.free_chains.specs.declared.heads.Heads.{Heads};
 ghost use Rattle.tree_build.specs.Entries.{has_unused, used_ids};
 ghost use Rattle.tree_build.specs.IsTree.{IsTree};

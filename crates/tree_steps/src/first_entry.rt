@@ -5,7 +5,7 @@ ghost use Rattle.std.specs.FinMap.{get, insert};
 ghost use Rattle.quota_types.specs.declared.file_kind.Format.{Format};
 ghost use Rattle.quota_types.specs.declared.record.Rec.{Rec};
 ghost use Rattle.file_blocks.specs.Block.{block_of};
-ghost use Rattle.quota_blocks.specs.QuotaValue.{Records};
+ghost use Rattle.quota_value.specs.QuotaValue.{Records};
 ghost use Rattle.free_chains.specs.declared.heads.Heads.{Heads};
 ghost use Rattle.tree_build.specs.IsTree.{IsTree};
 ghost use Rattle.tree_build.specs.Loose.{loose_of};

@@ -4,7 +4,7 @@ ghost use Rattle.std.specs.Prelude.{◌≡◌, ℕ, ◌^◌, ◌<◌, false, Lis
 ghost use Rattle.quota_types.specs.Times.{StandsIn, times};
 ghost use Rattle.quota_types.specs.declared.file_kind.Format.{Format};
 ghost use Rattle.file_blocks.specs.Block.{block_of};
-ghost use Rattle.quota_blocks.specs.QuotaValue.{Records};
+ghost use Rattle.quota_value.specs.QuotaValue.{Records};
 ghost use Rattle.quota_pages.specs.Used.{KeepsBlocksBut};
 ghost use Rattle.quota_radix.specs.declared.tree_path.TreePath.{TreePath};
 ghost use Rattle.quota_radix.specs.Way.{blocks_on_way};

@@ -2,7 +2,7 @@
 
 ghost use Rattle.std.specs.Prelude.{◌≡◌, ℕ, ◌-◌, ◌^◌, ◌<◌, ◌≤◌, List, [], ◌∷◌, ◌++◌, length, slice_index, None, Some};
 ghost use Rattle.quota_types.specs.declared.file_kind.Format.{Format};
-ghost use Rattle.quota_blocks.specs.QuotaValue.{Records};
+ghost use Rattle.quota_value.specs.QuotaValue.{Records};
 ghost use Rattle.quota_pages.specs.Used.{KeepsBlocksBut};
 ghost use Rattle.quota_radix.specs.Unlink.{ClearsAlong, IsUnlinkable, LosesLeaf};
 ghost use Rattle.quota_radix.specs.Way.{blocks_on_way};

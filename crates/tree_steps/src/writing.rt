@@ -6,7 +6,7 @@ ghost use Rattle.quota_types.specs.Times.{StandsIn};
 ghost use Rattle.quota_types.specs.declared.file_kind.Format.{Format};
 ghost use Rattle.quota_types.specs.declared.record.Rec.{Rec};
 ghost use Rattle.file_blocks.specs.Block.{block_of};
-ghost use Rattle.quota_blocks.specs.QuotaValue.{Records};
+ghost use Rattle.quota_value.specs.QuotaValue.{Records};
 ghost use Rattle.quota_radix.specs.declared.tree_path.TreePath.{TreePath};
 ghost use Rattle.quota_radix.specs.Tree.{leaves};
 ghost use Rattle.free_chains.specs.declared.heads.Heads.{Heads};

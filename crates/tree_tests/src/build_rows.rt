@@ -3,7 +3,8 @@ use quota_types::{Entry, Format, Grace, Kind, Rec};
 use row_files::{holds_entries, ordered, store_of};
 use std::alloc::{AllocError, Global};
 use std::process::Abort;
-use tree_file::{BuildFault, build, open_tree};
+use tree_build::{BuildFault, build};
+use tree_file::open_tree;
 
 /// A week, as the quota tools set it.
 const WEEK: Grace = Grace {

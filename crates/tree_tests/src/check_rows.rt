@@ -1,11 +1,14 @@
 use crate::tree_files::*;
-use quota_blocks::{FileFault, MemStore, OpenFault};
+use file_blocks::CheckFault;
+use memory_objects::MemStore;
+use opened_file::{FileFault, OpenFault};
 use quota_types::DamageKind::{self, *};
 use quota_types::{Damage, Kind};
 use row_files::{get, next_after, store_of};
 use std::alloc::Global;
 use std::process::Abort;
-use tree_file::{CheckFault, Checked, TreeFile, open_tree};
+use tree_check::Checked;
+use tree_file::{TreeFile, open_tree};
 
 /// A file that is checked.
 struct CheckRow {

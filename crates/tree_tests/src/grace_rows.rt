@@ -1,6 +1,7 @@
 use crate::tree_changes::{USED, open_users};
 use crate::tree_files::*;
-use quota_blocks::{FileFault, MemStore, QuotaFile};
+use memory_objects::MemStore;
+use opened_file::{FileFault, QuotaFile};
 use quota_types::{Grace, Rec};
 use row_files::{Act, get, make, store_of};
 use std::alloc::Global;

@@ -1,6 +1,6 @@
 use crate::tree_changes::{LIMITS, USED, open_users};
 use crate::tree_files::*;
-use quota_blocks::MemStore;
+use memory_objects::MemStore;
 use quota_types::{Entry, Rec};
 use row_files::{Act, holds_entries, make, store_of};
 use std::alloc::{AllocError, Global};

@@ -4,9 +4,9 @@
 ghost use Rattle.std.specs.Prelude.{◌≤◌};
 
 use entry_codec::Header;
+use quota_radix::TreePath;
 use quota_types::{Damage, DamageKind, Format};
 use std::alloc::{AllocError, Global};
-use tree_file::TreePath;
 
 /// A file with its header.
 #[derive(Drop)]

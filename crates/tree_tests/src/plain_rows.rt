@@ -1,9 +1,10 @@
 use crate::plain::Plain;
 use crate::tree_files::*;
+use file_blocks::CheckFault;
 use quota_types::Damage;
 use std::alloc::{AllocError, Global};
 use std::process::Abort;
-use tree_file::{CheckFault, Checked};
+use tree_check::Checked;
 
 /// What is found wrong with a file by the plain program, what it counts there, and what a check answers.
 #[derive(Debug, Drop)]

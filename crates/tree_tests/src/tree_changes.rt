@@ -1,5 +1,6 @@
 use crate::tree_files::*;
-use quota_blocks::{FileFault, MemStore, OpenFault, QuotaFile};
+use memory_objects::MemStore;
+use opened_file::{FileFault, OpenFault, QuotaFile};
 use quota_types::{Format, Kind, Rec};
 use row_files::{Act, get, make, store_of};
 use std::alloc::Global;

@@ -1,11 +1,13 @@
 //! Small tree files as data, and what a check answers on them.
 
 use entry_codec::{Header, HeaderFault, read_header};
-use quota_blocks::{MemStore, Store};
+use file_blocks::CheckFault;
+use memory_objects::MemStore;
+use outside::Store;
 use quota_types::{Damage, DamageKind, Format, Kind};
 use row_files::store_of;
 use std::alloc::{AllocError, Global};
-use tree_file::{CheckFault, Checked, check};
+use tree_check::{Checked, check};
 
 /// A number that is written over four bytes, at a place.
 pub(crate) type Change = (usize, u32);

@@ -3,7 +3,8 @@ ghost use Rattle.std.specs.Bool.{OnTrue};
 ghost use Rattle.quota_types.specs.Format.{IsTreeFormat};
 
 use crate::tree_files::*;
-use quota_blocks::{MemStore, OpenFault, QuotaFile};
+use memory_objects::MemStore;
+use opened_file::{OpenFault, QuotaFile};
 use quota_types::{Damage, DamageKind, Entry, Format, Grace, Kind, Rec};
 use row_files::{get, next_after, store_of};
 use std::alloc::Global;

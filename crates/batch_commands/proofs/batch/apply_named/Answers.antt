@@ -1,7 +1,7 @@
 use Rattle.std.proofs.Common.{◌≡◌, inl, inr, Ok, List, ℕ, sym, subst, ap, length, arith}
 use Rattle.std.proofs.lemmas.Result.{on_ok_weaker}
-use Rattle.quota_blocks.specs.Block.{file_of}
-use Rattle.quota_blocks.specs.World.{World}
+use Rattle.file_blocks.specs.Block.{file_of}
+use Rattle.outside.specs.World.{World}
 use Rattle.quota_map.specs.View.{IsView}
 use Rattle.outside.proofs.FrameLemmas.{keeps_other_two-then, syncs-after_read, syncs-read}
 use Rattle.run_steps.proofs.OpeningLemmas.{not_opened, unwritten}

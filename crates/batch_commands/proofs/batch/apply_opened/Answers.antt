@@ -1,9 +1,9 @@
 use Rattle.std.proofs.Common.{false, ◌≤◌, ◌+◌, length, Ok, Err, Option, inl, inr, sym, ap, subst}
 use Rattle.std.specs.Prelude.{IfSome}
 use Rattle.std.proofs.lemmas.Bool.{false≢true}
-use Rattle.quota_blocks.specs.Block.{file_of}
-use Rattle.quota_blocks.specs.Seen.{StoreSeen}
-use Rattle.quota_blocks.specs.World.{World}
+use Rattle.file_blocks.specs.Block.{file_of}
+use Rattle.outside.specs.Seen.{StoreSeen}
+use Rattle.outside.specs.World.{World}
 use Rattle.outside.proofs.FrameLemmas.{keeps_other_two-then, syncs-all, syncs-any, syncs-less, syncs-read, syncs-then}
 use Rattle.quota_map.specs.AnyFile.{HoldsAny}
 use Rattle.quota_map.specs.View.{IsView}

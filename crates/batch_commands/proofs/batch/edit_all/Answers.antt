@@ -1,9 +1,9 @@
 use Rattle.std.proofs.Common.{◌≡◌, ◌+◌, IsTrue, List, [], drop, length, refl, ap, subst, ◌∙◌, arith, true}
 use Rattle.std.proofs.lemmas.List.{drop_all, drop_more}
-use Rattle.quota_blocks.specs.EditsOne.{EditsOne}
-use Rattle.quota_blocks.specs.QuotaFile.{FileSeen}
+use Rattle.opened_file.specs.EditsOne.{EditsOne}
+use Rattle.opened_file.specs.QuotaFile.{FileSeen}
 use Rattle.outside.proofs.FrameLemmas.{only_reads-none, syncs-none, syncs-then}
-use Rattle.quota_blocks.proofs.EditsOneLemmas.{edits_one-none, edits_one-then}
+use Rattle.opened_file.proofs.EditsOneLemmas.{edits_one-none, edits_one-then}
 use Rattle.set_edit.proofs.EditingLemmas.{edits-syncs}
 use Rattle.quota_map.specs.AnyFile.{HoldsAny, any_seen}
 use Rattle.quota_map.specs.View.{fresh_seen}

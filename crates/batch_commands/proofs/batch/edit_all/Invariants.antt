@@ -1,7 +1,7 @@
 use Rattle.std.proofs.Common.{◌≡◌, ◌≤◌, ◌+◌, ◌*◌, true, IsTrue, drop, length}
-use Rattle.quota_blocks.specs.EditsOne.{EditsOne}
-use Rattle.quota_blocks.specs.Frame.{Syncs}
-use Rattle.quota_blocks.specs.QuotaValue.{QuotaValue}
+use Rattle.opened_file.specs.EditsOne.{EditsOne}
+use Rattle.outside.specs.Frame.{Syncs}
+use Rattle.quota_value.specs.QuotaValue.{QuotaValue}
 use Rattle.quota_map.specs.AnyFile.{HoldsAny, any_seen}
 use Rattle.run_steps.specs.Act.{Way}
 use Rattle.batch_commands.proofs.BatchLemmas.{AreMade}

@@ -1,7 +1,7 @@
 use Rattle.std.proofs.Common.{true, length, refl, sym, subst, arith}
 use Rattle.std.proofs.lemmas.Result.{on_ok_weaker}
-use Rattle.quota_blocks.specs.Block.{file_of}
-use Rattle.quota_blocks.specs.World.{World}
+use Rattle.file_blocks.specs.Block.{file_of}
+use Rattle.outside.specs.World.{World}
 use Rattle.quota_map.specs.AnyFile.{HoldsAny}
 use Rattle.run_steps.specs.Done.{seen_of, tells_of}
 use Rattle.batch_commands.specs.Batch.{LineEditMayRefuse, LineSteps, line_uses, way_of}

@@ -1,7 +1,7 @@
 use Rattle.std.proofs.Common.{◌≡◌, ◌⊎◌, ◌+◌, ◌≤◌, Ok, Some, length, sym, ap, subst, arith}
 use Rattle.std.specs.Prelude.{Option, List, ℕ}
-use Rattle.quota_blocks.specs.Block.{bytes_of, file_of}
-use Rattle.quota_blocks.specs.World.{World}
+use Rattle.file_blocks.specs.Block.{bytes_of, file_of}
+use Rattle.outside.specs.World.{World}
 use Rattle.quota_map.specs.View.{IsView}
 use Rattle.run_steps.specs.Act.{Way}
 use Rattle.run_steps.specs.Done.{seen_of, tells_of}

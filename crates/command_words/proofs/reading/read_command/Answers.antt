@@ -1,9 +1,7 @@
 use Rattle.std.proofs.Common.{◌≡◌, ◌+◌, length, take, refl, sym}
 use Rattle.std.proofs.lemmas.List.{length-map}
-use Rattle.option_words.specs.Items.{texts_of}
-use Rattle.option_words.specs.Items.{operands_in}
+use Rattle.option_words.specs.Items.{AnyWord, items_of, operands_in, texts_of}
 use Rattle.option_words.specs.Given.{told}
-use Rattle.option_words.specs.Items.{AnyWord, items_of}
 use Rattle.option_words.specs.Reads.{operands_seen}
 use Rattle.command_words.proofs.OperandLemmas.{asked_formed}
 use Rattle.command_words.proofs.reading.read_command.Goals as goal

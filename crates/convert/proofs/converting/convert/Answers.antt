@@ -1,7 +1,7 @@
 use Rattle.std.proofs.Common.{◌≡◌, ◌≢◌, List, None, rules, sym, subst, ◌∙◌, arith}
 use Rattle.std.specs.List.Sorted.{IsStrictlyIncreasing}
 use Rattle.quota_types.specs.declared.record.Entry.{Entry}
-use Rattle.quota_blocks.specs.Listed.{ids_of}
+use Rattle.quota_value.specs.Listed.{ids_of}
 use Rattle.outside.proofs.FrameLemmas.{are_synced-read, are_synced-then, syncs-after_read, syncs-less, syncs-read}
 use Rattle.outside.proofs.UnsyncedLemmas.{replaced-named}
 use Rattle.quota_map.proofs.ReplacedLemmas.{replaced-refused, replaced-synced}

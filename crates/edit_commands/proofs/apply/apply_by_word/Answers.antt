@@ -1,6 +1,6 @@
 use Rattle.std.proofs.Common.{inl, inr, ap, ◌∙◌}
 use Rattle.std.proofs.lemmas.Result.{IfErr-weaker}
-use Rattle.quota_blocks.specs.World.{World}
+use Rattle.outside.specs.World.{World}
 use Rattle.outside.proofs.FrameLemmas.{syncs-after_read, syncs-read}
 use Rattle.run_steps.proofs.PhaseLemmas.{carries_naming, naming_refused}
 use Rattle.edit_commands.proofs.RefusedEditLemmas.{left_for-read}

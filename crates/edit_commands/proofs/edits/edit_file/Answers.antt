@@ -1,6 +1,6 @@
 use Rattle.std.proofs.Common.{ℕ, IsTrue, List, inl, inr, refl, sym, ap, ◌∙◌}
 use Rattle.std.proofs.lemmas.Bool.{false≢true}
-use Rattle.quota_blocks.specs.World.{World}
+use Rattle.outside.specs.World.{World}
 use Rattle.outside.proofs.FrameLemmas.{syncs-after_read, syncs-less, syncs-read}
 use Rattle.quota_map.specs.AnyFile.{any_seen}
 use Rattle.quota_map.specs.View.{fresh_seen}

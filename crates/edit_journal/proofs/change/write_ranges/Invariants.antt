@@ -1,6 +1,6 @@
 use Rattle.std.proofs.Common.{◌≡◌, ◌≤◌, List, ℕ, Some, take, IsTrue}
 use Rattle.outside.specs.World.{KeepsOthers}
-use Rattle.crash_disk.specs.DiskSeen.{Passes}
+use Rattle.disk.specs.DiskSeen.{Passes}
 use Rattle.edit_journal.specs.Settled.{TearsRanges}
 use Rattle.edit_journal.specs.Spans.{laid, spans_of}
 use Rattle.edit_journal.proofs.change.write_ranges.Given as goal

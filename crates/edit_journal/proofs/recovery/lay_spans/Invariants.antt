@@ -1,6 +1,6 @@
 use Rattle.std.proofs.Common.{◌≡◌, ◌≤◌, List, ℕ, [], true, unwrap_or, IsTrue}
 use Rattle.outside.specs.World.{KeepsOthers}
-use Rattle.crash_disk.specs.DiskSeen.{Passes}
+use Rattle.disk.specs.DiskSeen.{Passes}
 use Rattle.quota_types.specs.Bytes.{number_at}
 use Rattle.edit_journal.specs.Recovery.{MendsFile}
 use Rattle.edit_journal.specs.Spans.{laid}

@@ -1,6 +1,6 @@
 use Rattle.std.proofs.Common.{◌≤◌, [], take, unwrap_or, IsTrue}
 use Rattle.outside.specs.World.{KeepsOthers}
-use Rattle.crash_disk.specs.DiskSeen.{Passes}
+use Rattle.disk.specs.DiskSeen.{Passes}
 use Rattle.edit_journal.specs.Settled.{TearsFrom}
 use Rattle.edit_journal.specs.Spans.{spans_of}
 use Rattle.edit_journal.specs.Undo.{SavesFrom}

@@ -1,5 +1,5 @@
 use Rattle.std.proofs.Common.{◌≡◌, ℕ, ◌<◌, ◌≤◌, [], true, unwrap_or, IsTrue}
-use Rattle.crash_disk.specs.DiskSeen.{Passes}
+use Rattle.disk.specs.DiskSeen.{Passes}
 use Rattle.edit_journal.specs.Recovery.{IsSame}
 use Rattle.edit_journal.specs.Undo.{saved_span, span_fits}
 use Rattle.edit_journal.proofs.undo_reads.all_fit.Given as goal

@@ -1,5 +1,5 @@
 use Rattle.std.proofs.Common.{◌≡◌, ℕ, ◌+◌, ◌<◌, ◌≤◌, [], unwrap_or, IsTrue}
-use Rattle.crash_disk.specs.DiskSeen.{Passes}
+use Rattle.disk.specs.DiskSeen.{Passes}
 use Rattle.edit_journal.specs.Recovery.{IsSame}
 use Rattle.edit_journal.specs.Undo.{range_at}
 use Rattle.quota_types.specs.Bytes.{number_at}

@@ -2,7 +2,7 @@ use Rattle.std.proofs.Common.{ap, inr, sym}
 use Rattle.std.specs.Prelude.{Result}
 use Rattle.outside.proofs.FrameLemmas.{syncs-none}
 use Rattle.quota_types.specs.declared.field.NoRoom.{NoRoom}
-use Rattle.quota_blocks.specs.QuotaValue.{QuotaValue}
+use Rattle.quota_value.specs.QuotaValue.{QuotaValue}
 use Rattle.file_commands.specs.Check.{ReplaceSteps, with_applied}
 use Rattle.file_commands.specs.FileValue.{value_in}
 use Rattle.file_commands.proofs.CheckLemmas.{ReplacingMayRefuse, apply_refused}

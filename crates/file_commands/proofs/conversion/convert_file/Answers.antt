@@ -1,6 +1,6 @@
 use Rattle.std.proofs.Common.{sym}
 use Rattle.outside.proofs.FrameLemmas.{syncs-all}
-use Rattle.quota_blocks.proofs.ReplaceLemmas.{replacement_name-ne}
+use Rattle.opened_file.proofs.ReplaceLemmas.{replacement_name-ne}
 use Rattle.file_commands.proofs.ConversionLemmas.{converted_anew, converted_done, not_converted}
 use Rattle.file_commands.proofs.conversion.convert_file.Goals as goal
 

@@ -1,7 +1,7 @@
 use Rattle.std.proofs.Common.{◌^◌, ◌<◌, ◌≤◌, ap, subst, ◌∙◌, refl, arith}
-use Rattle.quota_blocks.specs.Listed.{records_of}
-use Rattle.quota_blocks.specs.QuotaValue.{QuotaValue}
-use Rattle.quota_blocks.specs.Seen.{SourceSeen}
+use Rattle.quota_value.specs.Listed.{records_of}
+use Rattle.quota_value.specs.QuotaValue.{QuotaValue}
+use Rattle.outside.specs.Seen.{SourceSeen}
 use Rattle.quota_map.specs.View.{most_blocks}
 use Rattle.inode_scan.specs.Generated.{generated_left}
 use Rattle.run_steps.specs.Changing.{blocks_of}

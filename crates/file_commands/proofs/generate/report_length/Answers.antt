@@ -1,8 +1,8 @@
 use Rattle.std.proofs.Common.{◌≡◌, ◌++◌, true, List, ℕ, [], None, length, refl, ap, ◌∙◌}
 use Rattle.id_names.specs.NamesFile.{NameLine}
 use Rattle.file_commands.specs.Gathered.{gathered_seen}
-use Rattle.quota_blocks.specs.Seen.{LinkSeen, SinkSeen, SourceSeen}
-use Rattle.report_text.specs.declared.options.Options.{Options}
+use Rattle.outside.specs.Seen.{LinkSeen, SinkSeen, SourceSeen}
+use Rattle.report_options.specs.declared.options.Options.{Options}
 use Rattle.run_steps.specs.Done.{seen_of, tells_of}
 use Rattle.file_commands.specs.Generate.{plain_report}
 use Rattle.file_commands.specs.Report.{report_on}

@@ -1,7 +1,7 @@
 use Rattle.std.proofs.Common.{length, sym, ap, ◌∙◌}
 use Rattle.std.specs.FinMap.{entries}
 use Rattle.quota_types.specs.Rec.{kib_of}
-use Rattle.quota_blocks.specs.Listed.{records_of}
+use Rattle.quota_value.specs.Listed.{records_of}
 use Rattle.file_commands.specs.Generate.{sum_over, summary_text}
 use Rattle.file_commands.proofs.SummaryLemmas.{length_listed, sum_listed}
 use Rattle.file_commands.proofs.generate.summary_line.Goals as goal

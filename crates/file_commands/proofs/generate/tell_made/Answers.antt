@@ -1,7 +1,7 @@
 use Rattle.std.proofs.Common.{◌≡◌, List, inr, refl, ap, ◌∙◌, arith}
 use Rattle.outside.proofs.FrameLemmas.{syncs-less, syncs-none}
 use Rattle.quota_types.specs.declared.record.Entry.{Entry}
-use Rattle.quota_blocks.specs.Listed.{records_of}
+use Rattle.quota_value.specs.Listed.{records_of}
 use Rattle.refusals.specs.declared.cause.Cause.TheVariants.{Memory}
 use Rattle.refusals.specs.Refusals.{refusal_of}
 use Rattle.run_steps.specs.Done.{seen_of}

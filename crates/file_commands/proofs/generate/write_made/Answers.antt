@@ -1,8 +1,8 @@
 use Rattle.std.proofs.Common.{ℕ, List, Some, Ok, IsTrue, sym, subst, arith}
 use Rattle.quota_types.specs.declared.record.Entry.{Entry}
-use Rattle.quota_blocks.specs.Listed.{ids_of, value_of}
+use Rattle.quota_value.specs.Listed.{ids_of, value_of}
 use Rattle.outside.proofs.FrameLemmas.{syncs-all, syncs-then}
-use Rattle.quota_blocks.proofs.ReplaceLemmas.{replacement_name-ne}
+use Rattle.opened_file.proofs.ReplaceLemmas.{replacement_name-ne}
 use Rattle.quota_map.specs.Replacing.{flags_in}
 use Rattle.quota_map.specs.View.{IsView}
 use Rattle.quota_map.proofs.ReplacedLemmas.{replaced-refused, replaced-synced}

@@ -4,7 +4,7 @@ use Rattle.std.proofs.lemmas.Result.{err_from_is_err_and}
 use Rattle.quota_types.specs.Kept.{IsKept}
 use Rattle.quota_types.specs.Rec.{is_null_of}
 use Rattle.quota_types.specs.declared.record.Entry.{Entry}
-use Rattle.quota_blocks.specs.Listed.{ids_of, records_of}
+use Rattle.quota_value.specs.Listed.{ids_of, records_of}
 use Rattle.inode_scan.specs.Apply.{wanted, wanted_record}
 use Rattle.inode_scan.proofs.ApplyLemmas.{IsDone, done_all, done_none, from_after, none_wanted, rest_all}
 use Rattle.inode_scan.proofs.RisingLemmas.{Rises, all_kept, increasing_of, kept_id, rises_kept, step_done, step_later, step_refused, step_rest}

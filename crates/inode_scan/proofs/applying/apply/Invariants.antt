@@ -3,7 +3,7 @@ use Rattle.std.specs.Prelude.{All}
 use Rattle.quota_types.specs.Kept.{IsKept}
 use Rattle.quota_types.specs.Rec.{is_null_of}
 use Rattle.quota_types.specs.declared.record.Entry.{Entry}
-use Rattle.quota_blocks.specs.Listed.{ids_of, records_of}
+use Rattle.quota_value.specs.Listed.{ids_of, records_of}
 use Rattle.inode_scan.specs.Apply.{wanted}
 use Rattle.inode_scan.proofs.ApplyLemmas.{IsDone, IsRest, from_after}
 use Rattle.inode_scan.proofs.RisingLemmas.{Rises}

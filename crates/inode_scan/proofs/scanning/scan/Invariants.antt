@@ -1,5 +1,5 @@
 use Rattle.std.proofs.Common.{◌≡◌, ℕ, ◌+◌, ◌-◌, ◌≤◌, List, true}
-use Rattle.quota_blocks.specs.InputLines.{input_lines}
+use Rattle.input_text.specs.InputLines.{input_lines}
 use Rattle.inode_scan.specs.Scan.{listing_left}
 use Rattle.inode_scan.specs.Tally.{IsBounded}
 use Rattle.inode_scan.proofs.ScanLemmas.{IsReadTo}

@@ -1,6 +1,6 @@
 use Rattle.std.proofs.Common.{◌+◌, List, ℕ, ◌++◌, length, take, drop, ap, ◌∙◌}
 use Rattle.std.proofs.lemmas.List.{take_at}
-use Rattle.memory_objects.proofs.OverwriteLemmas.{overwritten-filled_up}
+use Rattle.outside.proofs.OverwriteLemmas.{overwritten-filled_up}
 use Rattle.memory_objects.proofs.named_files.overwrite.Goals as goal
 
 pub returns-clause-ok : goal.returns-clause-ok

@@ -5,11 +5,12 @@ use Rattle.std.specs.List.{All}
 use Rattle.quota_types.specs.Kept.{IsKept}
 use Rattle.quota_types.specs.declared.file_kind.Format.{Format}
 use Rattle.quota_types.specs.declared.record.Entry.{Entry}
-use Rattle.quota_blocks.specs.Listed.{ids_of}
-use Rattle.quota_blocks.specs.QuotaFile.{FileSeen}
-use Rattle.quota_blocks.specs.QuotaValue.{IsAfter, IsNextAfter}
-use Rattle.quota_blocks.proofs.LooksUpLemmas.{looks_up-answer, looks_up-more, looks_up-none, looks_up-within}
-use Rattle.quota_blocks.proofs.PassingLemmas.{passed_all, passed_end, passed_found, passed_none, passed_part, passing_still}
+use Rattle.quota_value.specs.Listed.{ids_of}
+use Rattle.opened_file.specs.QuotaFile.{FileSeen}
+use Rattle.quota_types.specs.Ids.{IsAfter}
+use Rattle.quota_value.specs.QuotaValue.{IsNextAfter}
+use Rattle.opened_file.proofs.LooksUpLemmas.{looks_up-answer, looks_up-more, looks_up-none, looks_up-within}
+use Rattle.opened_file.proofs.PassingLemmas.{passed_all, passed_end, passed_found, passed_none, passed_part, passing_still}
 use Rattle.quota_map.specs.Passing.{any_adds_up}
 use Rattle.quota_map.specs.AnyFile.{any_at, any_laws, any_next_reads, any_passing_reads, any_seen}
 use Rattle.quota_map.proofs.ReadingLemmas.{AscendTo, IsReadUpTo, ascend_more, ascend_none, more_few, read_more, read_none, read_whole}

@@ -2,11 +2,11 @@ use Rattle.std.proofs.Common.{◌+◌, ◌*◌, ◌^◌, ◌<◌, ◌≤◌, IsT
 use Rattle.std.specs.List.{All}
 use Rattle.quota_types.specs.Kept.{IsKept}
 use Rattle.quota_types.specs.declared.record.Entry.{Entry}
-use Rattle.quota_blocks.specs.Listed.{ids_of}
-use Rattle.quota_blocks.specs.LooksUp.{LooksUp}
-use Rattle.quota_blocks.specs.QuotaValue.{QuotaValue}
-use Rattle.quota_blocks.proofs.EntriesLemmas.{ids_after}
-use Rattle.quota_blocks.proofs.PassingLemmas.{IsPassed}
+use Rattle.quota_value.specs.Listed.{ids_of}
+use Rattle.opened_file.specs.LooksUp.{LooksUp}
+use Rattle.quota_value.specs.QuotaValue.{QuotaValue}
+use Rattle.quota_value.proofs.EntriesLemmas.{ids_after}
+use Rattle.opened_file.proofs.PassingLemmas.{IsPassed}
 use Rattle.quota_map.specs.AnyFile.{HoldsAny, any_at, any_laws, any_next_reads, any_passing_reads, any_seen}
 use Rattle.quota_map.proofs.ReadingLemmas.{AscendTo, IsReadUpTo}
 use Rattle.quota_map.proofs.reading.read_all.Given as goal

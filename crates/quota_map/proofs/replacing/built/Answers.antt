@@ -1,7 +1,7 @@
 use Rattle.std.proofs.Common.{Ok, Some, length, ◌≤◌, arith, refl, sym, subst}
 use Rattle.quota_v1.specs.View.{flat_limit}
 use Rattle.quota_types.specs.declared.file_kind.Format.{Format}
-use Rattle.quota_blocks.specs.Listed.{value_of}
+use Rattle.quota_value.specs.Listed.{value_of}
 use Rattle.quota_map.specs.Replacing.{flags_in}
 use Rattle.quota_map.specs.StandsFor.{StandsFor}
 use Rattle.quota_map.specs.View.{IsView}

@@ -1,7 +1,7 @@
 use Rattle.std.proofs.Common.{◌≡◌, ◌*◌, ℕ, List, length, get_or, take, replicate, rules, sym, subst, arith}
 use Rattle.std.proofs.lemmas.List.{take_more}
 use Rattle.quota_types.specs.declared.record.Entry.{Entry}
-use Rattle.quota_blocks.specs.Listed.{ids_of}
+use Rattle.quota_value.specs.Listed.{ids_of}
 use Rattle.quota_v1.specs.Build.{records_needed}
 use Rattle.quota_v1.proofs.BuildLemmas.{IsBuiltOf, built_all, built_more, built_none, built_stands, greatest_fits, id_le_greatest, no_entry, not_before, written_whole}
 use Rattle.quota_v1.specs.Place.{block_time_start, inode_time_start, record_start}

@@ -1,7 +1,7 @@
 use Rattle.std.proofs.Common.{◌*◌, take}
 use Rattle.quota_v1.specs.Build.{records_needed}
 use Rattle.quota_v1.specs.Place.{record_start}
-use Rattle.quota_blocks.specs.Listed.{ids_of}
+use Rattle.quota_value.specs.Listed.{ids_of}
 use Rattle.quota_v1.proofs.BuildLemmas.{IsBuiltOf}
 use Rattle.quota_v1.proofs.building.build_v1.Given as goal
 

@@ -1,7 +1,7 @@
 use Rattle.std.proofs.Common.{List, ℕ, sym, ap, ◌∙◌, arith}
 use Rattle.quota_types.specs.declared.file_kind.Format.TheVariants.{V1}
 use Rattle.outside.specs.World.{World}
-use Rattle.quota_blocks.specs.FileUse.{seen_in}
+use Rattle.opened_file.specs.FileUse.{seen_in}
 use Rattle.quota_v1.proofs.OpenLemmas.{holds_opened, value_of_length}
 use Rattle.quota_v1.specs.Place.{block_time_start, inode_time_start, record_start}
 use Rattle.quota_v1.proofs.opening.open_v1.Goals as goal

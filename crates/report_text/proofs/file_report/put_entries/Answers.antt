@@ -1,10 +1,11 @@
 use Rattle.std.proofs.Common.{◌^◌, ◌<◌, sym, subst, IfSome, IsTrue, Ok, Err, Option, Some, refl, arith}
 use Rattle.std.proofs.lemmas.Result.{err_from_is_err_and}
 use Rattle.quota_types.specs.declared.record.Entry.{Entry}
-use Rattle.quota_blocks.specs.QuotaFile.{FileSeen}
-use Rattle.quota_blocks.specs.QuotaValue.{IsAfter, IsNextAfter}
-use Rattle.quota_blocks.proofs.LooksUpLemmas.{looks_up-answer, looks_up-none, looks_up-stopped, looks_up-then, looks_up-within}
-use Rattle.quota_blocks.proofs.PassingLemmas.{passed_all, passed_end, passed_found, passed_none, passed_part, passing_still}
+use Rattle.opened_file.specs.QuotaFile.{FileSeen}
+use Rattle.quota_types.specs.Ids.{IsAfter}
+use Rattle.quota_value.specs.QuotaValue.{IsNextAfter}
+use Rattle.opened_file.proofs.LooksUpLemmas.{looks_up-answer, looks_up-none, looks_up-stopped, looks_up-then, looks_up-within}
+use Rattle.opened_file.proofs.PassingLemmas.{passed_all, passed_end, passed_found, passed_none, passed_part, passing_still}
 use Rattle.report_text.proofs.LookingLemmas.{last_one, one_more, sink_failed}
 use Rattle.report_text.proofs.LinesLemmas.{put_none, put_more, put_all, put_fault, put_part}
 use Rattle.report_text.proofs.file_report.put_entries.Goals as goal

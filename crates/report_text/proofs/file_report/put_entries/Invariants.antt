@@ -1,10 +1,10 @@
 use Rattle.std.proofs.Common.{◌≡◌, ◌*◌, ◌-◌, ◌^◌, ◌≤◌, IsTrue, Ok, Some}
 use Rattle.id_names.specs.FirstMatch.{first_name}
-use Rattle.quota_blocks.specs.Changes.{file_at, laws_of}
-use Rattle.quota_blocks.specs.LooksUp.{LooksUp}
-use Rattle.quota_blocks.specs.QuotaValue.{QuotaValue}
-use Rattle.quota_blocks.proofs.EntriesLemmas.{ids_after}
-use Rattle.quota_blocks.proofs.PassingLemmas.{IsPassed}
+use Rattle.opened_file.specs.Changes.{file_at, laws_of}
+use Rattle.opened_file.specs.LooksUp.{LooksUp}
+use Rattle.quota_value.specs.QuotaValue.{QuotaValue}
+use Rattle.quota_value.proofs.EntriesLemmas.{ids_after}
+use Rattle.opened_file.proofs.PassingLemmas.{IsPassed}
 use Rattle.report_text.proofs.LinesLemmas.{IsPutUpTo}
 use Rattle.report_text.proofs.file_report.put_entries.Given as goal
 

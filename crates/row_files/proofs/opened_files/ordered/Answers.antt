@@ -4,8 +4,8 @@ use Rattle.std.proofs.lemmas.List.Elements.{All-push}
 use Rattle.std.specs.List.{All}
 use Rattle.quota_types.specs.Kept.{IsKept}
 use Rattle.quota_types.specs.declared.record.Entry.{Entry}
-use Rattle.quota_blocks.specs.Listed.{ids_of}
-use Rattle.quota_blocks.specs.QuotaValue.{IsAfter}
+use Rattle.quota_value.specs.Listed.{ids_of}
+use Rattle.quota_types.specs.Ids.{IsAfter}
 use Rattle.quota_map.proofs.ReadingLemmas.{AscendTo, ascend_more, ascend_none}
 use Rattle.row_files.proofs.opened_files.ordered.Goals as goal
 

@@ -1,7 +1,7 @@
 use Rattle.std.specs.List.{All}
 use Rattle.quota_types.specs.Kept.{IsKept}
 use Rattle.quota_types.specs.declared.record.Entry.{Entry}
-use Rattle.quota_blocks.specs.Listed.{ids_of}
+use Rattle.quota_value.specs.Listed.{ids_of}
 use Rattle.quota_map.proofs.ReadingLemmas.{AscendTo}
 use Rattle.row_files.proofs.opened_files.ordered.Given as goal
 

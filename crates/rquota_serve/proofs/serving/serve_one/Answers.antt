@@ -1,6 +1,6 @@
 use Rattle.std.proofs.Common.{◌≡◌, ℕ, List, ◌∷◌, ◌++◌, map, take, sym, ap, subst, ◌∙◌}
 use Rattle.std.specs.Option.{option_to_list}
-use Rattle.quota_blocks.specs.Seen.{Datagram}
+use Rattle.outside.specs.Seen.{Datagram}
 use Rattle.quota_map.specs.AnyFile.{any_get_reads}
 use Rattle.rquota_xdr.specs.Reply.{spelling_of}
 use Rattle.rquota_xdr.specs.Call.{call_of}

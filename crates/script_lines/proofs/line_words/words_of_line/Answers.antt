@@ -1,6 +1,6 @@
 use Rattle.std.specs.Str.{IsUtf8}
 use Rattle.std.proofs.lemmas.List.Elements.{All-rest}
-use Rattle.quota_blocks.specs.Words.{words_of}
+use Rattle.input_text.specs.Words.{words_of}
 use Rattle.script_lines.proofs.WordLemmas.{words_more, words_utf8}
 use Rattle.script_lines.proofs.line_words.words_of_line.Goals as goal
 

@@ -2,7 +2,7 @@ use Rattle.std.proofs.Common.{◌≡◌, ◌++◌, length}
 use Rattle.std.specs.List.{All}
 use Rattle.std.specs.Str.{IsUtf8}
 use Rattle.option_words.specs.Items.{texts_of}
-use Rattle.quota_blocks.specs.Words.{words_of}
+use Rattle.input_text.specs.Words.{words_of}
 use Rattle.script_lines.proofs.line_words.words_of_line.Given as goal
 
 abbrev pub invariant-loop-word : goal.invariant-loop-word

@@ -1,7 +1,7 @@
 use Rattle.std.proofs.Common.{◌+◌, ◌*◌, ◌≤◌, ℕ, sym, subst, ◌∙◌, arith}
 use Rattle.outside.proofs.FrameLemmas.{syncs-none}
 use Rattle.quota_map.proofs.AnyLemmas.{any_few_gets}
-use Rattle.quota_blocks.specs.Count.{Rose}
+use Rattle.outside.specs.Count.{Rose}
 use Rattle.run_steps.specs.Done.{seen_of, tells_of}
 use Rattle.run_steps.proofs.StartingLemmas.{carries_starting, with_start}
 use Rattle.rquota_serve.specs.Exports.{Serves, exports_seen}

@@ -1,5 +1,5 @@
 use Rattle.std.proofs.Common.{ap, arith, length}
-use Rattle.quota_blocks.specs.Replacement.{replacement_name}
+use Rattle.outside.specs.Replacement.{replacement_name}
 use Rattle.serve_tests.proofs.convert_rows.converts.Goals as goal
 
 pub convert-answer-requires : goal.convert-answer-requires

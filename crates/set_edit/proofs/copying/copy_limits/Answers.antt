@@ -3,7 +3,7 @@ use Rattle.std.proofs.lemmas.Result.{err_from_is_err_and}
 use Rattle.set_edit.specs.Edited.{limits_change, limits_set}
 use Rattle.set_edit.specs.Edits.{LimitsMayLack, copy_edit, limits_edit, limits_idle, limits_of}
 use Rattle.set_edit.specs.declared.limits.Limits.{Limits}
-use Rattle.quota_blocks.proofs.LooksUpLemmas.{is_looked_up}
+use Rattle.opened_file.proofs.LooksUpLemmas.{is_looked_up}
 use Rattle.set_edit.proofs.EditingLemmas.{edits-after, edits-unlooked}
 use Rattle.set_edit.proofs.copying.copy_limits.Goals as goal
 

@@ -1,6 +1,6 @@
 use Rattle.std.proofs.Common.{Ok, Err, rules}
 use Rattle.std.proofs.lemmas.Result.{err_from_is_err_and}
-use Rattle.quota_blocks.proofs.LooksUpLemmas.{is_looked_up}
+use Rattle.opened_file.proofs.LooksUpLemmas.{is_looked_up}
 use Rattle.set_edit.specs.Edits.{limits_edit}
 use Rattle.set_edit.proofs.EditingLemmas.{edits-unfit, edits-unlooked, look_wants, reads_looked, reads_once}
 use Rattle.set_edit.proofs.EditsLemmas.{limits-edits}

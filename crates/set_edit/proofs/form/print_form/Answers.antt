@@ -1,6 +1,6 @@
 use Rattle.std.proofs.Common.{List, ℕ, ◌++◌, ap, subst, ◌∙◌}
 use Rattle.std.proofs.lemmas.Result.{on_err_weaker, on_ok_weaker}
-use Rattle.quota_blocks.specs.Text.{AppendsPrefix}
+use Rattle.outside.specs.Text.{AppendsPrefix}
 use Rattle.set_edit.proofs.FormLemmas.{form_of-pieces}
 use Rattle.set_edit.proofs.form.print_form.Goals as goal
 

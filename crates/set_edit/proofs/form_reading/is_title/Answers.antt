@@ -1,5 +1,5 @@
 use Rattle.std.proofs.Common.{List, ℕ, ap, sym, ◌∙◌}
-use Rattle.quota_blocks.specs.Words.{words_behind, words_eq, words_of}
+use Rattle.input_text.specs.Words.{words_behind, words_eq, words_of}
 use Rattle.set_edit.proofs.FormReadingLemmas.{title-end, title-front, title-name}
 use Rattle.set_edit.proofs.form_reading.is_title.Goals as goal
 

@@ -1,5 +1,5 @@
 use Rattle.std.proofs.Common.{sym, arith}
-use Rattle.quota_blocks.specs.Words.{words_of}
+use Rattle.input_text.specs.Words.{words_of}
 use Rattle.set_edit.proofs.FormReadingLemmas.{limits_in-other}
 use Rattle.set_edit.proofs.form_reading.limits_in.Goals as goal
 

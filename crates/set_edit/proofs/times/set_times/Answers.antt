@@ -3,7 +3,7 @@ use Rattle.std.proofs.lemmas.Result.{err_from_is_err_and}
 use Rattle.set_edit.specs.Times.{skips_both}
 use Rattle.set_edit.specs.declared.skipped.Skipped.{Skipped}
 use Rattle.set_edit.specs.Edits.{times_edit}
-use Rattle.quota_blocks.proofs.LooksUpLemmas.{is_looked_up}
+use Rattle.opened_file.proofs.LooksUpLemmas.{is_looked_up}
 use Rattle.set_edit.proofs.EditingLemmas.{edits-idle, edits-unfit, edits-unlooked}
 use Rattle.set_edit.proofs.EditsLemmas.{times-edits}
 use Rattle.set_edit.proofs.times.set_times.Goals as goal

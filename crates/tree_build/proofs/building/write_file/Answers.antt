@@ -4,7 +4,7 @@ use Rattle.std.specs.List.Sorted.{IsStrictlyIncreasing}
 use Rattle.quota_types.proofs.AscendsLemmas.{Ascends-of}
 use Rattle.entry_codec.specs.Header.{header_of}
 use Rattle.quota_radix.specs.declared.tree_path.TreePath.{TreePath}
-use Rattle.quota_blocks.specs.Listed.{ids_of, value_of}
+use Rattle.quota_value.specs.Listed.{ids_of, value_of}
 use Rattle.tree_build.specs.Build.{HasNoPadding, HasOneRoom}
 use Rattle.quota_radix.specs.Tree.{blocks_of, numbers_of}
 use Rattle.tree_build.specs.NewFile.{AreBelow, AreDataBlocks, IsLevel, KeepsBlocks, leaves_in, parents_of, parts_needed, parts_of}

@@ -1,5 +1,5 @@
 use Rattle.std.proofs.Common.{take}
-use Rattle.quota_blocks.specs.Listed.{ids_of}
+use Rattle.quota_value.specs.Listed.{ids_of}
 use Rattle.tree_build.specs.Needed.{HasMet}
 use Rattle.tree_build.proofs.needed.blocks_needed.Given as goal
 

@@ -1,6 +1,6 @@
 use Rattle.std.proofs.Common.{ℕ, ◌∙◌, List, sym, subst, arith}
 use Rattle.std.proofs.lemmas.Result.{err_from_is_err_and}
-use Rattle.quota_blocks.specs.Block.{bytes_of}
+use Rattle.file_blocks.specs.Block.{bytes_of}
 use Rattle.tree_check.specs.Found.{AreRoles, HasNoEmptyBlock}
 use Rattle.tree_check.specs.Groups.{AreGroupsOf, groups_of}
 use Rattle.tree_build.specs.Loose.{nothing_loose}

@@ -1,8 +1,8 @@
 use Rattle.std.proofs.Common.{◌≡◌, ℕ, ◌+◌, ◌<◌, cond, nat_le, List, [], length, Option, rules, ap, subst, arith}
 use Rattle.std.proofs.lemmas.Result.{err_from_is_err_and}
 use Rattle.outside.proofs.FrameLemmas.{only_reads-then}
-use Rattle.quota_blocks.specs.BlockSet.{AreFlagsOf}
-use Rattle.quota_blocks.specs.Block.{bytes_of}
+use Rattle.file_blocks.specs.BlockSet.{AreFlagsOf}
+use Rattle.file_blocks.specs.Block.{bytes_of}
 use Rattle.tree_build.specs.Compared.{leading_ids, rooms}
 use Rattle.tree_check.specs.Groups.{groups_of}
 use Rattle.tree_check.proofs.ByBlockLemmas.{all_left, led_here, led_refused, length_groups}

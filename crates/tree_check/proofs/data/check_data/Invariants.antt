@@ -1,7 +1,7 @@
 use Rattle.std.proofs.Common.{ℕ, ◌+◌, ◌<◌, ◌≤◌, take, IsTrue, true}
-use Rattle.quota_blocks.specs.Frame.{OnlyReads}
-use Rattle.quota_blocks.specs.BlockSet.{AreFlagsOf}
-use Rattle.quota_blocks.specs.Block.{bytes_of}
+use Rattle.outside.specs.Frame.{OnlyReads}
+use Rattle.file_blocks.specs.BlockSet.{AreFlagsOf}
+use Rattle.file_blocks.specs.Block.{bytes_of}
 use Rattle.tree_build.specs.Compared.{HasEntriesOf, leading_ids, rooms}
 use Rattle.tree_check.specs.Groups.{AreLeftFrom, groups_of}
 use Rattle.tree_check.specs.Reads.{led_blocks}

@@ -1,5 +1,5 @@
 use Rattle.std.proofs.Common.{ℕ, ◌<◌, List}
-use Rattle.quota_blocks.specs.BlockSet.{AreFlagsOf}
+use Rattle.file_blocks.specs.BlockSet.{AreFlagsOf}
 use Rattle.quota_types.specs.Times.{StandsIn}
 use Rattle.tree_check.proofs.data.first_missing.Given as goal
 

@@ -1,5 +1,5 @@
 use Rattle.std.proofs.Common.{◌≡◌, ◌<◌, ℕ, List, [], ◌∷◌, ◌++◌, refl, sym, subst, append-nil, arith}
-use Rattle.quota_blocks.specs.BlockSet.{AreFlagsOf}
+use Rattle.file_blocks.specs.BlockSet.{AreFlagsOf}
 use Rattle.file_blocks.specs.declared.block_set.BlockSet.{BlockSet}
 use Rattle.tree_check.specs.Groups.{named_blocks}
 use Rattle.tree_check.proofs.ByBlockLemmas.{all_left, count_here}

@@ -1,6 +1,6 @@
 use Rattle.std.proofs.Common.{ℕ, List, ◌++◌}
 use Rattle.quota_radix.specs.declared.tree_path.TreePath.{TreePath}
-use Rattle.quota_blocks.specs.BlockSet.{AreFlagsOf}
+use Rattle.file_blocks.specs.BlockSet.{AreFlagsOf}
 use Rattle.tree_check.specs.Groups.{AreGroupsOf, AreLeftFrom, groups_of, named_blocks}
 use Rattle.tree_check.proofs.groups.mark_data.Given as goal
 

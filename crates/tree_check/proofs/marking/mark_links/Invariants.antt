@@ -1,5 +1,5 @@
 use Rattle.std.proofs.Common.{◌<◌, ℕ, List, ◌++◌, take}
-use Rattle.quota_blocks.specs.BlockSet.{AreFlagsOf}
+use Rattle.file_blocks.specs.BlockSet.{AreFlagsOf}
 use Rattle.quota_types.specs.Times.{StandsIn}
 use Rattle.free_chains.specs.Walk.{linked_blocks}
 use Rattle.tree_check.proofs.marking.mark_links.Given as goal

@@ -3,8 +3,8 @@ use Rattle.std.proofs.lemmas.List.{length-map}
 use Rattle.std.proofs.lemmas.Result.{err_from_is_err_and}
 use Rattle.free_chains.specs.declared.link.Link.{Link}
 use Rattle.quota_radix.specs.declared.tree_path.TreePath.{TreePath}
-use Rattle.quota_blocks.specs.BlockSet.{AreFlagsOf}
-use Rattle.quota_blocks.specs.Block.{bytes_of}
+use Rattle.file_blocks.specs.BlockSet.{AreFlagsOf}
+use Rattle.file_blocks.specs.Block.{bytes_of}
 use Rattle.tree_check.specs.Groups.{named_blocks}
 use Rattle.quota_radix.specs.Levels.{IsSecondRole}
 use Rattle.tree_build.specs.Loose.{nothing_loose}

@@ -1,6 +1,6 @@
 use Rattle.std.proofs.Common.{◌≡◌, ◌-◌, ◌/◌}
 use Rattle.arrayvec.specs.ArrayVec.{array_vec_len}
-use Rattle.quota_blocks.specs.QuotaValue.{QuotaValue}
+use Rattle.quota_value.specs.QuotaValue.{QuotaValue}
 use Rattle.tree_file.specs.Coming.{AreFit, AreNext, StandsBy}
 use Rattle.tree_file.proofs.ComingLemmas.{last_of}
 use Rattle.tree_file.proofs.coming.gathered.Given as goal

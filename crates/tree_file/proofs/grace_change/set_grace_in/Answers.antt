@@ -1,11 +1,11 @@
 use Rattle.std.proofs.Common.{List, ℕ, subst}
 use Rattle.file_blocks.specs.Block.{bytes_of}
 use Rattle.outside.specs.World.{World}
-use Rattle.quota_blocks.specs.QuotaFile.{ChangesBlocks}
+use Rattle.opened_file.specs.QuotaFile.{ChangesBlocks}
 use Rattle.quota_pages.specs.Pages.{name_of}
 use Rattle.tree_file.proofs.TornLemmas.{edits_flushed, few_same}
 use Rattle.tree_file.proofs.GraceChangeLemmas.{err_then, grace_left, graces_flushed, known_empty, ok_then}
-use Rattle.quota_blocks.proofs.EditsOneLemmas.{edits_one-read}
+use Rattle.opened_file.proofs.EditsOneLemmas.{edits_one-read}
 use Rattle.tree_file.proofs.grace_change.set_grace_in.Goals as goal
 
 pub returns-in-Ok-clause-graced : goal.returns-in-Ok-clause-graced

@@ -2,12 +2,12 @@ use Rattle.std.proofs.Common.{◌+◌, ◌≤◌, true, inr, arith}
 use Rattle.std.specs.Prelude.{IsSome}
 use Rattle.std.specs.FinMap.{get}
 use Rattle.std.proofs.lemmas.Result.{err_from_is_err_and}
-use Rattle.quota_blocks.specs.FileChange.{Put}
+use Rattle.opened_file.specs.FileChange.{Put}
 use Rattle.tree_file.specs.InPlace.{MayChange}
 use Rattle.tree_file.proofs.ChangedLemmas.{put_changes}
 use Rattle.tree_file.proofs.FlushedLemmas.{left_so, of_named, refused_shown, written}
 use Rattle.tree_file.proofs.GraceChangeLemmas.{known_empty}
-use Rattle.quota_blocks.proofs.EditsOneLemmas.{edits_one-read}
+use Rattle.opened_file.proofs.EditsOneLemmas.{edits_one-read}
 use Rattle.quota_pages.specs.Pages.{name_of}
 use Rattle.tree_file.proofs.TornLemmas.{edits_flushed}
 use Rattle.tree_file.proofs.in_place.put_in.Goals as goal

@@ -1,9 +1,9 @@
 use Rattle.std.proofs.Common.{◌∙◌, ℕ, List, ap, sym, subst, arith}
-use Rattle.quota_blocks.specs.FileUse.{seen_in}
+use Rattle.opened_file.specs.FileUse.{seen_in}
 use Rattle.tree_file.specs.Opened.{HoldsTree}
 use Rattle.std.proofs.lemmas.Result.{err_from_is_err_and}
-use Rattle.quota_blocks.specs.World.{World}
-use Rattle.quota_blocks.specs.Block.{bytes_of}
+use Rattle.outside.specs.World.{World}
+use Rattle.file_blocks.specs.Block.{bytes_of}
 use Rattle.tree_file.proofs.OpenLemmas.{Begins, are_seen, checked_refused, header_refused, opened_holds, value_seen}
 use Rattle.tree_file.proofs.opening.open_tree.Goals as goal
 

@@ -1,5 +1,5 @@
 use Rattle.std.proofs.Common.{List, ℕ, ap}
-use Rattle.quota_blocks.specs.Seen.{SourceSeen}
+use Rattle.outside.specs.Seen.{SourceSeen}
 use Rattle.inode_scan.specs.Generated.{generated_left}
 use Rattle.inode_scan.proofs.GeneratingLemmas.{left_first}
 use Rattle.inode_scan.proofs.generated.Generated.new.Goals as goal

@@ -1,6 +1,6 @@
 use Rattle.std.proofs.Common.{inl, inr, ⊎_elim, List, ℕ, [], Option, Some, IsSome, true, sym, ap, ◌∙◌, subst}
 use Rattle.outside.specs.World.{World, with_file}
-use Rattle.crash_disk.specs.Steps.{CutShort}
+use Rattle.disk.specs.Steps.{CutShort}
 use Rattle.edit_journal.specs.Spans.{spans_of}
 use Rattle.journal_store.proofs.BesideLemmas.{held-beside, names-beside, put-beside, recovered-beside, same_told}
 use Rattle.journal_store.proofs.CallLemmas.{with_name-keeps}

@@ -1,7 +1,7 @@
 use Rattle.std.proofs.Common.{◌≡◌, List, ℕ, ◌++◌, false, true, refl, sym, ap, subst, ◌∙◌, arith}
 use Rattle.std.proofs.lemmas.Bool.{false≢true}
 use Rattle.std.proofs.lemmas.List.{length-map}
-use Rattle.crash_disk.specs.DiskSeen.{DiskSeen}
+use Rattle.disk.specs.DiskSeen.{DiskSeen}
 use Rattle.edit_journal.specs.Settled.{IsRecovered}
 use Rattle.edit_journal.specs.Spans.{span_of, spans_of}
 use Rattle.edit_journal.specs.Undo.{recovered}

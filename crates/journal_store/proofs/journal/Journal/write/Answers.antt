@@ -1,7 +1,7 @@
 use Rattle.std.proofs.Common.{inl, inr, ⊎_elim, List, ℕ, Option, IsSome, length, true, sym, ap, ◌∙◌, subst}
 use Rattle.outside.specs.World.{World, with_bytes}
 use Rattle.outside.proofs.FrameLemmas.{keeps_others-then}
-use Rattle.crash_disk.specs.Steps.{IsOutside, Torn}
+use Rattle.disk.specs.Steps.{IsOutside, Torn}
 use Rattle.edit_journal.specs.Spans.{spans_of}
 use Rattle.edit_journal.specs.UndoName.{und_name, undo_name}
 use Rattle.journal_store.specs.Told.{Told}

@@ -1,4 +1,4 @@
-use Rattle.quota_blocks.specs.FileChange.{Put}
+use Rattle.opened_file.specs.FileChange.{Put}
 use Rattle.quota_map.proofs.AnyLemmas.{flat_changes, flat_in_place, tree_changes, tree_in_place}
 use Rattle.quota_map.proofs.any_file.AnyFileQuotaFile.put.Goals as goal
 

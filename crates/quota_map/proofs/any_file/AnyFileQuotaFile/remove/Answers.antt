@@ -1,4 +1,4 @@
-use Rattle.quota_blocks.specs.FileChange.{Remove}
+use Rattle.opened_file.specs.FileChange.{Remove}
 use Rattle.quota_map.proofs.AnyLemmas.{flat_changes, flat_in_place, tree_changes, tree_in_place}
 use Rattle.quota_map.proofs.any_file.AnyFileQuotaFile.remove.Goals as goal
 

@@ -1,6 +1,6 @@
 use Rattle.std.proofs.Common.{◌≡◌, None, sym, ◌∙◌, arith}
 use Rattle.std.specs.String.{string_bytes}
-use Rattle.quota_blocks.specs.FileChange.{Remove}
+use Rattle.opened_file.specs.FileChange.{Remove}
 use Rattle.quota_v1.specs.FlatFile.{unless_zeros}
 use Rattle.quota_v1.specs.Slot.{PutsRecord}
 use Rattle.quota_v1.proofs.ChangedLemmas.{changes_after_read}

@@ -1,5 +1,5 @@
 use Rattle.std.proofs.Common.{refl, arith}
-use Rattle.quota_blocks.specs.FileChange.{SetGrace}
+use Rattle.opened_file.specs.FileChange.{SetGrace}
 use Rattle.quota_v1.proofs.FlatChangesLemmas.{flat_done, flat_torn, grace_right, stays_done, stays_failed}
 use Rattle.quota_v1.specs.Place.{block_time_start, inode_time_start, record_start}
 use Rattle.quota_v1.proofs.flat_file.V1FileQuotaFile.set_grace.Goals as goal

@@ -1,6 +1,6 @@
 use Rattle.std.proofs.Common.{Ok, Err, Some, refl}
 use Rattle.std.proofs.lemmas.Result.{err_from_is_err_and}
-use Rattle.quota_blocks.proofs.LooksUpLemmas.{looks_up-answer, looks_up-within}
+use Rattle.opened_file.proofs.LooksUpLemmas.{looks_up-answer, looks_up-within}
 use Rattle.quota_map.specs.AnyFile.{any_seen}
 use Rattle.quota_map.proofs.AnyLemmas.{get_few}
 use Rattle.rquota_serve.proofs.export.Export.record_of.Goals as goal

@@ -1,5 +1,5 @@
 use Rattle.std.proofs.Common.{◌≡◌, ℕ, ◌/◌, true, sym, subst}
-use Rattle.quota_blocks.specs.Block.{leads}
+use Rattle.file_blocks.specs.Block.{leads}
 use Rattle.quota_pages.specs.Used.{shown_over}
 use Rattle.tree_file.specs.Coming.{LeadsTo}
 use Rattle.tree_file.proofs.ComingLemmas.{leaf_inside}

@@ -1,5 +1,5 @@
 use Rattle.std.proofs.Common.{Ok, refl, ap, arith}
-use Rattle.quota_blocks.specs.FileChange.{Put}
+use Rattle.opened_file.specs.FileChange.{Put}
 use Rattle.quota_pages.specs.Pages.{name_of}
 use Rattle.tree_file.specs.Opened.{with_heads}
 use Rattle.tree_file.specs.TreeChange.{tree_at}

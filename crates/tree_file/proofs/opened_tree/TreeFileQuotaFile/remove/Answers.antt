@@ -1,5 +1,5 @@
 use Rattle.std.proofs.Common.{Ok, ap}
-use Rattle.quota_blocks.specs.FileChange.{Remove}
+use Rattle.opened_file.specs.FileChange.{Remove}
 use Rattle.quota_pages.specs.Pages.{name_of}
 use Rattle.tree_file.specs.Opened.{with_heads}
 use Rattle.tree_file.specs.TreeChange.{tree_at}

@@ -1,5 +1,5 @@
 use Rattle.std.proofs.Common.{sym, subst}
-use Rattle.quota_blocks.specs.QuotaFile.{WantsNoMemory}
+use Rattle.opened_file.specs.QuotaFile.{WantsNoMemory}
 use Rattle.quota_pages.specs.Pages.{name_of}
 use Rattle.tree_file.proofs.GraceChangeLemmas.{changes_graced, changes_not_graced}
 use Rattle.tree_file.proofs.opened_tree.TreeFileQuotaFile.set_grace.Goals as goal

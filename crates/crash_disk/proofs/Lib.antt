@@ -1,4 +1,0 @@
-pub mod HalfLemmas
-pub mod StepLemmas
-pub mod StopLemmas
-pub mod ToldLemmas

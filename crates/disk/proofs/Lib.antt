@@ -1,0 +1,3 @@
+pub mod StepLemmas
+pub mod StopLemmas
+pub mod TakesStepLemmas

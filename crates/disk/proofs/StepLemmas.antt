@@ -1,0 +1,57 @@
+-- What a call makes of a file: nothing, and two things in a row.
+use Rattle.std.proofs.Common.{◌≤◌, ℕ, List, refl, ◌∙◌, arith, Option}
+use Rattle.outside.specs.World.{KeepsOthers, World}
+use Rattle.outside.proofs.FrameLemmas.{keeps_others-then}
+use Rattle.disk.specs.Steps.{ChangesFile, CutShort, Torn}
+
+-- a file that stays is torn nowhere
+pub torn-same : (stays : ℕ → Type 0) (file : Option (List ℕ)) → Torn stays file file
+torn-same stays file = record { there = λ is. is; no_shorter = omega arith; same = λ place stay below. refl }
+
+pub torn-then : (stays : ℕ → Type 0) (old between new : Option (List ℕ)) → Torn stays old between → Torn stays between new → Torn stays old new
+torn-then stays old between new first second = record {
+  there = λ is. second.there (first.there is);
+  no_shorter = omega (arith, first.no_shorter, second.no_shorter);
+  same = λ place stay below. second.same place stay (omega (arith, first.no_shorter, below)) ∙ first.same place stay below;
+}
+
+-- fewer places stay
+pub torn-less : (more fewer : ℕ → Type 0) (old new : Option (List ℕ)) → ((place : ℕ) → fewer place → more place) → Torn more old new → Torn fewer old new
+torn-less more fewer old new sub torn = record {
+  there = torn.there;
+  no_shorter = torn.no_shorter;
+  same = λ place stay below. torn.same place (sub place stay) below;
+}
+
+-- a file that stays is cut short by nothing
+pub cut_short-same : (len : ℕ) (file : Option (List ℕ)) → CutShort len file file
+cut_short-same len file = record { there = λ is. is; no_shorter = omega arith; same = λ place low below. refl }
+
+pub cut_short-then : (len : ℕ) (old between new : Option (List ℕ)) → CutShort len old between → CutShort len between new → CutShort len old new
+cut_short-then len old between new first second = record {
+  there = λ is. second.there (first.there is);
+  no_shorter = omega (arith, first.no_shorter, second.no_shorter);
+  same = λ place low below. second.same place low (omega (arith, first.no_shorter, low, below)) ∙ first.same place low below;
+}
+
+-- a shorter cut, as a cut to less
+pub cut_short-less : (len less : ℕ) (old new : Option (List ℕ)) → less ≤ len → CutShort len old new → CutShort less old new
+cut_short-less len less old new le cut = record {
+  there = cut.there;
+  no_shorter = omega (arith, cut.no_shorter, le);
+  same = λ place low below. cut.same place (omega (arith, low, le)) below;
+}
+
+-- no name's file changes
+pub changes_file-same : (Changes : Option (List ℕ) → Option (List ℕ) → Type 0) (name : List ℕ) (files : World) → Changes (files name) (files name) → ChangesFile Changes name files files
+changes_file-same Changes name files same = (same, λ other differ. refl)
+
+pub changes_file-then : (Changes : Option (List ℕ) → Option (List ℕ) → Type 0) (name : List ℕ) (old between new : World)
+    → (Changes (old name) (between name) → Changes (between name) (new name) → Changes (old name) (new name))
+    → ChangesFile Changes name old between → ChangesFile Changes name between new → ChangesFile Changes name old new
+changes_file-then Changes name old between new on first second =
+    (on first.0 second.0, keeps_others-then name old between new first.1 second.1)
+
+-- a change of one name's file keeps the files of all others
+pub changes_file-others : (Changes : Option (List ℕ) → Option (List ℕ) → Type 0) (name : List ℕ) (old new : World) → ChangesFile Changes name old new → KeepsOthers name old new
+changes_file-others Changes name old new change = change.1

@@ -1,0 +1,2 @@
+pub mod DiskSeen
+pub mod Steps

@@ -1,0 +1,5 @@
+pub mod Calls
+pub mod Images
+pub mod MemDisk
+pub mod Recorded
+pub mod Told

@@ -1,0 +1,10 @@
+pub mod Changes
+pub mod EditsOne
+pub mod FileChange
+pub mod FileUse
+pub mod Load
+pub mod LooksUp
+pub mod Opening
+pub mod Passing
+pub mod QuotaFile
+pub mod Replace
