@@ -108,7 +108,7 @@ repository
 cd copy
 same 'the programs' "$(bin/programs)" "$list
 second_program second bin second.1"
-same 'the picture of the crates has it' "$(bin/layers && awk '/^[0-9a-z]/ { layer = $1 } /\<second_program\>/ { print layer }' docs/ARCHITECTURE.md | head -n 1)" 2
+same 'the picture of the crates has it' "$(bin/layers && sed -n '/^```/,/^for tests alone/p' docs/ARCHITECTURE.md | grep -cw second_program)" 1
 same 'it is not built' "$(bin/build --look second || echo stale)" stale
 mkdir crates/second_program/out
 printf '#!/bin/sh\necho "second 0.1.0"\n' >crates/second_program/out/second_program
