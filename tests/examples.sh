@@ -595,15 +595,21 @@ said() {
     "$top/tests/real_files/terminal.py" "$@" 2>&1 | sed "s|$PWD||" >&2
     # And of undo files with an open gate: one that fits, one that does not, one of an hour ago, one with a further name, one
     # that others may write, and one of another account, which root alone can make.
-    for it in true 'truncate -s 8' 'touch -d -1hour' 'ln other.undo' 'chmod 666' 'chown 65534'; do
-        rm -f other other.undo
+    for it in true misfit 'touch -d -1hour' named_twice 'chmod 666' 'chown 65534'; do
+        rm -f other other.undo other.undo.name
         cp q other
         with_open_gate other
-        $it other.undo || ln -f other.undo "other.$RANDOM"
+        $it other.undo
         "$top/tests/real_files/terminal.py" ./quota_cli repquota other >&2
     done
     if [ "$(id -u)" != 0 ]; then echo 'not believed: it has an open gate and belongs to user 0' >&2; fi
 }
+
+# named_twice FILE: gives a file a further name.
+named_twice() { ln -f "$1" "$1.name"; }
+
+# misfit UNDO: has an undo file say that its file was longer than it is.
+misfit() { printf '\1' | dd of="$1" bs=1 seek=12 conv=notrunc status=none; }
 
 # with_open_gate FILE: an undo file with an open gate, which has saved nothing but the length of the file.
 with_open_gate() {

@@ -66,9 +66,12 @@ class Edited:
         os.chmod(FILE, 0o640)
         if os.geteuid() == 0:
             os.chown(FILE, 65534, 65534)
-        # An undo file that saves nothing is there, which the first edit would make beside the file.
+        # An undo file that saves nothing is there, as the first edit would make it beside the file.
         with open(FILE + ".undo", "wb") as undo:
             undo.write(bytes(1024))
+        os.chmod(FILE + ".undo", 0o640)
+        if os.geteuid() == 0:
+            os.chown(FILE + ".undo", 65534, 65534)
         self.state = state()
         if start:
             # (no timer runs then)

@@ -15,6 +15,7 @@ chmod 755 "$timed"
 cd "$timed"
 program=$folder/program
 terminal=$top/tests/real_files/terminal.py
+patience=30
 
 # moment SECONDS: a moment in UTC.
 moment() { date -u -d "@$1" +%FT%TZ; }
@@ -144,7 +145,7 @@ if [ "$(stat -c %W q)" -gt 0 ]; then
     mv backup q
     changed 'mv of a file that was made half a minute behind the gate'
     stopped q
-    opened_before q 5
+    touch -d "@$(($(stat -c %W q) - 5))" q.undo
     changed 'a file that was made five seconds behind the gate' old
 else
     echo 'real_files: this file system does not know when a file was made: that is not tried' >&2
@@ -184,7 +185,7 @@ if [ -n "$plain" ]; then
     expect 'a minute behind the gate' 0 "$(report old)" '' repquota -v q
     same 'is believed' "$(cmp q old && gate q)" 0
     stopped q
-    opened_before q 58
+    opened_before q 30
     cat other >q
     "$program" repquota q >shown 2>said || true
     same 'what is written over it within a minute is not seen' "$(cat said; gate q)" 0

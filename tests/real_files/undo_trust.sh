@@ -15,6 +15,7 @@ chmod 755 "$trusted"
 cd "$trusted"
 program=$folder/program
 terminal=$top/tests/real_files/terminal.py
+patience=30
 is_root=
 if [ "$(id -u)" = 0 ]; then is_root=yes; fi
 
@@ -297,6 +298,11 @@ for name in names given; do
     same "and $name.undo is let be" "$(cmp "$name" "$name.was" && cmp "$name.undo" "$name.undo.was" && echo same)" same
 done
 
+if strace -o trace.txt true 2>err.txt; then
+    strace -o trace.txt "$program" setquota --names names -b --input given q
+    same 'and not looked at' "$(grep -cE '"(names|given)\.und' trace.txt || true) $(grep -cE '"(names|given)"' trace.txt | grep -c '^[1-9]')" '0 1'
+fi
+
 # Behind a link the undo file stands beside the file, and is named there.
 place behind 755
 mkdir far
@@ -311,6 +317,16 @@ chmod 600 far/one.undo
 runner=("$program")
 expect 'an open gate behind a link' 0 "$("$program" repquota -v ../old | sed '1s| ../old$| q.near|')" '' repquota -v q.near
 same 'is closed there' "$(cmp far/one q && gate far/one)$(ls q.near.undo 2>/dev/null || true)" 0
+
+# What others have named behind a link does not steer the terminal.
+mkdir $'far/\e[2J\n'
+cp q $'far/\e[2J\n/two'
+ln -s $'far/\e[2J\n/two' q.hidden
+open_gate $'far/\e[2J\n/two'
+chmod 666 $'far/\e[2J\n/two.undo'
+runner=("$terminal" "$program")
+"${runner[@]}" repquota q.hidden >shown 2>said || true
+same 'names behind a link, at a terminal' "$(wc -l <said) $(grep -c '^program: q\.hidden\.undo: not believed' said)" '2 1'
 
 # A recovery needs no room, and no right to make a file.
 place little 755
