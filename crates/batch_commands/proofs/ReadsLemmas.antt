@@ -8,7 +8,7 @@ use Rattle.quota_types.specs.declared.file_kind.Format.TheVariants.{V1, V2R0, V2
 use Rattle.quota_types.specs.declared.file_kind.Kind.{Kind}
 use Rattle.quota_types.specs.declared.file_kind.Kind.TheVariants.{User, Group}
 use Rattle.entry_codec.specs.Header.{header_of, magic_of}
-use Rattle.tree_build.specs.TreeFile.{TreeStandsFor}
+use Rattle.tree_meaning.specs.TreeFile.{TreeStandsFor}
 use Rattle.id_names.specs.NamesFile.{NameLine}
 use Rattle.file_blocks.specs.Block.{file_of}
 use Rattle.quota_types.specs.declared.file_kind.Format.{Format}

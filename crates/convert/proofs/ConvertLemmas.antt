@@ -22,7 +22,8 @@ use Rattle.opened_file.specs.declared.quota_file.OpenFault.TheVariants.{Store, N
 use Rattle.opened_file.specs.declared.replacement.ReplaceFault.{ReplaceFault}
 use Rattle.opened_file.specs.declared.replacement.ReplaceFault.TheVariants.{Store as MakingFailed, Full as NoBlocks, Memory as NoMemoryToMake}
 use Rattle.outside.proofs.CountLemmas.{Rose-since}
-use Rattle.tree_build.specs.Size.{blocks_needed, ids_in}
+use Rattle.tree_build.specs.Size.{blocks_needed}
+use Rattle.tree_meaning.specs.Ids.{ids_in}
 use Rattle.tree_file.specs.View.{IsTreeFault}
 use Rattle.quota_v1.specs.View.{IsFlatFault}
 use Rattle.quota_map.specs.Replacing.{IsReplaceFileFault, IsReplacedBy, built_size, flags_in}

@@ -9,7 +9,8 @@ use Rattle.outside.specs.World.{World}
 use Rattle.opened_file.specs.declared.quota_file.OpenFault.{OpenFault}
 use Rattle.opened_file.specs.declared.quota_file.OpenFault.TheVariants.{Store, NoFile, TooLarge, Memory, NotQuota, WrongKind, UnknownVersion, BadBlockCount, FormatMismatch, Damage}
 use Rattle.opened_file.specs.declared.replacement.ReplaceFault.{ReplaceFault}
-use Rattle.tree_build.specs.Size.{blocks_needed, ids_in}
+use Rattle.tree_build.specs.Size.{blocks_needed}
+use Rattle.tree_meaning.specs.Ids.{ids_in}
 use Rattle.quota_map.specs.Replacing.{IsReplaceFileFault, IsReplacedBy, UnlessStore, built_size}
 use Rattle.quota_map.specs.View.{IsOpenFault, IsView, most_blocks}
 use Rattle.convert.specs.Conversion.{converted}

@@ -18,7 +18,7 @@ use Rattle.opened_file.specs.declared.quota_file.FileFault.TheVariants.{Store, D
 use Rattle.opened_file.proofs.LookupLemmas.{change_fault-after}
 use Rattle.tree_file.specs.Opened.{LacksRoom}
 use Rattle.tree_file.specs.Room.{blocks_wanted}
-use Rattle.tree_build.specs.Size.{ids_in}
+use Rattle.tree_meaning.specs.Ids.{ids_in}
 use Rattle.quota_map.specs.AnyFile.{AnyLeaves, AnyMakes, HoldsAny, MayRefuse, any_at, any_laws, any_seen}
 use Rattle.quota_map.specs.StandsFor.{StandsForAs}
 use Rattle.quota_map.specs.declared.any_file.AnyFile.{AnyFile}

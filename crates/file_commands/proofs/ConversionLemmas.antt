@@ -19,7 +19,7 @@ use Rattle.opened_file.specs.declared.replacement.ReplaceFault.{ReplaceFault}
 use Rattle.opened_file.specs.declared.replacement.ReplaceFault.TheVariants.{Store as MakingFailed, Full as TooManyBlocks, Memory as NoMemoryToMake}
 use Rattle.outside.proofs.FrameLemmas.{only_reads-none}
 use Rattle.outside.proofs.WorldLemmas.{bytes_eq-ne, bytes_eq-same}
-use Rattle.tree_build.specs.Size.{ids_in}
+use Rattle.tree_meaning.specs.Ids.{ids_in}
 use Rattle.quota_map.specs.Replacing.{UnlessStore}
 use Rattle.quota_map.specs.View.{IsView, most_blocks}
 use Rattle.quota_map.proofs.SeenLemmas.{fault_seen, store_rose}

@@ -21,7 +21,8 @@ use Rattle.quota_types.specs.declared.record.Rec.{Rec}
 use Rattle.quota_types.proofs.ListLemmas.{AllByRecursion-weaker}
 use Rattle.quota_value.specs.QuotaValue.{QuotaValue, Records}
 use Rattle.quota_map.specs.View.{most_blocks}
-use Rattle.tree_build.specs.Size.{beginnings, blocks_needed, each_once, ids_in}
+use Rattle.tree_build.specs.Size.{beginnings, blocks_needed, each_once}
+use Rattle.tree_meaning.specs.Ids.{ids_in}
 use Rattle.inode_scan.specs.Apply.{applied, first_no_room, kept_entry, kept_records, wanted, wanted_record}
 use Rattle.inode_scan.specs.Faults.{unless}
 use Rattle.inode_scan.specs.Usage.{UsageMap}

@@ -13,8 +13,8 @@ use Rattle.outside.specs.Seen.{StoreSeen}
 use Rattle.outside.specs.World.{World}
 use Rattle.opened_file.specs.declared.quota_file.FileFault.{FileFault}
 use Rattle.opened_file.proofs.ChangesLemmas.{changes-wider}
-use Rattle.tree_build.specs.Size.{ids_in}
-use Rattle.tree_build.specs.TreeFile.{TreeStandsFor}
+use Rattle.tree_meaning.specs.Ids.{ids_in}
+use Rattle.tree_meaning.specs.TreeFile.{TreeStandsFor}
 use Rattle.quota_pages.specs.Pages.{name_of}
 use Rattle.tree_file.specs.Room.{blocks_wanted}
 use Rattle.tree_file.specs.TreeChange.{TreeLeaves, most_blocks, tree_at, tree_change_reads, tree_change_writes, tree_done_writes, tree_laws}

@@ -8,8 +8,8 @@ use Rattle.opened_file.specs.FileChange.{FileChange, IsLeft}
 use Rattle.quota_value.specs.QuotaValue.{QuotaValue}
 use Rattle.outside.specs.World.{World}
 use Rattle.entry_codec.specs.Header.{header_of}
-use Rattle.tree_build.specs.TreeFile.{TreeStandsFor}
-use Rattle.tree_build.proofs.MeaningLemmas.{header_format}
+use Rattle.tree_meaning.specs.TreeFile.{TreeStandsFor}
+use Rattle.tree_meaning.proofs.MeaningLemmas.{header_format}
 use Rattle.tree_file.proofs.FewMadeLemmas.{few_made}
 use Rattle.tree_file.specs.TreeChange.{TreeMakes}
 use Rattle.quota_v1.specs.Change.{FitsFlat, FlatChanged, FlatMakes}

@@ -12,13 +12,13 @@ use Rattle.quota_value.specs.QuotaValue.{QuotaValue}
 use Rattle.opened_file.specs.declared.quota_file.OpenFault.{OpenFault}
 use Rattle.opened_file.specs.declared.quota_file.OpenFault.TheVariants.{Store, NoFile, TooLarge, Memory, NotQuota, WrongKind, UnknownVersion, BadBlockCount, FormatMismatch, Damage as Damaged}
 use Rattle.entry_codec.specs.Header.{HeaderNumbers, format_of, header_fault, header_of, magic_of}
-use Rattle.tree_build.specs.TreeFile.{IsSound, TreeStandsFor}
+use Rattle.tree_meaning.specs.TreeFile.{IsSound, TreeStandsFor}
 use Rattle.quota_pages.specs.Pages.{name_of}
 use Rattle.entry_codec.specs.declared.header.Header.{Header}
 use Rattle.tree_file.specs.Opened.{HoldsTree}
 use Rattle.tree_file.specs.declared.coming.Coming.{Coming}
 use Rattle.tree_file.specs.View.{FitsRequest, IsAsAsked, IsRefusedFor, IsTreeFault, IsTreeView}
-use Rattle.tree_build.proofs.DefectLemmas.{no_defect_of_sound}
+use Rattle.tree_meaning.proofs.DefectLemmas.{no_defect_of_sound}
 use Rattle.quota_types.specs.declared.record.Grace.{Grace}
 use Rattle.quota_v1.specs.Opened.{HoldsFlat}
 use Rattle.quota_v1.specs.declared.window.Window.{Window}

@@ -7,7 +7,7 @@ use Rattle.outside.specs.World.{World}
 use Rattle.quota_types.specs.Format.{IsTreeFormat}
 use Rattle.quota_types.specs.declared.file_kind.Format.{Format}
 use Rattle.quota_types.specs.declared.file_kind.Format.TheVariants.{V1 as Flat, V2R0, V2R1}
-use Rattle.tree_build.specs.TreeFile.{TreeStandsFor}
+use Rattle.tree_meaning.specs.TreeFile.{TreeStandsFor}
 use Rattle.quota_pages.specs.Pages.{name_of}
 use Rattle.tree_file.specs.Rests.{held_stands as tree_stands, rests_on_named as tree_rests}
 use Rattle.quota_v1.specs.Rests.{held_stands as flat_stands, rests_on_named as flat_rests}

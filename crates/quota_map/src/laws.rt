@@ -12,7 +12,7 @@ pub fn a_file_has_one_meaning_of_a_kind_and_format()
     ensures { (file : List ℕ) (value other : QuotaValue) → StandsFor file value → StandsFor file other
         → value.kind ≡ other.kind → value.format ≡ other.format → value ≡ other }
 {
-    tree_build::laws::a_file_has_one_meaning();
+    tree_meaning::laws::a_file_has_one_meaning();
     quota_v1::laws::a_file_has_one_meaning_of_a_kind();
 }
 

@@ -9,7 +9,7 @@ use Rattle.quota_value.specs.QuotaValue.{QuotaValue}
 use Rattle.quota_v1.specs.FlatFile.{FlatStandsFor}
 use Rattle.quota_v1.specs.View.{IsFlatView}
 use Rattle.quota_map.specs.View.{IsView, most_blocks}
-use Rattle.tree_build.proofs.MeaningLemmas.{one_meaning}
+use Rattle.tree_meaning.proofs.MeaningLemmas.{one_meaning}
 use Rattle.tree_file.specs.View.{IsTreeView}
 
 -- a flat file stands for one value of a kind at most

@@ -1,6 +1,7 @@
 -- Commands that change a file: when a changed value is written, and which objects they use.
 use Rattle.std.specs.Prelude.{ℕ, Bool, true, false, if◌then◌else◌, List, [], ◌∷◌, Option}
-use Rattle.tree_build.specs.Size.{blocks_needed, ids_in}
+use Rattle.tree_build.specs.Size.{blocks_needed}
+use Rattle.tree_meaning.specs.Ids.{ids_in}
 use Rattle.quota_value.specs.QuotaValue.{QuotaValue}
 use Rattle.quota_map.specs.View.{most_blocks}
 use Rattle.tree_file.specs.Room.{blocks_wanted}

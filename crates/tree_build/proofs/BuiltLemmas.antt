@@ -16,15 +16,15 @@ use Rattle.quota_value.specs.Listed.{ids_of}
 use Rattle.file_blocks.proofs.LeadsLemmas.{leads_from}
 use Rattle.tree_build.specs.Build.{HasNoPadding, HasOneRoom}
 use Rattle.quota_types.specs.Times.{StandsIn, times}
-use Rattle.tree_build.specs.Entries.{entry_bytes, has_unused, stated_count, used_entries, used_ids}
+use Rattle.tree_meaning.specs.Entries.{entry_bytes, has_unused, stated_count, used_entries, used_ids}
 use Rattle.quota_radix.specs.Tree.{blocks_of, data_blocks, ids_at, is_data, leaves, level, lower_blocks, paths, tree_blocks}
 use Rattle.tree_build.specs.NewFile.{AreDataBlocks, IsDataBlock, IsFullTreeBlock, Part, leaves_in, part_of, parts_needed, parts_of}
-use Rattle.tree_build.specs.Loose.{nothing_loose}
-use Rattle.tree_build.specs.Roles.{Chained, Filled, OneRole, has_room, roles}
+use Rattle.tree_meaning.specs.Loose.{nothing_loose}
+use Rattle.tree_meaning.specs.Roles.{Chained, Filled, OneRole, has_room, roles}
 use Rattle.tree_build.specs.Size.{filled_blocks}
 use Rattle.quota_types.proofs.TimesLemmas.{stands_either, times-append, times-cons-other, times-cons-same, times-range-high, times-range-low, times-range-within, only_one, range_with_len-add}
 use Rattle.quota_radix.proofs.PathLemmas.{length_ids, data_of_id, data_within, ids_distinct, one_with, times-data_blocks}
-use Rattle.tree_build.proofs.EntryLemmas.{used_ids-entries}
+use Rattle.tree_meaning.proofs.EntryLemmas.{used_ids-entries}
 use Rattle.tree_build.proofs.PartsLemmas.{each_part, ids_nowhere, ids_there, length_part, some_entries}
 
 -- A file with the levels and the data blocks of a list: the data blocks stand first, then the levels from the lowest one up.

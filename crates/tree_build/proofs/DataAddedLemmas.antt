@@ -13,7 +13,7 @@ use Rattle.quota_radix.specs.declared.tree_path.TreePath.{TreePath}
 use Rattle.file_blocks.specs.Block.{block_of}
 use Rattle.tree_build.specs.NewFile.{AreDataBlocks, IsDataBlock, KeepsBlocks, Part, leaves_in, part_of, parts_needed, parts_of}
 use Rattle.tree_build.specs.Size.{filled_blocks}
-use Rattle.tree_build.proofs.EntryLemmas.{range-suc}
+use Rattle.tree_meaning.proofs.EntryLemmas.{range-suc}
 use Rattle.tree_build.proofs.NewFileLemmas.{appended, kept_again, kept_append, kept_first}
 use Rattle.quota_radix.proofs.PathLemmas.{each-append}
 

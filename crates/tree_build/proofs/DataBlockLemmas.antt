@@ -1,11 +1,11 @@
 -- A data block that is filled entry by entry.
-use Rattle.std.proofs.Common.{◌≡◌, ℕ, zero, suc, ◌+◌, ◌-◌, ◌*◌, ◌<◌, ◌≤◌, Bool, true, false, cond, ◌||◌, nat_lt, List, [], ◌∷◌, ◌++◌, length, get_or, take, drop, replicate, Option, Some, None, refl, sym, ap, subst, ◌∙◌, inl, inr, arith, length-take}
+use Rattle.std.proofs.Common.{◌≡◌, ℕ, zero, suc, ◌+◌, ◌-◌, ◌*◌, ◌<◌, ◌≤◌, Bool, true, false, cond, ◌||◌, nat_lt, List, [], ◌∷◌, ◌++◌, length, get_or, replicate, Option, Some, None, refl, sym, ap, subst, ◌∙◌, inl, inr, arith}
 use Rattle.std.proofs.Math.Nat.{mul-le-mul_left}
 use Rattle.std.proofs.lemmas.Bool.{cases_lt, cases_eq, lt-ltb, le-ltb}
-use Rattle.std.proofs.lemmas.List.{append-nil, get_or_past, get_or-drop, get_or-take, get_or-replicate}
+use Rattle.std.proofs.lemmas.List.{append-nil, get_or_past}
 use Rattle.std.proofs.lemmas.List.Elements.{filter_map-append}
 use Rattle.std.proofs.lemmas.List.Folds.{list_any-append}
-use Rattle.std.specs.List.{cons_option, filter_map, flat_map, list_any, range_with_len}
+use Rattle.std.specs.List.{cons_option, filter_map, list_any, range_with_len}
 use Rattle.quota_types.specs.Span.{KeepsOutside}
 use Rattle.quota_types.specs.Bytes.{byte_at, number_at}
 use Rattle.quota_types.specs.Format.{record_size}
@@ -17,28 +17,16 @@ use Rattle.quota_types.proofs.TimesLemmas.{range_with_len-add}
 use Rattle.quota_types.proofs.BytesLemmas.{number_at-zeros, number_same}
 use Rattle.entry_codec.specs.Entry.{IsEntry, entries_per_block, is_unused, padding_of, stored_id}
 use Rattle.entry_codec.proofs.SpellingLemmas.{is_unused-zeros}
-use Rattle.tree_build.specs.Entries.{entry_bytes, entry_of, has_unused, id_in, stored_record, used_entries, used_ids}
+use Rattle.tree_meaning.specs.Entries.{entry_bytes, entry_of, has_unused, stored_record, used_entries}
 use Rattle.tree_build.specs.NewFile.{IsDataBlock}
 use Rattle.file_blocks.proofs.WordLemmas.{same_part}
-use Rattle.tree_build.proofs.EntryLemmas.{no_test, unused_none}
-use Rattle.tree_build.proofs.RecordLemmas.{used_is}
+use Rattle.tree_meaning.proofs.EntryLemmas.{no_test}
+use Rattle.tree_meaning.proofs.RecordLemmas.{used_is}
+use Rattle.tree_meaning.proofs.BlankLemmas.{zero_part, zero_bytes}
 
 -- an entry in the place of one that is not there
 abbrev pub no_entry : Entry
 no_entry = record { id = 0; rec = record { ihard = 0; isoft = 0; inodes = 0; bhard = 0; bsoft = 0; space = 0; btime = 0; itime = 0 } }
-
--- a part of a list in which all is 0
-zero_part : (size at : ℕ) (xs : List ℕ) → ((k : ℕ) → at ≤ k → byte_at xs k ≡ 0) → (k : ℕ) → get_or (take size (drop at xs)) k 0 ≡ 0
-zero_part size at xs zeros k = elim (cases_lt k size) [
-  | inl low ↦ get_or-take size (drop at xs) k 0 low ∙ get_or-drop at xs k 0 ∙ zeros (at + k) (omega arith)
-  | inr high ↦ get_or_past (take size (drop at xs)) k 0 (omega (arith, high, length-take size (drop at xs)))
-]
-
-pub zero_bytes : (at : ℕ) → byte_at (replicate 1024 0) at ≡ 0
-zero_bytes at = elim (cases_lt at 1024) [
-  | inl low ↦ get_or-replicate 1024 at 0 0 low
-  | inr high ↦ get_or_past (replicate 1024 0) at 0 high
-]
 
 -- a block that has this many of these entries, and otherwise zeros
 pub record IsFilledTo (format : Format) (block : List ℕ) (entries : List Entry) (count : ℕ) : Type 0 where
@@ -166,21 +154,3 @@ filled_all format block entries count few over under so_far =
         | inr behind ↦ padding_zero format (entry_bytes format block place) (zeros place behind)
       ];
     }
-
--- each entry of a block of zeros is unused
-pub blank_unused : (format : Format) (place : ℕ) → is_unused (entry_bytes format (replicate 1024 0) place) ≡ true
-blank_unused format place =
-    is_unused-zeros (entry_bytes format (replicate 1024 0) place)
-    (λ k low. zero_part (record_size format) (16 + record_size format * place) (replicate 1024 0) (λ at from. zero_bytes at) k)
-
--- so it has no used identifier
-pub blank_ids : (format : Format) → used_ids format (replicate 1024 0) ≡ []
-unfolding used_ids
-blank_ids format = none_made (range_with_len 0 (entries_per_block format))
-  where
-    none_made : (places : List ℕ) → flat_map (λ place. id_in format (entry_bytes format (replicate 1024 0) place)) places ≡ []
-    none_made [] = refl
-    none_made (place ∷ places) =
-        ap (λ (ids : List ℕ). ids ++ flat_map (λ place. id_in format (entry_bytes format (replicate 1024 0) place)) places)
-        (unused_none format (entry_bytes format (replicate 1024 0) place) (blank_unused format place))
-        ∙ none_made places

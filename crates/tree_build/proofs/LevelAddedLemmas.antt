@@ -21,13 +21,7 @@ use Rattle.quota_radix.proofs.PathLemmas.{each-append}
 use Rattle.quota_radix.proofs.StepLemmas.{none_of_zeros, range_push, steps_all, word_in}
 use Rattle.quota_radix.proofs.LinkStepLemmas.{steps_same}
 use Rattle.tree_build.proofs.TreeBlockLemmas.{no_path}
-
-pub empty_kept : (old new : List ℕ) (block : ℕ) → block_of new block ≡ block_of old block → IsEmpty new block → IsEmpty old block
-empty_kept old new block same empty digit low = ap (λ (bytes : List ℕ). word_in bytes digit) (sym same) ∙ empty digit low
-
-pub flat_map_same : {X Y : Type 0} (f g : X → List Y) (xs : List X) → AllByRecursion (λ x. f x ≡ g x) xs → flat_map f xs ≡ flat_map g xs
-flat_map_same f g [] all = refl
-flat_map_same {X} {Y} f g (x ∷ xs) all = ap (λ (ys : List Y). ys ++ flat_map f xs) all.0 ∙ ap (λ (ys : List Y). g x ++ ys) (flat_map_same f g xs all.1)
+use Rattle.tree_meaning.proofs.FrameLemmas.{empty_kept, flat_map_same}
 
 -- the blocks of paths to which numbers one after another were given
 pub blocks_between : (paths : List TreePath) (first count : ℕ) → blocks_of paths ≡ range_with_len first count

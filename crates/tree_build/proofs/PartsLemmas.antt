@@ -19,11 +19,11 @@ use Rattle.entry_codec.specs.Entry.{entries_per_block}
 use Rattle.quota_radix.specs.declared.tree_path.TreePath.{TreePath}
 use Rattle.file_blocks.specs.Block.{block_of}
 use Rattle.quota_value.specs.Listed.{ids_of, records_of}
-use Rattle.tree_build.specs.Entries.{used_entries}
+use Rattle.tree_meaning.specs.Entries.{used_entries}
 use Rattle.tree_build.specs.NewFile.{Part, leaves_in, part_of, parts_needed, parts_of}
 use Rattle.quota_radix.specs.Tree.{numbers_of, ids_at}
 use Rattle.tree_build.specs.Size.{filled_blocks}
-use Rattle.tree_build.specs.TreeFile.{record_in}
+use Rattle.tree_meaning.specs.TreeFile.{record_in}
 use Rattle.tree_build.proofs.DataAddedLemmas.{parts_push}
 use Rattle.quota_radix.proofs.FindLemmas.{find_first, find_later}
 

@@ -12,7 +12,7 @@ use Rattle.quota_radix.specs.declared.tree_path.TreePath.{TreePath}
 use Rattle.file_blocks.specs.Block.{block_of, leads}
 use Rattle.tree_build.specs.NewFile.{AllLead, AreSiblings}
 use Rattle.quota_radix.specs.Tree.{numbers_of, steps}
-use Rattle.tree_build.proofs.DataBlockLemmas.{zero_bytes}
+use Rattle.tree_meaning.proofs.BlankLemmas.{zero_bytes}
 use Rattle.file_blocks.proofs.LeadsLemmas.{leads_below, leads_within}
 use Rattle.quota_radix.proofs.OrderLemmas.{each_at, each_both, each_of_places, length_numbers, number_at_place, rises_bound, rises_of}
 use Rattle.quota_radix.proofs.PathLemmas.{Rises}

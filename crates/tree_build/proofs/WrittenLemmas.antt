@@ -19,15 +19,15 @@ use Rattle.file_blocks.specs.Block.{block_of, leads}
 use Rattle.quota_value.specs.Listed.{ids_of, records_of, value_of}
 use Rattle.file_blocks.proofs.LeadsLemmas.{leads_from}
 use Rattle.tree_build.specs.Build.{HasNoPadding, HasOneRoom}
-use Rattle.tree_build.specs.Entries.{used_entries}
+use Rattle.tree_meaning.specs.Entries.{used_entries}
 use Rattle.quota_radix.specs.Tree.{blocks_of, numbers_of, leaves, paths, steps}
 use Rattle.tree_build.specs.NewFile.{AllLead, AreBelow, AreDataBlocks, AreSiblings, IsDataBlock, IsLevel, KeepsBlocks, Part, leaves_in, parents_of, part_of, parts_needed, parts_of}
-use Rattle.tree_build.specs.Loose.{nothing_loose}
-use Rattle.tree_build.specs.Roles.{Chained, OneRole}
+use Rattle.tree_meaning.specs.Loose.{nothing_loose}
+use Rattle.tree_meaning.specs.Roles.{Chained, OneRole}
 use Rattle.tree_build.specs.Size.{beginnings, blocks_needed, each_once}
-use Rattle.tree_build.specs.TreeFile.{TreeStandsFor, record_in, tree_record}
+use Rattle.tree_meaning.specs.TreeFile.{TreeStandsFor, record_in, tree_record}
 use Rattle.tree_build.proofs.BuiltLemmas.{IsBuilt, chained, filled, first_room, no_padding, one_role, one_room}
-use Rattle.tree_build.proofs.ValueLemmas.{sound}
+use Rattle.tree_meaning.proofs.ValueLemmas.{sound}
 use Rattle.tree_build.proofs.LevelAddedLemmas.{blocks_between, level_kept}
 use Rattle.tree_build.proofs.NewFileLemmas.{block_within, front_is, length-with_root, root_is, root_keeps, with_root}
 use Rattle.tree_build.proofs.OnceLemmas.{ascends-parents_of, each_once-map}

@@ -7,9 +7,9 @@ use Rattle.tree_build.specs.declared.build_fault.BuildFault.{BuildFault}
 use Rattle.tree_build.specs.declared.build_fault.BuildFault.TheVariants.{Full, Memory}
 use Rattle.file_blocks.specs.Block.{block_of}
 use Rattle.quota_types.specs.Times.{StandsIn}
-use Rattle.tree_build.specs.Entries.{entry_bytes}
-use Rattle.tree_build.specs.Loose.{nothing_loose}
-use Rattle.tree_build.specs.Roles.{has_room}
+use Rattle.tree_meaning.specs.Entries.{entry_bytes}
+use Rattle.tree_meaning.specs.Loose.{nothing_loose}
+use Rattle.tree_meaning.specs.Roles.{has_room}
 use Rattle.quota_radix.specs.Tree.{data_blocks}
 
 -- At most one data block has an unused entry.

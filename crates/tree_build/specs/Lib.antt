@@ -1,14 +1,5 @@
 pub mod Beginnings
 pub mod Build
-pub mod Compared
-pub mod Defect
-pub mod Entries
-pub mod EntryPlaces
-pub mod IsTree
-pub mod KeepsEntries
-pub mod Loose
 pub mod Needed
 pub mod NewFile
-pub mod Roles
 pub mod Size
-pub mod TreeFile

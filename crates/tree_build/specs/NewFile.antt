@@ -7,7 +7,7 @@ use Rattle.quota_types.specs.declared.record.Entry.{Entry}
 use Rattle.entry_codec.specs.Entry.{entries_per_block, padding_of}
 use Rattle.quota_radix.specs.declared.tree_path.TreePath.{TreePath}
 use Rattle.file_blocks.specs.Block.{block_of, word_at, leads}
-use Rattle.tree_build.specs.Entries.{entry_bytes, has_unused, used_entries}
+use Rattle.tree_meaning.specs.Entries.{entry_bytes, has_unused, used_entries}
 use Rattle.quota_radix.specs.TreeDefect.{IsEmpty}
 use Rattle.tree_build.specs.Size.{each_once, filled_blocks}
 use Rattle.quota_radix.specs.Tree.{steps}

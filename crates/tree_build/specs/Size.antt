@@ -4,8 +4,6 @@ use Rattle.std.specs.Prelude.{ℕ, ◌+◌, ◌-◌, ◌/◌, ◌^◌, ◌==◌,
 use Rattle.std.specs.List.{filter}
 use Rattle.quota_types.specs.declared.file_kind.Format.{Format}
 use Rattle.quota_types.specs.declared.file_kind.Format.TheVariants.{V1, V2R0, V2R1}
-use Rattle.std.specs.FinMap.{entries}
-use Rattle.quota_value.specs.QuotaValue.{Records}
 
 -- the numbers of a list, each once
 abbrev pub each_once : List ℕ → List ℕ
@@ -29,7 +27,3 @@ abbrev pub blocks_needed : Format → List ℕ → ℕ
 blocks_needed V1 ids = 0
 blocks_needed V2R0 ids = tree_needed ids + filled_blocks 21 (length ids)
 blocks_needed V2R1 ids = tree_needed ids + filled_blocks 14 (length ids)
-
--- the identifiers that have a record, ascending
-abbrev pub ids_in : Records → List ℕ
-ids_in records = map (λ entry. entry.0) (entries records)

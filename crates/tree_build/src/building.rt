@@ -8,7 +8,7 @@ ghost use Rattle.entry_codec.specs.Header.{header_of};
 ghost use Rattle.quota_value.specs.Listed.{ids_of, value_of};
 ghost use Rattle.tree_build.specs.Build.{HasNoPadding, HasOneRoom, IsBuildFault};
 ghost use Rattle.tree_build.specs.Size.{blocks_needed};
-ghost use Rattle.tree_build.specs.TreeFile.{TreeStandsFor};
+ghost use Rattle.tree_meaning.specs.TreeFile.{TreeStandsFor};
 
 use crate::BuildFault;
 use crate::needed::{blocks_needed, first_with_room};

@@ -1,24 +1,16 @@
-//! What tree quota files mean, vfsv0 and vfsv1, and what may be wrong with one: blocks of 1,024 bytes in a tree by which
-//! each identifier's entry is found. And the bytes of a whole new one.
+//! The bytes of a whole new tree quota file, vfsv0 or vfsv1, out of its header's values and its entries.
 //!
-//! The one promise: a file stands for one value at most, and for one exactly where nothing is wrong with it; what is said of
-//! the bytes and the entries of a block is so; a built file stands for the map of its list, and has as few blocks as can be.
+//! The one promise: a built file stands for the map of its list, and has as few blocks as can be.
 #![tactic(auto)]
 
 mod build_fault;
 mod building;
-mod entries;
-pub mod entry_laws;
-mod entry_places;
 pub mod laws;
 mod needed;
 mod new_data;
 mod new_file;
 mod new_tree;
-pub mod steps;
 
 pub use build_fault::BuildFault;
 pub use building::build;
-pub use entries::{compare_entries, find_near, find_place, find_record};
-pub use entry_places::{clear_entry, put_entry, unused_place, used_count};
 pub use needed::Needed;

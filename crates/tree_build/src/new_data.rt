@@ -6,13 +6,13 @@ ghost use Rattle.quota_types.specs.Range.{unfit};
 ghost use Rattle.entry_codec.specs.Entry.{entries_per_block};
 ghost use Rattle.tree_build.specs.NewFile.{AreBelow, AreDataBlocks, IsDataBlock, KeepsBlocks, leaves_in, parts_needed, parts_of};
 
-use crate::entry_places::put_entry;
 use crate::new_file::NewFile;
 use entry_codec::entries_per_block;
 use file_blocks::set_le16;
 use quota_radix::TreePath;
 use quota_types::{Entry, Format};
 use std::alloc::{AllocError, Global};
+use tree_meaning::put_entry;
 
 /// Appends the data blocks of a file's entries, each full but the last one, and answers the leaves.
 pub(crate) fn add_data(

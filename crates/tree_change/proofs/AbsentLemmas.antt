@@ -18,8 +18,8 @@ use Rattle.quota_radix.proofs.DescentLemmas.{not_some, some_same}
 use Rattle.quota_radix.proofs.LeafLemmas.{IsLeaf, leaf_of_block, no_leaf_of_block}
 use Rattle.quota_radix.proofs.PathLemmas.{leaves_lead}
 use Rattle.free_chains.specs.declared.heads.Heads.{Heads}
-use Rattle.tree_build.specs.Loose.{loose_of}
-use Rattle.tree_build.specs.TreeFile.{record_in}
+use Rattle.tree_meaning.specs.Loose.{loose_of}
+use Rattle.tree_meaning.specs.TreeFile.{record_in}
 use Rattle.tree_change.specs.Shows.{IsWholeTree}
 use Rattle.tree_change.proofs.AwaitedEntryLemmas.{record_found}
 

@@ -19,11 +19,11 @@ use Rattle.free_chains.specs.Links.{led_to}
 use Rattle.free_chains.specs.declared.chain_fault.ChainFault.{ChainFault}
 use Rattle.free_chains.specs.declared.heads.Heads.{Heads}
 use Rattle.free_chains.proofs.SpliceLemmas.{head_leads}
-use Rattle.tree_build.specs.Entries.{entry_bytes}
-use Rattle.tree_build.specs.Loose.{Loose, loose_of}
-use Rattle.tree_build.specs.Roles.{data_with, has_room}
-use Rattle.tree_build.proofs.DataBlockLemmas.{blank_unused}
-use Rattle.tree_build.proofs.ListedLemmas.{entered}
+use Rattle.tree_meaning.specs.Entries.{entry_bytes}
+use Rattle.tree_meaning.specs.Loose.{Loose, loose_of}
+use Rattle.tree_meaning.specs.Roles.{data_with, has_room}
+use Rattle.tree_meaning.proofs.BlankLemmas.{blank_unused}
+use Rattle.tree_meaning.proofs.ListedLemmas.{entered}
 use Rattle.tree_steps.specs.EntrySteps.{WritesEntry}
 use Rattle.tree_change.specs.ChangeFault.{of_chain_fault}
 use Rattle.tree_change.specs.Enters.{EntersRecord}

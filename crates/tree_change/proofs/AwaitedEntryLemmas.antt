@@ -13,12 +13,12 @@ use Rattle.quota_radix.specs.Tree.{blocks_of, ids_at, leaves, numbers_of}
 use Rattle.quota_radix.specs.declared.tree_path.TreePath.{TreePath}
 use Rattle.quota_radix.proofs.DescentLemmas.{leaf_led_to}
 use Rattle.free_chains.specs.declared.heads.Heads.{Heads}
-use Rattle.tree_build.specs.Entries.{used_entries, used_ids}
-use Rattle.tree_build.specs.Loose.{Loose, loose_of}
-use Rattle.tree_build.specs.Roles.{counts_as_data, data_with}
-use Rattle.tree_build.specs.TreeFile.{record_in}
-use Rattle.tree_build.proofs.EntryLemmas.{used_ids-entries}
-use Rattle.tree_build.proofs.MovedLemmas.{times-data_with}
+use Rattle.tree_meaning.specs.Entries.{used_entries, used_ids}
+use Rattle.tree_meaning.specs.Loose.{Loose, loose_of}
+use Rattle.tree_meaning.specs.Roles.{counts_as_data, data_with}
+use Rattle.tree_meaning.specs.TreeFile.{record_in}
+use Rattle.tree_meaning.proofs.EntryLemmas.{used_ids-entries}
+use Rattle.tree_meaning.proofs.MovedLemmas.{times-data_with}
 use Rattle.tree_change.specs.Shows.{IsWholeTree}
 use Rattle.tree_change.specs.Unlinked.{HasAwaited}
 

@@ -21,11 +21,11 @@ use Rattle.free_chains.specs.Links.{led_to}
 use Rattle.free_chains.specs.declared.chain_fault.ChainFault.{ChainFault}
 use Rattle.free_chains.specs.declared.heads.Heads.{Heads}
 use Rattle.free_chains.proofs.SpliceLemmas.{chain-rest, first_is_head, head_leads, names_named}
-use Rattle.tree_build.specs.Entries.{has_unused}
-use Rattle.tree_build.specs.Loose.{Loose, loose_of}
-use Rattle.tree_build.specs.Roles.{counts_as_data, data_with, has_room}
-use Rattle.tree_build.proofs.ListedLemmas.{left_list}
-use Rattle.tree_build.proofs.MovedLemmas.{times-data_with}
+use Rattle.tree_meaning.specs.Entries.{has_unused}
+use Rattle.tree_meaning.specs.Loose.{Loose, loose_of}
+use Rattle.tree_meaning.specs.Roles.{counts_as_data, data_with, has_room}
+use Rattle.tree_meaning.proofs.ListedLemmas.{left_list}
+use Rattle.tree_meaning.proofs.MovedLemmas.{times-data_with}
 use Rattle.tree_steps.specs.EntrySteps.{WritesEntry}
 use Rattle.tree_change.specs.declared.change_fault.ChangeFault.{ChangeFault}
 use Rattle.tree_change.specs.ChangeFault.{IsStepFault, of_chain_fault}

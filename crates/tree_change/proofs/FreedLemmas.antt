@@ -21,8 +21,8 @@ use Rattle.free_chains.specs.FreeList.{GivesBlock}
 use Rattle.free_chains.specs.declared.heads.Heads.{Heads}
 use Rattle.free_chains.proofs.ChainLemmas.{chain_is_met, few_of_chain}
 use Rattle.free_chains.proofs.SpliceLemmas.{chain-stays}
-use Rattle.tree_build.specs.Loose.{Loose, loose_of}
-use Rattle.tree_build.proofs.MovedLemmas.{times-roles}
+use Rattle.tree_meaning.specs.Loose.{Loose, loose_of}
+use Rattle.tree_meaning.proofs.MovedLemmas.{times-roles}
 use Rattle.tree_steps.proofs.OneBlockLemmas.{one_role}
 use Rattle.tree_change.specs.Freed.{FreesBeside, FreesBlocks, HasLinkAlone, free_blocks, unnamed_of}
 use Rattle.tree_change.specs.Shows.{IsWholeTree}

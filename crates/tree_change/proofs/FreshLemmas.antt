@@ -17,11 +17,11 @@ use Rattle.free_chains.specs.FreeList.{StopsTaking, TakesBlock, TakesHead, Takes
 use Rattle.free_chains.specs.declared.heads.Heads.{Heads}
 use Rattle.free_chains.proofs.ChainLemmas.{one_chain}
 use Rattle.free_chains.proofs.SpliceLemmas.{chain-none, first_is_head, goes_linked, head_leads, links_lead, none_of_one, other_than}
-use Rattle.tree_build.specs.Loose.{Loose, leaves_with, loose_of}
-use Rattle.tree_build.specs.Roles.{OneRole, roles}
-use Rattle.tree_build.proofs.AsideLemmas.{reordered}
-use Rattle.tree_build.proofs.MovedLemmas.{times-data_with, times-roles}
-use Rattle.tree_build.proofs.TakenLemmas.{taken}
+use Rattle.tree_meaning.specs.Loose.{Loose, leaves_with, loose_of}
+use Rattle.tree_meaning.specs.Roles.{OneRole, roles}
+use Rattle.tree_meaning.proofs.AsideLemmas.{reordered}
+use Rattle.tree_meaning.proofs.MovedLemmas.{times-data_with, times-roles}
+use Rattle.tree_meaning.proofs.TakenLemmas.{taken}
 use Rattle.tree_change.specs.declared.change_fault.ChangeFault.{ChangeFault}
 use Rattle.tree_change.specs.Fresh.{HasFresh, IsTakeFault, TakesFresh}
 use Rattle.tree_change.specs.Putting.{TakesCounted}

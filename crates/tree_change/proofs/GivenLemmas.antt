@@ -17,12 +17,12 @@ use Rattle.quota_radix.specs.Tree.{blocks_of, tree_blocks}
 use Rattle.quota_radix.specs.declared.tree_path.TreePath.{TreePath}
 use Rattle.free_chains.specs.FreeList.{GivesBlock}
 use Rattle.free_chains.specs.declared.heads.Heads.{Heads}
-use Rattle.tree_build.specs.KeepsEntries.{IsNamed}
-use Rattle.tree_build.specs.Loose.{Loose, loose_of}
-use Rattle.tree_build.specs.Roles.{counted_leaves, data_with}
-use Rattle.tree_build.proofs.FrameLemmas.{data_kept}
-use Rattle.tree_build.proofs.MovedLemmas.{keeps_entries, times-data_with, times-roles}
-use Rattle.tree_build.proofs.TakenLemmas.{given}
+use Rattle.tree_meaning.specs.KeepsEntries.{IsNamed}
+use Rattle.tree_meaning.specs.Loose.{Loose, loose_of}
+use Rattle.tree_meaning.specs.Roles.{counted_leaves, data_with}
+use Rattle.tree_meaning.proofs.FrameLemmas.{data_kept}
+use Rattle.tree_meaning.proofs.MovedLemmas.{keeps_entries, times-data_with, times-roles}
+use Rattle.tree_meaning.proofs.TakenLemmas.{given}
 use Rattle.tree_steps.proofs.OneBlockLemmas.{one_role}
 use Rattle.tree_change.specs.Freed.{FreesBeside}
 use Rattle.tree_change.specs.Shows.{IsWholeTree}

@@ -9,11 +9,11 @@ use Rattle.file_blocks.specs.Block.{block_of}
 use Rattle.quota_pages.specs.Overlay.{with_block}
 use Rattle.quota_pages.proofs.BlockLemmas.{block_of-with_block_same, whole_block-same}
 use Rattle.free_chains.specs.declared.heads.Heads.{Heads}
-use Rattle.tree_build.specs.IsTree.{IsTree, header_with, heads_of}
-use Rattle.tree_build.specs.Loose.{loose_of, nothing_loose}
-use Rattle.tree_build.specs.TreeFile.{TreeStandsFor}
-use Rattle.tree_build.proofs.HeaderLemmas.{header_in_block}
-use Rattle.tree_build.proofs.TreeLemmas.{tree_of_value, value_of_tree}
+use Rattle.tree_meaning.specs.IsTree.{IsTree, header_with, heads_of}
+use Rattle.tree_meaning.specs.Loose.{loose_of, nothing_loose}
+use Rattle.tree_meaning.specs.TreeFile.{TreeStandsFor}
+use Rattle.tree_meaning.proofs.HeaderLemmas.{header_in_block}
+use Rattle.tree_meaning.proofs.TreeLemmas.{tree_of_value, value_of_tree}
 use Rattle.tree_change.specs.HeaderHeads.{HasHeads, SetsHeads, with_heads}
 use Rattle.tree_change.specs.Shows.{IsWholeTree}
 

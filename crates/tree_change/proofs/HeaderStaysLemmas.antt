@@ -5,9 +5,9 @@ use Rattle.quota_types.specs.Times.{StandsIn, times}
 use Rattle.quota_types.proofs.TimesLemmas.{times-append, times-cons-same}
 use Rattle.quota_radix.specs.Tree.{tree_blocks}
 use Rattle.quota_radix.specs.declared.tree_path.TreePath.{TreePath}
-use Rattle.tree_build.specs.Loose.{Loose, loose_of}
-use Rattle.tree_build.specs.Roles.{OneRole, data_with}
-use Rattle.tree_build.proofs.MovedLemmas.{times-roles}
+use Rattle.tree_meaning.specs.Loose.{Loose, loose_of}
+use Rattle.tree_meaning.specs.Roles.{OneRole, data_with}
+use Rattle.tree_meaning.proofs.MovedLemmas.{times-roles}
 use Rattle.tree_steps.proofs.OneBlockLemmas.{one_role}
 
 -- Block 0 is not held, and is none of the tree, and no data block.

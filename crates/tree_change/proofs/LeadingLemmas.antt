@@ -12,9 +12,9 @@ use Rattle.quota_radix.specs.Way.{blocks_on_way}
 use Rattle.quota_radix.specs.declared.tree_path.TreePath.{TreePath}
 use Rattle.quota_radix.proofs.LinkWayLemmas.{changed_distinct}
 use Rattle.free_chains.specs.declared.heads.Heads.{Heads}
-use Rattle.tree_build.specs.Loose.{Loose, loose_of}
-use Rattle.tree_build.proofs.LinkedLemmas.{changed_which, data_same, linkable, linked_found, not_free}
-use Rattle.tree_build.proofs.MovedLemmas.{times-roles}
+use Rattle.tree_meaning.specs.Loose.{Loose, loose_of}
+use Rattle.tree_meaning.proofs.LinkedLemmas.{changed_which, data_same, linkable, linked_found, not_free}
+use Rattle.tree_meaning.proofs.MovedLemmas.{times-roles}
 use Rattle.tree_change.specs.Fresh.{HasFresh, TakesFresh}
 use Rattle.tree_change.specs.Leads.{LeadsLeaf}
 use Rattle.tree_change.specs.Putting.{TakesCounted}

@@ -12,10 +12,10 @@ use Rattle.quota_radix.specs.Unlink.{AreAllWithoutOther, ClearsAlong, IsUnlinkab
 use Rattle.quota_radix.proofs.PathLemmas.{Rises-paths}
 use Rattle.quota_radix.proofs.UnlinkEndLemmas.{way_distinct}
 use Rattle.free_chains.specs.declared.heads.Heads.{Heads}
-use Rattle.tree_build.specs.Loose.{loose_of}
-use Rattle.tree_build.specs.Roles.{data_with}
-use Rattle.tree_build.proofs.AwaitedLemmas.{times-blocks}
-use Rattle.tree_build.proofs.MovedLemmas.{times-roles}
+use Rattle.tree_meaning.specs.Loose.{loose_of}
+use Rattle.tree_meaning.specs.Roles.{data_with}
+use Rattle.tree_meaning.proofs.AwaitedLemmas.{times-blocks}
+use Rattle.tree_meaning.proofs.MovedLemmas.{times-roles}
 use Rattle.tree_steps.proofs.OneBlockLemmas.{one_role}
 use Rattle.tree_steps.proofs.UnlinkedLemmas.{changed_old, unlinkable, unlinked}
 use Rattle.tree_change.specs.Freed.{FreesBlocks, lost_blocks}

@@ -18,9 +18,9 @@ use Rattle.free_chains.specs.Chain.{IsChain}
 use Rattle.free_chains.specs.EntryList.{LeavesList, NamesPrevious, StopsLeaving, TakesOut}
 use Rattle.free_chains.specs.Links.{led_to}
 use Rattle.free_chains.specs.declared.heads.Heads.{Heads}
-use Rattle.tree_build.specs.Loose.{Loose, loose_of}
-use Rattle.tree_build.specs.Roles.{data_with, has_room}
-use Rattle.tree_build.proofs.ListedLemmas.{left_list, misplaced-same}
+use Rattle.tree_meaning.specs.Loose.{Loose, loose_of}
+use Rattle.tree_meaning.specs.Roles.{data_with, has_room}
+use Rattle.tree_meaning.proofs.ListedLemmas.{left_list, misplaced-same}
 use Rattle.tree_change.specs.Freed.{BecomesTree}
 use Rattle.tree_change.specs.Removes.{IsNoTreeMisplacing, LeavesTree}
 use Rattle.tree_change.specs.Shows.{IsWholeTree}

@@ -13,9 +13,9 @@ use Rattle.quota_radix.specs.Way.{blocks_on_way}
 use Rattle.quota_radix.proofs.AlongLemmas.{fifth_is_leaf}
 use Rattle.quota_radix.proofs.LinkPathLemmas.{last_in_tree}
 use Rattle.free_chains.specs.declared.heads.Heads.{Heads}
-use Rattle.tree_build.specs.Loose.{Loose, loose_of}
-use Rattle.tree_build.specs.Roles.{data_with}
-use Rattle.tree_build.proofs.MovedLemmas.{times-roles}
+use Rattle.tree_meaning.specs.Loose.{Loose, loose_of}
+use Rattle.tree_meaning.specs.Roles.{data_with}
+use Rattle.tree_meaning.proofs.MovedLemmas.{times-roles}
 use Rattle.tree_steps.proofs.OneBlockLemmas.{one_role}
 use Rattle.tree_change.specs.Shows.{IsWholeTree}
 use Rattle.tree_change.proofs.AbsentLemmas.{absent_by_way, fifth}

@@ -15,11 +15,11 @@ use Rattle.quota_radix.specs.declared.tree_path.TreePath.{TreePath}
 use Rattle.quota_radix.proofs.LeafLemmas.{leaf_of_block}
 use Rattle.quota_radix.proofs.PathLemmas.{leaves_lead}
 use Rattle.free_chains.specs.declared.heads.Heads.{Heads}
-use Rattle.tree_build.specs.Loose.{loose_of}
-use Rattle.tree_build.specs.Roles.{data_with}
-use Rattle.tree_build.specs.TreeFile.{record_in}
-use Rattle.tree_build.proofs.MovedLemmas.{times-data_with}
-use Rattle.tree_build.proofs.ValueLemmas.{found_used}
+use Rattle.tree_meaning.specs.Loose.{loose_of}
+use Rattle.tree_meaning.specs.Roles.{data_with}
+use Rattle.tree_meaning.specs.TreeFile.{record_in}
+use Rattle.tree_meaning.proofs.MovedLemmas.{times-data_with}
+use Rattle.tree_meaning.proofs.ValueLemmas.{found_used}
 use Rattle.tree_steps.specs.EntrySteps.{RewritesEntry}
 use Rattle.tree_change.specs.declared.change_fault.ChangeFault.{ChangeFault}
 use Rattle.tree_change.specs.ChangeFault.{IsStepFault}

@@ -23,8 +23,8 @@ use Rattle.quota_radix.proofs.InsideLemmas.{out_on_way}
 use Rattle.quota_radix.proofs.LeafLemmas.{no_leaf_of_block}
 use Rattle.free_chains.specs.Chain.{IsChain}
 use Rattle.free_chains.specs.declared.heads.Heads.{Heads}
-use Rattle.tree_build.specs.Loose.{loose_of}
-use Rattle.tree_build.specs.TreeFile.{record_in}
+use Rattle.tree_meaning.specs.Loose.{loose_of}
+use Rattle.tree_meaning.specs.TreeFile.{record_in}
 use Rattle.tree_change.specs.declared.change_fault.ChangeFault.{ChangeFault}
 use Rattle.tree_change.specs.ChangeFault.{IsChangeFault, IsStepFault, of_walk_fault}
 use Rattle.tree_change.specs.Enters.{EntersRecord}

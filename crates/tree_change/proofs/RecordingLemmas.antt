@@ -18,13 +18,13 @@ use Rattle.quota_radix.specs.Tree.{blocks_of, data_blocks, tree_blocks}
 use Rattle.free_chains.specs.Chain.{IsChain}
 use Rattle.free_chains.specs.declared.heads.Heads.{Heads}
 use Rattle.free_chains.proofs.SpliceLemmas.{chain-stays}
-use Rattle.tree_build.specs.IsTree.{heads_of}
-use Rattle.tree_build.specs.Loose.{loose_of, nothing_loose}
-use Rattle.tree_build.specs.Roles.{counted_leaves, data_with}
-use Rattle.tree_build.specs.TreeFile.{TreeStandsFor}
-use Rattle.tree_build.proofs.AsideLemmas.{header_changed}
-use Rattle.tree_build.proofs.FrameLemmas.{data_kept, data_leads}
-use Rattle.tree_build.proofs.MovedLemmas.{keeps_entries}
+use Rattle.tree_meaning.specs.IsTree.{heads_of}
+use Rattle.tree_meaning.specs.Loose.{loose_of, nothing_loose}
+use Rattle.tree_meaning.specs.Roles.{counted_leaves, data_with}
+use Rattle.tree_meaning.specs.TreeFile.{TreeStandsFor}
+use Rattle.tree_meaning.proofs.AsideLemmas.{header_changed}
+use Rattle.tree_meaning.proofs.FrameLemmas.{data_kept, data_leads}
+use Rattle.tree_meaning.proofs.MovedLemmas.{keeps_entries}
 use Rattle.tree_steps.proofs.OneLeafLemmas.{inserted_own}
 use Rattle.tree_change.specs.Freed.{free_blocks}
 use Rattle.tree_change.specs.HeaderHeads.{SetsHeads, with_heads}

@@ -10,10 +10,10 @@ use Rattle.quota_value.specs.QuotaValue.{Records}
 use Rattle.quota_radix.specs.Tree.{ids_at, leaves}
 use Rattle.quota_radix.specs.declared.tree_path.TreePath.{TreePath}
 use Rattle.free_chains.specs.declared.heads.Heads.{Heads}
-use Rattle.tree_build.specs.Loose.{Loose, loose_of}
-use Rattle.tree_build.specs.Roles.{counted_leaves}
-use Rattle.tree_build.specs.TreeFile.{record_in}
-use Rattle.tree_build.proofs.ValueLemmas.{found_used}
+use Rattle.tree_meaning.specs.Loose.{Loose, loose_of}
+use Rattle.tree_meaning.specs.Roles.{counted_leaves}
+use Rattle.tree_meaning.specs.TreeFile.{record_in}
+use Rattle.tree_meaning.proofs.ValueLemmas.{found_used}
 use Rattle.tree_change.specs.Shows.{IsWholeTree}
 
 -- an identifier that leads to a block has a record there

@@ -13,11 +13,11 @@ use Rattle.quota_pages.specs.Used.{KeepsBlocksBut}
 use Rattle.quota_radix.specs.Tree.{data_blocks, tree_blocks}
 use Rattle.quota_radix.specs.Way.{blocks_on_way}
 use Rattle.free_chains.specs.declared.heads.Heads.{Heads}
-use Rattle.tree_build.specs.IsTree.{heads_of}
-use Rattle.tree_build.specs.Loose.{Loose, loose_of}
-use Rattle.tree_build.specs.TreeFile.{TreeStandsFor}
-use Rattle.tree_build.proofs.AsideLemmas.{header_changed}
-use Rattle.tree_build.proofs.MovedLemmas.{times-roles}
+use Rattle.tree_meaning.specs.IsTree.{heads_of}
+use Rattle.tree_meaning.specs.Loose.{Loose, loose_of}
+use Rattle.tree_meaning.specs.TreeFile.{TreeStandsFor}
+use Rattle.tree_meaning.proofs.AsideLemmas.{header_changed}
+use Rattle.tree_meaning.proofs.MovedLemmas.{times-roles}
 use Rattle.tree_steps.proofs.OneBlockLemmas.{one_role}
 use Rattle.tree_change.specs.Freed.{FreesBlocks, freed_blocks, lost_blocks, unnamed_of}
 use Rattle.tree_change.specs.Removes.{AwaitsInNoTree, RemovesEntry}

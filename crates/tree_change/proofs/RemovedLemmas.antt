@@ -13,11 +13,11 @@ use Rattle.free_chains.specs.FreeList.{GivesBlock}
 use Rattle.free_chains.specs.Links.{led_to}
 use Rattle.free_chains.specs.declared.heads.Heads.{Heads}
 use Rattle.free_chains.proofs.SpliceLemmas.{head_leads}
-use Rattle.tree_build.specs.Loose.{Loose, loose_of}
-use Rattle.tree_build.specs.Roles.{data_with}
-use Rattle.tree_build.proofs.ListedLemmas.{entered}
-use Rattle.tree_build.proofs.MovedLemmas.{times-roles}
-use Rattle.tree_build.proofs.TakenLemmas.{given}
+use Rattle.tree_meaning.specs.Loose.{Loose, loose_of}
+use Rattle.tree_meaning.specs.Roles.{data_with}
+use Rattle.tree_meaning.proofs.ListedLemmas.{entered}
+use Rattle.tree_meaning.proofs.MovedLemmas.{times-roles}
+use Rattle.tree_meaning.proofs.TakenLemmas.{given}
 use Rattle.tree_steps.specs.EntrySteps.{LosesEntry}
 use Rattle.tree_steps.proofs.ClearedLemmas.{cleared_of_full, cleared_with_room, last_cleared, last_room, room_now}
 use Rattle.tree_steps.proofs.KeptLemmas.{awaited_data}

@@ -12,11 +12,11 @@ use Rattle.quota_radix.specs.Tree.{tree_blocks}
 use Rattle.quota_radix.specs.Way.{blocks_on_way}
 use Rattle.quota_radix.specs.declared.tree_path.TreePath.{TreePath}
 use Rattle.free_chains.specs.declared.heads.Heads.{Heads}
-use Rattle.tree_build.specs.Entries.{has_unused}
-use Rattle.tree_build.specs.Loose.{Loose, but_misplaced, loose_of}
-use Rattle.tree_build.specs.Roles.{counts_as_data, data_with, has_room}
-use Rattle.tree_build.proofs.ListedLemmas.{misplaced-other}
-use Rattle.tree_build.proofs.MovedLemmas.{times-data_with, times-roles}
+use Rattle.tree_meaning.specs.Entries.{has_unused}
+use Rattle.tree_meaning.specs.Loose.{Loose, but_misplaced, loose_of}
+use Rattle.tree_meaning.specs.Roles.{counts_as_data, data_with, has_room}
+use Rattle.tree_meaning.proofs.ListedLemmas.{misplaced-other}
+use Rattle.tree_meaning.proofs.MovedLemmas.{times-data_with, times-roles}
 use Rattle.tree_steps.proofs.KeptLemmas.{held_or_data_stay}
 use Rattle.tree_change.specs.Freed.{FreesBeside}
 use Rattle.tree_change.specs.Putting.{TakesCounted}

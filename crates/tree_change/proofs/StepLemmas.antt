@@ -11,9 +11,9 @@ use Rattle.quota_value.specs.QuotaValue.{Records}
 use Rattle.quota_radix.specs.Tree.{leaves}
 use Rattle.quota_radix.specs.declared.tree_path.TreePath.{TreePath}
 use Rattle.free_chains.specs.declared.heads.Heads.{Heads}
-use Rattle.tree_build.specs.Entries.{has_unused}
-use Rattle.tree_build.specs.Loose.{loose_of}
-use Rattle.tree_build.specs.Roles.{data_with, has_room}
+use Rattle.tree_meaning.specs.Entries.{has_unused}
+use Rattle.tree_meaning.specs.Loose.{loose_of}
+use Rattle.tree_meaning.specs.Roles.{data_with, has_room}
 use Rattle.tree_steps.specs.EntrySteps.{RewritesEntry, WritesEntry}
 use Rattle.tree_steps.proofs.EntryWrittenLemmas.{first_room, first_written as first_tree, written_full, written_with_room}
 use Rattle.tree_steps.proofs.OverwrittenLemmas.{overwritten}

@@ -10,10 +10,10 @@ use Rattle.quota_value.specs.QuotaValue.{QuotaValue, Records}
 use Rattle.quota_radix.specs.Way.{IsOutOnWay, block_on_way, blocks_on_way, digit_on_way}
 use Rattle.quota_radix.proofs.LinkPathLemmas.{last_in_tree}
 use Rattle.free_chains.specs.declared.heads.Heads.{Heads}
-use Rattle.tree_build.specs.IsTree.{heads_of}
-use Rattle.tree_build.specs.Loose.{loose_of}
-use Rattle.tree_build.specs.TreeFile.{TreeStandsFor}
-use Rattle.tree_build.proofs.TreeLemmas.{tree_of_value}
+use Rattle.tree_meaning.specs.IsTree.{heads_of}
+use Rattle.tree_meaning.specs.Loose.{loose_of}
+use Rattle.tree_meaning.specs.TreeFile.{TreeStandsFor}
+use Rattle.tree_meaning.proofs.TreeLemmas.{tree_of_value}
 use Rattle.tree_change.specs.Shows.{IsWholeTree}
 use Rattle.tree_change.proofs.AbsentLemmas.{absent_by_way, there_by_way}
 

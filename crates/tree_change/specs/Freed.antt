@@ -10,7 +10,7 @@ use Rattle.quota_radix.specs.Tree.{data_blocks}
 use Rattle.quota_radix.specs.Way.{blocks_on_way}
 use Rattle.free_chains.specs.Chain.{chain_from}
 use Rattle.free_chains.specs.declared.heads.Heads.{Heads}
-use Rattle.tree_build.specs.Loose.{Loose}
+use Rattle.tree_meaning.specs.Loose.{Loose}
 use Rattle.tree_change.specs.Behind.{KeepsBehind}
 use Rattle.tree_change.specs.Shows.{IsWholeTree}
 

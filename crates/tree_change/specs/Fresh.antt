@@ -8,8 +8,8 @@ use Rattle.quota_radix.specs.Link.{AreDistinct}
 use Rattle.quota_radix.specs.Way.{blocks_on_way}
 use Rattle.quota_radix.specs.declared.tree_path.TreePath.{TreePath}
 use Rattle.free_chains.specs.declared.heads.Heads.{Heads}
-use Rattle.tree_build.specs.Loose.{loose_of}
-use Rattle.tree_build.specs.Roles.{data_with}
+use Rattle.tree_meaning.specs.Loose.{loose_of}
+use Rattle.tree_meaning.specs.Roles.{data_with}
 use Rattle.tree_change.specs.declared.change_fault.ChangeFault.{ChangeFault}
 use Rattle.tree_change.specs.ChangeFault.{IsChangeFault}
 use Rattle.tree_change.specs.Putting.{TakesCounted}

@@ -8,8 +8,8 @@ use Rattle.file_blocks.specs.Block.{block_of}
 use Rattle.quota_value.specs.QuotaValue.{Records}
 use Rattle.quota_radix.specs.Descent.{leaf_block}
 use Rattle.free_chains.specs.declared.heads.Heads.{Heads}
-use Rattle.tree_build.specs.Loose.{loose_of}
-use Rattle.tree_build.specs.Roles.{data_with}
+use Rattle.tree_meaning.specs.Loose.{loose_of}
+use Rattle.tree_meaning.specs.Roles.{data_with}
 use Rattle.tree_change.specs.Putting.{TakesCounted}
 use Rattle.tree_change.specs.Shows.{IsWholeTree}
 

@@ -4,8 +4,8 @@ use Rattle.quota_types.specs.Bytes.{number_at}
 use Rattle.quota_types.specs.Span.{KeepsOutside}
 use Rattle.quota_types.specs.declared.file_kind.Format.{Format}
 use Rattle.quota_types.specs.declared.record.Entry.{Entry}
-use Rattle.tree_build.specs.Entries.{entry_bytes, entry_of, used_ids}
-use Rattle.tree_build.specs.EntryPlaces.{KeepsOtherEntries}
+use Rattle.tree_meaning.specs.Entries.{entry_bytes, entry_of, used_ids}
+use Rattle.tree_meaning.specs.EntryPlaces.{KeepsOtherEntries}
 
 -- An entry stands now at a place of a block, whatever stood there: all other entries are as before, the block states how many it
 -- uses, and its links stay.

@@ -13,13 +13,13 @@ use Rattle.quota_pages.specs.Pages.{pages_of}
 use Rattle.quota_pages.specs.declared.page_buffer.Pages.{Pages}
 use Rattle.free_chains.specs.Chain.{IsChain}
 use Rattle.quota_radix.specs.Tree.{data_blocks}
-use Rattle.tree_build.specs.IsTree.{heads_of}
-use Rattle.tree_build.specs.Roles.{data_with}
-use Rattle.tree_build.specs.TreeFile.{TreeStandsFor}
+use Rattle.tree_meaning.specs.IsTree.{heads_of}
+use Rattle.tree_meaning.specs.Roles.{data_with}
+use Rattle.tree_meaning.specs.TreeFile.{TreeStandsFor}
 use Rattle.quota_radix.specs.Descent.{leaf_block}
 use Rattle.quota_radix.specs.Way.{blocks_on_way}
 use Rattle.free_chains.specs.declared.heads.Heads.{Heads}
-use Rattle.tree_build.specs.Loose.{loose_of}
+use Rattle.tree_meaning.specs.Loose.{loose_of}
 use Rattle.tree_change.specs.declared.change_fault.ChangeFault.{ChangeFault}
 use Rattle.tree_change.specs.Behind.{KeepsBehind}
 use Rattle.tree_change.specs.ChangeFault.{IsChangeFault}

@@ -10,9 +10,9 @@ use Rattle.quota_pages.specs.Used.{IsKnown, LendsSome, LooksAtSome, missing, sho
 use Rattle.quota_pages.specs.declared.page_buffer.Pages.{Pages}
 use Rattle.quota_radix.specs.declared.tree_path.TreePath.{TreePath}
 use Rattle.free_chains.specs.declared.heads.Heads.{Heads}
-use Rattle.tree_build.specs.IsTree.{IsTree}
-use Rattle.tree_build.specs.Loose.{Loose, loose_of}
-use Rattle.tree_build.specs.TreeFile.{TreeStandsFor}
+use Rattle.tree_meaning.specs.IsTree.{IsTree}
+use Rattle.tree_meaning.specs.Loose.{Loose, loose_of}
+use Rattle.tree_meaning.specs.TreeFile.{TreeStandsFor}
 
 -- the page of one block was lent for writing, which was read if it was missing
 abbrev pub LendsOne : (tells : Bool) → (block : ℕ) → (before now : StoreSeen) → (old new : Pages) → Type 0

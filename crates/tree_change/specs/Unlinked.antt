@@ -9,10 +9,10 @@ use Rattle.quota_radix.specs.Descent.{leaf_block}
 use Rattle.quota_radix.specs.Way.{blocks_on_way}
 use Rattle.quota_radix.specs.declared.tree_path.TreePath.{TreePath}
 use Rattle.free_chains.specs.declared.heads.Heads.{Heads}
-use Rattle.tree_build.specs.Entries.{stated_count, used_ids}
-use Rattle.tree_build.specs.Loose.{Loose, loose_of}
-use Rattle.tree_build.specs.Roles.{data_with}
-use Rattle.tree_build.specs.TreeFile.{record_in}
+use Rattle.tree_meaning.specs.Entries.{stated_count, used_ids}
+use Rattle.tree_meaning.specs.Loose.{Loose, loose_of}
+use Rattle.tree_meaning.specs.Roles.{data_with}
+use Rattle.tree_meaning.specs.TreeFile.{record_in}
 use Rattle.tree_change.specs.Freed.{FreesBeside, FreesBlocks, lost_blocks}
 use Rattle.tree_change.specs.Shows.{IsWholeTree}
 

@@ -10,9 +10,9 @@ ghost use Rattle.entry_codec.specs.Entry.{entries_per_block};
 ghost use Rattle.quota_pages.specs.Page.{HasRoomFor, is_buffered};
 ghost use Rattle.quota_pages.specs.Pages.{pages_of};
 ghost use Rattle.quota_pages.specs.Used.{LendsSome, LooksAtSome};
-ghost use Rattle.tree_build.specs.Entries.{record_by, used_ids};
-ghost use Rattle.tree_build.specs.EntryPlaces.{ClearsEntry};
-ghost use Rattle.tree_build.specs.TreeFile.{record_in};
+ghost use Rattle.tree_meaning.specs.Entries.{record_by, used_ids};
+ghost use Rattle.tree_meaning.specs.EntryPlaces.{ClearsEntry};
+ghost use Rattle.tree_meaning.specs.TreeFile.{record_in};
 ghost use Rattle.tree_steps.specs.EntrySteps.{LosesEntry};
 ghost use Rattle.tree_change.specs.ChangeFault.{IsStepFault};
 ghost use Rattle.tree_change.specs.Clears.{IsCleared, LosesRecord};
@@ -24,7 +24,7 @@ use file_blocks::set_le16;
 use outside::{Store, StoreFault};
 use quota_pages::Pages;
 use quota_types::Format;
-use tree_build::{clear_entry, unused_place, used_count};
+use tree_meaning::{clear_entry, unused_place, used_count};
 
 /// What a block had, and has, of which an entry was cleared.
 #[derive(Clone, Copy, Debug, PartialEq, Eq)]

@@ -8,7 +8,7 @@ ghost use Rattle.file_blocks.specs.Block.{block_of};
 ghost use Rattle.quota_pages.specs.Page.{is_buffered, is_lent};
 ghost use Rattle.quota_pages.specs.Pages.{pages_of};
 ghost use Rattle.quota_pages.specs.Used.{LooksAtSome, Uses};
-ghost use Rattle.tree_build.specs.Entries.{entry_bytes, has_unused};
+ghost use Rattle.tree_meaning.specs.Entries.{entry_bytes, has_unused};
 ghost use Rattle.tree_change.specs.ChangeFault.{IsStepFault};
 ghost use Rattle.tree_change.specs.Enters.{EntersEachTree};
 ghost use Rattle.tree_change.specs.Shows.{IsNoTree, OfChange, OfShown};
@@ -19,7 +19,7 @@ use free_chains::{Heads, leave_entry_list};
 use outside::Store;
 use quota_pages::Pages;
 use quota_types::{DamageKind, Format, Rec, damage_at};
-use tree_build::unused_place;
+use tree_meaning::unused_place;
 
 /// The first unused place among the entries of a block of the entry list, in a file of this many blocks.
 ///

@@ -7,7 +7,7 @@ ghost use Rattle.quota_value.specs.QuotaValue.{Records};
 ghost use Rattle.quota_radix.specs.Way.{blocks_on_way};
 ghost use Rattle.quota_radix.specs.declared.tree_path.TreePath.{TreePath};
 ghost use Rattle.free_chains.specs.declared.heads.Heads.{Heads};
-ghost use Rattle.tree_build.specs.Loose.{loose_of};
+ghost use Rattle.tree_meaning.specs.Loose.{loose_of};
 ghost use Rattle.tree_change.specs.Shows.{IsWholeTree};
 ghost use Rattle.tree_change.specs.Unlinked.{HasAwaited, UnlinksLeaf};
 

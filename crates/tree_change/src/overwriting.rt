@@ -11,8 +11,8 @@ ghost use Rattle.quota_pages.specs.Pages.{pages_of};
 ghost use Rattle.quota_pages.specs.Used.{LooksAtSome, Uses};
 ghost use Rattle.quota_radix.specs.Descent.{leaf_block};
 ghost use Rattle.free_chains.specs.declared.heads.Heads.{Heads};
-ghost use Rattle.tree_build.specs.Entries.{record_by};
-ghost use Rattle.tree_build.specs.TreeFile.{record_in};
+ghost use Rattle.tree_meaning.specs.Entries.{record_by};
+ghost use Rattle.tree_meaning.specs.TreeFile.{record_in};
 ghost use Rattle.tree_steps.specs.EntrySteps.{RewritesEntry};
 ghost use Rattle.tree_change.specs.ChangeFault.{IsStepFault};
 ghost use Rattle.tree_change.specs.Overwrites.{OverwritesEachTree};
@@ -23,7 +23,7 @@ use crate::change_fault::ChangeFault;
 use outside::{Store, StoreFault};
 use quota_pages::Pages;
 use quota_types::{Damage, DamageKind, Format, Rec};
-use tree_build::{find_place, put_entry};
+use tree_meaning::{find_place, put_entry};
 
 /// Puts an entry at a place among the entries of a block, whatever stood there. All other bytes stay.
 fn put_over(format: Format, block: &mut [u8; 1024], place: usize, id: u32, rec: &Rec)

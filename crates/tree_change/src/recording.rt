@@ -8,7 +8,7 @@ ghost use Rattle.quota_types.specs.Kept.{IsKept};
 ghost use Rattle.quota_pages.specs.Page.{is_lent, lent_count};
 ghost use Rattle.quota_pages.specs.Pages.{pages_of};
 ghost use Rattle.quota_pages.specs.Used.{IsKnown, Uses, shown_over};
-ghost use Rattle.tree_build.specs.IsTree.{heads_of};
+ghost use Rattle.tree_meaning.specs.IsTree.{heads_of};
 ghost use Rattle.tree_change.specs.ChangeFault.{IfFull, IsChangeFault};
 ghost use Rattle.tree_change.specs.HeaderHeads.{HasHeads};
 ghost use Rattle.tree_change.specs.Putting.{PutsRecord, blocks_with};

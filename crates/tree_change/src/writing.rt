@@ -8,7 +8,7 @@ ghost use Rattle.file_blocks.specs.Block.{block_of};
 ghost use Rattle.outside.specs.Count.{Rose};
 ghost use Rattle.quota_pages.specs.Page.{HasRoomFor, is_buffered};
 ghost use Rattle.quota_pages.specs.Pages.{pages_of};
-ghost use Rattle.tree_build.specs.Entries.{entry_bytes, has_unused};
+ghost use Rattle.tree_meaning.specs.Entries.{entry_bytes, has_unused};
 ghost use Rattle.tree_steps.specs.EntrySteps.{WritesEntry};
 ghost use Rattle.tree_change.specs.Put.{PutsCounted};
 ghost use Rattle.tree_change.specs.Shows.{LendsOne, LooksAtOne, OfChange};
@@ -18,7 +18,7 @@ use file_blocks::set_le16;
 use outside::{Store, StoreFault};
 use quota_pages::Pages;
 use quota_types::{Format, Rec};
-use tree_build::{put_entry, used_count};
+use tree_meaning::{put_entry, used_count};
 
 /// Where a data block states how many of its entries are used.
 const COUNT_AT: usize = 8;

@@ -12,7 +12,7 @@ use Rattle.std.proofs.lemmas.List.FromFn.{get_or-map-range_with_len, length-map-
 use Rattle.std.proofs.lemmas.List.Sorted.{IsNonDecreasingBy-drop}
 use Rattle.quota_radix.specs.declared.tree_path.TreePath.{TreePath}
 use Rattle.quota_radix.specs.Tree.{ids_at, numbers_of}
-use Rattle.tree_build.specs.Compared.{IsDataDefect, leading_ids}
+use Rattle.tree_meaning.specs.Compared.{IsDataDefect, leading_ids}
 use Rattle.quota_types.specs.declared.damage.Damage.{Damage}
 use Rattle.quota_types.specs.declared.file_kind.Format.{Format}
 use Rattle.file_blocks.specs.CheckFault.{IsCheckFault}

@@ -13,15 +13,15 @@ use Rattle.tree_check.specs.declared.roles.Roles.{Roles}
 use Rattle.free_chains.specs.Chain.{IsChain}
 use Rattle.file_blocks.specs.CheckFault.{IsCheckFault}
 use Rattle.tree_check.specs.Check.{IsChecked}
-use Rattle.tree_build.specs.Defect.{IsTreeDefect}
+use Rattle.tree_meaning.specs.Defect.{IsTreeDefect}
 use Rattle.tree_check.specs.Found.{AreRoles, IsLengthDefect, IsListedDefect, IsRoleDefect}
 use Rattle.tree_check.specs.Groups.{AreGroupsOf}
-use Rattle.tree_build.specs.Loose.{nothing_loose}
-use Rattle.tree_build.specs.Roles.{Chained, Filled}
+use Rattle.tree_meaning.specs.Loose.{nothing_loose}
+use Rattle.tree_meaning.specs.Roles.{Chained, Filled}
 use Rattle.quota_radix.specs.Tree.{leaves}
-use Rattle.tree_build.specs.TreeFile.{IsSound, TreeStandsFor}
-use Rattle.tree_build.proofs.DefectLemmas.{no_defect_of_sound}
-use Rattle.tree_build.proofs.ValueLemmas.{sound_value, sound}
+use Rattle.tree_meaning.specs.TreeFile.{IsSound, TreeStandsFor}
+use Rattle.tree_meaning.proofs.DefectLemmas.{no_defect_of_sound}
+use Rattle.tree_meaning.proofs.ValueLemmas.{sound_value, sound}
 
 -- what the check of the length was refused for
 pub length_refused : (before now : ℕ) (tells : Bool) (file : List ℕ) (header : Header) (fault : CheckFault)

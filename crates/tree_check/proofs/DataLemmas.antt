@@ -9,13 +9,13 @@ use Rattle.quota_types.specs.declared.file_kind.Format.{Format}
 use Rattle.free_chains.specs.declared.link.Link.{Link}
 use Rattle.file_blocks.specs.Block.{block_of}
 use Rattle.file_blocks.specs.BlockSet.{AreFlagsOf}
-use Rattle.tree_build.specs.Compared.{HasEntriesOf, leading_ids, is_room, rooms}
-use Rattle.tree_build.specs.Entries.{has_unused}
+use Rattle.tree_meaning.specs.Compared.{HasEntriesOf, leading_ids, is_room, rooms}
+use Rattle.tree_meaning.specs.Entries.{has_unused}
 use Rattle.quota_types.specs.Times.{StandsIn, times}
 use Rattle.tree_check.specs.EntryList.{AreListed, NamesOther}
 use Rattle.free_chains.specs.Walk.{linked_blocks, previous_in}
 use Rattle.quota_types.proofs.TimesLemmas.{times-append, times-filter-no, times-filter-yes, times-range-high, times_cases}
-use Rattle.tree_build.proofs.EntryLemmas.{range-suc}
+use Rattle.tree_meaning.proofs.EntryLemmas.{range-suc}
 
 -- what holds of the numbers of some things holds of those of one more
 pub mapped_more : {X : Type 0} (P : ℕ → Type 0) (f : X → ℕ) (xs : List X) (i : ℕ) (d : X) → i < length xs → ((n : ℕ) → StandsIn (map f (take i xs)) n → P n) → P (f (get_or xs i d))

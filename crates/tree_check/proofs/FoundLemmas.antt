@@ -16,15 +16,15 @@ use Rattle.quota_radix.specs.declared.tree_path.TreePath.{TreePath}
 use Rattle.file_blocks.specs.Block.{block_of, previous_of, bytes_of, leads}
 use Rattle.free_chains.specs.Chain.{IsChain}
 use Rattle.file_blocks.specs.CheckFault.{IsCheckFault}
-use Rattle.tree_build.specs.Compared.{AreEntriesOf, HasEntriesOf, IsDataDefect, IsEntryDefect, leading_ids, is_room, rooms}
+use Rattle.tree_meaning.specs.Compared.{AreEntriesOf, HasEntriesOf, IsDataDefect, IsEntryDefect, leading_ids, is_room, rooms}
 use Rattle.quota_types.specs.Times.{StandsIn, times}
-use Rattle.tree_build.specs.Defect.{IsDefectOf, IsTreeDefect}
+use Rattle.tree_meaning.specs.Defect.{IsDefectOf, IsTreeDefect}
 use Rattle.quota_types.specs.Damage.{NamesItsId}
-use Rattle.tree_build.specs.Entries.{has_unused, stated_count, used_ids}
+use Rattle.tree_meaning.specs.Entries.{has_unused, stated_count, used_ids}
 use Rattle.tree_check.specs.Found.{HasNoEmptyBlock, IsListedDefect}
 use Rattle.tree_check.specs.Groups.{AreGroupsOf}
-use Rattle.tree_build.specs.Loose.{nothing_loose}
-use Rattle.tree_build.specs.Roles.{Chained, Filled, has_room}
+use Rattle.tree_meaning.specs.Loose.{nothing_loose}
+use Rattle.tree_meaning.specs.Roles.{Chained, Filled, has_room}
 use Rattle.quota_radix.specs.Tree.{data_blocks, ids_at, is_data, leaves, level}
 use Rattle.free_chains.specs.Walk.{AreLinksTo, linked_blocks, previous_in}
 use Rattle.tree_check.specs.EntryList.{AreListed, IsListDefect, IsListDefectOf}

@@ -14,7 +14,7 @@ use Rattle.file_blocks.specs.BlockSet.{AreFlagsOf}
 use Rattle.free_chains.specs.Chain.{IsChain}
 use Rattle.file_blocks.specs.CheckFault.{IsCheckFault}
 use Rattle.quota_types.specs.Times.{StandsIn, times}
-use Rattle.tree_build.specs.Defect.{IsDefectOf, IsTreeDefect}
+use Rattle.tree_meaning.specs.Defect.{IsDefectOf, IsTreeDefect}
 use Rattle.quota_types.specs.Damage.{NamesItsId}
 use Rattle.tree_check.specs.Found.{HasNoEmptyBlock, IsRoleDefect, AreRoles}
 use Rattle.tree_check.specs.Groups.{AreGroupsOf, groups_of, named_blocks}
@@ -22,8 +22,8 @@ use Rattle.tree_check.proofs.ByBlockLemmas.{same_groups}
 use Rattle.tree_check.proofs.FoundLemmas.{same_bytes}
 use Rattle.tree_check.specs.declared.roles.Roles.{Roles}
 use Rattle.quota_radix.specs.Levels.{AreTreeBlocksWhole, IsSecondRole, IsTreeFault, IsTreeFaultOf}
-use Rattle.tree_build.specs.Loose.{nothing_loose}
-use Rattle.tree_build.specs.Roles.{OneRole, roles}
+use Rattle.tree_meaning.specs.Loose.{nothing_loose}
+use Rattle.tree_meaning.specs.Roles.{OneRole, roles}
 use Rattle.quota_radix.specs.Tree.{data_blocks, ids_at, leaves, lower_blocks, tree_blocks}
 use Rattle.file_blocks.specs.Block.{leads, bytes_of}
 use Rattle.free_chains.specs.Walk.{linked_blocks, AreLinksTo, IsWalk}

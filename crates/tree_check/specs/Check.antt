@@ -5,7 +5,7 @@ use Rattle.quota_value.specs.QuotaValue.{QuotaValue}
 use Rattle.entry_codec.specs.Header.{header_of}
 use Rattle.tree_check.specs.declared.checked.Checked.{Checked}
 use Rattle.free_chains.specs.Chain.{IsChain}
-use Rattle.tree_build.specs.TreeFile.{TreeStandsFor}
+use Rattle.tree_meaning.specs.TreeFile.{TreeStandsFor}
 
 -- The file stands for a value, which has this many records, and its free list has this many blocks.
 pub record IsChecked (file : List ℕ) (checked : Checked) : Type 0 where

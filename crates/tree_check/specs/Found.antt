@@ -5,11 +5,11 @@ use Rattle.quota_types.specs.declared.damage.Damage.{Damage}
 use Rattle.quota_types.specs.declared.file_kind.Format.{Format}
 use Rattle.tree_check.specs.declared.roles.Roles.{Roles}
 use Rattle.quota_types.specs.Times.{StandsIn}
-use Rattle.tree_build.specs.Defect.{IsTreeDefect}
+use Rattle.tree_meaning.specs.Defect.{IsTreeDefect}
 use Rattle.tree_check.specs.Groups.{AreGroupsOf, groups_of}
 use Rattle.quota_radix.specs.TreeDefect.{IsEmpty}
-use Rattle.tree_build.specs.Loose.{nothing_loose}
-use Rattle.tree_build.specs.Roles.{OneRole}
+use Rattle.tree_meaning.specs.Loose.{nothing_loose}
+use Rattle.tree_meaning.specs.Roles.{OneRole}
 use Rattle.quota_radix.specs.Tree.{leaves, lower_blocks}
 
 -- no tree block below the root is empty

@@ -3,13 +3,13 @@ ghost use Rattle.file_blocks.specs.Block.{block_of, file_of};
 ghost use Rattle.file_blocks.specs.CheckFault.{IsCheckFault};
 ghost use Rattle.outside.specs.Frame.{OnlyReads};
 ghost use Rattle.quota_types.specs.Format.{IsTreeFormat};
-ghost use Rattle.tree_build.specs.Compared.{AreEntriesOf, IsEntryDefectAt};
-ghost use Rattle.tree_build.specs.Entries.{has_unused, stated_count, used_ids};
+ghost use Rattle.tree_meaning.specs.Compared.{AreEntriesOf, IsEntryDefectAt};
+ghost use Rattle.tree_meaning.specs.Entries.{has_unused, stated_count, used_ids};
 
 use file_blocks::{BLOCK, CheckFault, read_block};
 use outside::Store;
 use quota_types::Format;
-use tree_build::compare_entries;
+use tree_meaning::compare_entries;
 
 /// Reads a data block into `block`, checks its entries against the identifiers that lead to it, and answers whether it has
 /// room.

@@ -9,9 +9,9 @@ ghost use Rattle.file_blocks.specs.declared.check_fault.CheckFault.TheVariants.{
 ghost use Rattle.tree_check.specs.Check.{IsChecked};
 ghost use Rattle.file_blocks.specs.CheckFault.{IsCheckFault};
 ghost use Rattle.file_blocks.specs.Block.{file_of};
-ghost use Rattle.tree_build.specs.Defect.{IsTreeDefect};
+ghost use Rattle.tree_meaning.specs.Defect.{IsTreeDefect};
 ghost use Rattle.tree_check.specs.Found.{IsLengthDefect};
-ghost use Rattle.tree_build.specs.TreeFile.{TreeStandsFor};
+ghost use Rattle.tree_meaning.specs.TreeFile.{TreeStandsFor};
 
 use crate::checked::Checked;
 use crate::lists::check_lists;

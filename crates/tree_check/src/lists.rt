@@ -7,8 +7,8 @@ ghost use Rattle.file_blocks.specs.Block.{file_of};
 ghost use Rattle.tree_check.specs.Found.{HasNoEmptyBlock, IsListedDefect};
 ghost use Rattle.tree_check.specs.Groups.{AreByBlock, AreGroupsOf, groups_of};
 ghost use Rattle.tree_check.specs.Reads.{led_blocks};
-ghost use Rattle.tree_build.specs.Loose.{nothing_loose};
-ghost use Rattle.tree_build.specs.Roles.{Chained, Filled};
+ghost use Rattle.tree_meaning.specs.Loose.{nothing_loose};
+ghost use Rattle.tree_meaning.specs.Roles.{Chained, Filled};
 ghost use Rattle.quota_radix.specs.Tree.{leaves};
 
 use crate::data::{check_data, check_listed};

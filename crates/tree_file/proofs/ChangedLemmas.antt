@@ -11,8 +11,8 @@ use Rattle.entry_codec.specs.Header.{AreOf, header_of}
 use Rattle.entry_codec.specs.declared.header.Header.{Header}
 use Rattle.free_chains.specs.declared.heads.Heads.{Heads}
 use Rattle.quota_radix.specs.Tree.{data_blocks}
-use Rattle.tree_build.specs.IsTree.{heads_of}
-use Rattle.tree_build.specs.TreeFile.{TreeStandsFor}
+use Rattle.tree_meaning.specs.IsTree.{heads_of}
+use Rattle.tree_meaning.specs.TreeFile.{TreeStandsFor}
 use Rattle.tree_file.specs.InPlace.{ChangesTree, MayChange}
 use Rattle.tree_change.specs.Freed.{FreesBlocks, free_blocks, freed_blocks}
 use Rattle.tree_change.specs.Putting.{PutsRecord, blocks_taken}

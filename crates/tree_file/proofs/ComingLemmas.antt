@@ -13,7 +13,7 @@ use Rattle.quota_radix.specs.declared.tree_path.TreePath.{TreePath}
 use Rattle.quota_radix.proofs.DescentLemmas.{leaf_led_to, option_cases}
 use Rattle.quota_radix.proofs.LeafLemmas.{IsLeaf, leaf_of_block, no_leaf_of_block}
 use Rattle.quota_radix.specs.Tree.{leaves}
-use Rattle.tree_build.specs.Entries.{IsRecordIn}
+use Rattle.tree_meaning.specs.Entries.{IsRecordIn}
 use Rattle.tree_file.specs.Coming.{AreFit, AreNext, StandsBy, entry_by}
 use Rattle.tree_file.proofs.LookupLemmas.{near_record, next_leaf, no_record}
 

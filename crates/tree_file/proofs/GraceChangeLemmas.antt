@@ -28,7 +28,7 @@ use Rattle.quota_pages.specs.Used.{IsKnown, file_under, shown_over}
 use Rattle.quota_pages.specs.declared.page_buffer.Pages.{Pages}
 use Rattle.quota_pages.proofs.PageLemmas.{IsClean-nil, shown-nil}
 use Rattle.quota_pages.proofs.UsedLemmas.{same_file}
-use Rattle.tree_build.specs.TreeFile.{TreeStandsFor}
+use Rattle.tree_meaning.specs.TreeFile.{TreeStandsFor}
 use Rattle.tree_file.specs.Coming.{HoldsComing}
 use Rattle.tree_file.specs.GraceChange.{GracesFile, IsGraceLeft}
 use Rattle.tree_file.specs.Opened.{HoldsTree}

@@ -11,7 +11,7 @@ use Rattle.entry_codec.specs.declared.header.Header.{Header}
 use Rattle.entry_codec.specs.Header.{AreOf, format_of, header_of}
 use Rattle.file_blocks.specs.Block.{block_of}
 use Rattle.tree_file.specs.TreeChange.{IsGraced}
-use Rattle.tree_build.specs.TreeFile.{TreeStandsFor}
+use Rattle.tree_meaning.specs.TreeFile.{TreeStandsFor}
 use Rattle.quota_pages.specs.Overlay.{with_block}
 use Rattle.quota_pages.proofs.BlockLemmas.{byte_at-with_block_behind, byte_at-with_block_inside, length-with_block}
 use Rattle.file_blocks.proofs.WordLemmas.{byte_at-block_of, length-block_of}

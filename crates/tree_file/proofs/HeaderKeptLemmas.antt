@@ -6,9 +6,9 @@ use Rattle.quota_types.specs.declared.record.Grace.{Grace}
 use Rattle.quota_value.specs.QuotaValue.{QuotaValue, with_grace}
 use Rattle.entry_codec.specs.Header.{HeaderNumbers, format_of, header_of}
 use Rattle.file_blocks.specs.Block.{block_of}
-use Rattle.tree_build.specs.Loose.{nothing_loose}
-use Rattle.tree_build.specs.Roles.{Chained, Filled, OneRole}
-use Rattle.tree_build.specs.TreeFile.{IsSound, TreeStandsFor, record_in, tree_record}
+use Rattle.tree_meaning.specs.Loose.{nothing_loose}
+use Rattle.tree_meaning.specs.Roles.{Chained, Filled, OneRole}
+use Rattle.tree_meaning.specs.TreeFile.{IsSound, TreeStandsFor, record_in, tree_record}
 use Rattle.tree_file.proofs.SameBlocksLemmas.{KeepsTree, SameBlocks, chained_same, filled_same, one_role_same, record_same, same_tree}
 
 -- a header says the same, but maybe for the grace periods

@@ -4,7 +4,7 @@ use Rattle.file_blocks.specs.Block.{bytes_of}
 use Rattle.quota_value.specs.QuotaValue.{QuotaValue}
 use Rattle.entry_codec.specs.Header.{AreOf, header_of}
 use Rattle.entry_codec.specs.declared.header.Header.{Header}
-use Rattle.tree_build.specs.TreeFile.{TreeStandsFor}
+use Rattle.tree_meaning.specs.TreeFile.{TreeStandsFor}
 use Rattle.tree_file.specs.Opened.{HoldsTree}
 use Rattle.tree_file.specs.declared.coming.Coming.{Coming}
 

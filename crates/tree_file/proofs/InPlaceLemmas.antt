@@ -20,10 +20,10 @@ use Rattle.quota_value.specs.QuotaValue.{QuotaValue, Records}
 use Rattle.opened_file.specs.declared.file_use.FileUse.{FileUse}
 use Rattle.opened_file.specs.declared.quota_file.FileFault.{FileFault}
 use Rattle.opened_file.proofs.ChangesLemmas.{IsBounded, IsWanted, changes-done, changes-refused, changes-torn, changes-unwritten}
-use Rattle.tree_build.specs.IsTree.{heads_of}
-use Rattle.tree_build.specs.Size.{ids_in}
-use Rattle.tree_build.specs.TreeFile.{TreeStandsFor}
-use Rattle.tree_build.proofs.MeaningLemmas.{header_flags, header_format, header_grace, header_kind}
+use Rattle.tree_meaning.specs.IsTree.{heads_of}
+use Rattle.tree_meaning.specs.Ids.{ids_in}
+use Rattle.tree_meaning.specs.TreeFile.{TreeStandsFor}
+use Rattle.tree_meaning.proofs.MeaningLemmas.{header_flags, header_format, header_grace, header_kind}
 use Rattle.tree_change.specs.ChangeFault.{IsChangeFault}
 use Rattle.tree_change.specs.declared.change_fault.ChangeFault.{ChangeFault}
 use Rattle.tree_change.specs.declared.change_fault.ChangeFault.TheVariants.{Store, Damage as Damaged, Full}

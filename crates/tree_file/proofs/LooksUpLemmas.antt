@@ -21,10 +21,10 @@ use Rattle.quota_pages.specs.declared.page_buffer.Pages.{Pages}
 use Rattle.quota_radix.specs.WalkFault.{IsWalkFault}
 use Rattle.quota_radix.specs.declared.walk_fault.WalkFault.{WalkFault}
 use Rattle.quota_radix.specs.declared.walk_fault.WalkFault.TheVariants.{Store, Damage as Damaged}
-use Rattle.tree_build.specs.Defect.{IsTreeDefect}
-use Rattle.tree_build.specs.TreeFile.{TreeStandsFor}
-use Rattle.tree_build.proofs.DefectLemmas.{no_defect_of_sound}
-use Rattle.tree_build.proofs.MeaningLemmas.{header_format}
+use Rattle.tree_meaning.specs.Defect.{IsTreeDefect}
+use Rattle.tree_meaning.specs.TreeFile.{TreeStandsFor}
+use Rattle.tree_meaning.proofs.DefectLemmas.{no_defect_of_sound}
+use Rattle.tree_meaning.proofs.MeaningLemmas.{header_format}
 use Rattle.tree_file.specs.Coming.{HoldsComing}
 use Rattle.tree_file.specs.Faults.{look_up_fault}
 use Rattle.tree_file.specs.Opened.{HoldsTree, IsNamedDefect}

@@ -14,17 +14,17 @@ use Rattle.entry_codec.specs.declared.header.Header.{Header}
 use Rattle.quota_radix.specs.declared.tree_path.TreePath.{TreePath}
 use Rattle.file_blocks.specs.Block.{block_of}
 use Rattle.quota_types.specs.Times.{StandsIn, times}
-use Rattle.tree_build.specs.Defect.{IsTreeDefect}
+use Rattle.tree_meaning.specs.Defect.{IsTreeDefect}
 use Rattle.quota_radix.specs.Descent.{leaf_from}
-use Rattle.tree_build.specs.Entries.{IsRecordIn, used_ids}
+use Rattle.tree_meaning.specs.Entries.{IsRecordIn, used_ids}
 use Rattle.tree_file.specs.Leaf.{IsLeafFault}
 use Rattle.quota_radix.specs.Tree.{ids_at, leaves}
-use Rattle.tree_build.specs.TreeFile.{TreeStandsFor, record_in, tree_record}
-use Rattle.tree_build.proofs.DefectLemmas.{no_defect_of_sound}
+use Rattle.tree_meaning.specs.TreeFile.{TreeStandsFor, record_in, tree_record}
+use Rattle.tree_meaning.proofs.DefectLemmas.{no_defect_of_sound}
 use Rattle.quota_radix.proofs.DescentLemmas.{IsPathFrom, find_above, leaf_is_from, no_leaf_from, not_some, option_cases, some_same}
 use Rattle.quota_radix.proofs.LeafLemmas.{IsLeaf}
 use Rattle.quota_radix.proofs.PathLemmas.{Rises-paths, leaves_lead}
-use Rattle.tree_build.proofs.ValueLemmas.{found_used}
+use Rattle.tree_meaning.proofs.ValueLemmas.{found_used}
 use Rattle.tree_file.proofs.UsedLemmas.{one_is_first}
 
 -- a file stands for no value

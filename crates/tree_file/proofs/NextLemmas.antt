@@ -18,7 +18,7 @@ use Rattle.quota_radix.specs.Descent.{leaf_block, leaf_from}
 use Rattle.quota_radix.specs.LeafAfter.{first_after, leaf_after}
 use Rattle.quota_radix.specs.declared.tree_path.TreePath.{TreePath}
 use Rattle.quota_radix.proofs.DescentLemmas.{option_cases}
-use Rattle.tree_build.specs.TreeFile.{TreeStandsFor, record_in}
+use Rattle.tree_meaning.specs.TreeFile.{TreeStandsFor, record_in}
 use Rattle.tree_file.specs.Coming.{HoldsComing}
 use Rattle.tree_file.specs.Leaf.{entry_led_to}
 use Rattle.tree_file.specs.declared.coming.Coming.{Coming}

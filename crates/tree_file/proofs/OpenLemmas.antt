@@ -16,16 +16,16 @@ use Rattle.file_blocks.specs.declared.check_fault.CheckFault.TheVariants.{Store 
 use Rattle.file_blocks.specs.CheckFault.{IsCheckFault}
 use Rattle.opened_file.specs.Opening.{open_fault}
 use Rattle.file_blocks.specs.Block.{block_of, bytes_of}
-use Rattle.tree_build.specs.Defect.{IsTreeDefect}
+use Rattle.tree_meaning.specs.Defect.{IsTreeDefect}
 use Rattle.tree_check.specs.Check.{IsChecked}
 use Rattle.tree_check.specs.declared.checked.Checked.{Checked}
 use Rattle.tree_file.specs.Coming.{HoldsComing}
 use Rattle.tree_file.specs.Opened.{HoldsTree}
 use Rattle.tree_file.specs.declared.coming.Coming.{Coming}
-use Rattle.tree_build.specs.TreeFile.{TreeStandsFor}
+use Rattle.tree_meaning.specs.TreeFile.{TreeStandsFor}
 use Rattle.tree_file.specs.View.{FitsRequest, HasHeader, IsAsAsked, IsDamaged, IsRefusedHeader, IsTreeFault, IsTreeView}
-use Rattle.tree_build.proofs.HeaderLemmas.{header_in_block}
-use Rattle.tree_build.proofs.MeaningLemmas.{header_format, header_kind}
+use Rattle.tree_meaning.proofs.HeaderLemmas.{header_in_block}
+use Rattle.tree_meaning.proofs.MeaningLemmas.{header_format, header_kind}
 
 -- the header of the first block is that of the file
 pub header_seen : (first file : List ℕ) → first ≡ block_of file 0 → header_of first ≡ header_of file

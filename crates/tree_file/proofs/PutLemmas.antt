@@ -11,9 +11,9 @@ use Rattle.opened_file.specs.Changes.{LacksRoomFor}
 use Rattle.opened_file.specs.FileChange.{Put, changed_value, edit_by}
 use Rattle.quota_value.specs.QuotaValue.{QuotaValue}
 use Rattle.opened_file.specs.declared.file_use.FileUse.{FileUse}
-use Rattle.tree_build.specs.IsTree.{heads_of}
-use Rattle.tree_build.specs.Size.{ids_in}
-use Rattle.tree_build.specs.TreeFile.{TreeStandsFor}
+use Rattle.tree_meaning.specs.IsTree.{heads_of}
+use Rattle.tree_meaning.specs.Ids.{ids_in}
+use Rattle.tree_meaning.specs.TreeFile.{TreeStandsFor}
 use Rattle.tree_file.specs.Opened.{HoldsTree}
 use Rattle.tree_file.specs.Room.{blocks_wanted}
 use Rattle.tree_change.specs.Putting.{blocks_with}

@@ -20,7 +20,7 @@ use Rattle.opened_file.specs.QuotaFile.{IfFull}
 use Rattle.quota_value.specs.QuotaValue.{QuotaValue, Records, without_record}
 use Rattle.opened_file.specs.declared.file_use.FileUse.{FileUse}
 use Rattle.opened_file.proofs.ChangesLemmas.{changes-idle}
-use Rattle.tree_build.specs.TreeFile.{TreeStandsFor}
+use Rattle.tree_meaning.specs.TreeFile.{TreeStandsFor}
 use Rattle.tree_change.specs.ChangeFault.{IsChangeFault}
 use Rattle.tree_change.specs.declared.change_fault.ChangeFault.{ChangeFault}
 use Rattle.tree_change.specs.declared.change_fault.ChangeFault.TheVariants.{Store as NotChanged, Damage as Damaged, Full as IsFull}

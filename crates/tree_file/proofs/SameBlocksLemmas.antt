@@ -9,15 +9,15 @@ use Rattle.quota_radix.specs.declared.tree_path.TreePath.{TreePath}
 use Rattle.file_blocks.specs.Block.{block_of, next_of, previous_of, leads}
 use Rattle.free_chains.specs.Chain.{IsChain}
 use Rattle.quota_types.specs.Times.{StandsIn, times}
-use Rattle.tree_build.specs.Entries.{has_unused, stated_count, used_ids}
-use Rattle.tree_build.specs.Loose.{nothing_loose}
-use Rattle.tree_build.specs.Roles.{Chained, Filled, OneRole, has_room}
+use Rattle.tree_meaning.specs.Entries.{has_unused, stated_count, used_ids}
+use Rattle.tree_meaning.specs.Loose.{nothing_loose}
+use Rattle.tree_meaning.specs.Roles.{Chained, Filled, OneRole, has_room}
 use Rattle.quota_radix.specs.Tree.{data_blocks, ids_at, is_data, leaves, level, lower_blocks, paths, steps, tree_blocks}
-use Rattle.tree_build.specs.TreeFile.{record_in, tree_record}
+use Rattle.tree_meaning.specs.TreeFile.{record_in, tree_record}
 use Rattle.file_blocks.proofs.LeadsLemmas.{leads_within}
 use Rattle.quota_types.proofs.TimesLemmas.{stands_either, stands_right, times-cons-same, only_one}
 use Rattle.quota_types.proofs.ListLemmas.{AllByRecursion-weaker}
-use Rattle.tree_build.proofs.LevelAddedLemmas.{empty_kept, flat_map_same}
+use Rattle.tree_meaning.proofs.FrameLemmas.{empty_kept, flat_map_same}
 use Rattle.quota_radix.proofs.PathLemmas.{data_block_of_id, level_leads, paths_lead, times-data_blocks}
 use Rattle.quota_radix.proofs.LinkPathLemmas.{level_in_tree}
 use Rattle.quota_radix.proofs.LinkStepLemmas.{steps_same}

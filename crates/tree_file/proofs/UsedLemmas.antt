@@ -11,10 +11,10 @@ use Rattle.quota_types.specs.declared.record.Rec.{Rec}
 use Rattle.entry_codec.specs.Entry.{entries_per_block}
 use Rattle.quota_types.specs.Times.{StandsIn, times}
 use Rattle.quota_types.proofs.TimesLemmas.{times-cons, times-cons-other, times-cons-same, stands_right}
-use Rattle.tree_build.specs.Entries.{IsRecordIn, entry_bytes, entry_of, used_by, used_entries, used_ids}
-use Rattle.tree_build.specs.TreeFile.{record_in}
-use Rattle.tree_build.proofs.EntryLemmas.{used_ids-entries}
-use Rattle.tree_build.proofs.RecordLemmas.{found_or_later, used_there}
+use Rattle.tree_meaning.specs.Entries.{IsRecordIn, entry_bytes, entry_of, used_by, used_entries, used_ids}
+use Rattle.tree_meaning.specs.TreeFile.{record_in}
+use Rattle.tree_meaning.proofs.EntryLemmas.{used_ids-entries}
+use Rattle.tree_meaning.proofs.RecordLemmas.{found_or_later, used_there}
 
 -- the identifier of an entry, where there is one
 abbrev pub id_of : Option Entry → Option ℕ

@@ -25,8 +25,8 @@ use Rattle.quota_radix.specs.declared.walk_fault.WalkFault.TheVariants.{Store, D
 use Rattle.quota_radix.proofs.InsideLemmas.{out_on_way}
 use Rattle.quota_radix.proofs.LeafLemmas.{IsLeaf}
 use Rattle.quota_radix.proofs.WalkLemmas.{damaged_weaker}
-use Rattle.tree_build.specs.Defect.{IsDefectOf, IsTreeDefect}
-use Rattle.tree_build.specs.TreeFile.{record_in}
+use Rattle.tree_meaning.specs.Defect.{IsDefectOf, IsTreeDefect}
+use Rattle.tree_meaning.specs.TreeFile.{record_in}
 use Rattle.tree_file.specs.Leaf.{IsLeafFault}
 use Rattle.tree_file.proofs.LookupLemmas.{leaf_damage}
 

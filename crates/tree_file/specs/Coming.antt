@@ -10,7 +10,7 @@ use Rattle.quota_value.specs.QuotaValue.{IsNextAfter, QuotaValue, Records}
 use Rattle.entry_codec.specs.Header.{AreOf, header_of}
 use Rattle.entry_codec.specs.declared.header.Header.{Header}
 use Rattle.quota_radix.specs.Descent.{block_led_to}
-use Rattle.tree_build.specs.TreeFile.{TreeStandsFor}
+use Rattle.tree_meaning.specs.TreeFile.{TreeStandsFor}
 use Rattle.tree_file.specs.declared.coming.Coming.{Coming}
 
 -- an identifier with its record, as an entry

@@ -9,9 +9,9 @@ use Rattle.outside.specs.Seen.{StoreSeen}
 use Rattle.outside.specs.World.{KeepsOthers, World}
 use Rattle.opened_file.specs.FileChange.{FileChange, changed_value, has_nothing_to_do}
 use Rattle.quota_value.specs.QuotaValue.{QuotaValue}
-use Rattle.tree_build.specs.IsTree.{heads_of}
-use Rattle.tree_build.specs.Size.{ids_in}
-use Rattle.tree_build.specs.TreeFile.{TreeStandsFor}
+use Rattle.tree_meaning.specs.IsTree.{heads_of}
+use Rattle.tree_meaning.specs.Ids.{ids_in}
+use Rattle.tree_meaning.specs.TreeFile.{TreeStandsFor}
 use Rattle.tree_change.specs.declared.change_fault.ChangeFault.{ChangeFault}
 use Rattle.tree_change.specs.declared.change_fault.ChangeFault.TheVariants.{Store}
 use Rattle.tree_file.specs.Room.{blocks_wanted}

@@ -11,7 +11,7 @@ use Rattle.quota_radix.specs.Descent.{leaf_block}
 use Rattle.quota_radix.specs.LeafAfter.{leaf_after}
 use Rattle.quota_radix.specs.declared.tree_path.TreePath.{TreePath}
 use Rattle.file_blocks.specs.Block.{block_of}
-use Rattle.tree_build.specs.TreeFile.{record_in}
+use Rattle.tree_meaning.specs.TreeFile.{record_in}
 
 -- a damage is that the block of a leaf has no entry of its identifier
 pub record IsLeafFault (format : Format) (file : List ℕ) (leaf : TreePath) (damage : Damage) : Type 0 where

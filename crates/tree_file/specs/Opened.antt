@@ -10,9 +10,9 @@ use Rattle.file_blocks.specs.Block.{bytes_of}
 use Rattle.free_chains.specs.declared.heads.Heads.{Heads}
 use Rattle.quota_types.specs.Damage.{NamesItsId}
 use Rattle.quota_types.specs.declared.damage.Damage.{Damage as Damaged}
-use Rattle.tree_build.specs.Defect.{IsTreeDefect}
-use Rattle.tree_build.specs.Size.{ids_in}
-use Rattle.tree_build.specs.TreeFile.{TreeStandsFor}
+use Rattle.tree_meaning.specs.Defect.{IsTreeDefect}
+use Rattle.tree_meaning.specs.Ids.{ids_in}
+use Rattle.tree_meaning.specs.TreeFile.{TreeStandsFor}
 use Rattle.tree_file.specs.Coming.{HoldsComing}
 use Rattle.tree_file.specs.Room.{blocks_wanted}
 use Rattle.tree_file.specs.declared.coming.Coming.{Coming}

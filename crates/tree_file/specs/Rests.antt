@@ -3,7 +3,7 @@ use Rattle.std.specs.Prelude.{◌≡◌, Bool, ℕ, List, Option, IsSomeAnd}
 use Rattle.std.proofs.Common.{sym, subst, ◌∙◌}
 use Rattle.entry_codec.specs.declared.header.Header.{Header}
 use Rattle.quota_value.specs.QuotaValue.{QuotaValue}
-use Rattle.tree_build.specs.TreeFile.{TreeStandsFor}
+use Rattle.tree_meaning.specs.TreeFile.{TreeStandsFor}
 use Rattle.tree_file.specs.Opened.{HoldsTree}
 use Rattle.tree_file.specs.declared.coming.Coming.{Coming}
 

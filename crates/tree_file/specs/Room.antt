@@ -7,7 +7,7 @@ use Rattle.file_blocks.specs.Block.{bytes_of}
 use Rattle.free_chains.specs.declared.heads.Heads.{Heads}
 use Rattle.quota_radix.specs.Tree.{leaves}
 use Rattle.quota_radix.specs.declared.tree_path.TreePath.{TreePath}
-use Rattle.tree_build.specs.IsTree.{heads_of}
+use Rattle.tree_meaning.specs.IsTree.{heads_of}
 use Rattle.tree_change.specs.Putting.{blocks_with}
 
 -- no leaf of a file is that of an identifier

@@ -21,8 +21,8 @@ use Rattle.quota_pages.specs.Used.{KeepsBlocksBut}
 use Rattle.quota_radix.specs.Tree.{data_blocks}
 use Rattle.tree_file.specs.Opened.{HoldsTree, LacksRoom, MayRefuse}
 use Rattle.tree_file.specs.declared.coming.Coming.{Coming}
-use Rattle.tree_build.specs.IsTree.{heads_of}
-use Rattle.tree_build.specs.TreeFile.{TreeStandsFor}
+use Rattle.tree_meaning.specs.IsTree.{heads_of}
+use Rattle.tree_meaning.specs.TreeFile.{TreeStandsFor}
 use Rattle.tree_change.specs.Freed.{FreesBlocks, free_blocks, freed_blocks}
 use Rattle.tree_change.specs.Putting.{blocks_taken, blocks_with}
 

@@ -10,9 +10,9 @@ use Rattle.opened_file.specs.declared.quota_file.OpenFault.{OpenFault}
 use Rattle.opened_file.specs.declared.quota_file.OpenFault.TheVariants.{Store, NoFile, TooLarge, Memory, NotQuota, WrongKind, UnknownVersion, BadBlockCount, FormatMismatch, Damage as Damaged}
 use Rattle.entry_codec.specs.Header.{HeaderNumbers, format_of, header_fault, header_of}
 use Rattle.entry_codec.specs.declared.header.HeaderFault.TheVariants.{NotQuota as NoMagic, WrongKind as OtherKind, UnknownVersion as OtherVersion, BadBlockCount as FewBlocks}
-use Rattle.tree_build.specs.Defect.{IsTreeDefect}
+use Rattle.tree_meaning.specs.Defect.{IsTreeDefect}
 use Rattle.quota_types.specs.Damage.{NamesItsId}
-use Rattle.tree_build.specs.TreeFile.{TreeStandsFor}
+use Rattle.tree_meaning.specs.TreeFile.{TreeStandsFor}
 
 -- a format is the one that was asked for, where one was
 abbrev pub IsAsAsked : Option Format → Format → Type 0

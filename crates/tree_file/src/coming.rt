@@ -11,14 +11,14 @@ ghost use Rattle.entry_codec.specs.Header.{AreOf, header_of};
 ghost use Rattle.entry_codec.specs.declared.header.Header.{Header};
 ghost use Rattle.quota_pages.specs.Used.{IsKnown, shown_over};
 ghost use Rattle.quota_radix.specs.Descent.{leaf_block, led_by};
-ghost use Rattle.tree_build.specs.TreeFile.{TreeStandsFor};
+ghost use Rattle.tree_meaning.specs.TreeFile.{TreeStandsFor};
 ghost use Rattle.tree_file.specs.Coming.{FitsComing, HoldsComing, LeadsTo, StandsBy, left_of};
 
 use arrayvec::ArrayVec;
 use quota_pages::Pages;
 use quota_radix::{TreePath, digits, level_ref};
 use quota_types::{Entry, Format, Rec};
-use tree_build::find_near;
+use tree_meaning::find_near;
 
 /// How many entries are kept at most: as many as fit in a data block.
 const MOST: usize = 21;

@@ -12,7 +12,7 @@ ghost use Rattle.opened_file.specs.QuotaFile.{ChangesBlocks};
 ghost use Rattle.quota_pages.specs.Pages.{name_of, pages_of};
 ghost use Rattle.quota_types.specs.Format.{IsTreeFormat};
 ghost use Rattle.quota_types.specs.Kept.{IsKept};
-ghost use Rattle.tree_build.specs.IsTree.{heads_of};
+ghost use Rattle.tree_meaning.specs.IsTree.{heads_of};
 ghost use Rattle.tree_change.specs.ChangeFault.{IsChangeFault};
 ghost use Rattle.tree_file.specs.InPlace.{EndsEarly, IsNoFileOf, MayChange, OfEachValue, WritesSo};
 ghost use Rattle.tree_change.specs.Putting.{blocks_with};

@@ -10,8 +10,8 @@ ghost use Rattle.quota_pages.specs.Used.{IsKnown, LooksAtSome, shown_over};
 ghost use Rattle.quota_radix.specs.WalkFault.{IfDamaged, IsWalkFault};
 ghost use Rattle.quota_types.specs.Format.{IsTreeFormat};
 ghost use Rattle.quota_types.specs.Kept.{IsKept};
-ghost use Rattle.tree_build.specs.Defect.{IsTreeDefect};
-ghost use Rattle.tree_build.specs.TreeFile.{TreeStandsFor, record_in};
+ghost use Rattle.tree_meaning.specs.Defect.{IsTreeDefect};
+ghost use Rattle.tree_meaning.specs.TreeFile.{TreeStandsFor, record_in};
 ghost use Rattle.tree_file.specs.Coming.{FitsComing, HoldsComing};
 ghost use Rattle.tree_file.specs.Leaf.{IsLeafFault, entry_led_to, record_led_to};
 
@@ -21,7 +21,7 @@ use outside::Store;
 use quota_pages::Pages;
 use quota_radix::{TreePath, WalkFault, leaf, next_leaf};
 use quota_types::{Damage, DamageKind, Entry, Format, Rec};
-use tree_build::find_record;
+use tree_meaning::find_record;
 
 /// The record in the data block of a leaf, of which one is read at most.
 ///

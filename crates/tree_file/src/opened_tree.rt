@@ -6,7 +6,7 @@ ghost use Rattle.quota_pages.specs.Pages.{name_of, pages_of};
 ghost use Rattle.tree_file.specs.Coming.{FitsComing, HoldsComing, fits_is_a_fact};
 ghost use Rattle.tree_file.specs.Faults.{file_fault, look_up_fault};
 ghost use Rattle.tree_file.specs.Opened.{HoldsTree, with_heads};
-ghost use Rattle.tree_build.specs.TreeFile.{TreeStandsFor};
+ghost use Rattle.tree_meaning.specs.TreeFile.{TreeStandsFor};
 
 use crate::coming::Coming;
 use crate::grace_change::set_grace_in;

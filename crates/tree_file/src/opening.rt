@@ -10,8 +10,8 @@ ghost use Rattle.quota_value.specs.QuotaValue.{QuotaValue};
 ghost use Rattle.std.specs.Bool.{OnFalse, OnTrue};
 ghost use Rattle.file_blocks.specs.CheckFault.{IsCheckFault};
 ghost use Rattle.file_blocks.specs.Block.{block_of, file_of};
-ghost use Rattle.tree_build.specs.Defect.{IsTreeDefect};
-ghost use Rattle.tree_build.specs.TreeFile.{TreeStandsFor};
+ghost use Rattle.tree_meaning.specs.Defect.{IsTreeDefect};
+ghost use Rattle.tree_meaning.specs.TreeFile.{TreeStandsFor};
 ghost use Rattle.tree_file.specs.View.{FitsRequest, HasHeader, IsAsAsked, IsRefusedHeader, IsTreeFault, IsTreeView};
 
 use crate::TreeFile;

@@ -12,14 +12,14 @@ use Rattle.free_chains.specs.declared.heads.Heads.{Heads}
 use Rattle.quota_radix.specs.declared.tree_path.TreePath.{TreePath}
 use Rattle.quota_radix.specs.Tree.{blocks_of, ids_at, leaves, tree_blocks}
 use Rattle.quota_radix.proofs.PathLemmas.{length_ids}
-use Rattle.tree_build.specs.Entries.{has_unused, used_ids}
-use Rattle.tree_build.specs.IsTree.{IsTree}
-use Rattle.tree_build.specs.Loose.{Loose, but_misplaced, loose_of}
-use Rattle.tree_build.specs.Roles.{counts_as_data, data_with, has_room}
-use Rattle.tree_build.specs.TreeFile.{record_by_leaves}
-use Rattle.tree_build.proofs.EntryChangeLemmas.{cleared_length, cleared_other, cleared_room, cleared_times}
-use Rattle.tree_build.proofs.ListedLemmas.{misplaced-other, misplaced-same}
-use Rattle.tree_build.proofs.MovedLemmas.{times-data_with}
+use Rattle.tree_meaning.specs.Entries.{has_unused, used_ids}
+use Rattle.tree_meaning.specs.IsTree.{IsTree}
+use Rattle.tree_meaning.specs.Loose.{Loose, but_misplaced, loose_of}
+use Rattle.tree_meaning.specs.Roles.{counts_as_data, data_with, has_room}
+use Rattle.tree_meaning.specs.TreeFile.{record_by_leaves}
+use Rattle.tree_meaning.proofs.EntryChangeLemmas.{cleared_length, cleared_other, cleared_room, cleared_times}
+use Rattle.tree_meaning.proofs.ListedLemmas.{misplaced-other, misplaced-same}
+use Rattle.tree_meaning.proofs.MovedLemmas.{times-data_with}
 use Rattle.tree_steps.specs.EntrySteps.{LosesEntry}
 use Rattle.tree_steps.proofs.EntryWrittenLemmas.{some_places, unused_left}
 use Rattle.tree_steps.proofs.OneBlockLemmas.{changed, count_of, data_no_tree, leaves_same, records_stay}

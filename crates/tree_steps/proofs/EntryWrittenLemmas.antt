@@ -17,16 +17,16 @@ use Rattle.free_chains.specs.declared.heads.Heads.{Heads}
 use Rattle.quota_radix.specs.declared.tree_path.TreePath.{TreePath}
 use Rattle.quota_radix.specs.Tree.{blocks_of, ids_at, leaves, numbers_of, tree_blocks}
 use Rattle.quota_radix.proofs.PathLemmas.{ids_distinct, length_ids}
-use Rattle.tree_build.specs.Entries.{has_unused, used_ids}
-use Rattle.tree_build.specs.IsTree.{IsTree}
-use Rattle.tree_build.specs.Loose.{Loose, but_misplaced, loose_of}
-use Rattle.tree_build.specs.Roles.{counts_as_data, data_with, has_room}
-use Rattle.tree_build.specs.TreeFile.{record_by_leaves}
-use Rattle.tree_build.proofs.DataBlockLemmas.{blank_ids}
-use Rattle.tree_build.proofs.EntryChangeLemmas.{few_used, put_length, put_other, put_own, put_times, room_by_count}
-use Rattle.tree_build.proofs.FrameLemmas.{data_leads}
-use Rattle.tree_build.proofs.ListedLemmas.{misplaced-other, misplaced-same}
-use Rattle.tree_build.proofs.MovedLemmas.{times-data_with, times-roles}
+use Rattle.tree_meaning.specs.Entries.{has_unused, used_ids}
+use Rattle.tree_meaning.specs.IsTree.{IsTree}
+use Rattle.tree_meaning.specs.Loose.{Loose, but_misplaced, loose_of}
+use Rattle.tree_meaning.specs.Roles.{counts_as_data, data_with, has_room}
+use Rattle.tree_meaning.specs.TreeFile.{record_by_leaves}
+use Rattle.tree_meaning.proofs.BlankLemmas.{blank_ids}
+use Rattle.tree_meaning.proofs.EntryChangeLemmas.{few_used, put_length, put_other, put_own, put_times, room_by_count}
+use Rattle.tree_meaning.proofs.FrameLemmas.{data_leads}
+use Rattle.tree_meaning.proofs.ListedLemmas.{misplaced-other, misplaced-same}
+use Rattle.tree_meaning.proofs.MovedLemmas.{times-data_with, times-roles}
 use Rattle.tree_steps.specs.EntrySteps.{WritesEntry}
 use Rattle.tree_steps.proofs.OneBlockLemmas.{changed, count_of, data_counts, data_no_tree, leaves_same, one_role, records_stay}
 use Rattle.tree_steps.proofs.OneLeafLemmas.{awaited_counts, ids_fewer, ids_other, ids_same, inserted_own, inserted_rest, no_leaf_of, no_stray, record_first, record_rest}

@@ -17,11 +17,11 @@ use Rattle.quota_radix.specs.declared.tree_path.TreePath.{TreePath}
 use Rattle.quota_radix.specs.Tree.{ids_at, leaves, tree_blocks}
 use Rattle.quota_radix.specs.Way.{blocks_on_way}
 use Rattle.quota_radix.proofs.MoreBlocksLemmas.{KeepsReferences, tree_blocks-among_more, way-among_more}
-use Rattle.tree_build.specs.Entries.{has_unused, used_ids}
-use Rattle.tree_build.specs.IsTree.{IsTree}
-use Rattle.tree_build.specs.Loose.{Loose, loose_of}
-use Rattle.tree_build.specs.Roles.{counts_as_data, data_with, has_room}
-use Rattle.tree_build.proofs.MovedLemmas.{times-data_with, times-roles}
+use Rattle.tree_meaning.specs.Entries.{has_unused, used_ids}
+use Rattle.tree_meaning.specs.IsTree.{IsTree}
+use Rattle.tree_meaning.specs.Loose.{Loose, loose_of}
+use Rattle.tree_meaning.specs.Roles.{counts_as_data, data_with, has_room}
+use Rattle.tree_meaning.proofs.MovedLemmas.{times-data_with, times-roles}
 use Rattle.tree_steps.proofs.OneBlockLemmas.{count_of, one_role}
 use Rattle.tree_steps.proofs.OneLeafLemmas.{awaited_counts, ids_same}
 

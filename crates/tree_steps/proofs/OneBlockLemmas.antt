@@ -19,12 +19,12 @@ use Rattle.quota_radix.specs.Tree.{blocks_of, ids_at, leaves, level, lower_block
 use Rattle.quota_radix.specs.TreeDefect.{IsEmpty}
 use Rattle.quota_radix.proofs.MoreBlocksLemmas.{KeepsReferences, leaves-among_more, lower_blocks-among_more, tree_blocks-among_more}
 use Rattle.quota_radix.proofs.PathLemmas.{length_ids}
-use Rattle.tree_build.specs.Entries.{has_unused, stated_count, used_ids}
-use Rattle.tree_build.specs.IsTree.{IsAwaited, IsTree}
-use Rattle.tree_build.specs.Loose.{Loose, but_misplaced, leaves_with}
-use Rattle.tree_build.specs.Roles.{OneRole, counts_as_data, data_with, has_room, roles}
-use Rattle.tree_build.specs.TreeFile.{record_by_leaves, record_in}
-use Rattle.tree_build.proofs.MovedLemmas.{times-data_with, times-roles}
+use Rattle.tree_meaning.specs.Entries.{has_unused, stated_count, used_ids}
+use Rattle.tree_meaning.specs.IsTree.{IsAwaited, IsTree}
+use Rattle.tree_meaning.specs.Loose.{Loose, but_misplaced, leaves_with}
+use Rattle.tree_meaning.specs.Roles.{OneRole, counts_as_data, data_with, has_room, roles}
+use Rattle.tree_meaning.specs.TreeFile.{record_by_leaves, record_in}
+use Rattle.tree_meaning.proofs.MovedLemmas.{times-data_with, times-roles}
 use Rattle.tree_steps.proofs.OneLeafLemmas.{record_alike}
 
 -- whether something is so, as a number

@@ -15,11 +15,11 @@ use Rattle.free_chains.specs.declared.heads.Heads.{Heads}
 use Rattle.quota_radix.specs.declared.tree_path.TreePath.{TreePath}
 use Rattle.quota_radix.specs.Tree.{blocks_of, ids_at, leaves, numbers_of}
 use Rattle.quota_radix.proofs.PathLemmas.{leaves_lead}
-use Rattle.tree_build.specs.IsTree.{IsTree}
-use Rattle.tree_build.specs.Loose.{loose_of}
-use Rattle.tree_build.specs.Roles.{counts_as_data}
-use Rattle.tree_build.specs.TreeFile.{record_by_leaves, record_in}
-use Rattle.tree_build.proofs.ValueLemmas.{found_used}
+use Rattle.tree_meaning.specs.IsTree.{IsTree}
+use Rattle.tree_meaning.specs.Loose.{loose_of}
+use Rattle.tree_meaning.specs.Roles.{counts_as_data}
+use Rattle.tree_meaning.specs.TreeFile.{record_by_leaves, record_in}
+use Rattle.tree_meaning.proofs.ValueLemmas.{found_used}
 
 -- the record that is put in is there, and that of another identifier stays
 pub inserted_own : (records : Records) (id : ℕ) (rec : Rec) → get (insert records id rec) id ≡ Some rec

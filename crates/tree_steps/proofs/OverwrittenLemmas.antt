@@ -14,12 +14,12 @@ use Rattle.free_chains.specs.declared.heads.Heads.{Heads}
 use Rattle.quota_radix.specs.declared.tree_path.TreePath.{TreePath}
 use Rattle.quota_radix.specs.Tree.{blocks_of, ids_at, leaves, tree_blocks}
 use Rattle.quota_radix.proofs.PathLemmas.{data_block_of_id, leaves_lead}
-use Rattle.tree_build.specs.Entries.{used_ids}
-use Rattle.tree_build.specs.IsTree.{IsTree}
-use Rattle.tree_build.specs.Loose.{Loose, loose_of}
-use Rattle.tree_build.specs.Roles.{counts_as_data, data_with}
-use Rattle.tree_build.specs.TreeFile.{record_by_leaves, record_in}
-use Rattle.tree_build.proofs.EntryChangeLemmas.{overwritten_ids, overwritten_other, overwritten_own, overwritten_room}
+use Rattle.tree_meaning.specs.Entries.{used_ids}
+use Rattle.tree_meaning.specs.IsTree.{IsTree}
+use Rattle.tree_meaning.specs.Loose.{Loose, loose_of}
+use Rattle.tree_meaning.specs.Roles.{counts_as_data, data_with}
+use Rattle.tree_meaning.specs.TreeFile.{record_by_leaves, record_in}
+use Rattle.tree_meaning.proofs.EntryChangeLemmas.{overwritten_ids, overwritten_other, overwritten_own, overwritten_room}
 use Rattle.tree_steps.specs.EntrySteps.{RewritesEntry}
 use Rattle.tree_steps.proofs.OneBlockLemmas.{changed, count_of, data_no_tree, leaves_same, records_stay}
 use Rattle.tree_steps.proofs.OneLeafLemmas.{inserted_own, inserted_rest}

@@ -22,14 +22,14 @@ use Rattle.quota_radix.proofs.LinkPathLemmas.{last_in_tree, word_kept}
 use Rattle.quota_radix.proofs.LinkWayLemmas.{way_last}
 use Rattle.quota_radix.proofs.PathLemmas.{Rises-paths}
 use Rattle.quota_radix.proofs.UnlinkLawLemmas.{unlinked_gone}
-use Rattle.tree_build.specs.Entries.{has_unused, used_ids}
-use Rattle.tree_build.specs.IsTree.{IsTree}
-use Rattle.tree_build.specs.Loose.{Loose, loose_of}
-use Rattle.tree_build.specs.Roles.{Filled, counts_as_data, data_with, has_room}
-use Rattle.tree_build.specs.TreeFile.{record_by_leaves, record_in}
-use Rattle.tree_build.proofs.AwaitedLemmas.{find-awaited, length-ids, times-blocks, times-ids}
-use Rattle.tree_build.proofs.FrameLemmas.{named_of_id}
-use Rattle.tree_build.proofs.MovedLemmas.{times-data_with, times-roles}
+use Rattle.tree_meaning.specs.Entries.{has_unused, used_ids}
+use Rattle.tree_meaning.specs.IsTree.{IsTree}
+use Rattle.tree_meaning.specs.Loose.{Loose, loose_of}
+use Rattle.tree_meaning.specs.Roles.{Filled, counts_as_data, data_with, has_room}
+use Rattle.tree_meaning.specs.TreeFile.{record_by_leaves, record_in}
+use Rattle.tree_meaning.proofs.AwaitedLemmas.{find-awaited, length-ids, times-blocks, times-ids}
+use Rattle.tree_meaning.proofs.FrameLemmas.{named_of_id}
+use Rattle.tree_meaning.proofs.MovedLemmas.{times-data_with, times-roles}
 use Rattle.tree_steps.proofs.OneBlockLemmas.{count_of, one_role}
 use Rattle.tree_steps.proofs.OneLeafLemmas.{record_alike}
 

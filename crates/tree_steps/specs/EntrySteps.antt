@@ -7,8 +7,8 @@ use Rattle.quota_types.specs.declared.file_kind.Format.{Format}
 use Rattle.quota_types.specs.declared.record.Entry.{Entry}
 use Rattle.file_blocks.specs.Block.{block_of}
 use Rattle.quota_pages.specs.Used.{KeepsBlocksBut}
-use Rattle.tree_build.specs.Entries.{stated_count, used_ids}
-use Rattle.tree_build.specs.EntryPlaces.{ClearsEntry, OverwritesEntry, PutsEntry}
+use Rattle.tree_meaning.specs.Entries.{stated_count, used_ids}
+use Rattle.tree_meaning.specs.EntryPlaces.{ClearsEntry, OverwritesEntry, PutsEntry}
 
 -- An entry was written at an unused place of a block: the block states how many it uses then, its links stay, and so do all
 -- other blocks.

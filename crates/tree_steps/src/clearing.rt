@@ -6,10 +6,10 @@ ghost use Rattle.quota_types.specs.declared.file_kind.Format.{Format};
 ghost use Rattle.file_blocks.specs.Block.{block_of};
 ghost use Rattle.quota_value.specs.QuotaValue.{Records};
 ghost use Rattle.free_chains.specs.declared.heads.Heads.{Heads};
-ghost use Rattle.tree_build.specs.Entries.{has_unused, used_ids};
-ghost use Rattle.tree_build.specs.IsTree.{IsTree};
-ghost use Rattle.tree_build.specs.Loose.{loose_of};
-ghost use Rattle.tree_build.specs.Roles.{has_room};
+ghost use Rattle.tree_meaning.specs.Entries.{has_unused, used_ids};
+ghost use Rattle.tree_meaning.specs.IsTree.{IsTree};
+ghost use Rattle.tree_meaning.specs.Loose.{loose_of};
+ghost use Rattle.tree_meaning.specs.Roles.{has_room};
 ghost use Rattle.tree_steps.specs.EntrySteps.{LosesEntry};
 
 /// Where the entry of an awaited leaf is cleared and its block has others, no leaf is awaited, and its identifier has no record.

@@ -7,9 +7,9 @@ ghost use Rattle.quota_types.specs.declared.record.Rec.{Rec};
 ghost use Rattle.file_blocks.specs.Block.{block_of};
 ghost use Rattle.quota_value.specs.QuotaValue.{Records};
 ghost use Rattle.free_chains.specs.declared.heads.Heads.{Heads};
-ghost use Rattle.tree_build.specs.IsTree.{IsTree};
-ghost use Rattle.tree_build.specs.Loose.{loose_of};
-ghost use Rattle.tree_build.specs.Roles.{has_room};
+ghost use Rattle.tree_meaning.specs.IsTree.{IsTree};
+ghost use Rattle.tree_meaning.specs.Loose.{loose_of};
+ghost use Rattle.tree_meaning.specs.Roles.{has_room};
 ghost use Rattle.tree_steps.specs.EntrySteps.{WritesEntry};
 
 /// The first entry of a block that is held and blank, for an identifier without a record, makes a data block of it, has its

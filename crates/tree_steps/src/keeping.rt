@@ -10,10 +10,10 @@ ghost use Rattle.quota_radix.specs.declared.tree_path.TreePath.{TreePath};
 ghost use Rattle.quota_radix.specs.Way.{blocks_on_way};
 ghost use Rattle.free_chains.specs.Chain.{IsChain};
 ghost use Rattle.free_chains.specs.declared.heads.Heads.{Heads};
-ghost use Rattle.tree_build.specs.Entries.{has_unused, used_ids};
-ghost use Rattle.tree_build.specs.IsTree.{IsTree};
-ghost use Rattle.tree_build.specs.Loose.{Loose, loose_of};
-ghost use Rattle.tree_build.specs.Roles.{data_with, has_room};
+ghost use Rattle.tree_meaning.specs.Entries.{has_unused, used_ids};
+ghost use Rattle.tree_meaning.specs.IsTree.{IsTree};
+ghost use Rattle.tree_meaning.specs.Loose.{Loose, loose_of};
+ghost use Rattle.tree_meaning.specs.Roles.{data_with, has_room};
 
 /// Where no block changed but such as are held or data, each identifier has the way that it had, and the same blocks are free.
 /// Where it is a tree still, whatever block the entry list begins with, the blocks that are held or data are those that were.

@@ -7,8 +7,8 @@ ghost use Rattle.quota_pages.specs.Used.{KeepsBlocksBut};
 ghost use Rattle.quota_radix.specs.Unlink.{ClearsAlong, IsUnlinkable, LosesLeaf};
 ghost use Rattle.quota_radix.specs.Way.{blocks_on_way};
 ghost use Rattle.free_chains.specs.declared.heads.Heads.{Heads};
-ghost use Rattle.tree_build.specs.IsTree.{IsTree};
-ghost use Rattle.tree_build.specs.Loose.{loose_of};
+ghost use Rattle.tree_meaning.specs.IsTree.{IsTree};
+ghost use Rattle.tree_meaning.specs.Loose.{loose_of};
 
 /// The leaf of an identifier whose whole way is there can be unlinked.
 pub fn a_leaf_can_be_unlinked()

@@ -10,10 +10,10 @@ ghost use Rattle.quota_value.specs.QuotaValue.{Records};
 ghost use Rattle.quota_radix.specs.declared.tree_path.TreePath.{TreePath};
 ghost use Rattle.quota_radix.specs.Tree.{leaves};
 ghost use Rattle.free_chains.specs.declared.heads.Heads.{Heads};
-ghost use Rattle.tree_build.specs.Entries.{has_unused};
-ghost use Rattle.tree_build.specs.IsTree.{IsTree};
-ghost use Rattle.tree_build.specs.Loose.{loose_of};
-ghost use Rattle.tree_build.specs.Roles.{data_with};
+ghost use Rattle.tree_meaning.specs.Entries.{has_unused};
+ghost use Rattle.tree_meaning.specs.IsTree.{IsTree};
+ghost use Rattle.tree_meaning.specs.Loose.{loose_of};
+ghost use Rattle.tree_meaning.specs.Roles.{data_with};
 ghost use Rattle.tree_steps.specs.EntrySteps.{RewritesEntry, WritesEntry};
 
 /// An entry that is written at an unused place of a data block, for an identifier without a record, has its leaf awaited. The

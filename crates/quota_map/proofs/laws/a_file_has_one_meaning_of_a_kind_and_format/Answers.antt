@@ -2,7 +2,7 @@ use Rattle.std.proofs.Common.{◌≡◌, ℕ, List, sym, subst}
 use Rattle.quota_types.specs.declared.file_kind.Format.{Format}
 use Rattle.quota_types.specs.declared.file_kind.Format.TheVariants.{V1, V2R0, V2R1}
 use Rattle.quota_value.specs.QuotaValue.{QuotaValue}
-use Rattle.tree_build.specs.TreeFile.{TreeStandsFor}
+use Rattle.tree_meaning.specs.TreeFile.{TreeStandsFor}
 use Rattle.quota_v1.specs.FlatFile.{FlatStandsFor}
 use Rattle.quota_map.specs.StandsFor.{StandsForAs}
 use Rattle.quota_map.proofs.laws.a_file_has_one_meaning_of_a_kind_and_format.Goals as goal

@@ -9,7 +9,7 @@ use Rattle.tree_build.specs.Build.{HasNoPadding, HasOneRoom}
 use Rattle.quota_radix.specs.Tree.{blocks_of, numbers_of}
 use Rattle.tree_build.specs.NewFile.{AreBelow, AreDataBlocks, IsLevel, KeepsBlocks, leaves_in, parents_of, parts_needed, parts_of}
 use Rattle.tree_build.specs.Size.{blocks_needed}
-use Rattle.tree_build.specs.TreeFile.{TreeStandsFor}
+use Rattle.tree_meaning.specs.TreeFile.{TreeStandsFor}
 use Rattle.tree_build.proofs.NewFileLemmas.{with_root}
 use Rattle.tree_build.proofs.OnceLemmas.{ascends-parents_of}
 use Rattle.tree_build.proofs.WrittenLemmas.{IsWritten, are, has_no_padding, has_one_room, leaf_numbers, long, needed_by_levels, rising_parents, stands}

@@ -1,7 +1,7 @@
 use Rattle.std.proofs.Common.{get_or, arith}
-use Rattle.tree_build.specs.Entries.{entry_bytes}
+use Rattle.tree_meaning.specs.Entries.{entry_bytes}
 use Rattle.tree_build.proofs.DataBlockLemmas.{filled_all, filled_more, filled_none, no_entry}
-use Rattle.tree_build.proofs.RecordLemmas.{is_spelled}
+use Rattle.tree_meaning.proofs.RecordLemmas.{is_spelled}
 use Rattle.tree_build.proofs.new_data.data_block.Goals as goal
 
 pub loop-place-init : goal.loop-place-init

@@ -10,7 +10,7 @@ use Rattle.quota_radix.specs.Descent.{leaf_block}
 use Rattle.quota_radix.specs.Link.{AreBuffered}
 use Rattle.quota_radix.specs.Way.{blocks_on_way}
 use Rattle.free_chains.specs.declared.heads.Heads.{Heads}
-use Rattle.tree_build.specs.Loose.{loose_of}
+use Rattle.tree_meaning.specs.Loose.{loose_of}
 use Rattle.tree_change.specs.ChangeFault.{IsStepFault}
 use Rattle.tree_change.specs.Overwrites.{OverwritesRecord}
 use Rattle.tree_change.specs.Putting.{EndsEarly, IsPutFault, IsPutInFault, PutsIn, blocks_taken, data_wanted}

@@ -6,7 +6,7 @@ use Rattle.quota_value.specs.QuotaValue.{Records}
 use Rattle.quota_pages.specs.Used.{IsKnown, shown_over}
 use Rattle.quota_pages.proofs.UsedLemmas.{shown_over-looks}
 use Rattle.free_chains.specs.declared.heads.Heads.{Heads}
-use Rattle.tree_build.specs.Loose.{loose_of}
+use Rattle.tree_meaning.specs.Loose.{loose_of}
 use Rattle.tree_change.specs.Enters.{EntersRecord}
 use Rattle.tree_change.specs.Putting.{EndsEarly, IsPutFault, data_wanted}
 use Rattle.tree_change.specs.Shows.{IsWholeTree}

@@ -1,7 +1,7 @@
 use Rattle.std.proofs.Common.{ℕ, length, nat_lt, ap, sym, ◌∙◌, arith}
-use Rattle.tree_build.specs.Entries.{used_ids}
-use Rattle.tree_build.proofs.EntryChangeLemmas.{room_by_count}
-use Rattle.tree_build.proofs.EntryPlaceLemmas.{before_entries, unused_kept}
+use Rattle.tree_meaning.specs.Entries.{used_ids}
+use Rattle.tree_meaning.proofs.EntryChangeLemmas.{room_by_count}
+use Rattle.tree_meaning.proofs.EntryPlaceLemmas.{before_entries, unused_kept}
 use Rattle.tree_change.proofs.PutLemmas.{puts_counted}
 use Rattle.tree_change.proofs.writing.put_counted.Goals as goal
 

@@ -3,8 +3,8 @@ use Rattle.std.proofs.lemmas.Result.{err_from_is_err_and}
 use Rattle.file_blocks.specs.Block.{bytes_of}
 use Rattle.tree_check.specs.Found.{AreRoles, HasNoEmptyBlock}
 use Rattle.tree_check.specs.Groups.{AreGroupsOf, groups_of}
-use Rattle.tree_build.specs.Loose.{nothing_loose}
-use Rattle.tree_build.specs.Roles.{Chained, Filled}
+use Rattle.tree_meaning.specs.Loose.{nothing_loose}
+use Rattle.tree_meaning.specs.Roles.{Chained, Filled}
 use Rattle.quota_radix.specs.declared.tree_path.TreePath.{TreePath}
 use Rattle.quota_radix.specs.Tree.{leaves}
 use Rattle.tree_check.proofs.CheckedLemmas.{is_checked, length_refused, lists_refused, only_damaged, roles_refused}

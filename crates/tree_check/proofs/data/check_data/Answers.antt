@@ -3,7 +3,7 @@ use Rattle.std.proofs.lemmas.Result.{err_from_is_err_and}
 use Rattle.outside.proofs.FrameLemmas.{only_reads-then}
 use Rattle.file_blocks.specs.BlockSet.{AreFlagsOf}
 use Rattle.file_blocks.specs.Block.{bytes_of}
-use Rattle.tree_build.specs.Compared.{leading_ids, rooms}
+use Rattle.tree_meaning.specs.Compared.{leading_ids, rooms}
 use Rattle.tree_check.specs.Groups.{groups_of}
 use Rattle.tree_check.proofs.ByBlockLemmas.{all_left, led_here, led_refused, length_groups}
 use Rattle.tree_check.proofs.DataLemmas.{entries_more, room_more}

@@ -2,7 +2,7 @@ use Rattle.std.proofs.Common.{ℕ, ◌+◌, ◌<◌, ◌≤◌, take, IsTrue, tr
 use Rattle.outside.specs.Frame.{OnlyReads}
 use Rattle.file_blocks.specs.BlockSet.{AreFlagsOf}
 use Rattle.file_blocks.specs.Block.{bytes_of}
-use Rattle.tree_build.specs.Compared.{HasEntriesOf, leading_ids, rooms}
+use Rattle.tree_meaning.specs.Compared.{HasEntriesOf, leading_ids, rooms}
 use Rattle.tree_check.specs.Groups.{AreLeftFrom, groups_of}
 use Rattle.tree_check.specs.Reads.{led_blocks}
 use Rattle.tree_check.proofs.data.check_data.Given as goal

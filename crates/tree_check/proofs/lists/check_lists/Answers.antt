@@ -2,7 +2,7 @@ use Rattle.std.proofs.Common.{ℕ, List, subst}
 use Rattle.std.proofs.lemmas.Result.{err_from_is_err_and}
 use Rattle.file_blocks.specs.BlockSet.{AreFlagsOf}
 use Rattle.file_blocks.specs.Block.{bytes_of}
-use Rattle.tree_build.specs.Compared.{HasEntriesOf, leading_ids, rooms}
+use Rattle.tree_meaning.specs.Compared.{HasEntriesOf, leading_ids, rooms}
 use Rattle.tree_check.specs.Groups.{groups_of}
 use Rattle.tree_check.proofs.FoundLemmas.{chained, data_refused, filled, list_defect, same_bytes}
 use Rattle.free_chains.proofs.WalkLemmas.{walked}

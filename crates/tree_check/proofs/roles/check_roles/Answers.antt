@@ -7,8 +7,8 @@ use Rattle.file_blocks.specs.BlockSet.{AreFlagsOf}
 use Rattle.file_blocks.specs.Block.{bytes_of}
 use Rattle.tree_check.specs.Groups.{named_blocks}
 use Rattle.quota_radix.specs.Levels.{IsSecondRole}
-use Rattle.tree_build.specs.Loose.{nothing_loose}
-use Rattle.tree_build.specs.Roles.{roles}
+use Rattle.tree_meaning.specs.Loose.{nothing_loose}
+use Rattle.tree_meaning.specs.Roles.{roles}
 use Rattle.free_chains.specs.Walk.{linked_blocks}
 use Rattle.free_chains.proofs.WalkLemmas.{walk_fits}
 use Rattle.quota_radix.specs.Tree.{ids_at}

@@ -6,7 +6,7 @@ use Rattle.quota_pages.specs.Used.{shown_over}
 use Rattle.quota_pages.proofs.UsedLemmas.{held_since}
 use Rattle.quota_radix.specs.Descent.{leaf_block}
 use Rattle.quota_radix.proofs.LeafLemmas.{leaf_of_block, no_leaf_of_block}
-use Rattle.tree_build.specs.TreeFile.{record_in}
+use Rattle.tree_meaning.specs.TreeFile.{record_in}
 use Rattle.tree_file.proofs.WalkFaultLemmas.{found_before, leaf_named, leaf_walk, way_named, way_walk}
 use Rattle.tree_file.proofs.LookupLemmas.{no_record, one_record}
 use Rattle.tree_file.proofs.lookup.record_of.Goals as goal

@@ -1,4 +1,4 @@
-use Rattle.tree_build.proofs.MeaningLemmas.{header_format}
+use Rattle.tree_meaning.proofs.MeaningLemmas.{header_format}
 use Rattle.tree_file.proofs.opened_tree.TreeFileQuotaFile.format.Goals as goal
 
 pub returns-clause-value : goal.returns-clause-value

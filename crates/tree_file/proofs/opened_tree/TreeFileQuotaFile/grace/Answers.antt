@@ -1,4 +1,4 @@
-use Rattle.tree_build.proofs.MeaningLemmas.{header_grace}
+use Rattle.tree_meaning.proofs.MeaningLemmas.{header_grace}
 use Rattle.tree_file.proofs.opened_tree.TreeFileQuotaFile.grace.Goals as goal
 
 pub returns-clause-value : goal.returns-clause-value

@@ -1,5 +1,0 @@
-use Rattle.tree_build.proofs.DataBlockLemmas.{blank_ids, blank_unused}
-use Rattle.tree_build.proofs.entry_laws.a_blank_block_uses_no_entry.Goals as goal
-
-pub returns : goal.returns
-returns c = record { unused = blank_unused; ids = blank_ids }

@@ -1,5 +1,0 @@
-use Rattle.tree_build.proofs.TreeLemmas.{tree_of_value}
-use Rattle.tree_build.proofs.laws.a_file_of_a_value_is_a_tree.Goals as goal
-
-pub returns : goal.returns
-returns c = tree_of_value

@@ -1,5 +1,0 @@
-use Rattle.tree_build.proofs.TreeLemmas.{value_of_tree}
-use Rattle.tree_build.proofs.laws.a_tree_with_a_header_has_a_meaning.Goals as goal
-
-pub returns : goal.returns
-returns c = value_of_tree

@@ -1,5 +1,0 @@
-use Rattle.tree_build.proofs.LinkedLemmas.{linked_found}
-use Rattle.tree_build.proofs.steps.a_linked_leaf_is_one_of_the_tree.Goals as goal
-
-pub returns : goal.returns
-returns c = linked_found

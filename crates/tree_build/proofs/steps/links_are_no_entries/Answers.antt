@@ -1,5 +1,0 @@
-use Rattle.tree_build.proofs.MovedLemmas.{keeps_entries}
-use Rattle.tree_build.proofs.steps.links_are_no_entries.Goals as goal
-
-pub returns : goal.returns
-returns c = keeps_entries

@@ -1,0 +1,56 @@
+//! Laws of tree files: what they mean, and when they mean something.
+
+ghost use Rattle.std.specs.Prelude.{◌≡◌, ◌↔◌, ◌≢◌, ℕ, List, [], ◌∷◌, length, Some, None};
+ghost use Rattle.std.specs.List.{range_with_len};
+ghost use Rattle.entry_codec.specs.Entry.{IsEntry};
+ghost use Rattle.entry_codec.specs.Header.{AreOf, format_of, header_fault, header_of};
+ghost use Rattle.free_chains.specs.declared.heads.Heads.{Heads};
+ghost use Rattle.file_blocks.specs.Block.{block_of};
+ghost use Rattle.quota_value.specs.QuotaValue.{QuotaValue};
+ghost use Rattle.quota_types.specs.Format.{IsTreeFormat};
+ghost use Rattle.quota_types.specs.declared.damage.Damage.{Damage};
+ghost use Rattle.quota_types.specs.declared.file_kind.Format.{Format};
+ghost use Rattle.quota_types.specs.declared.file_kind.Format.TheVariants.{V1, V2R0, V2R1};
+ghost use Rattle.quota_types.specs.declared.file_kind.Kind.{Kind};
+ghost use Rattle.quota_types.specs.declared.record.Rec.{Rec};
+ghost use Rattle.tree_meaning.specs.Defect.{IsTreeDefect};
+ghost use Rattle.tree_meaning.specs.Entries.{entry_of};
+ghost use Rattle.tree_meaning.specs.IsTree.{IsTree, header_with, heads_of};
+ghost use Rattle.tree_meaning.specs.Loose.{nothing_loose};
+ghost use Rattle.tree_meaning.specs.TreeFile.{TreeStandsFor};
+
+/// A tree file stands for one value at most.
+pub fn a_file_has_one_meaning()
+    ensures { (file : List ℕ) (value other : QuotaValue) → TreeStandsFor file value → TreeStandsFor file other
+        → value ≡ other }
+{}
+
+/// A file whose header is one of the kind stands for a value of the kind exactly where nothing is wrong with it, however
+/// many blocks it has.
+pub fn a_file_has_a_meaning_where_nothing_is_wrong()
+    ensures { (file : List ℕ) (kind : Kind) (format : Format) → header_fault kind (header_of file) ≡ None
+        → format_of (header_of file).version ≡ Some format
+        → ((value : QuotaValue) × (value.kind ≡ kind) × TreeStandsFor file value)
+        ↔ ((damage : Damage) → ¬ IsTreeDefect format file (header_of file) damage) }
+{}
+
+/// A file that stands for a value is a tree of which nothing is loose, in the value's format, with the heads of its header
+/// and the records of the value.
+pub fn a_file_of_a_value_is_a_tree()
+    ensures { (file : List ℕ) (value : QuotaValue) → TreeStandsFor file value
+        → IsTree nothing_loose value.format file (length file) (heads_of (header_of file)) value.records }
+{}
+
+/// A tree of which nothing is loose stands for a value, in the value's format and with its records, where block 0 has the
+/// header of the value with the heads of the tree.
+pub fn a_tree_with_a_header_has_a_meaning()
+    ensures { (file : List ℕ) (value : QuotaValue) (heads : Heads)
+        → AreOf (header_with value heads) (header_of (block_of file 0))
+        → IsTree nothing_loose value.format file (length file) heads value.records → TreeStandsFor file value }
+{}
+
+/// The entry of some bytes is the one that they spell.
+pub fn an_entry_is_what_its_bytes_spell()
+    ensures { (format : Format) (bytes : List ℕ) (id : ℕ) (rec : Rec) → IsTreeFormat format
+        → (IsEntry format bytes id rec ↔ (entry_of format bytes ≡ Some (record { id = id; rec = rec }))) }
+{}
