@@ -17,14 +17,15 @@ use Rattle.refusals.specs.declared.cause.Cause.TheVariants.{Full}
 use Rattle.refusals.specs.declared.reason.Refusal.{Refusal}
 use Rattle.refusals.specs.Outcome.{Outcome, Passed, Refused}
 use Rattle.run_steps.specs.Act.{Act, Behind, InPlace, Together, Way}
-use Rattle.run_steps.specs.Changing.{blocks_after, written}
+use Rattle.run_steps.specs.Changing.{written}
+use Rattle.quota_map.specs.Size.{blocks_after}
 use Rattle.run_steps.specs.Done.{Outside}
 use Rattle.run_steps.specs.Meaning.{EndsBy}
 use Rattle.run_steps.specs.Naming.{names_seen}
 use Rattle.run_steps.specs.Steps.{DoingAll, Opening, Then}
 use Rattle.run_steps.specs.Taking.{file_said, input_said}
 use Rattle.run_steps.specs.declared.invocation.Invocation.{Invocation}
-use Rattle.run_steps.proofs.SeenAgainLemmas.{seen_again}
+use Rattle.quota_map.proofs.SeenAgainLemmas.{seen_again}
 use Rattle.batch_commands.specs.Batch.{Applying, Asked, BatchSteps, EditsThen, IsOfLine, LineMayRefuse, ReadSteps, asks_then, batch_step, edit_of, is_to_end, line_asks, lines_ask, met_at, way_behind, way_of}
 use Rattle.edit_steps.specs.EditStep.{value_left, changed, is_too_large}
 use Rattle.edit_steps.specs.Room.{IsFullFor}

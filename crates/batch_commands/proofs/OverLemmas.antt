@@ -8,7 +8,8 @@ use Rattle.quota_map.specs.View.{IsView}
 use Rattle.set_edit.specs.Editing.{Edit}
 use Rattle.refusals.specs.declared.reason.Refusal.{Refusal}
 use Rattle.run_steps.specs.Act.{Act, Behind, Change, Idle, InPlace, Together, Way}
-use Rattle.run_steps.specs.Changing.{blocks_after, written}
+use Rattle.run_steps.specs.Changing.{written}
+use Rattle.quota_map.specs.Size.{blocks_after}
 use Rattle.run_steps.specs.Done.{Outside}
 use Rattle.run_steps.specs.Meaning.{EndsBy}
 use Rattle.run_steps.specs.Steps.{Doing, DoingAll, Ending, Steps, Then}

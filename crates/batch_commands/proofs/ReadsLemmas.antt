@@ -1,14 +1,8 @@
 -- How many calls of `read` the edits of lines make.
-use Rattle.std.proofs.Common.{◌≡◌, ℕ, ◌+◌, ◌*◌, ◌≤◌, ◌⊎◌, Bool, true, false, IsTrue, if◌then◌else◌, inl, inr, List, [], ◌∷◌, length, Option, None, Some, Result, Ok, Err, OnOk, refl, sym, subst, arith}
+use Rattle.std.proofs.Common.{◌≡◌, ℕ, ◌+◌, ◌*◌, ◌≤◌, ◌⊎◌, Bool, true, false, IsTrue, if◌then◌else◌, inl, inr, List, [], length, Option, None, Some, Result, Ok, Err, OnOk, refl, sym, subst, arith}
 use Rattle.std.specs.Prelude.{◌&&◌, nat_le, nat_lt}
-use Rattle.std.proofs.lemmas.Bool.{cases_lt}
 use Rattle.std.proofs.lemmas.Bool.Decides.{nat_tests}
-use Rattle.quota_types.specs.Bytes.{number_at}
-use Rattle.quota_types.specs.declared.file_kind.Format.TheVariants.{V1, V2R0, V2R1}
 use Rattle.quota_types.specs.declared.file_kind.Kind.{Kind}
-use Rattle.quota_types.specs.declared.file_kind.Kind.TheVariants.{User, Group}
-use Rattle.entry_codec.specs.Header.{header_of, magic_of}
-use Rattle.tree_meaning.specs.TreeFile.{TreeStandsFor}
 use Rattle.id_names.specs.NamesFile.{NameLine}
 use Rattle.file_blocks.specs.Block.{file_of}
 use Rattle.quota_types.specs.declared.file_kind.Format.{Format}
@@ -33,6 +27,7 @@ use Rattle.run_steps.specs.Run.{HasSteps}
 use Rattle.batch_commands.specs.Batch.{Asked, LineSteps, batch_reads, batch_step, if_neither, input_asks, input_edits, line_reads, may_fill, whole_reads}
 use Rattle.batch_commands.specs.Together.{AreNeverDone, AreNotTogether, ReadsWhole}
 use Rattle.batch_commands.specs.declared.batch_line.LineEdit.{LineEdit}
+use Rattle.quota_map.proofs.ViewLemmas.{opening_few}
 
 -- the edit of one line
 pub line_few : (seen : FileSeen) (before now : ℕ) → ReadsOnce (reads_of_get seen.format) (any_change_reads seen) before now → now ≤ before + 17
@@ -96,33 +91,12 @@ whole_once asked count size = by_test (nat_lt 1 count && (nat_le (pieces_of size
     by_test true = omega arith
     by_test false = omega arith
 
-empty_number : number_at 4 [] 0 ≡ 0
-unfolding number_at
-empty_number = refl
-
--- a file with a header has bytes
-has_bytes : (kind : Kind) (file : List ℕ) → (header_of file).magic ≡ magic_of kind → 1 ≤ length file
-has_bytes kind (byte ∷ bytes) magic = omega arith
-has_bytes User [] magic = absurd (omega (arith, magic, empty_number))
-has_bytes Group [] magic = absurd (omega (arith, magic, empty_number))
-
-tree_four : (file : List ℕ) (value : QuotaValue) (whole count : ℕ) → TreeStandsFor file value → whole ≤ pieces_of (length file)
-    → 1 + 2 * (header_of file).blocks + (whole + 17 * count) ≤ 4 + 4 * pieces_of (length file) + 17 * count
-tree_four file value whole count stands once =
-    let some = has_bytes value.kind file stands.magic in
-    elim (cases_lt 2 (header_of file).blocks) [
-      | inl more ↦ let long = stands.sound.long more in omega (arith, once, some, long)
-      | inr few ↦ omega (arith, once, some, few)
-    ]
-
 pub within_four : (kind : Kind) (asked : Option Format) (file : List ℕ) (value : QuotaValue) (lines : List LineEdit) → IsView (Some file) kind asked (Ok value)
     → opening_reads asked file + line_reads asked lines (length file) ≤ 4 + 4 * pieces_of (length file) + 17 * length lines
-within_four kind None file value lines view = tree_four file value _ (length lines) view.0.1 (whole_once None (length lines) (length file))
-within_four kind (Some V2R0) file value lines view = tree_four file value _ (length lines) view.0.1 (whole_once (Some V2R0) (length lines) (length file))
-within_four kind (Some V2R1) file value lines view = tree_four file value _ (length lines) view.0.1 (whole_once (Some V2R1) (length lines) (length file))
-within_four kind (Some V1) file value lines view =
-    let once = whole_once (Some V1) (length lines) (length file) in
-    omega (arith, once)
+within_four kind asked file value lines view =
+    let opening = opening_few kind asked file value view in
+    let once = whole_once asked (length lines) (length file) in
+    omega (arith, opening, once)
 
 -- where there are names, or lines of a file, nothing is said
 pub batch_within : (common : Common) (from : Option (List ℕ)) (file : List ℕ) (files : World) (bytes : List ℕ) (old new : StoreSeen)

@@ -1,33 +1,25 @@
 -- A line that is refused in memory, though not for lack of room, is refused in every file; and a file that has no room for a line is long.
-use Rattle.std.proofs.Common.{◌≡◌, inl, inr, ◌⊎◌, ℕ, ◌+◌, ◌*◌, ◌<◌, ◌≤◌, Bool, true, false, if◌then◌else◌, List, [], ◌∷◌, length, Option, None, Some, Ok, Err, Result, refl, sym, ap, subst, ◌∙◌, arith}
-use Rattle.std.specs.Prelude.{◌==◌, ◌-◌, ◌&&◌, ◌^◌, find, nat_le, nat_lt, IsSome, IsTrue, OnOk}
+use Rattle.std.proofs.Common.{◌≡◌, inl, inr, ◌⊎◌, ℕ, ◌+◌, ◌*◌, ◌<◌, ◌≤◌, Bool, true, false, List, [], ◌∷◌, length, Option, None, Some, Ok, Err, Result, refl, sym, ap, subst, ◌∙◌, arith}
+use Rattle.std.specs.Prelude.{◌&&◌, ◌^◌, nat_le, IsSome, IsTrue, OnOk}
 use Rattle.std.proofs.lemmas.Bool.{false≢true}
 use Rattle.std.proofs.lemmas.Option.{none-some, same_Some}
 use Rattle.std.proofs.lemmas.Bool.Decides.{nat_tests}
-use Rattle.entry_codec.specs.Header.{header_of}
 use Rattle.quota_types.specs.declared.field.Field.{Field}
 use Rattle.quota_types.specs.declared.file_kind.Format.{Format}
 use Rattle.quota_types.specs.declared.file_kind.Format.TheVariants.{V1, V2R0, V2R1}
 use Rattle.quota_types.specs.declared.file_kind.Kind.{Kind}
-use Rattle.free_chains.specs.declared.heads.Heads.{Heads}
-use Rattle.quota_radix.specs.Way.{blocks_on_way}
-use Rattle.tree_meaning.specs.IsTree.{heads_of}
-use Rattle.tree_meaning.specs.Ids.{ids_in}
-use Rattle.tree_meaning.specs.TreeFile.{TreeStandsFor}
-use Rattle.tree_change.specs.Putting.{blocks_taken}
-use Rattle.tree_file.specs.Room.{blocks_wanted, blocks_with_new, has_no_leaf, tree_blocks_wanted}
 use Rattle.file_in_memory.specs.OneFile.{only_file}
 use Rattle.quota_value.specs.QuotaValue.{QuotaValue}
 use Rattle.opened_file.specs.Replace.{pieces_of}
-use Rattle.quota_map.specs.View.{IsView, most_blocks}
+use Rattle.quota_map.specs.View.{IsView, most_blocks, asks_tree}
 use Rattle.refusals.specs.declared.cause.Cause.{Cause}
 use Rattle.refusals.specs.declared.cause.Cause.TheVariants.{Full}
 use Rattle.refusals.specs.declared.reason.Refusal.{Refusal}
 use Rattle.run_steps.specs.Act.{Act, Behind, InPlace, Together, Way}
-use Rattle.run_steps.specs.Changing.{blocks_after, idle_acts, written}
+use Rattle.run_steps.specs.Changing.{idle_acts, written}
+use Rattle.quota_map.specs.Size.{blocks_after}
 use Rattle.run_steps.specs.Done.{Outside, outside_of, seen_of, tells_of}
 use Rattle.run_steps.specs.Meaning.{EndsBy}
-use Rattle.run_steps.specs.Opening.{asks_tree}
 use Rattle.run_steps.specs.Steps.{DoingAll, Steps, Then}
 use Rattle.edit_steps.specs.EditStep.{changed, is_too_large, value_left}
 use Rattle.edit_steps.proofs.FullLemmas.{is_full}
@@ -41,6 +33,7 @@ use Rattle.batch_commands.specs.declared.together.Whole.{Whole}
 use Rattle.batch_commands.proofs.FullLemmas.{applied_full}
 use Rattle.batch_commands.proofs.MemoryLemmas.{no_link, no_sink, no_source}
 use Rattle.batch_commands.proofs.TogetherLemmas.{only_file-at}
+use Rattle.quota_map.proofs.RoomLemmas.{flat_blocks, tree_full}
 
 -- Lines that are refused.
 
@@ -102,56 +95,15 @@ refused_never way way' name now lines value old old' new new' acts acts' refusal
 
 -- Files that have no room.
 
--- where nothing is taken, or no more than five
-few_if : (test : Bool) (count : ℕ) → count ≤ 5 → (if test then 0 else count) ≤ 5
-few_if true count few = omega arith
-few_if false count few = few
-
-one_if : (test : Bool) → (if test then 1 else 0) ≤ 1
-one_if true = omega arith
-one_if false = omega arith
-
-taken_few : (file : List ℕ) (heads : Heads) (id : ℕ) → blocks_taken file heads id ≤ 5
-taken_few file heads id =
-    let way : List ℕ = blocks_on_way file heads.blocks id in
-    let one = one_if (heads.first == 0) in
-    few_if (nat_lt 4 (length way)) ((4 - length way) + (if heads.first == 0 then 1 else 0)) (omega (arith, one))
-
-with_few : (file : List ℕ) (heads : Heads) (id : Option ℕ) → blocks_with_new file heads id ≤ heads.blocks + 5
-with_few file heads None = omega arith
-with_few file heads (Some id) =
-    let few = taken_few file heads id in
-    omega (arith, few)
-
-tree_few : (format : Format) (file ids : List ℕ) → tree_blocks_wanted format (Some file) ids ≤ (header_of file).blocks + 5
-unfolding tree_blocks_wanted
-tree_few format file ids = with_few file (heads_of (header_of file)) (find (has_no_leaf file (header_of file).blocks) ids)
-
-wanted_few : (format : Format) (file ids : List ℕ) → blocks_wanted format (Some file) ids ≤ (header_of file).blocks + 5
-wanted_few V1 file ids = omega arith
-wanted_few V2R0 file ids = tree_few V2R0 file ids
-wanted_few V2R1 file ids = tree_few V2R1 file ids
-
--- a tree file with so many blocks is long
-tree_long : (file : List ℕ) (value : QuotaValue) (blocks limit wanted : ℕ) → TreeStandsFor file value → wanted ≤ (header_of file).blocks + 5 → blocks ≡ wanted → limit ≡ most_blocks → limit < blocks
-    → 1024 * most_blocks ≤ length file + 4096
-tree_long file value blocks limit wanted stands few needs allowed passes =
-    let many : 2 < (header_of file).blocks = omega (arith, few, needs, allowed, passes) in
-    let long = stands.sound.long many in
-    omega (arith, long, few, needs, allowed, passes)
-
 -- a file that has no room for new limits is a tree file, and long
 pub full_long : (kind : Kind) (asked : Option Format) (line : LineEdit) (now : ℕ) (file : List ℕ) (blocks limit : ℕ) → IsFullFor kind asked (edit_of line now) (Some file) blocks limit
     → IsTrue (asks_tree asked) × (1024 * most_blocks ≤ length file + 4096)
-full_long kind None line now file blocks limit full =
-    (refl, tree_long file full.value blocks limit _ full.seen.0.1 (wanted_few full.new.format file (ids_in full.new.records)) full.needs full.allowed full.passes)
-full_long kind (Some V2R0) line now file blocks limit full =
-    (refl, tree_long file full.value blocks limit _ full.seen.0.1 (wanted_few full.new.format file (ids_in full.new.records)) full.needs full.allowed full.passes)
-full_long kind (Some V2R1) line now file blocks limit full =
-    (refl, tree_long file full.value blocks limit _ full.seen.0.1 (wanted_few full.new.format file (ids_in full.new.records)) full.needs full.allowed full.passes)
+full_long kind None line now file blocks limit full = (refl, tree_full kind None file full.value full.new blocks limit refl full.seen full.needs full.allowed full.passes)
+full_long kind (Some V2R0) line now file blocks limit full = (refl, tree_full kind (Some V2R0) file full.value full.new blocks limit refl full.seen full.needs full.allowed full.passes)
+full_long kind (Some V2R1) line now file blocks limit full = (refl, tree_full kind (Some V2R1) file full.value full.new blocks limit refl full.seen full.needs full.allowed full.passes)
 full_long kind (Some V1) line now file blocks limit full =
     let flat : full.new.format ≡ V1 = set_format full.value full.new line.id line.limits now full.edited ∙ full.seen.0.1.format in
-    let none : blocks_wanted full.new.format (Some file) (ids_in full.new.records) ≡ 0 = ap (λ (f : Format). blocks_wanted f (Some file) (ids_in full.new.records)) flat in
+    let none = flat_blocks (Some file) full.new full.new.format refl flat in
     absurd (omega (arith, none, full.needs, full.passes))
 
 -- Lines that are not made together.

@@ -38,7 +38,8 @@ use Rattle.refusals.specs.Refusals.{refusal_of}
 use Rattle.refusals.specs.Status.{group_of, status_of}
 use Rattle.refusals.proofs.GroupLemmas.{by_group_of}
 use Rattle.run_steps.specs.Act.{Act, Change, ChangesNone, Follows, Idle, Together}
-use Rattle.run_steps.specs.Changing.{blocks_after, written}
+use Rattle.run_steps.specs.Changing.{written}
+use Rattle.quota_map.specs.Size.{blocks_after}
 use Rattle.run_steps.specs.Done.{IsUnwritten, IsWorldTold, Outside, RunSeen, RunTells, outside_of, seen_of}
 use Rattle.run_steps.specs.Meaning.{EndsBy, HasBegun}
 use Rattle.run_steps.specs.Run.{CarriesOut, HasReason, HasSteps, IsDoneInPart, IsPlacedBy, Uses}

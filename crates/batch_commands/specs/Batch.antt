@@ -11,7 +11,7 @@ use Rattle.input_text.specs.Words.{words_of}
 use Rattle.file_blocks.specs.Block.{file_of}
 use Rattle.opened_file.specs.Replace.{pieces_of}
 use Rattle.outside.specs.World.{World}
-use Rattle.quota_map.specs.View.{most_blocks, opening_reads}
+use Rattle.quota_map.specs.View.{most_blocks, opening_reads, asks_tree}
 use Rattle.set_edit.specs.Editing.{Edit}
 use Rattle.set_edit.specs.Edits.{limits_edit}
 use Rattle.set_edit.specs.declared.limits.Limits.{Limits as FourLimits}
@@ -29,7 +29,7 @@ use Rattle.run_steps.specs.declared.invocation.Invocation.{Invocation}
 use Rattle.run_steps.specs.Act.{Act, Behind, InPlace, Together, Way}
 use Rattle.run_steps.specs.InputLine.{says_nothing}
 use Rattle.run_steps.specs.Naming.{MayBeNames, NamesMayRefuse}
-use Rattle.run_steps.specs.Opening.{MayRefuseOpening, asks_tree}
+use Rattle.run_steps.specs.Opening.{MayRefuseOpening}
 use Rattle.refusals.specs.Outcome.{Outcome, Passed, Refused, and_then}
 use Rattle.run_steps.specs.Run.{Uses}
 use Rattle.run_steps.specs.Steps.{DoingAll, Ending, Looking, Naming, Opening, Steps, Then}

@@ -20,7 +20,7 @@ use Rattle.refusals.specs.Status.{status_of}
 use Rattle.run_steps.specs.Act.{Act, Way}
 use Rattle.run_steps.specs.Done.{AreDone, Outside, RunSeen, RunTells, outside_of, seen_of}
 use Rattle.run_steps.specs.Meaning.{EndsBy}
-use Rattle.run_steps.specs.Opening.{asks_tree}
+use Rattle.quota_map.specs.View.{asks_tree}
 use Rattle.run_steps.specs.Run.{IsPlacedBy}
 use Rattle.run_steps.specs.Steps.{Steps}
 use Rattle.run_steps.specs.Writes.{edits_in}

@@ -12,7 +12,7 @@ use Rattle.set_edit.specs.Edits.{limits_edit}
 use Rattle.set_edit.specs.declared.limits.Limits.{Limits as FourLimits}
 use Rattle.refusals.specs.Outcome.{Passed}
 use Rattle.command_words.specs.declared.command.Common.{Common}
-use Rattle.run_steps.specs.Changing.{blocks_of}
+use Rattle.quota_map.specs.Size.{blocks_of}
 use Rattle.run_steps.specs.Done.{Outside}
 use Rattle.run_steps.specs.Naming.{names_seen}
 use Rattle.run_steps.specs.Numbers.{identifier_of}

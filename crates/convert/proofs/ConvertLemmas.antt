@@ -7,7 +7,6 @@ use Rattle.std.proofs.lemmas.Option.{none-some}
 use Rattle.quota_types.specs.declared.field.NoRoom.{NoRoom as NoRoomFor}
 use Rattle.quota_types.specs.declared.file_kind.Format.{Format}
 use Rattle.quota_types.specs.declared.file_kind.Format.TheVariants.{V1, V2R0, V2R1}
-use Rattle.quota_types.specs.declared.file_kind.Kind.{Kind}
 use Rattle.quota_types.specs.declared.record.Entry.{Entry}
 use Rattle.quota_types.specs.declared.record.Grace.{Grace}
 use Rattle.outside.specs.Count.{Rose}
@@ -22,10 +21,7 @@ use Rattle.opened_file.specs.declared.quota_file.OpenFault.TheVariants.{Store, N
 use Rattle.opened_file.specs.declared.replacement.ReplaceFault.{ReplaceFault}
 use Rattle.opened_file.specs.declared.replacement.ReplaceFault.TheVariants.{Store as MakingFailed, Full as NoBlocks, Memory as NoMemoryToMake}
 use Rattle.outside.proofs.CountLemmas.{Rose-since}
-use Rattle.tree_build.specs.Size.{blocks_needed}
-use Rattle.tree_meaning.specs.Ids.{ids_in}
-use Rattle.tree_file.specs.View.{IsTreeFault}
-use Rattle.quota_v1.specs.View.{IsFlatFault}
+use Rattle.quota_map.specs.Size.{blocks_needed, ids_in}
 use Rattle.quota_map.specs.Replacing.{IsReplaceFileFault, IsReplacedBy, built_size, flags_in}
 use Rattle.quota_map.specs.View.{IsOpenFault, IsView, most_blocks}
 use Rattle.convert.specs.Conversion.{grace_no_room}
@@ -35,39 +31,9 @@ use Rattle.convert.specs.Listing.{kept_list, list_without_room}
 use Rattle.convert.specs.declared.fault.ConvertFault.{ConvertFault}
 use Rattle.convert.specs.declared.fault.ConvertFault.TheVariants.{SameName, TargetExists, Open, File, NoRoom, Replace}
 use Rattle.convert.proofs.ValueLemmas.{converted_listed, ids_listed, refused_listed}
+use Rattle.quota_map.proofs.OpeningLemmas.{open_since}
 
 -- Counts that rose later.
-
-tree_since : (before between now : ℕ) (tells : Bool) (named : Option (List ℕ)) (kind : Kind) (asked : Option Format) (limit : ℕ) (fault : OpenFault) → before ≤ between
-    → IsTreeFault between now tells named kind asked limit fault → IsTreeFault before now tells named kind asked limit fault
-tree_since before between now tells named kind asked limit Store later cause = Rose-since before between now later cause
-tree_since before between now tells named kind asked limit NoFile later cause = cause
-tree_since before between now tells named kind asked limit (TooLarge number most) later cause = cause
-tree_since before between now tells named kind asked limit Memory later cause = cause
-tree_since before between now tells named kind asked limit NotQuota later cause = cause
-tree_since before between now tells named kind asked limit WrongKind later cause = cause
-tree_since before between now tells named kind asked limit UnknownVersion later cause = cause
-tree_since before between now tells named kind asked limit BadBlockCount later cause = cause
-tree_since before between now tells named kind asked limit (FormatMismatch found) later cause = cause
-tree_since before between now tells named kind asked limit (Damage damage) later cause = cause
-
-flat_since : (before between now : ℕ) (tells : Bool) (named : Option (List ℕ)) (fault : OpenFault) → before ≤ between → IsFlatFault between now tells named fault → IsFlatFault before now tells named fault
-flat_since before between now tells named Store later cause = Rose-since before between now later cause
-flat_since before between now tells named NoFile later cause = cause
-flat_since before between now tells named (TooLarge number most) later cause = cause
-flat_since before between now tells named Memory later cause = cause
-flat_since before between now tells named NotQuota later cause = cause
-flat_since before between now tells named WrongKind later cause = cause
-flat_since before between now tells named UnknownVersion later cause = cause
-flat_since before between now tells named BadBlockCount later cause = cause
-flat_since before between now tells named (FormatMismatch found) later cause = cause
-flat_since before between now tells named (Damage damage) later cause = cause
-
-open_since : (before between now : ℕ) (tells : Bool) (named : Option (List ℕ)) (kind : Kind) (format : Format) (fault : OpenFault) → before ≤ between
-    → IsOpenFault between now tells named kind (Some format) fault → IsOpenFault before now tells named kind (Some format) fault
-open_since before between now tells named kind V1 fault later cause = flat_since before between now tells named fault later cause
-open_since before between now tells named kind V2R0 fault later cause = tree_since before between now tells named kind (Some V2R0) most_blocks fault later cause
-open_since before between now tells named kind V2R1 fault later cause = tree_since before between now tells named kind (Some V2R1) most_blocks fault later cause
 
 reading_since : (before between now : ℕ) (tells : Bool) (format : Format) (fault : FileFault) → before ≤ between → IsReadingFault between now tells format fault → IsReadingFault before now tells format fault
 reading_since before between now tells format CallFailed later cause = Rose-since before between now later cause

@@ -9,9 +9,8 @@ use Rattle.outside.specs.World.{World}
 use Rattle.opened_file.specs.declared.quota_file.OpenFault.{OpenFault}
 use Rattle.opened_file.specs.declared.quota_file.OpenFault.TheVariants.{Store, NoFile, TooLarge, Memory, NotQuota, WrongKind, UnknownVersion, BadBlockCount, FormatMismatch, Damage}
 use Rattle.opened_file.specs.declared.replacement.ReplaceFault.{ReplaceFault}
-use Rattle.tree_build.specs.Size.{blocks_needed}
-use Rattle.tree_meaning.specs.Ids.{ids_in}
-use Rattle.quota_map.specs.Replacing.{IsReplaceFileFault, IsReplacedBy, UnlessStore, built_size}
+use Rattle.quota_map.specs.Size.{ids_in, blocks_of, size_of}
+use Rattle.quota_map.specs.Replacing.{IsReplaceFileFault, IsReplacedBy, UnlessStore}
 use Rattle.quota_map.specs.View.{IsOpenFault, IsView, most_blocks}
 use Rattle.convert.specs.Conversion.{converted}
 use Rattle.convert.specs.Source.{HasRead, IsReadingFault}
@@ -42,14 +41,6 @@ pub record IsConverted (tells : Bool) (asked : Asked) (files : World) (made : Qu
   pub value : QuotaValue
   pub read : HasRead tells (files asked.from) asked.kind asked.old value
   pub converts : converted asked.new value ≡ Ok made
-
--- how many blocks a file of a value needs; a flat file has none
-abbrev pub blocks_of : QuotaValue → ℕ
-blocks_of value = blocks_needed value.format (ids_in value.records)
-
--- how many bytes a file of a value is built of
-abbrev pub size_of : QuotaValue → ℕ
-size_of value = built_size value.format (ids_in value.records)
 
 -- The new file was made: there was none of its name, and it is a new one of the converted value, with nothing beside it. Whoever
 -- opens it sees that value, unless it may have more blocks than an opened file.

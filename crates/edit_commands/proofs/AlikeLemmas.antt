@@ -6,7 +6,8 @@ use Rattle.quota_value.specs.QuotaValue.{QuotaValue}
 use Rattle.quota_map.specs.View.{most_blocks}
 use Rattle.set_edit.specs.Editing.{Edit}
 use Rattle.run_steps.specs.Act.{Act, InPlace}
-use Rattle.run_steps.specs.Changing.{blocks_after, written}
+use Rattle.run_steps.specs.Changing.{written}
+use Rattle.quota_map.specs.Size.{blocks_after}
 use Rattle.run_steps.specs.OneCommand.{AreSameSteps}
 use Rattle.run_steps.specs.Steps.{Steps, Then}
 use Rattle.edit_steps.specs.EditStep.{changed, edit_step, is_too_large}

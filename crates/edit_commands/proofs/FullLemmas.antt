@@ -20,7 +20,8 @@ use Rattle.refusals.specs.declared.cause.Cause.TheVariants.{Full}
 use Rattle.refusals.specs.declared.reason.Refusal.{Refusal}
 use Rattle.refusals.specs.Outcome.{Outcome, Passed, Refused}
 use Rattle.run_steps.specs.Act.{Act, Change, InPlace}
-use Rattle.run_steps.specs.Changing.{blocks_after, written}
+use Rattle.run_steps.specs.Changing.{written}
+use Rattle.quota_map.specs.Size.{blocks_after}
 use Rattle.run_steps.specs.Done.{Outside}
 use Rattle.run_steps.specs.Meaning.{EndsBy}
 use Rattle.run_steps.specs.Naming.{names_seen}

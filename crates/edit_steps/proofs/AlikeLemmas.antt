@@ -5,7 +5,8 @@ use Rattle.quota_value.specs.QuotaValue.{QuotaValue}
 use Rattle.set_edit.specs.Editing.{Edit}
 use Rattle.refusals.specs.Outcome.{Outcome, Passed, Refused}
 use Rattle.run_steps.specs.Act.{Act, Way}
-use Rattle.run_steps.specs.Changing.{blocks_after, written}
+use Rattle.run_steps.specs.Changing.{written}
+use Rattle.quota_map.specs.Size.{blocks_after}
 use Rattle.run_steps.specs.OneCommand.{AreSameSteps, IsFullCause}
 use Rattle.run_steps.specs.Steps.{Steps, Then}
 use Rattle.edit_steps.specs.EditStep.{changed, is_too_large}

@@ -16,28 +16,25 @@ use Rattle.outside.specs.World.{World}
 use Rattle.opened_file.specs.declared.quota_file.FileFault.{FileFault}
 use Rattle.opened_file.specs.declared.quota_file.FileFault.TheVariants.{Store, Damage, Full, Memory}
 use Rattle.opened_file.proofs.LookupLemmas.{change_fault-after}
-use Rattle.tree_file.specs.Opened.{LacksRoom}
-use Rattle.tree_file.specs.Room.{blocks_wanted}
-use Rattle.tree_meaning.specs.Ids.{ids_in}
 use Rattle.quota_map.specs.AnyFile.{AnyLeaves, AnyMakes, HoldsAny, MayRefuse, any_at, any_laws, any_seen}
 use Rattle.quota_map.specs.StandsFor.{StandsForAs}
 use Rattle.quota_map.specs.declared.any_file.AnyFile.{AnyFile}
-use Rattle.quota_map.specs.declared.any_file.AnyFile.TheVariants.{V1 as FlatFile, Tree as TreeFile}
-use Rattle.quota_map.specs.View.{IsOpenedAs, blocks_allowed, fresh_seen, most_blocks}
+use Rattle.quota_map.specs.View.{IsOpenedAs, blocks_allowed, fresh_seen, most_blocks, asks_tree}
 use Rattle.quota_map.proofs.AnyLemmas.{any_few_writes}
 use Rattle.quota_map.proofs.LeftLemmas.{held_format, left_seen}
-use Rattle.quota_map.proofs.SeenLemmas.{any_held_seen, tree_limit}
+use Rattle.quota_map.proofs.SeenLemmas.{any_held_seen}
 use Rattle.set_edit.specs.Editing.{Edit, Edits}
 use Rattle.set_edit.specs.declared.fault.EditFault.{EditFault}
 use Rattle.set_edit.specs.declared.fault.EditFault.TheVariants.{File, NoRoom as Unfit}
 use Rattle.refusals.specs.Status.{status_of}
 use Rattle.run_steps.specs.Act.{MayBeLeft}
-use Rattle.run_steps.specs.Opening.{MayRefuseOpening, asks_tree}
+use Rattle.run_steps.specs.Opening.{MayRefuseOpening}
 use Rattle.edit_steps.specs.EditStep.{ChangeMayRefuse, edit_cause, is_too_large}
-use Rattle.run_steps.specs.Changing.{blocks_after}
+use Rattle.quota_map.specs.Size.{blocks_after}
 use Rattle.edit_steps.proofs.EditLemmas.{EditedSeen, IsMade}
 use Rattle.run_steps.proofs.ShowingLemmas.{damage_may}
-use Rattle.edit_steps.proofs.RefusedEditLemmas.{HasEditCause, IsLacking, IsRefusedAt, refused_read}
+use Rattle.edit_steps.proofs.RefusedEditLemmas.{HasEditCause, IsRefusedAt, refused_read}
+use Rattle.quota_map.proofs.RoomLemmas.{HasNoRoom, IsLacking, lacking, lacks_most}
 use Rattle.edit_steps.proofs.LimitsLemmas.{set_format}
 use Rattle.set_edit.specs.Edits.{limits_edit}
 use Rattle.set_edit.specs.declared.limits.Limits.{Limits as FourLimits}
@@ -51,29 +48,6 @@ pub limits_keep_format : (id : ℕ) (limits : FourLimits) (now : ℕ) → KeepsF
 limits_keep_format id limits now = λ value new is. set_format value new id limits now is
 
 -- Room in an opened file.
-
--- a flat file needs no blocks
-flat_blocks : (bytes : Option (List ℕ)) (new : QuotaValue) (format : Format) → new.format ≡ format → format ≡ V1 → blocks_after bytes new ≡ 0
-flat_blocks bytes new format is flat = ap (λ (f : Format). blocks_wanted f bytes (ids_in new.records)) (is ∙ flat)
-
--- what an opened file that has no room tells of the value, whatever bytes are in its place
-lacking : (tells : Bool) (files : World) (file : AnyFile) (bytes : Option (List ℕ)) (value new : QuotaValue) (name : List ℕ) (format : Format) (blocks limit : ℕ) → any_seen file ≡ fresh_seen name format
-    → HoldsAny tells files file value → new.format ≡ value.format → LacksRoom (any_seen file) bytes new blocks limit → IsLacking bytes new blocks limit
-lacking tells files (FlatFile file) bytes value new name format blocks limit seen held same lacks =
-    absurd (omega (arith, lacks.passes, lacks.needs, flat_blocks bytes new value.format same held.stands.format))
-lacking tells files (TreeFile file) bytes value new name format blocks limit seen held same lacks =
-    let most = lacks.may ∙ tree_limit tells _ _ _ file.limit value format (ap (λ (s : FileSeen). s.limit) seen) held in
-    (lacks.needs, most, subst (λ (l : ℕ). l < blocks) most lacks.passes)
-
--- an opened file has no room for a value with which it would have more than the most blocks
-lacks_most : (tells : Bool) (files : World) (file : AnyFile) (bytes : Option (List ℕ)) (value new : QuotaValue) (name : List ℕ) (format : Format) → any_seen file ≡ fresh_seen name format
-    → HoldsAny tells files file value → new.format ≡ value.format → most_blocks < blocks_after bytes new → LacksRoom (any_seen file) bytes new (blocks_after bytes new) most_blocks
-lacks_most tells files (FlatFile file) bytes value new name format seen held same more = absurd (omega (arith, more, flat_blocks bytes new value.format same held.stands.format))
-lacks_most tells files (TreeFile file) bytes value new name format seen held same more = record {
-  needs = refl;
-  may = sym (tree_limit tells _ _ _ file.limit value format (ap (λ (s : FileSeen). s.limit) seen) held);
-  passes = more;
-}
 
 -- a number that was found to be less
 pub less_of : (a b : ℕ) → nat_lt a b ≡ true → a < b
@@ -106,7 +80,7 @@ few_writes tells edit opened file before after result edits =
 edited_seen : (tells : Bool) (edit : Edit) (opened file : AnyFile) (before after : StoreSeen) (name : List ℕ) (format : Format) (value : QuotaValue) (edited : Result QuotaValue (Field × ℕ))
     → edit.edited value ≡ edited → KeepsFormat edit → any_seen opened ≡ fresh_seen name format → any_seen file ≡ fresh_seen name format → HoldsAny tells before.files opened value
     → IsOkAnd edited (λ (new : QuotaValue). HoldsAny tells after.files file new)
-    → (IsTrue edit.needs_room → (blocks limit : ℕ) → edit.is_idle value ≡ false → IfOk edited (λ (new : QuotaValue). ¬ LacksRoom (any_seen opened) (before.files name) new blocks limit))
+    → (IsTrue edit.needs_room → (blocks limit : ℕ) → edit.is_idle value ≡ false → IfOk edited (λ (new : QuotaValue). ¬ HasNoRoom opened (before.files name) new blocks limit))
     → EditedSeen name (before.files name) after edit value edited
 edited_seen tells edit opened file before after name format value (Ok new) set keeps was is held holds room = (
   any_held_seen tells after.files file new name format is holds,
@@ -127,7 +101,7 @@ any_made tells edit opened file before after name format value told keeps was he
     record {
       idle = λ told is. rw named at (edits.value.idle value (held told) is);
       set = λ told. edited_seen tells edit opened file before after name format value (edit.edited value) refl keeps was (done.same ∙ was) (held told) (done.set value (held told))
-          (λ needs blocks limit some. subst (λ (n : List ℕ). IfOk (edit.edited value) (λ (new : QuotaValue). ¬ LacksRoom (any_seen opened) (before.files n) new blocks limit)) named
+          (λ needs blocks limit some. subst (λ (n : List ℕ). IfOk (edit.edited value) (λ (new : QuotaValue). ¬ HasNoRoom opened (before.files n) new blocks limit)) named
           (done.room needs value blocks limit (held told) some));
       leaves = rw named at edits.value.leaves;
       few = few_writes tells edit opened file before after _ edits;
@@ -207,7 +181,7 @@ any_refused {T} name edit tells opened file before after format value (File faul
           let blocks = blocks_after bytes new in
           let both = both_of edit.needs_room (nat_lt most_blocks blocks)
           (subst (λ (n : List ℕ). IsTrue (is_too_large edit (before.files n) new)) (sym named) large) in
-          rw named at (same_where_full _ (edit.edited value) (λ (v : QuotaValue). LacksRoom (any_seen opened) bytes v blocks most_blocks) new
+          rw named at (same_where_full _ (edit.edited value) (λ (v : QuotaValue). HasNoRoom opened bytes v blocks most_blocks) new
           (edits.value.full both.0 value blocks most_blocks (held told)) is
           (lacks_most tells before.files opened bytes value new name format was (held told) (keeps value new is) (less_of most_blocks blocks both.1)));
       leaves = rw named at edits.value.leaves;
@@ -220,7 +194,7 @@ any_refused name edit tells opened file before after format value (Unfit out) ke
 -- an edited value for which there is no room
 set_lacking : (tells : Bool) (files : World) (opened : AnyFile) (bytes : Option (List ℕ)) (name : List ℕ) (format : Format) (value : QuotaValue) (edit : Edit) (edited : Result QuotaValue (Field × ℕ)) (blocks limit : ℕ)
     → edit.edited value ≡ edited → KeepsFormat edit → any_seen opened ≡ fresh_seen name format → HoldsAny tells files opened value
-    → IsOkAnd edited (λ (new : QuotaValue). LacksRoom (any_seen opened) bytes new blocks limit) → IsOkAnd edited (λ (new : QuotaValue). IsLacking bytes new blocks limit)
+    → IsOkAnd edited (λ (new : QuotaValue). HasNoRoom opened bytes new blocks limit) → IsOkAnd edited (λ (new : QuotaValue). IsLacking bytes new blocks limit)
 set_lacking tells files opened bytes name format value edit (Ok new) blocks limit set keeps was held lacks = lacking tells files opened bytes value new name format blocks limit was held (keeps value new set) lacks
 set_lacking tells files opened bytes name format value edit (Err out) blocks limit set keeps was held lacks = lacks
 

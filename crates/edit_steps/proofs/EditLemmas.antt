@@ -10,7 +10,8 @@ use Rattle.quota_map.specs.View.{IsView}
 use Rattle.set_edit.specs.Editing.{Edit}
 use Rattle.refusals.specs.Outcome.{Passed}
 use Rattle.run_steps.specs.Act.{Act, Behind, Change, Idle, InPlace, Together, Way}
-use Rattle.run_steps.specs.Changing.{blocks_after, idle_acts, written}
+use Rattle.run_steps.specs.Changing.{idle_acts, written}
+use Rattle.quota_map.specs.Size.{blocks_after}
 use Rattle.edit_steps.specs.EditStep.{value_left, changed, edit_step, is_too_large}
 use Rattle.run_steps.proofs.DoingLemmas.{AreWritten, written_none}
 use Rattle.run_steps.proofs.WritesLemmas.{writes_for-edit, writes_for-same}

@@ -17,7 +17,7 @@ use Rattle.refusals.specs.declared.cause.Cause.TheVariants.{Full}
 use Rattle.refusals.specs.declared.reason.Refusal.{Refusal}
 use Rattle.refusals.specs.Outcome.{Outcome, Passed, Refused}
 use Rattle.run_steps.specs.Act.{Act}
-use Rattle.run_steps.specs.Changing.{blocks_after}
+use Rattle.quota_map.specs.Size.{blocks_after}
 use Rattle.run_steps.specs.Done.{Outside}
 use Rattle.run_steps.specs.Meaning.{EndsBy}
 use Rattle.run_steps.specs.Naming.{most_names, names_of_file, names_seen, unless_bad}

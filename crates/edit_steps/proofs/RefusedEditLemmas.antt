@@ -29,13 +29,15 @@ use Rattle.run_steps.specs.Done.{Outside, RunSeen, RunTells, outside_of}
 use Rattle.run_steps.specs.Meaning.{HasBegun}
 use Rattle.run_steps.specs.Run.{HasReason, IsDoneInPart, Uses}
 use Rattle.run_steps.specs.Steps.{Steps, Then}
-use Rattle.run_steps.specs.Changing.{blocks_after, idle_acts, written}
+use Rattle.run_steps.specs.Changing.{idle_acts, written}
+use Rattle.quota_map.specs.Size.{blocks_after}
 use Rattle.edit_steps.specs.EditStep.{changed, edit_cause, edit_step, is_too_large}
 use Rattle.run_steps.proofs.ActLemmas.{appends_nothing, leaves_others}
 use Rattle.run_steps.proofs.OpeningLemmas.{file_no_output, with_store}
 use Rattle.run_steps.proofs.PartLemmas.{nothing_begun}
 use Rattle.run_steps.proofs.ReasonLemmas.{reason_but_stated}
 use Rattle.run_steps.proofs.WritesLemmas.{writes_for-edit, writes_in_part}
+use Rattle.quota_map.proofs.RoomLemmas.{IsLacking}
 
 -- What an edit of a value left that was refused: nothing was written unless the store failed. Where this much is told, nothing was
 -- written either where nothing is to be done, the value does not fit or there is no room for it, and the named file is what an edit
@@ -115,10 +117,6 @@ pub refused_part : {why : Option Cause} (way : Way) (name : List ℕ) (edit : Ed
 refused_part way name edit value next tells old store cause other begins refused is = changed_part way name edit value (edit.edited value) next tells old store cause refl other begins refused is
 
 -- Why an edit was refused.
-
--- this file would have the first number of blocks with an edited value, and may have only the second
-abbrev pub IsLacking : Option (List ℕ) → QuotaValue → ℕ → ℕ → Type 0
-IsLacking file new blocks limit = (blocks ≡ blocks_after file new) × (limit ≡ most_blocks) × (most_blocks < blocks)
 
 -- a number that is less is found to be
 more_of : (a b : ℕ) → a < b → nat_lt a b ≡ true

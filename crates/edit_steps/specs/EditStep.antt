@@ -3,7 +3,7 @@
 use Rattle.std.specs.Prelude.{◌≡◌, ◌<◌, ℕ, IsTrue, Bool, nat_lt, ◌&&◌, List, Option, Result, Ok, Err}
 use Rattle.quota_types.specs.declared.field.Field.{Field}
 use Rattle.quota_value.specs.QuotaValue.{QuotaValue}
-use Rattle.quota_map.specs.View.{IsOpenedAs, most_blocks}
+use Rattle.quota_map.specs.View.{IsOpenedAs, most_blocks, asks_tree}
 use Rattle.set_edit.specs.Editing.{Edit}
 use Rattle.set_edit.specs.declared.fault.EditFault.{EditFault}
 use Rattle.set_edit.specs.declared.fault.EditFault.TheVariants.{File, NoRoom as Unfit}
@@ -11,10 +11,11 @@ use Rattle.quota_types.specs.declared.file_kind.Format.{Format}
 use Rattle.refusals.specs.declared.cause.Cause.{Cause}
 use Rattle.refusals.specs.declared.cause.Cause.TheVariants.{NoRoom, Full}
 use Rattle.run_steps.specs.Act.{Act, Way}
-use Rattle.run_steps.specs.Opening.{asks_tree, file_cause}
+use Rattle.run_steps.specs.Opening.{file_cause}
 use Rattle.refusals.specs.Outcome.{Outcome, Refused}
 use Rattle.refusals.specs.Refusals.{refusal_of}
-use Rattle.run_steps.specs.Changing.{blocks_after, written}
+use Rattle.run_steps.specs.Changing.{written}
+use Rattle.quota_map.specs.Size.{blocks_after}
 
 -- There is no room for the value in this file, as it is: with its records it would have more blocks than a file may have.
 abbrev pub is_too_large : Edit → Option (List ℕ) → QuotaValue → Bool

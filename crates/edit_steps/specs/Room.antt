@@ -6,7 +6,7 @@ use Rattle.quota_types.specs.declared.file_kind.Kind.{Kind}
 use Rattle.quota_value.specs.QuotaValue.{QuotaValue}
 use Rattle.quota_map.specs.View.{IsView, most_blocks}
 use Rattle.set_edit.specs.Editing.{Edit}
-use Rattle.run_steps.specs.Changing.{blocks_after}
+use Rattle.quota_map.specs.Size.{blocks_after}
 use Rattle.edit_steps.specs.EditStep.{is_too_large}
 
 -- an edit of the value of this file fits, and leaves another value: the format has room for its fields, and, where something is

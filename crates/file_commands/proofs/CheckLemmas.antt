@@ -27,7 +27,7 @@ use Rattle.opened_file.specs.declared.quota_file.FileFault.TheVariants.{Store as
 use Rattle.quota_map.specs.AnyFile.{MayRefuse}
 use Rattle.opened_file.specs.QuotaFile.{IsLookupFault}
 use Rattle.quota_map.specs.Reading.{file_refusal}
-use Rattle.tree_meaning.specs.Ids.{ids_in}
+use Rattle.quota_map.specs.Size.{ids_in}
 use Rattle.quota_map.specs.Replacing.{IsReplacedBy, built_size, flags_in}
 use Rattle.quota_map.specs.View.{IsOpenedAs}
 use Rattle.inode_scan.specs.Apply.{IsApplyFault, applied, first_no_room, no_room, wanted, wanted_record}

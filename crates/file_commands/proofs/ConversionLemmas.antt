@@ -19,7 +19,7 @@ use Rattle.opened_file.specs.declared.replacement.ReplaceFault.{ReplaceFault}
 use Rattle.opened_file.specs.declared.replacement.ReplaceFault.TheVariants.{Store as MakingFailed, Full as TooManyBlocks, Memory as NoMemoryToMake}
 use Rattle.outside.proofs.FrameLemmas.{only_reads-none}
 use Rattle.outside.proofs.WorldLemmas.{bytes_eq-ne, bytes_eq-same}
-use Rattle.tree_meaning.specs.Ids.{ids_in}
+use Rattle.quota_map.specs.Size.{ids_in}
 use Rattle.quota_map.specs.Replacing.{UnlessStore}
 use Rattle.quota_map.specs.View.{IsView, most_blocks}
 use Rattle.quota_map.proofs.SeenLemmas.{fault_seen, store_rose}
@@ -49,7 +49,8 @@ use Rattle.run_steps.proofs.ShowingLemmas.{damage_may}
 use Rattle.file_commands.specs.Conversion.{ConvertMayRefuse, ConvertSteps, MakingSteps, absent, convert_refusal, made, targeted}
 use Rattle.file_commands.specs.FileValue.{IsMadeAnew, replace_cause}
 use Rattle.file_commands.proofs.CheckLemmas.{carries_same}
-use Rattle.file_commands.proofs.ReplacingLemmas.{no_flat_blocks, no_room_for, replace_failed, replace_made}
+use Rattle.file_commands.proofs.ReplacingLemmas.{no_room_for, replace_failed, replace_made}
+use Rattle.quota_map.proofs.SizeLemmas.{no_flat_blocks}
 
 -- Refusals after which nothing was written.
 

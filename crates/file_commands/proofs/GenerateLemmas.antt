@@ -31,7 +31,7 @@ use Rattle.run_steps.proofs.OpeningLemmas.{refused_so, store_later, with_out, wi
 use Rattle.run_steps.proofs.PartLemmas.{acts_in_part, carried_whole}
 use Rattle.run_steps.proofs.PhaseLemmas.{nothing_carried, placed_nowhere}
 use Rattle.run_steps.proofs.ReasonLemmas.{reason_since}
-use Rattle.run_steps.proofs.SeenOnceLemmas.{seen_once}
+use Rattle.quota_map.proofs.SeenOnceLemmas.{seen_once}
 use Rattle.run_steps.proofs.ShowingLemmas.{out_failed, told_begun, told_steps}
 use Rattle.run_steps.proofs.WritesLemmas.{writes_for-replacement, writes_in_part}
 use Rattle.file_commands.specs.FileValue.{replace_cause}

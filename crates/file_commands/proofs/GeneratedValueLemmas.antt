@@ -1,6 +1,6 @@
 -- The value of a file with the usage of a listing that is made: its format has room for it, and it needs few blocks.
-use Rattle.std.proofs.Common.{◌≡◌, ℕ, suc, ◌-◌, ◌/◌, ◌^◌, ◌<◌, ◌≤◌, Bool, true, false, cond, nat_lt, List, [], ◌∷◌, length, map, Option, None, Some, Ok, inl, inr, refl, sym, ap, subst, ◌∙◌, arith}
-use Rattle.std.specs.Prelude.{T, IfSome, IsSome, is_some, ◌||◌, ◌==◌, not, if◌then◌else◌}
+use Rattle.std.proofs.Common.{◌≡◌, ℕ, suc, ◌-◌, ◌^◌, ◌<◌, ◌≤◌, Bool, true, false, cond, nat_lt, List, [], ◌∷◌, length, Option, None, Some, Ok, inl, inr, refl, sym, ap, subst, ◌∙◌, arith}
+use Rattle.std.specs.Prelude.{T, IfSome, IsSome, is_some, ◌||◌, if◌then◌else◌}
 use Rattle.std.specs.Cmp.{nat_cmp_total}
 use Rattle.std.specs.FinMap.{empty, entries, entries_sorted, find, get, get-empty, get-entries, get-from_entries, is_sorted}
 use Rattle.std.specs.FinMap.Entries.{below_all}
@@ -8,7 +8,6 @@ use Rattle.std.specs.List.{AllByRecursion, cons_option, filter_map}
 use Rattle.std.specs.Ordering.{eq_by_cmp, nat_cmp}
 use Rattle.std.proofs.lemmas.Bool.Decides.{eqb_tells, nat_tests}
 use Rattle.std.proofs.lemmas.List.{length-map}
-use Rattle.std.proofs.lemmas.List.Filters.{length-filter_both}
 use Rattle.std.proofs.lemmas.Option.{none-some}
 use Rattle.quota_types.specs.Range.{unfit}
 use Rattle.quota_types.specs.Rec.{is_null_of}
@@ -21,8 +20,7 @@ use Rattle.quota_types.specs.declared.record.Rec.{Rec}
 use Rattle.quota_types.proofs.ListLemmas.{AllByRecursion-weaker}
 use Rattle.quota_value.specs.QuotaValue.{QuotaValue, Records}
 use Rattle.quota_map.specs.View.{most_blocks}
-use Rattle.tree_build.specs.Size.{beginnings, blocks_needed, each_once}
-use Rattle.tree_meaning.specs.Ids.{ids_in}
+use Rattle.quota_map.specs.Size.{ids_in, blocks_of}
 use Rattle.inode_scan.specs.Apply.{applied, first_no_room, kept_entry, kept_records, wanted, wanted_record}
 use Rattle.inode_scan.specs.Faults.{unless}
 use Rattle.inode_scan.specs.Usage.{UsageMap}
@@ -30,9 +28,9 @@ use Rattle.inode_scan.specs.declared.used.Used.{Used}
 use Rattle.inode_scan.proofs.ApplyLemmas.{wanted_at}
 use Rattle.inode_scan.proofs.MadeListingLemmas.{generated_usage}
 use Rattle.inode_scan.proofs.MadeUsageLemmas.{IsSmallUser, generated_small}
-use Rattle.run_steps.specs.Changing.{blocks_of}
 use Rattle.file_commands.specs.Check.{checked, new_value, with_applied}
 use Rattle.file_commands.proofs.CheckLemmas.{Lacks, first_lacking, found_here, found_later, made_of}
+use Rattle.quota_map.proofs.SizeLemmas.{few_blocks}
 
 -- The format has room.
 
@@ -171,18 +169,6 @@ few_users now usage small =
     sorted_few 1000 (entries records) (entries_sorted records)
     (AllByRecursion-weaker (λ (p : ℕ × Rec). IsSome (find nat_cmp p.0 (entries records))) (Within 1000) (entries records)
     (λ p some. users_only now usage small p.0 (subst (λ (o : Option Rec). IsSome o) (sym (get-entries records p.0)) some)) (each_some (entries records)))
-
-few_once : (numbers : List ℕ) → length (each_once numbers) ≤ length numbers
-few_once [] = omega arith
-few_once (number ∷ numbers) =
-    let apart : ℕ → Bool = λ other. not (other == number) in
-    omega (arith, few_once numbers, length-filter_both apart (λ x. not (apart x)) (λ x. refl) (each_once numbers))
-
-few_beginnings : (left_out : ℕ) (ids : List ℕ) → beginnings left_out ids ≤ length ids
-few_beginnings left_out ids = omega (arith, few_once (map (λ id. id / 256 ^ left_out) ids), length-map ids (λ (id : ℕ). id / 256 ^ left_out))
-
-few_blocks : (ids : List ℕ) → length ids ≤ 5000 → blocks_needed V2R1 ids ≤ most_blocks
-few_blocks ids few = omega (arith, few_beginnings 3 ids, few_beginnings 2 ids, few_beginnings 1 ids)
 
 pub few-generated : (seed count now : ℕ) → count < 2 ^ 32 → blocks_of (generated_value seed count now) ≤ most_blocks
 unfolding generated_value

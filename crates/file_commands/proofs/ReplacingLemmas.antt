@@ -2,16 +2,14 @@
 use Rattle.std.proofs.Common.{◌≡◌, ℕ, ◌<◌, ◌≤◌, Bool, false, IsTrue, List, [], ◌∷◌, None, Some, Ok, Err, Result, refl, sym, ap, subst, ◌∙◌, arith}
 use Rattle.std.proofs.lemmas.Bool.{false≢true, le-ltb, lt-ltb}
 use Rattle.quota_types.specs.declared.field.NoRoom.{NoRoom}
-use Rattle.quota_types.specs.Format.{IsTreeFormat}
 use Rattle.quota_types.specs.declared.file_kind.Format.{Format}
-use Rattle.quota_types.specs.declared.file_kind.Format.TheVariants.{V1, V2R0, V2R1}
 use Rattle.outside.specs.Count.{Rose}
 use Rattle.outside.specs.Frame.{ReplacesOne}
 use Rattle.quota_value.specs.Listed.{ids_of}
 use Rattle.quota_value.specs.QuotaValue.{QuotaValue}
 use Rattle.outside.specs.Replacement.{ReplacesOnly}
 use Rattle.outside.specs.Seen.{StoreSeen}
-use Rattle.tree_build.specs.Size.{blocks_needed}
+use Rattle.quota_map.specs.Size.{blocks_needed, blocks_of}
 use Rattle.opened_file.specs.declared.replacement.ReplaceFault.{ReplaceFault}
 use Rattle.opened_file.specs.declared.replacement.ReplaceFault.TheVariants.{Store, Full as NoBlocks, Memory as NoMemory}
 use Rattle.outside.specs.World.{World}
@@ -27,7 +25,7 @@ use Rattle.run_steps.specs.Done.{RunSeen, RunTells}
 use Rattle.run_steps.specs.Run.{CarriesOut}
 use Rattle.run_steps.specs.Steps.{AreDoneThen, DoingAll, Finish, Then}
 use Rattle.file_commands.specs.Check.{ReplaceSteps, replaced}
-use Rattle.run_steps.specs.Changing.{blocks_of, edit_uses, if_room}
+use Rattle.run_steps.specs.Changing.{edit_uses, if_room}
 use Rattle.file_commands.specs.FileValue.{IsInOrder, IsMadeAnew, WritingMayRefuse, replace_cause, value_in}
 use Rattle.refusals.specs.Outcome.{Outcome, Passed, Refused}
 use Rattle.refusals.specs.Refusals.{refusal_of}
@@ -36,6 +34,7 @@ use Rattle.run_steps.proofs.OpeningLemmas.{store_later, with_store}
 use Rattle.run_steps.proofs.PartLemmas.{acts_in_part, carried_whole}
 use Rattle.run_steps.proofs.PhaseLemmas.{nothing_carried, stop_carried}
 use Rattle.run_steps.proofs.WritesLemmas.{writes_for-replacement}
+use Rattle.quota_map.proofs.SizeLemmas.{no_flat_blocks}
 
 -- how many blocks a file of a value needs, by its list
 pub needed_of : (value : FileValue) → IsInOrder value → blocks_of (value_in value) ≡ blocks_needed value.format (ids_of value.entries.items)
@@ -112,12 +111,6 @@ pub replace_wanting : (name : List ℕ) (new : Result QuotaValue NoRoom) (may : 
 replace_wanting name new may tells old store same allowed =
     subst (λ (s : StoreSeen). CarriesOut (ReplaceSteps name new) (edit_uses false) may tells old (with_store old s) (Err (refusal_of Memory name))) (sym same)
     (nothing_carried (ReplaceSteps name new) (edit_uses false) may tells old (refusal_of Memory name) (λ is. cc) tt allowed (record { line = λ no. refl; input_line = λ no. refl }))
-
--- a flat file needs no blocks
-pub no_flat_blocks : (format : Format) (ids : List ℕ) (most : ℕ) → most < blocks_needed format ids → IsTreeFormat format
-no_flat_blocks V1 ids most passes = absurd (omega (arith, passes))
-no_flat_blocks V2R0 ids most passes = refl
-no_flat_blocks V2R1 ids most passes = refl
 
 -- the file was not replaced
 pub replace_refused : (name : List ℕ) (value : FileValue) (tells : RunTells) (old : RunSeen) (store : StoreSeen) (fault : ReplaceFault) → IsInOrder value

@@ -11,7 +11,7 @@ use Rattle.report_options.specs.declared.options.Options.{Options}
 use Rattle.refusals.specs.Outcome.{Outcome, Passed}
 use Rattle.command_words.specs.declared.command.Common.{Common}
 use Rattle.run_steps.specs.Act.{Act, Replace, ToOut}
-use Rattle.run_steps.specs.Changing.{blocks_of}
+use Rattle.quota_map.specs.Size.{blocks_of}
 use Rattle.run_steps.specs.Done.{Outside}
 use Rattle.run_steps.specs.Meaning.{IsSure}
 use Rattle.run_steps.specs.Naming.{names_seen}

@@ -30,7 +30,8 @@ use Rattle.run_steps.specs.Run.{Uses}
 use Rattle.run_steps.specs.Steps.{DoingAll, Finish, Opening, Steps, Then}
 use Rattle.run_steps.specs.Taking.{AListing, InputMayRefuse, Taking, input_name, reading}
 use Rattle.refusals.specs.Refusals.{refusal_of}
-use Rattle.run_steps.specs.Changing.{blocks_of, edit_uses, if_room}
+use Rattle.run_steps.specs.Changing.{edit_uses, if_room}
+use Rattle.quota_map.specs.Size.{blocks_of}
 use Rattle.file_commands.specs.FileValue.{WritingMayRefuse}
 
 -- The listing.

@@ -20,7 +20,8 @@ use Rattle.refusals.specs.declared.reason.Refusal.{Refusal}
 use Rattle.refusals.specs.Outcome.{Outcome, Passed, Refused, and_then}
 use Rattle.refusals.specs.Refusals.{refusal_of}
 use Rattle.run_steps.specs.Act.{Act, Replace}
-use Rattle.run_steps.specs.Changing.{blocks_of, if_room}
+use Rattle.run_steps.specs.Changing.{if_room}
+use Rattle.quota_map.specs.Size.{blocks_of}
 use Rattle.run_steps.specs.Opening.{MayRefuseOpening, file_cause, opening_cause}
 use Rattle.run_steps.specs.Steps.{DoingAll, Finish, Looking, Opening, Steps, Then}
 use Rattle.run_steps.specs.declared.invocation.Invocation.{Invocation}

@@ -11,7 +11,7 @@ use Rattle.quota_types.specs.Format.{IsTreeFormat}
 use Rattle.quota_types.specs.declared.file_kind.Format.{Format}
 use Rattle.quota_types.specs.declared.file_kind.Kind.{Kind}
 use Rattle.outside.specs.World.{World}
-use Rattle.tree_meaning.specs.Ids.{ids_in}
+use Rattle.quota_map.specs.Size.{ids_in}
 use Rattle.quota_map.specs.Replacing.{IsReplacedBy, built_size, flags_in}
 use Rattle.quota_map.specs.View.{most_blocks}
 use Rattle.opened_file.specs.declared.replacement.ReplaceFault.{ReplaceFault}

@@ -12,7 +12,7 @@ ghost use Rattle.outside.specs.Seen.{LinkSeen, SinkSeen, SourceSeen};
 ghost use Rattle.quota_map.specs.View.{IsView, most_blocks};
 ghost use Rattle.refusals.specs.Refusals.{nowhere};
 ghost use Rattle.run_steps.specs.Act.{ToOut};
-ghost use Rattle.run_steps.specs.Changing.{blocks_of};
+ghost use Rattle.quota_map.specs.Size.{blocks_of};
 ghost use Rattle.run_steps.specs.Done.{IsUnwritten, seen_of, tells_of};
 ghost use Rattle.run_steps.specs.Run.{CarriesOut};
 ghost use Rattle.run_steps.specs.Showing.{ShowingMayRefuse, showing_uses};

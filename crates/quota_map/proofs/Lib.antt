@@ -5,3 +5,9 @@ pub mod SeenLemmas
 pub mod ReplacedLemmas
 pub mod LeftLemmas
 pub mod PassingLemmas
+pub mod OneViewLemmas
+pub mod SeenOnceLemmas
+pub mod SeenAgainLemmas
+pub mod OpeningLemmas
+pub mod SizeLemmas
+pub mod RoomLemmas

@@ -3,5 +3,6 @@ pub mod Passing
 pub mod Reading
 pub mod Replacing
 pub mod Rests
+pub mod Size
 pub mod StandsFor
 pub mod View

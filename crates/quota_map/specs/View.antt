@@ -1,6 +1,6 @@
 -- What is seen of a quota file by whoever opens it: as a flat file exactly where that format is asked for, and otherwise as a
 -- tree file. Source: quotaon(8) and setquota(8) on formats, of which only vfsold has no magic number.
-use Rattle.std.specs.Prelude.{◌≡◌, ℕ, Bool, true, false, List, ◌+◌, ◌*◌, Option, Some, None, Result}
+use Rattle.std.specs.Prelude.{◌≡◌, ℕ, Bool, true, false, List, ◌+◌, ◌*◌, Option, Some, None, Result, Err, ⊤, not, MatchBool}
 use Rattle.quota_types.specs.Format.{IsTreeFormat, is_flat}
 use Rattle.quota_types.specs.declared.file_kind.Format.{Format}
 use Rattle.quota_types.specs.declared.file_kind.Format.TheVariants.{V1, V2R0, V2R1}
@@ -11,6 +11,10 @@ use Rattle.quota_value.specs.QuotaValue.{QuotaValue}
 use Rattle.opened_file.specs.declared.quota_file.OpenFault.{OpenFault}
 use Rattle.tree_file.specs.View.{IsTreeFault, IsTreeView}
 use Rattle.quota_v1.specs.View.{IsFlatFault, IsFlatView}
+use Rattle.opened_file.specs.declared.quota_file.OpenFault.TheVariants.{Damage as Damaged}
+use Rattle.quota_types.specs.declared.damage.Damage.{Damage}
+use Rattle.quota_types.specs.declared.damage.DamageKind.TheVariants.{PartialRecord}
+use Rattle.quota_types.specs.Damage.{NamesItsId}
 
 -- how many blocks a tree file may have
 abbrev pub most_blocks : ℕ
@@ -57,3 +61,17 @@ opening_reads None bytes = 1 + 2 * (header_of bytes).blocks
 opening_reads (Some V1) bytes = 1
 opening_reads (Some V2R0) bytes = 1 + 2 * (header_of bytes).blocks
 opening_reads (Some V2R1) bytes = 1 + 2 * (header_of bytes).blocks
+
+-- what is seen of a file is no damage: it is a value, or another refusal
+abbrev pub IsNoDamage : Result QuotaValue OpenFault → Type 0
+IsNoDamage (Err (Damaged damage)) = ⊥
+IsNoDamage _ = ⊤
+
+-- A damage of a flat file is a record that is cut off, which names no identifier, and one of a tree file names an
+-- identifier where its kind does.
+abbrev pub IsDamageAs : Option Format → Damage → Type 0
+IsDamageAs asked damage = MatchBool (asks_flat asked) ((damage.kind ≡ PartialRecord) × (damage.id ≡ 0)) (NamesItsId damage.kind damage.id)
+
+-- a file that is no flat file is asked for
+abbrev pub asks_tree : Option Format → Bool
+asks_tree asked = not (asks_flat asked)

@@ -7,7 +7,6 @@ pub mod LookLemmas
 pub mod LookingLemmas
 pub mod MeaningLemmas
 pub mod OneCommandLemmas
-pub mod OneViewLemmas
 pub mod OpeningLemmas
 pub mod PartLemmas
 pub mod PhaseLemmas
@@ -15,8 +14,6 @@ pub mod ReasonLemmas
 pub mod RoomLemmas
 pub mod RowLemmas
 pub mod SameViewLemmas
-pub mod SeenAgainLemmas
-pub mod SeenOnceLemmas
 pub mod ShowingLemmas
 pub mod StartingLemmas
 pub mod TakingLemmas

@@ -19,7 +19,7 @@ use Rattle.run_steps.specs.OneCommand.{AreReceived, AreSameSteps, IsFirstPart, L
 use Rattle.run_steps.specs.Steps.{Steps, Ending, Doing, Looking, Opening, Reading, Starting, Receiving, Before, InLine}
 use Rattle.run_steps.proofs.ActLemmas.{follows-append}
 use Rattle.run_steps.proofs.RoomLemmas.{full_begun, full_ended, full_in_line, strictly, unless_full}
-use Rattle.run_steps.proofs.SeenOnceLemmas.{seen_once}
+use Rattle.quota_map.proofs.SeenOnceLemmas.{seen_once}
 
 -- What has ended has begun.
 

@@ -16,7 +16,7 @@ use Rattle.run_steps.specs.Naming.{names_seen}
 use Rattle.run_steps.specs.OneCommand.{LooksFirstBy, ReadsToEnd, leaves_files}
 use Rattle.run_steps.specs.Steps.{AreDoneThen, Naming, Opening, Steps, Then}
 use Rattle.run_steps.specs.Taking.{Taking, file_said, input_said, reads_whole}
-use Rattle.run_steps.proofs.SeenOnceLemmas.{seen_once}
+use Rattle.quota_map.proofs.SeenOnceLemmas.{seen_once}
 
 -- They look first.
 

@@ -1,11 +1,7 @@
 -- What is seen once objects outside were used, and commands whose file was not opened.
-use Rattle.std.proofs.Common.{◌≡◌, ◌≢◌, ℕ, ◌≤◌, Bool, IsTrue, List, [], Option, None, Some, Err, inr, refl, sym, ap, arith, append-nil}
-use Rattle.std.specs.Prelude.{IsSome}
-use Rattle.std.specs.Option.{IsSomeAnd}
-use Rattle.quota_types.specs.declared.damage.Damage.{Damage as Damaged}
+use Rattle.std.proofs.Common.{◌≡◌, ◌≢◌, ℕ, ◌≤◌, Bool, List, [], Option, Some, Err, inr, refl, sym, ap, arith, append-nil}
 use Rattle.quota_types.specs.declared.file_kind.Kind.{Kind}
 use Rattle.quota_types.specs.declared.file_kind.Format.{Format}
-use Rattle.quota_types.specs.declared.file_kind.Format.TheVariants.{V1, V2R0, V2R1}
 use Rattle.outside.specs.Frame.{OnlyReads}
 use Rattle.quota_value.specs.QuotaValue.{QuotaValue}
 use Rattle.outside.specs.Seen.{SinkSeen, SourceSeen, StoreSeen}
@@ -14,17 +10,15 @@ use Rattle.opened_file.specs.declared.quota_file.OpenFault.{OpenFault}
 use Rattle.opened_file.specs.declared.quota_file.OpenFault.TheVariants.{Store, NoFile, TooLarge, Memory, FormatMismatch, Damage}
 use Rattle.opened_file.specs.declared.quota_file.FileFault.{FileFault}
 use Rattle.opened_file.specs.declared.quota_file.FileFault.TheVariants.{Store as CallFailed, Damage as FileDamaged, Full as NoBlocks, Memory as NoMemory}
-use Rattle.quota_v1.specs.View.{IsFlatFault}
-use Rattle.quota_types.specs.Damage.{NamesItsId}
-use Rattle.tree_file.specs.View.{IsTreeFault}
-use Rattle.quota_map.specs.View.{IsOpenFault, most_blocks}
+use Rattle.quota_map.specs.View.{IsOpenFault}
+use Rattle.quota_map.proofs.OpeningLemmas.{IsFaultAs, open_as}
 use Rattle.quota_map.proofs.SeenLemmas.{IsOfCall, fault_seen, store_rose}
 use Rattle.refusals.specs.declared.cause.Cause.{Cause}
 use Rattle.refusals.specs.declared.cause.Cause.TheVariants.{SinkFault}
 use Rattle.refusals.specs.declared.reason.Refusal.{Refusal}
 use Rattle.run_steps.specs.Done.{AreDone, IsLater, IsUnwritten, IsWorldTold, Outside, RunSeen, RunTells, outside_of}
 use Rattle.run_steps.specs.Meaning.{EndsBy}
-use Rattle.run_steps.specs.Opening.{IsDamageAs, MayRefuseOpening, asks_tree, file_cause, opening_cause}
+use Rattle.run_steps.specs.Opening.{MayRefuseOpening, file_cause, opening_cause}
 use Rattle.run_steps.specs.Run.{CarriesOut, HasReason, HasSteps, IsDoneInPart, IsPlacedBy, Uses}
 use Rattle.run_steps.specs.Steps.{Opening, Steps}
 use Rattle.run_steps.proofs.PartLemmas.{nothing_begun}
@@ -142,36 +136,15 @@ open_reason uses name kind asked next tells old store Store reads cause = store_
 open_reason uses name kind asked next tells old store Memory reads cause = tt
 open_reason uses name kind asked next tells old store fault reads cause = seen_steps name kind asked next tells old store fault reads cause (λ own. own)
 
--- a format that some one was asked for
-asked_some : (asked : Option Format) (other : Format → Type 0) → IsSomeAnd asked other → IsSome asked
-asked_some None other some = absurd some
-asked_some (Some wanted) other some = refl
-
-flat_may : (name : List ℕ) (before now : ℕ) (tells : Bool) (named : Option (List ℕ)) (fault : OpenFault) → IsFlatFault before now tells named fault → MayRefuseOpening (Some V1) name (opening_cause fault) name
-flat_may name before now tells named Store cause = tt
-flat_may name before now tells named NoFile cause = refl
-flat_may name before now tells named (TooLarge number limit) cause = refl
-flat_may name before now tells named Memory cause = tt
-flat_may name before now tells named (Damage damage) cause = (cause.0, refl)
-flat_may name before now tells named _ cause = absurd cause
-
-tree_may : (asked : Option Format) (name : List ℕ) (before now : ℕ) (tells : Bool) (named : Option (List ℕ)) (kind : Kind) (fault : OpenFault) → IsTrue (asks_tree asked)
-    → ((damage : Damaged) → NamesItsId damage.kind damage.id → IsDamageAs asked damage)
-    → IsTreeFault before now tells named kind asked most_blocks fault → MayRefuseOpening asked name (opening_cause fault) name
-tree_may asked name before now tells named kind Store tree damaged cause = tt
-tree_may asked name before now tells named kind NoFile tree damaged cause = refl
-tree_may asked name before now tells named kind (TooLarge number limit) tree damaged cause = refl
-tree_may asked name before now tells named kind Memory tree damaged cause = tt
-tree_may asked name before now tells named kind (FormatMismatch found) tree damaged cause = (tree, asked_some asked _ cause.0, refl)
-tree_may asked name before now tells named kind (Damage damage) tree damaged cause = (damaged damage cause.0, refl)
-tree_may asked name before now tells named kind _ tree damaged cause = (tree, refl)
-
-open_may : (name : List ℕ) (before now : ℕ) (tells : Bool) (named : Option (List ℕ)) (kind : Kind) (asked : Option Format) (fault : OpenFault) → IsOpenFault before now tells named kind asked fault
-    → MayRefuseOpening asked name (opening_cause fault) name
-open_may name before now tells named kind None fault cause = tree_may None name before now tells named kind fault refl (λ damage names. names) cause
-open_may name before now tells named kind (Some V1) fault cause = flat_may name before now tells named fault cause
-open_may name before now tells named kind (Some V2R0) fault cause = tree_may (Some V2R0) name before now tells named kind fault refl (λ damage names. names) cause
-open_may name before now tells named kind (Some V2R1) fault cause = tree_may (Some V2R1) name before now tells named kind fault refl (λ damage names. names) cause
+-- what is said where opening is refused may be said of a file of its format
+as_may : (name : List ℕ) (asked : Option Format) (fault : OpenFault) → IsFaultAs asked fault → MayRefuseOpening asked name (opening_cause fault) name
+as_may name asked Store is = tt
+as_may name asked NoFile is = refl
+as_may name asked (TooLarge number limit) is = refl
+as_may name asked Memory is = tt
+as_may name asked (FormatMismatch found) is = (is.0, is.1, refl)
+as_may name asked (Damage damage) is = (is, refl)
+as_may name asked _ is = (is, refl)
 
 -- A command that opens a file was carried out where that file was not opened.
 pub not_opened : {done : Bool} (kind : Kind) (asked : Option Format) (name : List ℕ) (next : QuotaValue → Steps) (uses : Uses) (may : Cause → List ℕ → Type 0) (tells : RunTells) (old : RunSeen) (store : StoreSeen) (fault : OpenFault)
@@ -181,5 +154,5 @@ pub not_opened : {done : Bool} (kind : Kind) (asked : Option Format) (name : Lis
 not_opened kind asked name next uses may tells old store fault cause reads allowed =
     refused_reads name (Opening kind asked name next) uses may tells old store (refusal_of (opening_cause fault) name) (opening_no_output fault) reads
     (open_reason uses name kind asked next tells old store fault reads cause)
-    (allowed (opening_cause fault) (open_may name old.store.faults store.faults tells.store (old.store.files name) kind asked fault cause))
+    (allowed (opening_cause fault) (as_may name asked fault (open_as old.store.faults store.faults tells.store (old.store.files name) kind asked fault cause)))
     (record { line = λ no. refl; input_line = λ no. refl })

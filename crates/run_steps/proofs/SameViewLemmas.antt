@@ -19,7 +19,7 @@ use Rattle.run_steps.specs.OneCommand.{AreSameSteps, IsFull, LooksFirstBy, Rests
 use Rattle.run_steps.specs.Opening.{opening_cause}
 use Rattle.run_steps.specs.SameViews.{EndsAlso, FileAsked, IsFileAlike, IsSeenAlike, LooksAlikeBy, MeetsSame, Opens}
 use Rattle.run_steps.specs.Steps.{Steps, Ending, Doing, Looking, Opening, Reading, Starting, Receiving, Before, InLine}
-use Rattle.run_steps.proofs.OneViewLemmas.{one_view}
+use Rattle.quota_map.proofs.OneViewLemmas.{one_view}
 use Rattle.run_steps.proofs.RoomLemmas.{full_ended, full_ends, full_in_line, unless_one_full}
 
 -- Files that are seen alike.

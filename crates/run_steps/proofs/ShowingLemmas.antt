@@ -13,7 +13,7 @@ use Rattle.outside.specs.Text.{AppendsPrefix}
 use Rattle.opened_file.specs.declared.quota_file.FileFault.{FileFault}
 use Rattle.opened_file.specs.declared.quota_file.FileFault.TheVariants.{Store as StoreFailed, Damage as FileDamaged, Full as NoBlocks, Memory as NoMemory}
 use Rattle.quota_map.specs.AnyFile.{MayRefuse}
-use Rattle.quota_map.specs.View.{IsOpenedAs, IsView}
+use Rattle.quota_map.specs.View.{IsOpenedAs, IsView, IsDamageAs}
 use Rattle.std.proofs.lemmas.Bool.{false≢true}
 use Rattle.outside.specs.Count.{Rose}
 use Rattle.refusals.specs.declared.cause.Cause.{Cause}
@@ -21,7 +21,7 @@ use Rattle.refusals.specs.declared.cause.Cause.TheVariants.{SinkFault}
 use Rattle.refusals.specs.Refusals.{refusal_of}
 use Rattle.run_steps.specs.Act.{ToOut}
 use Rattle.run_steps.specs.Done.{IsUnwritten, IsWorldTold, RunSeen, RunTells, outside_of}
-use Rattle.run_steps.specs.Opening.{IsDamageAs, MayRefuseOpening, file_cause}
+use Rattle.run_steps.specs.Opening.{MayRefuseOpening, file_cause}
 use Rattle.run_steps.specs.Run.{CarriesOut, HasReason, HasSteps, IsDoneInPart, Uses}
 use Rattle.run_steps.specs.Showing.{ShowingMayRefuse, ShowingSteps, showing_uses}
 use Rattle.run_steps.proofs.ActLemmas.{appends_nothing}

@@ -1,23 +1,12 @@
 -- Commands that change a file: when a changed value is written, and which objects they use.
-use Rattle.std.specs.Prelude.{ℕ, Bool, true, false, if◌then◌else◌, List, [], ◌∷◌, Option}
-use Rattle.tree_build.specs.Size.{blocks_needed}
-use Rattle.tree_meaning.specs.Ids.{ids_in}
+use Rattle.std.specs.Prelude.{ℕ, Bool, true, false, if◌then◌else◌, List, [], ◌∷◌}
 use Rattle.quota_value.specs.QuotaValue.{QuotaValue}
 use Rattle.quota_map.specs.View.{most_blocks}
-use Rattle.tree_file.specs.Room.{blocks_wanted}
 use Rattle.refusals.specs.declared.cause.Cause.TheVariants.{Full}
 use Rattle.run_steps.specs.Act.{Act, Change, Idle, InPlace, Way}
 use Rattle.refusals.specs.Outcome.{Outcome, Passed, Refused}
 use Rattle.run_steps.specs.Run.{Uses}
 use Rattle.refusals.specs.Refusals.{refusal_of}
-
--- how many blocks a whole new file of the value needs; a flat file has none
-abbrev pub blocks_of : QuotaValue → ℕ
-blocks_of value = blocks_needed value.format (ids_in value.records)
-
--- how many blocks this file, as it is, will have once it is edited to the value; a flat file has none
-abbrev pub blocks_after : Option (List ℕ) → QuotaValue → ℕ
-blocks_after file value = blocks_wanted value.format file (ids_in value.records)
 
 -- this act makes a file of this name stand for another value, where there is room for this many blocks
 abbrev pub if_room : List ℕ → (blocks : ℕ) → (too_large : Bool) → Act → Outcome (List Act)

@@ -1,16 +1,13 @@
 -- What is said where a file is not opened, or where a call on an opened file was refused.
-use Rattle.std.specs.Prelude.{◌≡◌, ℕ, Bool, not, IsTrue, IsSome, MatchBool, List, Option, ⊤}
-use Rattle.quota_types.specs.declared.damage.Damage.{Damage}
-use Rattle.quota_types.specs.declared.damage.DamageKind.TheVariants.{PartialRecord}
+use Rattle.std.specs.Prelude.{◌≡◌, ℕ, IsTrue, IsSome, List, Option, ⊤}
 use Rattle.quota_types.specs.declared.file_kind.Format.{Format}
 use Rattle.opened_file.specs.declared.quota_file.FileFault.{FileFault}
 use Rattle.opened_file.specs.declared.quota_file.FileFault.TheVariants.{Store as StoreFailed, Damage as FileDamaged, Full as NoBlocks, Memory as NoMemory}
 use Rattle.opened_file.specs.declared.quota_file.OpenFault.{OpenFault}
 use Rattle.opened_file.specs.declared.quota_file.OpenFault.TheVariants.{Store, NoFile, TooLarge, Memory, NotQuota, WrongKind, UnknownVersion, BadBlockCount, FormatMismatch, Damage as NotWhole}
-use Rattle.quota_types.specs.Damage.{NamesItsId}
-use Rattle.quota_map.specs.View.{asks_flat}
 use Rattle.refusals.specs.declared.cause.Cause.{Cause}
 use Rattle.refusals.specs.declared.cause.Cause.TheVariants.{StoreFault, NoFile as NoSuchFile, TooLarge as FileTooLarge, Memory as WantOfMemory, NotQuota as NoQuotaFile, WrongKind as OtherKind, UnknownVersion as OtherVersion, BadBlockCount as TooFewBlocks, OtherFormat, Damaged, Full}
+use Rattle.quota_map.specs.View.{IsDamageAs, asks_tree}
 
 -- what is said of a file that could not be opened
 abbrev pub opening_cause : OpenFault → Cause
@@ -31,15 +28,6 @@ file_cause StoreFailed = StoreFault
 file_cause (FileDamaged damage) = Damaged damage
 file_cause (NoBlocks blocks limit) = Full blocks limit
 file_cause NoMemory = WantOfMemory
-
--- A damage of a flat file is a record that is cut off, which names no identifier, and one of a tree file names an
--- identifier where its kind does.
-abbrev pub IsDamageAs : Option Format → Damage → Type 0
-IsDamageAs asked damage = MatchBool (asks_flat asked) ((damage.kind ≡ PartialRecord) × (damage.id ≡ 0)) (NamesItsId damage.kind damage.id)
-
--- a file that is no flat file is asked for
-abbrev pub asks_tree : Option Format → Bool
-asks_tree asked = not (asks_flat asked)
 
 -- The causes for which the opening of a file of this name, in the format that is asked for, may be refused, whatever is
 -- told, with the name that is said. A header is read of a tree file alone.

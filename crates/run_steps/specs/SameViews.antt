@@ -1,25 +1,19 @@
 -- Two worlds in which the steps of one command see the same: the files that they open are seen as the same values, or are refused for
 -- the same causes, and from looks at the files as they are the same steps come.
-use Rattle.std.specs.Prelude.{◌≡◌, ◌⊎◌, ℕ, Bool, false, IsTrue, List, ◌∷◌, Option, IfSome, is_some, Result, Ok, Err, ⊤}
+use Rattle.std.specs.Prelude.{◌≡◌, ◌⊎◌, ℕ, Bool, false, IsTrue, List, ◌∷◌, Option, IfSome, is_some, Result, Ok, ⊤}
 use Rattle.quota_types.specs.declared.file_kind.Format.{Format}
 use Rattle.quota_types.specs.declared.file_kind.Kind.{Kind}
 use Rattle.quota_value.specs.QuotaValue.{QuotaValue}
 use Rattle.outside.specs.Seen.{Datagram}
 use Rattle.outside.specs.World.{World}
 use Rattle.opened_file.specs.declared.quota_file.OpenFault.{OpenFault}
-use Rattle.opened_file.specs.declared.quota_file.OpenFault.TheVariants.{Damage as Damaged}
-use Rattle.quota_map.specs.View.{IsView}
+use Rattle.quota_map.specs.View.{IsView, IsNoDamage}
 use Rattle.refusals.specs.declared.reason.Refusal.{Refusal}
 use Rattle.run_steps.specs.Act.{Act}
 use Rattle.run_steps.specs.Done.{Outside}
 use Rattle.run_steps.specs.Meaning.{EndsBy}
 use Rattle.run_steps.specs.OneCommand.{AreSameSteps, IsFull, UnlessOneFull}
 use Rattle.run_steps.specs.Steps.{Steps, Ending, Doing, Looking, Opening, Reading, Starting, Receiving, Before, InLine}
-
--- what is seen of a file is no damage: it is a value, or another refusal
-abbrev pub IsNoDamage : Result QuotaValue OpenFault → Type 0
-IsNoDamage (Err (Damaged damage)) = ⊥
-IsNoDamage _ = ⊤
 
 -- Two files, of which either may be absent, are seen alike by whoever opens them for a kind, in the format that is asked for: as the
 -- same value, or as refused for the same cause, which is no damage.

@@ -34,7 +34,7 @@ use Rattle.run_steps.proofs.OpeningLemmas.{not_opened}
 use Rattle.outside.proofs.FrameLemmas.{only_reads-none}
 use Rattle.run_steps.proofs.PhaseLemmas.{carries_on, carries_opening, leads_opening, leads_same}
 use Rattle.rquota_serve.proofs.AddingLemmas.{AllSeen}
-use Rattle.run_steps.proofs.SeenOnceLemmas.{seen_once}
+use Rattle.quota_map.proofs.SeenOnceLemmas.{seen_once}
 use Rattle.serve_steps.specs.Exporting.{AnsweringMayRefuse, AreExported, ExportingMayRefuse, OpeningAll, new_of, news_of, serve_uses}
 use Rattle.run_steps.proofs.PartLemmas.{part_but_output}
 

@@ -4,7 +4,7 @@ use Rattle.std.specs.Prelude.{◌≡◌, ◌⊎◌, ℕ, true, false, List, [], 
 use Rattle.quota_types.specs.declared.file_kind.Format.{Format}
 use Rattle.quota_value.specs.QuotaValue.{QuotaValue}
 use Rattle.outside.specs.World.{World}
-use Rattle.quota_map.specs.View.{IsOpenedAs}
+use Rattle.quota_map.specs.View.{IsOpenedAs, IsDamageAs}
 use Rattle.rquota_serve.specs.Adding.{AreToldOf, MayAddAll, NewSeen}
 use Rattle.rquota_serve.specs.Exported.{Exported, with_export}
 use Rattle.rquota_serve.specs.Exports.{ExportSeen}
@@ -13,7 +13,7 @@ use Rattle.rquota_serve.specs.declared.fault.ServeFault.TheVariants.{Link as Lin
 use Rattle.option_words.specs.declared.export.Export.{Export}
 use Rattle.refusals.specs.declared.cause.Cause.{Cause}
 use Rattle.refusals.specs.declared.cause.Cause.TheVariants.{StoreFault, LinkFault, Memory, Damaged}
-use Rattle.run_steps.specs.Opening.{IsDamageAs, MayRefuseOpening, file_cause}
+use Rattle.run_steps.specs.Opening.{MayRefuseOpening, file_cause}
 use Rattle.run_steps.specs.Run.{Uses}
 use Rattle.run_steps.specs.Steps.{Opening, Steps}
 

@@ -1,7 +1,6 @@
 //! Laws of tree files: what they mean, and when they mean something.
 
-ghost use Rattle.std.specs.Prelude.{◌≡◌, ◌↔◌, ◌≢◌, ℕ, List, [], ◌∷◌, length, Some, None};
-ghost use Rattle.std.specs.List.{range_with_len};
+ghost use Rattle.std.specs.Prelude.{◌≡◌, ◌↔◌, ℕ, List, length, Some, None};
 ghost use Rattle.entry_codec.specs.Entry.{IsEntry};
 ghost use Rattle.entry_codec.specs.Header.{AreOf, format_of, header_fault, header_of};
 ghost use Rattle.free_chains.specs.declared.heads.Heads.{Heads};
@@ -10,7 +9,6 @@ ghost use Rattle.quota_value.specs.QuotaValue.{QuotaValue};
 ghost use Rattle.quota_types.specs.Format.{IsTreeFormat};
 ghost use Rattle.quota_types.specs.declared.damage.Damage.{Damage};
 ghost use Rattle.quota_types.specs.declared.file_kind.Format.{Format};
-ghost use Rattle.quota_types.specs.declared.file_kind.Format.TheVariants.{V1, V2R0, V2R1};
 ghost use Rattle.quota_types.specs.declared.file_kind.Kind.{Kind};
 ghost use Rattle.quota_types.specs.declared.record.Rec.{Rec};
 ghost use Rattle.tree_meaning.specs.Defect.{IsTreeDefect};

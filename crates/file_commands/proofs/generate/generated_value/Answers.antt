@@ -4,7 +4,7 @@ use Rattle.quota_value.specs.QuotaValue.{QuotaValue}
 use Rattle.outside.specs.Seen.{SourceSeen}
 use Rattle.quota_map.specs.View.{most_blocks}
 use Rattle.inode_scan.specs.Generated.{generated_left}
-use Rattle.run_steps.specs.Changing.{blocks_of}
+use Rattle.quota_map.specs.Size.{blocks_of}
 use Rattle.refusals.specs.declared.cause.Cause.TheVariants.{SourceFault}
 use Rattle.file_commands.specs.FileValue.{value_in}
 use Rattle.file_commands.specs.Generate.{WrittenSteps}

@@ -6,7 +6,7 @@ use Rattle.opened_file.proofs.ReplaceLemmas.{replacement_name-ne}
 use Rattle.quota_map.specs.Replacing.{flags_in}
 use Rattle.quota_map.specs.View.{IsView}
 use Rattle.quota_map.proofs.ReplacedLemmas.{replaced-refused, replaced-synced}
-use Rattle.tree_build.specs.Size.{blocks_needed}
+use Rattle.quota_map.specs.Size.{blocks_needed}
 use Rattle.run_steps.specs.Showing.{showing_uses}
 use Rattle.file_commands.specs.FileValue.{value_in}
 use Rattle.file_commands.proofs.GenerateLemmas.{carries_changed, put_refused, view_any}

@@ -14,10 +14,9 @@ use Rattle.entry_codec.specs.declared.header.HeaderFault.{HeaderFault}
 use Rattle.entry_codec.specs.declared.header.HeaderFault.TheVariants.{NotQuota as NoMagic, WrongKind as OtherKind, UnknownVersion as OtherVersion, BadBlockCount as FewBlocks}
 use Rattle.tree_file.specs.View.{HasHeader, IsAsAsked, IsTreeView}
 use Rattle.quota_v1.specs.View.{IsFlatView, flat_limit}
-use Rattle.quota_map.specs.View.{IsView, most_blocks}
+use Rattle.quota_map.specs.View.{IsView, most_blocks, IsNoDamage}
 use Rattle.quota_map.proofs.SeenLemmas.{view_or_refused}
-use Rattle.run_steps.specs.SameViews.{IsNoDamage}
-use Rattle.run_steps.proofs.SeenOnceLemmas.{seen_once}
+use Rattle.quota_map.proofs.SeenOnceLemmas.{seen_once}
 
 -- The refusal that a header gives, where it gives one.
 
